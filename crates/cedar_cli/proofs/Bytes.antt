@@ -1,0 +1,164 @@
+-- What is written in parts, and the lines of a script in parts.
+use Rattle.std.proofs.Common.{◌≡◌, ℕ, List, [], ◌∷◌, ◌++◌, Option, Some, None, refl, sym, ap, ◌∙◌, append_assoc, append-nil, take, drop, length, ◌-◌, arith, take-append-drop, length-drop}
+use Rattle.std.proofs.lemmas.List.{take_all}
+use Rattle.std.proofs.Common.{length-append, false, ◌==◌, ◌<◌}
+use Rattle.std.specs.Prelude.{Result, Ok, Err, OnOk, OnErr}
+use Rattle.cedar_tree.specs.State.{State}
+use Rattle.cedar_cli.specs.Command.{Order, order_of}
+use Rattle.cedar_cli.specs.Lines.{lines_of, onto_first, IsOpen}
+use Rattle.cedar_cli.specs.Script.{reply, answer, answers, obeyed, state_after, IsCutShort, Leaves, Obeys, Finishes, Splits, Advances, Stops}
+use Rattle.std.specs.Io.KnownBytes.{Appends, Keeps}
+
+-- bytes appended in two parts
+pub Appends-append : (a b c : Option (List ℕ)) (x y : List ℕ) → Appends a b x → Appends b c y → Appends a c (x ++ y)
+Appends-append None b c x y p q = tt
+Appends-append (Some xs) None c x y p q = absurd p
+Appends-append (Some xs) (Some ys) None x y p q = absurd q
+Appends-append (Some xs) (Some ys) (Some zs) x y p q = q ∙ ap (λ l. l ++ y) p ∙ append_assoc xs x y
+
+-- no byte is appended
+pub Appends-none : (a : Option (List ℕ)) → Appends a a []
+Appends-none None = tt
+Appends-none (Some xs) = sym (append-nil xs)
+
+-- what was appended stays where a device keeps its bytes
+pub Appends-kept : (a b c : Option (List ℕ)) (x : List ℕ) → Appends a b x → Keeps b c → Appends a c x
+Appends-kept None b c x p k = tt
+Appends-kept (Some xs) None c x p k = absurd p
+Appends-kept (Some xs) (Some ys) None x p k = absurd k
+Appends-kept (Some xs) (Some ys) (Some zs) x p k = k ∙ p
+
+-- the next n bytes of the rest were taken
+pub Appends-more : (a b c : Option (List ℕ)) (all x rest : List ℕ) (n : ℕ) → all ≡ x ++ rest → Appends a b x → Appends b c (take n rest)
+    → (y : List ℕ) × (all ≡ y ++ take (length rest - n) (drop n rest)) × Appends a c y
+Appends-more a b c all x rest n e p q = (
+  x ++ take n rest,
+  e ∙ ap (λ l. x ++ l) (sym (take-append-drop n rest)) ∙ sym (append_assoc x (take n rest) (drop n rest)) ∙ ap (λ l. (x ++ take n rest) ++ l) (sym whole),
+  Appends-append a b c x (take n rest) p q,
+) where
+  whole : take (length rest - n) (drop n rest) ≡ drop n rest
+  whole = take_all (length rest - n) (drop n rest) (omega (arith, length-drop n rest))
+
+-- an answer is cut short where nothing of it is written
+pub cut_short_none : (t : State) (lines : List (List ℕ)) → IsCutShort t lines []
+cut_short_none t [] = refl
+cut_short_none t (line ∷ lines) = (answer t line, omega (arith, length-append (reply t (order_of line)) (10 ∷ [])), refl)
+
+-- an order that wasn't begun is left
+pub Leaves-none : (order : Option Order) (t : State) (held : Option (List ℕ)) → Leaves order t t held held
+Leaves-none order t held = (refl, [], reply t order ++ 10 ∷ [], omega (arith, length-append (reply t order) (10 ∷ [])), refl, Appends-none held)
+
+-- the lines of a text that begins with a line
+pub lines_of-line : (line rest : List ℕ) → IsOpen line → lines_of (line ++ 10 ∷ rest) ≡ line ∷ lines_of rest
+lines_of-line [] rest o = refl
+lines_of-line (b ∷ line) rest o = rw o.0 (ap (onto_first b) (lines_of-line line rest o.1))
+
+-- a last piece is a line unless it is empty
+pub lines_of-last : (b : ℕ) (line : List ℕ) → IsOpen (b ∷ line) → lines_of (b ∷ line) ≡ (b ∷ line) ∷ []
+lines_of-last b [] o = rw o.0 refl
+lines_of-last b (c ∷ line) o = rw o.0 (ap (onto_first b) (lines_of-last c line o.1))
+
+pub open_push : (line : List ℕ) (b : ℕ) → IsOpen line → (b == 10) ≡ false → IsOpen (line ++ b ∷ [])
+open_push [] b o e = (e, tt)
+open_push (c ∷ line) b o e = (o.0, open_push line b o.1 e)
+
+-- answers to lines and then to more lines
+pub answers-append : (t : State) (a b : List (List ℕ)) → answers t (a ++ b) ≡ answers t a ++ answers (state_after t a) b
+answers-append t [] b = refl
+answers-append t (line ∷ a) b =
+    ap (λ l. answer t line ++ l) (answers-append (obeyed t (order_of line)) a b)
+    ∙ sym (append_assoc (answer t line) (answers (obeyed t (order_of line)) a) (answers (state_after (obeyed t (order_of line)) a) b))
+
+pub state_after-append : (t : State) (a b : List (List ℕ)) → state_after t (a ++ b) ≡ state_after (state_after t a) b
+state_after-append t [] b = refl
+state_after-append t (line ∷ a) b = state_after-append (obeyed t (order_of line)) a b
+
+-- lines finished one after another
+pub Finishes-append : (old mid new : State) (a b c : Option (List ℕ)) (first second : List (List ℕ)) (part : List ℕ)
+    → Finishes old mid a b first [] → Finishes mid new b c second part → Finishes old new a c (first ++ second) part
+Finishes-append old mid new a b c first second part p q = (
+  q.0 ∙ ap (λ t. state_after t second) p.0 ∙ sym (state_after-append old first second),
+  rw same (Appends-append a b c (answers old first ++ []) (answers mid second ++ part) p.1 q.1),
+) where
+  same : answers old (first ++ second) ++ part ≡ (answers old first ++ []) ++ (answers mid second ++ part)
+  same =
+      ap (λ l. l ++ part) (answers-append old first second)
+      ∙ append_assoc (answers old first) (answers (state_after old first) second) part
+      ∙ ap (λ l. answers old first ++ (l ++ part)) (ap (λ t. answers t second) (sym p.0))
+      ∙ ap (λ l. l ++ (answers mid second ++ part)) (sym (append-nil (answers old first)))
+
+pub Splits-append : (text more left rest_left : List ℕ) (first second : List (List ℕ)) → Splits text first left → Splits (left ++ more) second rest_left → Splits (text ++ more) (first ++ second) rest_left
+Splits-append text more left rest_left first second p q = λ rest.
+    ap lines_of (append_assoc text more rest) ∙ p (more ++ rest)
+    ∙ ap (λ l. first ++ l) (ap lines_of (sym (append_assoc left more rest)) ∙ q rest)
+    ∙ sym (append_assoc first second (lines_of (rest_left ++ rest)))
+
+pub Advances-append : (old mid new : State) (a b c : Option (List ℕ)) (text left more left' : List ℕ)
+    → Advances old mid a b text left → Advances mid new b c (left ++ more) left' → Advances old new a c (text ++ more) left'
+Advances-append old mid new a b c text left more left' p q =
+    (p.0 ++ q.0, Splits-append text more left left' p.0 q.0 p.1 q.1, Finishes-append old mid new a b c p.0 q.0 [] p.2 q.2)
+
+pub Stops-append : (old mid new : State) (a b c : Option (List ℕ)) (text left more : List ℕ)
+    → Advances old mid a b text left → Stops mid new b c (left ++ more) → Stops old new a c (text ++ more)
+Stops-append old mid new a b c text left more p q =
+    (p.0 ++ q.0, q.1, q.2, Splits-append text more left q.1 p.0 q.0 p.1 q.3, Finishes-append old mid new a b c p.0 q.0 q.2 p.2 q.4, q.5)
+
+-- an answer that wasn't written whole leaves its order
+pub Leaves-on_err : {T E : Type 0} (r : Result T E) (order : Option Order) (old new : State) (held holds : Option (List ℕ)) (bytes : List ℕ)
+    → new ≡ old → bytes ≡ reply old order ++ 10 ∷ []
+    → OnErr r ((part : List ℕ) × (rest : List ℕ) × (0 < length rest) × (bytes ≡ part ++ rest) × Appends held holds part)
+    → OnErr r (Leaves order old new held holds)
+Leaves-on_err (Ok x) order old new held holds bytes same e h = tt
+Leaves-on_err (Err x) order old new held holds bytes same e h = (same, h.0, h.1, h.2, sym e ∙ h.3, h.4)
+
+-- one written whole obeys it
+pub Obeys-on_ok : {T E : Type 0} (r : Result T E) (order : Option Order) (old new : State) (held holds : Option (List ℕ)) (bytes : List ℕ)
+    → new ≡ obeyed old order → bytes ≡ reply old order ++ 10 ∷ [] → OnOk r (Appends held holds bytes) → OnOk r (Obeys order old new held holds)
+Obeys-on_ok (Err x) order old new held holds bytes same e h = tt
+Obeys-on_ok (Ok x) order old new held holds bytes same e h = (same, rw (← e) h)
+
+line_then : (line rest : List ℕ) → IsOpen line → lines_of ((line ++ 10 ∷ []) ++ rest) ≡ line ∷ lines_of rest
+line_then line rest o = ap lines_of (append_assoc line (10 ∷ []) rest) ∙ lines_of-line line rest o
+
+-- a line that was answered is finished
+pub line_finished : (old new : State) (held holds : Option (List ℕ)) (line : List ℕ) → Obeys (order_of line) old new held holds → Finishes old new held holds (line ∷ []) []
+line_finished old new held holds line h = (h.0, rw (append-nil (answer old line ++ []), append-nil (answer old line)) h.1)
+
+-- and taken, with its byte 10
+pub line_done : (old new : State) (held holds : Option (List ℕ)) (line : List ℕ) → IsOpen line → Obeys (order_of line) old new held holds → Advances old new held holds (line ++ 10 ∷ []) []
+line_done old new held holds line o h =
+    (line ∷ [], (λ rest. line_then line rest o), line_finished old new held holds line h)
+
+-- in a line whose answer was not written whole the run stops
+pub line_left : (old new : State) (held holds : Option (List ℕ)) (line : List ℕ) → IsOpen line → Leaves (order_of line) old new held holds → Stops old new held holds (line ++ 10 ∷ [])
+line_left old new held holds line o h =
+    ([], line ++ 10 ∷ [], h.1, (λ rest. refl), (h.0, h.5), (λ rest. rw (line_then line rest o) (h.2, h.3, ap (λ t. reply t (order_of line) ++ 10 ∷ []) h.0 ∙ h.4)))
+
+-- bytes that end no line
+pub bytes_on : (t : State) (held : Option (List ℕ)) (text : List ℕ) → Advances t t held held text text
+bytes_on t held text = ([], (λ rest. refl), (refl, Appends-none held))
+
+-- a run that stops before it answers
+pub not_begun : (t : State) (held : Option (List ℕ)) (text : List ℕ) → Stops t t held held text
+not_begun t held text = ([], text, [], (λ rest. refl), (refl, Appends-none held), (λ rest. cut_short_none t (lines_of (text ++ rest))))
+
+pub on_err : {T E P : Type 0} (r : Result T E) → P → OnErr r P
+on_err (Ok x) p = tt
+on_err (Err e) p = p
+
+-- a run that stopped in a text stopped in it however the text goes on
+pub Stops-more : (old new : State) (a c : Option (List ℕ)) (text more : List ℕ) → Stops old new a c text → Stops old new a c (text ++ more)
+Stops-more old new a c text more h = (
+  h.0,
+  h.1 ++ more,
+  h.2,
+  (λ rest. ap lines_of (append_assoc text more rest) ∙ h.3 (more ++ rest) ∙ ap (λ l. h.0 ++ lines_of l) (sym (append_assoc h.1 more rest))),
+  h.4,
+  (λ rest. rw (append_assoc h.1 more rest) (h.5 (more ++ rest))),
+)
+
+-- a text that was taken stays so where the writer keeps its bytes
+pub Advances-kept : (old new : State) (held holds kept : Option (List ℕ)) (text left : List ℕ)
+    → Advances old new held holds text left → Keeps holds kept → Advances old new held kept text left
+Advances-kept old new held holds kept text left h k =
+    (h.0, h.1, (h.2.0, Appends-kept held holds kept (answers old h.0 ++ []) h.2.1 k))

@@ -1,0 +1,113 @@
+-- What the dictionary's answers say of an order's reply.
+use Rattle.std.proofs.Common.{◌≡◌, ℕ, ℤ, List, [], ◌∷◌, ◌++◌, Option, Some, None, true, ◌==◌, refl, sym, ap, subst, ◌∙◌, length, ◌<◌, append_assoc}
+use Rattle.std.specs.Prelude.{codes, Bool, false, ◌&&◌, int_le, pos, if◌then◌else◌, Result, Ok, Err, OnErr, IfSome, IsSome, is_err, MatchOption, option_map, position}
+use Rattle.std.specs.Io.KnownBytes.{Appends}
+use Rattle.std.specs.Prelude.{string_bytes, String, decimal, IfOk}
+use Rattle.std.specs.Fmt.{signed_decimal}
+use Rattle.std.proofs.Common.{FitsSigned, w32, to_z, of_z}
+use Rattle.std.proofs.lemmas.Int.{to_z-of_z}
+use Rattle.cedar_tree.specs.State.{State, stored, erased}
+use Rattle.cedar_tree.specs.Tree.{Tree, number_at, IsSound}
+use Rattle.cedar_tree.specs.Queries.{exact}
+use Rattle.cedar_tree.proofs.TreeLemmas.{cut-put, put-put, put_held, number_at-put_same}
+use Rattle.cedarwood.specs.declared.error.CedarError.{CedarError}
+use Rattle.cedarwood.specs.declared.error.CedarError.TheVariants.{EmptyKey, NulByte, InvalidValue}
+use Rattle.cedar_cli.specs.Command.{Order}
+use Rattle.cedarwood.specs.Fault.{fault, key_fault, or_else, value_fault, IsShortage}
+use Rattle.cedar_cli.specs.Script.{IsPairFault, found_text, reply, Leaves, WritesFront}
+use Rattle.cedar_cli.specs.declared.command.Verb.TheVariants.{Erase}
+
+-- what an exact search that missed says
+pub exact_missed : (t : Tree) (key : List ℕ) → None ≡ exact t key → number_at t key ≡ None
+exact_missed t key h = missed (number_at t key) h where
+  missed : (n : Option ℤ) → ◌≡◌ {A = Option (ℤ × ℕ)} None (option_map (λ v. (v, length key)) n) → n ≡ None
+  missed None h = refl
+  missed (Some v) h = absurd (cc)
+
+-- what one that found a number says
+pub exact_found : (t : Tree) (key : List ℕ) (v : ℤ) (n : ℕ) → ◌≡◌ {A = Option (ℤ × ℕ)} (Some (v, n)) (exact t key) → (number_at t key ≡ Some v) × (n ≡ length key)
+exact_found t key v n h = found (number_at t key) h where
+  found : (m : Option ℤ) → ◌≡◌ {A = Option (ℤ × ℕ)} (Some (v, n)) (option_map (λ w. (w, length key)) m) → (m ≡ Some v) × (n ≡ length key)
+  found None h = absurd (cc)
+  found (Some w) h = let p : ◌≡◌ {A = ℤ × ℕ} (v, n) (w, length key) = cc in (ap Some (sym (ap (λ x. x.0) p)), ap (λ x. x.1) p)
+
+-- the text of what was found
+pub found_reply : (t : Tree) (key : List ℕ) (v : ℤ) (n : ℕ) → ◌≡◌ {A = Option (ℤ × ℕ)} (Some (v, n)) (exact t key) → found_text (Some v) n ≡ found_text (number_at t key) (length key)
+found_reply t key v n h = let p = exact_found t key v n h in rw (p.0, p.1) refl
+
+-- the answer to an erasure, where the key is held and where it isn't
+pub erased_reply : (s : State) (key : List ℕ) (found : ℤ × ℕ) → ◌≡◌ {A = Option (ℤ × ℕ)} (Some found) (exact s.tree key) → codes "erased" ≡ reply s (Some (Erase, key))
+erased_reply s key found h = rw (exact_found s.tree key found.0 found.1 h).0 refl
+
+pub absent_reply : (s : State) (key : List ℕ) → None ≡ exact s.tree key → codes "absent" ≡ reply s (Some (Erase, key))
+absent_reply s key h = rw (exact_missed s.tree key h) refl
+
+-- a number's line as `format!` makes it
+pub found_ok : {Z E : Type 0} (r : Result (String Z) E) (v : ℤ) (n : ℕ) → FitsSigned w32 v
+    → IfOk r (λ text. string_bytes text ≡ signed_decimal (to_z w32 (of_z w32 v)) ++ 32 ∷ (decimal n ++ 10 ∷ []))
+    → IfOk r (λ text. string_bytes text ≡ found_text (Some v) n ++ 10 ∷ [])
+found_ok (Ok text) v n fits h = h ∙ ap (λ x. signed_decimal x ++ 32 ∷ (decimal n ++ 10 ∷ [])) (to_z-of_z w32 v fits) ∙ sym (append_assoc (signed_decimal v) (32 ∷ decimal n) (10 ∷ []))
+found_ok (Err e) v n fits h = tt
+
+-- a call that was obeyed met no fault
+pub no_fault : {T : Type 0} (f : Option CedarError) (x : T) → IfSome f (λ e. ◌≡◌ {A = Result T CedarError} (Ok x) (Err e)) → f ≡ None
+no_fault None x h = refl
+no_fault (Some e) x h = absurd (cc)
+
+-- one that was refused, but not for memory or slots, met this fault
+pub refused_by : (T : Type 0) (f : Option CedarError) (N : Type 0) (e : CedarError)
+    → IfSome f (λ x. ◌≡◌ {A = Result T CedarError} (Err e) (Err x)) → (f ≡ None → IsShortage e × N) → (IsShortage e → ⊥) → f ≡ Some e
+refused_by T None N e h k s = absurd (s (k refl).0)
+refused_by T (Some x) N e h k s = cc
+
+-- a key without a fault has none with another value in range
+pub fault_other : (key : List ℕ) (v w : ℤ) → fault key v ≡ None → value_fault w ≡ None → fault key w ≡ None
+fault_other key v w f h = with_key (key_fault key) f where
+  with_key : (at_key : Option CedarError) → or_else at_key (value_fault v) ≡ None → or_else at_key (value_fault w) ≡ None
+  with_key None f = h
+  with_key (Some e) f = absurd (cc)
+
+same_kind : (x e : CedarError) → ◌≡◌ {A = Option CedarError} (Some x) (Some e) → IsPairFault x → IsPairFault e
+same_kind x e h kind = let same : x ≡ e = cc in subst IsPairFault same kind
+
+value_kind : (v : ℤ) (b : Bool) (e : CedarError) → (if b then None else Some (InvalidValue v)) ≡ Some e → IsPairFault e
+value_kind v true e h = absurd (cc)
+value_kind v false e h = same_kind (InvalidValue v) e h tt
+
+-- what a pair is refused for is no want of memory or slots
+pub pair_kind : (key : List ℕ) (v : ℤ) (e : CedarError) → fault key v ≡ Some e → IsPairFault e
+pair_kind [] v e h = same_kind EmptyKey e h tt
+pair_kind (b ∷ key) v e h = at_nul (position (λ c. c == 0) (b ∷ key)) h where
+  at_nul : (at : Option ℕ) → or_else (option_map NulByte at) (value_fault v) ≡ Some e → IsPairFault e
+  at_nul (Some i) f = same_kind (NulByte i) e f tt
+  at_nul None f = value_kind v (int_le (pos 0) v && int_le v (pos 2147483645)) e f
+
+-- a value that was stored is taken back
+pub taken_back : (before : Option (ℤ × ℕ)) (old mid new : State) (key : List ℕ) (v : ℤ)
+    → before ≡ exact old.tree key → IsSound old.tree → IfSome before (λ found. value_fault found.0 ≡ None) → fault key v ≡ None
+    → mid ≡ stored old key v
+    → MatchOption before (new ≡ erased mid key) (λ found. fault key found.0 ≡ None → IsSome (number_at mid.tree key) → new ≡ stored mid key found.0)
+    → new ≡ old
+taken_back None old mid new key v answer sound range none done back =
+    back ∙ ap (λ s. erased s key) done ∙ ap (λ t. record { tree = t; ordered = old.ordered }) (cut-put old.tree old.ordered key v sound.1 (exact_missed old.tree key answer))
+taken_back (Some found) old mid new key v answer sound range none done back =
+    back (fault_other key v found.0 none range) held
+    ∙ ap (λ s. stored s key found.0) done
+    ∙ ap (λ t. record { tree = t; ordered = old.ordered })
+    (put-put old.tree old.ordered key v found.0
+    ∙ put_held old.tree old.ordered key found.0 (exact_found old.tree key found.0 found.1 answer).0) where
+      held : IsSome (number_at mid.tree key)
+      held = rw (done, number_at-put_same old.tree old.ordered key v) refl
+
+-- an answer of which a front alone was written leaves its order
+pub Leaves-front : (order : Option Order) (s : State) (held holds : Option (List ℕ)) (line : List ℕ)
+    → line ≡ reply s order → WritesFront held holds (line ++ 10 ∷ []) → Leaves order s s held holds
+Leaves-front order s held holds line e h = (refl, h.0, h.1, h.2, sym (ap (λ l. l ++ 10 ∷ []) e) ∙ h.3, h.4)
+
+-- an answer that wasn't written whole leaves its order, where the tree is then the old one
+pub Leaves-if_err : {T E : Type 0} (r : Result T E) (order : Option Order) (old new : State) (held holds : Option (List ℕ)) (bytes : List ℕ)
+    → (is_err r ≡ true → new ≡ old) → bytes ≡ reply old order ++ 10 ∷ []
+    → OnErr r ((part : List ℕ) × (rest : List ℕ) × (0 < length rest) × (bytes ≡ part ++ rest) × Appends held holds part)
+    → OnErr r (Leaves order old new held holds)
+Leaves-if_err (Ok x) order old new held holds bytes same e h = tt
+Leaves-if_err (Err x) order old new held holds bytes same e h = (same refl, h.0, h.1, h.2, sym e ∙ h.3, h.4)

@@ -1,0 +1,162 @@
+-- What came of a script, and what of it was finished.
+use Rattle.std.proofs.Common.{◌≡◌, ℕ, List, [], ◌∷◌, ◌++◌, Option, Some, None, refl, sym, ap, subst, ◌∙◌, append_assoc, append-nil, length, length-append, ◌≤◌, ◌<◌, arith, inl, inr, ◌==◌, true, false}
+use Rattle.std.proofs.lemmas.Bool.{eqb-true, eqb-false}
+use Rattle.std.proofs.lemmas.List.{nil_from_length}
+use Rattle.std.specs.Prelude.{IfSome, ◌⊎◌}
+use Rattle.std.specs.Io.KnownBytes.{Consumes, Appends, Keeps, IsAtEnd}
+use Rattle.cedar_tree.specs.State.{State, new_state}
+use Rattle.cedar_tree.specs.Tree.{empty_tree}
+use Rattle.cedar_cli.specs.Command.{order_of}
+use Rattle.cedar_cli.specs.Lines.{lines_of, IsOpen}
+use Rattle.cedar_cli.specs.Script.{Obeys, Leaves, Finishes, Splits, Advances, Stops, EndsEarly, IsCutShort, AppendsFront, reply, answer, answers, obeyed, state_after}
+use Rattle.cedar_cli.proofs.Bytes.{Appends-kept, cut_short_none, lines_of-last, Finishes-append, line_finished}
+
+-- bytes consumed in two parts
+pub Consumes-append : (a b c : Option (List ℕ)) (x y : List ℕ) → Consumes a b x → Consumes b c y → Consumes a c (x ++ y)
+Consumes-append None b c x y p q = tt
+Consumes-append (Some xs) None c x y p q = absurd p
+Consumes-append (Some xs) (Some ys) None x y p q = absurd q
+Consumes-append (Some xs) (Some ys) (Some zs) x y p q = p ∙ ap (λ l. x ++ l) q ∙ sym (append_assoc x y zs)
+
+-- no byte is consumed
+pub Consumes-none : (a : Option (List ℕ)) → Consumes a a []
+Consumes-none None = tt
+Consumes-none (Some xs) = refl
+
+-- nor by a call that failed
+pub Consumes-kept : (a b c : Option (List ℕ)) (x : List ℕ) → Consumes a b x → Keeps b c → Consumes a c x
+Consumes-kept None b c x p k = tt
+Consumes-kept (Some xs) None c x p k = absurd p
+Consumes-kept (Some xs) (Some ys) None x p k = absurd k
+Consumes-kept (Some xs) (Some ys) (Some zs) x p k = p ∙ ap (λ l. x ++ l) (sym k)
+
+-- a read that gave no byte found the end
+pub end_found : (b c : Option (List ℕ)) → Consumes b c [] → IsAtEnd c → IsAtEnd b
+end_found None c p e = tt
+end_found (Some xs) None p e = absurd p
+end_found (Some xs) (Some ys) p e = p ∙ e
+
+-- at the end of a script, or after as many bytes as no script has, what came is the script
+pub whole_came : (a b : Option (List ℕ)) (came : List ℕ) → Consumes a b came → IsAtEnd b ⊎ (9223372036854775808 ≤ length came)
+    → IfSome a (λ input. length input < 9223372036854775808 → input ≡ came)
+whole_came None b came p e = tt
+whole_came (Some input) None came p e = absurd p
+whole_came (Some input) (Some rest) came p (inl end) = λ _. p ∙ ap (λ l. came ++ l) end ∙ append-nil came
+whole_came (Some input) (Some rest) came p (inr many) = λ few. absurd (let same = ap length p in omega (arith, length-append came rest, same))
+
+-- what holds of a script follows from what is known of it
+pub of_script : {P Q : List ℕ → Type 0} (a : Option (List ℕ)) → IfSome a P → ((input : List ℕ) → P input → Q input) → IfSome a Q
+of_script None h f = tt
+of_script (Some input) h f = f input h
+
+-- a run that stopped in what came ended early
+pub ended_early : (old new : State) (held holds a b : Option (List ℕ)) (came : List ℕ)
+    → Consumes a b came → Stops old new held holds came → IfSome a (λ input. length input < 9223372036854775808 → EndsEarly old new held holds input)
+ended_early old new held holds None b came p h = tt
+ended_early old new held holds (Some input) None came p h = absurd p
+ended_early old new held holds (Some input) (Some rest) came p h = λ _.
+    (h.0, lines_of (h.1 ++ rest), ap lines_of p ∙ h.3 rest, (h.2, h.4, h.5 rest))
+
+-- a run that has only advanced can stop
+pub Stops-from_advances : (old new : State) (held holds : Option (List ℕ)) (text left : List ℕ)
+    → Advances old new held holds text left → Stops old new held holds text
+Stops-from_advances old new held holds text left h =
+    (h.0, left, [], h.1, h.2, (λ rest. cut_short_none new (lines_of (left ++ rest))))
+
+-- the lines of a whole text
+whole : (text left : List ℕ) (finished : List (List ℕ)) → Splits text finished left → lines_of text ≡ finished ++ lines_of left
+whole text left finished h = ap lines_of (sym (append-nil text)) ∙ h [] ∙ ap (λ l. finished ++ lines_of l) (append-nil left)
+
+-- a last piece that isn't empty is a line
+last_line : (line : List ℕ) → IsOpen line → 0 < length line → lines_of line ≡ line ∷ []
+last_line [] o h = absurd (omega arith)
+last_line (b ∷ line) o h = lines_of-last b line o
+
+-- all lines are finished where nothing is left
+pub all_finished : (old new : State) (held holds : Option (List ℕ)) (text left : List ℕ)
+    → Advances old new held holds text left → left ≡ [] → Finishes old new held holds (lines_of text) []
+all_finished old new held holds text left h e =
+    rw (whole text left h.0 h.1 ∙ ap (λ l. h.0 ++ lines_of l) e ∙ append-nil h.0) h.2
+
+-- and where the last piece was answered
+pub last_finished : (old mid new : State) (a b c : Option (List ℕ)) (text line : List ℕ)
+    → IsOpen line → 0 < length line → Advances old mid a b text line → Obeys (order_of line) mid new b c
+    → Finishes old new a c (lines_of text) []
+last_finished old mid new a b c text line o long h k =
+    rw (whole text line h.0 h.1 ∙ ap (λ l. h.0 ++ l) (last_line line o long))
+    (Finishes-append old mid new a b c h.0 (line ∷ []) [] h.2 (line_finished mid new b c line k))
+
+-- the answer to the last piece was not written whole
+pub last_left : (old mid new : State) (a b c : Option (List ℕ)) (text line : List ℕ)
+    → IsOpen line → 0 < length line → Advances old mid a b text line → Leaves (order_of line) mid new b c
+    → EndsEarly old new a c text
+last_left old mid new a b c text line o long h k = (
+  h.0 ++ [],
+  line ∷ [],
+  whole text line h.0 h.1 ∙ ap (λ l. h.0 ++ l) (last_line line o long) ∙ ap (λ l. l ++ line ∷ []) (sym (append-nil h.0)),
+  (
+    k.1,
+    Finishes-append old mid new a b c h.0 [] k.1 h.2 (k.0, k.5),
+    (k.2, k.3, ap (λ t. reply t (order_of line) ++ 10 ∷ []) k.0 ∙ k.4),
+  ),
+)
+
+-- what holds of every script holds of a known one
+pub of_known : (P : List ℕ → Type 0) (a : Option (List ℕ)) → ((input : List ℕ) → P input) → IfSome a P
+of_known P None f = tt
+of_known P (Some input) f = f input
+
+-- what the test for an empty line says
+pub long_line : (line : List ℕ) (n : ℕ) → length line ≡ n → (n == 0) ≡ false → 0 < length line
+long_line line n e h = let ne = eqb-false n 0 h in omega arith
+
+pub short_line : (line : List ℕ) (n : ℕ) → length line ≡ n → (n == 0) ≡ true → line ≡ []
+short_line line n e h = nil_from_length line (e ∙ eqb-true n 0 h)
+
+answers-append : (s : State) (a b : List (List ℕ)) → answers s (a ++ b) ≡ answers s a ++ answers (state_after s a) b
+answers-append s [] b = refl
+answers-append s (line ∷ a) b =
+    ap (λ l. answer s line ++ l) (answers-append (obeyed s (order_of line)) a b)
+    ∙ sym (append_assoc (answer s line) (answers (obeyed s (order_of line)) a) (answers (state_after (obeyed s (order_of line)) a) b))
+
+-- what is cut short is a front of the answers
+cut_front : (s : State) (others : List (List ℕ)) (part : List ℕ) → IsCutShort s others part → (rest : List ℕ) × (answers s others ≡ part ++ rest)
+cut_front s [] part cut = ([], sym (append-nil part ∙ cut))
+cut_front s (line ∷ lines) part cut = (
+  cut.0 ++ answers (obeyed s (order_of line)) lines,
+  ap (λ l. l ++ answers (obeyed s (order_of line)) lines) cut.2 ∙ append_assoc part cut.0 (answers (obeyed s (order_of line)) lines),
+)
+
+-- a run that ended early wrote a front of its script's answers
+pub ended_front : (old new : State) (held holds kept : Option (List ℕ)) (script : List ℕ)
+    → EndsEarly old new held holds script → Keeps holds kept → AppendsFront held kept (answers old (lines_of script))
+ended_front old new held holds kept script h k =
+    let finished = h.0 in
+    let others = h.1 in
+    let part = h.3.0 in
+    let more = cut_front new others part h.3.2 in
+    (
+      answers old finished ++ part,
+      more.0,
+      ap (answers old) h.2 ∙ answers-append old finished others
+      ∙ ap (λ s. answers old finished ++ answers s others) (sym h.3.1.0)
+      ∙ ap (λ l. answers old finished ++ l) more.1
+      ∙ sym (append_assoc (answers old finished) part more.0),
+      Appends-kept held holds kept (answers old finished ++ part) h.3.1.1 k,
+    )
+
+-- one that finished wrote them all
+pub finished_front : (old new : State) (held holds kept : Option (List ℕ)) (lines : List (List ℕ))
+    → Finishes old new held holds lines [] → Keeps holds kept → AppendsFront held kept (answers old lines)
+finished_front old new held holds kept lines h k =
+    (answers old lines, [], sym (append-nil (answers old lines)), Appends-kept held holds kept (answers old lines) (subst (Appends held holds) (append-nil (answers old lines)) h.1) k)
+
+-- what a program's run that ended early wrote
+pub ended_fronts : (old new : State) (held holds kept input : Option (List ℕ))
+    → old.tree ≡ empty_tree → old.ordered ≡ true → Keeps holds kept
+    → IfSome input (λ script. length script < 9223372036854775808 → EndsEarly old new held holds script)
+    → IfSome input (λ script. length script < 9223372036854775808 → AppendsFront held kept (answers new_state (lines_of script)))
+ended_fronts old new held holds kept None empty ordered k h = tt
+ended_fronts old new held holds kept (Some script) empty ordered k h = λ few.
+    let begun : old ≡ new_state = λ i. record { tree = empty i; ordered = ordered i } in
+    subst (λ (s : State). AppendsFront held kept (answers s (lines_of script))) begun (ended_front old new held holds kept script (h few) k)

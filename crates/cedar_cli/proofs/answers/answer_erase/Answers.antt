@@ -1,0 +1,23 @@
+use Rattle.std.proofs.Common.{Some, ◌∷◌, []}
+use Rattle.std.specs.Prelude.{codes}
+use Rattle.cedarwood.specs.WatchedDevice.{device_of}
+use Rattle.cedar_cli.specs.declared.command.Verb.TheVariants.{Erase}
+use Rattle.cedar_cli.proofs.Bytes.{on_err}
+use Rattle.cedar_cli.proofs.Orders.{erased_reply, absent_reply, Leaves-front}
+use Rattle.cedar_cli.proofs.answers.answer_erase.Goals as goal
+
+pub returns-in_err-write_whole-in-Some-clause-err : goal.returns-in_err-write_whole-in-Some-clause-err
+returns-in_err-write_whole-in-Some-clause-err g c =
+    let s = c.args.cedar.now.state in
+    let key = c.args.key.now in
+    on_err c.from_residual.result
+    (Leaves-front (Some (Erase, key)) s (g.W.Write.contents (device_of c.args.writer.now)) (g.W.Write.contents (device_of c.write_whole.new.writer)) (codes "erased")
+    (erased_reply s key c.in-Some.field-0 c.in-Some.ensures.answer) c.in_err-write_whole-in-Some.ensures.err)
+
+pub returns-in_err-write_whole-in-None-clause-err : goal.returns-in_err-write_whole-in-None-clause-err
+returns-in_err-write_whole-in-None-clause-err g c =
+    let s = c.args.cedar.now.state in
+    let key = c.args.key.now in
+    on_err c.from_residual-in_err-write_whole-in-None.result
+    (Leaves-front (Some (Erase, key)) s (g.W.Write.contents (device_of c.args.writer.now)) (g.W.Write.contents (device_of c.write_whole-in-None.new.writer)) (codes "absent")
+    (absent_reply s key c.in-None.ensures.answer) c.in_err-write_whole-in-None.ensures.err)

@@ -1,0 +1,170 @@
+use Rattle.std.proofs.Common.{rules, arith, sym, subst, ◌∙◌, ◌≡◌, ◌<◌, ℕ, List, [], ◌++◌, length, length-append, ◌≤◌, take, inl, inr}
+use Rattle.std.specs.Prelude.{◌⊎◌}
+use Rattle.std.specs.Io.KnownBytes.{Consumes, IsAtEnd}
+use Rattle.cedarwood.specs.WatchedDevice.{device_of}
+use Rattle.cedar_cli.specs.Command.{order_of}
+use Rattle.cedar_cli.specs.Lines.{lines_of, IsOpen}
+use Rattle.cedar_cli.specs.Script.{Obeys, Leaves, Finishes, Advances, Stops, EndsEarly}
+use Rattle.cedar_cli.proofs.Bytes.{bytes_on, Advances-append, Advances-kept, Stops-append, on_err}
+use Rattle.cedar_cli.proofs.Runs.{Consumes-append, Consumes-none, Consumes-kept, end_found, whole_came, of_script, ended_early, Stops-from_advances, all_finished, last_finished, last_left, of_known, long_line, short_line}
+use Rattle.cedar_cli.proofs.script.run_script.Goals as goal
+use Rattle.cedar_cli.proofs.script.run_script.Goals.{else-loop-turn-test, then-loop-turn-test+in-Ok+in-Ok-read+then-count-eq0}
+use Rattle.cedar_cli.proofs.script.run_script.Goals.{then-not-is_empty+in_ok-answer_line, else-not-is_empty}
+
+pub loop-turn-init : goal.loop-turn-init
+loop-turn-init g c =
+    rw c.new-line.ensures.items (
+      [],
+      Consumes-none (g.R.Read.remaining (device_of c.args.reader.now)),
+      omega arith,
+      tt,
+      bytes_on c.args.cedar.now.state (g.W.Write.contents (device_of c.args.writer.now)) [],
+    )
+
+pub loop-turn-preserved : goal.loop-turn-preserved
+loop-turn-preserved g c =
+    let before = c.loop-turn.invariant in
+    let old = c.args.cedar.now.state in
+    let mid = c.loop-turn.cedar.state in
+    let new = c.take_bytes.new.cedar.state in
+    let first = g.W.Write.contents (device_of c.args.writer.now) in
+    let held = g.W.Write.contents (device_of c.flush.new.self) in
+    let holds = g.W.Write.contents (device_of c.take_bytes.new.writer) in
+    let more = take c.in-Ok-read.count c.read.new.buf in
+    let so_far : Advances old mid first held before.0 c.loop-turn.line.items =
+    Advances-kept old mid first (g.W.Write.contents (device_of c.loop-turn.writer)) held before.0 c.loop-turn.line.items before.4 c.flush.ensures.bytes in
+    let step : Advances mid new held holds (c.loop-turn.line.items ++ more) c.take_bytes.new.line.items = c.in_ok-take_bytes.ensures.ok in (
+      before.0 ++ more,
+      Consumes-append (g.R.Read.remaining (device_of c.args.reader.now)) (g.R.Read.remaining (device_of c.loop-turn.reader)) (g.R.Read.remaining (device_of c.read.new.self)) before.0 more before.1 c.in-Ok-read.ensures.bytes.0,
+      (let count : c.in-Ok-read.count ≡ length more = c.in-Ok-read.ensures.bound.1 in let some = c.if-count-eq0.false in let turns : c.loop-turn.turn ≤ length before.0 = before.2 in omega (arith, length-append before.0 more)),
+      c.in_ok-take_bytes.ensures.still_open,
+      Advances-append old mid new first held holds before.0 c.loop-turn.line.items more c.take_bytes.new.line.items so_far step,
+    )
+
+pub returns-in_default-clause-err : goal.returns-in_default-clause-err
+returns-in_default-clause-err g c =
+    let before = c.loop-turn.invariant in
+    let old = c.args.cedar.now.state in
+    let new = c.loop-turn.cedar.state in
+    let first = g.W.Write.contents (device_of c.args.writer.now) in
+    let held = g.W.Write.contents (device_of c.flush.new.self) in
+    ended_early old new first held (g.R.Read.remaining (device_of c.args.reader.now)) (g.R.Read.remaining (device_of c.loop-turn.reader)) before.0 before.1
+    (Stops-from_advances old new first held before.0 c.loop-turn.line.items
+    (Advances-kept old new first (g.W.Write.contents (device_of c.loop-turn.writer)) held before.0 c.loop-turn.line.items before.4 c.flush.ensures.bytes))
+
+pub returns-in_default-read-clause-err : goal.returns-in_default-read-clause-err
+returns-in_default-read-clause-err g c =
+    let before = c.loop-turn.invariant in
+    let old = c.args.cedar.now.state in
+    let new = c.loop-turn.cedar.state in
+    let first = g.W.Write.contents (device_of c.args.writer.now) in
+    let held = g.W.Write.contents (device_of c.flush.new.self) in
+    ended_early old new first held (g.R.Read.remaining (device_of c.args.reader.now)) (g.R.Read.remaining (device_of c.loop-turn.reader)) before.0 before.1
+    (Stops-from_advances old new first held before.0 c.loop-turn.line.items
+    (Advances-kept old new first (g.W.Write.contents (device_of c.loop-turn.writer)) held before.0 c.loop-turn.line.items before.4 c.flush.ensures.bytes))
+
+pub returns-in_default-read-clause-read : goal.returns-in_default-read-clause-read
+returns-in_default-read-clause-read g c = λ _.
+    let before = c.loop-turn.invariant in
+    let start = g.R.Read.remaining (device_of c.args.reader.now) in
+    let old = c.args.cedar.now.state in
+    let new = c.loop-turn.cedar.state in
+    let first = g.W.Write.contents (device_of c.args.writer.now) in
+    let held = g.W.Write.contents (device_of c.flush.new.self) in
+    let P : List ℕ → Type 0 = λ input. (came : List ℕ) × (line : List ℕ) × Consumes start (g.R.Read.remaining (device_of c.read.new.self)) came × IsOpen line
+    × Advances old new first held came line in
+    of_known P start (λ _. (
+      before.0,
+      c.loop-turn.line.items,
+      Consumes-kept start (g.R.Read.remaining (device_of c.loop-turn.reader)) (g.R.Read.remaining (device_of c.read.new.self)) before.0 before.1 c.in_default-read.ensures.bytes,
+      before.3,
+      Advances-kept old new first (g.W.Write.contents (device_of c.loop-turn.writer)) held before.0 c.loop-turn.line.items before.4 c.flush.ensures.bytes,
+    ))
+
+pub returns-in_err-take_bytes-clause-err : goal.returns-in_err-take_bytes-clause-err
+returns-in_err-take_bytes-clause-err g c =
+    let before = c.loop-turn.invariant in
+    let old = c.args.cedar.now.state in
+    let mid = c.loop-turn.cedar.state in
+    let new = c.take_bytes.new.cedar.state in
+    let first = g.W.Write.contents (device_of c.args.writer.now) in
+    let held = g.W.Write.contents (device_of c.flush.new.self) in
+    let holds = g.W.Write.contents (device_of c.take_bytes.new.writer) in
+    let more = take c.in-Ok-read.count c.read.new.buf in
+    let so_far : Advances old mid first held before.0 c.loop-turn.line.items =
+    Advances-kept old mid first (g.W.Write.contents (device_of c.loop-turn.writer)) held before.0 c.loop-turn.line.items before.4 c.flush.ensures.bytes in
+    let step : Stops mid new held holds (c.loop-turn.line.items ++ more) = c.in_err-take_bytes.ensures.err in
+    on_err c.from_residual.result
+    (ended_early old new first holds (g.R.Read.remaining (device_of c.args.reader.now)) (g.R.Read.remaining (device_of c.read.new.self)) (before.0 ++ more)
+    (Consumes-append (g.R.Read.remaining (device_of c.args.reader.now)) (g.R.Read.remaining (device_of c.loop-turn.reader)) (g.R.Read.remaining (device_of c.read.new.self)) before.0 more before.1 c.in-Ok-read.ensures.bytes.0)
+    (Stops-append old mid new first held holds before.0 c.loop-turn.line.items more so_far step))
+
+pub returns-in_err-answer_line-clause-err : goal.returns-in_err-answer_line-clause-err
+returns-in_err-answer_line-clause-err g c =
+    let before = c.loop-turn.invariant in
+    let old = c.args.cedar.now.state in
+    let mid = c.loop-turn.cedar.state in
+    let new = c.answer_line.new.cedar.state in
+    let first = g.W.Write.contents (device_of c.args.writer.now) in
+    let held = g.W.Write.contents (device_of c.loop-turn-test.writer) in
+    let holds = g.W.Write.contents (device_of c.answer_line.new.writer) in
+    let line = c.loop-turn.line.items in
+    let len : length line ≡ c.loop-turn.line.len = omega (arith, c.loop-turn.line.ok.0) in
+    let start = g.R.Read.remaining (device_of c.args.reader.now) in
+    let rest = g.R.Read.remaining (device_of c.loop-turn.reader) in
+    let over : IsAtEnd rest ⊎ (9223372036854775808 ≤ length before.0) =
+    elim c.loop-turn-test.branch [
+      | else-loop-turn-test w ↦ inr (let many : 9223372036854775808 ≤ c.loop-turn.turn = w.loop-turn-test.false in let so_far : c.loop-turn.turn ≤ length before.0 = before.2 in omega arith)
+      | then-loop-turn-test+in-Ok+in-Ok-read+then-count-eq0 w ↦
+          let room : 0 < length w.read.new.buf = search rules in
+          let none : w.in-Ok-read.count ≡ 0 = w.if-count-eq0.true in
+          inl (end_found rest (g.R.Read.remaining (device_of w.read.new.self)) (subst (λ (n : ℕ). Consumes rest (g.R.Read.remaining (device_of w.read.new.self)) (take n w.read.new.buf)) none w.in-Ok-read.ensures.bytes.0) (w.in-Ok-read.ensures.bytes.1 none room))
+    ] in
+    let so_far : Advances old mid first held before.0 line =
+    elim c.loop-turn-test.branch [
+      | else-loop-turn-test w ↦ rw w.writer-is before.4
+      | then-loop-turn-test+in-Ok+in-Ok-read+then-count-eq0 w ↦ rw w.writer-is (Advances-kept old mid first (g.W.Write.contents (device_of c.loop-turn.writer)) (g.W.Write.contents (device_of w.flush.new.self)) before.0 line before.4 w.flush.ensures.bytes)
+    ] in
+    let long : 0 < length line = long_line line c.loop-turn.line.len len (sym c.is_empty.ensures ∙ c.if-not-is_empty.true) in
+    let left : Leaves (order_of line) mid new held holds = subst (λ (l : List ℕ). Leaves (order_of l) mid new held holds) c.as_slice.ensures.value c.in_err-answer_line.ensures.err in
+    on_err c.from_residual-in_err-answer_line.result
+    (of_script start (whole_came start rest before.0 before.1 over)
+    (λ input same few. subst (EndsEarly old new first holds) (sym (same few)) (last_left old mid new first held holds before.0 line before.3 long so_far left)))
+
+pub returns-clause-ok : goal.returns-clause-ok
+returns-clause-ok g c =
+    let before = c.loop-turn.invariant in
+    let old = c.args.cedar.now.state in
+    let mid = c.loop-turn.cedar.state in
+    let first = g.W.Write.contents (device_of c.args.writer.now) in
+    let held = g.W.Write.contents (device_of c.loop-turn-test.writer) in
+    let line = c.loop-turn.line.items in
+    let len : length line ≡ c.loop-turn.line.len = omega (arith, c.loop-turn.line.ok.0) in
+    let start = g.R.Read.remaining (device_of c.args.reader.now) in
+    let rest = g.R.Read.remaining (device_of c.loop-turn.reader) in
+    let new = c.if-not-is_empty.cedar.state in
+    let holds = g.W.Write.contents (device_of c.if-not-is_empty.writer) in
+    let over : IsAtEnd rest ⊎ (9223372036854775808 ≤ length before.0) =
+    elim c.loop-turn-test.branch [
+      | else-loop-turn-test w ↦ inr (let many : 9223372036854775808 ≤ c.loop-turn.turn = w.loop-turn-test.false in let so_far : c.loop-turn.turn ≤ length before.0 = before.2 in omega arith)
+      | then-loop-turn-test+in-Ok+in-Ok-read+then-count-eq0 w ↦
+          let room : 0 < length w.read.new.buf = search rules in
+          let none : w.in-Ok-read.count ≡ 0 = w.if-count-eq0.true in
+          inl (end_found rest (g.R.Read.remaining (device_of w.read.new.self)) (subst (λ (n : ℕ). Consumes rest (g.R.Read.remaining (device_of w.read.new.self)) (take n w.read.new.buf)) none w.in-Ok-read.ensures.bytes.0) (w.in-Ok-read.ensures.bytes.1 none room))
+    ] in
+    let so_far : Advances old mid first held before.0 line =
+    elim c.loop-turn-test.branch [
+      | else-loop-turn-test w ↦ rw w.writer-is before.4
+      | then-loop-turn-test+in-Ok+in-Ok-read+then-count-eq0 w ↦ rw w.writer-is (Advances-kept old mid first (g.W.Write.contents (device_of c.loop-turn.writer)) (g.W.Write.contents (device_of w.flush.new.self)) before.0 line before.4 w.flush.ensures.bytes)
+    ] in
+    let all : Finishes old new first holds (lines_of before.0) [] =
+    elim c.if-not-is_empty.branch [
+      | then-not-is_empty+in_ok-answer_line w ↦ let long : 0 < length line = long_line line c.loop-turn.line.len len (sym c.is_empty.ensures ∙ w.if-not-is_empty.true) in
+          let obeyed : Obeys (order_of line) mid w.answer_line.new.cedar.state held (g.W.Write.contents (device_of w.answer_line.new.writer)) =
+          subst (λ (l : List ℕ). Obeys (order_of l) mid w.answer_line.new.cedar.state held (g.W.Write.contents (device_of w.answer_line.new.writer))) w.as_slice.ensures.value w.in_ok-answer_line.ensures.ok in
+          rw (w.cedar-is, w.writer-is) (last_finished old mid w.answer_line.new.cedar.state first held (g.W.Write.contents (device_of w.answer_line.new.writer)) before.0 line before.3 long so_far obeyed)
+      | else-not-is_empty w ↦ let short : line ≡ [] = short_line line c.loop-turn.line.len len (sym c.is_empty.ensures ∙ w.if-not-is_empty.false) in
+          rw (w.cedar-is, w.writer-is) (all_finished old mid first held before.0 line so_far short)
+    ] in
+    of_script start (whole_came start rest before.0 before.1 over)
+    (λ input same few. subst (λ (script : List ℕ). Finishes old new first holds (lines_of script) []) (sym (same few)) all)

@@ -1,0 +1,13 @@
+use Rattle.std.proofs.Common.{◌≤◌, ℕ, List, length}
+use Rattle.std.specs.Io.KnownBytes.{Consumes}
+use Rattle.cedar_cli.specs.Lines.{IsOpen}
+use Rattle.cedar_cli.specs.Script.{Advances}
+use Rattle.cedar_cli.proofs.script.run_script.Given as goal
+
+-- what came so far was taken, a byte or more with each read
+abbrev pub invariant-loop-turn : goal.invariant-loop-turn
+invariant-loop-turn g l =
+    (came : List ℕ) × Consumes (g.R.Read.remaining l.fn.reader.device) (g.R.Read.remaining l.reader.device) came
+    × (l.turn ≤ length came) × IsOpen l.line.items
+    × Advances (l.fn.cedar.state) (l.cedar.state)
+    (g.W.Write.contents l.fn.writer.device) (g.W.Write.contents l.writer.device) came l.line.items

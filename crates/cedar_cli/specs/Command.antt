@@ -1,0 +1,60 @@
+-- What a line of a script says.
+use Rattle.std.specs.Prelude.{ℕ, Bool, true, false, ◌&&◌, ◌==◌, nat_eq, nat_le, int_le, if◌then◌else◌, ℤ, pos, negsuc, List, [], ◌∷◌, length, Option, Some, None, option_map, option_and_then}
+use Rattle.std.specs.List.{before_first, after_first, list_all}
+use Rattle.std.specs.Result.{result_ok}
+use Rattle.std.specs.Str.Parse.{without_leading_sign, signed_digits_value}
+use Rattle.hex.specs.Hex.{decode_of}
+use Rattle.cedar_cli.specs.declared.command.Verb.{Verb}
+use Rattle.cedar_cli.specs.declared.command.Verb.TheVariants.{Put, Erase, Exact}
+
+-- what to do, and with which key
+abbrev pub Order : Type 0
+Order = Verb × List ℕ
+
+-- a byte `0` to `9`
+abbrev pub is_digit : ℕ → Bool
+is_digit c = nat_le 48 c && nat_le c 57
+
+-- whether a value is from -2147483648 to 2147483647
+abbrev pub fits_value : ℤ → Bool
+fits_value v = int_le (negsuc 2147483647) v && int_le v (pos 2147483647)
+
+-- whether there is one byte or more
+abbrev pub is_filled : List ℕ → Bool
+is_filled [] = false
+is_filled (b ∷ bs) = true
+
+-- a number: `+`, `-` or neither, and then one or more digits
+abbrev pub value_of : List ℕ → Option ℤ
+value_of text =
+    if is_filled (without_leading_sign text) && list_all is_digit (without_leading_sign text) && fits_value (signed_digits_value 10 text)
+    then Some (signed_digits_value 10 text) else None
+
+-- a key: `.` for the empty one, else a nonempty, even number of hexadecimal digits
+abbrev pub key_of : List ℕ → Option (List ℕ)
+key_of [] = None
+key_of (b ∷ bs) = if b == 46 && nat_eq (length bs) 0 then Some [] else result_ok (decode_of (b ∷ bs))
+
+-- a key alone
+abbrev pub with_key : Verb → List ℕ → Option Order
+with_key verb text = option_map (λ key. (verb, key)) (key_of text)
+
+abbrev pub is_space : ℕ → Bool
+is_space b = b == 32
+
+-- a key, a space and a value
+abbrev pub with_key_and_value : List ℕ → Option Order
+with_key_and_value text =
+    option_and_then (λ key. option_map (λ v. (Put v, key)) (value_of (after_first is_space text))) (key_of (before_first is_space text))
+
+-- the order of a line: `+ K V`, `- K` or `= K`
+abbrev pub order_of : List ℕ → Option Order
+order_of [] = None
+order_of (c ∷ []) = None
+order_of (c ∷ space ∷ rest) =
+    if space == 32 then
+    if c == 43 then with_key_and_value rest
+    else if c == 45 then with_key Erase rest
+    else if c == 61 then with_key Exact rest
+    else None
+    else None

@@ -1,0 +1,114 @@
+-- What a script's run writes, and the tree that it leaves.
+use Rattle.std.specs.Prelude.{◌≡◌, ℕ, ◌<◌, ◌==◌, int_le, ◌&&◌, if◌then◌else◌, ℤ, pos, List, [], ◌∷◌, ◌++◌, length, Option, Some, None, codes, decimal, is_some, position}
+use Rattle.std.specs.Fmt.{signed_decimal}
+use Rattle.std.specs.Io.KnownBytes.{Appends}
+use Rattle.cedar_tree.specs.Tree.{number_at}
+use Rattle.cedar_tree.specs.State.{State, stored, erased}
+use Rattle.cedar_cli.specs.declared.command.Verb.TheVariants.{Put, Erase, Exact}
+use Rattle.cedarwood.specs.declared.error.CedarError.{CedarError}
+use Rattle.cedarwood.specs.declared.error.CedarError.TheVariants.{EmptyKey, NulByte, InvalidValue}
+use Rattle.cedarwood.specs.Fault.{fault}
+use Rattle.cedar_cli.specs.Command.{Order, order_of}
+use Rattle.cedar_cli.specs.Lines.{lines_of}
+
+-- a pair was at fault, and no call wanted memory or slots
+abbrev pub IsPairFault : CedarError → Type 0
+IsPairFault EmptyKey = Unit {0}
+IsPairFault (NulByte at) = Unit {0}
+IsPairFault (InvalidValue v) = Unit {0}
+IsPairFault _ = ⊥
+
+-- what is answered to a put, by its pair's fault
+abbrev pub refusal : Option CedarError → List ℕ
+refusal None = codes "ok"
+refusal (Some EmptyKey) = codes "refused EmptyKey"
+refusal (Some (NulByte at)) = codes "refused NulByte " ++ decimal at
+refusal (Some (InvalidValue v)) = codes "refused InvalidValue " ++ signed_decimal v
+refusal (Some _) = []
+
+-- a number and the key's length, or `none`
+abbrev pub found_text : Option ℤ → ℕ → List ℕ
+found_text None n = codes "none"
+found_text (Some v) n = signed_decimal v ++ 32 ∷ decimal n
+
+-- what is answered to an order, without the byte 10 at its end
+abbrev pub reply : State → Option Order → List ℕ
+reply s None = codes "bad line"
+reply s (Some (Put v, key)) = refusal (fault key v)
+reply s (Some (Erase, key)) = if is_some (number_at s.tree key) then codes "erased" else codes "absent"
+reply s (Some (Exact, key)) = found_text (number_at s.tree key) (length key)
+
+-- the state after an order
+abbrev pub obeyed : State → Option Order → State
+obeyed s None = s
+obeyed s (Some (Put v, key)) = if is_some (fault key v) then s else stored s key v
+obeyed s (Some (Erase, key)) = erased s key
+obeyed s (Some (verb, key)) = s
+
+-- some of these bytes were written, from the first on, and not all
+abbrev pub WritesFront : Option (List ℕ) → Option (List ℕ) → List ℕ → Type 0
+WritesFront held holds bytes = (part : List ℕ) × (rest : List ℕ) × (0 < length rest) × (bytes ≡ part ++ rest) × Appends held holds part
+
+-- an order was obeyed, and its answer written whole
+abbrev pub Obeys : Option Order → State → State → Option (List ℕ) → Option (List ℕ) → Type 0
+Obeys order old new held holds = (new ≡ obeyed old order) × Appends held holds (reply old order ++ 10 ∷ [])
+
+-- an order was not obeyed: its answer was written in part at most
+abbrev pub Leaves : Option Order → State → State → Option (List ℕ) → Option (List ℕ) → Type 0
+Leaves order old new held holds =
+    (new ≡ old) × (part : List ℕ) × (rest : List ℕ) × (0 < length rest) × (reply old order ++ 10 ∷ [] ≡ part ++ rest) × Appends held holds part
+
+-- the answer to a line
+abbrev pub answer : State → List ℕ → List ℕ
+answer s line = reply s (order_of line) ++ 10 ∷ []
+
+-- the answers to some lines, one after another
+abbrev pub answers : State → List (List ℕ) → List ℕ
+answers s [] = []
+answers s (line ∷ lines) = answer s line ++ answers (obeyed s (order_of line)) lines
+
+-- the state after some lines
+abbrev pub state_after : State → List (List ℕ) → State
+state_after s [] = s
+state_after s (line ∷ lines) = state_after (obeyed s (order_of line)) lines
+
+-- a dictionary came from one state to another by these lines, and the writer took their answers and then these bytes
+abbrev pub Finishes : State → State → Option (List ℕ) → Option (List ℕ) → List (List ℕ) → List ℕ → Type 0
+Finishes old new held holds lines more =
+    (new ≡ state_after old lines) × Appends held holds (answers old lines ++ more)
+
+-- some bytes are part of the answer to the first of these lines, and not all of it
+abbrev pub IsCutShort : State → List (List ℕ) → List ℕ → Type 0
+IsCutShort s [] part = part ≡ []
+IsCutShort s (line ∷ lines) part = (rest : List ℕ) × (0 < length rest) × (answer s line ≡ part ++ rest)
+
+-- Some lines of a script were finished, and no other: their answers were written whole, the next one's was
+-- not, and the state is theirs.
+abbrev pub StopsAfter : State → State → Option (List ℕ) → Option (List ℕ) → List (List ℕ) → List (List ℕ) → Type 0
+StopsAfter old new held holds finished others =
+    (part : List ℕ) × Finishes old new held holds finished part × IsCutShort new others part
+
+-- a run ended before its script did: the script's first lines are finished, and no other
+abbrev pub EndsEarly : State → State → Option (List ℕ) → Option (List ℕ) → List ℕ → Type 0
+EndsEarly old new held holds script =
+    (finished : List (List ℕ)) × (others : List (List ℕ)) × (lines_of script ≡ finished ++ others)
+    × StopsAfter old new held holds finished others
+
+-- however a text goes on, its lines are these, and then those of what is left of it
+abbrev pub Splits : List ℕ → List (List ℕ) → List ℕ → Type 0
+Splits text finished left = (rest : List ℕ) → lines_of (text ++ rest) ≡ finished ++ lines_of (left ++ rest)
+
+-- a text was taken: its whole lines are finished, and this is left of it
+abbrev pub Advances : State → State → Option (List ℕ) → Option (List ℕ) → List ℕ → List ℕ → Type 0
+Advances old new held holds text left =
+    (finished : List (List ℕ)) × Splits text finished left × Finishes old new held holds finished []
+
+-- the run stopped in a text: some of its lines are finished, and the next one's answer was not written whole
+abbrev pub Stops : State → State → Option (List ℕ) → Option (List ℕ) → List ℕ → Type 0
+Stops old new held holds text =
+    (finished : List (List ℕ)) × (left : List ℕ) × (part : List ℕ) × Splits text finished left
+    × Finishes old new held holds finished part × ((rest : List ℕ) → IsCutShort new (lines_of (left ++ rest)) part)
+
+-- of some bytes the first ones were written, or all, and nothing else
+abbrev pub AppendsFront : Option (List ℕ) → Option (List ℕ) → List ℕ → Type 0
+AppendsFront held holds bytes = (part : List ℕ) × (rest : List ℕ) × (bytes ≡ part ++ rest) × Appends held holds part

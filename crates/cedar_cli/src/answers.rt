@@ -1,0 +1,180 @@
+//! The answer to one line, written whole or not at all obeyed.
+
+ghost use Rattle.std.specs.Prelude.{◌≡◌, ◌++◌, ◌∷◌, [], true, Some, None, string_bytes, MatchOption, IsSome, OnOk, OnErr, IfOk};
+ghost use Rattle.std.specs.Io.KnownBytes.{Appends};
+ghost use Rattle.cedar_tree.specs.State.{stored, erased};
+ghost use Rattle.cedar_tree.specs.Tree.{number_at};
+ghost use Rattle.cedarwood.specs.Fault.{fault};
+ghost use Rattle.cedarwood.specs.WatchedDevice.{device_of, has_failed};
+ghost use Rattle.cedar_cli.specs.Command.{order_of};
+ghost use Rattle.cedar_cli.specs.Script.{Obeys, Leaves, WritesFront, IsPairFault, refusal, found_text};
+
+use crate::command::{Verb, parse_line};
+use crate::script::ScriptError;
+use cedarwood::{Cedar, CedarError, Watched};
+use std::alloc::{AllocError, Allocator};
+use std::io::Write;
+
+/// Does what a line asks, and writes the answer. A line whose answer isn't written whole changes nothing.
+pub(crate) fn answer_line<A: Allocator + Copy, W: Write>(
+    alloc: A,
+    cedar: &mut Cedar<A>,
+    line: &[u8],
+    writer: &mut Watched<W>,
+) -> Result<(), ScriptError>
+    ensures ok { OnOk result (Obeys (order_of line.now) cedar.old.state cedar.new.state
+        (W.contents (device_of writer.old)) (W.contents (device_of writer.new))) }
+    ensures err { OnErr result (Leaves (order_of line.now) cedar.old.state cedar.new.state
+        (W.contents (device_of writer.old)) (W.contents (device_of writer.new))) }
+    ensures cause { result ≡ Err ScriptError.Write → has_failed writer.new ≡ true }
+    ensures never_read { result ≡ Err ScriptError.Read → ⊥ }
+    ensures no_limit { result ≡ Err ScriptError.SlotLimit → ⊥ }
+{
+    let Ok(command) = parse_line(alloc, line) else {
+        return Err(ScriptError::Memory);
+    };
+    match command {
+        None => write_whole(writer, b"bad line\n"),
+        Some(command) => match command.verb {
+            Verb::Put(value) => answer_put(alloc, cedar, &command.key, value, writer),
+            Verb::Erase => answer_erase(cedar, &command.key, writer),
+            Verb::Exact => answer_exact(alloc, cedar, &command.key, writer),
+        },
+    }
+}
+
+/// Stores a value, and answers. Where the answer can't be written, the value is taken back, which takes no
+/// memory: the key is erased, or its old value stored over the new one.
+fn answer_put<A: Allocator + Copy, W: Write>(
+    alloc: A,
+    cedar: &mut Cedar<A>,
+    key: &[u8],
+    value: i32,
+    writer: &mut Watched<W>,
+) -> Result<(), ScriptError>
+    ensures ok { OnOk result (Obeys (Some (Verb.Put value, key.now)) cedar.old.state cedar.new.state
+        (W.contents (device_of writer.old)) (W.contents (device_of writer.new))) }
+    ensures err { OnErr result (Leaves (Some (Verb.Put value, key.now)) cedar.old.state cedar.new.state
+        (W.contents (device_of writer.old)) (W.contents (device_of writer.new))) }
+    ensures cause { result ≡ Err ScriptError.Write → has_failed writer.new ≡ true }
+    ensures never_read { result ≡ Err ScriptError.Read → ⊥ }
+    ensures no_limit { result ≡ Err ScriptError.SlotLimit → ⊥ }
+{
+    let before = cedar.exact_match_search_bytes(key);
+    match cedar.update_bytes(key, value) {
+        Ok(()) => {
+            let written = write_whole(writer, b"ok\n");
+            if written.is_err() {
+                take_back(cedar, key, before);
+            }
+            written
+        }
+        Err(CedarError::Memory) => Err(ScriptError::Memory),
+        Err(CedarError::SlotLimit) => Err(ScriptError::SlotLimit),
+        Err(error) => match refusal_line(alloc, error) {
+            Ok(text) => write_whole(writer, text.as_bytes()),
+            Err(AllocError) => Err(ScriptError::Memory),
+        },
+    }
+}
+
+/// Answers whether a key is held, and then removes it.
+fn answer_erase<A: Allocator + Copy, W: Write>(
+    cedar: &mut Cedar<A>,
+    key: &[u8],
+    writer: &mut Watched<W>,
+) -> Result<(), ScriptError>
+    ensures ok { OnOk result (Obeys (Some (Verb.Erase, key.now)) cedar.old.state cedar.new.state
+        (W.contents (device_of writer.old)) (W.contents (device_of writer.new))) }
+    ensures err { OnErr result (Leaves (Some (Verb.Erase, key.now)) cedar.old.state cedar.new.state
+        (W.contents (device_of writer.old)) (W.contents (device_of writer.new))) }
+    ensures cause { OnErr result ((result ≡ Err ScriptError.Write) × (has_failed writer.new ≡ true)) }
+{
+    match cedar.exact_match_search_bytes(key) {
+        Some(_) => write_whole(writer, b"erased\n")?,
+        None => write_whole(writer, b"absent\n")?,
+    }
+    cedar.erase_bytes(key);
+    Ok(())
+}
+
+/// Answers what a key holds.
+fn answer_exact<A: Allocator + Copy, W: Write>(
+    alloc: A,
+    cedar: &Cedar<A>,
+    key: &[u8],
+    writer: &mut Watched<W>,
+) -> Result<(), ScriptError>
+    ensures ok { OnOk result (Obeys (Some (Verb.Exact, key.now)) cedar.now.state cedar.now.state
+        (W.contents (device_of writer.old)) (W.contents (device_of writer.new))) }
+    ensures err { OnErr result (Leaves (Some (Verb.Exact, key.now)) cedar.now.state cedar.now.state
+        (W.contents (device_of writer.old)) (W.contents (device_of writer.new))) }
+    ensures cause { result ≡ Err ScriptError.Write → has_failed writer.new ≡ true }
+    ensures never_read { result ≡ Err ScriptError.Read → ⊥ }
+    ensures no_limit { result ≡ Err ScriptError.SlotLimit → ⊥ }
+{
+    match cedar.exact_match_search_bytes(key) {
+        Some((value, length)) => match found_line(alloc, value, length) {
+            Ok(text) => write_whole(writer, text.as_bytes()),
+            Err(AllocError) => Err(ScriptError::Memory),
+        },
+        None => write_whole(writer, b"none\n"),
+    }
+}
+
+/// Puts back what a key held before a value was stored.
+fn take_back<A: Allocator + Copy>(cedar: &mut Cedar<A>, key: &[u8], before: Option<(i32, usize)>)
+    ensures state { MatchOption before
+        (cedar.new.state ≡ erased cedar.old.state key.now)
+        (λ found. fault key.now found.0 ≡ None → IsSome (number_at cedar.old.state.tree key.now)
+        → cedar.new.state ≡ stored cedar.old.state key.now found.0) }
+{
+    match before {
+        Some((value, _)) => {
+            let _ = cedar.update_bytes(key, value);
+        }
+        None => {
+            cedar.erase_bytes(key);
+        }
+    }
+}
+
+/// The line of a pair's fault.
+fn refusal_line<A: Allocator>(alloc: A, error: CedarError) -> Result<String<A>, AllocError>
+    requires { IsPairFault error }
+    ensures { IfOk result (λ text. string_bytes text ≡ refusal (Some error) ++ 10 ∷ []) }
+{
+    match error {
+        CedarError::EmptyKey => format!(in alloc; "refused EmptyKey\n"),
+        CedarError::NulByte { position } => format!(in alloc; "refused NulByte {position}\n"),
+        CedarError::InvalidValue { value } => format!(in alloc; "refused InvalidValue {value}\n"),
+        _ => unreachable!(),
+    }
+}
+
+/// The line of a key that is held.
+fn found_line<A: Allocator>(alloc: A, value: i32, length: usize) -> Result<String<A>, AllocError>
+    ensures { IfOk result (λ text. string_bytes text ≡ found_text (Some value) length ++ 10 ∷ []) }
+{
+    format!(in alloc; "{value} {length}\n")
+}
+
+/// Writes all of some bytes. The first fault ends it, an interrupted write too: a part was then written, and
+/// not all. (`write_all` of the standard library promises nothing of what a failed call wrote.)
+pub(crate) fn write_whole<W: Write>(
+    writer: &mut Watched<W>,
+    bytes: &[u8],
+) -> Result<(), ScriptError>
+    ensures ok { OnOk result (Appends (W.contents (device_of writer.old)) (W.contents (device_of writer.new)) bytes.now) }
+    ensures err { OnErr result (WritesFront (W.contents (device_of writer.old)) (W.contents (device_of writer.new)) bytes.now) }
+    ensures cause { OnErr result ((result ≡ Err ScriptError.Write) × (has_failed writer.new ≡ true)) }
+{
+    let mut rest = bytes;
+    while !rest.is_empty() {
+        match writer.write(rest) {
+            Ok(0) | Err(_) => return Err(ScriptError::Write),
+            Ok(count) => rest = &rest[count..],
+        }
+    }
+    Ok(())
+}

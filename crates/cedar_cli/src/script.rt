@@ -1,0 +1,142 @@
+//! A run of a script: lines in, answers out.
+
+ghost use Rattle.std.specs.Prelude.{◌≡◌, ◌<◌, ◌^◌, List, ℕ, [], ◌∷◌, ◌++◌, length, true, OnOk, OnErr, IfSome};
+ghost use Rattle.std.specs.Io.KnownBytes.{Consumes};
+ghost use Rattle.cedarwood.specs.WatchedDevice.{device_of, has_failed};
+ghost use Rattle.cedar_cli.specs.Lines.{lines_of, IsOpen};
+ghost use Rattle.cedar_cli.specs.Script.{Finishes, Advances, Stops, EndsEarly};
+
+use crate::answers::answer_line;
+use cedarwood::{Cedar, Watched};
+use std::alloc::Allocator;
+use std::io::{Read, Write};
+
+/// Why a run ended before its script did.
+#[derive(Clone, Copy, Debug, PartialEq, Eq)]
+pub enum ScriptError {
+    /// The reader failed.
+    Read,
+    /// The writer failed.
+    Write,
+    /// A request for memory was refused.
+    Memory,
+    /// No slot is left in the dictionary.
+    SlotLimit,
+}
+
+/// A run ends after this many reads, as at the end of its input.
+const MAX_READS: u64 = 1 << 63;
+
+/// Answers each line of what the reader has left. Memory holds one line and one answer at a time. The writer
+/// is flushed before each read, so that one who waits for an answer before the next line gets it.
+///
+/// A line is the bytes up to byte 10 (`\n`); a last nonempty piece without it is a line too. A line is
+/// finished when its answer has been written whole, and the dictionary is always that of the finished lines.
+///
+/// # Errors
+/// The first fault ends the run: `Read` or `Write` where the device failed (an interrupted call is a fault),
+/// `Memory` where a request was refused. What was written then begins with the answers of the finished
+/// lines. A line that a read fault cut isn't answered.
+pub fn run_script<A: Allocator + Copy, R: Read, W: Write>(
+    alloc: A,
+    cedar: &mut Cedar<A>,
+    reader: &mut Watched<R>,
+    writer: &mut Watched<W>,
+) -> Result<(), ScriptError>
+    // All lines of what the reader had left are finished, and nothing else was written.
+    ensures ok { OnOk result (IfSome (R.remaining (device_of reader.old)) (λ input. length input < 2 ^ 63 →
+        Finishes cedar.old.state cedar.new.state
+        (W.contents (device_of writer.old)) (W.contents (device_of writer.new)) (lines_of input) [])) }
+
+    // The first lines are finished, the next one's answer was not written whole, and the state is theirs.
+    ensures err { OnErr result (IfSome (R.remaining (device_of reader.old)) (λ input. length input < 2 ^ 63 →
+        EndsEarly cedar.old.state cedar.new.state
+        (W.contents (device_of writer.old)) (W.contents (device_of writer.new)) input)) }
+
+    // After a fault of the reader the finished lines are those that came whole.
+    ensures read { result ≡ Err ScriptError.Read → IfSome (R.remaining (device_of reader.old)) (λ input.
+        (came : List ℕ) × (line : List ℕ)
+        × Consumes (R.remaining (device_of reader.old)) (R.remaining (device_of reader.new)) came
+        × IsOpen line × Advances cedar.old.state cedar.new.state
+        (W.contents (device_of writer.old)) (W.contents (device_of writer.new)) came line) }
+
+    ensures read_cause { result ≡ Err ScriptError.Read → has_failed reader.new ≡ true }
+    ensures write_cause { result ≡ Err ScriptError.Write → has_failed writer.new ≡ true }
+
+    // There is no limit of slots yet.
+    ensures no_limit { result ≡ Err ScriptError.SlotLimit → ⊥ }
+{
+    let mut line = Vec::new(alloc);
+    let mut chunk = [0u8; 1024];
+    for turn in 0..MAX_READS {
+        // Whoever waits for the answers so far gets them before more input is asked for.
+        let Ok(()) = writer.flush() else {
+            return Err(ScriptError::Write);
+        };
+        let Ok(count) = reader.read(&mut chunk) else {
+            return Err(ScriptError::Read);
+        };
+        if count == 0 {
+            break;
+        }
+        take_bytes(alloc, cedar, &mut line, &chunk[..count], writer)?;
+    }
+    if !line.is_empty() {
+        answer_line(alloc, cedar, line.as_slice(), writer)?;
+    }
+    Ok(())
+}
+
+/// Takes some bytes, one after another.
+fn take_bytes<A: Allocator + Copy, W: Write>(
+    alloc: A,
+    cedar: &mut Cedar<A>,
+    line: &mut Vec<u8, A>,
+    bytes: &[u8],
+    writer: &mut Watched<W>,
+) -> Result<(), ScriptError>
+    requires open { IsOpen line.old.items }
+    ensures still_open { OnOk result (IsOpen line.new.items) }
+    ensures ok { OnOk result (Advances cedar.old.state cedar.new.state
+        (W.contents (device_of writer.old)) (W.contents (device_of writer.new)) (line.old.items ++ bytes.now) line.new.items) }
+    ensures err { OnErr result (Stops cedar.old.state cedar.new.state
+        (W.contents (device_of writer.old)) (W.contents (device_of writer.new)) (line.old.items ++ bytes.now)) }
+    ensures cause { result ≡ Err ScriptError.Write → has_failed writer.new ≡ true }
+    ensures never_read { result ≡ Err ScriptError.Read → ⊥ }
+    ensures no_limit { result ≡ Err ScriptError.SlotLimit → ⊥ }
+{
+    for byte in bytes {
+        take_byte(alloc, cedar, line, *byte, writer)?;
+    }
+    Ok(())
+}
+
+/// Takes the next byte: it ends the line, or goes onto it.
+fn take_byte<A: Allocator + Copy, W: Write>(
+    alloc: A,
+    cedar: &mut Cedar<A>,
+    line: &mut Vec<u8, A>,
+    byte: u8,
+    writer: &mut Watched<W>,
+) -> Result<(), ScriptError>
+    requires open { IsOpen line.old.items }
+    ensures still_open { OnOk result (IsOpen line.new.items) }
+    ensures ok { OnOk result (Advances cedar.old.state cedar.new.state
+        (W.contents (device_of writer.old)) (W.contents (device_of writer.new)) (line.old.items ++ byte ∷ []) line.new.items) }
+    ensures err { OnErr result (Stops cedar.old.state cedar.new.state
+        (W.contents (device_of writer.old)) (W.contents (device_of writer.new)) (line.old.items ++ byte ∷ [])) }
+    ensures cause { result ≡ Err ScriptError.Write → has_failed writer.new ≡ true }
+    ensures never_read { result ≡ Err ScriptError.Read → ⊥ }
+    ensures no_limit { result ≡ Err ScriptError.SlotLimit → ⊥ }
+{
+    if byte == b'\n' {
+        answer_line(alloc, cedar, line.as_slice(), writer)?;
+        line.clear();
+        Ok(())
+    } else {
+        match line.push(byte) {
+            Ok(()) => Ok(()),
+            Err(_) => Err(ScriptError::Memory),
+        }
+    }
+}

@@ -1,0 +1,13 @@
+pub mod TreeLemmas
+pub mod OrderLemmas
+pub mod WalkLemmas
+pub mod CountLemmas
+pub mod BuildLemmas
+pub mod MemberLemmas
+pub mod PairLemmas
+pub mod PrefixLemmas
+pub mod ExtensionLemmas
+pub mod FrontLemmas
+pub mod PredictLemmas
+pub mod KeyLemmas
+pub mod ChangeLemmas

@@ -1,0 +1,5 @@
+pub mod Tree
+pub mod Queries
+pub mod Laws
+pub mod State
+pub mod Stored

@@ -1,0 +1,72 @@
+-- What a pair without a fault is.
+use Rattle.std.proofs.Common.{Bool, ltb, ◌≡◌, ℕ, suc, not, ◌+◌, ◌<◌, ◌≤◌, true, false, cond, ◌==◌, List, [], ◌∷◌, length, get_or, ℤ, Option, Some, None, IfSome, Result, Ok, Err, OnOk, OnErr, position, option_map, refl, arith}
+use Rattle.std.proofs.lemmas.Bool.{eqb-false, ltb-false}
+use Rattle.std.specs.List.{position_or_len}
+use Rattle.std.proofs.lemmas.Result.{on_ok_weaker, on_err_weaker}
+use Rattle.cedar_tree.specs.Tree.{Tree, IsPath, IsKey, IsSound, AllNumbers, put}
+use Rattle.cedar_tree.proofs.TreeLemmas.{is_sound-put, all-put}
+use Rattle.cedarwood.specs.declared.error.CedarError.{CedarError}
+use Rattle.cedarwood.specs.declared.error.CedarError.TheVariants.{EmptyKey, NulByte}
+use Rattle.cedarwood.specs.Fault.{key_fault, value_fault, fault, or_else, IsInRange}
+
+ok_or_err : {T : Type 0} (r : Result T CedarError) (x : T) (e : CedarError) → r ≡ Ok x → r ≡ Err e → ⊥
+ok_or_err r x e p q = cc
+
+some_or_none : {T : Type 0} (x : T) → ◌≡◌ {A = Option T} (Some x) None → ⊥
+some_or_none x h = cc
+
+-- what was not refused has no fault
+pub no_fault : {T : Type 0} (f : Option CedarError) (r : Result T CedarError) (x : T) → IfSome f (λ e. r ≡ Err e) → r ≡ Ok x → f ≡ None
+no_fault None r x h ok = refl
+no_fault (Some e) r x h ok = absurd (ok_or_err r x e ok h)
+
+key_part : (a b : Option CedarError) → or_else a b ≡ None → (a ≡ None) × (b ≡ None)
+key_part None b h = (refl, h)
+key_part (Some e) b h = absurd (some_or_none e h)
+
+pub in_range_of : (key : List ℕ) (v : ℤ) → fault key v ≡ None → IsInRange v
+in_range_of key v h = (key_part (key_fault key) (value_fault v) h).1
+
+-- nothing passes a test: its first place is past the end
+position-None : {X : Type 0} (p : X → Bool) (xs : List X) → position p xs ≡ None → length xs ≤ position_or_len p xs
+position-None p xs h =
+    (elim (ltb (position_or_len p xs) (length xs)) as (λ t. ltb (position_or_len p xs) (length xs) ≡ t → cond t (Some (position_or_len p xs)) None ≡ None → length xs ≤ position_or_len p xs) [
+      | true ↦ λ e k. absurd (some_or_none (position_or_len p xs) k)
+      | false ↦ λ e k. ltb-false (position_or_len p xs) (length xs) e
+    ]) refl h
+
+path_of : (key : List ℕ) → length key ≤ position_or_len (λ c. c == 0) key → ((i : ℕ) → get_or key i 0 < 256) → IsPath key
+path_of [] h bytes = tt
+path_of (b ∷ key) h bytes =
+    (elim (b == 0) as (λ t. (b == 0) ≡ t → length (b ∷ key) ≤ cond (not t) (1 + position_or_len (λ c. c == 0) key) 0 → IsPath (b ∷ key)) [
+      | true ↦ λ e k. absurd (omega arith)
+      | false ↦ λ e k.
+          let here : b < 256 = bytes 0 in
+          let some : (b ≡ 0 → ⊥) = eqb-false b 0 e in
+          let rest : length key ≤ position_or_len (λ c. c == 0) key = omega arith in
+          (omega arith, here, path_of key rest (λ i. bytes (suc i)))
+    ]) refl h
+
+not_mapped : (f : ℕ → CedarError) (o : Option ℕ) → option_map f o ≡ None → o ≡ None
+not_mapped f None h = refl
+not_mapped f (Some n) h = absurd (some_or_none (f n) h)
+
+-- bytes without a fault are a key
+pub key_of : (key : List ℕ) (v : ℤ) → fault key v ≡ None → ((i : ℕ) → get_or key i 0 < 256) → IsKey key
+key_of [] v h bytes = absurd (some_or_none EmptyKey (key_part (key_fault []) (value_fault v) h).0)
+key_of (b ∷ key) v h bytes =
+    path_of (b ∷ key) (position-None (λ c. c == 0) (b ∷ key) (not_mapped NulByte (position (λ c. c == 0) (b ∷ key)) (key_part (key_fault (b ∷ key)) (value_fault v) h).0)) bytes
+
+on_either : {T E P : Type 0} (r : Result T E) → OnOk r P → OnErr r P → P
+on_either (Ok x) h k = h
+on_either (Err e) h k = k
+
+-- a put of a pair without a fault leaves a dictionary's tree as it has to be, also where it is refused
+pub kept_by_put : {T E : Type 0} (r : Result T E) (old new : Tree) (key : List ℕ) (v : ℤ)
+    → OnOk r (new ≡ put old true key v) → OnErr r (new ≡ old)
+    → fault key v ≡ None → ((i : ℕ) → get_or key i 0 < 256)
+    → IsSound old × AllNumbers IsInRange old.children → IsSound new × AllNumbers IsInRange new.children
+kept_by_put r old new key v ok err fine bytes kept =
+    on_either r
+    (on_ok_weaker r (λ (done : _). rw done (is_sound-put old true key v (key_of key v fine bytes) kept.0, all-put IsInRange old true key v (in_range_of key v fine) kept.1)) ok)
+    (on_err_weaker r (λ (same : _). rw same kept) err)

@@ -1,0 +1,3 @@
+pub mod ChildrenLemmas
+pub mod ListingLemmas
+pub mod QueryLemmas

@@ -1,0 +1,140 @@
+//! The plain tree.
+ghost use Rattle.std.specs.Prelude.{◌≡◌, is_some, OnOk, OnErr, IfOk, IsOk, IsSome, length};
+ghost use Rattle.cedar_tree.specs.Tree.{empty_tree, number_at, put, cut};
+ghost use Rattle.cedar_tree.specs.Queries.{walk, exact, front, predict, prefixes, used};
+ghost use Rattle.plain_tree.specs.Listing.{entries_of, paths_of};
+
+use crate::node;
+use crate::node::Node;
+use std::alloc::{AllocError, Allocator};
+use std::marker::Model;
+
+/// A labelled tree, each node of which owns its children. A caller sees the tree that it stands for.
+#[derive(Drop)]
+pub struct PlainTree<A: Allocator> {
+    root: Node<A>,
+}
+
+impl<A: Allocator> Model for PlainTree<A> {
+    ghost use Rattle.cedar_tree.specs.Tree.{Tree};
+    ghost use Rattle.cedar_tree.specs.Stored.{coded_tree};
+
+    ghost Value = { Tree };
+
+    ghost coded = { coded_tree };
+
+    ghost view = { λ t. t.root.1 };
+}
+
+impl<A: Allocator + Copy> PlainTree<A> {
+    /// A tree with neither number nor child.
+    pub fn new(alloc: A) -> Self
+        ensures { result ≡ empty_tree }
+    {
+        PlainTree {
+            root: Node::new(alloc, 0),
+        }
+    }
+
+    /// The number at a path.
+    pub fn number_at(&self, path: &[u8]) -> Option<i32>
+        ensures { result ≡ number_at self.now path.now }
+    {
+        node::number_at(&self.root, path)
+    }
+
+    /// Stores a number at a path. A new label goes to its ascending place among its siblings if ordered,
+    /// and else first.
+    pub fn put(
+        &mut self,
+        alloc: A,
+        ordered: bool,
+        path: &[u8],
+        number: i32,
+    ) -> Result<(), AllocError>
+        ensures ok { OnOk result (self.new ≡ put self.old ordered path.now number) }
+        ensures err { OnErr result (self.new ≡ self.old) }
+
+        // A path that is held already takes no memory.
+        ensures held { IsSome (number_at self.old path.now) → IsOk result }
+    {
+        node::put(alloc, &mut self.root, ordered, path, number)
+    }
+
+    /// Takes the number at a path away, and each node on it that is then bare. Says whether there was one.
+    pub fn cut(&mut self, path: &[u8]) -> bool
+        ensures answer { result ≡ is_some (number_at self.old path.now) }
+        ensures after { self.new ≡ cut self.old path.now }
+    {
+        node::cut(&mut self.root, path)
+    }
+
+    /// Each path that has a number, with it: a node's before its children's, children in their order.
+    pub fn walk(&self, alloc: A) -> Result<Vec<(Vec<u8, A>, i32), A>, AllocError>
+        ensures { IfOk result (λ entries. entries_of entries.items ≡ walk self.now) }
+    {
+        let mut entries = Vec::new(alloc);
+        node::walk_into(alloc, &self.root, &[], &mut entries)?;
+        Ok(entries)
+    }
+
+    /// How many paths have a number.
+    pub fn len(&self, alloc: A) -> Result<usize, AllocError>
+        ensures { IfOk result (λ count. count ≡ length (walk self.now)) }
+    {
+        Ok(self.walk(alloc)?.len())
+    }
+
+    /// The number at a query, and the query's length.
+    pub fn exact(&self, query: &[u8]) -> Option<(i32, usize)>
+        ensures { result ≡ exact self.now query.now }
+    {
+        let number = self.number_at(query)?;
+        Some((number, query.len()))
+    }
+
+    /// The number at each nonempty front of a query that has one, and the place of that front's last byte.
+    pub fn front(&self, alloc: A, query: &[u8]) -> Result<Vec<(i32, usize), A>, AllocError>
+        ensures { IfOk result (λ found. found.items ≡ front self.now query.now) }
+    {
+        let mut found = Vec::new(alloc);
+        for last in 0..query.len() {
+            if let Some(number) = self.number_at(&query[..last + 1]) {
+                found.push((number, last))?;
+            }
+        }
+        Ok(found)
+    }
+
+    /// The number at each path that begins with a query, and how many bytes follow the query there.
+    pub fn predict(&self, alloc: A, query: &[u8]) -> Result<Vec<(i32, usize), A>, AllocError>
+        ensures { IfOk result (λ found. found.items ≡ predict self.now query.now) }
+    {
+        let entries = self.walk(alloc)?;
+        let mut found = Vec::new(alloc);
+        for (path, number) in &entries {
+            if path.as_slice().starts_with(query) {
+                found.push((*number, path.len() - query.len()))?;
+            }
+        }
+        Ok(found)
+    }
+
+    /// The paths of the nodes below the root.
+    pub fn prefixes(&self, alloc: A) -> Result<Vec<Vec<u8, A>, A>, AllocError>
+        ensures { IfOk result (λ paths. paths_of paths.items ≡ prefixes self.now) }
+    {
+        let mut paths = Vec::new(alloc);
+        node::prefixes_into(alloc, &self.root, &[], &mut paths)?;
+        Ok(paths)
+    }
+
+    /// How many slots the tree takes: one for the root, one for each prefix and one for each number.
+    pub fn used(&self, alloc: A) -> Result<usize, AllocError>
+        ensures { IfOk result (λ count. count ≡ used self.now) }
+    {
+        let prefixes = self.prefixes(alloc)?.len();
+        let entries = self.walk(alloc)?.len();
+        Ok(1 + prefixes + entries)
+    }
+}
