@@ -1,12 +1,13 @@
 -- What is written in parts, and the lines of a script in parts.
 use Rattle.std.proofs.Common.{◌≡◌, ℕ, List, [], ◌∷◌, ◌++◌, Option, Some, None, refl, sym, ap, ◌∙◌, append_assoc, append-nil, take, drop, length, ◌-◌, arith, take-append-drop, length-drop}
 use Rattle.std.proofs.lemmas.List.{take_all}
-use Rattle.std.proofs.Common.{length-append, false, ◌==◌, ◌<◌}
+use Rattle.std.proofs.Common.{length-append, Bool, true, false, ◌||◌, ◌&&◌, ◌==◌, ◌<◌}
+use Rattle.std.proofs.lemmas.Bool.{eqb-true}
 use Rattle.std.specs.Prelude.{Result, Ok, Err, OnOk, OnErr}
 use Rattle.cedar_tree.specs.State.{State}
 use Rattle.cedar_cli.specs.Command.{Order, order_of}
 use Rattle.cedar_cli.specs.Lines.{lines_of, onto_first, IsOpen}
-use Rattle.cedar_cli.specs.Script.{reply, answer, answers, obeyed, state_after, IsCutShort, Leaves, Obeys, Finishes, Splits, Advances, Stops}
+use Rattle.cedar_cli.specs.Script.{WritesFront, reply, answer, answers, obeyed, state_after, IsCutShort, Leaves, Obeys, Finishes, Splits, Advances, Stops}
 use Rattle.std.specs.Io.KnownBytes.{Appends, Keeps}
 
 -- bytes appended in two parts
@@ -38,6 +39,25 @@ Appends-more a b c all x rest n e p q = (
 ) where
   whole : take (length rest - n) (drop n rest) ≡ drop n rest
   whole = take_all (length rest - n) (drop n rest) (omega (arith, length-drop n rest))
+
+-- a front of some bytes is one of more bytes
+pub front_more : (a b : Option (List ℕ)) (bytes more : List ℕ) → WritesFront a b bytes → WritesFront a b (bytes ++ more)
+front_more a b bytes more h =
+    (h.0, h.1 ++ more, (let some = h.2 in omega (arith, length-append h.1 more)), ap (λ l. l ++ more) h.3 ∙ append_assoc h.0 h.1 more, h.4)
+
+-- what was written, and a front of what follows
+pub front_after : (a b c : Option (List ℕ)) (done bytes : List ℕ) → Appends a b done → WritesFront b c bytes → WritesFront a c (done ++ bytes)
+front_after a b c done bytes p h =
+    (done ++ h.0, h.1, h.2, ap (λ l. done ++ l) h.3 ∙ sym (append_assoc done h.0 h.1), Appends-append a b c done h.0 p h.4)
+
+-- the same of a call's result
+pub then_ok : {T E : Type 0} (r : Result T E) (a b c : Option (List ℕ)) (done bytes : List ℕ) → Appends a b done → OnOk r (Appends b c bytes) → OnOk r (Appends a c (done ++ bytes))
+then_ok (Ok x) a b c done bytes p h = Appends-append a b c done bytes p h
+then_ok (Err e) a b c done bytes p h = tt
+
+pub then_err : {T E : Type 0} (r : Result T E) (a b c : Option (List ℕ)) (done bytes : List ℕ) → Appends a b done → OnErr r (WritesFront b c bytes) → OnErr r (WritesFront a c (done ++ bytes))
+then_err (Ok x) a b c done bytes p h = tt
+then_err (Err e) a b c done bytes p h = front_after a b c done bytes p h
 
 -- an answer is cut short where nothing of it is written
 pub cut_short_none : (t : State) (lines : List (List ℕ)) → IsCutShort t lines []
@@ -162,3 +182,20 @@ pub Advances-kept : (old new : State) (held holds kept : Option (List ℕ)) (tex
     → Advances old new held holds text left → Keeps holds kept → Advances old new held kept text left
 Advances-kept old new held holds kept text left h k =
     (h.0, h.1, (h.2.0, Appends-kept held holds kept (answers old h.0 ++ []) h.2.1 k))
+
+or_false : (b : Bool) → (b || false) ≡ b
+or_false true = refl
+or_false false = refl
+
+-- nor is any other call that answered
+pub unfailed_call : (before after : Bool) → after ≡ (before || false) → after ≡ before
+unfailed_call before after h = h ∙ or_false before
+
+-- a write that took a byte or more is no fault
+pub unfailed_by : (before after : Bool) (count : ℕ) (any : Bool) → after ≡ (before || (count == 0 && any)) → (count ≡ 0 → ⊥) → after ≡ before
+unfailed_by before after count any h some = h ∙ rw (eqb-not count 0 some) (or_false before) where
+  eqb-not : (m n : ℕ) → (m ≡ n → ⊥) → (m == n) ≡ false
+  eqb-not m n ne = (elim (m == n) as (λ same. (m == n) ≡ same → (m == n) ≡ false) [
+    | true ↦ λ e. absurd (ne (eqb-true m n e))
+    | false ↦ λ e. e
+  ]) refl

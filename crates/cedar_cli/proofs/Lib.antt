@@ -1,4 +1,5 @@
 pub mod Bytes
+pub mod Newlines
 pub mod Orders
 pub mod Runs
 pub mod Text

@@ -2,10 +2,8 @@
 use Rattle.std.proofs.Common.{◌≡◌, ℕ, ℤ, List, [], ◌∷◌, ◌++◌, Option, Some, None, true, ◌==◌, refl, sym, ap, subst, ◌∙◌, length, ◌<◌, append_assoc}
 use Rattle.std.specs.Prelude.{codes, Bool, false, ◌&&◌, int_le, pos, if◌then◌else◌, Result, Ok, Err, OnErr, IfSome, IsSome, is_err, MatchOption, option_map, position}
 use Rattle.std.specs.Io.KnownBytes.{Appends}
-use Rattle.std.specs.Prelude.{string_bytes, String, decimal, IfOk}
+use Rattle.std.specs.Prelude.{decimal}
 use Rattle.std.specs.Fmt.{signed_decimal}
-use Rattle.std.proofs.Common.{FitsSigned, w32, to_z, of_z}
-use Rattle.std.proofs.lemmas.Int.{to_z-of_z}
 use Rattle.cedar_tree.specs.State.{State, stored, erased}
 use Rattle.cedar_tree.specs.Tree.{Tree, number_at, IsSound}
 use Rattle.cedar_tree.specs.Queries.{exact}
@@ -14,7 +12,7 @@ use Rattle.cedarwood.specs.declared.error.CedarError.{CedarError}
 use Rattle.cedarwood.specs.declared.error.CedarError.TheVariants.{EmptyKey, NulByte, InvalidValue}
 use Rattle.cedar_cli.specs.Command.{Order}
 use Rattle.cedarwood.specs.Fault.{fault, key_fault, or_else, value_fault, IsShortage}
-use Rattle.cedar_cli.specs.Script.{IsPairFault, found_text, reply, Leaves, WritesFront}
+use Rattle.cedar_cli.specs.Script.{refusal, IsPairFault, found_text, reply, Leaves, WritesFront}
 use Rattle.cedar_cli.specs.declared.command.Verb.TheVariants.{Erase}
 
 -- what an exact search that missed says
@@ -42,12 +40,19 @@ erased_reply s key found h = rw (exact_found s.tree key found.0 found.1 h).0 ref
 pub absent_reply : (s : State) (key : List ℕ) → None ≡ exact s.tree key → codes "absent" ≡ reply s (Some (Erase, key))
 absent_reply s key h = rw (exact_missed s.tree key h) refl
 
--- a number's line as `format!` makes it
-pub found_ok : {Z E : Type 0} (r : Result (String Z) E) (v : ℤ) (n : ℕ) → FitsSigned w32 v
-    → IfOk r (λ text. string_bytes text ≡ signed_decimal (to_z w32 (of_z w32 v)) ++ 32 ∷ (decimal n ++ 10 ∷ []))
-    → IfOk r (λ text. string_bytes text ≡ found_text (Some v) n ++ 10 ∷ [])
-found_ok (Ok text) v n fits h = h ∙ ap (λ x. signed_decimal x ++ 32 ∷ (decimal n ++ 10 ∷ [])) (to_z-of_z w32 v fits) ∙ sym (append_assoc (signed_decimal v) (32 ∷ decimal n) (10 ∷ []))
-found_ok (Err e) v n fits h = tt
+-- the line of a fault that has a number in it
+pub nul_line : (e : CedarError) (at : ℕ) (figures : List ℕ) → e ≡ NulByte at → figures ≡ decimal at
+    → codes "refused NulByte " ++ (figures ++ 10 ∷ []) ≡ refusal (Some e) ++ 10 ∷ []
+nul_line e at figures is text = rw (is, text) (sym (append_assoc (codes "refused NulByte ") (decimal at) (10 ∷ [])))
+
+pub value_line : (e : CedarError) (v : ℤ) (figures : List ℕ) → e ≡ InvalidValue v → figures ≡ signed_decimal v
+    → codes "refused InvalidValue " ++ (figures ++ 10 ∷ []) ≡ refusal (Some e) ++ 10 ∷ []
+value_line e v figures is text = rw (is, text) (sym (append_assoc (codes "refused InvalidValue ") (signed_decimal v) (10 ∷ [])))
+
+-- the line of a number that was found
+pub found_line : (v : ℤ) (n : ℕ) (first second : List ℕ) → first ≡ signed_decimal v → second ≡ decimal n
+    → first ++ (codes " " ++ (second ++ 10 ∷ [])) ≡ found_text (Some v) n ++ 10 ∷ []
+found_line v n first second e f = rw (e, f) (sym (append_assoc (signed_decimal v) (32 ∷ decimal n) (10 ∷ [])))
 
 -- a call that was obeyed met no fault
 pub no_fault : {T : Type 0} (f : Option CedarError) (x : T) → IfSome f (λ e. ◌≡◌ {A = Result T CedarError} (Ok x) (Err e)) → f ≡ None

@@ -134,14 +134,13 @@ ended_front old new held holds kept script h k =
     let finished = h.0 in
     let others = h.1 in
     let part = h.3.0 in
-    let more = cut_front new others part h.3.2 in
-    (
+    let more = cut_front new others part h.3.2 in (
       answers old finished ++ part,
       more.0,
       ap (answers old) h.2 ∙ answers-append old finished others
-      ∙ ap (λ s. answers old finished ++ answers s others) (sym h.3.1.0)
-      ∙ ap (λ l. answers old finished ++ l) more.1
-      ∙ sym (append_assoc (answers old finished) part more.0),
+          ∙ ap (λ s. answers old finished ++ answers s others) (sym h.3.1.0)
+          ∙ ap (λ l. answers old finished ++ l) more.1
+          ∙ sym (append_assoc (answers old finished) part more.0),
       Appends-kept held holds kept (answers old finished ++ part) h.3.1.1 k,
     )
 

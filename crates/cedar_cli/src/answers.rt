@@ -1,6 +1,6 @@
 //! The answer to one line, written whole or not at all obeyed.
 
-ghost use Rattle.std.specs.Prelude.{◌≡◌, ◌++◌, ◌∷◌, [], true, Some, None, string_bytes, MatchOption, IsSome, OnOk, OnErr, IfOk};
+ghost use Rattle.std.specs.Prelude.{◌≡◌, ◌++◌, ◌∷◌, [], true, Some, None, MatchOption, IsSome, OnOk, OnErr};
 ghost use Rattle.std.specs.Io.KnownBytes.{Appends};
 ghost use Rattle.cedar_tree.specs.State.{stored, erased};
 ghost use Rattle.cedar_tree.specs.Tree.{number_at};
@@ -12,7 +12,8 @@ ghost use Rattle.cedar_cli.specs.Script.{Obeys, Leaves, WritesFront, IsPairFault
 use crate::command::{Verb, parse_line};
 use crate::script::ScriptError;
 use cedarwood::{Cedar, CedarError, Watched};
-use std::alloc::{AllocError, Allocator};
+use itoa::Buffer;
+use std::alloc::Allocator;
 use std::io::Write;
 
 /// Does what a line asks, and writes the answer. A line whose answer isn't written whole changes nothing.
@@ -27,6 +28,7 @@ pub(crate) fn answer_line<A: Allocator + Copy, W: Write>(
     ensures err { OnErr result (Leaves (order_of line.now) cedar.old.state cedar.new.state
         (W.contents (device_of writer.old)) (W.contents (device_of writer.new))) }
     ensures cause { result ≡ Err ScriptError.Write → has_failed writer.new ≡ true }
+    ensures unfailed { OnOk result (has_failed writer.new ≡ has_failed writer.old) }
     ensures never_read { result ≡ Err ScriptError.Read → ⊥ }
     ensures no_limit { result ≡ Err ScriptError.SlotLimit → ⊥ }
 {
@@ -36,9 +38,9 @@ pub(crate) fn answer_line<A: Allocator + Copy, W: Write>(
     match command {
         None => write_whole(writer, b"bad line\n"),
         Some(command) => match command.verb {
-            Verb::Put(value) => answer_put(alloc, cedar, &command.key, value, writer),
+            Verb::Put(value) => answer_put(cedar, &command.key, value, writer),
             Verb::Erase => answer_erase(cedar, &command.key, writer),
-            Verb::Exact => answer_exact(alloc, cedar, &command.key, writer),
+            Verb::Exact => answer_exact(cedar, &command.key, writer),
         },
     }
 }
@@ -46,7 +48,6 @@ pub(crate) fn answer_line<A: Allocator + Copy, W: Write>(
 /// Stores a value, and answers. Where the answer can't be written, the value is taken back, which takes no
 /// memory: the key is erased, or its old value stored over the new one.
 fn answer_put<A: Allocator + Copy, W: Write>(
-    alloc: A,
     cedar: &mut Cedar<A>,
     key: &[u8],
     value: i32,
@@ -57,6 +58,7 @@ fn answer_put<A: Allocator + Copy, W: Write>(
     ensures err { OnErr result (Leaves (Some (Verb.Put value, key.now)) cedar.old.state cedar.new.state
         (W.contents (device_of writer.old)) (W.contents (device_of writer.new))) }
     ensures cause { result ≡ Err ScriptError.Write → has_failed writer.new ≡ true }
+    ensures unfailed { OnOk result (has_failed writer.new ≡ has_failed writer.old) }
     ensures never_read { result ≡ Err ScriptError.Read → ⊥ }
     ensures no_limit { result ≡ Err ScriptError.SlotLimit → ⊥ }
 {
@@ -71,10 +73,7 @@ fn answer_put<A: Allocator + Copy, W: Write>(
         }
         Err(CedarError::Memory) => Err(ScriptError::Memory),
         Err(CedarError::SlotLimit) => Err(ScriptError::SlotLimit),
-        Err(error) => match refusal_line(alloc, error) {
-            Ok(text) => write_whole(writer, text.as_bytes()),
-            Err(AllocError) => Err(ScriptError::Memory),
-        },
+        Err(error) => write_refusal(writer, error),
     }
 }
 
@@ -89,6 +88,7 @@ fn answer_erase<A: Allocator + Copy, W: Write>(
     ensures err { OnErr result (Leaves (Some (Verb.Erase, key.now)) cedar.old.state cedar.new.state
         (W.contents (device_of writer.old)) (W.contents (device_of writer.new))) }
     ensures cause { OnErr result ((result ≡ Err ScriptError.Write) × (has_failed writer.new ≡ true)) }
+    ensures unfailed { OnOk result (has_failed writer.new ≡ has_failed writer.old) }
 {
     match cedar.exact_match_search_bytes(key) {
         Some(_) => write_whole(writer, b"erased\n")?,
@@ -100,7 +100,6 @@ fn answer_erase<A: Allocator + Copy, W: Write>(
 
 /// Answers what a key holds.
 fn answer_exact<A: Allocator + Copy, W: Write>(
-    alloc: A,
     cedar: &Cedar<A>,
     key: &[u8],
     writer: &mut Watched<W>,
@@ -109,15 +108,11 @@ fn answer_exact<A: Allocator + Copy, W: Write>(
         (W.contents (device_of writer.old)) (W.contents (device_of writer.new))) }
     ensures err { OnErr result (Leaves (Some (Verb.Exact, key.now)) cedar.now.state cedar.now.state
         (W.contents (device_of writer.old)) (W.contents (device_of writer.new))) }
-    ensures cause { result ≡ Err ScriptError.Write → has_failed writer.new ≡ true }
-    ensures never_read { result ≡ Err ScriptError.Read → ⊥ }
-    ensures no_limit { result ≡ Err ScriptError.SlotLimit → ⊥ }
+    ensures cause { OnErr result ((result ≡ Err ScriptError.Write) × (has_failed writer.new ≡ true)) }
+    ensures unfailed { OnOk result (has_failed writer.new ≡ has_failed writer.old) }
 {
     match cedar.exact_match_search_bytes(key) {
-        Some((value, length)) => match found_line(alloc, value, length) {
-            Ok(text) => write_whole(writer, text.as_bytes()),
-            Err(AllocError) => Err(ScriptError::Memory),
-        },
+        Some((value, length)) => write_found(writer, value, length),
         None => write_whole(writer, b"none\n"),
     }
 }
@@ -139,24 +134,59 @@ fn take_back<A: Allocator + Copy>(cedar: &mut Cedar<A>, key: &[u8], before: Opti
     }
 }
 
-/// The line of a pair's fault.
-fn refusal_line<A: Allocator>(alloc: A, error: CedarError) -> Result<String<A>, AllocError>
+/// Writes the line of a pair's fault. It takes no memory.
+fn write_refusal<W: Write>(writer: &mut Watched<W>, error: CedarError) -> Result<(), ScriptError>
     requires { IsPairFault error }
-    ensures { IfOk result (λ text. string_bytes text ≡ refusal (Some error) ++ 10 ∷ []) }
+    ensures ok { OnOk result (Appends (W.contents (device_of writer.old)) (W.contents (device_of writer.new)) (refusal (Some error) ++ 10 ∷ [])) }
+    ensures err { OnErr result (WritesFront (W.contents (device_of writer.old)) (W.contents (device_of writer.new)) (refusal (Some error) ++ 10 ∷ [])) }
+    ensures cause { OnErr result ((result ≡ Err ScriptError.Write) × (has_failed writer.new ≡ true)) }
+    ensures unfailed { OnOk result (has_failed writer.new ≡ has_failed writer.old) }
 {
+    let mut figures = Buffer::new();
     match error {
-        CedarError::EmptyKey => format!(in alloc; "refused EmptyKey\n"),
-        CedarError::NulByte { position } => format!(in alloc; "refused NulByte {position}\n"),
-        CedarError::InvalidValue { value } => format!(in alloc; "refused InvalidValue {value}\n"),
+        CedarError::EmptyKey => write_whole(writer, b"refused EmptyKey\n"),
+        CedarError::NulByte { position } => {
+            let position = figures.format(position);
+            write_line(writer, b"refused NulByte ", position.as_bytes())
+        }
+        CedarError::InvalidValue { value } => {
+            let value = figures.format(value);
+            write_line(writer, b"refused InvalidValue ", value.as_bytes())
+        }
         _ => unreachable!(),
     }
 }
 
-/// The line of a key that is held.
-fn found_line<A: Allocator>(alloc: A, value: i32, length: usize) -> Result<String<A>, AllocError>
-    ensures { IfOk result (λ text. string_bytes text ≡ found_text (Some value) length ++ 10 ∷ []) }
+/// Writes the line of a key that is held. It takes no memory.
+fn write_found<W: Write>(
+    writer: &mut Watched<W>,
+    value: i32,
+    length: usize,
+) -> Result<(), ScriptError>
+    ensures ok { OnOk result (Appends (W.contents (device_of writer.old)) (W.contents (device_of writer.new)) (found_text (Some value) length ++ 10 ∷ [])) }
+    ensures err { OnErr result (WritesFront (W.contents (device_of writer.old)) (W.contents (device_of writer.new)) (found_text (Some value) length ++ 10 ∷ [])) }
+    ensures cause { OnErr result ((result ≡ Err ScriptError.Write) × (has_failed writer.new ≡ true)) }
+    ensures unfailed { OnOk result (has_failed writer.new ≡ has_failed writer.old) }
 {
-    format!(in alloc; "{value} {length}\n")
+    let mut figures = Buffer::new();
+    write_whole(writer, figures.format(value).as_bytes())?;
+    write_line(writer, b" ", figures.format(length).as_bytes())
+}
+
+/// Writes a line of two parts.
+fn write_line<W: Write>(
+    writer: &mut Watched<W>,
+    first: &[u8],
+    second: &[u8],
+) -> Result<(), ScriptError>
+    ensures ok { OnOk result (Appends (W.contents (device_of writer.old)) (W.contents (device_of writer.new)) (first.now ++ (second.now ++ 10 ∷ []))) }
+    ensures err { OnErr result (WritesFront (W.contents (device_of writer.old)) (W.contents (device_of writer.new)) (first.now ++ (second.now ++ 10 ∷ []))) }
+    ensures cause { OnErr result ((result ≡ Err ScriptError.Write) × (has_failed writer.new ≡ true)) }
+    ensures unfailed { OnOk result (has_failed writer.new ≡ has_failed writer.old) }
+{
+    write_whole(writer, first)?;
+    write_whole(writer, second)?;
+    write_whole(writer, b"\n")
 }
 
 /// Writes all of some bytes. The first fault ends it, an interrupted write too: a part was then written, and
@@ -168,6 +198,7 @@ pub(crate) fn write_whole<W: Write>(
     ensures ok { OnOk result (Appends (W.contents (device_of writer.old)) (W.contents (device_of writer.new)) bytes.now) }
     ensures err { OnErr result (WritesFront (W.contents (device_of writer.old)) (W.contents (device_of writer.new)) bytes.now) }
     ensures cause { OnErr result ((result ≡ Err ScriptError.Write) × (has_failed writer.new ≡ true)) }
+    ensures unfailed { OnOk result (has_failed writer.new ≡ has_failed writer.old) }
 {
     let mut rest = bytes;
     while !rest.is_empty() {

@@ -45,6 +45,9 @@ pub fn run_program<A: Allocator + Copy, R: Read, W: Write, E: Write>(
     ensures done { result ≡ 0 → IfSome (R.remaining (device_of reader.old)) (λ input. length input < 2 ^ 63 →
         Appends (W.contents (device_of writer.old)) (W.contents (device_of writer.new)) (answers new_state (lines_of input))) }
 
+    // No call of the reader or the writer failed.
+    ensures unfailed { result ≡ 0 → (has_failed reader.new ≡ has_failed reader.old) × (has_failed writer.new ≡ has_failed writer.old) }
+
     // Whatever happens, what was written begins the answers.
     ensures begun { IfSome (R.remaining (device_of reader.old)) (λ input. length input < 2 ^ 63 →
         AppendsFront (W.contents (device_of writer.old)) (W.contents (device_of writer.new)) (answers new_state (lines_of input))) }
@@ -74,6 +77,7 @@ fn answer_script<A: Allocator + Copy, R: Read, W: Write>(
         AppendsFront (W.contents (device_of writer.old)) (W.contents (device_of writer.new)) (answers new_state (lines_of input)))) }
     ensures read_cause { result ≡ Err ScriptError.Read → has_failed reader.new ≡ true }
     ensures write_cause { result ≡ Err ScriptError.Write → has_failed writer.new ≡ true }
+    ensures unfailed { OnOk result ((has_failed reader.new ≡ has_failed reader.old) × (has_failed writer.new ≡ has_failed writer.old)) }
 {
     let Ok(mut cedar) = Cedar::new(alloc) else {
         return Err(ScriptError::Memory);

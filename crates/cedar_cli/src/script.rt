@@ -1,14 +1,15 @@
 //! A run of a script: lines in, answers out.
 
-ghost use Rattle.std.specs.Prelude.{◌≡◌, ◌<◌, ◌^◌, List, ℕ, [], ◌∷◌, ◌++◌, length, true, OnOk, OnErr, IfSome};
+ghost use Rattle.std.specs.Prelude.{◌≡◌, ◌<◌, ◌^◌, List, ℕ, [], ◌∷◌, ◌++◌, length, true, OnOk, OnErr, IfSome, position};
 ghost use Rattle.std.specs.Io.KnownBytes.{Consumes};
 ghost use Rattle.cedarwood.specs.WatchedDevice.{device_of, has_failed};
-ghost use Rattle.cedar_cli.specs.Lines.{lines_of, IsOpen};
+ghost use Rattle.cedar_cli.specs.Lines.{lines_of, IsOpen, is_newline};
 ghost use Rattle.cedar_cli.specs.Script.{Finishes, Advances, Stops, EndsEarly};
 
 use crate::answers::answer_line;
 use cedarwood::{Cedar, Watched};
-use std::alloc::Allocator;
+use memchr::memchr;
+use std::alloc::{AllocError, Allocator};
 use std::io::{Read, Write};
 
 /// Why a run ended before its script did.
@@ -27,7 +28,7 @@ pub enum ScriptError {
 /// A run ends after this many reads, as at the end of its input.
 const MAX_READS: u64 = 1 << 63;
 
-/// Answers each line of what the reader has left. Memory holds one line and one answer at a time. The writer
+/// Answers each line of what the reader has left. Memory holds one line and one key at a time. The writer
 /// is flushed before each read, so that one who waits for an answer before the next line gets it.
 ///
 /// A line is the bytes up to byte 10 (`\n`); a last nonempty piece without it is a line too. A line is
@@ -63,11 +64,14 @@ pub fn run_script<A: Allocator + Copy, R: Read, W: Write>(
     ensures read_cause { result ≡ Err ScriptError.Read → has_failed reader.new ≡ true }
     ensures write_cause { result ≡ Err ScriptError.Write → has_failed writer.new ≡ true }
 
+    // A run that answers the whole script met no fault.
+    ensures unfailed { OnOk result ((has_failed reader.new ≡ has_failed reader.old) × (has_failed writer.new ≡ has_failed writer.old)) }
+
     // There is no limit of slots yet.
     ensures no_limit { result ≡ Err ScriptError.SlotLimit → ⊥ }
 {
     let mut line = Vec::new(alloc);
-    let mut chunk = [0u8; 1024];
+    let mut chunk = [0u8; 8192];
     for turn in 0..MAX_READS {
         // Whoever waits for the answers so far gets them before more input is asked for.
         let Ok(()) = writer.flush() else {
@@ -87,7 +91,7 @@ pub fn run_script<A: Allocator + Copy, R: Read, W: Write>(
     Ok(())
 }
 
-/// Takes some bytes, one after another.
+/// Takes some bytes: each byte 10 among them ends a line, and what follows the last one begins the next.
 fn take_bytes<A: Allocator + Copy, W: Write>(
     alloc: A,
     cedar: &mut Cedar<A>,
@@ -102,41 +106,55 @@ fn take_bytes<A: Allocator + Copy, W: Write>(
     ensures err { OnErr result (Stops cedar.old.state cedar.new.state
         (W.contents (device_of writer.old)) (W.contents (device_of writer.new)) (line.old.items ++ bytes.now)) }
     ensures cause { result ≡ Err ScriptError.Write → has_failed writer.new ≡ true }
+    ensures unfailed { OnOk result (has_failed writer.new ≡ has_failed writer.old) }
     ensures never_read { result ≡ Err ScriptError.Read → ⊥ }
     ensures no_limit { result ≡ Err ScriptError.SlotLimit → ⊥ }
 {
-    for byte in bytes {
-        take_byte(alloc, cedar, line, *byte, writer)?;
+    let mut rest = bytes;
+    while let Some(at) = position_of_newline(rest) {
+        end_line(alloc, cedar, line, &rest[..at], writer)?;
+        rest = &rest[at + 1..];
     }
-    Ok(())
+    match line.extend_from_slice(rest) {
+        Ok(()) => Ok(()),
+        Err(AllocError) => Err(ScriptError::Memory),
+    }
 }
 
-/// Takes the next byte: it ends the line, or goes onto it.
-fn take_byte<A: Allocator + Copy, W: Write>(
+/// Where the first byte 10 is.
+fn position_of_newline(text: &[u8]) -> Option<usize>
+    ensures { result ≡ position is_newline text.now }
+{
+    memchr(b'\n', text)
+}
+
+/// Answers a line that ends with a piece and byte 10. A line of one piece is answered where it stands.
+fn end_line<A: Allocator + Copy, W: Write>(
     alloc: A,
     cedar: &mut Cedar<A>,
     line: &mut Vec<u8, A>,
-    byte: u8,
+    piece: &[u8],
     writer: &mut Watched<W>,
 ) -> Result<(), ScriptError>
     requires open { IsOpen line.old.items }
-    ensures still_open { OnOk result (IsOpen line.new.items) }
+    requires open_piece { IsOpen piece.now }
+    ensures empty { OnOk result (line.new.items ≡ []) }
     ensures ok { OnOk result (Advances cedar.old.state cedar.new.state
-        (W.contents (device_of writer.old)) (W.contents (device_of writer.new)) (line.old.items ++ byte ∷ []) line.new.items) }
+        (W.contents (device_of writer.old)) (W.contents (device_of writer.new)) (line.old.items ++ (piece.now ++ 10 ∷ [])) []) }
     ensures err { OnErr result (Stops cedar.old.state cedar.new.state
-        (W.contents (device_of writer.old)) (W.contents (device_of writer.new)) (line.old.items ++ byte ∷ [])) }
+        (W.contents (device_of writer.old)) (W.contents (device_of writer.new)) (line.old.items ++ (piece.now ++ 10 ∷ []))) }
     ensures cause { result ≡ Err ScriptError.Write → has_failed writer.new ≡ true }
+    ensures unfailed { OnOk result (has_failed writer.new ≡ has_failed writer.old) }
     ensures never_read { result ≡ Err ScriptError.Read → ⊥ }
     ensures no_limit { result ≡ Err ScriptError.SlotLimit → ⊥ }
 {
-    if byte == b'\n' {
-        answer_line(alloc, cedar, line.as_slice(), writer)?;
-        line.clear();
-        Ok(())
-    } else {
-        match line.push(byte) {
-            Ok(()) => Ok(()),
-            Err(_) => Err(ScriptError::Memory),
-        }
+    if line.is_empty() {
+        return answer_line(alloc, cedar, piece, writer);
     }
+    let Ok(()) = line.extend_from_slice(piece) else {
+        return Err(ScriptError::Memory);
+    };
+    answer_line(alloc, cedar, line.as_slice(), writer)?;
+    line.clear();
+    Ok(())
 }

@@ -3,3 +3,4 @@ pub mod Queries
 pub mod Laws
 pub mod State
 pub mod Stored
+pub mod Statements

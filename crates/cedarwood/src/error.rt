@@ -15,10 +15,14 @@ pub enum CedarError {
     },
     /// A value to store is below 0 or above 2147483645.
     #[error("cedar value {value} is outside the supported range 0..=2147483645")]
-    InvalidValue { value: i32 },
+    InvalidValue {
+        value: i32,
+    },
     /// A setting of how often a block may fail to fit a set of labels is 0 or less.
     #[error("max_trial must be greater than zero, got {value}")]
-    InvalidMaxTrial { value: i32 },
+    InvalidMaxTrial {
+        value: i32,
+    },
     /// A sorted input repeats a key.
     #[error("duplicate key at sorted input index {index}")]
     DuplicateKey {

@@ -53,11 +53,12 @@ impl<R: Read> Read for Watched<R> {
         ensures bytes { ReadConsumes (R.remaining (device_of self.old)) (R.remaining (device_of self.new)) result buf.new }
         ensures failed { has_failed self.new ≡ (has_failed self.old || is_err result) }
     {
-        let outcome = self.device.read(buf);
-        if outcome.is_err() {
-            self.failed = true;
+        let Watched { device, failed } = self;
+        let taken = device.read(buf);
+        if taken.is_err() {
+            *failed = true;
         }
-        outcome
+        taken
     }
 }
 
@@ -69,23 +70,25 @@ impl<W: Write> Write for Watched<W> {
         ensures bytes { WriteAppends (W.contents (device_of self.old)) (W.contents (device_of self.new)) result buf.now }
         ensures failed { has_failed self.new ≡ (has_failed self.old || is_write_fault result buf.now) }
     {
-        let outcome = self.device.write(buf);
-        match &outcome {
-            Ok(0) if !buf.is_empty() => self.failed = true,
+        let Watched { device, failed } = self;
+        let written = device.write(buf);
+        match &written {
+            Ok(0) if !buf.is_empty() => *failed = true,
             Ok(_) => {}
-            Err(_) => self.failed = true,
+            Err(_) => *failed = true,
         }
-        outcome
+        written
     }
 
     fn flush(&mut self) -> io::Result<()>
         ensures bytes { Keeps (W.contents (device_of self.old)) (W.contents (device_of self.new)) }
         ensures failed { has_failed self.new ≡ (has_failed self.old || is_err result) }
     {
-        let outcome = self.device.flush();
-        if outcome.is_err() {
-            self.failed = true;
+        let Watched { device, failed } = self;
+        let flushed = device.flush();
+        if flushed.is_err() {
+            *failed = true;
         }
-        outcome
+        flushed
     }
 }

@@ -72,11 +72,10 @@ fn first_above<A: Allocator>(children: &[Node<A>], label: u8) -> Option<usize>
 fn place<A: Allocator>(children: &[Node<A>], ordered: bool, label: u8) -> usize
     ensures { result ≡ place_of ordered children.now label }
 {
-    if ordered {
-        first_above(children, label).unwrap_or(children.len())
-    } else {
-        0
+    if !ordered {
+        return 0;
     }
+    first_above(children, label).unwrap_or(children.len())
 }
 
 /// The number at a path below a node.

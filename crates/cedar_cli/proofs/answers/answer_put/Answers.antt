@@ -5,7 +5,7 @@ use Rattle.cedar_cli.specs.Script.{refusal}
 use Rattle.cedarwood.specs.Fault.{fault, IsShortage}
 use Rattle.cedar_cli.specs.declared.command.Verb.TheVariants.{Put}
 use Rattle.cedarwood.specs.WatchedDevice.{device_of}
-use Rattle.cedar_cli.proofs.Bytes.{Leaves-on_err, Leaves-none}
+use Rattle.cedar_cli.proofs.Bytes.{Leaves-on_err, Obeys-on_ok}
 use Rattle.cedar_cli.proofs.Orders.{no_fault, pair_kind, refused_by, taken_back, Leaves-if_err}
 use Rattle.cedar_cli.proofs.answers.answer_put.Goals as goal
 
@@ -21,23 +21,28 @@ returns-then-is_err-clause-err g c =
     (c.in-Ok.ensures.ok ∙ ap (λ v. stored old key v) same) c.take_back.ensures.state)
     (ap (λ f. refusal f ++ 10 ∷ []) (sym clean)) c.write_whole-written.ensures.err
 
-pub returns-in-Ok-refusal_line-clause-err : goal.returns-in-Ok-refusal_line-clause-err
-returns-in-Ok-refusal_line-clause-err g c =
+pub returns-in-Err-clause-ok : goal.returns-in-Err-clause-ok
+returns-in-Err-clause-ok g c =
     let key = c.args.key.now in
+    let old = c.args.cedar.now.state in
     let same = to_z-of_z w32 c.args.value c.ranges.value in
     let never : IsShortage c.in-Err.error → ⊥ = search rules in
-    let why = refused_by _ (fault key (to_z w32 (of_z w32 c.args.value))) _ c.in-Err.error c.in-Err.ensures.faulty c.in-Err.ensures.refused never in
-    Leaves-on_err c.write_whole.result (Some (Put c.args.value, key)) (c.args.cedar.now.state) (c.update_bytes.new.self.state) (g.W.Write.contents c.args.writer.now.device) (g.W.Write.contents c.write_whole.new.writer.device) c.as_bytes.result.now
-    c.in-Err.ensures.err
-    (c.as_bytes.ensures.value ∙ c.in-Ok-refusal_line.ensures ∙ ap (λ f. refusal f ++ 10 ∷ []) (sym why) ∙ ap (λ v. refusal (fault key v) ++ 10 ∷ []) same)
-    c.write_whole.ensures.err
+    let why : fault key c.args.value ≡ Some c.in-Err.error = subst (λ (v : ℤ). fault key v ≡ Some c.in-Err.error) same (refused_by _ (fault key (to_z w32 (of_z w32 c.args.value))) _ c.in-Err.error c.in-Err.ensures.faulty c.in-Err.ensures.refused never) in
+    Obeys-on_ok c.write_refusal.result (Some (Put c.args.value, key)) old (c.update_bytes.new.self.state) (g.W.Write.contents (device_of c.args.writer.now)) (g.W.Write.contents (device_of c.write_refusal.new.writer)) (refusal (Some c.in-Err.error) ++ 10 ∷ [])
+    (rw why c.in-Err.ensures.err) (ap (λ f. refusal f ++ 10 ∷ []) (sym why)) c.write_refusal.ensures.ok
 
-pub returns-in-Err-refusal_line-clause-err : goal.returns-in-Err-refusal_line-clause-err
-returns-in-Err-refusal_line-clause-err g c =
-    rw c.in-Err.ensures.err (Leaves-none (Some (Put c.args.value, c.args.key.now)) (c.args.cedar.now.state) (g.W.Write.contents c.args.writer.now.device))
+pub returns-in-Err-clause-err : goal.returns-in-Err-clause-err
+returns-in-Err-clause-err g c =
+    let key = c.args.key.now in
+    let old = c.args.cedar.now.state in
+    let same = to_z-of_z w32 c.args.value c.ranges.value in
+    let never : IsShortage c.in-Err.error → ⊥ = search rules in
+    let why : fault key c.args.value ≡ Some c.in-Err.error = subst (λ (v : ℤ). fault key v ≡ Some c.in-Err.error) same (refused_by _ (fault key (to_z w32 (of_z w32 c.args.value))) _ c.in-Err.error c.in-Err.ensures.faulty c.in-Err.ensures.refused never) in
+    Leaves-on_err c.write_refusal.result (Some (Put c.args.value, key)) old (c.update_bytes.new.self.state) (g.W.Write.contents (device_of c.args.writer.now)) (g.W.Write.contents (device_of c.write_refusal.new.writer)) (refusal (Some c.in-Err.error) ++ 10 ∷ [])
+    c.in-Err.ensures.err (ap (λ f. refusal f ++ 10 ∷ []) (sym why)) c.write_refusal.ensures.err
 
-pub refusal_line-requires : goal.refusal_line-requires
-refusal_line-requires g c =
+pub write_refusal-requires : goal.write_refusal-requires
+write_refusal-requires g c =
     let never : IsShortage c.in-Err.error → ⊥ = search rules in
     pair_kind c.args.key.now (to_z w32 (of_z w32 c.args.value)) c.in-Err.error
     (refused_by _ (fault c.args.key.now (to_z w32 (of_z w32 c.args.value))) _ c.in-Err.error c.in-Err.ensures.faulty c.in-Err.ensures.refused never)

@@ -1,7 +1,4 @@
-use Rattle.std.proofs.Common.{◌≡◌, ◌<◌, List, ℕ, length}
-use Rattle.std.specs.Prelude.{IfSome}
 use Rattle.cedarwood.specs.WatchedDevice.{device_of}
-use Rattle.cedar_tree.specs.State.{State, new_state}
 use Rattle.cedar_cli.proofs.Bytes.{on_err}
 use Rattle.cedar_cli.proofs.Runs.{ended_fronts}
 use Rattle.cedar_cli.proofs.program.answer_script.Goals as goal

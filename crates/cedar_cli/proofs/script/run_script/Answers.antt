@@ -1,11 +1,11 @@
-use Rattle.std.proofs.Common.{rules, arith, sym, subst, ◌∙◌, ◌≡◌, ◌<◌, ℕ, List, [], ◌++◌, length, length-append, ◌≤◌, take, inl, inr}
+use Rattle.std.proofs.Common.{rules, refl, arith, sym, subst, ◌∙◌, ◌≡◌, ◌<◌, ℕ, List, [], ◌++◌, length, length-append, ◌≤◌, take, inl, inr}
 use Rattle.std.specs.Prelude.{◌⊎◌}
 use Rattle.std.specs.Io.KnownBytes.{Consumes, IsAtEnd}
-use Rattle.cedarwood.specs.WatchedDevice.{device_of}
+use Rattle.cedarwood.specs.WatchedDevice.{device_of, has_failed}
 use Rattle.cedar_cli.specs.Command.{order_of}
 use Rattle.cedar_cli.specs.Lines.{lines_of, IsOpen}
 use Rattle.cedar_cli.specs.Script.{Obeys, Leaves, Finishes, Advances, Stops, EndsEarly}
-use Rattle.cedar_cli.proofs.Bytes.{bytes_on, Advances-append, Advances-kept, Stops-append, on_err}
+use Rattle.cedar_cli.proofs.Bytes.{unfailed_call, bytes_on, Advances-append, Advances-kept, Stops-append, on_err}
 use Rattle.cedar_cli.proofs.Runs.{Consumes-append, Consumes-none, Consumes-kept, end_found, whole_came, of_script, ended_early, Stops-from_advances, all_finished, last_finished, last_left, of_known, long_line, short_line}
 use Rattle.cedar_cli.proofs.script.run_script.Goals as goal
 use Rattle.cedar_cli.proofs.script.run_script.Goals.{else-loop-turn-test, then-loop-turn-test+in-Ok+in-Ok-read+then-count-eq0}
@@ -19,6 +19,8 @@ loop-turn-init g c =
       omega arith,
       tt,
       bytes_on c.args.cedar.now.state (g.W.Write.contents (device_of c.args.writer.now)) [],
+      refl,
+      refl,
     )
 
 pub loop-turn-preserved : goal.loop-turn-preserved
@@ -39,6 +41,8 @@ loop-turn-preserved g c =
       (let count : c.in-Ok-read.count ≡ length more = c.in-Ok-read.ensures.bound.1 in let some = c.if-count-eq0.false in let turns : c.loop-turn.turn ≤ length before.0 = before.2 in omega (arith, length-append before.0 more)),
       c.in_ok-take_bytes.ensures.still_open,
       Advances-append old mid new first held holds before.0 c.loop-turn.line.items more c.take_bytes.new.line.items so_far step,
+      unfailed_call (has_failed c.loop-turn.reader) (has_failed c.read.new.self) c.in-Ok-read.ensures.failed ∙ before.5,
+      c.in_ok-take_bytes.ensures.unfailed ∙ unfailed_call (has_failed c.loop-turn.writer) (has_failed c.flush.new.self) c.in-Ok.ensures.failed ∙ before.6,
     )
 
 pub returns-in_default-clause-err : goal.returns-in_default-clause-err

@@ -1,5 +1,6 @@
-use Rattle.std.proofs.Common.{◌≤◌, ℕ, List, length}
+use Rattle.std.proofs.Common.{◌≡◌, ◌≤◌, ℕ, List, length}
 use Rattle.std.specs.Io.KnownBytes.{Consumes}
+use Rattle.cedarwood.specs.WatchedDevice.{has_failed}
 use Rattle.cedar_cli.specs.Lines.{IsOpen}
 use Rattle.cedar_cli.specs.Script.{Advances}
 use Rattle.cedar_cli.proofs.script.run_script.Given as goal
@@ -11,3 +12,4 @@ invariant-loop-turn g l =
     × (l.turn ≤ length came) × IsOpen l.line.items
     × Advances (l.fn.cedar.state) (l.cedar.state)
     (g.W.Write.contents l.fn.writer.device) (g.W.Write.contents l.writer.device) came l.line.items
+    × (has_failed l.reader ≡ has_failed l.fn.reader) × (has_failed l.writer ≡ has_failed l.fn.writer)

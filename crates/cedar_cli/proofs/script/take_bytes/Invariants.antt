@@ -1,11 +1,16 @@
-use Rattle.std.proofs.Common.{◌++◌, take}
+use Rattle.std.proofs.Common.{◌≡◌, ℕ, List, ◌++◌, length}
+use Rattle.cedarwood.specs.WatchedDevice.{device_of, has_failed}
 use Rattle.cedar_cli.specs.Lines.{IsOpen}
 use Rattle.cedar_cli.specs.Script.{Advances}
 use Rattle.cedar_cli.proofs.script.take_bytes.Given as goal
 
--- the bytes so far were taken
-abbrev pub invariant-loop-byte : goal.invariant-loop-byte
-invariant-loop-byte g l =
-    IsOpen l.line.items
-    × Advances (l.fn.cedar.state) (l.cedar.state)
-    (g.W.Write.contents l.fn.writer.device) (g.W.Write.contents l.writer.device) (l.fn.line.items ++ take l.byte-index l.bytes) l.line.items
+-- the bytes before the rest were taken
+abbrev pub invariant-loop-at : goal.invariant-loop-at
+invariant-loop-at g l =
+    (gone : List ℕ) × (l.bytes ≡ gone ++ l.rest) × IsOpen l.line.items
+    × Advances l.fn.cedar.state l.cedar.state
+    (g.W.Write.contents (device_of l.fn.writer)) (g.W.Write.contents (device_of l.writer)) (l.fn.line.items ++ gone) l.line.items
+    × (has_failed l.writer ≡ has_failed l.fn.writer)
+
+abbrev pub decreases-loop-at : goal.decreases-loop-at
+decreases-loop-at g l = length l.rest

@@ -1,0 +1,31 @@
+#!/usr/bin/env bash
+# cedar [OPTIONS] < script: answers a script. Where the sources are newer than the program, it is proved and
+# built first; progress goes to standard error, what the prover prints to crates/cedar/out/build.log.
+set -u
+top=$(cd "$(dirname "${BASH_SOURCE[0]}")" && pwd) || exit 127
+program=$top/crates/cedar/out/cedar
+log=$top/crates/cedar/out/build.log
+
+# Whether a source is newer than the program, or there is no program yet.
+is_stale() {
+    [ -x "$program" ] || return 0
+    [ -n "$(find "$top/crates.txt" "$top/crates" \( -name out -o -name must-fail -o -name stdin -o -name stdout \) -prune -o -type f -newer "$program" -print -quit)" ]
+}
+
+if is_stale; then
+    if ! command -v rt > /dev/null; then
+        echo "cedar: the command 'rt' of the Rattle kit is missing on this machine; it proves and builds the program" >&2
+        exit 127
+    fi
+    echo "cedar: proving and building the program (some minutes the first time) .." >&2
+    mkdir -p "$top/crates/cedar/out"
+    if ! (cd "$top/crates/cedar" && rt run < /dev/null > "$log" 2>&1); then
+        echo "cedar: the build failed; $log says why" >&2
+        exit 127
+    fi
+    touch "$program"
+fi
+
+# A key is walked by recursion, a level a byte: a long one wants more than the usual stack.
+ulimit -S -s "$(ulimit -H -s)" 2> /dev/null
+exec "$program" "$@"

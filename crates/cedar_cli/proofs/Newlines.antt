@@ -1,0 +1,123 @@
+-- A chunk of a script, cut at its bytes 10.
+use Rattle.std.proofs.Common.{◌≡◌, ℕ, suc, List, [], ◌∷◌, ◌++◌, Option, Some, None, Bool, true, false, refl, sym, ap, subst, ◌∙◌, append_assoc, arith, length, take, drop, get_or, ◌==◌, ◌<◌, ◌+◌, ◌-◌}
+use Rattle.std.proofs.lemmas.Bool.{eqb-true}
+use Rattle.memchr.specs.Find.{IsFirstByte, is_byte}
+use Rattle.std.proofs.lemmas.List.Sums.{position_or_len_is, split_at_first, passes_at_first}
+use Rattle.std.proofs.lemmas.Grind.{common_steps}
+use Rattle.std.specs.Prelude.{Result, Ok, Err, OnOk, OnErr}
+use Rattle.std.specs.List.{position, position_or_len, before_first, after_first}
+use Rattle.cedar_tree.specs.State.{State}
+use Rattle.cedar_cli.specs.Command.{order_of}
+use Rattle.cedar_cli.specs.Lines.{IsOpen, is_newline}
+use Rattle.cedar_cli.specs.Script.{Obeys, Leaves, Advances, Stops}
+use Rattle.cedar_cli.proofs.Bytes.{line_done, line_left, bytes_on, not_begun, Advances-append, Stops-append, Stops-more}
+use Rattle.cedar_cli.proofs.Text.{before_at, after_at, before_none}
+
+pub open_append : (a b : List ℕ) → IsOpen a → IsOpen b → IsOpen (a ++ b)
+open_append [] b p q = q
+open_append (c ∷ a) b p q = (p.0, open_append a b p.1 q)
+
+take_after : (n b : ℕ) (rest : List ℕ) → take (1 + n) (b ∷ rest) ≡ b ∷ take n rest
+take_after n b rest = ap (λ m. take m (b ∷ rest)) (let e : 1 + n ≡ suc n = omega arith in e)
+
+not_true : {b : Bool} → (b ≡ true → ⊥) → b ≡ false
+not_true {b = true} h = absurd (h refl)
+not_true {b = false} h = refl
+
+-- before the first byte 10 there is none
+pub open_before : (text : List ℕ) → IsOpen (before_first is_newline text)
+open_before [] = tt
+open_before (b ∷ rest) =
+    (elim (b == 10) as (λ ends. (b == 10) ≡ ends → IsOpen (before_first is_newline (b ∷ rest))) [
+      | true ↦ λ e. rw e tt
+      | false ↦ λ e. rw e (subst IsOpen (sym (take_after (position_or_len is_newline rest) b rest)) (e, open_before rest))
+    ]) refl
+
+-- a text in which no byte 10 is found is open
+pub open_none : (text : List ℕ) → position is_newline text ≡ None → IsOpen text
+open_none text e = rw (before_none is_newline text e) (open_before text)
+
+-- and so is what stands before the first one
+pub open_at : (text : List ℕ) (at : ℕ) → position is_newline text ≡ Some at → IsOpen (take at text)
+open_at text at e = rw (before_at is_newline text at e) (open_before text)
+
+-- where a byte 10 is found, the first one stands within the text
+inside : (text : List ℕ) (at : ℕ) → position is_newline text ≡ Some at → position_or_len is_newline text < length text
+inside text at e = grind (arith, common_steps)
+
+-- a text is what stands before its first byte 10, that byte, and the rest
+pub cut_at : (text : List ℕ) (at : ℕ) → position is_newline text ≡ Some at
+    → text ≡ (take at text ++ 10 ∷ []) ++ take (length text - (at + 1)) (drop (at + 1) text)
+cut_at text at e =
+    let within : position_or_len is_newline text < length text = inside text at e in
+    let ends : get_or text (position_or_len is_newline text) 0 ≡ 10 = eqb-true (get_or text (position_or_len is_newline text) 0) 10 (passes_at_first is_newline text 0 within) in
+    split_at_first is_newline text 0 within
+    ∙ ap (λ b. before_first is_newline text ++ b ∷ after_first is_newline text) ends
+    ∙ sym (append_assoc (before_first is_newline text) (10 ∷ []) (after_first is_newline text))
+    ∙ ap (λ l. (l ++ 10 ∷ []) ++ after_first is_newline text) (sym (before_at is_newline text at e))
+    ∙ ap (λ l. (take at text ++ 10 ∷ []) ++ l) (sym (after_at is_newline text at e))
+
+-- a line was taken where its answer was written
+pub taken_on_ok : {T E : Type 0} (r : Result T E) (old new : State) (held holds : Option (List ℕ)) (line : List ℕ)
+    → IsOpen line → OnOk r (Obeys (order_of line) old new held holds) → OnOk r (Advances old new held holds (line ++ 10 ∷ []) [])
+taken_on_ok (Ok x) old new held holds line o h = line_done old new held holds line o h
+taken_on_ok (Err e) old new held holds line o h = tt
+
+-- and the run stops in it where it was not
+pub stopped_on_err : {T E : Type 0} (r : Result T E) (old new : State) (held holds : Option (List ℕ)) (line : List ℕ)
+    → IsOpen line → OnErr r (Leaves (order_of line) old new held holds) → OnErr r (Stops old new held holds (line ++ 10 ∷ []))
+stopped_on_err (Ok x) old new held holds line o h = tt
+stopped_on_err (Err e) old new held holds line o h = line_left old new held holds line o h
+
+-- a further line of a chunk was taken
+pub line_taken : (old mid new : State) (a b c : Option (List ℕ)) (begun gone line piece left : List ℕ)
+    → Advances old mid a b (begun ++ gone) line → Advances mid new b c (line ++ (piece ++ 10 ∷ [])) [] → left ≡ []
+    → Advances old new a c (begun ++ (gone ++ (piece ++ 10 ∷ []))) left
+line_taken old mid new a b c begun gone line piece left p q empty =
+    rw (empty, ← append_assoc begun gone (piece ++ 10 ∷ [])) (Advances-append old mid new a b c (begun ++ gone) line (piece ++ 10 ∷ []) [] p q)
+
+-- the run stopped in a line of a chunk
+pub line_stopped : (old mid new : State) (a b c : Option (List ℕ)) (begun gone line piece after chunk : List ℕ)
+    → Advances old mid a b (begun ++ gone) line → Stops mid new b c (line ++ (piece ++ 10 ∷ []))
+    → chunk ≡ (gone ++ (piece ++ 10 ∷ [])) ++ after
+    → Stops old new a c (begun ++ chunk)
+line_stopped old mid new a b c begun gone line piece after chunk p q whole =
+    subst (Stops old new a c) same (Stops-more old new a c ((begun ++ gone) ++ (piece ++ 10 ∷ [])) after (Stops-append old mid new a b c (begun ++ gone) line (piece ++ 10 ∷ []) p q)) where
+      same : ((begun ++ gone) ++ (piece ++ 10 ∷ [])) ++ after ≡ begun ++ chunk
+      same =
+          ap (λ l. l ++ after) (append_assoc begun gone (piece ++ 10 ∷ []))
+          ∙ append_assoc begun (gone ++ (piece ++ 10 ∷ [])) after
+          ∙ ap (λ l. begun ++ l) (sym whole)
+
+-- the rest of a chunk begins the next line
+pub rest_taken : (old new : State) (a b : Option (List ℕ)) (begun gone line rest chunk : List ℕ)
+    → Advances old new a b (begun ++ gone) line → chunk ≡ gone ++ rest → Advances old new a b (begun ++ chunk) (line ++ rest)
+rest_taken old new a b begun gone line rest chunk p whole =
+    subst (λ text. Advances old new a b text (line ++ rest)) (append_assoc begun gone rest ∙ ap (λ l. begun ++ l) (sym whole))
+    (Advances-append old new new a b b (begun ++ gone) line rest (line ++ rest) p (bytes_on new b (line ++ rest)))
+
+-- or the run stops before it
+pub rest_left : (old new : State) (a b : Option (List ℕ)) (begun gone line rest chunk : List ℕ)
+    → Advances old new a b (begun ++ gone) line → chunk ≡ gone ++ rest → Stops old new a b (begun ++ chunk)
+rest_left old new a b begun gone line rest chunk p whole =
+    subst (Stops old new a b) (append_assoc begun gone rest ∙ ap (λ l. begun ++ l) (sym whole))
+    (Stops-append old new new a b b (begun ++ gone) line rest p (not_begun new b (line ++ rest)))
+
+-- what was taken of a chunk, once its next line is
+pub gone_further : (chunk gone rest : List ℕ) (at : ℕ) → chunk ≡ gone ++ rest → position is_newline rest ≡ Some at
+    → chunk ≡ (gone ++ (take at rest ++ 10 ∷ [])) ++ take (length rest - (at + 1)) (drop (at + 1) rest)
+gone_further chunk gone rest at whole e =
+    whole ∙ ap (λ l. gone ++ l) (cut_at rest at e)
+    ∙ sym (append_assoc gone (take at rest ++ 10 ∷ []) (take (length rest - (at + 1)) (drop (at + 1) rest)))
+
+-- the first place of a byte 10, as a search answers it
+pub first_newline : (text : List ℕ) (found : Option ℕ) → IsFirstByte (is_byte 10) text found → found ≡ position is_newline text
+first_newline text None none = sym (rw at_end (grind (arith, common_steps))) where
+  at_end : position_or_len is_newline text ≡ length text
+  at_end = position_or_len_is is_newline text (length text) 0 (omega arith) (λ k low. not_true (none k (omega arith) low)) (λ out. absurd (omega arith))
+first_newline text (Some at) first = sym (rw at_first (grind (arith, common_steps))) where
+  within : at < length text
+  within = first.0.high
+
+  at_first : position_or_len is_newline text ≡ at
+  at_first = position_or_len_is is_newline text at 0 (omega arith) (λ k low. not_true (first.0.before k (omega arith) low)) (λ _. first.1)

@@ -1,0 +1,52 @@
+use Rattle.std.proofs.Common.{◌≡◌, arith, length, sym, subst, ◌∙◌, ◌++◌, ◌∷◌, [], List, ℕ, append_assoc}
+use Rattle.cedarwood.specs.WatchedDevice.{device_of}
+use Rattle.cedar_cli.specs.Command.{order_of}
+use Rattle.cedar_cli.specs.Script.{Obeys, Leaves, Advances, Stops}
+use Rattle.cedar_cli.proofs.Bytes.{line_done, line_left, not_begun, on_err}
+use Rattle.cedar_cli.proofs.Runs.{short_line}
+use Rattle.cedar_cli.proofs.Newlines.{open_append, taken_on_ok, stopped_on_err}
+use Rattle.cedar_cli.proofs.script.end_line.Goals as goal
+
+pub returns-then-is_empty-clause-ok : goal.returns-then-is_empty-clause-ok
+returns-then-is_empty-clause-ok g c =
+    let len : length c.args.line.now.items ≡ c.args.line.now.len = omega (arith, c.args.line.now.ok.0) in
+    let none : c.args.line.now.items ≡ [] = short_line c.args.line.now.items c.args.line.now.len len (sym c.is_empty.ensures ∙ c.if-is_empty.true) in
+    rw none (taken_on_ok c.answer_line.result c.args.cedar.now.state c.answer_line.new.cedar.state (g.W.Write.contents (device_of c.args.writer.now)) (g.W.Write.contents (device_of c.answer_line.new.writer)) c.args.piece.now
+    c.requires.open_piece c.answer_line.ensures.ok)
+
+pub returns-then-is_empty-clause-err : goal.returns-then-is_empty-clause-err
+returns-then-is_empty-clause-err g c =
+    let len : length c.args.line.now.items ≡ c.args.line.now.len = omega (arith, c.args.line.now.ok.0) in
+    let none : c.args.line.now.items ≡ [] = short_line c.args.line.now.items c.args.line.now.len len (sym c.is_empty.ensures ∙ c.if-is_empty.true) in
+    rw none (stopped_on_err c.answer_line.result c.args.cedar.now.state c.answer_line.new.cedar.state (g.W.Write.contents (device_of c.args.writer.now)) (g.W.Write.contents (device_of c.answer_line.new.writer)) c.args.piece.now
+    c.requires.open_piece c.answer_line.ensures.err)
+
+pub returns-in_default-clause-err : goal.returns-in_default-clause-err
+returns-in_default-clause-err g c =
+    not_begun c.args.cedar.now.state (g.W.Write.contents (device_of c.args.writer.now)) (c.args.line.now.items ++ (c.args.piece.now ++ 10 ∷ []))
+
+pub returns-in_err-answer_line-clause-err : goal.returns-in_err-answer_line-clause-err
+returns-in_err-answer_line-clause-err g c =
+    let old = c.args.cedar.now.state in
+    let new = c.answer_line-2.new.cedar.state in
+    let held = g.W.Write.contents (device_of c.args.writer.now) in
+    let holds = g.W.Write.contents (device_of c.answer_line-2.new.writer) in
+    let line = c.args.line.now.items in
+    let piece = c.args.piece.now in
+    let whole : c.as_slice.result.now ≡ line ++ piece = c.as_slice.ensures.value ∙ c.in-Ok.ensures.items in
+    let left : Leaves (order_of (line ++ piece)) old new held holds = subst (λ (l : List ℕ). Leaves (order_of l) old new held holds) whole c.in_err-answer_line.ensures.err in
+    on_err c.from_residual.result (subst (Stops old new held holds) (append_assoc line piece (10 ∷ []))
+    (line_left old new held holds (line ++ piece) (open_append line piece c.requires.«open» c.requires.open_piece) left))
+
+pub returns-clause-ok : goal.returns-clause-ok
+returns-clause-ok g c =
+    let old = c.args.cedar.now.state in
+    let new = c.answer_line-2.new.cedar.state in
+    let held = g.W.Write.contents (device_of c.args.writer.now) in
+    let holds = g.W.Write.contents (device_of c.answer_line-2.new.writer) in
+    let line = c.args.line.now.items in
+    let piece = c.args.piece.now in
+    let whole : c.as_slice.result.now ≡ line ++ piece = c.as_slice.ensures.value ∙ c.in-Ok.ensures.items in
+    let obeyed : Obeys (order_of (line ++ piece)) old new held holds = subst (λ (l : List ℕ). Obeys (order_of l) old new held holds) whole c.in_ok-answer_line.ensures.ok in
+    subst (λ (text : List ℕ). Advances old new held holds text []) (append_assoc line piece (10 ∷ []))
+    (line_done old new held holds (line ++ piece) (open_append line piece c.requires.«open» c.requires.open_piece) obeyed)

@@ -1,0 +1,207 @@
+//! The program: its statuses, and what it says on its errors' writer.
+use cedar_cli::{DONE, FAULT, USAGE, run_program};
+use cedarwood::Watched;
+use std::alloc::{AllocError, Global};
+use std::test::Fail;
+use test_devices::{Ending, FailingReader, FailingWriter, FlushCounter, Refusing};
+
+const SCRIPT: &[u8] = b"+ 61 1\n= 61\n";
+
+const ANSWERS: &str = "ok\n1 1\n";
+
+const USAGE_TEXT: &str = "usage: cedar [--unordered] [--load PATH] [--save PATH]\n";
+
+// What fails in a run.
+#[derive(Clone, Copy)]
+struct Faults {
+    // How the reader ends after the script.
+    reader: Ending,
+    // How many bytes the writer takes.
+    room: usize,
+    // The number of the flush that fails, or 0.
+    flush: u64,
+    // The number of the request for memory that is refused, or 0.
+    request: u64,
+}
+
+const NONE: Faults = Faults {
+    reader: Ending::Quiet,
+    room: 64,
+    flush: 0,
+    request: 0,
+};
+
+// What a run leaves.
+#[derive(Drop)]
+struct Left {
+    status: u8,
+    written: Vec<u8>,
+    told: Vec<u8>,
+    flushes: u64,
+    requests: u64,
+    is_reader_failed: bool,
+    is_writer_failed: bool,
+}
+
+// Runs the program on the script. The writer of errors takes `errors_room` bytes.
+fn run(
+    alloc: Global,
+    arguments: &[&str],
+    faults: Faults,
+    errors_room: usize,
+) -> Result<Left, AllocError> {
+    let refusing = Refusing::new(alloc);
+    refusing.refuse(faults.request, faults.request);
+    let mut written = vec![in alloc; 0u8; faults.room]?;
+    let mut told = vec![in alloc; 0u8; errors_room]?;
+    let reader = FailingReader::new(SCRIPT, SCRIPT.len(), 64, faults.reader);
+    let writer = FailingWriter::new(&mut written, 64, Ending::Fault);
+    let errors = FailingWriter::new(&mut told, 64, Ending::Fault);
+    let mut reader = Watched::new(reader);
+    let mut writer = Watched::new(FlushCounter::new(writer, faults.flush));
+    let mut errors = Watched::new(errors);
+    let status = run_program(&refusing, arguments, &mut reader, &mut writer, &mut errors);
+    let is_reader_failed = reader.failed();
+    let is_writer_failed = writer.failed();
+    let inside = writer.into_inner();
+    let flushes = inside.flushes();
+    let len = inside.inner().len();
+    let told_len = errors.into_inner().len();
+    written.truncate(len);
+    told.truncate(told_len);
+    Ok(Left {
+        status,
+        written,
+        told,
+        flushes,
+        requests: refusing.requests(),
+        is_reader_failed,
+        is_writer_failed,
+    })
+}
+
+// The script comes in one read, and the next read finds its end: two flushes, and one after the run.
+#[test]
+fn a_good_run(rt: HostRuntime) -> Result<(), Fail> {
+    let left = run(rt.alloc(), &[], NONE, 128)?;
+    assert_eq!(rt; left.status, DONE);
+    assert_eq!(rt; left.written.as_slice(), ANSWERS.as_bytes());
+    assert!(rt; left.told.is_empty());
+    assert_eq!(rt; left.flushes, 3);
+    assert!(rt; !left.is_reader_failed && !left.is_writer_failed);
+    assert_eq!(rt; (DONE, FAULT, USAGE), (0, 1, 2));
+    Ok(())
+}
+
+// No option is known: nothing is read, written or flushed.
+#[test]
+fn wrong_arguments(rt: HostRuntime) -> Result<(), Fail> {
+    let cases: [&[&str]; 5] = [
+        &["--unordered"],
+        &["x"],
+        &[""],
+        &["--load", "x"],
+        &["--", "x"],
+    ];
+    for arguments in cases {
+        let faults = Faults {
+            reader: Ending::Fault,
+            room: 0,
+            flush: 1,
+            ..NONE
+        };
+        let left = run(rt.alloc(), arguments, faults, 128)?;
+        assert_eq!(rt; left.status, 2);
+        assert!(rt; left.written.is_empty());
+        assert_eq!(rt; left.told.as_slice(), USAGE_TEXT.as_bytes());
+        assert!(rt; !left.is_reader_failed && !left.is_writer_failed);
+        assert_eq!(rt; (left.flushes, left.requests), (0, 0));
+        let silenced = run(rt.alloc(), arguments, faults, 0)?;
+        assert_eq!(rt; silenced.status, 2);
+    }
+    Ok(())
+}
+
+// What is written and told, and how many flushes there are, where one device fails. After a fault of the
+// script what was answered is still flushed.
+const CASES: [(Faults, &str, &str, u64); 7] = [
+    (
+        Faults {
+            reader: Ending::Fault,
+            ..NONE
+        },
+        "ok\n1 1\n",
+        "cedar: read fault\n",
+        3,
+    ),
+    (Faults { room: 0, ..NONE }, "", "cedar: write fault\n", 2),
+    (
+        Faults { room: 5, ..NONE },
+        "ok\n1 ",
+        "cedar: write fault\n",
+        2,
+    ),
+    (Faults { flush: 1, ..NONE }, "", "cedar: write fault\n", 2),
+    (
+        Faults { flush: 2, ..NONE },
+        "ok\n1 1\n",
+        "cedar: write fault\n",
+        3,
+    ),
+    (
+        Faults { flush: 3, ..NONE },
+        "ok\n1 1\n",
+        "cedar: write fault\n",
+        3,
+    ),
+    // The fault that came first is told.
+    (
+        Faults {
+            reader: Ending::Fault,
+            flush: 3,
+            ..NONE
+        },
+        "ok\n1 1\n",
+        "cedar: read fault\n",
+        3,
+    ),
+];
+
+// The status is the same where the writer of errors fails too, at once or in mid-line.
+#[test]
+fn faults_of_devices(rt: HostRuntime) -> Result<(), Fail> {
+    for (faults, written, told, flushes) in CASES {
+        let left = run(rt.alloc(), &[], faults, 128)?;
+        assert_eq!(rt; left.status, 1);
+        assert_eq!(rt; left.written.as_slice(), written.as_bytes());
+        assert_eq!(rt; left.told.as_slice(), told.as_bytes());
+        assert_eq!(rt; left.flushes, flushes);
+        for errors_room in [0, 6] {
+            let silenced = run(rt.alloc(), &[], faults, errors_room)?;
+            assert_eq!(rt; silenced.status, 1);
+            assert_eq!(rt; silenced.written.as_slice(), written.as_bytes());
+        }
+    }
+    Ok(())
+}
+
+// Each request refused in turn: what was written begins the answers, and the error is told.
+#[test]
+fn refused_memory(rt: HostRuntime) -> Result<(), Fail> {
+    let whole = run(rt.alloc(), &[], NONE, 128)?;
+    assert_eq!(rt; whole.status, 0);
+    assert!(rt; whole.requests > 0);
+    for earlier in 0..whole.requests {
+        let request = earlier + 1;
+        let left = run(rt.alloc(), &[], Faults { request, ..NONE }, 128)?;
+        assert_eq!(rt; left.status, 1, "at request {request}");
+        assert!(rt;
+            ANSWERS.as_bytes().starts_with(&left.written),
+            "at request {request}"
+        );
+        assert_eq!(rt; left.told.as_slice(), b"cedar: out of memory\n".as_slice());
+        let silenced = run(rt.alloc(), &[], Faults { request, ..NONE }, 0)?;
+        assert_eq!(rt; silenced.status, 1, "at request {request}");
+    }
+    Ok(())
+}

@@ -1,0 +1,196 @@
+//! The script language: each form of a line, and its answer.
+use crate::runs::{ALL, run_alone};
+use std::test::Fail;
+
+// Scripts of several lines, with their answers.
+const SCRIPTS: [(&str, &str); 10] = [
+    ("", ""),
+    (
+        "+ 61 1\n= 61\n- 61\n= 61\n- 61\n",
+        "ok\n1 1\nerased\nnone\nabsent\n",
+    ),
+    // The empty key and one with a byte 0 are never held.
+    (
+        "+ 61 1\n+ 61 2\n= 61\n- .\n= 6100\n- 61\n",
+        "ok\nok\n2 1\nabsent\nnone\nerased\n",
+    ),
+    ("= .\n- 00\n= 00\n", "none\nabsent\nnone\n"),
+    // A bad line changes nothing.
+    ("+ 61 1\n< 61\n= 61\n", "ok\nbad line\n1 1\n"),
+    // An empty line is one, also before the end.
+    ("\n\n= 61\n\n", "bad line\nbad line\nnone\nbad line\n"),
+    // Hexadecimal digits of both cases.
+    (
+        "+ 6A 5\n= 6a\n= 6A\n+ fFfE 6\n= FfFe\n- FFFE\n",
+        "ok\n5 1\n5 1\nok\n6 2\nerased\n",
+    ),
+    // Zeros before a number aren't kept.
+    ("+ 61 +0007\n= 61\n+ 61 -0\n= 61\n", "ok\n7 1\nok\n0 1\n"),
+    // A refused value leaves the old one.
+    (
+        "+ 61 1\n+ 61 -1\n= 61\n",
+        "ok\nrefused InvalidValue -1\n1 1\n",
+    ),
+    // A last line needs no newline.
+    ("+ 61 2147483645\n= 61", "ok\n2147483645 1\n"),
+];
+
+#[test]
+fn scripts(rt: HostRuntime) -> Result<(), Fail> {
+    for (script, answers) in SCRIPTS {
+        let ended = run_alone(rt.alloc(), script.as_bytes(), ALL)?;
+        assert_eq!(rt; ended.outcome, Ok(()), "after {script}");
+        assert_eq!(rt;
+            ended.written.as_slice(),
+            answers.as_bytes(),
+            "after {script}"
+        );
+    }
+    Ok(())
+}
+
+// One line alone, with its answer.
+const LINES: [(&str, &str); 22] = [
+    // Faults in their order: the key's before the value's.
+    ("+ . -1", "refused EmptyKey\n"),
+    ("+ 6100 -1", "refused NulByte 1\n"),
+    ("+ 00 1", "refused NulByte 0\n"),
+    ("+ 616200620061 1", "refused NulByte 2\n"),
+    ("+ 61 -1", "refused InvalidValue -1\n"),
+    ("+ 61 -0000001", "refused InvalidValue -1\n"),
+    ("+ 61 2147483646", "refused InvalidValue 2147483646\n"),
+    ("+ 61 2147483647", "refused InvalidValue 2147483647\n"),
+    ("+ 61 -2147483648", "refused InvalidValue -2147483648\n"),
+    // Signs and zeros.
+    ("+ 61 0", "ok\n"),
+    ("+ 61 +5", "ok\n"),
+    ("+ 61 -0", "ok\n"),
+    ("+ 61 +0", "ok\n"),
+    ("+ 61 2147483645", "ok\n"),
+    ("+ 61 +0000000000000000000000000000002147483645", "ok\n"),
+    ("+ 61 -000000000000000000000000000000000000000", "ok\n"),
+    // Each other form.
+    ("+ FF 1", "ok\n"),
+    ("- 61", "absent\n"),
+    ("- .", "absent\n"),
+    ("= 61", "none\n"),
+    ("= .", "none\n"),
+    ("= 00", "none\n"),
+];
+
+#[test]
+fn lines(rt: HostRuntime) -> Result<(), Fail> {
+    for (line, answer) in LINES {
+        let ended = run_alone(rt.alloc(), line.as_bytes(), ALL)?;
+        assert_eq!(rt; ended.outcome, Ok(()), "after {line}");
+        assert_eq!(rt; ended.written.as_slice(), answer.as_bytes(), "after {line}");
+    }
+    Ok(())
+}
+
+// Lines that are none of the forms.
+const BAD_LINES: [&[u8]; 51] = [
+    // Values beyond an i32, or that are no number.
+    b"+ 61 2147483648",
+    b"+ 61 -2147483649",
+    b"+ 61 99999999999999999999999999",
+    b"+ 61 +",
+    b"+ 61 -",
+    b"+ 61 --1",
+    b"+ 61 +-1",
+    b"+ 61 1a",
+    b"+ 61 0x1",
+    b"+ 61 1.0",
+    b"+ 61 ",
+    b"+ 61",
+    // Keys that aren't pairs of hexadecimal digits.
+    b"+ 6 1",
+    b"+ 616 1",
+    b"+ 6g 1",
+    b"+  1",
+    b"+ .. 1",
+    b"+ .61 1",
+    b"= 6g",
+    b"= 6",
+    b"= ",
+    b"- ",
+    b"= 0x61",
+    b"= ..",
+    b"- 61.",
+    // A space too many, or too few.
+    b"+  61 1",
+    b"+ 61  1",
+    b" + 61 1",
+    b"+ 61 1 ",
+    b"+ 61 1 1",
+    b"= 61 ",
+    b"=  61",
+    b" = 61",
+    b"- 61 1",
+    b"=61",
+    b"-61",
+    b"+61 1",
+    // Other bytes that are often taken for spaces, or for the end of a line.
+    b"= 61\r",
+    b"+ 61 1\r",
+    b"\r",
+    b"=\t61",
+    b"+ 61\t1",
+    // No command.
+    b"+",
+    b"-",
+    b"=",
+    b"* ",
+    b"x",
+    b"# 61",
+    // Bytes that are no text.
+    b"\xff",
+    b"= \xff\xfe",
+    b"+ 61 \xc3\xa9",
+];
+
+// Each is answered as bad, whether it ends in a newline or not, and the next line is read as if alone.
+#[test]
+fn bad_lines(rt: HostRuntime) -> Result<(), Fail> {
+    for line in BAD_LINES {
+        let mut script = Vec::from_slice(rt.alloc(), line)?;
+        let ended = run_alone(rt.alloc(), &script, ALL)?;
+        assert_eq!(rt; ended.outcome, Ok(()), "after {line:?}");
+        assert_eq!(rt;
+            ended.written.as_slice(),
+            b"bad line\n".as_slice(),
+            "after {line:?}"
+        );
+        script.extend_from_slice(b"\n= 61\n")?;
+        let ended = run_alone(rt.alloc(), &script, ALL)?;
+        assert_eq!(rt; ended.outcome, Ok(()), "after {line:?}");
+        assert_eq!(rt;
+            ended.written.as_slice(),
+            b"bad line\nnone\n".as_slice(),
+            "after {line:?}"
+        );
+    }
+    Ok(())
+}
+
+// A key of 5,000 bytes, whose lines come in several reads.
+#[test]
+fn a_line_longer_than_a_read(rt: HostRuntime) -> Result<(), Fail> {
+    let mut key = Vec::new(rt.alloc());
+    for _ in 0..5000 {
+        key.extend_from_slice(b"7A")?;
+    }
+    let mut script = Vec::from_slice(rt.alloc(), b"+ ")?;
+    script.extend_from_slice(&key)?;
+    script.extend_from_slice(b" 8\n= 7a\n= ")?;
+    script.extend_from_slice(&key)?;
+    script.extend_from_slice(b"\n- ")?;
+    script.extend_from_slice(&key)?;
+    let ended = run_alone(rt.alloc(), &script, ALL)?;
+    assert_eq!(rt; ended.outcome, Ok(()));
+    assert_eq!(rt;
+        ended.written.as_slice(),
+        b"ok\nnone\n8 5000\nerased\n".as_slice()
+    );
+    Ok(())
+}
