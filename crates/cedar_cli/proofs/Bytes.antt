@@ -1,7 +1,6 @@
--- What is written in parts, and the lines of a script in parts.
-use Rattle.std.proofs.Common.{◌≡◌, ℕ, List, [], ◌∷◌, ◌++◌, Option, Some, None, refl, sym, ap, ◌∙◌, append_assoc, append-nil, take, drop, length, ◌-◌, arith, take-append-drop, length-drop}
+-- What is written in parts, the lines of a script in parts, and calls of a writer that didn't fail.
+use Rattle.std.proofs.Common.{◌≡◌, ℕ, List, [], ◌∷◌, ◌++◌, Option, Some, None, refl, sym, ap, ◌∙◌, append_assoc, append-nil, take, drop, length, ◌-◌, arith, take-append-drop, length-drop, length-append, Bool, true, false, ◌||◌, ◌&&◌, ◌==◌, subst}
 use Rattle.std.proofs.lemmas.List.{take_all}
-use Rattle.std.proofs.Common.{length-append, Bool, true, false, ◌||◌, ◌&&◌, ◌==◌, ◌<◌}
 use Rattle.std.proofs.lemmas.Bool.{eqb-true}
 use Rattle.std.specs.Prelude.{Result, Ok, Err, OnOk, OnErr}
 use Rattle.cedar_tree.specs.State.{State}
@@ -64,10 +63,6 @@ pub cut_short_none : (t : State) (lines : List (List ℕ)) → IsCutShort t line
 cut_short_none t [] = refl
 cut_short_none t (line ∷ lines) = (answer t line, omega (arith, length-append (reply t (order_of line)) (10 ∷ [])), refl)
 
--- an order that wasn't begun is left
-pub Leaves-none : (order : Option Order) (t : State) (held : Option (List ℕ)) → Leaves order t t held held
-Leaves-none order t held = (refl, [], reply t order ++ 10 ∷ [], omega (arith, length-append (reply t order) (10 ∷ [])), refl, Appends-none held)
-
 -- the lines of a text that begins with a line
 pub lines_of-line : (line rest : List ℕ) → IsOpen line → lines_of (line ++ 10 ∷ rest) ≡ line ∷ lines_of rest
 lines_of-line [] rest o = refl
@@ -126,10 +121,9 @@ Stops-append old mid new a b c text left more p q =
 -- an answer that wasn't written whole leaves its order
 pub Leaves-on_err : {T E : Type 0} (r : Result T E) (order : Option Order) (old new : State) (held holds : Option (List ℕ)) (bytes : List ℕ)
     → new ≡ old → bytes ≡ reply old order ++ 10 ∷ []
-    → OnErr r ((part : List ℕ) × (rest : List ℕ) × (0 < length rest) × (bytes ≡ part ++ rest) × Appends held holds part)
-    → OnErr r (Leaves order old new held holds)
+    → OnErr r (WritesFront held holds bytes) → OnErr r (Leaves order old new held holds)
 Leaves-on_err (Ok x) order old new held holds bytes same e h = tt
-Leaves-on_err (Err x) order old new held holds bytes same e h = (same, h.0, h.1, h.2, sym e ∙ h.3, h.4)
+Leaves-on_err (Err x) order old new held holds bytes same e h = (same, subst (WritesFront held holds) e h)
 
 -- one written whole obeys it
 pub Obeys-on_ok : {T E : Type 0} (r : Result T E) (order : Option Order) (old new : State) (held holds : Option (List ℕ)) (bytes : List ℕ)
@@ -152,7 +146,8 @@ line_done old new held holds line o h =
 -- in a line whose answer was not written whole the run stops
 pub line_left : (old new : State) (held holds : Option (List ℕ)) (line : List ℕ) → IsOpen line → Leaves (order_of line) old new held holds → Stops old new held holds (line ++ 10 ∷ [])
 line_left old new held holds line o h =
-    ([], line ++ 10 ∷ [], h.1, (λ rest. refl), (h.0, h.5), (λ rest. rw (line_then line rest o) (h.2, h.3, ap (λ t. reply t (order_of line) ++ 10 ∷ []) h.0 ∙ h.4)))
+    let front = h.1 in
+    ([], line ++ 10 ∷ [], front.0, (λ rest. refl), (h.0, front.4), (λ rest. rw (line_then line rest o) (front.1, front.2, ap (λ t. reply t (order_of line) ++ 10 ∷ []) h.0 ∙ front.3)))
 
 -- bytes that end no line
 pub bytes_on : (t : State) (held : Option (List ℕ)) (text : List ℕ) → Advances t t held held text text
@@ -187,11 +182,11 @@ or_false : (b : Bool) → (b || false) ≡ b
 or_false true = refl
 or_false false = refl
 
--- nor is any other call that answered
+-- a call that didn't answer a fault left its device as unfailed as it was
 pub unfailed_call : (before after : Bool) → after ≡ (before || false) → after ≡ before
 unfailed_call before after h = h ∙ or_false before
 
--- a write that took a byte or more is no fault
+-- and so did a write that took a byte or more
 pub unfailed_by : (before after : Bool) (count : ℕ) (any : Bool) → after ≡ (before || (count == 0 && any)) → (count ≡ 0 → ⊥) → after ≡ before
 unfailed_by before after count any h some = h ∙ rw (eqb-not count 0 some) (or_false before) where
   eqb-not : (m n : ℕ) → (m ≡ n → ⊥) → (m == n) ≡ false

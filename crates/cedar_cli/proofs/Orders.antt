@@ -1,15 +1,14 @@
 -- What the dictionary's answers say of an order's reply.
-use Rattle.std.proofs.Common.{◌≡◌, ℕ, ℤ, List, [], ◌∷◌, ◌++◌, Option, Some, None, true, ◌==◌, refl, sym, ap, subst, ◌∙◌, length, ◌<◌, append_assoc}
+use Rattle.std.proofs.Common.{◌≡◌, ℕ, ℤ, List, [], ◌∷◌, ◌++◌, Option, Some, None, true, ◌==◌, refl, sym, ap, subst, ◌∙◌, length, append_assoc}
 use Rattle.std.specs.Prelude.{codes, Bool, false, ◌&&◌, int_le, pos, if◌then◌else◌, Result, Ok, Err, OnErr, IfSome, IsSome, is_err, MatchOption, option_map, position}
-use Rattle.std.specs.Io.KnownBytes.{Appends}
 use Rattle.std.specs.Prelude.{decimal}
 use Rattle.std.specs.Fmt.{signed_decimal}
 use Rattle.cedar_tree.specs.State.{State, stored, erased}
 use Rattle.cedar_tree.specs.Tree.{Tree, number_at, IsSound}
 use Rattle.cedar_tree.specs.Queries.{exact}
 use Rattle.cedar_tree.proofs.TreeLemmas.{cut-put, put-put, put_held, number_at-put_same}
-use Rattle.cedarwood.specs.declared.error.CedarError.{CedarError}
-use Rattle.cedarwood.specs.declared.error.CedarError.TheVariants.{EmptyKey, NulByte, InvalidValue}
+use Rattle.cedar_table.specs.declared.error.CedarError.{CedarError}
+use Rattle.cedar_table.specs.declared.error.CedarError.TheVariants.{EmptyKey, NulByte, InvalidValue}
 use Rattle.cedar_cli.specs.Command.{Order}
 use Rattle.cedarwood.specs.Fault.{fault, key_fault, or_else, value_fault, IsShortage}
 use Rattle.cedar_cli.specs.Script.{refusal, IsPairFault, found_text, reply, Leaves, WritesFront}
@@ -107,12 +106,11 @@ taken_back (Some found) old mid new key v answer sound range none done back =
 -- an answer of which a front alone was written leaves its order
 pub Leaves-front : (order : Option Order) (s : State) (held holds : Option (List ℕ)) (line : List ℕ)
     → line ≡ reply s order → WritesFront held holds (line ++ 10 ∷ []) → Leaves order s s held holds
-Leaves-front order s held holds line e h = (refl, h.0, h.1, h.2, sym (ap (λ l. l ++ 10 ∷ []) e) ∙ h.3, h.4)
+Leaves-front order s held holds line e h = (refl, subst (λ l. WritesFront held holds (l ++ 10 ∷ [])) e h)
 
 -- an answer that wasn't written whole leaves its order, where the tree is then the old one
 pub Leaves-if_err : {T E : Type 0} (r : Result T E) (order : Option Order) (old new : State) (held holds : Option (List ℕ)) (bytes : List ℕ)
     → (is_err r ≡ true → new ≡ old) → bytes ≡ reply old order ++ 10 ∷ []
-    → OnErr r ((part : List ℕ) × (rest : List ℕ) × (0 < length rest) × (bytes ≡ part ++ rest) × Appends held holds part)
-    → OnErr r (Leaves order old new held holds)
+    → OnErr r (WritesFront held holds bytes) → OnErr r (Leaves order old new held holds)
 Leaves-if_err (Ok x) order old new held holds bytes same e h = tt
-Leaves-if_err (Err x) order old new held holds bytes same e h = (same refl, h.0, h.1, h.2, sym e ∙ h.3, h.4)
+Leaves-if_err (Err x) order old new held holds bytes same e h = (same refl, subst (WritesFront held holds) e h)

@@ -95,9 +95,9 @@ last_left old mid new a b c text line o long h k = (
   line ∷ [],
   whole text line h.0 h.1 ∙ ap (λ l. h.0 ++ l) (last_line line o long) ∙ ap (λ l. l ++ line ∷ []) (sym (append-nil h.0)),
   (
-    k.1,
-    Finishes-append old mid new a b c h.0 [] k.1 h.2 (k.0, k.5),
-    (k.2, k.3, ap (λ t. reply t (order_of line) ++ 10 ∷ []) k.0 ∙ k.4),
+    k.1.0,
+    Finishes-append old mid new a b c h.0 [] k.1.0 h.2 (k.0, k.1.4),
+    (k.1.1, k.1.2, ap (λ t. reply t (order_of line) ++ 10 ∷ []) k.0 ∙ k.1.3),
   ),
 )
 

@@ -1,12 +1,13 @@
--- What a script's run writes, and the tree that it leaves.
+-- What a script's run writes, and the state that it leaves: first of one order, then of the lines of a script,
+-- and last of a run that has come to some place in its script.
 use Rattle.std.specs.Prelude.{◌≡◌, ℕ, ◌<◌, if◌then◌else◌, ℤ, List, [], ◌∷◌, ◌++◌, length, Option, Some, None, codes, decimal, is_some}
 use Rattle.std.specs.Fmt.{signed_decimal}
 use Rattle.std.specs.Io.KnownBytes.{Appends}
 use Rattle.cedar_tree.specs.Tree.{number_at}
 use Rattle.cedar_tree.specs.State.{State, stored, erased}
 use Rattle.cedar_cli.specs.declared.command.Verb.TheVariants.{Put, Erase, Exact}
-use Rattle.cedarwood.specs.declared.error.CedarError.{CedarError}
-use Rattle.cedarwood.specs.declared.error.CedarError.TheVariants.{EmptyKey, NulByte, InvalidValue}
+use Rattle.cedar_table.specs.declared.error.CedarError.{CedarError}
+use Rattle.cedar_table.specs.declared.error.CedarError.TheVariants.{EmptyKey, NulByte, InvalidValue}
 use Rattle.cedarwood.specs.Fault.{fault}
 use Rattle.cedar_cli.specs.Command.{Order, order_of}
 use Rattle.cedar_cli.specs.Lines.{lines_of}
@@ -45,20 +46,26 @@ obeyed s (Some (Put v, key)) = if is_some (fault key v) then s else stored s key
 obeyed s (Some (Erase, key)) = erased s key
 obeyed s (Some (verb, key)) = s
 
--- some of these bytes were written, from the first on, and not all
+-- What a device holds is known or not: `Some` bytes, or `None` where it doesn't tell. Below, `held` is what the
+-- writer held at first, and `holds` what it holds in the end.
+
+-- of some bytes a first part was written, and not all: nothing, or more, but never the last byte
 abbrev pub WritesFront : Option (List ℕ) → Option (List ℕ) → List ℕ → Type 0
 WritesFront held holds bytes = (part : List ℕ) × (rest : List ℕ) × (0 < length rest) × (bytes ≡ part ++ rest) × Appends held holds part
+
+-- of some bytes the first ones were written, or all, and nothing else
+abbrev pub AppendsFront : Option (List ℕ) → Option (List ℕ) → List ℕ → Type 0
+AppendsFront held holds bytes = (part : List ℕ) × (rest : List ℕ) × (bytes ≡ part ++ rest) × Appends held holds part
 
 -- an order was obeyed, and its answer written whole
 abbrev pub Obeys : Option Order → State → State → Option (List ℕ) → Option (List ℕ) → Type 0
 Obeys order old new held holds = (new ≡ obeyed old order) × Appends held holds (reply old order ++ 10 ∷ [])
 
--- an order was not obeyed: its answer was written in part at most
+-- an order was not obeyed: its answer was not written whole, and the state stays
 abbrev pub Leaves : Option Order → State → State → Option (List ℕ) → Option (List ℕ) → Type 0
-Leaves order old new held holds =
-    (new ≡ old) × (part : List ℕ) × (rest : List ℕ) × (0 < length rest) × (reply old order ++ 10 ∷ [] ≡ part ++ rest) × Appends held holds part
+Leaves order old new held holds = (new ≡ old) × WritesFront held holds (reply old order ++ 10 ∷ [])
 
--- the answer to a line
+-- the answer to a line, with its byte 10
 abbrev pub answer : State → List ℕ → List ℕ
 answer s line = reply s (order_of line) ++ 10 ∷ []
 
@@ -88,13 +95,15 @@ abbrev pub StopsAfter : State → State → Option (List ℕ) → Option (List �
 StopsAfter old new held holds finished others =
     (part : List ℕ) × Finishes old new held holds finished part × IsCutShort new others part
 
--- a run ended before its script did: the script's first lines are finished, and no other
+-- A run ended before its script did: the script's first lines are finished, and no other. Here nothing follows
+-- the script, so its last piece is a line without a byte 10 too.
 abbrev pub EndsEarly : State → State → Option (List ℕ) → Option (List ℕ) → List ℕ → Type 0
 EndsEarly old new held holds script =
     (finished : List (List ℕ)) × (others : List (List ℕ)) × (lines_of script ≡ finished ++ others)
     × StopsAfter old new held holds finished others
 
--- however a text goes on, its lines are these, and then those of what is left of it
+-- However a text goes on, its lines are these, and then those of what is left of it. So the finished lines all
+-- have their byte 10 in the text: a line that could still grow is not among them.
 abbrev pub Splits : List ℕ → List (List ℕ) → List ℕ → Type 0
 Splits text finished left = (rest : List ℕ) → lines_of (text ++ rest) ≡ finished ++ lines_of (left ++ rest)
 
@@ -108,7 +117,3 @@ abbrev pub Stops : State → State → Option (List ℕ) → Option (List ℕ) �
 Stops old new held holds text =
     (finished : List (List ℕ)) × (left : List ℕ) × (part : List ℕ) × Splits text finished left
     × Finishes old new held holds finished part × ((rest : List ℕ) → IsCutShort new (lines_of (left ++ rest)) part)
-
--- of some bytes the first ones were written, or all, and nothing else
-abbrev pub AppendsFront : Option (List ℕ) → Option (List ℕ) → List ℕ → Type 0
-AppendsFront held holds bytes = (part : List ℕ) × (rest : List ℕ) × (bytes ≡ part ++ rest) × Appends held holds part

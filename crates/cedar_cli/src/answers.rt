@@ -1,4 +1,4 @@
-//! The answer to one line, written whole or not at all obeyed.
+//! The answer to one line. A line whose answer isn't written whole changes nothing.
 
 ghost use Rattle.std.specs.Prelude.{◌≡◌, ◌++◌, ◌∷◌, [], true, Some, None, MatchOption, IsSome, OnOk, OnErr};
 ghost use Rattle.std.specs.Io.KnownBytes.{Appends};
@@ -173,7 +173,7 @@ fn write_found<W: Write>(
     write_line(writer, b" ", figures.format(length).as_bytes())
 }
 
-/// Writes a line of two parts.
+/// Writes a line that has two parts, and its byte 10.
 fn write_line<W: Write>(
     writer: &mut Watched<W>,
     first: &[u8],
@@ -191,10 +191,7 @@ fn write_line<W: Write>(
 
 /// Writes all of some bytes. The first fault ends it, an interrupted write too: a part was then written, and
 /// not all. (`write_all` of the standard library promises nothing of what a failed call wrote.)
-pub(crate) fn write_whole<W: Write>(
-    writer: &mut Watched<W>,
-    bytes: &[u8],
-) -> Result<(), ScriptError>
+fn write_whole<W: Write>(writer: &mut Watched<W>, bytes: &[u8]) -> Result<(), ScriptError>
     ensures ok { OnOk result (Appends (W.contents (device_of writer.old)) (W.contents (device_of writer.new)) bytes.now) }
     ensures err { OnErr result (WritesFront (W.contents (device_of writer.old)) (W.contents (device_of writer.new)) bytes.now) }
     ensures cause { OnErr result ((result ≡ Err ScriptError.Write) × (has_failed writer.new ≡ true)) }

@@ -28,6 +28,9 @@ pub enum ScriptError {
 /// A run ends after this many reads, as at the end of its input.
 const MAX_READS: u64 = 1 << 63;
 
+/// A read takes this many bytes at most.
+const CHUNK: usize = 8192;
+
 /// Answers each line of what the reader has left. Memory holds one line and one key at a time. The writer
 /// is flushed before each read, so that one who waits for an answer before the next line gets it.
 ///
@@ -71,7 +74,7 @@ pub fn run_script<A: Allocator + Copy, R: Read, W: Write>(
     ensures no_limit { result ≡ Err ScriptError.SlotLimit → ⊥ }
 {
     let mut line = Vec::new(alloc);
-    let mut chunk = [0u8; 8192];
+    let mut chunk = [0u8; CHUNK];
     for turn in 0..MAX_READS {
         // Whoever waits for the answers so far gets them before more input is asked for.
         let Ok(()) = writer.flush() else {

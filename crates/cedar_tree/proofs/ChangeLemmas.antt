@@ -98,7 +98,7 @@ without-replace (child m n below rest) l u =
       | false ↦ λ e. rw e (ap (child m n below) (without-replace rest l u))
     ]) refl
 
-settle-replace : (f : Forest) (l : ℕ) (u w : Tree) → settle (replace f l u) l w ≡ settle f l w
+pub settle-replace : (f : Forest) (l : ℕ) (u w : Tree) → settle (replace f l u) l w ≡ settle f l w
 settle-replace f l u w =
     elim (is_bare w) as (λ b. cond b (without (replace f l u) l) (replace (replace f l u) l w) ≡ cond b (without f l) (replace f l w)) [
       | true ↦ without-replace f l u

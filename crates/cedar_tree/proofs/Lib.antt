@@ -11,3 +11,4 @@ pub mod FrontLemmas
 pub mod PredictLemmas
 pub mod KeyLemmas
 pub mod ChangeLemmas
+pub mod EditLemmas

@@ -1,3 +1,4 @@
+pub mod Edits
 pub mod Tree
 pub mod Queries
 pub mod Laws

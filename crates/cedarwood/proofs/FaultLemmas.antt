@@ -5,8 +5,8 @@ use Rattle.std.specs.List.{position_or_len}
 use Rattle.std.proofs.lemmas.Result.{on_ok_weaker, on_err_weaker}
 use Rattle.cedar_tree.specs.Tree.{Tree, IsPath, IsKey, IsSound, AllNumbers, put}
 use Rattle.cedar_tree.proofs.TreeLemmas.{is_sound-put, all-put}
-use Rattle.cedarwood.specs.declared.error.CedarError.{CedarError}
-use Rattle.cedarwood.specs.declared.error.CedarError.TheVariants.{EmptyKey, NulByte}
+use Rattle.cedar_table.specs.declared.error.CedarError.{CedarError}
+use Rattle.cedar_table.specs.declared.error.CedarError.TheVariants.{EmptyKey, NulByte}
 use Rattle.cedarwood.specs.Fault.{key_fault, value_fault, fault, or_else, IsInRange}
 
 ok_or_err : {T : Type 0} (r : Result T CedarError) (x : T) (e : CedarError) → r ≡ Ok x → r ≡ Err e → ⊥

@@ -12,11 +12,10 @@
 //! ```
 #![tactic(auto)]
 
-mod error;
 mod trie;
 mod watched;
 
-pub use error::CedarError;
+pub use cedar_table::CedarError;
 pub use trie::Cedar;
 pub use watched::Watched;
 

@@ -1,3 +1,9 @@
+//! Why a call on a dictionary or its table is refused.
+
+ghost use Rattle.std.specs.Prelude.{◌≡◌};
+ghost use Rattle.cedar_table.specs.declared.error.CedarError.TheVariants.{Memory};
+
+use std::alloc::AllocError;
 use thiserror::Error;
 
 /// Why a call on a dictionary was refused. After a refusal the dictionary holds what it held.
@@ -41,4 +47,12 @@ pub enum CedarError {
     /// No slot is left, and the limit of slots allows no further block of them.
     #[error("cedar trie has no slot left")]
     SlotLimit,
+}
+
+impl From<AllocError> for CedarError {
+    ghost from_gives = { λ _ error. error ≡ Memory };
+
+    fn from(_: AllocError) -> CedarError {
+        CedarError::Memory
+    }
 }

@@ -1,0 +1,14 @@
+use Rattle.std.proofs.Common.{◌≡◌, ◌∙◌, ap, arith, of_z, sym, to_z, w32}
+use Rattle.std.proofs.lemmas.Int.{ints}
+use Rattle.std.proofs.lemmas.List.{get_or_read}
+use Rattle.cedar_table.specs.declared.records.NodeRecord.{NodeRecord}
+use Rattle.cedar_table.specs.Slots.{blank_node, check_at}
+use Rattle.cedar_table.specs.Views.{places_of}
+use Rattle.cedar_table.proofs.CellLemmas.{active_is}
+use Rattle.cedar_table.proofs.table.Table.check.Goals as goal
+
+pub returns-clause-cell : goal.returns-clause-cell
+returns-clause-cell g c inside =
+    let same : to_z w32 (of_z w32 c.index.result.now.check) ≡ c.index.result.now.check = omega (arith, ints) in
+    let read : c.index.result.now.check ≡ check_at c.args.self.now.places.slots.nodes.items c.args.slot = ap (λ (n : NodeRecord). n.check) (get_or_read c.args.self.now.places.slots.nodes.items c.args.slot c.index.result.now (omega (arith, c.requires)) c.index.ensures blank_node) in
+    same ∙ read ∙ sym (active_is g.L.Layout.kind (places_of c.args.self.now.places) c.args.slot inside)

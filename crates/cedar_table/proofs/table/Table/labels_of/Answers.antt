@@ -1,0 +1,52 @@
+use Rattle.std.proofs.Common.{◌≡◌, ◌≤◌, ◌<◌, ◌∙◌, ap, arith, rules, subst, sym, bit_xor, length, ℕ, ◌++◌}
+use Rattle.cedar_table.specs.Family.{base_of, below}
+use Rattle.cedar_table.specs.TableFields.{cells, fields, size_of}
+use Rattle.cedar_table.proofs.LabelsLemmas.{listed_all, listed_next, listed_none, owned_few, owned_split}
+use Rattle.cedar_table.proofs.RepointLemmas.{base_within}
+use Rattle.cedar_table.proofs.StepLemmas.{xor_within}
+use Rattle.cedar_table.proofs.table.Table.labels_of.Goals as goal
+
+pub loop-label-init : goal.loop-label-init
+loop-label-init g c =
+    let n = c.requires.node in
+    record { listed = listed_none _ _ _ _ n.labels (c.first_label-label.ensures n.head n.labels n.family); capacity = c.number_label-labels.ensures.capacity }
+
+pub push_reserved-requires : goal.push_reserved-requires
+push_reserved-requires g c =
+    let n = c.requires.node in
+    let next = listed_next _ _ _ _ _ _ c.loop-label-test.true c.loop-label.invariant.listed in
+    let few : length c.number_label-labels.result.items ≤ 1 = subst (λ v. length v ≤ 1) (sym (c.number_label-labels.ensures.label n.head n.labels n.family)) (owned_few n.head) in
+    (search rules, omega (arith, next.room few, c.loop-label.invariant.capacity))
+
+pub sibling-label-requires : goal.sibling-label-requires
+sibling-label-requires g c =
+    let T = cells c.args.self.now in
+    let n = c.requires.node in
+    let size : ℕ = size_of (fields c.args.self.now) in
+    let next = listed_next _ _ _ _ _ _ c.loop-label-test.true c.loop-label.invariant.listed in
+    let at : bit_xor c.base_of-base.result c.from.result ≡ below T c.args.node c.loop-label.label = ap (λ b. bit_xor b c.from.result) c.base_of-base.ensures ∙ ap (below T c.args.node) c.from.ensures in
+    let inside : below T c.args.node c.loop-label.label < size = xor_within size (base_of T c.args.node) c.loop-label.label (omega arith) (base_within _ _ _ n.head n.labels (omega (arith, c.args.self.now.shaped.blocks.some)) n.family) next.small in
+    let here : bit_xor c.base_of-base.result c.from.result < size = subst (λ x. x < size) (sym at) inside in
+    (search rules, omega (arith, here, c.args.self.now.shaped.blocks.active_in))
+
+pub loop-label-smaller : goal.loop-label-smaller
+loop-label-smaller g c =
+    let T = cells c.args.self.now in
+    let next = listed_next _ _ _ _ _ _ c.loop-label-test.true c.loop-label.invariant.listed in
+    let at : bit_xor c.base_of-base.result c.from.result ≡ below T c.args.node c.loop-label.label = ap (λ b. bit_xor b c.from.result) c.base_of-base.ensures ∙ ap (below T c.args.node) c.from.ensures in
+    next.less c.sibling-label.result (c.sibling-label.ensures ∙ ap T.sibling at)
+
+pub loop-label-preserved : goal.loop-label-preserved
+loop-label-preserved g c =
+    let T = cells c.args.self.now in
+    let next = listed_next _ _ _ _ _ _ c.loop-label-test.true c.loop-label.invariant.listed in
+    let at : bit_xor c.base_of-base.result c.from.result ≡ below T c.args.node c.loop-label.label = ap (λ b. bit_xor b c.from.result) c.base_of-base.ensures ∙ ap (below T c.args.node) c.from.ensures in
+    record {
+      listed = next.on c.sibling-label.result _ (c.sibling-label.ensures ∙ ap T.sibling at) c.push_reserved.ensures.items;
+      capacity = c.push_reserved.ensures.capacity ∙ c.loop-label.invariant.capacity;
+    }
+
+pub returns : goal.returns
+returns g c = λ h ls f.
+    listed_all _ _ _ _ _ _ (search rules) c.loop-label.invariant.listed ls (c.first_label-label.ensures h ls f)
+    ∙ ap (λ v. v ++ ls) (c.number_label-labels.ensures.label h ls f) ∙ owned_split h ls

@@ -1,0 +1,16 @@
+use Rattle.std.proofs.Common.{rules}
+use Rattle.cedar_table.specs.TableFields.{cells, fields}
+use Rattle.cedar_table.specs.Renaming.{Always}
+use Rattle.cedar_table.proofs.FrameLemmas.{frame_same}
+use Rattle.cedar_table.proofs.RepointLemmas.{repointed_nothing}
+use Rattle.cedar_table.proofs.table.Table.repoint_under.Goals as goal
+
+pub repoint-requires : goal.repoint-requires
+repoint-requires g c =
+    (search rules, (c.requires.sound, (c.requires.from_in, (c.requires.not_root, (c.requires.to_in, c.requires.node (λ e. c.if-label-ne0.true e))))))
+
+pub returns-else-label-ne0-clause-repointed : goal.returns-else-label-ne0-clause-repointed
+returns-else-label-ne0-clause-repointed g c = repointed_nothing (cells c.args.self.now) c.args.from c.args.to Always (c.requires.alone (search rules))
+
+pub returns-else-label-ne0-clause-frame : goal.returns-else-label-ne0-clause-frame
+returns-else-label-ne0-clause-frame g c = frame_same (fields c.args.self.now)

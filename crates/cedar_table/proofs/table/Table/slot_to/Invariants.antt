@@ -1,0 +1,16 @@
+use Rattle.std.proofs.Common.{ℕ, ◌+◌, ◌<◌, List, length}
+use Rattle.cedar_table.specs.Edit.{IsLink}
+use Rattle.cedar_table.specs.Family.{Among, Links}
+use Rattle.cedar_table.specs.TableFields.{cells, fields, size_of}
+use Rattle.cedar_table.proofs.table.Table.slot_to.Given as goal
+
+-- the label comes in the chain behind this slot
+abbrev pub invariant-loop-step : goal.invariant-loop-step
+invariant-loop-step g l = record {
+  inside : l.before < size_of (fields l.self);
+  link : IsLink (cells l.self) l.node l.before;
+  rest : List ℕ;
+  links : Links (cells l.self) l.node ((cells l.self).sibling l.before) rest;
+  has : Among rest l.label;
+  short : length rest + l._step < 256;
+}

@@ -1,0 +1,14 @@
+pub mod Blocks
+pub mod Cells
+pub mod Edit
+pub mod Family
+pub mod Layouts
+pub mod Meaning
+pub mod Places
+pub mod Reading
+pub mod Renaming
+pub mod Ring
+pub mod Slots
+pub mod TableFields
+pub mod Views
+pub mod WellFormed

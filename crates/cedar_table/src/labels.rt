@@ -1,0 +1,65 @@
+//! The labels of a node as a list.
+
+use crate::layout::Layout;
+use crate::table::{Labels, Table};
+use smallvec::SmallVec;
+use std::alloc::Allocator;
+
+impl<L: Layout, const SLOTS: usize, A: Allocator> Table<L, SLOTS, A> {
+    ghost use Rattle.std.specs.Prelude.{◌≡◌, ◌≢◌, ℕ, List, [], ◌<◌};
+    ghost use Rattle.cedar_table.specs.Family.{Family, Head, Links, owned};
+    ghost use Rattle.cedar_table.specs.Renaming.{IsNode};
+    ghost use Rattle.cedar_table.specs.TableFields.{cells, fields, size_of};
+
+    /// The first label of a node's chain, which begins after its number's slot, if it has one.
+    pub(crate) fn first_label(&self, node: usize) -> u8
+        requires node_in { node < size_of (fields self.now) }
+        requires not_root { node ≢ 0 }
+        requires node { IsNode (size_of (fields self.now)) (cells self.now) node }
+        ensures { (h : Head) (ls : List ℕ) → Family (size_of (fields self.now)) (cells self.now) node h ls → Links (cells self.now) node result ls }
+    {
+        let slot = self.base_of(node);
+        if self.is_owned_by(slot, node) {
+            return self.sibling(slot);
+        }
+        self.child(node)
+    }
+
+    /// The label 0 alone if the node has a slot for its number, and else no label.
+    fn number_label(&self, node: usize) -> Labels<A>
+    where
+        A: Copy,
+        requires node_in { node < size_of (fields self.now) }
+        requires not_root { node ≢ 0 }
+        requires node { IsNode (size_of (fields self.now)) (cells self.now) node }
+        ensures label { (h : Head) (ls : List ℕ) → Family (size_of (fields self.now)) (cells self.now) node h ls → result.items ≡ owned h [] }
+        ensures capacity { result.capacity ≡ 256 }
+    {
+        let mut labels = SmallVec::new(*self.places.reject.allocator());
+        if self.is_owned_by(self.base_of(node), node) {
+            labels.push_reserved(0);
+            return labels;
+        }
+        labels
+    }
+
+    /// The labels under which a node owns slots: 0 first, if it has a slot for its number, and then along its chain. It
+    /// takes no memory.
+    pub(crate) fn labels_of(&self, node: usize) -> Labels<A>
+    where
+        A: Copy,
+        requires node_in { node < size_of (fields self.now) }
+        requires not_root { node ≢ 0 }
+        requires node { IsNode (size_of (fields self.now)) (cells self.now) node }
+        ensures { (h : Head) (ls : List ℕ) → Family (size_of (fields self.now)) (cells self.now) node h ls → result.items ≡ owned h ls }
+    {
+        let mut labels = self.number_label(node);
+        let base = self.base_of(node);
+        let mut label = self.first_label(node);
+        while label != 0 {
+            labels.push_reserved(label);
+            label = self.sibling(base ^ usize::from(label));
+        }
+        labels
+    }
+}

@@ -1,0 +1,35 @@
+//! Laws of what a table stands for.
+
+ghost use Rattle.std.specs.Prelude.{◌≡◌, ℕ, List, count_by, length, None, if◌then◌else◌};
+ghost use Rattle.std.specs.List.{range_with_len};
+ghost use Rattle.cedar_tree.specs.Tree.{Forest};
+ghost use Rattle.cedar_tree.specs.Queries.{used};
+ghost use Rattle.cedar_table.specs.Cells.{Cells, is_held};
+ghost use Rattle.cedar_table.specs.Layouts.{default_layout};
+ghost use Rattle.cedar_table.specs.Meaning.{HoldsTree, Leads, slot_at};
+ghost use Rattle.cedar_table.specs.Ring.{occurs};
+ghost use Rattle.cedar_table.specs.TableFields.{Fields, size_of};
+ghost use Rattle.cedar_table.specs.WellFormed.{cells_in, IsWellFormed, slots_named, tree_of};
+
+/// Slots stand for one tree at most, and a table's for the one that is read from it.
+pub fn one_tree()
+    ensures only { (size : ℕ) (slots : Cells) (f : Forest) (g : Forest) → HoldsTree size slots f → HoldsTree size slots g → f ≡ g }
+    ensures read { (table : Fields) (f : Forest) → HoldsTree (size_of table) (cells_in table) f → tree_of table ≡ record { number = None; children = f } }
+{}
+
+/// No two paths from the root lead to one slot, be it a node's or a number's.
+pub fn one_path()
+    ensures { (limit : ℕ) (table : Fields) (p : List ℕ) (q : List ℕ) → IsWellFormed limit table → Leads (cells_in table) p → Leads (cells_in table) q → slot_at (cells_in table) p ≡ slot_at (cells_in table) q → p ≡ q }
+{}
+
+/// The tree names each held slot once, and no other.
+pub fn held_slots_are_named()
+    ensures { (limit : ℕ) (table : Fields) (s : ℕ) → IsWellFormed limit table → occurs s (slots_named (cells_in table) (tree_of table)) ≡ (if is_held (cells_in table) s then 1 else 0) }
+{}
+
+/// So as many slots are held as the tree names: where each number stands in a slot of its own, one for the root, one
+/// for each prefix of a key and one for each entry.
+pub fn held_slots_are_counted()
+    ensures named { (limit : ℕ) (table : Fields) → IsWellFormed limit table → count_by (is_held (cells_in table)) (range_with_len 0 (size_of table)) ≡ length (slots_named (cells_in table) (tree_of table)) }
+    ensures by_default { (limit : ℕ) (table : Fields) → IsWellFormed limit table → table.layout ≡ default_layout → count_by (is_held (cells_in table)) (range_with_len 0 (size_of table)) ≡ used (tree_of table) }
+{}

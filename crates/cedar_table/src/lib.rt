@@ -1,0 +1,26 @@
+//! The slot table of a double-array trie: its slots, the rings in which the free ones stand, the blocks of slots and
+//! their lists.
+#![tactic(auto)]
+
+mod blocks;
+mod error;
+mod labels;
+mod laws;
+mod layout;
+mod leaf;
+mod number;
+mod places;
+mod records;
+mod relocation;
+mod resolve;
+mod search;
+mod slots;
+mod table;
+mod ticks;
+
+pub use error::CedarError;
+pub use laws::{held_slots_are_counted, held_slots_are_named, one_path, one_tree};
+pub use layout::{DefaultLayout, Layout, Stored};
+pub use records::{BlockRecord, NInfoRecord, NodeRecord};
+pub use table::{BLOCK_SIZE, Table};
+pub use ticks::Ticks;

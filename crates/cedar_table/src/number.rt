@@ -1,0 +1,71 @@
+//! A node's number set, and taken away.
+
+use crate::layout::Layout;
+use crate::records::NodeRecord;
+use crate::table::Table;
+use std::alloc::Allocator;
+
+impl<L: Layout, const SLOTS: usize, A: Allocator> Table<L, SLOTS, A> {
+    ghost use Rattle.std.specs.Prelude.{◌≡◌, ◌⊎◌, ℕ, List, ◌<◌, None, pos, Some};
+    ghost use Rattle.cedar_tree.specs.Tree.{Forest};
+    ghost use Rattle.cedar_tree.specs.Edits.{edit_at};
+    ghost use Rattle.cedar_table.specs.Cells.{Held};
+    ghost use Rattle.cedar_table.specs.Edit.{DropsNumber, IsAt, IsNodeOf, SetsNumber};
+    ghost use Rattle.cedar_table.specs.Family.{below, InRange};
+    ghost use Rattle.cedar_table.specs.Meaning.{HoldsTree};
+    ghost use Rattle.cedar_table.specs.Places.{IsTable};
+    ghost use Rattle.cedar_table.specs.TableFields.{capacity_of, cells, fields, SameSettings, size_of};
+
+    /// Sets the number of a node that has a base: over the one in its slot, or else in its slot for one, which is free.
+    pub fn set_number(&mut self, node: usize, value: i32)
+        requires sound { IsTable SLOTS (fields self.old).places }
+        requires node_in { node < size_of (fields self.old) }
+        requires not_root { 0 < node }
+        requires node { (f : Forest) × IsNodeOf (size_of (fields self.old)) (cells self.old) (fields self.old).ordered f node }
+        requires based { InRange (size_of (fields self.old)) ((cells self.old).stored node) }
+        requires place { ((cells self.old).check (below (cells self.old) node 0) ≡ pos node) ⊎ (Held (cells self.old) (below (cells self.old) node 0) → ⊥) }
+        ensures sound { IsTable SLOTS (fields self.new).places }
+        ensures set { SetsNumber (size_of (fields self.old)) (cells self.old) (cells self.new) node value }
+        ensures tree { (f : Forest) (w : List ℕ) → HoldsTree (size_of (fields self.old)) (cells self.old) f → IsAt (cells self.old) w node
+            → HoldsTree (size_of (fields self.new)) (cells self.new) (edit_at w (λ _. Some value) (λ u. u) f) }
+        ensures size { size_of (fields self.new) ≡ size_of (fields self.old) }
+        ensures capacity { capacity_of (fields self.new) ≡ capacity_of (fields self.old) }
+        ensures settings { SameSettings (fields self.old) (fields self.new) }
+    {
+        let slot = self.child_slot(node, 0);
+        if self.is_owned_by(slot, node) {
+            let record = NodeRecord {
+                base: value,
+                check: node as i32,
+            };
+            self.write_node(slot, record);
+            return;
+        }
+        self.pop_e_node(slot, value, node);
+        let first = self.child(node);
+        self.set_sibling(slot, first);
+        self.set_child(node, 0);
+    }
+
+    /// Drops the number of a node that has a slot for it, and gives the slot back.
+    pub fn drop_number(&mut self, node: usize)
+        requires sound { IsTable SLOTS (fields self.old).places }
+        requires node_in { node < size_of (fields self.old) }
+        requires not_root { 0 < node }
+        requires node { (f : Forest) × IsNodeOf (size_of (fields self.old)) (cells self.old) (fields self.old).ordered f node }
+        requires based { InRange (size_of (fields self.old)) ((cells self.old).stored node) }
+        requires owned { (cells self.old).check (below (cells self.old) node 0) ≡ pos node }
+        ensures sound { IsTable SLOTS (fields self.new).places }
+        ensures dropped { DropsNumber (size_of (fields self.old)) (cells self.old) (cells self.new) node }
+        ensures tree { (f : Forest) (w : List ℕ) → HoldsTree (size_of (fields self.old)) (cells self.old) f → IsAt (cells self.old) w node
+            → HoldsTree (size_of (fields self.new)) (cells self.new) (edit_at w (λ _. None) (λ u. u) f) }
+        ensures size { size_of (fields self.new) ≡ size_of (fields self.old) }
+        ensures capacity { capacity_of (fields self.new) ≡ capacity_of (fields self.old) }
+        ensures settings { SameSettings (fields self.old) (fields self.new) }
+    {
+        let slot = self.child_slot(node, 0);
+        let first = self.sibling(slot);
+        self.set_child(node, first);
+        self.push_e_node(slot);
+    }
+}

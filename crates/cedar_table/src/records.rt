@@ -1,0 +1,61 @@
+//! The records of slots and blocks, as a file has them too.
+
+/// A slot's numbers. Of a free slot `check` names the next one of its ring, and `base` the one before.
+#[derive(Clone, Copy, Debug, PartialEq, Eq)]
+pub struct NodeRecord {
+    pub base: i32,
+    pub check: i32,
+}
+
+/// The next label of a slot's chain, and the first label below it.
+#[derive(Clone, Copy, Debug, PartialEq, Eq)]
+pub struct NInfoRecord {
+    pub sibling: u8,
+    pub child: u8,
+}
+
+impl NodeRecord {
+    /// A slot that is not in use.
+    pub const BLANK: NodeRecord = NodeRecord { base: 0, check: 0 };
+}
+
+impl NInfoRecord {
+    /// The labels of a slot that is free or not in use.
+    pub const BLANK: NInfoRecord = NInfoRecord {
+        sibling: 0,
+        child: 0,
+    };
+}
+
+/// A block of 256 slots, with its neighbours in the list in which it stands.
+#[derive(Clone, Copy, Debug, PartialEq, Eq)]
+pub struct BlockRecord {
+    pub prev: i32,
+    pub next: i32,
+    pub num: i16,
+    pub reject: i16,
+    pub trial: i32,
+    pub e_head: i32,
+}
+
+impl BlockRecord {
+    /// Block 0 with the root alone in use: it stands in no list but the ring of the full one.
+    pub const ROOT: BlockRecord = BlockRecord {
+        prev: 0,
+        next: 0,
+        num: 256,
+        reject: 257,
+        trial: 0,
+        e_head: 1,
+    };
+
+    /// A block that is not in use.
+    pub const BLANK: BlockRecord = BlockRecord {
+        prev: 0,
+        next: 0,
+        num: 256,
+        reject: 257,
+        trial: 0,
+        e_head: 0,
+    };
+}

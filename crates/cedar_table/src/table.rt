@@ -1,0 +1,328 @@
+//! The table: slots in blocks, free or held, with the settings that it was made with.
+
+ghost use Rattle.std.specs.Prelude.{◌≡◌, ◌≤ℤ◌, ◌*◌, ◌≤◌, length, pos};
+ghost use Rattle.cedar_table.specs.Places.{IsSlotLimit, IsTable, Shaped};
+ghost use Rattle.cedar_table.specs.Views.{places_of};
+
+use crate::error::CedarError;
+use crate::layout::{Layout, Stored};
+use crate::places::Places;
+use crate::records::{BlockRecord, NInfoRecord, NodeRecord};
+use crate::ticks::Ticks;
+use smallvec::SmallVec;
+use std::alloc::Allocator;
+use std::marker::PhantomData;
+use std::sync::ledger::Ledger;
+
+/// The slots of a block.
+pub const BLOCK_SIZE: usize = 256;
+
+/// The labels of one node, and 0 for its number. As many as there can be are kept inline, so that a set of labels takes
+/// no memory.
+pub type Labels<A> = SmallVec<u8, 256, A>;
+
+/// A double-array trie's table. It has up to `SLOTS` slots, in blocks of 256: the root, the slots that others
+/// own, and free ones.
+#[derive(Drop)]
+pub struct Table<L: Layout, const SLOTS: usize, A: Allocator> {
+    pub(crate) layout: PhantomData<L>,
+    pub(crate) ordered: bool,
+    pub(crate) entries: usize,
+    pub(crate) places: Places<A>,
+    // Only what has at most one proof can be a ghost field, so the rings and lists, `IsTable`, are in the calls' clauses.
+    ghost shaped: { Shaped (places_of places) },
+    ghost rejects: { length places.reject.items ≡ 257 },
+}
+
+impl<L: Layout, const SLOTS: usize, A: Allocator> Table<L, SLOTS, A> {
+    ghost use Rattle.std.specs.Prelude.{ℕ, ◌<◌, ◌^◌, ◌⊎◌, ◌+◌, ◌-◌, ◌/◌, ◌↔◌, count_by, IfErr, IfOk, IsTrue, negsuc, OnErr};
+    ghost use Rattle.std.specs.List.{range_with_len};
+    ghost use Rattle.cedar_table.specs.declared.error.CedarError.TheVariants.{Memory};
+    ghost use Rattle.cedar_table.specs.Blocks.{block_at, head_of};
+    ghost use Rattle.cedar_table.specs.Cells.{Gives, HasPlaces, Held, InfoWritten, is_held, IsPlace, NodeWritten, NoPlace, SameHeld, Takes};
+    ghost use Rattle.cedar_table.specs.Layouts.{reading};
+    ghost use Rattle.cedar_table.specs.Places.{AddsBlock, IsNew, MayRefuse, reject_at, SameSlots};
+    ghost use Rattle.cedar_table.specs.Slots.{check_at, node_at};
+    ghost use Rattle.cedar_table.specs.TableFields.{capacity_of, cells, fields, SameSettings, size_of};
+    ghost use Rattle.cedar_table.specs.WellFormed.{IsWellFormed, tree_of};
+    ghost use Rattle.cedar_tree.specs.Tree.{empty_tree};
+
+    /// A table with one block, in which the root alone is held. It stands for the empty tree.
+    pub fn new(alloc: A, ordered: bool, max_trial: i32) -> Result<Self, CedarError>
+    where
+        A: Copy,
+        requires tried { pos 1 ≤ℤ max_trial }
+        requires limit { IsSlotLimit SLOTS }
+        ensures well_formed { IfOk result (λ table. IsWellFormed SLOTS (fields table)) }
+        ensures tree { IfOk result (λ table. tree_of (fields table) ≡ empty_tree) }
+        ensures sound { IfOk result (λ table. IsTable SLOTS (fields table).places) }
+        ensures made { IfOk result (λ table. IsNew (fields table).places max_trial) }
+        ensures root_check { IfOk result (λ table. (cells table).check 0 ≡ negsuc 0) }
+        ensures root_base { IfOk result (λ table. (cells table).stored 0 ≡ Stored.AtBase 0) }
+        ensures ordered { IfOk result (λ table. (fields table).ordered ≡ ordered) }
+        ensures entries { IfOk result (λ table. (fields table).entries ≡ 0) }
+        ensures bare { IfOk result (λ table. (s : ℕ) → Held (cells table) s → s ≡ 0) }
+        ensures refused { IfErr result (λ error. error ≡ Memory) }
+    {
+        let root = NodeRecord {
+            base: L::base_field(0),
+            check: -1,
+        };
+        Ok(Table {
+            layout: PhantomData,
+            ordered,
+            entries: 0,
+            places: Places::new(alloc, root, max_trial)?,
+        })
+    }
+
+    /// Takes the free slot `slot` for `owner`, with `base` in its base field.
+    pub fn pop_e_node(&mut self, slot: usize, base: i32, owner: usize)
+        requires sound { IsTable SLOTS (fields self.old).places }
+        requires slot_in { slot < size_of (fields self.old) }
+        requires slot_free { Held (cells self.old) slot → ⊥ }
+        requires owner_in { owner < 2 ^ 31 }
+        ensures sound { IsTable SLOTS (fields self.new).places }
+        ensures takes { Takes (cells self.old) (cells self.new) slot owner }
+        ensures base { (cells self.new).base slot ≡ base }
+        ensures stored { (cells self.new).stored slot ≡ reading L.kind base }
+        ensures size { size_of (fields self.new) ≡ size_of (fields self.old) }
+        ensures capacity { capacity_of (fields self.new) ≡ capacity_of (fields self.old) }
+        ensures settings { SameSettings (fields self.old) (fields self.new) }
+    {
+        let node = NodeRecord {
+            base,
+            check: owner as i32,
+        };
+        self.places.pop_e_node(slot, node);
+    }
+
+    /// Gives the held slot `slot`, which isn't the root, back to the free ones of its block.
+    pub fn push_e_node(&mut self, slot: usize)
+        requires sound { IsTable SLOTS (fields self.old).places }
+        requires slot_in { slot < size_of (fields self.old) }
+        requires slot_held { Held (cells self.old) slot }
+        requires not_root { 0 < slot }
+        ensures sound { IsTable SLOTS (fields self.new).places }
+        ensures gives { Gives (cells self.old) (cells self.new) slot }
+        ensures size { size_of (fields self.new) ≡ size_of (fields self.old) }
+        ensures capacity { capacity_of (fields self.new) ≡ capacity_of (fields self.old) }
+        ensures settings { SameSettings (fields self.old) (fields self.new) }
+    {
+        self.places.push_e_node(slot);
+    }
+
+    /// Stores `node` in a held slot. The check of a slot other than the root's has to name an owner.
+    pub fn write_node(&mut self, slot: usize, node: NodeRecord)
+        requires sound { IsTable SLOTS (fields self.old).places }
+        requires slot_in { slot < size_of (fields self.old) }
+        requires slot_held { Held (cells self.old) slot }
+        requires owner { (slot ≡ 0) ⊎ (pos 0 ≤ℤ node.check) }
+        ensures sound { IsTable SLOTS (fields self.new).places }
+        ensures written { NodeWritten (reading L.kind) (cells self.old) (cells self.new) slot node.base node.check }
+        ensures size { size_of (fields self.new) ≡ size_of (fields self.old) }
+        ensures capacity { capacity_of (fields self.new) ≡ capacity_of (fields self.old) }
+        ensures settings { SameSettings (fields self.old) (fields self.new) }
+    {
+        self.places.write_node(slot, node);
+    }
+
+    /// Stores `info` in a held slot.
+    pub fn write_info(&mut self, slot: usize, info: NInfoRecord)
+        requires sound { IsTable SLOTS (fields self.old).places }
+        requires slot_in { slot < size_of (fields self.old) }
+        requires slot_held { Held (cells self.old) slot }
+        ensures sound { IsTable SLOTS (fields self.new).places }
+        ensures written { InfoWritten (cells self.old) (cells self.new) slot info.sibling info.child }
+        ensures size { size_of (fields self.new) ≡ size_of (fields self.old) }
+        ensures capacity { capacity_of (fields self.new) ≡ capacity_of (fields self.old) }
+        ensures settings { SameSettings (fields self.old) (fields self.new) }
+    {
+        self.places.write_info(slot, info);
+    }
+
+    /// Puts one more block into use, and answers its number. The table doubles if all of its blocks are in use.
+    pub fn add_block(&mut self) -> Result<usize, CedarError>
+        requires { IsTable SLOTS (fields self.old).places }
+        ensures sound { IsTable SLOTS (fields self.new).places }
+        ensures added { IfOk result (λ block. AddsBlock (fields self.old).places (fields self.new).places block) }
+        ensures refused { IfErr result (λ error. MayRefuse (fields self.old).places SLOTS error) }
+        ensures held { SameHeld (cells self.old) (cells self.new) }
+        ensures settings { SameSettings (fields self.old) (fields self.new) }
+        ensures unchanged { OnErr result (fields self.new ≡ fields self.old) }
+    {
+        self.places.add_block(SLOTS)
+    }
+
+    /// A free slot outside block 0. A block is made only where there is none.
+    pub fn find_place(&mut self) -> Result<usize, CedarError>
+        requires { IsTable SLOTS (fields self.old).places }
+        ensures sound { IsTable SLOTS (fields self.new).places }
+        ensures found { IfOk result (IsPlace (size_of (fields self.new)) (cells self.new)) }
+        ensures made { IfOk result (λ slot. (fields self.new ≡ fields self.old) ⊎ (NoPlace (size_of (fields self.old)) (cells self.old) × AddsBlock (fields self.old).places (fields self.new).places (slot / 256))) }
+        ensures refused { IfErr result (λ error. NoPlace (size_of (fields self.old)) (cells self.old) × MayRefuse (fields self.old).places SLOTS error) }
+        ensures held { SameHeld (cells self.old) (cells self.new) }
+        ensures settings { SameSettings (fields self.old) (fields self.new) }
+        ensures unchanged { OnErr result (fields self.new ≡ fields self.old) }
+    {
+        self.places.find_place(SLOTS)
+    }
+
+    /// A base outside block 0 from which each label's slot is free: in an open block, as far as rejections and trials
+    /// allow a search, else in a new block. What a search learns of blocks is kept, also where it is refused.
+    pub fn find_places(&mut self, labels: &[u8]) -> Result<usize, CedarError>
+        requires sound { IsTable SLOTS (fields self.old).places }
+        requires some { 0 < length labels.now }
+        requires few { length labels.now ≤ 256 }
+        ensures sound { IsTable SLOTS (fields self.new).places }
+        ensures found { IfOk result (λ base. HasPlaces (size_of (fields self.new)) (cells self.new) base labels.now) }
+        ensures made { IfOk result (λ base. SameSlots (fields self.old).places (fields self.new).places ⊎ AddsBlock (fields self.old).places (fields self.new).places (base / 256)) }
+        ensures refused { IfErr result (λ error. MayRefuse (fields self.old).places SLOTS error) }
+        ensures held { SameHeld (cells self.old) (cells self.new) }
+        ensures settings { SameSettings (fields self.old) (fields self.new) }
+        ensures same { OnErr result (SameSlots (fields self.old).places (fields self.new).places) }
+    {
+        self.places.find_places(labels, SLOTS)
+    }
+
+    /// How many slots are in use, free ones among them.
+    pub fn size(&self) -> usize
+        ensures { result ≡ size_of (fields self.now) }
+    {
+        BLOCK_SIZE * self.places.blocks.active
+    }
+
+    /// How many slots there are, in use or not.
+    pub fn capacity(&self) -> usize
+        ensures { result ≡ capacity_of (fields self.now) }
+    {
+        BLOCK_SIZE * self.places.blocks.records.len()
+    }
+
+    /// How many blocks can be put into use before the table has to grow.
+    pub fn spare_blocks(&self) -> usize
+        ensures { result ≡ (capacity_of (fields self.now) - size_of (fields self.now)) / 256 }
+    {
+        self.places.blocks.records.len() - self.places.blocks.active
+    }
+
+    /// How many slots are held, the root among them: what the blocks count as free is taken from all slots in use.
+    pub fn used_node_slots(&self) -> usize
+        requires { IsTable SLOTS (fields self.now).places }
+        ensures count { result ≡ count_by (is_held (cells self.now)) (range_with_len 0 (size_of (fields self.now))) }
+        ensures test { (s : ℕ) → IsTrue (is_held (cells self.now) s) ↔ Held (cells self.now) s }
+    {
+        self.places.used_slots()
+    }
+
+    /// How many keys the table is said to have.
+    pub fn entries(&self) -> usize
+        ensures { result ≡ (fields self.now).entries }
+    {
+        self.entries
+    }
+
+    /// Whether the labels of each node ascend.
+    pub fn ordered(&self) -> bool
+        ensures { result ≡ (fields self.now).ordered }
+    {
+        self.ordered
+    }
+
+    /// How many failed searches close a block.
+    pub fn max_trial(&self) -> i32
+        ensures { result ≡ (fields self.now).places.blocks.max_trial }
+    {
+        self.places.blocks.max_trial
+    }
+
+    /// The first full block, or 0.
+    pub fn full_head(&self) -> i32
+        ensures { result ≡ (fields self.now).places.blocks.full_head }
+    {
+        self.places.blocks.full_head
+    }
+
+    /// The first closed block, or 0.
+    pub fn closed_head(&self) -> i32
+        ensures { result ≡ (fields self.now).places.blocks.closed_head }
+    {
+        self.places.blocks.closed_head
+    }
+
+    /// The first open block, or 0.
+    pub fn open_head(&self) -> i32
+        ensures { result ≡ (fields self.now).places.blocks.open_head }
+    {
+        self.places.blocks.open_head
+    }
+
+    /// The record of a block, in use or not.
+    pub fn block(&self, block: usize) -> BlockRecord
+        requires { 256 * block < capacity_of (fields self.now) }
+        ensures { result ≡ block_at (fields self.now).places.blocks.records block }
+    {
+        self.places.blocks.records[block]
+    }
+
+    /// How many labels at least find no place in a block with `free` free slots.
+    pub fn reject(&self, free: usize) -> i16
+        requires { free ≤ 256 }
+        ensures { result ≡ reject_at (fields self.now).places.reject free }
+    {
+        self.places.reject[free]
+    }
+
+    /// The base field of a slot, in use or not.
+    pub fn base(&self, slot: usize) -> i32
+        requires { slot < capacity_of (fields self.now) }
+        ensures { result ≡ (cells self.now).base slot }
+    {
+        self.places.slots.nodes[slot].base
+    }
+
+    /// What the base field of a node says.
+    pub fn stored(&self, node: usize) -> Stored
+        requires { node < capacity_of (fields self.now) }
+        ensures { result ≡ (cells self.now).stored node }
+    {
+        L::read_base(self.base(node))
+    }
+
+    /// The check field of a slot, in use or not. The read is counted.
+    pub fn check<C: Ledger>(&self, slot: usize, ticks: &mut Ticks<C>) -> i32
+        requires { slot < capacity_of (fields self.now) }
+        ensures field { result ≡ check_at (fields self.now).places.slots.nodes slot }
+        ensures cell { slot < size_of (fields self.now) → result ≡ (cells self.now).check slot }
+        ensures counted { ticks.new ≡ ticks.old + 1 }
+    {
+        ticks.tick();
+        self.places.slots.nodes[slot].check
+    }
+
+    /// Whether a slot in use is held: it is the root, or its check field names an owner. The read is counted.
+    pub fn is_held<C: Ledger>(&self, slot: usize, ticks: &mut Ticks<C>) -> bool
+        requires { slot < size_of (fields self.now) }
+        ensures held { IsTrue result ↔ Held (cells self.now) slot }
+        ensures counted { ticks.new ≡ ticks.old + 1 }
+    {
+        let check = self.check(slot, ticks);
+        slot == 0 || check >= 0
+    }
+
+    /// The label after a slot's in its chain, or 0.
+    pub fn sibling(&self, slot: usize) -> u8
+        requires { slot < capacity_of (fields self.now) }
+        ensures { result ≡ (cells self.now).sibling slot }
+    {
+        self.places.slots.infos[slot].sibling
+    }
+
+    /// The label that begins a node's chain, or 0.
+    pub fn child(&self, slot: usize) -> u8
+        requires { slot < capacity_of (fields self.now) }
+        ensures { result ≡ (cells self.now).child slot }
+    {
+        self.places.slots.infos[slot].child
+    }
+}

@@ -1,0 +1,6 @@
+use Rattle.cedar_table.specs.Places.{IsTable}
+use Rattle.cedar_table.specs.TableFields.{fields}
+use Rattle.table_tests.proofs.figures.fill_first.Given as goal
+
+abbrev pub invariant-loop-slot : goal.invariant-loop-slot
+invariant-loop-slot g l = IsTable 256 (fields l.table).places

@@ -1,0 +1,6 @@
+use Rattle.cedar_table.specs.Places.{IsTable}
+use Rattle.cedar_table.specs.TableFields.{fields}
+use Rattle.table_tests.proofs.run.beside_a_set.Given as goal
+
+abbrev pub invariant-loop-turns : goal.invariant-loop-turns
+invariant-loop-turns g l = IsTable 4096 (fields l.table).places

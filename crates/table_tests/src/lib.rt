@@ -1,0 +1,13 @@
+//! Tests of the slot table.
+#![tactic(auto, using(crate::proofs::Limits::limit_256, crate::proofs::Limits::limit_512, crate::proofs::Limits::limit_1024, crate::proofs::Limits::limit_4096))]
+
+#[cfg(test)]
+mod figures;
+#[cfg(test)]
+mod lookup;
+#[cfg(test)]
+mod refused;
+#[cfg(test)]
+mod run;
+#[cfg(test)]
+mod steps;
