@@ -1,4 +1,4 @@
-//! Worked rows: what the definitions of the labelled tree say, at values made by hand.
+//! What the definitions of the labelled tree say, at values made by hand.
 #![tactic(auto)]
 
 #[cfg(test)]
