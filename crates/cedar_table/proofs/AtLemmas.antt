@@ -1,10 +1,9 @@
 -- A label removed, a number set and one dropped, at the node at the end of a path.
-use Rattle.std.proofs.Common.{◌≡◌, ℕ, List, [], ◌∷◌, sym, ◌∙◌, ap, refl, subst, Some, None}
+use Rattle.std.proofs.Common.{◌≡◌, ℕ, List, [], ◌∷◌, sym, ◌∙◌, ap, subst, Some, None}
 use Rattle.std.specs.Prelude.{ℤ, pos}
 use Rattle.cedar_tree.specs.Tree.{Forest, without}
 use Rattle.cedar_tree.specs.Edits.{edit_at}
 use Rattle.cedar_table.specs.Cells.{Cells, Held}
-use Rattle.cedar_table.specs.Family.{below}
 use Rattle.cedar_table.specs.Meaning.{HoldsTree, OnPath, slot_at}
 use Rattle.cedar_table.specs.Edit.{DropsNumber, follow_on, IsAt, Removes, SetsNumber, Touches}
 use Rattle.cedar_table.proofs.EditAtLemmas.{longer_path}

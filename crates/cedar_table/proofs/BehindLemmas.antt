@@ -1,13 +1,13 @@
 -- Taking a slot and linking it behind a smaller label is adding a label at its ascending place.
-use Rattle.std.proofs.Common.{◌≡◌, ℕ, ◌<◌, ◌≤◌, List, [], ◌∷◌, sym, ◌∙◌, ap, refl, subst, inl, inr, arith, Bool, true}
+use Rattle.std.proofs.Common.{◌≡◌, ℕ, ◌<◌, ◌≤◌, sym, ◌∙◌, ap, refl, subst, inl, inr, arith, true}
 use Rattle.std.specs.Prelude.{pos}
 use Rattle.std.proofs.lemmas.Bool.{cases_eq, cases_lt}
 use Rattle.cedar_table.specs.declared.layout.Stored.TheVariants.{AtBase}
 use Rattle.cedar_table.specs.Cells.{Cells, Held, Takes}
 use Rattle.cedar_table.specs.Family.{Among, base_of, below, Links}
-use Rattle.cedar_table.specs.Edit.{AddsBehind, Ascends, CanAdd, HasChain, IsLabelOf, IsPlaceFor, LinkedBehind, Touches}
+use Rattle.cedar_table.specs.Edit.{AddsBehind, CanAdd, HasChain, IsLabelOf, IsPlaceFor, LinkedBehind, Touches}
 use Rattle.cedar_table.proofs.ChainLemmas.{chain_start, first_links, greater_next, lead_links, least}
-use Rattle.cedar_table.proofs.LinkLemmas.{a_not_x, leaf_alone, not_x, place, same, touches}
+use Rattle.cedar_table.proofs.LinkLemmas.{leaf_alone, not_x, place, same, touches}
 use Rattle.cedar_table.proofs.NodeLemmas.{owned_label}
 use Rattle.cedar_table.proofs.StepLemmas.{xor_injective}
 

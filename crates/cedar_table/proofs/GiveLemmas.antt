@@ -1,9 +1,9 @@
 -- A slot given back touches its owner alone.
 use Rattle.std.proofs.Common.{◌≡◌, ℕ, sym, ◌∙◌, ap, refl, subst, inl, inr}
-use Rattle.std.specs.Prelude.{ℤ, pos}
+use Rattle.std.specs.Prelude.{pos}
 use Rattle.cedar_tree.specs.Tree.{Forest}
 use Rattle.cedar_table.specs.Cells.{Cells, Gives, Held}
-use Rattle.cedar_table.specs.Family.{base_of, below, InRange}
+use Rattle.cedar_table.specs.Family.{below, InRange}
 use Rattle.cedar_table.specs.Meaning.{HoldsTree}
 use Rattle.cedar_table.specs.Edit.{DropsNumber, SetsChild, Touches}
 use Rattle.cedar_table.proofs.EditLemmas.{not_number}

@@ -1,8 +1,7 @@
 -- A free slot taken for a label and linked at its place.
-use Rattle.std.proofs.Common.{◌≡◌, ℕ, ◌<◌, ◌≤◌, sym, ◌∙◌, ap, refl, subst, inl, inr, arith, Bool, true, Option, Some, None, cond}
+use Rattle.std.proofs.Common.{◌≡◌, ℕ, ◌<◌, sym, ◌∙◌, ap, refl, subst, inl, inr, arith, Bool, Option, Some, None, cond}
 use Rattle.std.specs.Prelude.{◌%◌, bit_xor, MatchOption, pos}
 use lib.Bits.{xor_zero_r}
-use Rattle.std.specs.Int.Bits.{xor_zero_l}
 use Rattle.std.proofs.lemmas.Bool.{cases_eq}
 use Rattle.cedar_tree.specs.Tree.{Forest}
 use Rattle.cedar_table.specs.declared.layout.Stored.TheVariants.{AtBase}
@@ -117,3 +116,11 @@ slot_stays size T T₁ T₂ a l s e k t before w =
     by_link : (before : Option ℕ) → MatchOption before (LinkedChild T₁ T₂ a s l) (λ b. LinkedBehind T₁ T₂ b s l) → T₂.stored a ≡ T₁.stored a
     by_link None w = w.stored a
     by_link (Some b) w = w.stored a
+
+-- the root's slot is never the one that is taken
+pub root_check_stays : (T T₁ T₂ : Cells) (a l s : ℕ) → s ≡ below T a l → (Held T (below T a l) → ⊥) → Takes T T₁ s a → (before : Option ℕ) → MatchOption before (LinkedChild T₁ T₂ a s l) (λ b. LinkedBehind T₁ T₂ b s l) → T₂.check 0 ≡ T.check 0
+root_check_stays T T₁ T₂ a l s e free t before w = by_link before w ∙ (t.other 0 (λ z. free (inl (sym (z ∙ e)))) (inl refl)).check
+  where
+    by_link : (before : Option ℕ) → MatchOption before (LinkedChild T₁ T₂ a s l) (λ b. LinkedBehind T₁ T₂ b s l) → T₂.check 0 ≡ T₁.check 0
+    by_link None w = w.check 0
+    by_link (Some b) w = w.check 0

@@ -22,28 +22,28 @@ distinct_take (x ∷ xs) zero d h a = absurd a
 distinct_take (x ∷ xs) (suc i) d h (inl e) = d.0 (subst (Among xs) (sym e) (among_get xs i 0 (omega arith)))
 distinct_take (x ∷ xs) (suc i) d h (inr a) = distinct_take xs i d.1 (omega arith) a
 
-owned_small : (T : Cells) (s : ℕ) (h : Head) (ls : List ℕ) → Begins T s h ls → (l : ℕ) → Among (owned h ls) l → l < 256
+pub owned_small : (T : Cells) (s : ℕ) (h : Head) (ls : List ℕ) → Begins T s h ls → (l : ℕ) → Among (owned h ls) l → l < 256
 owned_small T s plain ls b l a = links_small T s _ ls b l a
 owned_small T s (valued v) ls b l (inl e) = omega arith
 owned_small T s (valued v) ls b l (inr a) = links_small T s _ ls b.4 l a
 owned_small T s (own v) ls b l a = absurd (subst (λ x. Among x l) b.1 a)
 owned_small T s top ls b l a = links_small T s _ ls b.2 l a
 
-owned_own : (T : Cells) (s : ℕ) (h : Head) (ls : List ℕ) → Begins T s h ls → (l : ℕ) → Among (owned h ls) l → T.check (below T s l) ≡ pos s
+pub owned_own : (T : Cells) (s : ℕ) (h : Head) (ls : List ℕ) → Begins T s h ls → (l : ℕ) → Among (owned h ls) l → T.check (below T s l) ≡ pos s
 owned_own T s plain ls b l a = labels_own T s plain ls b l a
 owned_own T s (valued v) ls b l (inl e) = subst (λ x. T.check (below T s x) ≡ pos s) e b.1
 owned_own T s (valued v) ls b l (inr a) = labels_own T s (valued v) ls b l a
 owned_own T s (own v) ls b l a = labels_own T s (own v) ls b l a
 owned_own T s top ls b l a = labels_own T s top ls b l a
 
-owned_distinct : (size : ℕ) (T : Cells) (s : ℕ) (h : Head) (ls : List ℕ) → Family size T s h ls → DistinctList (owned h ls)
+pub owned_distinct : (size : ℕ) (T : Cells) (s : ℕ) (h : Head) (ls : List ℕ) → Family size T s h ls → DistinctList (owned h ls)
 owned_distinct size T s plain ls f = family_distinct size T s plain ls f
 owned_distinct size T s (valued v) ls f = (no_zero T s _ ls f.begins.4, family_distinct size T s (valued v) ls f)
 owned_distinct size T s (own v) ls f = family_distinct size T s (own v) ls f
 owned_distinct size T s top ls f = family_distinct size T s top ls f
 
 -- a base that is not 0 is in range
-ranged : (size : ℕ) (T : Cells) (s : ℕ) (h : Head) (ls : List ℕ) → (s ≡ 0 → ⊥) → 256 ≤ base_of T s → Family size T s h ls → InRange size (T.stored s)
+pub ranged : (size : ℕ) (T : Cells) (s : ℕ) (h : Head) (ls : List ℕ) → (s ≡ 0 → ⊥) → 256 ≤ base_of T s → Family size T s h ls → InRange size (T.stored s)
 ranged size T s plain [] z low f = elim f.based [
   | inl b ↦ let none : 256 ≤ 0 = subst (λ st. 256 ≤ base_in st) b low in absurd (omega arith)
   | inr r ↦ r

@@ -1,18 +1,17 @@
 -- A label added at its place is a leaf added to the tree.
-use Rattle.std.proofs.Common.{◌≡◌, ℕ, ◌<◌, List, [], ◌∷◌, ◌++◌, sym, ◌∙◌, ap, refl, subst, inl, inr, arith, Bool, true, false, Option, None, cond}
+use Rattle.std.proofs.Common.{◌≡◌, ℕ, ◌<◌, List, [], ◌∷◌, ◌++◌, sym, ◌∙◌, ap, refl, subst, inl, inr, arith, Bool, true, false, Option, None}
 use Rattle.std.specs.Prelude.{pos}
-use Rattle.std.proofs.lemmas.Bool.{cases_Bool}
 use Rattle.cedar_tree.specs.Tree.{AllAbove, child, empty_tree, Forest, insert_ascending, IsAscending, none}
 use Rattle.cedar_tree.specs.Edits.{add_leaf, edit_at}
 use Rattle.cedar_table.specs.Cells.{Cells, Held}
-use Rattle.cedar_table.specs.Family.{Among, below, Family, Head, Links, Node, number_of, top}
+use Rattle.cedar_table.specs.Family.{Among, below, Family, Links, Node, number_of, top}
 use Rattle.cedar_table.specs.Meaning.{ChildrenStand, HoldsTree, labels, OnPath, slot_at}
 use Rattle.cedar_table.specs.Reading.{first_in}
-use Rattle.cedar_table.specs.Edit.{Above, AddsFirst, AddsLabel, Ascends, FirstIs, follow_on, HasChain, inserted, IsAt, IsPlaceFor, Touches}
+use Rattle.cedar_table.specs.Edit.{Above, AddsFirst, AddsLabel, Ascends, follow_on, HasChain, inserted, IsAt, IsPlaceFor, Touches}
 use Rattle.cedar_table.proofs.AddBehindLemmas.{added_behind, added_behind_at_root, inserted_here, labels_inserted, lower_inserted}
 use Rattle.cedar_table.proofs.AddFirstLemmas.{added_at_root, added_first, family_added, leaf, root_added, stays}
 use Rattle.cedar_table.proofs.EditAtLemmas.{edited, follow_split, root_edited}
-use Rattle.cedar_table.proofs.EditLemmas.{not_x, path_stays}
+use Rattle.cedar_table.proofs.EditLemmas.{path_stays}
 use Rattle.cedar_table.proofs.NodeLemmas.{owned_label, Subtree}
 use Rattle.cedar_table.proofs.UniqueLemmas.{links_unique, node_reads}
 

@@ -6,7 +6,7 @@ use Rattle.cedar_table.specs.Cells.{Cells, Held}
 use Rattle.cedar_table.specs.Family.{base_in, below, Among, base_of, Family}
 use Rattle.cedar_table.specs.Renaming.{IsNode, OwnsNothing, Renames, Moves, MovedSome, Progress, Movable, Relocated, Rebased, single}
 use Rattle.cedar_table.proofs.StepLemmas.{xor_back, pos_injective}
-use Rattle.cedar_table.proofs.RelocationLemmas.{relocation_keeps}
+use Rattle.cedar_table.proofs.RelocationLemmas.{relocation_keeps, stored_at}
 use Rattle.cedar_table.proofs.RepointLemmas.{among_cases, owner_cases}
 use Rattle.cedar_table.proofs.RenamingLemmas.{renames_twice, moved_more, moved_all, moved_none, still_free, other_family}
 
@@ -15,7 +15,7 @@ among_get [] i d h = absurd (omega arith)
 among_get (l ∷ ls) zero d h = inl refl
 among_get (l ∷ ls) (suc i) d h = inr (among_get ls i d (omega arith))
 
-among_take : (ls : List ℕ) (i x : ℕ) → Among (take i ls) x → Among ls x
+pub among_take : (ls : List ℕ) (i x : ℕ) → Among (take i ls) x → Among ls x
 among_take [] zero x a = a
 among_take [] (suc i) x a = a
 among_take (l ∷ ls) zero x a = absurd a
@@ -130,4 +130,15 @@ relocated size T T₁ T' p b ls m k w =
       };
       moves = moves;
       set = w.set;
+      stored = stored_at size T T₁ T' p b k.new_slot k.renames moves w m.parent;
     }
+
+-- a place for a label that hasn't moved is as free as before
+pub progress_free : (T T₁ : Cells) (p b : ℕ) (gone : List ℕ) (l : ℕ) → Progress T T₁ p b gone → (Held T (bit_xor b l) → ⊥) → (Among gone l → ⊥) → Held T₁ (bit_xor b l) → ⊥
+progress_free T T₁ p b gone l k free new = still_free T T₁ p b l gone k.new_slot k.renames k.moved free new by_owner
+  where
+    by_owner : (q : ℕ) → Held T q → (T.check q ≡ pos p × Among gone (below T p q)) ⊎ (T.check q ≡ pos p → Among gone (below T p q) → ⊥)
+    by_owner q _ = elim (owner_cases (T.check q) p) [
+      | inl e ↦ elim (among_cases gone (below T p q)) [ inl a ↦ inl (e, a) | inr n ↦ inr (λ _ a. n a) ]
+      | inr n ↦ inr (λ e _. n e)
+    ]

@@ -29,7 +29,7 @@ module _ (size : ℕ) (T T₁ T' : Cells) (p b : ℕ) (r : ℕ → ℕ) (k : Ren
   base_at : (q : ℕ) → Held T q → (q ≡ p → ⊥) → T'.base (r q) ≡ T.base q
   base_at q h n = w.base (r q) (λ e. n (k.apart q p h z.held (e ∙ sym p_stays))) ∙ k.base q h
 
-  stored_at : (q : ℕ) → Held T q → (q ≡ p → ⊥) → T'.stored (r q) ≡ T.stored q
+  pub stored_at : (q : ℕ) → Held T q → (q ≡ p → ⊥) → T'.stored (r q) ≡ T.stored q
   stored_at q h n = w.stored (r q) (λ e. n (k.apart q p h z.held (e ∙ sym p_stays))) ∙ k.stored q h
 
   -- whose children are not moved

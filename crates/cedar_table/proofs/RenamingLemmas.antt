@@ -16,7 +16,7 @@ single_at a b = grind (arith, nat_tests)
 pub single_other : (a b q : ℕ) → (q ≡ a → ⊥) → single a b q ≡ q
 single_other a b q n = grind (arith, nat_tests)
 
-held_renamed : (T T₁ : Cells) (r : ℕ → ℕ) → Renames T T₁ r → (q : ℕ) → Held T q → Held T₁ (r q)
+pub held_renamed : (T T₁ : Cells) (r : ℕ → ℕ) → Renames T T₁ r → (q : ℕ) → Held T q → Held T₁ (r q)
 held_renamed T T₁ r k q (inl e) = inl (ap r e ∙ k.root)
 held_renamed T T₁ r k q (inr w) = inr (r w.0, k.check q w.0 w.1)
 

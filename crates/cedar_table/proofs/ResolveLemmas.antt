@@ -1,6 +1,6 @@
 -- A set moved to places that were looked for first.
-use Rattle.std.proofs.Common.{◌≡◌, ◌⊎◌, ◌+◌, ◌/◌, Result, Ok, Err, ℕ, suc, ◌<◌, ◌≤◌, List, [], ◌∷◌, length, get_or, sym, ◌∙◌, ap, subst, inl, inr, arith}
-use Rattle.std.specs.Prelude.{◌%◌, pos, bit_xor, IfOk, OnErr}
+use Rattle.std.proofs.Common.{◌≡◌, ℕ, suc, ◌<◌, ◌≤◌, List, [], ◌∷◌, length, get_or, sym, ◌∙◌, ap, subst, inl, inr, arith}
+use Rattle.std.specs.Prelude.{◌%◌, pos, bit_xor}
 use Rattle.std.specs.Int.Bits.{xor_self}
 use Rattle.std.proofs.lemmas.List.{get_or_default}
 use lib.Bits.{xor_assoc, xor_zero_r}
@@ -9,9 +9,6 @@ use Rattle.cedar_table.specs.Cells.{Cells, HasPlaces, Held, IsPlace, SameHeld}
 use Rattle.cedar_table.specs.Family.{base_in, base_of, below, Head, Among, owned, Family}
 use Rattle.cedar_table.specs.Meaning.{slot_at, OnPath, HoldsTree}
 use Rattle.cedar_table.specs.Renaming.{Movable, Relocated, Renamed, SetMoved}
-use Rattle.cedar_table.specs.declared.error.CedarError.{CedarError}
-use Rattle.cedar_table.specs.Places.{AddsBlock, SameSlots}
-use Rattle.cedar_table.specs.TableFields.{Fields, size_of}
 use Rattle.cedar_table.proofs.XorLemmas.{xor_block}
 use Rattle.cedar_table.proofs.PathLemmas.{owner_held}
 use Rattle.cedar_table.proofs.KeepLemmas.{holds_renamed, path_kept, same_renamed}
@@ -26,7 +23,7 @@ among_index (x ∷ ls) l (inr a) = let w = among_index ls l a in (suc w.0, omega
 pub among_small : (ls : List ℕ) → ((i : ℕ) → get_or ls i 0 < 256) → (l : ℕ) → Among ls l → l < 256
 among_small ls bytes l a = let w = among_index ls l a in subst (λ x. x < 256) w.2 (bytes w.0)
 
-place_of : (size : ℕ) (T : Cells) (b : ℕ) (ws : List ℕ) → HasPlaces size T b ws → (l : ℕ) → Among ws l → IsPlace size T (bit_xor b l)
+pub place_of : (size : ℕ) (T : Cells) (b : ℕ) (ws : List ℕ) → HasPlaces size T b ws → (l : ℕ) → Among ws l → IsPlace size T (bit_xor b l)
 place_of size T b ws room l a = let w = among_index ws l a in subst (λ x. IsPlace size T (bit_xor b x)) w.2 (room w.0 0 w.1)
 
 -- a place for one label alone
@@ -43,16 +40,6 @@ base_placed size T b ws whole some small room =
     let place = room 0 0 some in
     let block = xor_block b (get_or ws 0 0) small in
     (omega (arith, block, place.not_first), omega (arith, block, place.in_use))
-
--- a search for places makes one block at most
-pub made_more : (X : Type 0) (old new : Fields) (b : ℕ) → (new ≡ old) ⊎ (X × AddsBlock old.places new.places b) → (size_of old ≤ size_of new) × (size_of new ≤ size_of old + 256)
-made_more X old new b (inl e) = let s : size_of new ≡ size_of old = ap size_of e in (omega (arith, s), omega (arith, s))
-made_more X old new b (inr (x, a)) = (omega (arith, a.active), omega (arith, a.active))
-
-pub searched_more : (old new : Fields) (r : Result ℕ CedarError) → IfOk r (λ base. SameSlots old.places new.places ⊎ AddsBlock old.places new.places (base / 256)) → OnErr r (SameSlots old.places new.places) → (size_of old ≤ size_of new) × (size_of new ≤ size_of old + 256)
-searched_more old new (Ok base) (inl s) err = (omega (arith, s.active), omega (arith, s.active))
-searched_more old new (Ok base) (inr a) err = (omega (arith, a.active), omega (arith, a.active))
-searched_more old new (Err error) made s = (omega (arith, s.active), omega (arith, s.active))
 
 -- two renamings, of which the first renames nothing
 renamed_then : (size size' : ℕ) (T T₁ T' : Cells) (r : ℕ → ℕ) → Renamed size size' T T₁ (λ q. q) → Renamed size' size' T₁ T' r → Renamed size size' T T' r
@@ -117,11 +104,20 @@ module _ (size size' : ℕ) (T T₁ : Cells) (f : Forest) (p b : ℕ) (path : Li
       kept = λ q n. k.moves.kept q (λ o. n (before q o));
     };
     set = k.set;
+    stored = λ q h n. k.stored q (there q h) n ∙ (same.other q h).stored;
     vacated = λ x o. vacated size' T₁ T' p b (owned hd ls) can_relocate k x (first.check x p o);
     room = λ l a n.
         let place = place_of size' T₁ b ws room l a in
         record { not_first = place.not_first; in_use = place.in_use; free = stays_free size' T₁ T' p b (owned hd ls) can_relocate k l n place.free };
   }
     where
+      there : (q : ℕ) → Held T q → Held T₁ q
+      there q (inl e) = inl e
+      there q (inr h) = inr (h.0, first.check q h.0 h.1)
+
       before : (q : ℕ) → T₁.check q ≡ pos p → T.check q ≡ pos p
       before q o = let v = first.back q p o in ap T.check (sym v.3) ∙ v.2 ∙ ap pos v.4
+
+-- the tree, once blocks were made
+pub same_holds : (size size' : ℕ) (T T' : Cells) → size ≤ size' → SameHeld T T' → (f : Forest) → HoldsTree size T f → HoldsTree size' T' f
+same_holds size size' T T' more same f w = holds_renamed size size' T T' (λ q. q) (same_renamed size size' T T' more same w.root (owner_held size T f w)) f w

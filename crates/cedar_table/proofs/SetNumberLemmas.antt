@@ -1,11 +1,11 @@
 -- A number written into its slot, and a slot taken for one.
-use Rattle.std.proofs.Common.{◌≡◌, ℕ, ◌<◌, List, [], sym, ◌∙◌, ap, refl, subst, inl, inr, Bool, cond}
+use Rattle.std.proofs.Common.{◌≡◌, ℕ, List, sym, ◌∙◌, ap, refl, subst, inl, inr, Bool, cond}
 use Rattle.std.specs.Prelude.{bit_xor, ℤ, pos}
 use Rattle.std.proofs.lemmas.Bool.{cases_eq}
 use Rattle.cedar_tree.specs.Tree.{Forest}
 use Rattle.cedar_table.specs.declared.layout.Stored.{Stored}
 use Rattle.cedar_table.specs.Cells.{Cells, Held, NodeWritten, Takes}
-use Rattle.cedar_table.specs.Family.{Among, base_in, base_of, below, Family, Head, InRange, own, plain, top, valued}
+use Rattle.cedar_table.specs.Family.{base_in, below, Family, Head, InRange, own, plain, top, valued}
 use Rattle.cedar_table.specs.Meaning.{HoldsTree}
 use Rattle.cedar_table.specs.Reading.{first_in}
 use Rattle.cedar_table.specs.Edit.{HasChain, SetsChild, SetsNumber, SetsSibling, Touches}
@@ -135,3 +135,10 @@ module _ (size : ℕ) (T T₁ T₂ T₃ : Cells) (f : Forest) (a : ℕ) (v : ℤ
         first = ap T₃.sibling (sym same_kept) ∙ b.sibling _ ∙ s.at ∙ (t.other a (off a held) held).child ∙ sym first;
         next = λ q o m. sibling_kept q (inr (a, o));
       }
+
+-- the root's own slot is neither written nor taken
+pub root_check_written : (reads : ℤ → Stored) (T T' : Cells) (q a : ℕ) (v c : ℤ) → T.check q ≡ pos a → ((x : ℕ) → T.check 0 ≡ pos x → ⊥) → NodeWritten reads T T' q v c → T'.check 0 ≡ T.check 0
+root_check_written reads T T' q a v c o root w = w.check 0 (λ z. root a (ap T.check z ∙ o))
+
+pub root_check_taken : (T T₁ T₂ T₃ : Cells) (q a x y : ℕ) → (Held T q → ⊥) → Takes T T₁ q a → SetsSibling T₁ T₂ q x → SetsChild T₂ T₃ a y → T₃.check 0 ≡ T.check 0
+root_check_taken T T₁ T₂ T₃ q a x y free t s b = b.check 0 ∙ s.check 0 ∙ (t.other 0 (λ z. free (inl (sym z))) (inl refl)).check

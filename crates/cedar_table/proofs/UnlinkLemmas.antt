@@ -1,17 +1,17 @@
 -- A leaf's slot unlinked and given back is a label removed.
-use Rattle.std.proofs.Common.{◌≡◌, ℕ, ◌+◌, ◌<◌, ◌≤◌, List, [], ◌∷◌, length, sym, ◌∙◌, ap, refl, subst, inl, inr, arith, Bool, Option, Some, None, cond, ◌⊎◌}
+use Rattle.std.proofs.Common.{◌≡◌, ℕ, ◌<◌, ◌≤◌, List, [], ◌∷◌, sym, ◌∙◌, ap, subst, inl, inr, arith, Bool, Option, Some, None, cond}
 use Rattle.std.specs.Prelude.{◌%◌, MatchOption, nat_eq, pos, ℤ}
 use Rattle.std.proofs.lemmas.Bool.{cases_eq}
 use Rattle.cedar_table.specs.declared.layout.Stored.TheVariants.{AtBase, OwnNumber}
 use Rattle.cedar_table.specs.Cells.{Cells, Gives, Held}
 use Rattle.cedar_table.specs.Family.{Among, base_in, base_of, below, Family, Head, Links, Node, number_of, own, plain, top, valued}
-use Rattle.cedar_table.specs.Edit.{HasChain, IsLabelOf, IsLead, IsLink, LeadsTo, Removes, SetsChild, SetsSibling, Touches}
-use Rattle.cedar_table.proofs.ChainLemmas.{chain_start, first_links, lead_links, links_few, root_stored}
+use Rattle.cedar_table.specs.Edit.{HasChain, IsLabelOf, IsLink, LeadsTo, Removes, SetsChild, SetsSibling}
+use Rattle.cedar_table.proofs.ChainLemmas.{chain_start, first_links, lead_links, root_stored}
 use Rattle.cedar_table.proofs.GiveLemmas.{a_not_given, held_first, touches_given}
 use Rattle.cedar_table.proofs.LabelLemmas.{root_lead}
 use Rattle.cedar_table.proofs.NodeLemmas.{links_small, owned_label}
 use Rattle.cedar_table.proofs.RemoveLemmas.{skip_at, skip_other}
-use Rattle.cedar_table.proofs.StepLemmas.{pos_injective, xor_back, xor_injective, xor_within}
+use Rattle.cedar_table.proofs.StepLemmas.{xor_back, xor_injective, xor_within}
 use Rattle.cedar_table.proofs.UniqueLemmas.{family_no_zero, links_distinct}
 
 -- ---- what leads to a label is one slot

@@ -1,7 +1,5 @@
 -- A walk along a chain to one of its labels.
-use Rattle.std.proofs.Common.{◌≡◌, ℕ, ◌+◌, ◌<◌, List, [], ◌∷◌, length, sym, ◌∙◌, ap, refl, subst, inl, inr, arith, Bool}
-use Rattle.std.specs.Prelude.{pos}
-use Rattle.cedar_table.specs.declared.layout.Stored.TheVariants.{AtBase}
+use Rattle.std.proofs.Common.{◌≡◌, ℕ, ◌+◌, ◌<◌, List, [], ◌∷◌, length, sym, ◌∙◌, ap, subst, inl, inr, arith, Bool}
 use Rattle.cedar_table.specs.Cells.{Cells}
 use Rattle.cedar_table.specs.Family.{Among, below, Family, Head, Links, own, plain, top, valued}
 use Rattle.cedar_table.specs.Edit.{HasChain, IsLabelOf, IsLink}

@@ -1,9 +1,9 @@
 -- An edit of one node of a tree, and of its own slots in a table.
-use Rattle.std.specs.Prelude.{◌≡◌, ◌≤◌, ℕ, Bool, true, false, ℤ, ◌<◌, List, [], ◌∷◌, pos, Option, None, ◌⊎◌, cond, nat_eq, nat_lt}
+use Rattle.std.specs.Prelude.{◌≡◌, ℕ, Bool, true, ℤ, ◌<◌, List, [], ◌∷◌, pos, Option, None, ◌⊎◌, cond, nat_eq, nat_lt}
 use Rattle.cedar_tree.specs.Tree.{Forest, IsAscending, none, child}
 use Rattle.cedar_table.specs.declared.layout.Stored.TheVariants.{AtBase, OwnNumber}
 use Rattle.cedar_table.specs.Cells.{Cells, Held}
-use Rattle.cedar_table.specs.Family.{Among, below, Family, Head, InRange, Node, top}
+use Rattle.cedar_table.specs.Family.{below, Family, Head, InRange, top}
 use Rattle.cedar_table.specs.Meaning.{HoldsTree, OnPath, slot_at}
 use Rattle.cedar_table.specs.Reading.{first_in}
 

@@ -48,7 +48,7 @@ pub record IsNode (size : ℕ) (T : Cells) (s : ℕ) : Type 0 where
   pub family : Family size T s head labels
 
 -- slot s is a node's that owns the slots under just these labels: its number's first, and then along its chain
-pub record IsNodeOf (size : ℕ) (T : Cells) (s : ℕ) (ls : List ℕ) : Type 0 where
+pub record OwnsLabels (size : ℕ) (T : Cells) (s : ℕ) (ls : List ℕ) : Type 0 where
   pub head : Head
   pub labels : List ℕ
   pub family : Family size T s head labels
@@ -134,19 +134,21 @@ pub record Movable (size : ℕ) (T : Cells) (p b : ℕ) (ls : List ℕ) : Type 0
   pub number : Among ls 0 → OwnsNothing T (below T p 0)
   pub node : (l : ℕ) → Among ls l → (l ≡ 0 → ⊥) → IsNode size T (below T p l)
 
--- T' holds the nodes of T, with the slots of p at base b
+-- T' holds the nodes of T, with the slots of p at base b, and each other node's base is as it was
 pub record Relocated (size : ℕ) (T T' : Cells) (p b : ℕ) : Type 0 where
   pub new_slot : ℕ → ℕ
   pub renamed : Renamed size size T T' new_slot
   pub moves : Moves T p b new_slot
   pub set : T'.stored p ≡ AtBase b
+  pub stored : (q : ℕ) → Held T q → (q ≡ p → ⊥) → T'.stored (new_slot q) ≡ T.stored q
 
 -- T', which may have more slots in use, holds the nodes of T, with the slots of p, which stood under the labels ls, at
--- base b: their old places are free, and so are those for the other labels of ws
+-- base b: their old places are free, and so are those for the other labels of ws; each other node's base is as it was
 pub record SetMoved (size size' : ℕ) (T T' : Cells) (p b : ℕ) (ls ws : List ℕ) : Type 0 where
   pub new_slot : ℕ → ℕ
   pub renamed : Renamed size size' T T' new_slot
   pub moves : Moves T p b new_slot
   pub set : T'.stored p ≡ AtBase b
+  pub stored : (q : ℕ) → Held T q → (q ≡ p → ⊥) → T'.stored (new_slot q) ≡ T.stored q
   pub vacated : (x : ℕ) → T.check x ≡ pos p → Held T' x → ⊥
   pub room : (l : ℕ) → Among ws l → (Among ls l → ⊥) → IsPlace size' T' (bit_xor b l)

@@ -2,7 +2,7 @@
 
 use crate::layout::Layout;
 use crate::table::{Labels, Table};
-use smallvec::SmallVec;
+use arrayvec::ArrayVec;
 use std::alloc::Allocator;
 
 impl<L: Layout, const SLOTS: usize, A: Allocator> Table<L, SLOTS, A> {
@@ -26,18 +26,15 @@ impl<L: Layout, const SLOTS: usize, A: Allocator> Table<L, SLOTS, A> {
     }
 
     /// The label 0 alone if the node has a slot for its number, and else no label.
-    fn number_label(&self, node: usize) -> Labels<A>
-    where
-        A: Copy,
+    fn number_label(&self, node: usize) -> Labels
         requires node_in { node < size_of (fields self.now) }
         requires not_root { node ≢ 0 }
         requires node { IsNode (size_of (fields self.now)) (cells self.now) node }
-        ensures label { (h : Head) (ls : List ℕ) → Family (size_of (fields self.now)) (cells self.now) node h ls → result.items ≡ owned h [] }
-        ensures capacity { result.capacity ≡ 256 }
+        ensures { (h : Head) (ls : List ℕ) → Family (size_of (fields self.now)) (cells self.now) node h ls → result.items ≡ owned h [] }
     {
-        let mut labels = SmallVec::new(*self.places.reject.allocator());
+        let mut labels = ArrayVec::new();
         if self.is_owned_by(self.base_of(node), node) {
-            labels.push_reserved(0);
+            labels.push(0);
             return labels;
         }
         labels
@@ -45,9 +42,7 @@ impl<L: Layout, const SLOTS: usize, A: Allocator> Table<L, SLOTS, A> {
 
     /// The labels under which a node owns slots: 0 first, if it has a slot for its number, and then along its chain. It
     /// takes no memory.
-    pub(crate) fn labels_of(&self, node: usize) -> Labels<A>
-    where
-        A: Copy,
+    pub(crate) fn labels_of(&self, node: usize) -> Labels
         requires node_in { node < size_of (fields self.now) }
         requires not_root { node ≢ 0 }
         requires node { IsNode (size_of (fields self.now)) (cells self.now) node }
@@ -57,7 +52,7 @@ impl<L: Layout, const SLOTS: usize, A: Allocator> Table<L, SLOTS, A> {
         let base = self.base_of(node);
         let mut label = self.first_label(node);
         while label != 0 {
-            labels.push_reserved(label);
+            labels.push(label);
             label = self.sibling(base ^ usize::from(label));
         }
         labels

@@ -1,12 +1,12 @@
 //! Laws of what a table stands for.
 
-ghost use Rattle.std.specs.Prelude.{◌≡◌, ℕ, List, count_by, length, None, if◌then◌else◌};
+ghost use Rattle.std.specs.Prelude.{◌≡◌, ◌+◌, ℕ, List, count_by, length, None, if◌then◌else◌};
 ghost use Rattle.std.specs.List.{range_with_len};
 ghost use Rattle.cedar_tree.specs.Tree.{Forest};
 ghost use Rattle.cedar_tree.specs.Queries.{used};
-ghost use Rattle.cedar_table.specs.Cells.{Cells, is_held};
+ghost use Rattle.cedar_table.specs.Cells.{Cells, is_held, NoPlace};
 ghost use Rattle.cedar_table.specs.Layouts.{default_layout};
-ghost use Rattle.cedar_table.specs.Meaning.{HoldsTree, Leads, slot_at};
+ghost use Rattle.cedar_table.specs.Meaning.{HoldsTree, labels, Leads, slot_at};
 ghost use Rattle.cedar_table.specs.Ring.{occurs};
 ghost use Rattle.cedar_table.specs.TableFields.{Fields, size_of};
 ghost use Rattle.cedar_table.specs.WellFormed.{cells_in, IsWellFormed, slots_named, tree_of};
@@ -32,4 +32,10 @@ pub fn held_slots_are_named()
 pub fn held_slots_are_counted()
     ensures named { (limit : ℕ) (table : Fields) → IsWellFormed limit table → count_by (is_held (cells_in table)) (range_with_len 0 (size_of table)) ≡ length (slots_named (cells_in table) (tree_of table)) }
     ensures by_default { (limit : ℕ) (table : Fields) → IsWellFormed limit table → table.layout ≡ default_layout → count_by (is_held (cells_in table)) (range_with_len 0 (size_of table)) ≡ used (tree_of table) }
+{}
+
+/// Where no slot outside block 0 is free, each slot there is held, and in block 0 just those of the root and of its
+/// children: so the slots in use can be counted from the tree.
+pub fn full_blocks_are_counted()
+    ensures { (limit : ℕ) (table : Fields) → IsWellFormed limit table → table.layout ≡ default_layout → NoPlace (size_of table) (cells_in table) → size_of table + length (labels (tree_of table).children) ≡ used (tree_of table) + 255 }
 {}

@@ -15,9 +15,12 @@ pub trait Layout {
     ghost use Rattle.std.specs.Prelude.{◌≡◌, ◌≢◌, ◌<◌, ◌^◌};
     ghost use Rattle.cedar_table.specs.declared.layout.Stored.{Stored};
     ghost use Rattle.cedar_table.specs.declared.layout.Stored.TheVariants.{AtBase, Nothing};
-    ghost use Rattle.cedar_table.specs.Layouts.{LayoutKind, reading};
+    ghost use Rattle.cedar_table.specs.Layouts.{LayoutKind, default_layout, reading};
 
     ghost kind: { LayoutKind };
+
+    // There is no other one yet.
+    ghost only: { kind ≡ default_layout };
 
     /// What a base field says.
     fn read_base(field: i32) -> Stored
@@ -39,8 +42,11 @@ pub struct DefaultLayout;
 
 impl Layout for DefaultLayout {
     ghost use Rattle.cedar_table.specs.Layouts.{default_layout};
+    ghost use Rattle.std.proofs.Common.{refl};
 
     ghost kind = { default_layout };
+
+    ghost only = { refl };
 
     fn read_base(field: i32) -> Stored {
         if field < 0 {

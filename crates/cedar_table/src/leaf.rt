@@ -14,6 +14,7 @@ impl<L: Layout, const SLOTS: usize, A: Allocator> Table<L, SLOTS, A> {
     ghost use Rattle.cedar_table.specs.Family.{base_of, below, InRange, Links, Node};
     ghost use Rattle.cedar_table.specs.Meaning.{HoldsTree};
     ghost use Rattle.cedar_table.specs.Places.{IsTable};
+    ghost use Rattle.cedar_table.specs.Reserved.{freed};
     ghost use Rattle.cedar_table.specs.TableFields.{capacity_of, cells, fields, SameSettings, size_of};
 
     /// Makes `label` the one after that of the held slot `slot`.
@@ -170,6 +171,7 @@ impl<L: Layout, const SLOTS: usize, A: Allocator> Table<L, SLOTS, A> {
             → HoldsTree (size_of (fields self.new)) (cells self.new) (edit_at w (λ n. n) (add_leaf (fields self.old).ordered label) f) }
         ensures leaf { (w : List ℕ) → IsAt (cells self.old) w node → IsAt (cells self.new) (w ++ label ∷ []) result }
         ensures paths { (w : List ℕ) (s : ℕ) → IsAt (cells self.old) w s → IsAt (cells self.new) w s }
+        ensures root_check { (cells self.new).check 0 ≡ (cells self.old).check 0 }
         ensures size { size_of (fields self.new) ≡ size_of (fields self.old) }
         ensures capacity { capacity_of (fields self.new) ≡ capacity_of (fields self.old) }
         ensures settings { SameSettings (fields self.old) (fields self.new) }
@@ -177,6 +179,34 @@ impl<L: Layout, const SLOTS: usize, A: Allocator> Table<L, SLOTS, A> {
         let slot = self.child_slot(node, label);
         let before = self.slot_before(node, label);
         self.pop_e_node(slot, L::base_field(0), node);
+        self.link(before, node, slot, label);
+        slot
+    }
+
+    /// Takes the slot of `label` below `node`, which is reserved for it, and answers it. The new leaf stands where
+    /// `add_label` puts one.
+    pub(crate) fn add_reserved(&mut self, node: usize, label: u8) -> usize
+        requires sound { IsTable SLOTS (fields self.old).places }
+        requires node_in { node < size_of (fields self.old) }
+        requires not_root { node ≢ 0 }
+        requires node { (f : Forest) × IsNodeOf (size_of (fields self.old)) (freed (cells self.old) (below (cells self.old) node label)) (fields self.old).ordered f node }
+        requires positive { 0 < label }
+        requires based { InRange (size_of (fields self.old)) ((cells self.old).stored node) }
+        requires reserved { (cells self.old).check (below (cells self.old) node label) ≡ pos 0 }
+        ensures sound { IsTable SLOTS (fields self.new).places }
+        ensures slot { result ≡ below (cells self.new) node label }
+        ensures added { AddsLabel (size_of (fields self.old)) (fields self.old).ordered (freed (cells self.old) (below (cells self.old) node label)) (cells self.new) node label }
+        ensures tree { (f : Forest) (w : List ℕ) → HoldsTree (size_of (fields self.old)) (freed (cells self.old) (below (cells self.old) node label)) f → ((fields self.old).ordered ≡ true → IsAscending f) → IsAt (freed (cells self.old) (below (cells self.old) node label)) w node
+            → HoldsTree (size_of (fields self.new)) (cells self.new) (edit_at w (λ n. n) (add_leaf (fields self.old).ordered label) f) }
+        ensures leaf { (w : List ℕ) → IsAt (freed (cells self.old) (below (cells self.old) node label)) w node → IsAt (cells self.new) (w ++ label ∷ []) result }
+        ensures root_check { (cells self.new).check 0 ≡ (cells self.old).check 0 }
+        ensures size { size_of (fields self.new) ≡ size_of (fields self.old) }
+        ensures capacity { capacity_of (fields self.new) ≡ capacity_of (fields self.old) }
+        ensures settings { SameSettings (fields self.old) (fields self.new) }
+    {
+        let slot = self.child_slot(node, label);
+        let before = self.slot_before(node, label);
+        self.claim(slot, L::base_field(0), node);
         self.link(before, node, slot, label);
         slot
     }
@@ -238,6 +268,7 @@ impl<L: Layout, const SLOTS: usize, A: Allocator> Table<L, SLOTS, A> {
             → HoldsTree (size_of (fields self.new)) (cells self.new) (edit_at w (λ n. n) (λ u. without u label) f) }
         ensures size { size_of (fields self.new) ≡ size_of (fields self.old) }
         ensures capacity { capacity_of (fields self.new) ≡ capacity_of (fields self.old) }
+        ensures root_check { (cells self.new).check 0 ≡ (cells self.old).check 0 }
         ensures settings { SameSettings (fields self.old) (fields self.new) }
     {
         let slot = self.child_slot(node, label);

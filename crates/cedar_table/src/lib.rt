@@ -3,6 +3,7 @@
 #![tactic(auto)]
 
 mod blocks;
+mod erase;
 mod error;
 mod labels;
 mod laws;
@@ -15,11 +16,15 @@ mod relocation;
 mod resolve;
 mod search;
 mod slots;
+mod step;
 mod table;
 mod ticks;
+mod update;
 
 pub use error::CedarError;
-pub use laws::{held_slots_are_counted, held_slots_are_named, one_path, one_tree};
+pub use laws::{
+    full_blocks_are_counted, held_slots_are_counted, held_slots_are_named, one_path, one_tree,
+};
 pub use layout::{DefaultLayout, Layout, Stored};
 pub use records::{BlockRecord, NInfoRecord, NodeRecord};
 pub use table::{BLOCK_SIZE, Table};

@@ -14,6 +14,7 @@ impl<L: Layout, const SLOTS: usize, A: Allocator> Table<L, SLOTS, A> {
     ghost use Rattle.cedar_table.specs.Family.{below, InRange};
     ghost use Rattle.cedar_table.specs.Meaning.{HoldsTree};
     ghost use Rattle.cedar_table.specs.Places.{IsTable};
+    ghost use Rattle.cedar_table.specs.Reserved.{freed};
     ghost use Rattle.cedar_table.specs.TableFields.{capacity_of, cells, fields, SameSettings, size_of};
 
     /// Sets the number of a node that has a base: over the one in its slot, or else in its slot for one, which is free.
@@ -28,6 +29,7 @@ impl<L: Layout, const SLOTS: usize, A: Allocator> Table<L, SLOTS, A> {
         ensures set { SetsNumber (size_of (fields self.old)) (cells self.old) (cells self.new) node value }
         ensures tree { (f : Forest) (w : List ℕ) → HoldsTree (size_of (fields self.old)) (cells self.old) f → IsAt (cells self.old) w node
             → HoldsTree (size_of (fields self.new)) (cells self.new) (edit_at w (λ _. Some value) (λ u. u) f) }
+        ensures root_check { (cells self.new).check 0 ≡ (cells self.old).check 0 }
         ensures size { size_of (fields self.new) ≡ size_of (fields self.old) }
         ensures capacity { capacity_of (fields self.new) ≡ capacity_of (fields self.old) }
         ensures settings { SameSettings (fields self.old) (fields self.new) }
@@ -47,6 +49,29 @@ impl<L: Layout, const SLOTS: usize, A: Allocator> Table<L, SLOTS, A> {
         self.set_child(node, 0);
     }
 
+    /// Sets the number of a node whose slot for one is reserved for it.
+    pub(crate) fn set_reserved(&mut self, node: usize, value: i32)
+        requires sound { IsTable SLOTS (fields self.old).places }
+        requires node_in { node < size_of (fields self.old) }
+        requires not_root { 0 < node }
+        requires node { (f : Forest) × IsNodeOf (size_of (fields self.old)) (freed (cells self.old) (below (cells self.old) node 0)) (fields self.old).ordered f node }
+        requires based { InRange (size_of (fields self.old)) ((cells self.old).stored node) }
+        requires reserved { (cells self.old).check (below (cells self.old) node 0) ≡ pos 0 }
+        ensures sound { IsTable SLOTS (fields self.new).places }
+        ensures tree { (f : Forest) (w : List ℕ) → HoldsTree (size_of (fields self.old)) (freed (cells self.old) (below (cells self.old) node 0)) f → IsAt (freed (cells self.old) (below (cells self.old) node 0)) w node
+            → HoldsTree (size_of (fields self.new)) (cells self.new) (edit_at w (λ _. Some value) (λ u. u) f) }
+        ensures root_check { (cells self.new).check 0 ≡ (cells self.old).check 0 }
+        ensures size { size_of (fields self.new) ≡ size_of (fields self.old) }
+        ensures capacity { capacity_of (fields self.new) ≡ capacity_of (fields self.old) }
+        ensures settings { SameSettings (fields self.old) (fields self.new) }
+    {
+        let slot = self.child_slot(node, 0);
+        self.claim(slot, value, node);
+        let next = self.child(node);
+        self.set_sibling(slot, next);
+        self.set_child(node, 0);
+    }
+
     /// Drops the number of a node that has a slot for it, and gives the slot back.
     pub fn drop_number(&mut self, node: usize)
         requires sound { IsTable SLOTS (fields self.old).places }
@@ -61,6 +86,7 @@ impl<L: Layout, const SLOTS: usize, A: Allocator> Table<L, SLOTS, A> {
             → HoldsTree (size_of (fields self.new)) (cells self.new) (edit_at w (λ _. None) (λ u. u) f) }
         ensures size { size_of (fields self.new) ≡ size_of (fields self.old) }
         ensures capacity { capacity_of (fields self.new) ≡ capacity_of (fields self.old) }
+        ensures root_check { (cells self.new).check 0 ≡ (cells self.old).check 0 }
         ensures settings { SameSettings (fields self.old) (fields self.new) }
     {
         let slot = self.child_slot(node, 0);

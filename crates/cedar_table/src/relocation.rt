@@ -6,13 +6,13 @@ use crate::table::Table;
 use std::alloc::Allocator;
 
 impl<L: Layout, const SLOTS: usize, A: Allocator> Table<L, SLOTS, A> {
-    ghost use Rattle.std.specs.Prelude.{◌≡◌, ◌≢◌, ℕ, List, ◌<◌, ◌^◌, ◌↔◌, ◌⊎◌, IsTrue, pos};
-    ghost use Rattle.cedar_table.specs.Cells.{Held};
+    ghost use Rattle.std.specs.Prelude.{bit_xor, ◌≡◌, ◌≢◌, ℕ, List, ◌<◌, ◌^◌, ◌↔◌, false, IsTrue, pos, true};
+    ghost use Rattle.cedar_table.specs.Cells.{Held, IsPlace, SameHeld};
     ghost use Rattle.cedar_table.specs.Family.{Among, base_of, below, Family, Head, Links};
     ghost use Rattle.cedar_table.specs.Places.{IsTable};
     ghost use Rattle.cedar_table.specs.Renaming.{Always, ChecksAt, IsNode, IsNumber, Movable, OwnsNothing, Rebased, Relocated, Renames, Repointed, SameFrame, single};
+    ghost use Rattle.cedar_table.specs.Reserved.{freed, seen};
     ghost use Rattle.cedar_table.specs.TableFields.{cells, fields, size_of};
-    ghost use Rattle.cedar_table.specs.WellFormed.{IsWellFormed, tree_of};
 
     /// Where a node's slots begin, and 0 if its base field says nothing of that.
     pub(crate) fn base_of(&self, node: usize) -> usize
@@ -41,6 +41,24 @@ impl<L: Layout, const SLOTS: usize, A: Allocator> Table<L, SLOTS, A> {
         ensures { IsTrue result ↔ ((cells self.now).check slot ≡ pos owner) }
     {
         self.places.slots.nodes[slot].check == owner as i32
+    }
+
+    /// The owner of a held slot that isn't the root's.
+    pub(crate) fn owner(&self, slot: usize) -> usize
+        requires slot_in { slot < size_of (fields self.now) }
+        requires owned { (c : ℕ) × ((cells self.now).check slot ≡ pos c) }
+        ensures { (cells self.now).check slot ≡ pos result }
+    {
+        self.places.slots.nodes[slot].check as usize
+    }
+
+    /// Whether a slot other than the root's is free.
+    pub(crate) fn is_free_slot(&self, slot: usize) -> bool
+        requires slot_in { slot < size_of (fields self.now) }
+        requires not_root { slot ≢ 0 }
+        ensures { IsTrue result ↔ (Held (cells self.now) slot → ⊥) }
+    {
+        self.places.slots.nodes[slot].check < 0
     }
 
     /// Makes `owner` the owner of the held slot `slot`.
@@ -133,6 +151,34 @@ impl<L: Layout, const SLOTS: usize, A: Allocator> Table<L, SLOTS, A> {
         }
     }
 
+    /// Copies what the slot `from` has, which `owner` owns under `label`, to the free slot `to`. The slot `from` is held
+    /// as before, but no part of the tree any more.
+    fn copy_slot(&mut self, from: usize, to: usize, owner: usize, label: u8)
+        requires sound { IsTable SLOTS (fields self.old).places }
+        requires from_in { from < size_of (fields self.old) }
+        requires to_in { to < size_of (fields self.old) }
+        requires owner_in { owner < size_of (fields self.old) }
+        requires mine { (cells self.old).check from ≡ pos owner }
+        requires not_own { owner ≢ from }
+        requires free { Held (cells self.old) to → ⊥ }
+        requires root { (c : ℕ) → (cells self.old).check 0 ≡ pos c → ⊥ }
+        requires node { (label ≡ 0 → ⊥) → IsNode (size_of (fields self.old)) (cells self.old) from }
+        requires alone { label ≡ 0 → OwnsNothing (cells self.old) from }
+        ensures sound { IsTable SLOTS (fields self.new).places }
+        ensures still { (cells self.new).check from ≡ pos owner }
+        ensures renamed { Renames (cells self.old) (freed (cells self.new) from) (single from to) }
+        ensures frame { SameFrame (fields self.old) (fields self.new) }
+    {
+        self.repoint_under(from, to, label);
+        let base = self.base(from);
+        self.pop_e_node(to, base, owner);
+        let info = NInfoRecord {
+            sibling: self.sibling(from),
+            child: self.child(from),
+        };
+        self.write_info(to, info);
+    }
+
     /// Moves what the slot `from` has, which `owner` owns under `label`, to the free slot `to`.
     fn move_slot(&mut self, from: usize, to: usize, owner: usize, label: u8)
         requires sound { IsTable SLOTS (fields self.old).places }
@@ -149,19 +195,57 @@ impl<L: Layout, const SLOTS: usize, A: Allocator> Table<L, SLOTS, A> {
         ensures renamed { Renames (cells self.old) (cells self.new) (single from to) }
         ensures frame { SameFrame (fields self.old) (fields self.new) }
     {
-        self.repoint_under(from, to, label);
-        let base = self.base(from);
-        self.pop_e_node(to, base, owner);
-        let info = NInfoRecord {
-            sibling: self.sibling(from),
-            child: self.child(from),
-        };
-        self.write_info(to, info);
+        self.copy_slot(from, to, owner, label);
         self.push_e_node(from);
     }
 
+    /// Moves what the slot `from` has to the free slot `to`. The slot `wanted` isn't given back, but reserved.
+    fn pass_slot(&mut self, from: usize, to: usize, owner: usize, label: u8, wanted: usize)
+        requires sound { IsTable SLOTS (fields self.old).places }
+        requires from_in { from < size_of (fields self.old) }
+        requires to_in { to < size_of (fields self.old) }
+        requires owner_in { owner < size_of (fields self.old) }
+        requires mine { (cells self.old).check from ≡ pos owner }
+        requires not_own { owner ≢ from }
+        requires free { Held (cells self.old) to → ⊥ }
+        requires root { (c : ℕ) → (cells self.old).check 0 ≡ pos c → ⊥ }
+        requires node { (label ≡ 0 → ⊥) → IsNode (size_of (fields self.old)) (cells self.old) from }
+        requires alone { label ≡ 0 → OwnsNothing (cells self.old) from }
+        ensures sound { IsTable SLOTS (fields self.new).places }
+        ensures kept { from ≢ wanted → Renames (cells self.old) (cells self.new) (single from to) }
+        ensures passed { from ≡ wanted → Renames (cells self.old) (freed (cells self.new) wanted) (single from to) × ((cells self.new).check wanted ≡ pos 0) }
+        ensures frame { SameFrame (fields self.old) (fields self.new) }
+    {
+        if from == wanted {
+            self.copy_slot(from, to, owner, label);
+            self.set_check(from, 0);
+            return;
+        }
+        self.move_slot(from, to, owner, label);
+    }
+
+    /// Takes a free slot to be reserved, once it is time and if it isn't reserved yet. It is held in the root's name.
+    fn reserve(&mut self, slot: usize, reserved: bool, now: bool) -> bool
+        requires sound { IsTable SLOTS (fields self.old).places }
+        requires slot_in { slot < size_of (fields self.old) }
+        requires not_root { slot ≢ 0 }
+        requires slot_free { reserved ≡ false → Held (cells self.old) slot → ⊥ }
+        requires marked { reserved ≡ true → (cells self.old).check slot ≡ pos 0 }
+        ensures sound { IsTable SLOTS (fields self.new).places }
+        ensures marked { result ≡ true → (cells self.new).check slot ≡ pos 0 }
+        ensures seen { SameHeld (seen reserved (cells self.old) slot) (seen result (cells self.new) slot) }
+        ensures now { now ≡ true → result ≡ true }
+        ensures frame { SameFrame (fields self.old) (fields self.new) }
+    {
+        if reserved || !now {
+            return reserved;
+        }
+        self.pop_e_node(slot, L::base_field(0), 0);
+        true
+    }
+
     /// Sets where the slots of `node` begin.
-    fn set_base(&mut self, node: usize, base: usize)
+    pub(crate) fn set_base(&mut self, node: usize, base: usize)
         requires sound { IsTable SLOTS (fields self.old).places }
         requires node_in { node < size_of (fields self.old) }
         requires base_in { base < size_of (fields self.old) }
@@ -179,22 +263,59 @@ impl<L: Layout, const SLOTS: usize, A: Allocator> Table<L, SLOTS, A> {
     }
 
     /// Moves the slots that `parent` owns, which stand under `labels`, to the base `base`: one after the other, each
-    /// with all that it has, so that the chains are as they were.
-    pub(crate) fn relocate(&mut self, parent: usize, base: usize, labels: &[u8])
+    /// with all that it has, so that the chains are as they were. The old slot `wanted` is kept back for another node,
+    /// and the others are given back.
+    pub(crate) fn relocate_around(
+        &mut self,
+        parent: usize,
+        base: usize,
+        labels: &[u8],
+        wanted: usize,
+    )
         requires sound { IsTable SLOTS (fields self.old).places }
         requires parent_in { parent < size_of (fields self.old) }
         requires movable { Movable (size_of (fields self.old)) (cells self.old) parent base labels.now }
+        requires mine { (cells self.old).check wanted ≡ pos parent }
         ensures sound { IsTable SLOTS (fields self.new).places }
-        ensures relocated { Relocated (size_of (fields self.old)) (cells self.old) (cells self.new) parent base }
-        ensures well_formed { IsWellFormed SLOTS (fields self.old) → IsWellFormed SLOTS (fields self.new) × (tree_of (fields self.new) ≡ tree_of (fields self.old)) }
+        ensures relocated { Relocated (size_of (fields self.old)) (cells self.old) (freed (cells self.new) wanted) parent base }
+        ensures reserved { (cells self.new).check wanted ≡ pos 0 }
+        ensures root_check { (cells self.new).check 0 ≡ (cells self.old).check 0 }
         ensures frame { SameFrame (fields self.old) (fields self.new) }
     {
         let old_base = self.base_of(parent);
         for label in labels {
             let from = old_base ^ usize::from(*label);
             let to = base ^ usize::from(*label);
-            self.move_slot(from, to, parent, *label);
+            self.pass_slot(from, to, parent, *label, wanted);
         }
         self.set_base(parent, base);
+    }
+
+    /// Moves the slots that `parent` owns, which stand under `labels`, to the base `new_base`, one after the other. The slot
+    /// there for a new label is taken when its turn among them comes, and kept back for it.
+    pub(crate) fn relocate_with(&mut self, parent: usize, new_base: usize, labels: &[u8], label: u8)
+        requires sound { IsTable SLOTS (fields self.old).places }
+        requires parent_in { parent < size_of (fields self.old) }
+        requires movable { Movable (size_of (fields self.old)) (cells self.old) parent new_base labels.now }
+        requires new { Among labels.now label → ⊥ }
+        requires place { IsPlace (size_of (fields self.old)) (cells self.old) (bit_xor new_base label) }
+        ensures sound { IsTable SLOTS (fields self.new).places }
+        ensures relocated { Relocated (size_of (fields self.old)) (cells self.old) (freed (cells self.new) (bit_xor new_base label)) parent new_base }
+        ensures reserved { (cells self.new).check (bit_xor new_base label) ≡ pos 0 }
+        ensures root_check { (cells self.new).check 0 ≡ (cells self.old).check 0 }
+        ensures frame { SameFrame (fields self.old) (fields self.new) }
+    {
+        let old_base = self.base_of(parent);
+        let slot = new_base ^ usize::from(label);
+        let mut reserved = false;
+        for other in labels {
+            let now = self.goes_before(label, *other);
+            reserved = self.reserve(slot, reserved, now);
+            let from = old_base ^ usize::from(*other);
+            let to = new_base ^ usize::from(*other);
+            self.move_slot(from, to, parent, *other);
+        }
+        self.reserve(slot, reserved, true);
+        self.set_base(parent, new_base);
     }
 }

@@ -142,7 +142,8 @@ impl<A: Allocator> Slots<A> {
         requires fits { length self.now.nodes.items ≤ 2 ^ 30 }
         requires base_in { 256 * (base / 256) + 256 ≤ length self.now.nodes.items }
         requires not_root { 0 < base / 256 }
-        ensures { IsTrue result → AllFree self.now.nodes.items base labels.now }
+        ensures fits { IsTrue result → AllFree self.now.nodes.items base labels.now }
+        ensures only { AllFree self.now.nodes.items base labels.now → IsTrue result }
     {
         for &label in labels {
             if !self.is_free(base ^ usize::from(label)) {

@@ -9,7 +9,7 @@ use crate::layout::{Layout, Stored};
 use crate::places::Places;
 use crate::records::{BlockRecord, NInfoRecord, NodeRecord};
 use crate::ticks::Ticks;
-use smallvec::SmallVec;
+use arrayvec::ArrayVec;
 use std::alloc::Allocator;
 use std::marker::PhantomData;
 use std::sync::ledger::Ledger;
@@ -17,9 +17,8 @@ use std::sync::ledger::Ledger;
 /// The slots of a block.
 pub const BLOCK_SIZE: usize = 256;
 
-/// The labels of one node, and 0 for its number. As many as there can be are kept inline, so that a set of labels takes
-/// no memory.
-pub type Labels<A> = SmallVec<u8, 256, A>;
+/// The labels of one node, and 0 for its number: as many as there can be, so that a set of labels takes no memory.
+pub type Labels = ArrayVec<u8, 256>;
 
 /// A double-array trie's table. It has up to `SLOTS` slots, in blocks of 256: the root, the slots that others
 /// own, and free ones.
@@ -35,13 +34,14 @@ pub struct Table<L: Layout, const SLOTS: usize, A: Allocator> {
 }
 
 impl<L: Layout, const SLOTS: usize, A: Allocator> Table<L, SLOTS, A> {
-    ghost use Rattle.std.specs.Prelude.{ℕ, ◌<◌, ◌^◌, ◌⊎◌, ◌+◌, ◌-◌, ◌/◌, ◌↔◌, count_by, IfErr, IfOk, IsTrue, negsuc, OnErr};
+    ghost use Rattle.std.specs.Prelude.{ℕ, ◌≢◌, ◌<◌, ◌^◌, ◌⊎◌, ◌+◌, ◌-◌, ◌/◌, ◌↔◌, count_by, IfErr, IfOk, IsTrue, negsuc, OnErr};
     ghost use Rattle.std.specs.List.{range_with_len};
     ghost use Rattle.cedar_table.specs.declared.error.CedarError.TheVariants.{Memory};
     ghost use Rattle.cedar_table.specs.Blocks.{block_at, head_of};
     ghost use Rattle.cedar_table.specs.Cells.{Gives, HasPlaces, Held, InfoWritten, is_held, IsPlace, NodeWritten, NoPlace, SameHeld, Takes};
     ghost use Rattle.cedar_table.specs.Layouts.{reading};
     ghost use Rattle.cedar_table.specs.Places.{AddsBlock, IsNew, MayRefuse, reject_at, SameSlots};
+    ghost use Rattle.cedar_table.specs.Reserved.{freed};
     ghost use Rattle.cedar_table.specs.Slots.{check_at, node_at};
     ghost use Rattle.cedar_table.specs.TableFields.{capacity_of, cells, fields, SameSettings, size_of};
     ghost use Rattle.cedar_table.specs.WellFormed.{IsWellFormed, tree_of};
@@ -95,6 +95,30 @@ impl<L: Layout, const SLOTS: usize, A: Allocator> Table<L, SLOTS, A> {
             check: owner as i32,
         };
         self.places.pop_e_node(slot, node);
+    }
+
+    /// Takes the held slot `slot`, which is no part of the tree, for `owner`, with `base` in its base field and no labels.
+    pub(crate) fn claim(&mut self, slot: usize, base: i32, owner: usize)
+        requires sound { IsTable SLOTS (fields self.old).places }
+        requires slot_in { slot < size_of (fields self.old) }
+        requires slot_held { Held (cells self.old) slot }
+        requires not_root { slot ≢ 0 }
+        requires owner_in { owner < 2 ^ 31 }
+        ensures sound { IsTable SLOTS (fields self.new).places }
+        ensures takes { Takes (freed (cells self.old) slot) (cells self.new) slot owner }
+        ensures base { (cells self.new).base slot ≡ base }
+        ensures stored { (cells self.new).stored slot ≡ reading L.kind base }
+        ensures size { size_of (fields self.new) ≡ size_of (fields self.old) }
+        ensures capacity { capacity_of (fields self.new) ≡ capacity_of (fields self.old) }
+        ensures settings { SameSettings (fields self.old) (fields self.new) }
+    {
+        let check = owner as i32;
+        self.write_node(slot, NodeRecord { base, check });
+        let info = NInfoRecord {
+            sibling: 0,
+            child: 0,
+        };
+        self.write_info(slot, info);
     }
 
     /// Gives the held slot `slot`, which isn't the root, back to the free ones of its block.

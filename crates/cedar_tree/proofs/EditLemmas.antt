@@ -1,17 +1,17 @@
 -- A put and a cut as changes of one node after another.
 use Rattle.std.proofs.Common.{◌≡◌, ℕ, Bool, true, false, cond, ◌==◌, ℤ, List, [], ◌∷◌, ◌++◌, Option, Some, None, refl, sym, ap, ◌∙◌, inl, inr, ◌⊎◌}
 use Rattle.std.proofs.lemmas.Bool.{or_parts}
-use Rattle.cedar_tree.specs.Tree.{Forest, none, child, Tree, empty_tree, has_label, subtree, replace, insert_ascending, put_child, put, is_bare, without, cut}
+use Rattle.cedar_tree.specs.Tree.{Forest, none, child, Tree, empty_tree, has_label, subtree, replace, put_child, put, is_bare, without, cut}
 use Rattle.cedar_tree.specs.Queries.{node_at}
 use Rattle.cedar_tree.specs.Edits.{number_on, edit_at, add_leaf, HasPath, with_leaf, without_leaf, with_number, without_number}
-use Rattle.cedar_tree.proofs.TreeLemmas.{bare_empty, cut-empty, put_child-put_child, replace-replace, replace-subtree, settle, subtree-put_same, subtree-replace_same, subtree_absent, without_absent}
+use Rattle.cedar_tree.proofs.TreeLemmas.{bare_empty, cut-empty, put_child-put_child, replace-subtree, settle, subtree-put_same, subtree-replace_same, subtree_absent, without_absent}
 use Rattle.cedar_tree.proofs.ChangeLemmas.{settle-replace}
 
 -- the node under a label after a change at the end of a path below it
-abbrev changed : List ℕ → (Option ℤ → Option ℤ) → (Forest → Forest) → Tree → Tree
+abbrev pub changed : List ℕ → (Option ℤ → Option ℤ) → (Forest → Forest) → Tree → Tree
 changed path number children t = record { number = number_on path number t.number; children = edit_at path number children t.children }
 
-edit_is_replace : (l : ℕ) (path : List ℕ) (number : Option ℤ → Option ℤ) (children : Forest → Forest) (f : Forest) → edit_at (l ∷ path) number children f ≡ replace f l (changed path number children (subtree f l))
+pub edit_is_replace : (l : ℕ) (path : List ℕ) (number : Option ℤ → Option ℤ) (children : Forest → Forest) (f : Forest) → edit_at (l ∷ path) number children f ≡ replace f l (changed path number children (subtree f l))
 edit_is_replace l path number children none = refl
 edit_is_replace l path number children (child m n below rest) =
     elim (m == l) as (λ b. cond b (child m (number_on path number n) (edit_at path number children below) rest) (child m n below (edit_at (l ∷ path) number children rest))
@@ -21,7 +21,7 @@ edit_is_replace l path number children (child m n below rest) =
       | false ↦ ap (child m n below) (edit_is_replace l path number children rest)
     ]
 
-same_number : (path : List ℕ) (n : Option ℤ) → number_on path (λ m. m) n ≡ n
+pub same_number : (path : List ℕ) (n : Option ℤ) → number_on path (λ m. m) n ≡ n
 same_number [] n = refl
 same_number (l ∷ path) n = refl
 
@@ -33,7 +33,7 @@ replace_absent (child m n below rest) l u h =
 
 -- ---- a put
 
-leaf_is_put : (ordered : Bool) (l : ℕ) (f : Forest) → has_label f l ≡ false → add_leaf ordered l f ≡ put_child ordered f l empty_tree
+pub leaf_is_put : (ordered : Bool) (l : ℕ) (f : Forest) → has_label f l ≡ false → add_leaf ordered l f ≡ put_child ordered f l empty_tree
 leaf_is_put ordered l f h = rw h refl
 
 there_is_put : (ordered : Bool) (l : ℕ) (f : Forest) (u : Tree) → has_label f l ≡ true → replace f l u ≡ put_child ordered f l u
@@ -81,7 +81,7 @@ cut_settles : (t : Tree) (l : ℕ) (path : List ℕ) → cut t (l ∷ path) ≡ 
 cut_settles t l path = refl
 
 -- a cut forgets what a change left of the tree below a label, if the cut below it does
-cut_below : (n : Option ℤ) (f : Forest) (l : ℕ) (x : Tree) (path : List ℕ) → cut x path ≡ cut (subtree f l) path → cut (record { number = n; children = replace f l x }) (l ∷ path) ≡ cut (record { number = n; children = f }) (l ∷ path)
+pub cut_below : (n : Option ℤ) (f : Forest) (l : ℕ) (x : Tree) (path : List ℕ) → cut x path ≡ cut (subtree f l) path → cut (record { number = n; children = replace f l x }) (l ∷ path) ≡ cut (record { number = n; children = f }) (l ∷ path)
 cut_below n f l x path same =
     (elim (has_label f l) as (λ b. has_label f l ≡ b → cut (record { number = n; children = replace f l x }) (l ∷ path) ≡ cut (record { number = n; children = f }) (l ∷ path)) [
       | true ↦ λ e.
@@ -100,7 +100,7 @@ cut_changed t (l ∷ path) =
 pub cut-without_number : (t : Tree) (l : ℕ) (path : List ℕ) → cut (without_number t (l ∷ path)) (l ∷ path) ≡ cut t (l ∷ path)
 cut-without_number t l path = cut_changed t (l ∷ path)
 
-bare_cut : (t : Tree) (path : List ℕ) → is_bare t ≡ true → cut t path ≡ empty_tree
+pub bare_cut : (t : Tree) (path : List ℕ) → is_bare t ≡ true → cut t path ≡ empty_tree
 bare_cut t path e = ap (λ (y : Tree). cut y path) (bare_empty t e) ∙ cut-empty path
 
 -- a node without a label and without the label's tree

@@ -12,3 +12,5 @@ pub mod PredictLemmas
 pub mod KeyLemmas
 pub mod ChangeLemmas
 pub mod EditLemmas
+pub mod PutLemmas
+pub mod CutLemmas

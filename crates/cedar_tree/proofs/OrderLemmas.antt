@@ -30,12 +30,12 @@ all_above-without low none l a = tt
 all_above-without low (child m n below rest) l a =
     elim (m == l) as (λ b. AllAbove low (cond b rest (child m n below (without rest l)))) [ true ↦ a.1 | false ↦ (a.0, all_above-without low rest l a.1) ]
 
-ascending_subtree : (f : Forest) (l : ℕ) → IsAscending f → IsAscending (subtree f l).children
+pub ascending_subtree : (f : Forest) (l : ℕ) → IsAscending f → IsAscending (subtree f l).children
 ascending_subtree none l s = tt
 ascending_subtree (child m n below rest) l s =
     elim (m == l) as (λ b. IsAscending (cond b (record { number = n; children = below }) (subtree rest l)).children) [ true ↦ s.1 | false ↦ ascending_subtree rest l s.2 ]
 
-ascending-replace : (f : Forest) (l : ℕ) (u : Tree) → IsAscending f → IsAscending u.children → IsAscending (replace f l u)
+pub ascending-replace : (f : Forest) (l : ℕ) (u : Tree) → IsAscending f → IsAscending u.children → IsAscending (replace f l u)
 ascending-replace none l u s w = tt
 ascending-replace (child m n below rest) l u s w =
     elim (m == l) as (λ b. IsAscending (cond b (child m u.number u.children rest) (child m n below (replace rest l u)))) [
@@ -43,7 +43,7 @@ ascending-replace (child m n below rest) l u s w =
       | false ↦ (all_above-replace m rest l u s.0, s.1, ascending-replace rest l u s.2 w)
     ]
 
-ascending-insert : (f : Forest) (l : ℕ) (u : Tree) → has_label f l ≡ false → IsAscending f → IsAscending u.children → IsAscending (insert_ascending f l u)
+pub ascending-insert : (f : Forest) (l : ℕ) (u : Tree) → has_label f l ≡ false → IsAscending f → IsAscending u.children → IsAscending (insert_ascending f l u)
 ascending-insert none l u h s w = (tt, w, tt)
 ascending-insert (child m n below rest) l u h s w =
     let p = or_parts (m == l) (has_label rest l) h in
@@ -56,7 +56,7 @@ ascending-insert (child m n below rest) l u h s w =
           (all_above-insert m rest l u less s.0, s.1, ascending-insert rest l u p.1 s.2 w)
     ]) refl
 
-ascending-without : (f : Forest) (l : ℕ) → IsAscending f → IsAscending (without f l)
+pub ascending-without : (f : Forest) (l : ℕ) → IsAscending f → IsAscending (without f l)
 ascending-without none l s = tt
 ascending-without (child m n below rest) l s =
     elim (m == l) as (λ b. IsAscending (cond b rest (child m n below (without rest l)))) [

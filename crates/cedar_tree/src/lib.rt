@@ -4,9 +4,13 @@
 
 ghost use Rattle.cedar_tree.specs.Statements.{PutIsReadBack, PutStaysLocal, CutIsReadBack, CutStaysLocal, LaterPutStands, HeldPutChangesNothing, MissedCutChangesNothing, CutUndoesPut, CutForgetsPut, PutKeepsSound, CutKeepsSound, PutKeepsPassing, CutKeepsPassing, FoundPasses, PutKeepsAscending, CutKeepsAscending, WalkHasHeld, WalkHasEachOnce, PutKeepsOtherEntries, CutKeepsOtherEntries, KeysComeBeforeExtensions, FrontHasHeld, FrontAscends, PredictHasHeld, PredictIsPartOfWalk, PredictIsWalkOfNode, PredictOfNothingIsWalk, PrefixesHaveFronts, PrefixesHaveNoOther, PutCountsEntries, CutCountsEntries, PutCountsPrefixes, CutCountsPrefixes, PutCountsSlots, CutCountsSlots, MissingAreBareFronts, NodesAreFronts, HeldMissesNone, CutMissesMore, WalkAscends, OneTree, BuiltIsSound, BuiltIsAscending, BuiltPasses, BuiltHoldsLast, SortedPairsHaveTree, PairsHaveOneTree, EntriesAreKeys, EntriesMakeTree};
 
+mod cuts;
 mod edits;
+mod puts;
 
+pub use cuts::{cut_nodes_stay, edits_stay_ascending, paths_go_on};
 pub use edits::{cut_ends, cut_goes_up_its_path, put_goes_along_its_path};
+pub use puts::{cut_takes_leaves_back, leaf_stands_at_its_path};
 
 /// A put number is read back at its path, and each other path's number stays.
 pub fn put_is_read_back()

@@ -1,2 +1,3 @@
+mod KeyLemmas
 pub mod Limits
 mod OneKeyLemmas

@@ -13,3 +13,6 @@ limit_1024 = record { power = (2, refl); most = omega arith }
 
 pub limit_4096 : IsSlotLimit 4096
 limit_4096 = record { power = (4, refl); most = omega arith }
+
+pub limit_65536 : IsSlotLimit 65536
+limit_65536 = record { power = (8, refl); most = omega arith }

@@ -1,8 +1,10 @@
 //! Tests of the slot table.
-#![tactic(auto, using(crate::proofs::Limits::limit_256, crate::proofs::Limits::limit_512, crate::proofs::Limits::limit_1024, crate::proofs::Limits::limit_4096))]
+#![tactic(auto, using(crate::proofs::Limits::limit_256, crate::proofs::Limits::limit_512, crate::proofs::Limits::limit_1024, crate::proofs::Limits::limit_4096, crate::proofs::Limits::limit_65536))]
 
 #[cfg(test)]
 mod figures;
+#[cfg(test)]
+mod keys;
 #[cfg(test)]
 mod lookup;
 #[cfg(test)]

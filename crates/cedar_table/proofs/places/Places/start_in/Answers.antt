@@ -25,7 +25,7 @@ pub returns-then-fits : goal.returns-then-fits
 returns-then-fits g c = record {
   free = c.loop.invariant.free;
   here = c.loop.invariant.here;
-  fits = subst (λ l. AllFree c.args.self.now.slots.nodes.items (bit_xor c.loop.slot l) c.args.labels.now) c.from.ensures (c.fits.ensures c.if-fits.true);
+  fits = subst (λ l. AllFree c.args.self.now.slots.nodes.items (bit_xor c.loop.slot l) c.args.labels.now) c.from.ensures (c.fits.ensures.fits c.if-fits.true);
 }
 
 pub next_free-slot-requires : goal.next_free-slot-requires

@@ -19,5 +19,5 @@ is_free-requires-clause-not_root g c =
 pub loop-label-preserved : goal.loop-label-preserved
 loop-label-preserved g c = all_free_more c.args.self.now.nodes.items c.args.base c.args.labels.now c.loop-label.label-index c.from.result c.loop-label-test.true c.from.ensures (sym c.is_free.ensures ∙ c.if-not-is_free.false) c.loop-label.invariant
 
-pub returns : goal.returns
-returns g c _ k d h = c.loop-label.invariant k d (omega arith)
+pub returns-clause-fits : goal.returns-clause-fits
+returns-clause-fits g c _ k d h = c.loop-label.invariant k d (omega arith)

@@ -1,16 +1,15 @@
-use Rattle.std.proofs.Common.{◌≡◌, ◌<◌, ◌%◌, ◌^◌, ◌∙◌, arith, inr, rules, subst, sym, ap, [], ◌∷◌, ◌++◌, w32, FitsSigned}
+use Rattle.std.proofs.Common.{◌≡◌, ◌<◌, ◌∙◌, arith, inr, rules, subst, sym, ap, [], ◌∷◌, ◌++◌, w32, FitsSigned}
 use Rattle.std.proofs.lemmas.Int.{to_z-of_z}
 use Rattle.cedar_tree.specs.Edits.{add_leaf, edit_at}
 use Rattle.cedar_table.specs.declared.layout.Stored.TheVariants.{AtBase}
 use Rattle.cedar_table.specs.Cells.{Held}
-use Rattle.cedar_table.specs.Edit.{AddsLabel, CanAdd, IsAt}
-use Rattle.cedar_table.specs.Family.{base_in, below}
+use Rattle.cedar_table.specs.Edit.{CanAdd, IsAt}
+use Rattle.cedar_table.specs.Family.{below}
 use Rattle.cedar_table.specs.Layouts.{reading}
 use Rattle.cedar_table.specs.Meaning.{HoldsTree}
 use Rattle.cedar_table.specs.TableFields.{cells, fields, size_of}
-use Rattle.cedar_table.proofs.LabelLemmas.{base_inside, can_add_at, can_link_by, chain_of_node, held_after, label_added_by, slot_inside, slot_stays}
+use Rattle.cedar_table.proofs.LabelLemmas.{base_inside, can_add_at, can_link_by, chain_of_node, held_after, label_added_by, root_check_stays, slot_inside, slot_stays}
 use Rattle.cedar_table.proofs.PlaceLemmas.{label_added, path_of_leaf, paths_stay}
-use Rattle.cedar_table.proofs.SettingLemmas.{settings_then}
 use Rattle.cedar_table.proofs.table.Table.add_label.Goals as goal
 
 pub slot_before-before-requires : goal.slot_before-before-requires
@@ -111,3 +110,7 @@ pub returns-clause-paths : goal.returns-clause-paths
 returns-clause-paths g c = λ v s at.
     let n = c.requires.node in
     paths_stay (size_of (fields c.args.self.now)) (cells c.args.self.now) (cells c.link.new.self) (fields c.args.self.now).ordered n.0 c.args.node c.args.label (returns-clause-added g c) n.1.holds n.1.path n.1.at v s at
+
+pub returns-clause-root_check : goal.returns-clause-root_check
+returns-clause-root_check g c =
+    root_check_stays (cells c.args.self.now) (cells c.pop_e_node.new.self) (cells c.link.new.self) c.args.node c.args.label c.child_slot-slot.result c.child_slot-slot.ensures c.requires.free c.pop_e_node.ensures.takes c.slot_before-before.result c.link.ensures.linked

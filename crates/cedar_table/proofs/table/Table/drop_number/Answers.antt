@@ -1,5 +1,4 @@
-use Rattle.std.proofs.Common.{◌≡◌, ◌<◌, ◌%◌, ◌∙◌, arith, inr, rules, subst, sym, ap, pos, None}
-use lib.Bits.{xor_zero_r}
+use Rattle.std.proofs.Common.{◌≡◌, ◌<◌, ◌∙◌, arith, inl, inr, refl, rules, subst, sym, ap, pos, None}
 use Rattle.cedar_tree.specs.Edits.{edit_at}
 use Rattle.cedar_table.specs.Cells.{Gives}
 use Rattle.cedar_table.specs.Edit.{SetsChild}
@@ -53,3 +52,10 @@ pub returns-clause-tree : goal.returns-clause-tree
 returns-clause-tree g c = λ f w h at.
     subst (λ m. HoldsTree m (cells c.push_e_node.new.self) (edit_at w (λ _. None) (λ u. u) f)) (sym (c.push_e_node.ensures.size ∙ c.set_child.ensures.size))
     (number_dropped_at (size_of (fields c.args.self.now)) (cells c.args.self.now) (cells c.push_e_node.new.self) f w c.args.node (λ z. omega (arith, z, c.requires.not_root)) h at (returns-clause-dropped g c))
+
+pub returns-clause-root_check : goal.returns-clause-root_check
+returns-clause-root_check g c =
+    let T = cells c.args.self.now in
+    let mine : T.check c.child_slot-slot.result ≡ pos c.args.node = ap T.check c.child_slot-slot.ensures ∙ c.requires.owned in
+    let apart : 0 ≡ c.child_slot-slot.result → ⊥ = λ z. c.requires.node.1.holds.root c.args.node (ap T.check z ∙ mine) in
+    (c.push_e_node.ensures.gives.other 0 apart (inl refl)).check ∙ c.set_child.ensures.set.check 0

@@ -9,21 +9,21 @@ use Rattle.cedar_table.proofs.table.Table.labels_of.Goals as goal
 pub loop-label-init : goal.loop-label-init
 loop-label-init g c =
     let n = c.requires.node in
-    record { listed = listed_none _ _ _ _ n.labels (c.first_label-label.ensures n.head n.labels n.family); capacity = c.number_label-labels.ensures.capacity }
+    listed_none _ _ _ _ n.labels (c.first_label-label.ensures n.head n.labels n.family)
 
-pub push_reserved-requires : goal.push_reserved-requires
-push_reserved-requires g c =
+pub push-requires : goal.push-requires
+push-requires g c =
     let n = c.requires.node in
-    let next = listed_next _ _ _ _ _ _ c.loop-label-test.true c.loop-label.invariant.listed in
-    let few : length c.number_label-labels.result.items ≤ 1 = subst (λ v. length v ≤ 1) (sym (c.number_label-labels.ensures.label n.head n.labels n.family)) (owned_few n.head) in
-    (search rules, omega (arith, next.room few, c.loop-label.invariant.capacity))
+    let next = listed_next _ _ _ _ _ _ c.loop-label-test.true c.loop-label.invariant in
+    let few : length c.number_label-labels.result.items ≤ 1 = subst (λ v. length v ≤ 1) (sym (c.number_label-labels.ensures n.head n.labels n.family)) (owned_few n.head) in
+    (search rules, omega (arith, next.room few))
 
 pub sibling-label-requires : goal.sibling-label-requires
 sibling-label-requires g c =
     let T = cells c.args.self.now in
     let n = c.requires.node in
     let size : ℕ = size_of (fields c.args.self.now) in
-    let next = listed_next _ _ _ _ _ _ c.loop-label-test.true c.loop-label.invariant.listed in
+    let next = listed_next _ _ _ _ _ _ c.loop-label-test.true c.loop-label.invariant in
     let at : bit_xor c.base_of-base.result c.from.result ≡ below T c.args.node c.loop-label.label = ap (λ b. bit_xor b c.from.result) c.base_of-base.ensures ∙ ap (below T c.args.node) c.from.ensures in
     let inside : below T c.args.node c.loop-label.label < size = xor_within size (base_of T c.args.node) c.loop-label.label (omega arith) (base_within _ _ _ n.head n.labels (omega (arith, c.args.self.now.shaped.blocks.some)) n.family) next.small in
     let here : bit_xor c.base_of-base.result c.from.result < size = subst (λ x. x < size) (sym at) inside in
@@ -32,21 +32,18 @@ sibling-label-requires g c =
 pub loop-label-smaller : goal.loop-label-smaller
 loop-label-smaller g c =
     let T = cells c.args.self.now in
-    let next = listed_next _ _ _ _ _ _ c.loop-label-test.true c.loop-label.invariant.listed in
+    let next = listed_next _ _ _ _ _ _ c.loop-label-test.true c.loop-label.invariant in
     let at : bit_xor c.base_of-base.result c.from.result ≡ below T c.args.node c.loop-label.label = ap (λ b. bit_xor b c.from.result) c.base_of-base.ensures ∙ ap (below T c.args.node) c.from.ensures in
     next.less c.sibling-label.result (c.sibling-label.ensures ∙ ap T.sibling at)
 
 pub loop-label-preserved : goal.loop-label-preserved
 loop-label-preserved g c =
     let T = cells c.args.self.now in
-    let next = listed_next _ _ _ _ _ _ c.loop-label-test.true c.loop-label.invariant.listed in
+    let next = listed_next _ _ _ _ _ _ c.loop-label-test.true c.loop-label.invariant in
     let at : bit_xor c.base_of-base.result c.from.result ≡ below T c.args.node c.loop-label.label = ap (λ b. bit_xor b c.from.result) c.base_of-base.ensures ∙ ap (below T c.args.node) c.from.ensures in
-    record {
-      listed = next.on c.sibling-label.result _ (c.sibling-label.ensures ∙ ap T.sibling at) c.push_reserved.ensures.items;
-      capacity = c.push_reserved.ensures.capacity ∙ c.loop-label.invariant.capacity;
-    }
+    next.on c.sibling-label.result _ (c.sibling-label.ensures ∙ ap T.sibling at) c.push.ensures.items
 
 pub returns : goal.returns
 returns g c = λ h ls f.
-    listed_all _ _ _ _ _ _ (search rules) c.loop-label.invariant.listed ls (c.first_label-label.ensures h ls f)
-    ∙ ap (λ v. v ++ ls) (c.number_label-labels.ensures.label h ls f) ∙ owned_split h ls
+    listed_all _ _ _ _ _ _ (search rules) c.loop-label.invariant ls (c.first_label-label.ensures h ls f)
+    ∙ ap (λ v. v ++ ls) (c.number_label-labels.ensures h ls f) ∙ owned_split h ls

@@ -1,14 +1,11 @@
-use Rattle.std.proofs.Common.{◌≡◌, length}
+use Rattle.std.proofs.Common.{length}
 use Rattle.cedar_table.specs.Reading.{chain}
 use Rattle.cedar_table.specs.TableFields.{cells}
 use Rattle.cedar_table.proofs.LabelsLemmas.{Listed}
 use Rattle.cedar_table.proofs.table.Table.labels_of.Given as goal
 
 abbrev pub invariant-loop-label : goal.invariant-loop-label
-invariant-loop-label g l = record {
-  listed : Listed (cells l.self) l.node l.initial.label l.label l.initial.labels.items l.labels.items;
-  capacity : l.labels.capacity ≡ 256;
-}
+invariant-loop-label g l = Listed (cells l.self) l.node l.initial.label l.label l.initial.labels.items l.labels.items
 
 -- how much of the chain is left
 abbrev pub decreases-loop-label : goal.decreases-loop-label

@@ -1,6 +1,6 @@
 use Rattle.std.proofs.Common.{◌≡◌, ◌<◌, ◌%◌, arith, subst, sym, ◌∙◌, inl, inr}
 use Rattle.cedar_table.specs.Edit.{IsLabelOf}
-use Rattle.cedar_table.specs.Family.{base_of, below, Links}
+use Rattle.cedar_table.specs.Family.{base_of, Links}
 use Rattle.cedar_table.specs.TableFields.{cells, fields, size_of}
 use Rattle.cedar_table.proofs.ChainLemmas.{links_next, strictly_below}
 use Rattle.cedar_table.proofs.StepLemmas.{xor_within}

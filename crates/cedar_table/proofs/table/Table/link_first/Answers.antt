@@ -1,4 +1,4 @@
-use Rattle.std.proofs.Common.{◌≡◌, ◌<◌, rules, sym, subst}
+use Rattle.std.proofs.Common.{◌<◌, rules, sym, subst}
 use Rattle.cedar_table.specs.TableFields.{cells}
 use Rattle.cedar_table.proofs.SettingLemmas.{held_still, linked_child}
 use Rattle.cedar_table.proofs.table.Table.link_first.Goals as goal

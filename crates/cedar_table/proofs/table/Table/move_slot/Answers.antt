@@ -1,52 +1,23 @@
-use Rattle.std.proofs.Common.{◌≡◌, ◌<◌, ◌∙◌, ap, arith, inr, rules, subst, sym, pos, ℤ, w32, FitsSigned}
-use Rattle.std.proofs.lemmas.Int.{to_z-of_z}
-use Rattle.cedar_table.specs.Cells.{Held}
-use Rattle.cedar_table.specs.Layouts.{reading}
+use Rattle.std.proofs.Common.{◌≡◌, ◌<◌, arith, inr, rules, subst, sym}
+use Rattle.std.specs.Prelude.{pos}
 use Rattle.cedar_table.specs.TableFields.{cells}
 use Rattle.cedar_table.proofs.FrameLemmas.{frame_then}
-use Rattle.cedar_table.proofs.RepointLemmas.{repointed_held}
-use Rattle.cedar_table.proofs.MoveSlotLemmas.{copied, move_renames}
-use Rattle.cedar_table.proofs.StepLemmas.{pos_injective}
+use Rattle.cedar_table.proofs.ReservedLemmas.{given_same, renames_same}
 use Rattle.cedar_table.proofs.table.Table.move_slot.Goals as goal
 
-pub repoint_under-requires : goal.repoint_under-requires
-repoint_under-requires g c =
-    let shaped = c.args.self.now.shaped in
-    (search rules, (c.requires.sound, (c.requires.from_in, ((λ e. c.requires.root c.args.owner (subst (λ x. (cells c.args.self.now).check x ≡ pos c.args.owner) e c.requires.mine)), (omega (arith, c.requires.to_in, shaped.blocks.active_in, shaped.blocks.fits), (c.requires.node, c.requires.alone))))))
-
-pub pop_e_node-requires : goal.pop_e_node-requires
-pop_e_node-requires g c =
-    let shaped = c.args.self.now.shaped in
-    let same = sym c.repoint_under.ensures.frame.size in
-    (search rules, (c.repoint_under.ensures.sound, (subst (λ n. c.args.to < n) same c.requires.to_in, ((λ h. c.requires.free (repointed_held _ _ c.args.from c.args.to c.repoint_under.ensures.repointed c.args.to h)), omega (arith, c.requires.owner_in, shaped.blocks.active_in, shaped.blocks.fits)))))
-
-pub write_info-requires : goal.write_info-requires
-write_info-requires g c =
-    let same = sym (c.pop_e_node.ensures.size ∙ c.repoint_under.ensures.frame.size) in
-    (search rules, (c.pop_e_node.ensures.sound, (subst (λ n. c.args.to < n) same c.requires.to_in, inr (c.args.owner, c.pop_e_node.ensures.takes.at))))
+pub copy_slot-requires : goal.copy_slot-requires
+copy_slot-requires g c = (search rules, (c.requires.sound, (c.requires.from_in, (c.requires.to_in, (c.requires.owner_in, (c.requires.mine, (c.requires.not_own, (c.requires.free, (c.requires.root, (c.requires.node, c.requires.alone))))))))))
 
 pub push_e_node-requires : goal.push_e_node-requires
 push_e_node-requires g c =
-    let same = sym (c.write_info.ensures.size ∙ c.pop_e_node.ensures.size ∙ c.repoint_under.ensures.frame.size) in
-    let apart : c.args.from ≡ c.args.to → ⊥ = λ e. c.requires.free (subst (Held (cells c.args.self.now)) e (inr (c.args.owner, c.requires.mine))) in
-    let first : (cells c.repoint_under.new.self).check c.args.from ≡ pos c.args.owner = c.repoint_under.ensures.repointed.kept c.args.from (λ e _. c.requires.not_own (pos_injective c.args.owner c.args.from (sym c.requires.mine ∙ e))) ∙ c.requires.mine in
-    let held : (cells c.write_info.new.self).check c.args.from ≡ pos c.args.owner = c.write_info.ensures.written.check c.args.from ∙ (c.pop_e_node.ensures.takes.other c.args.from apart (inr (c.args.owner, first))).check ∙ first in
+    let copy = c.copy_slot.ensures in
     let not_root : c.args.from ≡ 0 → ⊥ = λ e. c.requires.root c.args.owner (subst (λ x. (cells c.args.self.now).check x ≡ pos c.args.owner) e c.requires.mine) in
-    (search rules, (c.write_info.ensures.sound, (subst (λ n. c.args.from < n) same c.requires.from_in, (inr (c.args.owner, held), omega (arith, not_root)))))
+    (search rules, (copy.sound, (subst (λ n. c.args.from < n) (sym copy.frame.size) c.requires.from_in, (inr (c.args.owner, copy.still), omega (arith, not_root)))))
 
 pub returns-clause-renamed : goal.returns-clause-renamed
 returns-clause-renamed g c =
-    let apart : c.args.from ≡ c.args.to → ⊥ = λ e. c.requires.free (subst (Held (cells c.args.self.now)) e (inr (c.args.owner, c.requires.mine))) in
-    let first : (cells c.repoint_under.new.self).check c.args.from ≡ pos c.args.owner = c.repoint_under.ensures.repointed.kept c.args.from (λ e _. c.requires.not_own (pos_injective c.args.owner c.args.from (sym c.requires.mine ∙ e))) ∙ c.requires.mine in
-    let r : ℤ = c.base-base.result in
-    let fits : FitsSigned w32 r = search rules in
-    let base = to_z-of_z w32 r fits ∙ c.base-base.ensures in
-    let copy = copied _ _ _ c.args.from c.args.to c.args.owner _ _ first apart c.pop_e_node.ensures.takes (c.pop_e_node.ensures.base ∙ base) (c.pop_e_node.ensures.stored ∙ ap (reading g.L.Layout.kind) base) c.write_info.ensures.written c.sibling.ensures c.child.ensures in
-    move_renames _ _ _ _ _ c.args.from c.args.to c.args.owner c.requires.mine c.requires.not_own c.requires.free c.requires.root c.repoint_under.ensures.repointed c.pop_e_node.ensures.takes copy c.push_e_node.ensures.gives
+    let not_root : c.args.from ≡ 0 → ⊥ = λ e. c.requires.root c.args.owner (subst (λ x. (cells c.args.self.now).check x ≡ pos c.args.owner) e c.requires.mine) in
+    renames_same _ _ _ _ c.copy_slot.ensures.renamed (given_same _ _ c.args.from not_root c.push_e_node.ensures.gives)
 
 pub returns-clause-frame : goal.returns-clause-frame
-returns-clause-frame g c =
-    frame_then _ _ _ c.repoint_under.ensures.frame
-    (frame_then _ _ _ (record { size = c.pop_e_node.ensures.size; capacity = c.pop_e_node.ensures.capacity; settings = c.pop_e_node.ensures.settings })
-    (frame_then _ _ _ (record { size = c.write_info.ensures.size; capacity = c.write_info.ensures.capacity; settings = c.write_info.ensures.settings })
-    (record { size = c.push_e_node.ensures.size; capacity = c.push_e_node.ensures.capacity; settings = c.push_e_node.ensures.settings })))
+returns-clause-frame g c = frame_then _ _ _ c.copy_slot.ensures.frame (record { size = c.push_e_node.ensures.size; capacity = c.push_e_node.ensures.capacity; settings = c.push_e_node.ensures.settings })

@@ -10,12 +10,12 @@ is_owned_by-requires g c =
     let n = c.requires.node in
     (search rules, (subst (λ s. s < size_of (fields c.args.self.now)) (sym c.base_of.ensures) (base_within _ _ _ n.head n.labels (omega (arith, c.args.self.now.shaped.blocks.some)) n.family), c.requires.node_in))
 
-pub returns-then-is_owned_by-clause-label : goal.returns-then-is_owned_by-clause-label
-returns-then-is_owned_by-clause-label g c = λ h ls f.
-    c.push_reserved.ensures.items ∙ ap (λ v. v ++ 0 ∷ []) c.new-labels.ensures.items
+pub returns-then-is_owned_by : goal.returns-then-is_owned_by
+returns-then-is_owned_by g c = λ h ls f.
+    c.push.ensures.items ∙ ap (λ v. v ++ 0 ∷ []) c.new-labels.ensures
     ∙ number_there _ (cells c.args.self.now) c.args.node c.base_of.result h ls c.requires.not_root (c.base_of.ensures ∙ sym (xor_zero_r _)) (c.is_owned_by.ensures.0 c.if-is_owned_by.true) f
 
-pub returns-clause-label : goal.returns-clause-label
-returns-clause-label g c = λ h ls f.
-    c.new-labels.ensures.items
+pub returns : goal.returns
+returns g c = λ h ls f.
+    c.new-labels.ensures
     ∙ number_not_there _ (cells c.args.self.now) c.args.node c.base_of.result h ls (c.base_of.ensures ∙ sym (xor_zero_r _)) (λ o. let yes = c.is_owned_by.ensures.1 o in cc) f

@@ -1,7 +1,7 @@
 use Rattle.std.proofs.Common.{◌≡◌, arith, get_or, length, rules}
-use Rattle.std.proofs.lemmas.Result.{on_err_weaker}
 use Rattle.cedar_table.specs.TableFields.{cells, fields, size_of}
-use Rattle.cedar_table.proofs.ResolveLemmas.{made_more, one_place, searched_more}
+use Rattle.cedar_table.proofs.ResolveLemmas.{one_place}
+use Rattle.cedar_table.proofs.BlocksMadeLemmas.{found_blocks, made_nothing, searched_blocks}
 use Rattle.cedar_table.proofs.table.Table.place_for.Goals as goal
 
 pub returns-then-labels-eq1-clause-found : goal.returns-then-labels-eq1-clause-found
@@ -10,17 +10,11 @@ returns-then-labels-eq1-clause-found g c =
     let label : c.from.result ≡ get_or c.args.labels.now 0 0 = search rules in
     one_place (size_of (fields c.find_place.new.self)) (cells c.find_place.new.self) c.in_ok-slot.slot c.from.result c.args.labels.now one label c.in_ok-slot.ensures.found
 
-pub returns-then-labels-eq1-clause-grows : goal.returns-then-labels-eq1-clause-grows
-returns-then-labels-eq1-clause-grows g c = (made_more _ (fields c.args.self.now) (fields c.find_place.new.self) _ c.in_ok-slot.ensures.made).0
+pub returns-then-labels-eq1-clause-blocks : goal.returns-then-labels-eq1-clause-blocks
+returns-then-labels-eq1-clause-blocks g c = found_blocks _ (fields c.args.self.now) (fields c.find_place.new.self) _ c.in_ok-slot.ensures.made
 
-pub returns-then-labels-eq1-clause-one_block : goal.returns-then-labels-eq1-clause-one_block
-returns-then-labels-eq1-clause-one_block g c = (made_more _ (fields c.args.self.now) (fields c.find_place.new.self) _ c.in_ok-slot.ensures.made).1
+pub returns-clause-blocks : goal.returns-clause-blocks
+returns-clause-blocks g c = searched_blocks (fields c.args.self.now) (fields c.find_places.new.self) c.find_places.result c.find_places.ensures.made c.find_places.ensures.same
 
-pub returns-clause-grows : goal.returns-clause-grows
-returns-clause-grows g c = (searched_more (fields c.args.self.now) (fields c.find_places.new.self) c.find_places.result c.find_places.ensures.made c.find_places.ensures.same).0
-
-pub returns-clause-one_block : goal.returns-clause-one_block
-returns-clause-one_block g c = (searched_more (fields c.args.self.now) (fields c.find_places.new.self) c.find_places.result c.find_places.ensures.made c.find_places.ensures.same).1
-
-pub returns-clause-same : goal.returns-clause-same
-returns-clause-same g c = on_err_weaker c.find_places.result (λ same. omega (arith, same.active)) c.find_places.ensures.same
+pub returns-in_err-slot-clause-blocks : goal.returns-in_err-slot-clause-blocks
+returns-in_err-slot-clause-blocks g c = (0, omega arith, made_nothing (fields c.args.self.now) (fields c.find_place.new.self) c.in_err-slot.ensures.unchanged)

@@ -1,7 +1,5 @@
-use Rattle.std.proofs.Common.{◌≡◌, ◌<◌, ◌%◌, ◌∙◌, arith, inr, rules, subst, sym, ap, pos, ℕ}
-use Rattle.cedar_table.specs.Cells.{Gives, Held}
-use Rattle.cedar_table.specs.Edit.{HasChain, Removes}
-use Rattle.cedar_table.specs.Family.{below, base_of, Node}
+use Rattle.std.proofs.Common.{◌≡◌, ◌<◌, ◌∙◌, arith, inl, inr, refl, rules, subst, sym, ap, pos}
+use Rattle.cedar_table.specs.Family.{below}
 use Rattle.cedar_table.specs.Meaning.{HoldsTree}
 use Rattle.cedar_tree.specs.Tree.{without}
 use Rattle.cedar_tree.specs.Edits.{edit_at}
@@ -70,3 +68,10 @@ pub returns-clause-tree : goal.returns-clause-tree
 returns-clause-tree g c = λ f w h at.
     subst (λ m. HoldsTree m (cells c.push_e_node.new.self) (edit_at w (λ v. v) (λ u. without u c.args.label) f)) (sym (c.push_e_node.ensures.size ∙ c.lead_to.ensures.size))
     (label_removed (size_of (fields c.args.self.now)) (cells c.args.self.now) (cells c.push_e_node.new.self) f w c.args.node c.args.label h at (returns-clause-removed g c))
+
+pub returns-clause-root_check : goal.returns-clause-root_check
+returns-clause-root_check g c =
+    let T = cells c.args.self.now in
+    let mine : T.check c.child_slot-slot.result ≡ pos c.args.node = ap T.check c.child_slot-slot.ensures ∙ c.requires.owned in
+    let apart : 0 ≡ c.child_slot-slot.result → ⊥ = λ z. c.requires.node.1.holds.root c.args.node (ap T.check z ∙ mine) in
+    (c.push_e_node.ensures.gives.other 0 apart (inl refl)).check ∙ same_checks T (cells c.lead_to.new.self) c.args.node c.sibling-next.result c.slot_to-before.result c.lead_to.ensures.set 0

@@ -1,15 +1,15 @@
-use Rattle.std.proofs.Common.{◌≡◌, ◌<◌, ◌≤ℤ◌, ◌∙◌, arith, inl, inr, rules, subst, sym, ap, pos, Some, ℤ, to_z, of_z, w32, FitsSigned}
+use Rattle.std.proofs.Common.{◌≡◌, ◌<◌, ◌≤ℤ◌, ◌∙◌, arith, inl, inr, rules, subst, sym, ap, pos, Some, to_z, of_z, w32, FitsSigned}
 use Rattle.std.proofs.lemmas.Int.{ints, to_z_pos, to_z-of_z}
 use Rattle.cedar_tree.specs.Edits.{edit_at}
-use Rattle.cedar_table.specs.Cells.{Cells, Held, NodeWritten, Takes}
-use Rattle.cedar_table.specs.Edit.{SetsNumber, SetsSibling}
+use Rattle.cedar_table.specs.Cells.{Held, NodeWritten, Takes}
+use Rattle.cedar_table.specs.Edit.{SetsSibling}
 use Rattle.cedar_table.specs.Family.{below}
 use Rattle.cedar_table.specs.Layouts.{reading}
 use Rattle.cedar_table.specs.Meaning.{HoldsTree}
 use Rattle.cedar_table.specs.TableFields.{cells, fields, size_of}
 use Rattle.cedar_table.proofs.AtLemmas.{held_node, not_own_owner, number_set_at}
 use Rattle.cedar_table.proofs.LabelLemmas.{chain_of_node, lead_inside}
-use Rattle.cedar_table.proofs.SetNumberLemmas.{number_taken, number_written}
+use Rattle.cedar_table.proofs.SetNumberLemmas.{number_taken, number_written, root_check_taken, root_check_written}
 use Rattle.cedar_table.proofs.table.Table.set_number.Goals as goal
 
 pub is_owned_by-requires : goal.is_owned_by-requires
@@ -103,3 +103,17 @@ pub returns-clause-tree : goal.returns-clause-tree
 returns-clause-tree g c = λ f w h at.
     subst (λ m. HoldsTree m (cells c.set_child.new.self) (edit_at w (λ _. Some c.args.value) (λ u. u) f)) (sym (c.set_child.ensures.size ∙ c.set_sibling.ensures.size ∙ c.pop_e_node.ensures.size))
     (number_set_at (size_of (fields c.args.self.now)) (cells c.args.self.now) (cells c.set_child.new.self) f w c.args.node c.args.value (λ z. omega (arith, z, c.requires.not_root)) h at (returns-clause-set g c))
+
+pub returns-then-is_owned_by-clause-root_check : goal.returns-then-is_owned_by-clause-root_check
+returns-then-is_owned_by-clause-root_check g c =
+    root_check_written (reading g.L.Layout.kind) (cells c.args.self.now) (cells c.write_node.new.self) c.child_slot-slot.result c.args.node _ _ (c.is_owned_by.ensures.0 c.if-is_owned_by.true) c.requires.node.1.holds.root c.write_node.ensures.written
+
+pub returns-clause-root_check : goal.returns-clause-root_check
+returns-clause-root_check g c =
+    let T = cells c.args.self.now in
+    let e : c.child_slot-slot.result ≡ below T c.args.node 0 = c.child_slot-slot.ensures in
+    let free : Held T c.child_slot-slot.result → ⊥ = elim c.requires.place [
+      | inl o ↦ λ _. let yes = c.is_owned_by.ensures.1 (ap T.check e ∙ o) in let no = c.if-is_owned_by.false in cc
+      | inr n ↦ λ h. n (subst (Held T) e h)
+    ] in
+    root_check_taken T (cells c.pop_e_node.new.self) (cells c.set_sibling.new.self) (cells c.set_child.new.self) c.child_slot-slot.result c.args.node _ _ free c.pop_e_node.ensures.takes c.set_sibling.ensures.set c.set_child.ensures.set

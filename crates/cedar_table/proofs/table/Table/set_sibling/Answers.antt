@@ -1,4 +1,3 @@
-use Rattle.std.proofs.Common.{◌≡◌}
 use Rattle.cedar_table.specs.TableFields.{cells}
 use Rattle.cedar_table.proofs.SettingLemmas.{sets_sibling}
 use Rattle.cedar_table.proofs.table.Table.set_sibling.Goals as goal

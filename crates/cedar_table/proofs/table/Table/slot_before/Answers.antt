@@ -1,4 +1,4 @@
-use Rattle.std.proofs.Common.{◌≡◌, ◌<◌, ◌%◌, ◌∙◌, ap, arith, inl, inr, pos, rules, subst, sym}
+use Rattle.std.proofs.Common.{◌≡◌, ◌<◌, ◌∙◌, ap, arith, inl, inr, pos, rules, subst, sym}
 use Rattle.cedar_table.specs.Edit.{IsLabelOf, IsLead}
 use Rattle.cedar_table.specs.Family.{base_of, below, Links}
 use Rattle.cedar_table.specs.TableFields.{cells, fields, size_of}

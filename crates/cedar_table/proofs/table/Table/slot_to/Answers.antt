@@ -1,4 +1,4 @@
-use Rattle.std.proofs.Common.{◌≡◌, ◌<◌, ◌%◌, ◌∙◌, ap, arith, inr, subst, sym}
+use Rattle.std.proofs.Common.{◌≡◌, ◌<◌, ◌∙◌, ap, arith, inr, subst, sym}
 use Rattle.cedar_table.specs.Edit.{IsLabelOf}
 use Rattle.cedar_table.specs.Family.{Among, base_of, below, Links}
 use Rattle.cedar_table.specs.TableFields.{cells, fields, size_of}

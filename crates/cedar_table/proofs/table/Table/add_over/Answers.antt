@@ -1,0 +1,26 @@
+use Rattle.std.proofs.Common.{rules, ◌∙◌, sym}
+use Rattle.cedar_table.specs.Edit.{IsNodeOf}
+use Rattle.cedar_table.specs.Family.{below}
+use Rattle.cedar_table.specs.Reserved.{freed}
+use Rattle.cedar_table.specs.TableFields.{cells, fields, size_of}
+use Rattle.cedar_table.proofs.StepsToLemmas.{child_added_over}
+use Rattle.cedar_table.proofs.table.Table.add_over.Goals as goal
+
+pub add_reserved-requires : goal.add_reserved-requires
+add_reserved-requires g c =
+    let n = c.requires.node in
+    let k = c.in_ok-node.ensures.reserved in
+    let R = cells c.resolve.new.self in
+    let node : IsNodeOf (size_of (fields c.resolve.new.self)) (freed R (below R c.in_ok-node.node c.args.label)) (fields c.resolve.new.self).ordered n.0 c.in_ok-node.node = record {
+      holds = k.tree n.0 n.1.holds;
+      ascending = λ o. n.1.ascending (sym c.in_ok-node.ensures.settings.ordered ∙ o);
+      path = n.1.path;
+      at = k.at n.1.path n.1.at;
+    } in
+    (search rules, (c.in_ok-node.ensures.sound, (k.inside, (k.not_root, ((n.0, node), (c.requires.positive, (k.based, k.reserved)))))))
+
+pub returns-clause-stepped : goal.returns-clause-stepped
+returns-clause-stepped g c =
+    let add = c.add_reserved.ensures in
+    child_added_over (fields c.args.self.now) (fields c.resolve.new.self) (fields c.add_reserved.new.self) c.args.node c.args.label c.in_ok-node.node c.add_reserved.result
+    c.in_ok-node.ensures.reserved c.in_ok-node.ensures.settings.ordered c.requires.absent add.added add.slot (add.sound.sound.shaped.blocks.some) add.tree add.leaf c.requires.not_root

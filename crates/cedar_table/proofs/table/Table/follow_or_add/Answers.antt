@@ -1,0 +1,108 @@
+use Rattle.std.proofs.Common.{rules, ◌≢◌, ◌∙◌, ◌<◌, ap, arith, subst, sym}
+use Rattle.std.specs.Prelude.{pos}
+use Rattle.cedar_table.specs.Cells.{Held}
+use Rattle.cedar_table.specs.Family.{base_of, below}
+use Rattle.cedar_table.specs.Edit.{IsNodeOf}
+use Rattle.cedar_table.specs.TableFields.{cells, fields, size_of}
+use Rattle.cedar_table.specs.Views.{places_of}
+use Rattle.cedar_table.proofs.BlocksMadeLemmas.{made_none, same_slots}
+use Rattle.cedar_table.proofs.ClaimLemmas.{slot_far}
+use Rattle.cedar_table.proofs.RoomLemmas.{based_node, not_free_held}
+use Rattle.cedar_table.proofs.StepsToLemmas.{child_added, child_there, label_inside}
+use Rattle.cedar_table.proofs.table.Table.follow_or_add.Goals as goal
+
+pub is_owned_by-requires : goal.is_owned_by-requires
+is_owned_by-requires g c =
+    let n = c.requires.node in
+    let inside = label_inside (size_of (fields c.args.self.now)) (cells c.args.self.now) (fields c.args.self.now).ordered n.0 c.args.node c.args.label n.1 (omega arith) (omega (arith, c.requires.node_in)) (omega (arith, c.ranges.label.fits)) c.requires.no_own_number in
+    (search rules, (subst (λ s. s < size_of (fields c.args.self.now)) (sym c.child_slot-slot.ensures) inside, c.requires.node_in))
+
+pub returns-then-is_owned_by-clause-stepped : goal.returns-then-is_owned_by-clause-stepped
+returns-then-is_owned_by-clause-stepped g c =
+    let n = c.requires.node in
+    let inside = label_inside (size_of (fields c.args.self.now)) (cells c.args.self.now) (fields c.args.self.now).ordered n.0 c.args.node c.args.label n.1 (omega arith) (omega (arith, c.requires.node_in)) (omega (arith, c.ranges.label.fits)) c.requires.no_own_number in
+    child_there (fields c.args.self.now) n.0 c.args.node c.args.label c.child_slot-slot.result n.1.holds c.child_slot-slot.ensures c.requires.positive
+    (subst (λ s. s < size_of (fields c.args.self.now)) (sym c.child_slot-slot.ensures) inside) (c.is_owned_by.ensures.0 c.if-is_owned_by.true)
+
+pub returns-then-is_owned_by-clause-blocks : goal.returns-then-is_owned_by-clause-blocks
+returns-then-is_owned_by-clause-blocks g c = (0, omega arith, made_none (fields c.args.self.now) (fields c.args.self.now) (same_slots (places_of c.args.self.now.places)))
+
+pub returns-then-is_owned_by-clause-owned : goal.returns-then-is_owned_by-clause-owned
+returns-then-is_owned_by-clause-owned g c = λ _. (tt, made_none (fields c.args.self.now) (fields c.args.self.now) (same_slots (places_of c.args.self.now.places)))
+
+pub returns-then-is_owned_by-clause-at_root : goal.returns-then-is_owned_by-clause-at_root
+returns-then-is_owned_by-clause-at_root g c = λ _. (tt, made_none (fields c.args.self.now) (fields c.args.self.now) (same_slots (places_of c.args.self.now.places)))
+
+pub is_taken-requires : goal.is_taken-requires
+is_taken-requires g c =
+    let n = c.requires.node in
+    let T = cells c.args.self.now in
+    let inside = label_inside (size_of (fields c.args.self.now)) T (fields c.args.self.now).ordered n.0 c.args.node c.args.label n.1 (omega arith) (omega (arith, c.requires.node_in)) (omega (arith, c.ranges.label.fits)) c.requires.no_own_number in (
+      search rules,
+      (
+        c.requires.node_in,
+        (
+          subst (λ s. s < size_of (fields c.args.self.now)) (sym c.child_slot-slot.ensures) inside,
+          λ b z. slot_far _ c.args.label (based_node (size_of (fields c.args.self.now)) T (fields c.args.self.now).ordered n.0 c.args.node n.1 c.requires.no_own_number b).1.0 (omega (arith, c.ranges.label.fits)) (sym c.child_slot-slot.ensures ∙ z),
+        ),
+      ),
+    )
+
+pub add_over-requires : goal.add_over-requires
+add_over-requires g c =
+    let n = c.requires.node in
+    let T = cells c.args.self.now in
+    let k = c.is_taken.ensures.taken c.if-is_taken.true in
+    let based = based_node (size_of (fields c.args.self.now)) T (fields c.args.self.now).ordered n.0 c.args.node n.1 c.requires.no_own_number k.0 in
+    let taken : Held T (below T c.args.node c.args.label) = subst (Held T) c.child_slot-slot.ensures (not_free_held T c.child_slot-slot.result k.1) in
+    let absent : T.check (below T c.args.node c.args.label) ≢ pos c.args.node = λ o.
+    let is_mine = c.is_owned_by.ensures.1 (ap T.check c.child_slot-slot.ensures ∙ o) in
+    let not_mine = c.if-is_owned_by.false in
+    cc in
+    (search rules, (c.requires.sound, (c.requires.node_in, (based.0, (based.1.0, (n, (c.requires.positive, (taken, absent))))))))
+
+pub returns-then-is_taken-clause-owned : goal.returns-then-is_taken-clause-owned
+returns-then-is_taken-clause-owned g c = λ o.
+    let T = cells c.args.self.now in
+    let is_mine = c.is_owned_by.ensures.1 (ap T.check c.child_slot-slot.ensures ∙ o) in
+    let not_mine = c.if-is_owned_by.false in
+    absurd (cc)
+
+pub returns-then-is_taken-clause-at_root : goal.returns-then-is_taken-clause-at_root
+returns-then-is_taken-clause-at_root g c = λ z.
+    let n = c.requires.node in
+    absurd ((based_node (size_of (fields c.args.self.now)) (cells c.args.self.now) (fields c.args.self.now).ordered n.0 c.args.node n.1 c.requires.no_own_number (c.is_taken.ensures.taken c.if-is_taken.true).0).0 z)
+
+pub room_for-requires : goal.room_for-requires
+room_for-requires g c =
+    let T = cells c.args.self.now in
+    let absent : T.check (below T c.args.node c.args.label) ≢ pos c.args.node = λ o.
+    let is_mine = c.is_owned_by.ensures.1 (ap T.check c.child_slot-slot.ensures ∙ o) in
+    let not_mine = c.if-is_owned_by.false in
+    cc in
+    let open_slot : (base_of T c.args.node ≢ 0) → Held T (below T c.args.node c.args.label) → ⊥ = λ b. subst (λ s. Held T s → ⊥) c.child_slot-slot.ensures (c.is_taken.ensures.«open» (λ t. let f = c.if-is_taken.false in cc) b) in
+    (search rules, (c.requires.sound, (c.requires.node_in, (c.requires.node, ((λ _. c.requires.positive), (c.requires.no_own_number, (absent, open_slot)))))))
+
+pub add_label-requires : goal.add_label-requires
+add_label-requires g c =
+    let n = c.requires.node in
+    let room = c.in_ok-room_for.ensures in
+    let node : IsNodeOf (size_of (fields c.room_for.new.self)) (cells c.room_for.new.self) (fields c.room_for.new.self).ordered n.0 c.args.node = record {
+      holds = room.tree n.0 n.1.holds;
+      ascending = λ o. n.1.ascending (sym room.settings.ordered ∙ o);
+      path = n.1.path;
+      at = room.placed.at n.1.path n.1.at;
+    } in
+    (search rules, (room.sound, (room.placed.inside, ((n.0, node), (c.requires.positive, (room.placed.based, room.placed.free))))))
+
+pub returns-clause-stepped : goal.returns-clause-stepped
+returns-clause-stepped g c =
+    let room = c.in_ok-room_for.ensures in
+    let add = c.add_label.ensures in
+    let absent : (cells c.args.self.now).check (below (cells c.args.self.now) c.args.node c.args.label) ≢ pos c.args.node = λ o.
+    let is_mine = c.is_owned_by.ensures.1 (ap (cells c.args.self.now).check c.child_slot-slot.ensures ∙ o) in
+    let not_mine = c.if-is_owned_by.false in
+    cc in
+    child_added (fields c.args.self.now) (fields c.room_for.new.self) (fields c.add_label.new.self) c.args.node c.args.label c.args.node c.add_label.result
+    room.placed room.tree room.settings.ordered absent add.added add.slot (add.sound.sound.shaped.blocks.some) add.tree add.leaf
+    (room.tree c.requires.node.0 c.requires.node.1.holds).stands.0.based (λ z. z) room.root_same

@@ -1,0 +1,33 @@
+use Rattle.std.proofs.Common.{◌≡◌, ◌∙◌, ap, arith, false, inl, inr, int_lt, of_z, pos, sym, to_z, true, w32, ℕ, ℤ}
+use Rattle.std.proofs.lemmas.Bool.{cases_Bool, false≢true}
+use Rattle.std.proofs.lemmas.Int.{ints}
+use Rattle.std.proofs.lemmas.List.{get_or_read}
+use Rattle.cedar_table.specs.declared.records.NodeRecord.{NodeRecord}
+use Rattle.cedar_table.specs.Cells.{Cells, Held}
+use Rattle.cedar_table.specs.Slots.{blank_node, check_at}
+use Rattle.cedar_table.specs.TableFields.{cells}
+use Rattle.cedar_table.specs.Views.{places_of}
+use Rattle.cedar_table.proofs.CellLemmas.{active_is, natural_from, natural_not_below}
+use Rattle.cedar_table.proofs.table.Table.is_free_slot.Goals as goal
+
+-- a slot other than the root's is held just where its check is not below 0
+held_check : (T : Cells) (s : ℕ) (z : ℤ) → (s ≡ 0 → ⊥) → z ≡ T.check s → Held T s → int_lt z (pos 0) ≡ false
+held_check T s z other read (inl root) = absurd (other root)
+held_check T s z other read (inr (c, is)) = natural_not_below z c (read ∙ is)
+
+free_check : (T : Cells) (s : ℕ) (z : ℤ) → z ≡ T.check s → (Held T s → ⊥) → int_lt z (pos 0) ≡ true
+free_check T s z read free = elim (cases_Bool (int_lt z (pos 0))) [
+  | inl below ↦ below
+  | inr natural ↦ let c = natural_from z natural in absurd (free (inr (c.0, sym read ∙ c.1)))
+]
+
+pub returns : goal.returns
+returns g c =
+    let shaped = c.args.self.now.shaped in
+    let r : ℤ = c.index.result.now.check in
+    let same : to_z w32 (of_z w32 r) ≡ r = omega (arith, ints) in
+    let read : r ≡ check_at c.args.self.now.places.slots.nodes.items c.args.slot = ap (λ (n : NodeRecord). n.check) (get_or_read c.args.self.now.places.slots.nodes.items c.args.slot c.index.result.now (omega (arith, c.requires.slot_in, shaped.nodes, shaped.blocks.active_in)) c.index.ensures blank_node) in
+    let cell : to_z w32 (of_z w32 r) ≡ (cells c.args.self.now).check c.args.slot = same ∙ read ∙ sym (active_is g.L.Layout.kind (places_of c.args.self.now.places) c.args.slot c.requires.slot_in) in (
+      (λ below held. false≢true (sym (held_check (cells c.args.self.now) c.args.slot _ c.requires.not_root cell held) ∙ below)),
+      (λ free. free_check (cells c.args.self.now) c.args.slot _ cell free),
+    )

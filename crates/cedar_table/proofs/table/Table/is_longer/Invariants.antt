@@ -1,0 +1,12 @@
+use Rattle.std.proofs.Common.{length}
+use Rattle.cedar_table.specs.Reading.{chain}
+use Rattle.cedar_table.specs.TableFields.{cells}
+use Rattle.cedar_table.proofs.LongerLemmas.{InStep}
+use Rattle.cedar_table.proofs.table.Table.is_longer.Given as goal
+
+abbrev pub invariant-loop-left : goal.invariant-loop-left
+invariant-loop-left g l = InStep (cells l.self) l.one l.other l.initial.left l.initial.right l.left l.right
+
+-- how much of the first chain is left
+abbrev pub decreases-loop-left : goal.decreases-loop-left
+decreases-loop-left g l = length (chain 256 (cells l.self) l.one l.left)

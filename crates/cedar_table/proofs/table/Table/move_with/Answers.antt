@@ -1,0 +1,91 @@
+use Rattle.std.proofs.Common.{◌≡◌, ◌+◌, ◌<◌, ◌∙◌, ap, arith, length, rules, subst, sym, ℕ, List}
+use Rattle.cedar_table.specs.Family.{Among, owned}
+use Rattle.cedar_table.specs.Renaming.{IsNode}
+use Rattle.cedar_table.specs.TableFields.{cells, fields, size_of}
+use Rattle.cedar_table.specs.Wanted.{with_label}
+use Rattle.cedar_table.proofs.ConflictLemmas.{not_owned, owned_short}
+use Rattle.cedar_table.proofs.MovableLemmas.{node_at_end}
+use Rattle.cedar_table.proofs.WantedLemmas.{with_length, with_new, with_old}
+use Rattle.cedar_table.proofs.table.Table.move_with.Goals as goal
+
+pub labels_of-labels-requires : goal.labels_of-labels-requires
+labels_of-labels-requires g c =
+    let p = c.requires.on_path in
+    let w = c.requires.holds in
+    (search rules, (c.requires.node_in, (c.requires.not_root, node_at_end _ (cells c.args.self.now) w.0 c.args.node p.0 w.1 p.1 p.2 c.requires.not_root)))
+
+pub labels_with-wanted-requires : goal.labels_with-wanted-requires
+labels_with-wanted-requires g c =
+    let T = cells c.args.self.now in
+    let size : ℕ = size_of (fields c.args.self.now) in
+    let p = c.requires.on_path in
+    let w = c.requires.holds in
+    let n : IsNode size T c.args.node = node_at_end size T w.0 c.args.node p.0 w.1 p.1 p.2 c.requires.not_root in
+    let labels : c.deref.result.now ≡ owned n.head n.labels = c.deref.ensures.0 ∙ c.labels_of-labels.ensures n.head n.labels n.family in
+    (search rules, subst (λ v. length v < 256) (sym labels) (owned_short size T c.args.node c.args.label n.head n.labels (omega (arith, c.ranges.label)) c.requires.absent n.family))
+
+pub move_set_with-requires : goal.move_set_with-requires
+move_set_with-requires g c =
+    let T = cells c.args.self.now in
+    let size : ℕ = size_of (fields c.args.self.now) in
+    let p = c.requires.on_path in
+    let w = c.requires.holds in
+    let n : IsNode size T c.args.node = node_at_end size T w.0 c.args.node p.0 w.1 p.1 p.2 c.requires.not_root in
+    let ls : List ℕ = owned n.head n.labels in
+    let listed : c.labels_of-labels.result.items ≡ ls = c.labels_of-labels.ensures n.head n.labels n.family in
+    let labels : c.deref-2.result.now ≡ ls = c.deref-2.ensures.0 ∙ listed in
+    let wanted : c.deref-3.result.now ≡ with_label (fields c.args.self.now).ordered c.args.label ls = c.deref-3.ensures.0 ∙ c.labels_with-wanted.ensures ∙ ap (with_label (fields c.args.self.now).ordered c.args.label) (c.deref.ensures.0 ∙ listed) in
+    let short : length ls < 256 = owned_short size T c.args.node c.args.label n.head n.labels (omega (arith, c.ranges.label)) c.requires.absent n.family in
+    let long : length (with_label (fields c.args.self.now).ordered c.args.label ls) ≡ length ls + 1 = with_length (fields c.args.self.now).ordered c.args.label ls in (
+      search rules,
+      (
+        c.requires.sound,
+        (
+          c.requires.node_in,
+          (
+            c.requires.not_root,
+            (
+              c.requires.based,
+              (
+                p,
+                (
+                  w,
+                  (
+                    record { head = n.head; labels = n.labels; family = n.family; owns = labels },
+                    (
+                      λ l a. subst (λ v. Among v l) (sym wanted) (with_old (fields c.args.self.now).ordered c.args.label ls l (subst (λ v. Among v l) labels a)),
+                      (
+                        omega (arith, ap length wanted, long),
+                        (
+                          omega (arith, ap length wanted, long, short),
+                          (
+                            subst (λ v. Among v c.args.label) (sym wanted) (with_new (fields c.args.self.now).ordered c.args.label ls),
+                            λ a. not_owned size T c.args.node c.args.label n.head n.labels c.requires.absent n.family (subst (λ v. Among v c.args.label) labels a),
+                          ),
+                        ),
+                      ),
+                    ),
+                  ),
+                ),
+              ),
+            ),
+          ),
+        ),
+      ),
+    )
+
+pub returns-clause-moved : goal.returns-clause-moved
+returns-clause-moved g c =
+    let T = cells c.args.self.now in
+    let size : ℕ = size_of (fields c.args.self.now) in
+    let p = c.requires.on_path in
+    let w = c.requires.holds in
+    let n : IsNode size T c.args.node = node_at_end size T w.0 c.args.node p.0 w.1 p.1 p.2 c.requires.not_root in
+    let ls : List ℕ = owned n.head n.labels in
+    let listed : c.labels_of-labels.result.items ≡ ls = c.labels_of-labels.ensures n.head n.labels n.family in
+    let labels : c.deref-2.result.now ≡ ls = c.deref-2.ensures.0 ∙ listed in
+    let wanted : c.deref-3.result.now ≡ with_label (fields c.args.self.now).ordered c.args.label ls = c.deref-3.ensures.0 ∙ c.labels_with-wanted.ensures ∙ ap (with_label (fields c.args.self.now).ordered c.args.label) (c.deref.ensures.0 ∙ listed) in
+    let moved = c.in_ok-move_set_with.ensures.moved in
+    let new : Among c.deref-2.result.now c.args.label → ⊥ = λ a. not_owned size T c.args.node c.args.label n.head n.labels c.requires.absent n.family (subst (λ v. Among v c.args.label) labels a) in
+    let there : Among c.deref-3.result.now c.args.label = subst (λ v. Among v c.args.label) (sym wanted) (with_new (fields c.args.self.now).ordered c.args.label ls) in
+    (c.in_ok-move_set_with.field-0, c.deref-2.result.now, c.deref-3.result.now, (moved.set.room c.args.label there new).not_first, (moved.set.room c.args.label there new).in_use, moved)

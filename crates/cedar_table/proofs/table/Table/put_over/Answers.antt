@@ -1,0 +1,31 @@
+use Rattle.std.proofs.Common.{rules, ◌≡◌, ◌≢◌, ◌∙◌, arith, subst, sym, of_z, to_z, w32, FitsSigned, Some}
+use Rattle.std.proofs.lemmas.Int.{to_z-of_z}
+use Rattle.cedar_tree.specs.Edits.{edit_at}
+use Rattle.cedar_table.specs.Edit.{IsNodeOf}
+use Rattle.cedar_table.specs.Family.{below}
+use Rattle.cedar_table.specs.Meaning.{HoldsTree}
+use Rattle.cedar_table.specs.Reserved.{freed}
+use Rattle.cedar_table.specs.TableFields.{cells, fields, size_of}
+use Rattle.cedar_table.proofs.table.Table.put_over.Goals as goal
+
+pub set_reserved-requires : goal.set_reserved-requires
+set_reserved-requires g c =
+    let n = c.requires.node in
+    let k = c.in_ok-node.ensures.reserved in
+    let R = cells c.resolve.new.self in
+    let node : IsNodeOf (size_of (fields c.resolve.new.self)) (freed R (below R c.in_ok-node.node 0)) (fields c.resolve.new.self).ordered n.0 c.in_ok-node.node = record {
+      holds = k.tree n.0 n.1.holds;
+      ascending = λ o. n.1.ascending (sym c.in_ok-node.ensures.settings.ordered ∙ o);
+      path = n.1.path;
+      at = k.at n.1.path n.1.at;
+    } in
+    let other : c.in_ok-node.node ≢ 0 = k.not_root in
+    (search rules, (c.in_ok-node.ensures.sound, (k.inside, (omega (arith, other), ((n.0, node), (k.based, k.reserved))))))
+
+pub returns-clause-set : goal.returns-clause-set
+returns-clause-set g c = λ f w h on.
+    let k = c.in_ok-node.ensures.reserved in
+    let fits : FitsSigned w32 c.args.value = search rules in
+    let same : to_z w32 (of_z w32 c.args.value) ≡ c.args.value = to_z-of_z w32 c.args.value fits in
+    subst (λ z. HoldsTree (size_of (fields c.set_reserved.new.self)) (cells c.set_reserved.new.self) (edit_at w (λ _. Some z) (λ u. u) f)) same
+    (c.set_reserved.ensures.tree f w (k.tree f h) (k.at w on))

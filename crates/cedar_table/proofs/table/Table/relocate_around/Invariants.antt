@@ -1,0 +1,13 @@
+use Rattle.std.proofs.Common.{take}
+use Rattle.cedar_table.specs.Places.{IsTable}
+use Rattle.cedar_table.specs.TableFields.{cells, fields}
+use Rattle.cedar_table.specs.Renaming.{SameFrame}
+use Rattle.cedar_table.proofs.ReservingLemmas.{Passing}
+use Rattle.cedar_table.proofs.table.Table.relocate_around.Given as goal
+
+abbrev pub invariant-loop-label : goal.invariant-loop-label
+invariant-loop-label g l = record {
+  sound : IsTable g.row.SLOTS (fields l.self).places;
+  passing : Passing (cells l.initial.self) (cells l.self) l.parent l.base l.wanted (take l.label-index l.labels);
+  frame : SameFrame (fields l.initial.self) (fields l.self);
+}

@@ -1,0 +1,13 @@
+use Rattle.std.proofs.Common.{take, bit_xor}
+use Rattle.cedar_table.specs.Places.{IsTable}
+use Rattle.cedar_table.specs.TableFields.{cells, fields}
+use Rattle.cedar_table.specs.Renaming.{SameFrame}
+use Rattle.cedar_table.proofs.ReservingLemmas.{Reserving}
+use Rattle.cedar_table.proofs.table.Table.relocate_with.Given as goal
+
+abbrev pub invariant-loop-other : goal.invariant-loop-other
+invariant-loop-other g l = record {
+  sound : IsTable g.row.SLOTS (fields l.self).places;
+  reserving : Reserving (cells l.initial.self) (cells l.self) l.parent l.new_base (bit_xor l.new_base l.label) l.reserved (take l.other-index l.labels);
+  frame : SameFrame (fields l.initial.self) (fields l.self);
+}

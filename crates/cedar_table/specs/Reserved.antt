@@ -1,0 +1,40 @@
+-- A slot that is kept back for a new label while a set is moved.
+use Rattle.std.specs.Prelude.{◌≡◌, ℕ, ◌<◌, Bool, cond, List, nat_eq, negsuc, pos}
+use Rattle.cedar_tree.specs.Tree.{Forest}
+use Rattle.cedar_table.specs.Cells.{Cells}
+use Rattle.cedar_table.specs.Edit.{IsAt}
+use Rattle.cedar_table.specs.Family.{below, InRange}
+use Rattle.cedar_table.specs.Meaning.{HoldsTree}
+use Rattle.cedar_table.specs.Renaming.{SetMoved}
+use Rattle.cedar_table.specs.TableFields.{Fields, size_of}
+use Rattle.cedar_table.specs.WellFormed.{cells_in}
+
+-- the slots as if slot k were free, whatever it still holds
+abbrev pub freed : Cells → ℕ → Cells
+freed T k = record {
+  base = T.base;
+  stored = T.stored;
+  check = λ s. cond (nat_eq s k) (negsuc 0) (T.check s);
+  sibling = λ s. cond (nat_eq s k) 0 (T.sibling s);
+  child = λ s. cond (nat_eq s k) 0 (T.child s);
+}
+
+-- the slots as the tree sees them: slot k doesn't count if it is reserved
+abbrev pub seen : Bool → Cells → ℕ → Cells
+seen reserved T k = cond reserved (freed T k) T
+
+-- the slots of p have moved to base b, and slot k is held in the root's name, though it is no part of the tree
+pub record SetReserved (size size' : ℕ) (T T' : Cells) (p b k : ℕ) (ls ws : List ℕ) : Type 0 where
+  pub set : SetMoved size size' T (freed T' k) p b ls ws
+  pub reserved : T'.check k ≡ pos 0
+  pub tree : (f : Forest) → HoldsTree size T f → HoldsTree size' (freed T' k) f
+
+-- the node that was at slot a is at slot s, whose slot for label l is held in the root's name, though it is no part of
+-- the tree yet
+pub record Reserves (before after : Fields) (a l s : ℕ) : Type 0 where
+  pub inside : s < size_of after
+  pub at : (w : List ℕ) → IsAt (cells_in before) w a → IsAt (freed (cells_in after) (below (cells_in after) s l)) w s
+  pub not_root : s ≡ 0 → ⊥
+  pub based : InRange (size_of after) ((cells_in after).stored s)
+  pub reserved : (cells_in after).check (below (cells_in after) s l) ≡ pos 0
+  pub tree : (f : Forest) → HoldsTree (size_of before) (cells_in before) f → HoldsTree (size_of after) (freed (cells_in after) (below (cells_in after) s l)) f

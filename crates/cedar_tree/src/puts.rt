@@ -1,0 +1,24 @@
+//! Laws of a tree that grows by bare leaves along a path, and of how they are taken back.
+
+ghost use Rattle.std.specs.Prelude.{◌≡◌, ℕ, Bool, true, false, List, [], ◌∷◌, ◌++◌};
+ghost use Rattle.cedar_tree.specs.Tree.{Tree, IsAscending, IsSoundBelow, cut, empty_tree, has_label, is_bare, number_at};
+ghost use Rattle.cedar_tree.specs.Queries.{node_at};
+ghost use Rattle.cedar_tree.specs.Edits.{HasPath, with_leaf};
+
+/// A new leaf stands at the end of its path, has neither number nor child, brings no number, and keeps ascending labels
+/// ascending.
+pub fn leaf_stands_at_its_path()
+    ensures path { (t : Tree) (ordered : Bool) (w : List ℕ) (l : ℕ) → HasPath t w → has_label (node_at t w).children l ≡ false → HasPath (with_leaf t ordered w l) (w ++ l ∷ []) }
+    ensures bare { (t : Tree) (ordered : Bool) (w : List ℕ) (l : ℕ) → HasPath t w → has_label (node_at t w).children l ≡ false → node_at (with_leaf t ordered w l) (w ++ l ∷ []) ≡ empty_tree }
+    ensures numbers { (t : Tree) (ordered : Bool) (w : List ℕ) (l : ℕ) (q : List ℕ) → HasPath t w → has_label (node_at t w).children l ≡ false → number_at (with_leaf t ordered w l) q ≡ number_at t q }
+    ensures ascending { (t : Tree) (w : List ℕ) (l : ℕ) → HasPath t w → has_label (node_at t w).children l ≡ false → IsAscending t.children → IsAscending (with_leaf t true w l).children }
+{}
+
+/// A cut from a new leaf upwards is as if it had never come; a cut beyond a bare node is one of that node; and in a tree
+/// whose nodes have a number or a child each a cut changes nothing where there is no node.
+pub fn cut_takes_leaves_back()
+    ensures leaf { (t : Tree) (ordered : Bool) (w : List ℕ) (l : ℕ) (rest : List ℕ) → HasPath t w → has_label (node_at t w).children l ≡ false
+        → cut (with_leaf t ordered w l) (w ++ l ∷ rest) ≡ cut t (w ++ l ∷ rest) }
+    ensures past { (t : Tree) (w : List ℕ) (rest : List ℕ) → is_bare (node_at t w) ≡ true → cut t (w ++ rest) ≡ cut t w }
+    ensures sound { (t : Tree) (w : List ℕ) → IsSoundBelow t.children → is_bare (node_at t w) ≡ true → cut t w ≡ t }
+{}

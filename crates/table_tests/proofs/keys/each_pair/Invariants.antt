@@ -1,0 +1,12 @@
+use Rattle.cedar_table.specs.TableFields.{fields}
+use Rattle.cedar_table.specs.WellFormed.{IsWellFormed}
+use Rattle.table_tests.proofs.keys.each_pair.Given as goal
+
+abbrev pub invariant-loop-key : goal.invariant-loop-key
+invariant-loop-key g l = IsWellFormed g.row.SLOTS (fields l.table)
+
+abbrev pub invariant-loop-key-2 : goal.invariant-loop-key-2
+invariant-loop-key-2 g l = IsWellFormed g.row.SLOTS (fields l.table)
+
+abbrev pub invariant-loop-key-3 : goal.invariant-loop-key-3
+invariant-loop-key-3 g l = IsWellFormed g.row.SLOTS (fields l.table)

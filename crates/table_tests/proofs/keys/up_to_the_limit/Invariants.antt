@@ -1,0 +1,6 @@
+use Rattle.cedar_table.specs.TableFields.{fields}
+use Rattle.cedar_table.specs.WellFormed.{IsWellFormed}
+use Rattle.table_tests.proofs.keys.up_to_the_limit.Given as goal
+
+abbrev pub invariant-loop-byte : goal.invariant-loop-byte
+invariant-loop-byte g l = IsWellFormed 512 (fields l.table)
