@@ -1,10 +1,8 @@
 -- What a pair without a fault is.
-use Rattle.std.proofs.Common.{Bool, ltb, ◌≡◌, ℕ, suc, not, ◌+◌, ◌<◌, ◌≤◌, true, false, cond, ◌==◌, List, [], ◌∷◌, length, get_or, ℤ, Option, Some, None, IfSome, Result, Ok, Err, OnOk, OnErr, position, option_map, refl, arith}
+use Rattle.std.proofs.Common.{Bool, ltb, ◌≡◌, ℕ, suc, not, ◌+◌, ◌<◌, ◌≤◌, true, false, cond, ◌==◌, List, [], ◌∷◌, length, get_or, ℤ, Option, Some, None, IfSome, Result, Ok, Err, position, option_map, refl, arith}
 use Rattle.std.proofs.lemmas.Bool.{eqb-false, ltb-false}
 use Rattle.std.specs.List.{position_or_len}
-use Rattle.std.proofs.lemmas.Result.{on_ok_weaker, on_err_weaker}
-use Rattle.cedar_tree.specs.Tree.{Tree, IsPath, IsKey, IsSound, AllNumbers, put}
-use Rattle.cedar_tree.proofs.TreeLemmas.{is_sound-put, all-put}
+use Rattle.cedar_tree.specs.Tree.{IsPath, IsKey}
 use Rattle.cedar_table.specs.declared.error.CedarError.{CedarError}
 use Rattle.cedar_table.specs.declared.error.CedarError.TheVariants.{EmptyKey, NulByte}
 use Rattle.cedarwood.specs.Fault.{key_fault, value_fault, fault, or_else, IsInRange}
@@ -56,17 +54,3 @@ pub key_of : (key : List ℕ) (v : ℤ) → fault key v ≡ None → ((i : ℕ) 
 key_of [] v h bytes = absurd (some_or_none EmptyKey (key_part (key_fault []) (value_fault v) h).0)
 key_of (b ∷ key) v h bytes =
     path_of (b ∷ key) (position-None (λ c. c == 0) (b ∷ key) (not_mapped NulByte (position (λ c. c == 0) (b ∷ key)) (key_part (key_fault (b ∷ key)) (value_fault v) h).0)) bytes
-
-on_either : {T E P : Type 0} (r : Result T E) → OnOk r P → OnErr r P → P
-on_either (Ok x) h k = h
-on_either (Err e) h k = k
-
--- a put of a pair without a fault leaves a dictionary's tree as it has to be, also where it is refused
-pub kept_by_put : {T E : Type 0} (r : Result T E) (old new : Tree) (key : List ℕ) (v : ℤ)
-    → OnOk r (new ≡ put old true key v) → OnErr r (new ≡ old)
-    → fault key v ≡ None → ((i : ℕ) → get_or key i 0 < 256)
-    → IsSound old × AllNumbers IsInRange old.children → IsSound new × AllNumbers IsInRange new.children
-kept_by_put r old new key v ok err fine bytes kept =
-    on_either r
-    (on_ok_weaker r (λ (done : _). rw done (is_sound-put old true key v (key_of key v fine bytes) kept.0, all-put IsInRange old true key v (in_range_of key v fine) kept.1)) ok)
-    (on_err_weaker r (λ (same : _). rw same kept) err)

@@ -1,5 +1,5 @@
 -- What keeps a pair from being stored.
-use Rattle.std.specs.Prelude.{◌≡◌, ◌⊎◌, ℕ, ◌&&◌, ◌==◌, pos, int_le, if◌then◌else◌, ℤ, List, [], ◌∷◌, Option, Some, None, position, option_map}
+use Rattle.std.specs.Prelude.{◌≡◌, ℕ, ◌&&◌, ◌==◌, pos, int_le, if◌then◌else◌, ℤ, List, [], ◌∷◌, Option, Some, None, position, option_map}
 use Rattle.cedar_table.specs.declared.error.CedarError.{CedarError}
 use Rattle.cedar_table.specs.declared.error.CedarError.TheVariants.{EmptyKey, NulByte, InvalidValue, Memory, SlotLimit}
 

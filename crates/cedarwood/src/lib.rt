@@ -2,7 +2,7 @@
 //!
 //! A key is a nonempty byte string without byte 0, a value a whole number from [`MIN_VALUE`] to
 //! [`MAX_VALUE`]. All lengths and positions count bytes. Whatever calls are made, every answer is that of
-//! one labelled tree, which the contracts carry from call to call.
+//! one labelled tree, which the contracts carry from call to call: [`run_calls`] says so of any list of calls.
 //!
 //! ```
 //! let mut cedar = Cedar::new(rt.alloc())?;
@@ -12,11 +12,18 @@
 //! ```
 #![tactic(auto)]
 
+mod builder;
+mod fits;
+mod pair;
+mod runs;
+mod search;
 mod trie;
 mod watched;
 
-pub use cedar_table::CedarError;
-pub use trie::Cedar;
+pub use builder::CedarBuilder;
+pub use cedar_table::{CedarError, DefaultLayout, Layout, Ticks};
+pub use runs::{Answer, Call, run_calls};
+pub use trie::{Cedar, Trie};
 pub use watched::Watched;
 
 /// The least value that can be stored.

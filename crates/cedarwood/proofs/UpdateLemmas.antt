@@ -1,0 +1,145 @@
+-- What an update of the table says of the dictionary.
+use Rattle.std.proofs.Common.{◌≡◌, ℕ, ℤ, ◌+◌, ◌*◌, ◌-◌, ◌<◌, ◌≤◌, ◌⊎◌, inl, inr, Bool, true, false, cond, int_le, ◌&&◌, ◌==◌, pos, List, [], ◌∷◌, length, Option, Some, None, IfSome, IsSome, is_some, option_map, position, refl, ap, sym, subst, ◌∙◌, arith, Result, Ok, Err, OnOk, OnErr, IfErr, IsOk, rules}
+use Rattle.std.proofs.lemmas.Result.{on_ok_weaker, on_err_weaker}
+use Rattle.cedar_tree.specs.Tree.{Tree, has_label, number_at, put}
+use Rattle.cedar_tree.specs.Queries.{used}
+use Rattle.cedar_tree.specs.State.{State, stored}
+use Rattle.cedar_table.specs.declared.error.CedarError.{CedarError}
+use Rattle.cedar_table.specs.declared.error.CedarError.TheVariants.{EmptyKey, NulByte, InvalidValue, Memory, SlotLimit}
+use Rattle.cedar_table.specs.Cells.{NoPlace}
+use Rattle.cedar_table.specs.Layouts.{default_layout}
+use Rattle.cedar_table.specs.Places.{MayRefuse, PlaceFields}
+use Rattle.cedar_table.specs.Steps.{MakesBlocks, SameModes, blocks_after}
+use Rattle.cedar_table.specs.TableFields.{Fields, capacity_of, size_of}
+use Rattle.cedar_table.specs.WellFormed.{IsWellFormed, cells_in, tree_of}
+use Rattle.cedar_table.proofs.BlocksCountLemmas.{full_blocks_counted}
+use Rattle.cedarwood.specs.Dictionary.{Dictionary, Grows, first_bytes}
+use Rattle.cedarwood.specs.Fault.{fault, key_fault, value_fault, or_else, IsShortage}
+use Rattle.cedarwood.proofs.GrowthLemmas.{dictionary_of, blocks_stay, grows}
+
+-- ---- a pair with a fault
+
+some_is : (a b : CedarError) → Some a ≡ Some b → a ≡ b
+some_is a b h = cc
+
+err_is : {X : Type 0} (r : Result X CedarError) (a b : CedarError) → r ≡ Err a → r ≡ Err b → a ≡ b
+err_is r a b p q = cc
+
+first_or_other : (a b : Option CedarError) (e : CedarError) → or_else a b ≡ Some e → (a ≡ Some e) ⊎ (b ≡ Some e)
+first_or_other None b e h = inr h
+first_or_other (Some x) b e h = inl h
+
+mapped_some : (f : ℕ → CedarError) (o : Option ℕ) (e : CedarError) → option_map f o ≡ Some e → (n : ℕ) × (f n ≡ e)
+mapped_some f None e h = cc
+mapped_some f (Some n) e h = (n, some_is (f n) e h)
+
+chosen_some : (b : Bool) (x e : CedarError) → cond b None (Some x) ≡ Some e → x ≡ e
+chosen_some true x e h = cc
+chosen_some false x e h = some_is x e h
+
+key_fault_no_shortage : (key : List ℕ) (e : CedarError) → key_fault key ≡ Some e → IsShortage e → ⊥
+key_fault_no_shortage [] e h s = subst IsShortage (sym (some_is EmptyKey e h)) s
+key_fault_no_shortage (b ∷ rest) e h s =
+    let found : (n : ℕ) × (NulByte n ≡ e) = mapped_some NulByte (position (λ c. c == 0) (b ∷ rest)) e h in
+    subst IsShortage (sym found.1) s
+
+-- a pair's fault is no want of memory or slots
+pub fault_no_shortage : (key : List ℕ) (v : ℤ) (e : CedarError) → fault key v ≡ Some e → IsShortage e → ⊥
+fault_no_shortage key v e h s = elim (first_or_other (key_fault key) (value_fault v) e h) [
+  | inl k ↦ key_fault_no_shortage key e k s
+  | inr w ↦ subst IsShortage (sym (chosen_some (int_le (pos 0) v && int_le v (pos 2147483645)) (InvalidValue v) e w)) s
+]
+
+not_both : {X : Type 0} (r : Result X CedarError) (e : CedarError) → IsOk r → r ≡ Err e → ⊥
+not_both r e ok was = let apart : false ≡ true = subst IsOk was ok in cc
+
+-- what a refused test says: the fault, whichever it is
+pub fault_of : {X : Type 0} (f : Option CedarError) (r : Result X CedarError) (e : CedarError) → IfSome f (λ x. r ≡ Err x) → (f ≡ None → IsOk r) → r ≡ Err e → f ≡ Some e
+fault_of None r e h sound was = absurd (not_both r e (sound refl) was)
+fault_of (Some x) r e h sound was = ap Some (err_is r x e h was)
+
+pub has_fault : {X : Type 0} (f : Option CedarError) (r : Result X CedarError) (e : CedarError) → (f ≡ None → IsOk r) → r ≡ Err e → f ≡ None → ⊥
+has_fault f r e sound was none = not_both r e (sound none) was
+
+-- ---- a pair without one
+
+is_ok_of : {X E : Type 0} (r : Result X E) → OnErr r ⊥ → IsOk r
+is_ok_of (Ok x) h = search rules
+is_ok_of (Err e) h = absurd h
+
+unheld : (o : Option ℤ) → (is_some o ≡ true → ⊥) → o ≡ None
+unheld None h = refl
+unheld (Some v) h = absurd (h refl)
+
+shortage : (table : PlaceFields) (slots : ℕ) (e : CedarError) → MayRefuse table slots e → IsShortage e
+shortage table slots Memory h = tt
+shortage table slots SlotLimit h = tt
+shortage table slots e h = absurd h
+
+refusals : {X : Type 0} (table : PlaceFields) (slots : ℕ) (r : Result X CedarError) (o : Option ℤ)
+    → IfErr r (λ e. MayRefuse table slots e) → (is_some o ≡ true → OnErr r ⊥) → IfErr r (λ e. IsShortage e × (o ≡ None))
+refusals table slots (Ok x) o h over = tt
+refusals table slots (Err e) o h over = (shortage table slots e h, unheld o over)
+
+-- a refusal with fewer blocks made than there are bytes, once all blocks are in use, leaves too few spare ones before
+in_use : (T' : Fields) (slots : ℕ) (e : CedarError) → 256 * length T'.places.blocks.records ≤ slots → MayRefuse T'.places slots e → length T'.places.blocks.records ≤ T'.places.blocks.active
+in_use T' slots Memory within h = omega (arith, h.0)
+in_use T' slots SlotLimit within h = omega arith
+in_use T' slots e within h = absurd h
+
+enough : {X : Type 0} (n k slots : ℕ) (T T' : Fields) (r : Result X CedarError) → 256 * length T'.places.blocks.records ≤ slots
+    → IfErr r (λ e. MayRefuse T'.places slots e) → OnErr r (n < k) → MakesBlocks n T T' → 256 * k ≤ capacity_of T - size_of T → IsOk r
+enough n k slots T T' (Ok x) within h few made room = search rules
+enough n k slots T T' (Err e) within h few made room =
+    let all : length T'.places.blocks.records ≤ T'.places.blocks.active = in_use T' slots e within h in
+    let stay : length T.places.blocks.records ≤ blocks_after n T.places.blocks.active (length T.places.blocks.records) = blocks_stay n T.places.blocks.active (length T.places.blocks.records) in
+    absurd (omega (arith, made.active, made.capacity, few))
+
+same_stored : (t : Tree) (ordered o : Bool) (old : State) (key : List ℕ) (v w : ℤ) → old.tree ≡ t → old.ordered ≡ o → w ≡ v → ordered ≡ o
+    → ◌≡◌ {A = State} (record { tree = put t o key w; ordered = ordered }) (stored old key v)
+same_stored t ordered o old key v w e f g h = cc
+
+module _ {X : Type 0} (slots : ℕ) (T T' : Fields) (d : Dictionary) (same : dictionary_of T ≡ d) (r : Result X CedarError) (key : List ℕ) where
+  same_tree : d.state.tree ≡ tree_of T
+  same_tree = ap (λ (x : Dictionary). x.state.tree) (sym same)
+
+  same_order : d.state.ordered ≡ T.ordered
+  same_order = ap (λ (x : Dictionary). x.state.ordered) (sym same)
+
+  pub stored_is : (v w : ℤ) → w ≡ v → SameModes T T' → OnOk r (tree_of T' ≡ put (tree_of T) T.ordered key w)
+      → OnOk r (◌≡◌ {A = State} (record { tree = tree_of T'; ordered = T'.ordered }) (stored d.state key v))
+  stored_is v w e modes =
+      on_ok_weaker r (λ (done : tree_of T' ≡ put (tree_of T) T.ordered key w).
+      ap (λ t. record { tree = t; ordered = T'.ordered }) done
+      ∙ same_stored (tree_of T) T'.ordered T.ordered d.state key v w same_tree same_order e modes.ordered)
+
+  pub state_stays : SameModes T T' → OnErr r (tree_of T' ≡ tree_of T)
+      → OnErr r (◌≡◌ {A = State} (record { tree = tree_of T'; ordered = T'.ordered }) d.state)
+  state_stays modes =
+      on_err_weaker r (λ (kept : tree_of T' ≡ tree_of T). let tree : d.state.tree ≡ tree_of T = same_tree in let order : d.state.ordered ≡ T.ordered = same_order in let now : T'.ordered ≡ T.ordered = modes.ordered in cc)
+
+  pub is_refused : IfErr r (λ e. MayRefuse T'.places slots e) → (is_some (number_at (tree_of T) key) ≡ true → OnErr r ⊥ × MakesBlocks 0 T T')
+      → IfErr r (λ e. IsShortage e × (number_at d.state.tree key ≡ None))
+  is_refused h over =
+      refusals T'.places slots r (number_at d.state.tree key) h (λ held. (over (subst (λ t. is_some (number_at t key) ≡ true) same_tree held)).0)
+
+  pub grows_by : (n : ℕ) → MakesBlocks n T T' → Grows n d (dictionary_of T')
+  grows_by n made = subst (λ x. Grows n x (dictionary_of T')) same (grows n T T' made)
+
+  pub is_spare : (n : ℕ) → 256 * length T'.places.blocks.records ≤ slots → IfErr r (λ e. MayRefuse T'.places slots e) → OnErr r (n < length key) → MakesBlocks n T T'
+      → 256 * length key ≤ d.capacity - d.size → IsOk r
+  is_spare n within h few made room =
+      let room' : 256 * length key ≤ capacity_of T - size_of T = subst (λ (x : Dictionary). 256 * length key ≤ x.capacity - x.size) (sym same) room in
+      enough n (length key) slots T T' r within h few made room'
+
+  pub over_held : (is_some (number_at (tree_of T) key) ≡ true → OnErr r ⊥ × MakesBlocks 0 T T') → IsSome (number_at d.state.tree key) → Grows 0 d (dictionary_of T')
+  over_held over held = grows_by 0 (over (subst (λ t. IsSome (number_at t key)) same_tree held)).1
+
+  pub at_one_byte : IsWellFormed slots T → T.layout ≡ default_layout → (b : ℕ)
+      → (has_label (tree_of T).children b ≡ false → (OnErr r ⊥ × MakesBlocks 0 T T') ⊎ NoPlace (size_of T) (cells_in T))
+      → has_label d.state.tree.children b ≡ false
+      → (IsOk r × Grows 0 d (dictionary_of T')) ⊎ (d.size + first_bytes d.state.tree ≡ used d.state.tree + 255)
+  at_one_byte well layout b made absent = elim (made (subst (λ (t : Tree). has_label t.children b ≡ false) same_tree absent)) [
+    | inl m ↦ inl (is_ok_of r m.0, grows_by 0 m.1)
+    | inr full ↦ inr (subst (λ (x : Dictionary). x.size + first_bytes x.state.tree ≡ used x.state.tree + 255) same (full_blocks_counted slots T well layout full))
+  ]

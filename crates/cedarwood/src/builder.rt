@@ -1,0 +1,99 @@
+//! The settings of a dictionary.
+
+ghost use Rattle.std.specs.Prelude.{◌≡◌, ◌≤ℤ◌, ◌↔◌, IfErr, IfOk, IsOk, pos, true};
+ghost use Rattle.cedar_tree.specs.Tree.{empty_tree};
+
+use crate::CedarError;
+use crate::fits::fits;
+use crate::trie::{Cedar, Trie};
+use std::alloc::Allocator;
+
+/// The settings with which a dictionary is made: whether the labels of each node ascend, and how many failed searches
+/// for a place close a block of slots.
+///
+/// ```
+/// let builder = CedarBuilder::new().ordered(false).max_trial(3)?;
+/// let cedar = builder.build(rt.alloc())?;
+/// ```
+#[derive(Clone, Copy, Debug, PartialEq, Eq)]
+pub struct CedarBuilder {
+    pub(crate) ordered: bool,
+    pub(crate) max_trial: i32,
+    ghost tried: { pos 1 ≤ℤ max_trial },
+}
+
+impl CedarBuilder {
+    ghost use Rattle.cedarwood.specs.declared.builder.CedarBuilder.{CedarBuilder};
+    ghost use Rattle.cedarwood.specs.Memory.{CedarFitsInMemory};
+
+    /// Labels ascend, and one failed search closes a block.
+    pub fn new() -> Self
+        ensures ordered { result.ordered ≡ true }
+        ensures max_trial { result.max_trial ≡ pos 1 }
+    {
+        CedarBuilder {
+            ordered: true,
+            max_trial: 1,
+        }
+    }
+
+    /// Sets whether the labels of each node ascend. If they don't, a new label goes before the other ones.
+    pub fn ordered(self, ordered: bool) -> Self
+        ensures ordered { result.ordered ≡ ordered }
+        ensures max_trial { result.max_trial ≡ self.max_trial }
+    {
+        CedarBuilder {
+            ordered,
+            max_trial: self.max_trial,
+        }
+    }
+
+    /// Sets how many failed searches close a block. More of them may pack the slots closer, for more time; no answer
+    /// depends on it.
+    ///
+    /// # Errors
+    /// `InvalidMaxTrial` where the number is 0 or less.
+    pub fn max_trial(self, max_trial: i32) -> Result<Self, CedarError>
+        ensures ordered { IfOk result (λ builder. builder.ordered ≡ self.ordered) }
+        ensures max_trial { IfOk result (λ builder. builder.max_trial ≡ max_trial) }
+        ensures refused { IfErr result (λ e. e ≡ CedarError.InvalidMaxTrial max_trial) }
+        ensures tested { IsOk result ↔ (pos 1 ≤ℤ max_trial) }
+    {
+        if max_trial <= 0 {
+            return Err(CedarError::InvalidMaxTrial { value: max_trial });
+        }
+        Ok(CedarBuilder {
+            ordered: self.ordered,
+            max_trial,
+        })
+    }
+
+    /// An empty dictionary with these settings. It takes its memory from `alloc`.
+    ///
+    /// # Errors
+    /// `Memory` where a request was refused.
+    pub fn build<A: Allocator + Copy>(self, alloc: A) -> Result<Cedar<A>, CedarError>
+        ensures empty { IfOk result (λ cedar. cedar.state.tree ≡ empty_tree) }
+        ensures ordered { IfOk result (λ cedar. cedar.state.ordered ≡ self.ordered) }
+        ensures max_trial { IfOk result (λ cedar. cedar.max_trial ≡ self.max_trial) }
+        ensures size { IfOk result (λ cedar. (cedar.size ≡ 256) × (cedar.capacity ≡ 256)) }
+        ensures refused { IfErr result (λ e. e ≡ CedarError.Memory) }
+
+        // For calls on it in a function that is generic in the allocator.
+        ensures fits { IfOk result (λ _. CedarFitsInMemory A.row A.Allocator) }
+    {
+        let place: Option<Cedar<A>> = None;
+        let has_room = fits(&place);
+        match place {
+            Some(cedar) => Ok(cedar),
+            None if has_room => Trie::with(alloc, self),
+            None => Err(CedarError::Memory),
+        }
+    }
+}
+
+impl Default for CedarBuilder {
+    fn default() -> Self {
+        CedarBuilder::new()
+    }
+}

@@ -1,0 +1,48 @@
+//! The test of a pair before it is stored.
+
+ghost use Rattle.std.specs.Prelude.{◌≡◌, ◌==◌, position, None, IsOk, IfSome};
+ghost use Rattle.cedarwood.specs.Fault.{fault, key_fault, value_fault};
+
+use crate::{CedarError, MAX_VALUE, MIN_VALUE};
+
+/// Tests a pair: its key, and then its value.
+pub(crate) fn check_pair(key: &[u8], value: i32) -> Result<(), CedarError>
+    ensures faulty { IfSome (fault key.now value) (λ e. result ≡ Err e) }
+    ensures sound { fault key.now value ≡ None → IsOk result }
+{
+    check_key(key)?;
+    check_value(value)
+}
+
+/// Tests that a key has a byte or more, and no byte 0.
+fn check_key(key: &[u8]) -> Result<(), CedarError>
+    ensures faulty { IfSome (key_fault key.now) (λ e. result ≡ Err e) }
+    ensures sound { key_fault key.now ≡ None → IsOk result }
+{
+    if key.is_empty() {
+        return Err(CedarError::EmptyKey);
+    }
+    match nul_position(key) {
+        Some(position) => Err(CedarError::NulByte { position }),
+        None => Ok(()),
+    }
+}
+
+/// Where a key's first byte 0 stands.
+fn nul_position(key: &[u8]) -> Option<usize>
+    ensures { result ≡ position (λ byte. byte == 0) key.now }
+{
+    key.iter().position(|byte| *byte == 0)
+}
+
+/// Tests that a number can be stored.
+fn check_value(value: i32) -> Result<(), CedarError>
+    ensures faulty { IfSome (value_fault value) (λ e. result ≡ Err e) }
+    ensures sound { value_fault value ≡ None → IsOk result }
+{
+    if (MIN_VALUE..=MAX_VALUE).contains(&value) {
+        Ok(())
+    } else {
+        Err(CedarError::InvalidValue { value })
+    }
+}
