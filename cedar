@@ -26,6 +26,4 @@ if is_stale; then
     touch "$program"
 fi
 
-# A key is walked by recursion, a level a byte: a long one wants more than the usual stack.
-ulimit -S -s "$(ulimit -H -s)" 2> /dev/null
 exec "$program" "$@"

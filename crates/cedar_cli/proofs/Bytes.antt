@@ -194,3 +194,8 @@ unfailed_by before after count any h some = h ∙ rw (eqb-not count 0 some) (or_
     | true ↦ λ e. absurd (ne (eqb-true m n e))
     | false ↦ λ e. e
   ]) refl
+
+-- a call that answered a fault leaves its device failed
+pub failed_call : (before after : Bool) → after ≡ (before || true) → after ≡ true
+failed_call true after h = h
+failed_call false after h = h

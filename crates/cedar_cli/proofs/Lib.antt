@@ -3,3 +3,4 @@ pub mod Newlines
 pub mod Orders
 pub mod Runs
 pub mod Text
+pub mod Words

@@ -1,10 +1,12 @@
 -- A chunk of a script, cut at its bytes 10.
-use Rattle.std.proofs.Common.{◌≡◌, ℕ, suc, List, [], ◌∷◌, ◌++◌, Option, Some, None, Bool, true, false, refl, sym, ap, subst, ◌∙◌, append_assoc, arith, length, take, drop, get_or, ◌==◌, ◌<◌, ◌+◌, ◌-◌}
+use Rattle.std.proofs.Common.{◌≡◌, ℕ, suc, List, [], ◌∷◌, ◌++◌, Option, Some, None, Bool, true, false, refl, sym, ap, subst, ◌∙◌, append_assoc, append-nil, arith, length, take, drop, get_or, ◌==◌, ◌<◌, ◌+◌, ◌-◌}
 use Rattle.std.proofs.lemmas.Bool.{eqb-true}
 use Rattle.memchr.specs.Find.{IsFirstByte, is_byte}
 use Rattle.std.proofs.lemmas.List.Sums.{position_or_len_is, split_at_first, passes_at_first}
 use Rattle.std.proofs.lemmas.Grind.{common_steps}
 use Rattle.std.specs.Prelude.{Result, Ok, Err, OnOk, OnErr}
+use Rattle.std.proofs.lemmas.List.Quantifiers.{position-Some}
+use Rattle.std.specs.Prelude.{IfSome}
 use Rattle.std.specs.List.{position, position_or_len, before_first, after_first}
 use Rattle.cedar_tree.specs.State.{State}
 use Rattle.cedar_cli.specs.Command.{order_of}
@@ -121,3 +123,12 @@ first_newline text (Some at) first = sym (rw at_first (grind (arith, common_step
 
   at_first : position_or_len is_newline text ≡ at
   at_first = position_or_len_is is_newline text at 0 (omega arith) (λ k low. not_true (first.0.before k (omega arith) low)) (λ _. first.1)
+
+-- before the first byte
+pub none_taken : (t : State) (held : Option (List ℕ)) (line : List ℕ) → Advances t t held held (line ++ []) line
+none_taken t held line = subst (λ (text : List ℕ). Advances t t held held text line) (sym (append-nil line)) (bytes_on t held line)
+
+-- where a byte 10 is found, it stands within the text
+pub newline_within : (text : List ℕ) (found : Option ℕ) → found ≡ position is_newline text → IfSome found (λ at. at < length text)
+newline_within text None e = tt
+newline_within text (Some at) e = (position-Some is_newline text at 0 (sym e)).0

@@ -1,6 +1,7 @@
 -- What the dictionary's answers say of an order's reply.
-use Rattle.std.proofs.Common.{◌≡◌, ℕ, ℤ, List, [], ◌∷◌, ◌++◌, Option, Some, None, true, ◌==◌, refl, sym, ap, subst, ◌∙◌, length, append_assoc}
-use Rattle.std.specs.Prelude.{codes, Bool, false, ◌&&◌, int_le, pos, if◌then◌else◌, Result, Ok, Err, OnErr, IfSome, IsSome, is_err, MatchOption, option_map, position}
+use Rattle.std.proofs.Common.{◌≡◌, ℕ, ℤ, List, [], ◌∷◌, ◌++◌, Option, Some, None, true, ◌==◌, refl, sym, ap, subst, ◌∙◌, length, append_assoc, length-append, arith}
+use Rattle.std.proofs.lemmas.Bool.{false≢true}
+use Rattle.std.specs.Prelude.{codes, Bool, false, ◌&&◌, int_le, pos, if◌then◌else◌, Result, Ok, Err, OnOk, OnErr, IfErr, IfSome, IsSome, is_err, MatchOption, option_map, position}
 use Rattle.std.specs.Prelude.{decimal}
 use Rattle.std.specs.Fmt.{signed_decimal}
 use Rattle.cedar_tree.specs.State.{State, stored, erased}
@@ -8,11 +9,15 @@ use Rattle.cedar_tree.specs.Tree.{Tree, number_at, IsSound}
 use Rattle.cedar_tree.specs.Queries.{exact}
 use Rattle.cedar_tree.proofs.TreeLemmas.{cut-put, put-put, put_held, number_at-put_same}
 use Rattle.cedar_table.specs.declared.error.CedarError.{CedarError}
-use Rattle.cedar_table.specs.declared.error.CedarError.TheVariants.{EmptyKey, NulByte, InvalidValue}
+use Rattle.cedar_table.specs.declared.error.CedarError.TheVariants.{EmptyKey, NulByte, InvalidValue, InvalidMaxTrial, DuplicateKey, KeysNotSorted, Memory, SlotLimit}
 use Rattle.cedar_cli.specs.Command.{Order}
 use Rattle.cedarwood.specs.Fault.{fault, key_fault, or_else, value_fault, IsShortage}
-use Rattle.cedar_cli.specs.Script.{refusal, IsPairFault, found_text, reply, Leaves, WritesFront}
-use Rattle.cedar_cli.specs.declared.command.Verb.TheVariants.{Erase}
+use Rattle.cedar_cli.specs.Script.{refusal, IsPairFault, found_text, reply, obeyed, Leaves, WritesFront}
+use Rattle.cedar_cli.specs.declared.command.Verb.TheVariants.{Put, Erase}
+use Rattle.cedar_cli.specs.declared.script.ScriptError.{ScriptError}
+use Rattle.cedar_cli.specs.declared.script.ScriptError.TheVariants.{Read, Write, SlotLimit as NoSlot}
+use Rattle.std.specs.Io.KnownBytes.{Appends}
+use Rattle.cedar_cli.proofs.Bytes.{Appends-none}
 
 -- what an exact search that missed says
 pub exact_missed : (t : Tree) (key : List ℕ) → None ≡ exact t key → number_at t key ≡ None
@@ -103,6 +108,21 @@ taken_back (Some found) old mid new key v answer sound range none done back =
       held : IsSome (number_at mid.tree key)
       held = rw (done, number_at-put_same old.tree old.ordered key v) refl
 
+-- nothing of the answer is written, and the order is left
+pub Leaves-unanswered : (order : Option Order) (old new : State) (held : Option (List ℕ)) → new ≡ old → Leaves order old new held held
+Leaves-unanswered order old new held same =
+    (same, ([], reply old order ++ 10 ∷ [], omega (arith, length-append (reply old order) (10 ∷ [])), refl, Appends-none held))
+
+-- a value is put back over the one that its key holds
+pub put_back : (r : Result (Unit {0}) CedarError) (old new : State) (key : List ℕ) (v : ℤ)
+    → OnOk r (new ≡ stored old key v) → (fault key v ≡ None → IfErr r (λ e. IsShortage e × (number_at old.tree key ≡ None)))
+    → fault key v ≡ None → IsSome (number_at old.tree key) → new ≡ stored old key v
+put_back (Ok x) old new key v done refused fine held = done
+put_back (Err e) old new key v done refused fine held = absurd (not_held (number_at old.tree key) held (refused fine).1) where
+  not_held : (n : Option ℤ) → IsSome n → n ≡ None → ⊥
+  not_held None h e = absurd (false≢true h)
+  not_held (Some x) h e = absurd (cc)
+
 -- an answer of which a front alone was written leaves its order
 pub Leaves-front : (order : Option Order) (s : State) (held holds : Option (List ℕ)) (line : List ℕ)
     → line ≡ reply s order → WritesFront held holds (line ++ 10 ∷ []) → Leaves order s s held holds
@@ -114,3 +134,55 @@ pub Leaves-if_err : {T E : Type 0} (r : Result T E) (order : Option Order) (old 
     → OnErr r (WritesFront held holds bytes) → OnErr r (Leaves order old new held holds)
 Leaves-if_err (Ok x) order old new held holds bytes same e h = tt
 Leaves-if_err (Err x) order old new held holds bytes same e h = (same refl, subst (WritesFront held holds) e h)
+
+-- neither memory nor slots were wanting
+pub no_shortage : (e : CedarError) → (e ≡ Memory → ⊥) → (e ≡ SlotLimit → ⊥) → IsShortage e → ⊥
+no_shortage EmptyKey m s h = h
+no_shortage (NulByte at) m s h = h
+no_shortage (InvalidValue v) m s h = h
+no_shortage (InvalidMaxTrial v) m s h = h
+no_shortage (DuplicateKey at) m s h = h
+no_shortage (KeysNotSorted at) m s h = h
+no_shortage Memory m s h = m refl
+no_shortage SlotLimit m s h = s refl
+
+-- a put without a fault stores its value
+pub put_obeyed : (s : State) (key : List ℕ) (v : ℤ) → fault key v ≡ None → stored s key v ≡ obeyed s (Some (Put v, key))
+put_obeyed s key v clean = rw clean refl
+
+-- one with a fault changes nothing
+pub put_refused : (s : State) (key : List ℕ) (v : ℤ) (e : CedarError) → fault key v ≡ Some e → s ≡ obeyed s (Some (Put v, key))
+put_refused s key v e why = rw why refl
+
+-- a call that failed is no success, and one that didn't is no failure
+pub on_not_ok : {T E : Type 0} (P : Type 0) (r : Result T E) → is_err r ≡ true → OnOk r P
+on_not_ok P (Ok x) h = absurd (false≢true h)
+on_not_ok P (Err e) h = tt
+
+pub on_not_err : {T E : Type 0} (P : Type 0) (r : Result T E) → is_err r ≡ false → OnErr r P
+on_not_err P (Ok x) h = tt
+on_not_err P (Err e) h = absurd (false≢true (sym h))
+
+-- a call that fails only by its writer, where it fails
+pub write_failed : (P : Type 0) (r : Result (Unit {0}) ScriptError) (e : ScriptError)
+    → OnErr r ((r ≡ Err Write) × P) → r ≡ Err e → P
+write_failed P (Ok x) e h f = absurd (cc)
+write_failed P (Err x) e h f = h.1
+
+pub write_alone : (P : Type 0) (r : Result (Unit {0}) ScriptError) → OnErr r ((r ≡ Err Write) × P)
+    → (r ≡ Err Read → ⊥) × (r ≡ Err NoSlot → ⊥)
+write_alone P (Ok x) h = ((λ f. absurd (cc)), (λ f. absurd (cc)))
+write_alone P (Err x) h = let is = h.0 in ((λ f. absurd (cc)), (λ f. absurd (cc)))
+
+-- the text where nothing was found
+pub none_reply : (t : Tree) (key : List ℕ) → None ≡ exact t key → codes "none" ≡ found_text (number_at t key) (length key)
+none_reply t key h = rw (exact_missed t key h) refl
+
+-- what an erasure answers was written
+pub erased_written : (s : State) (key : List ℕ) (found : ℤ × ℕ) (held holds : Option (List ℕ)) → ◌≡◌ {A = Option (ℤ × ℕ)} (Some found) (exact s.tree key)
+    → Appends held holds (codes "erased" ++ 10 ∷ []) → Appends held holds (reply s (Some (Erase, key)) ++ 10 ∷ [])
+erased_written s key found held holds h p = subst (λ (l : List ℕ). Appends held holds (l ++ 10 ∷ [])) (erased_reply s key found h) p
+
+pub absent_written : (s : State) (key : List ℕ) (held holds : Option (List ℕ)) → None ≡ exact s.tree key
+    → Appends held holds (codes "absent" ++ 10 ∷ []) → Appends held holds (reply s (Some (Erase, key)) ++ 10 ∷ [])
+absent_written s key held holds h p = subst (λ (l : List ℕ). Appends held holds (l ++ 10 ∷ [])) (absent_reply s key h) p

@@ -5,4 +5,5 @@ pub use Rattle.cedarwood.specs.Fault
 pub use Rattle.cedarwood.specs.WatchedDevice
 pub mod Command
 pub mod Lines
+pub mod Options
 pub mod Script

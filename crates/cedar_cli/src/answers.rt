@@ -11,26 +11,26 @@ ghost use Rattle.cedar_cli.specs.Script.{Obeys, Leaves, WritesFront, IsPairFault
 
 use crate::command::{Verb, parse_line};
 use crate::script::ScriptError;
-use cedarwood::{Cedar, CedarError, Watched};
+use cedarwood::{CedarError, Layout, Trie, Watched};
 use itoa::Buffer;
 use std::alloc::Allocator;
 use std::io::Write;
 
 /// Does what a line asks, and writes the answer. A line whose answer isn't written whole changes nothing.
-pub(crate) fn answer_line<A: Allocator + Copy, W: Write>(
+pub(crate) fn answer_line<L: Layout, const SLOTS: usize, A: Allocator + Copy, W: Write>(
     alloc: A,
-    cedar: &mut Cedar<A>,
+    trie: &mut Trie<L, SLOTS, A>,
     line: &[u8],
     writer: &mut Watched<W>,
 ) -> Result<(), ScriptError>
-    ensures ok { OnOk result (Obeys (order_of line.now) cedar.old.state cedar.new.state
+    ensures ok { OnOk result (Obeys (order_of line.now) trie.old.state trie.new.state
         (W.contents (device_of writer.old)) (W.contents (device_of writer.new))) }
-    ensures err { OnErr result (Leaves (order_of line.now) cedar.old.state cedar.new.state
+    ensures err { OnErr result (Leaves (order_of line.now) trie.old.state trie.new.state
         (W.contents (device_of writer.old)) (W.contents (device_of writer.new))) }
     ensures cause { result ≡ Err ScriptError.Write → has_failed writer.new ≡ true }
     ensures unfailed { OnOk result (has_failed writer.new ≡ has_failed writer.old) }
     ensures never_read { result ≡ Err ScriptError.Read → ⊥ }
-    ensures no_limit { result ≡ Err ScriptError.SlotLimit → ⊥ }
+    ensures limit { result ≡ Err ScriptError.SlotLimit → trie.new.size ≡ SLOTS }
 {
     let Ok(command) = parse_line(alloc, line) else {
         return Err(ScriptError::Memory);
@@ -38,98 +38,104 @@ pub(crate) fn answer_line<A: Allocator + Copy, W: Write>(
     match command {
         None => write_whole(writer, b"bad line\n"),
         Some(command) => match command.verb {
-            Verb::Put(value) => answer_put(cedar, &command.key, value, writer),
-            Verb::Erase => answer_erase(cedar, &command.key, writer),
-            Verb::Exact => answer_exact(cedar, &command.key, writer),
+            Verb::Put(value) => answer_put(trie, &command.key, value, writer),
+            Verb::Erase => answer_erase(trie, &command.key, writer),
+            Verb::Exact => answer_exact(trie, &command.key, writer),
         },
     }
 }
 
 /// Stores a value, and answers. Where the answer can't be written, the value is taken back, which takes no
 /// memory: the key is erased, or its old value stored over the new one.
-fn answer_put<A: Allocator + Copy, W: Write>(
-    cedar: &mut Cedar<A>,
+fn answer_put<L: Layout, const SLOTS: usize, A: Allocator + Copy, W: Write>(
+    trie: &mut Trie<L, SLOTS, A>,
     key: &[u8],
     value: i32,
     writer: &mut Watched<W>,
 ) -> Result<(), ScriptError>
-    ensures ok { OnOk result (Obeys (Some (Verb.Put value, key.now)) cedar.old.state cedar.new.state
+    ensures ok { OnOk result (Obeys (Some (Verb.Put value, key.now)) trie.old.state trie.new.state
         (W.contents (device_of writer.old)) (W.contents (device_of writer.new))) }
-    ensures err { OnErr result (Leaves (Some (Verb.Put value, key.now)) cedar.old.state cedar.new.state
+    ensures err { OnErr result (Leaves (Some (Verb.Put value, key.now)) trie.old.state trie.new.state
         (W.contents (device_of writer.old)) (W.contents (device_of writer.new))) }
     ensures cause { result ≡ Err ScriptError.Write → has_failed writer.new ≡ true }
     ensures unfailed { OnOk result (has_failed writer.new ≡ has_failed writer.old) }
     ensures never_read { result ≡ Err ScriptError.Read → ⊥ }
-    ensures no_limit { result ≡ Err ScriptError.SlotLimit → ⊥ }
+    ensures limit { result ≡ Err ScriptError.SlotLimit → trie.new.size ≡ SLOTS }
 {
-    let before = cedar.exact_match_search_bytes(key);
-    match cedar.update_bytes(key, value) {
+    let before = trie.exact_match_search_bytes(key);
+    match trie.update_bytes(key, value) {
         Ok(()) => {
             let written = write_whole(writer, b"ok\n");
             if written.is_err() {
-                take_back(cedar, key, before);
+                take_back(trie, key, before);
             }
             written
         }
-        Err(CedarError::Memory) => Err(ScriptError::Memory),
-        Err(CedarError::SlotLimit) => Err(ScriptError::SlotLimit),
-        Err(error) => write_refusal(writer, error),
+        Err(error) => match error {
+            CedarError::Memory => Err(ScriptError::Memory),
+            CedarError::SlotLimit => Err(ScriptError::SlotLimit),
+            error => write_refusal(writer, error),
+        },
     }
 }
 
 /// Answers whether a key is held, and then removes it.
-fn answer_erase<A: Allocator + Copy, W: Write>(
-    cedar: &mut Cedar<A>,
+fn answer_erase<L: Layout, const SLOTS: usize, A: Allocator + Copy, W: Write>(
+    trie: &mut Trie<L, SLOTS, A>,
     key: &[u8],
     writer: &mut Watched<W>,
 ) -> Result<(), ScriptError>
-    ensures ok { OnOk result (Obeys (Some (Verb.Erase, key.now)) cedar.old.state cedar.new.state
+    ensures ok { OnOk result (Obeys (Some (Verb.Erase, key.now)) trie.old.state trie.new.state
         (W.contents (device_of writer.old)) (W.contents (device_of writer.new))) }
-    ensures err { OnErr result (Leaves (Some (Verb.Erase, key.now)) cedar.old.state cedar.new.state
+    ensures err { OnErr result (Leaves (Some (Verb.Erase, key.now)) trie.old.state trie.new.state
         (W.contents (device_of writer.old)) (W.contents (device_of writer.new))) }
     ensures cause { OnErr result ((result ≡ Err ScriptError.Write) × (has_failed writer.new ≡ true)) }
     ensures unfailed { OnOk result (has_failed writer.new ≡ has_failed writer.old) }
 {
-    match cedar.exact_match_search_bytes(key) {
+    match trie.exact_match_search_bytes(key) {
         Some(_) => write_whole(writer, b"erased\n")?,
         None => write_whole(writer, b"absent\n")?,
     }
-    cedar.erase_bytes(key);
+    trie.erase_bytes(key);
     Ok(())
 }
 
 /// Answers what a key holds.
-fn answer_exact<A: Allocator + Copy, W: Write>(
-    cedar: &Cedar<A>,
+fn answer_exact<L: Layout, const SLOTS: usize, A: Allocator + Copy, W: Write>(
+    trie: &Trie<L, SLOTS, A>,
     key: &[u8],
     writer: &mut Watched<W>,
 ) -> Result<(), ScriptError>
-    ensures ok { OnOk result (Obeys (Some (Verb.Exact, key.now)) cedar.now.state cedar.now.state
+    ensures ok { OnOk result (Obeys (Some (Verb.Exact, key.now)) trie.now.state trie.now.state
         (W.contents (device_of writer.old)) (W.contents (device_of writer.new))) }
-    ensures err { OnErr result (Leaves (Some (Verb.Exact, key.now)) cedar.now.state cedar.now.state
+    ensures err { OnErr result (Leaves (Some (Verb.Exact, key.now)) trie.now.state trie.now.state
         (W.contents (device_of writer.old)) (W.contents (device_of writer.new))) }
     ensures cause { OnErr result ((result ≡ Err ScriptError.Write) × (has_failed writer.new ≡ true)) }
     ensures unfailed { OnOk result (has_failed writer.new ≡ has_failed writer.old) }
 {
-    match cedar.exact_match_search_bytes(key) {
+    match trie.exact_match_search_bytes(key) {
         Some((value, length)) => write_found(writer, value, length),
         None => write_whole(writer, b"none\n"),
     }
 }
 
 /// Puts back what a key held before a value was stored.
-fn take_back<A: Allocator + Copy>(cedar: &mut Cedar<A>, key: &[u8], before: Option<(i32, usize)>)
+fn take_back<L: Layout, const SLOTS: usize, A: Allocator + Copy>(
+    trie: &mut Trie<L, SLOTS, A>,
+    key: &[u8],
+    before: Option<(i32, usize)>,
+)
     ensures state { MatchOption before
-        (cedar.new.state ≡ erased cedar.old.state key.now)
-        (λ found. fault key.now found.0 ≡ None → IsSome (number_at cedar.old.state.tree key.now)
-        → cedar.new.state ≡ stored cedar.old.state key.now found.0) }
+        (trie.new.state ≡ erased trie.old.state key.now)
+        (λ found. fault key.now found.0 ≡ None → IsSome (number_at trie.old.state.tree key.now)
+        → trie.new.state ≡ stored trie.old.state key.now found.0) }
 {
     match before {
         Some((value, _)) => {
-            let _ = cedar.update_bytes(key, value);
+            let _ = trie.update_bytes(key, value);
         }
         None => {
-            cedar.erase_bytes(key);
+            trie.erase_bytes(key);
         }
     }
 }

@@ -1,14 +1,14 @@
 //! The program: arguments and three streams in, a status out.
 
-ghost use Rattle.std.specs.Prelude.{◌≡◌, ◌<◌, ◌≤◌, ◌^◌, ◌↔◌, List, ℕ, ◌++◌, length, true, OnOk, OnErr, IfSome};
+ghost use Rattle.std.specs.Prelude.{◌≡◌, ◌<◌, ◌≤◌, ◌^◌, ◌↔◌, true, length, map, None, OnOk, OnErr, IfSome};
 ghost use Rattle.std.specs.Io.KnownBytes.{Appends};
-ghost use Rattle.cedar_tree.specs.State.{new_state};
 ghost use Rattle.cedarwood.specs.WatchedDevice.{device_of, has_failed};
 ghost use Rattle.cedar_cli.specs.Lines.{lines_of};
+ghost use Rattle.cedar_cli.specs.Options.{empty_state, order_in};
 ghost use Rattle.cedar_cli.specs.Script.{answers, AppendsFront};
 
 use crate::script::{ScriptError, run_script};
-use cedarwood::{Cedar, Watched};
+use cedarwood::{CedarBuilder, Watched};
 use std::alloc::Allocator;
 use std::io::{Read, Write};
 
@@ -22,11 +22,12 @@ pub const FAULT: u8 = 1;
 pub const USAGE: u8 = 2;
 
 /// The line that wrong arguments are answered by.
-pub const USAGE_LINE: &str = "usage: cedar [--unordered] [--load PATH] [--save PATH]\n";
+pub const USAGE_LINE: &str = "usage: cedar [--unordered]\n";
 
 /// Answers the script on `reader` to `writer`, from a dictionary that is empty at first, and says the status
 /// to end with: [`DONE`], [`FAULT`] or [`USAGE`]. Where it isn't `DONE`, a line on `errors` says why; a fault
-/// of `errors` isn't told. No option has come yet, so any argument is a wrong one.
+/// of `errors` isn't told. The one option is `--unordered`, once: a new label then goes before its siblings and not to its
+/// ascending place.
 ///
 /// After a fault of the script what was answered is still flushed, and a fault of that flush isn't told.
 pub fn run_program<A: Allocator + Copy, R: Read, W: Write, E: Write>(
@@ -37,26 +38,26 @@ pub fn run_program<A: Allocator + Copy, R: Read, W: Write, E: Write>(
     errors: &mut Watched<E>,
 ) -> u8
     ensures status { result ≤ 2 }
-    ensures usage { (result ≡ 2) ↔ (0 < length arguments.now) }
+    ensures usage { (result ≡ 2) ↔ (order_in (map (λ word. word.now) arguments.now) ≡ None) }
     ensures untouched { result ≡ 2 → (reader.new ≡ reader.old) × (writer.new ≡ writer.old) }
     ensures silent { result ≡ 0 → errors.new ≡ errors.old }
 
     // All lines of the input are answered, and nothing else was written.
-    ensures done { result ≡ 0 → IfSome (R.remaining (device_of reader.old)) (λ input. length input < 2 ^ 63 →
-        Appends (W.contents (device_of writer.old)) (W.contents (device_of writer.new)) (answers new_state (lines_of input))) }
+    ensures done { result ≡ 0 → IfSome (order_in (map (λ word. word.now) arguments.now)) (λ ordered. IfSome (R.remaining (device_of reader.old)) (λ input. length input < 2 ^ 63 →
+        Appends (W.contents (device_of writer.old)) (W.contents (device_of writer.new)) (answers (empty_state ordered) (lines_of input)))) }
 
     // No call of the reader or the writer failed.
     ensures unfailed { result ≡ 0 → (has_failed reader.new ≡ has_failed reader.old) × (has_failed writer.new ≡ has_failed writer.old) }
 
     // Whatever happens, what was written begins the answers.
-    ensures begun { IfSome (R.remaining (device_of reader.old)) (λ input. length input < 2 ^ 63 →
-        AppendsFront (W.contents (device_of writer.old)) (W.contents (device_of writer.new)) (answers new_state (lines_of input))) }
+    ensures begun { IfSome (order_in (map (λ word. word.now) arguments.now)) (λ ordered. IfSome (R.remaining (device_of reader.old)) (λ input. length input < 2 ^ 63 →
+        AppendsFront (W.contents (device_of writer.old)) (W.contents (device_of writer.new)) (answers (empty_state ordered) (lines_of input)))) }
 {
-    if !arguments.is_empty() {
+    let Some(ordered) = order_of_arguments(arguments) else {
         let _ = errors.write_all(USAGE_LINE.as_bytes());
         return USAGE;
-    }
-    match answer_script(alloc, reader, writer) {
+    };
+    match answer_script(alloc, ordered, reader, writer) {
         Ok(()) => DONE,
         Err(fault) => {
             let _ = errors.write_all(fault_line(fault).as_bytes());
@@ -65,21 +66,34 @@ pub fn run_program<A: Allocator + Copy, R: Read, W: Write, E: Write>(
     }
 }
 
+/// Whether labels are to ascend, or None where the arguments are wrong.
+fn order_of_arguments(arguments: &[&str]) -> Option<bool>
+    ensures { result ≡ order_in (map (λ word. word.now) arguments.now) }
+{
+    match arguments {
+        [] => Some(true),
+        [option] if *option == "--unordered" => Some(false),
+        _ => None,
+    }
+}
+
 /// Answers the script from a dictionary that is empty at first, and flushes the answers.
 fn answer_script<A: Allocator + Copy, R: Read, W: Write>(
     alloc: A,
+    ordered: bool,
     reader: &mut Watched<R>,
     writer: &mut Watched<W>,
 ) -> Result<(), ScriptError>
     ensures ok { OnOk result (IfSome (R.remaining (device_of reader.old)) (λ input. length input < 2 ^ 63 →
-        Appends (W.contents (device_of writer.old)) (W.contents (device_of writer.new)) (answers new_state (lines_of input)))) }
+        Appends (W.contents (device_of writer.old)) (W.contents (device_of writer.new)) (answers (empty_state ordered) (lines_of input)))) }
     ensures err { OnErr result (IfSome (R.remaining (device_of reader.old)) (λ input. length input < 2 ^ 63 →
-        AppendsFront (W.contents (device_of writer.old)) (W.contents (device_of writer.new)) (answers new_state (lines_of input)))) }
+        AppendsFront (W.contents (device_of writer.old)) (W.contents (device_of writer.new)) (answers (empty_state ordered) (lines_of input)))) }
     ensures read_cause { result ≡ Err ScriptError.Read → has_failed reader.new ≡ true }
     ensures write_cause { result ≡ Err ScriptError.Write → has_failed writer.new ≡ true }
     ensures unfailed { OnOk result ((has_failed reader.new ≡ has_failed reader.old) × (has_failed writer.new ≡ has_failed writer.old)) }
 {
-    let Ok(mut cedar) = Cedar::new(alloc) else {
+    let builder = CedarBuilder::new().ordered(ordered);
+    let Ok(mut cedar) = builder.build(alloc) else {
         return Err(ScriptError::Memory);
     };
     let outcome = run_script(alloc, &mut cedar, reader, writer);

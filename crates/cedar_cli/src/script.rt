@@ -7,7 +7,7 @@ ghost use Rattle.cedar_cli.specs.Lines.{lines_of, IsOpen, is_newline};
 ghost use Rattle.cedar_cli.specs.Script.{Finishes, Advances, Stops, EndsEarly};
 
 use crate::answers::answer_line;
-use cedarwood::{Cedar, Watched};
+use cedarwood::{Layout, Trie, Watched};
 use memchr::memchr;
 use std::alloc::{AllocError, Allocator};
 use std::io::{Read, Write};
@@ -39,29 +39,29 @@ const CHUNK: usize = 8192;
 ///
 /// # Errors
 /// The first fault ends the run: `Read` or `Write` where the device failed (an interrupted call is a fault),
-/// `Memory` where a request was refused. What was written then begins with the answers of the finished
+/// `Memory` where a request was refused, `SlotLimit` where all slots that there may be are in use. What was written then begins with the answers of the finished
 /// lines. A line that a read fault cut isn't answered.
-pub fn run_script<A: Allocator + Copy, R: Read, W: Write>(
+pub fn run_script<L: Layout, const SLOTS: usize, A: Allocator + Copy, R: Read, W: Write>(
     alloc: A,
-    cedar: &mut Cedar<A>,
+    trie: &mut Trie<L, SLOTS, A>,
     reader: &mut Watched<R>,
     writer: &mut Watched<W>,
 ) -> Result<(), ScriptError>
     // All lines of what the reader had left are finished, and nothing else was written.
     ensures ok { OnOk result (IfSome (R.remaining (device_of reader.old)) (λ input. length input < 2 ^ 63 →
-        Finishes cedar.old.state cedar.new.state
+        Finishes trie.old.state trie.new.state
         (W.contents (device_of writer.old)) (W.contents (device_of writer.new)) (lines_of input) [])) }
 
     // The first lines are finished, the next one's answer was not written whole, and the state is theirs.
     ensures err { OnErr result (IfSome (R.remaining (device_of reader.old)) (λ input. length input < 2 ^ 63 →
-        EndsEarly cedar.old.state cedar.new.state
+        EndsEarly trie.old.state trie.new.state
         (W.contents (device_of writer.old)) (W.contents (device_of writer.new)) input)) }
 
     // After a fault of the reader the finished lines are those that came whole.
     ensures read { result ≡ Err ScriptError.Read → IfSome (R.remaining (device_of reader.old)) (λ input.
         (came : List ℕ) × (line : List ℕ)
         × Consumes (R.remaining (device_of reader.old)) (R.remaining (device_of reader.new)) came
-        × IsOpen line × Advances cedar.old.state cedar.new.state
+        × IsOpen line × Advances trie.old.state trie.new.state
         (W.contents (device_of writer.old)) (W.contents (device_of writer.new)) came line) }
 
     ensures read_cause { result ≡ Err ScriptError.Read → has_failed reader.new ≡ true }
@@ -70,8 +70,8 @@ pub fn run_script<A: Allocator + Copy, R: Read, W: Write>(
     // A run that answers the whole script met no fault.
     ensures unfailed { OnOk result ((has_failed reader.new ≡ has_failed reader.old) × (has_failed writer.new ≡ has_failed writer.old)) }
 
-    // There is no limit of slots yet.
-    ensures no_limit { result ≡ Err ScriptError.SlotLimit → ⊥ }
+    // Slots are wanting only where all that there may be are in use.
+    ensures limit { result ≡ Err ScriptError.SlotLimit → trie.new.size ≡ SLOTS }
 {
     let mut line = Vec::new(alloc);
     let mut chunk = [0u8; CHUNK];
@@ -86,36 +86,36 @@ pub fn run_script<A: Allocator + Copy, R: Read, W: Write>(
         if count == 0 {
             break;
         }
-        take_bytes(alloc, cedar, &mut line, &chunk[..count], writer)?;
+        take_bytes(alloc, trie, &mut line, &chunk[..count], writer)?;
     }
     if !line.is_empty() {
-        answer_line(alloc, cedar, line.as_slice(), writer)?;
+        answer_line(alloc, trie, line.as_slice(), writer)?;
     }
     Ok(())
 }
 
 /// Takes some bytes: each byte 10 among them ends a line, and what follows the last one begins the next.
-fn take_bytes<A: Allocator + Copy, W: Write>(
+fn take_bytes<L: Layout, const SLOTS: usize, A: Allocator + Copy, W: Write>(
     alloc: A,
-    cedar: &mut Cedar<A>,
+    trie: &mut Trie<L, SLOTS, A>,
     line: &mut Vec<u8, A>,
     bytes: &[u8],
     writer: &mut Watched<W>,
 ) -> Result<(), ScriptError>
     requires open { IsOpen line.old.items }
     ensures still_open { OnOk result (IsOpen line.new.items) }
-    ensures ok { OnOk result (Advances cedar.old.state cedar.new.state
+    ensures ok { OnOk result (Advances trie.old.state trie.new.state
         (W.contents (device_of writer.old)) (W.contents (device_of writer.new)) (line.old.items ++ bytes.now) line.new.items) }
-    ensures err { OnErr result (Stops cedar.old.state cedar.new.state
+    ensures err { OnErr result (Stops trie.old.state trie.new.state
         (W.contents (device_of writer.old)) (W.contents (device_of writer.new)) (line.old.items ++ bytes.now)) }
     ensures cause { result ≡ Err ScriptError.Write → has_failed writer.new ≡ true }
     ensures unfailed { OnOk result (has_failed writer.new ≡ has_failed writer.old) }
     ensures never_read { result ≡ Err ScriptError.Read → ⊥ }
-    ensures no_limit { result ≡ Err ScriptError.SlotLimit → ⊥ }
+    ensures limit { result ≡ Err ScriptError.SlotLimit → trie.new.size ≡ SLOTS }
 {
     let mut rest = bytes;
     while let Some(at) = position_of_newline(rest) {
-        end_line(alloc, cedar, line, &rest[..at], writer)?;
+        end_line(alloc, trie, line, &rest[..at], writer)?;
         rest = &rest[at + 1..];
     }
     match line.extend_from_slice(rest) {
@@ -126,15 +126,16 @@ fn take_bytes<A: Allocator + Copy, W: Write>(
 
 /// Where the first byte 10 is.
 fn position_of_newline(text: &[u8]) -> Option<usize>
-    ensures { result ≡ position is_newline text.now }
+    ensures first { result ≡ position is_newline text.now }
+    ensures within { IfSome result (λ at. at < length text.now) }
 {
     memchr(b'\n', text)
 }
 
 /// Answers a line that ends with a piece and byte 10. A line of one piece is answered where it stands.
-fn end_line<A: Allocator + Copy, W: Write>(
+fn end_line<L: Layout, const SLOTS: usize, A: Allocator + Copy, W: Write>(
     alloc: A,
-    cedar: &mut Cedar<A>,
+    trie: &mut Trie<L, SLOTS, A>,
     line: &mut Vec<u8, A>,
     piece: &[u8],
     writer: &mut Watched<W>,
@@ -142,22 +143,22 @@ fn end_line<A: Allocator + Copy, W: Write>(
     requires open { IsOpen line.old.items }
     requires open_piece { IsOpen piece.now }
     ensures empty { OnOk result (line.new.items ≡ []) }
-    ensures ok { OnOk result (Advances cedar.old.state cedar.new.state
+    ensures ok { OnOk result (Advances trie.old.state trie.new.state
         (W.contents (device_of writer.old)) (W.contents (device_of writer.new)) (line.old.items ++ (piece.now ++ 10 ∷ [])) []) }
-    ensures err { OnErr result (Stops cedar.old.state cedar.new.state
+    ensures err { OnErr result (Stops trie.old.state trie.new.state
         (W.contents (device_of writer.old)) (W.contents (device_of writer.new)) (line.old.items ++ (piece.now ++ 10 ∷ []))) }
     ensures cause { result ≡ Err ScriptError.Write → has_failed writer.new ≡ true }
     ensures unfailed { OnOk result (has_failed writer.new ≡ has_failed writer.old) }
     ensures never_read { result ≡ Err ScriptError.Read → ⊥ }
-    ensures no_limit { result ≡ Err ScriptError.SlotLimit → ⊥ }
+    ensures limit { result ≡ Err ScriptError.SlotLimit → trie.new.size ≡ SLOTS }
 {
     if line.is_empty() {
-        return answer_line(alloc, cedar, piece, writer);
+        return answer_line(alloc, trie, piece, writer);
     }
     let Ok(()) = line.extend_from_slice(piece) else {
         return Err(ScriptError::Memory);
     };
-    answer_line(alloc, cedar, line.as_slice(), writer)?;
+    answer_line(alloc, trie, line.as_slice(), writer)?;
     line.clear();
     Ok(())
 }

@@ -2,8 +2,16 @@
 #![tactic(auto)]
 
 #[cfg(test)]
+mod beside;
+#[cfg(test)]
 mod dictionary;
 #[cfg(test)]
+mod growth;
+#[cfg(test)]
 mod program;
+#[cfg(test)]
+mod runs;
+#[cfg(test)]
+mod settings;
 #[cfg(test)]
 mod texts;

@@ -9,7 +9,7 @@ const SCRIPT: &[u8] = b"+ 61 1\n= 61\n";
 
 const ANSWERS: &str = "ok\n1 1\n";
 
-const USAGE_TEXT: &str = "usage: cedar [--unordered] [--load PATH] [--save PATH]\n";
+const USAGE_TEXT: &str = "usage: cedar [--unordered]\n";
 
 // What fails in a run.
 #[derive(Clone, Copy)]
@@ -93,11 +93,12 @@ fn a_good_run(rt: HostRuntime) -> Result<(), Fail> {
     Ok(())
 }
 
-// No option is known: nothing is read, written or flushed.
+// Other arguments than the one option, once: nothing is read, written or flushed.
 #[test]
 fn wrong_arguments(rt: HostRuntime) -> Result<(), Fail> {
-    let cases: [&[&str]; 5] = [
-        &["--unordered"],
+    let cases: [&[&str]; 6] = [
+        &["--unordered", "--unordered"],
+        &["--unorder"],
         &["x"],
         &[""],
         &["--load", "x"],
@@ -119,6 +120,16 @@ fn wrong_arguments(rt: HostRuntime) -> Result<(), Fail> {
         let silenced = run(rt.alloc(), arguments, faults, 0)?;
         assert_eq!(rt; silenced.status, 2);
     }
+    Ok(())
+}
+
+// The answers to look-ups don't depend on the order of labels.
+#[test]
+fn new_labels_first(rt: HostRuntime) -> Result<(), Fail> {
+    let left = run(rt.alloc(), &["--unordered"], NONE, 128)?;
+    assert_eq!(rt; left.status, 0);
+    assert_eq!(rt; left.written.as_slice(), ANSWERS.as_bytes());
+    assert!(rt; left.told.is_empty());
     Ok(())
 }
 

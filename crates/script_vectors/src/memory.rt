@@ -33,35 +33,38 @@ fn a_new_dictionary(rt: HostRuntime) -> Result<(), Fail> {
     Ok(())
 }
 
+// A key that fits no block of 256 slots.
+const LONG: [u8; 600] = [b'z'; 600];
+
 // How an update of a new key went, where one request was refused.
 #[derive(Clone, Copy, Debug, PartialEq, Eq)]
 struct Update {
     requests: u64,
     is_refused: bool,
-    // What `ab`, `abcd`, `abcde` and `x` held after it.
+    // What `z`, `zz`, the long key and `x` held after it.
     held: [Option<(i32, usize)>; 4],
     is_next_ok: bool,
 }
 
-// Stores `abcde` beside `ab` and `x`, with one request refused, and then once more with none.
+// Stores the long key beside `z` and `x`, with one request refused, and then once more with none.
 fn update_refused(alloc: Global, request: u64) -> Result<Update, CedarError> {
     let alloc = Refusing::new(alloc);
     let mut cedar = Cedar::new(&alloc)?;
-    cedar.update_bytes(b"ab", 1)?;
+    cedar.update_bytes(b"z", 1)?;
     cedar.update_bytes(b"x", 2)?;
     alloc.refuse(request, request);
-    let outcome = cedar.update_bytes(b"abcde", 3);
+    let outcome = cedar.update_bytes(&LONG, 3);
     let requests = alloc.requests();
     let held = [
-        cedar.exact_match_search_bytes(b"ab"),
-        cedar.exact_match_search_bytes(b"abcd"),
-        cedar.exact_match_search_bytes(b"abcde"),
+        cedar.exact_match_search_bytes(b"z"),
+        cedar.exact_match_search_bytes(b"zz"),
+        cedar.exact_match_search_bytes(&LONG),
         cedar.exact_match_search_bytes(b"x"),
     ];
     alloc.refuse_none();
-    let is_next_ok = cedar.update_bytes(b"abcde", 4) == Ok(())
-        && cedar.exact_match_search_bytes(b"abcde") == Some((4, 5))
-        && cedar.exact_match_search_bytes(b"ab") == Some((1, 2));
+    let is_next_ok = cedar.update_bytes(&LONG, 4) == Ok(())
+        && cedar.exact_match_search_bytes(&LONG) == Some((4, 600))
+        && cedar.exact_match_search_bytes(b"z") == Some((1, 1));
     Ok(Update {
         requests,
         is_refused: outcome == Err(CedarError::Memory),
@@ -77,7 +80,7 @@ fn an_update_of_a_new_key(rt: HostRuntime) -> Result<(), Fail> {
     assert!(rt; !stored.is_refused && stored.is_next_ok);
     assert_eq!(rt;
         stored.held,
-        [Some((1, 2)), None, Some((3, 5)), Some((2, 1))]
+        [Some((1, 1)), None, Some((3, 600)), Some((2, 1))]
     );
     for earlier in 0..stored.requests {
         let request = earlier + 1;
@@ -85,7 +88,7 @@ fn an_update_of_a_new_key(rt: HostRuntime) -> Result<(), Fail> {
         assert!(rt; left.is_refused && left.is_next_ok, "at request {request}");
         assert_eq!(rt;
             left.held,
-            [Some((1, 2)), None, None, Some((2, 1))],
+            [Some((1, 1)), None, None, Some((2, 1))],
             "at request {request}"
         );
     }

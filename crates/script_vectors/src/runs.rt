@@ -1,6 +1,6 @@
 //! Runs of scripts over devices that fail where they are told to, and one script to run.
 use cedar_cli::{ScriptError, run_script};
-use cedarwood::{Cedar, CedarError, Watched};
+use cedarwood::{Cedar, CedarError, Layout, Trie, Watched};
 use std::alloc::{AllocError, Allocator, Global};
 use test_devices::{Ending, FailingReader, FailingWriter};
 
@@ -58,7 +58,9 @@ pub(crate) fn held_after(count: usize) -> Holdings {
 }
 
 /// What a dictionary holds.
-pub(crate) fn held<A: Allocator + Copy>(cedar: &Cedar<A>) -> Holdings {
+pub(crate) fn held<L: Layout, const SLOTS: usize, A: Allocator + Copy>(
+    cedar: &Trie<L, SLOTS, A>,
+) -> Holdings {
     [
         cedar.exact_match_search_bytes(b"a"),
         cedar.exact_match_search_bytes(b"ab"),
@@ -104,10 +106,10 @@ pub(crate) struct Ended {
 }
 
 /// Runs a script within limits, with its memory from `alloc`. What the run leaves is kept in `kept_in`.
-pub(crate) fn run<A: Allocator + Copy>(
+pub(crate) fn run<L: Layout, const SLOTS: usize, A: Allocator + Copy>(
     kept_in: Global,
     alloc: A,
-    cedar: &mut Cedar<A>,
+    cedar: &mut Trie<L, SLOTS, A>,
     script: &[u8],
     limits: Limits,
 ) -> Result<Ended, AllocError> {

@@ -1,48 +1,82 @@
-use Rattle.std.proofs.Common.{rules, sym, Some, ap, subst, ◌∙◌, ◌++◌, ◌∷◌, [], ◌≡◌, None, ℤ, to_z, of_z, w32}
+use Rattle.std.proofs.Common.{sym, Some, ap, subst, ◌∙◌, ◌++◌, ◌∷◌, [], ◌≡◌, None, ℤ, to_z, of_z, w32, Err}
 use Rattle.std.proofs.lemmas.Int.{to_z-of_z}
 use Rattle.cedar_tree.specs.State.{stored}
 use Rattle.cedar_cli.specs.Script.{refusal}
+use Rattle.std.specs.Prelude.{Result}
+use Rattle.cedar_table.specs.declared.error.CedarError.{CedarError}
+use Rattle.cedar_table.specs.declared.error.CedarError.TheVariants.{SlotLimit}
+use Rattle.cedar_cli.specs.declared.script.ScriptError.TheVariants.{Write}
 use Rattle.cedarwood.specs.Fault.{fault, IsShortage}
 use Rattle.cedar_cli.specs.declared.command.Verb.TheVariants.{Put}
 use Rattle.cedarwood.specs.WatchedDevice.{device_of}
 use Rattle.cedar_cli.proofs.Bytes.{Leaves-on_err, Obeys-on_ok}
-use Rattle.cedar_cli.proofs.Orders.{no_fault, pair_kind, refused_by, taken_back, Leaves-if_err}
+use Rattle.cedar_cli.proofs.Orders.{no_fault, pair_kind, refused_by, taken_back, Leaves-if_err, Leaves-unanswered, no_shortage, put_obeyed, put_refused, on_not_ok, on_not_err, write_failed, write_alone}
 use Rattle.cedar_cli.proofs.answers.answer_put.Goals as goal
 
 pub returns-then-is_err-clause-err : goal.returns-then-is_err-clause-err
 returns-then-is_err-clause-err g c =
     let key = c.args.key.now in
-    let old = c.args.cedar.now.state in
+    let old = c.args.trie.now.state in
     let same = to_z-of_z w32 c.args.value c.ranges.value in
     let clean : fault key c.args.value ≡ None = subst (λ (v : ℤ). fault key v ≡ None) same (no_fault (fault key (to_z w32 (of_z w32 c.args.value))) c.in-Ok.field-0 c.in-Ok.ensures.faulty) in
-    Leaves-if_err c.write_whole-written.result (Some (Put c.args.value, key)) old c.take_back.new.cedar.state (g.W.Write.contents (device_of c.args.writer.now)) (g.W.Write.contents (device_of c.write_whole-written.new.writer)) (111 ∷ 107 ∷ 10 ∷ [])
-    (λ _. taken_back c.exact_match_search_bytes-before.result old c.update_bytes.new.self.state c.take_back.new.cedar.state key c.args.value
+    Leaves-if_err c.write_whole-written.result (Some (Put c.args.value, key)) old c.take_back.new.trie.state (g.W.Write.contents (device_of c.args.writer.now)) (g.W.Write.contents (device_of c.write_whole-written.new.writer)) (111 ∷ 107 ∷ 10 ∷ [])
+    (λ _. taken_back c.exact_match_search_bytes-before.result old c.update_bytes.new.self.state c.take_back.new.trie.state key c.args.value
     c.exact_match_search_bytes-before.ensures.answer c.exact_match_search_bytes-before.ensures.sound c.exact_match_search_bytes-before.ensures.in_range clean
     (c.in-Ok.ensures.ok ∙ ap (λ v. stored old key v) same) c.take_back.ensures.state)
     (ap (λ f. refusal f ++ 10 ∷ []) (sym clean)) c.write_whole-written.ensures.err
 
-pub returns-in-Err-clause-ok : goal.returns-in-Err-clause-ok
-returns-in-Err-clause-ok g c =
-    let key = c.args.key.now in
-    let old = c.args.cedar.now.state in
-    let same = to_z-of_z w32 c.args.value c.ranges.value in
-    let never : IsShortage c.in-Err.error → ⊥ = search rules in
-    let why : fault key c.args.value ≡ Some c.in-Err.error = subst (λ (v : ℤ). fault key v ≡ Some c.in-Err.error) same (refused_by _ (fault key (to_z w32 (of_z w32 c.args.value))) _ c.in-Err.error c.in-Err.ensures.faulty c.in-Err.ensures.refused never) in
-    Obeys-on_ok c.write_refusal.result (Some (Put c.args.value, key)) old (c.update_bytes.new.self.state) (g.W.Write.contents (device_of c.args.writer.now)) (g.W.Write.contents (device_of c.write_refusal.new.writer)) (refusal (Some c.in-Err.error) ++ 10 ∷ [])
-    (rw why c.in-Err.ensures.err) (ap (λ f. refusal f ++ 10 ∷ []) (sym why)) c.write_refusal.ensures.ok
+pub returns-then-is_err-clause-ok : goal.returns-then-is_err-clause-ok
+returns-then-is_err-clause-ok g c = on_not_ok _ c.write_whole-written.result (sym c.is_err.ensures.value ∙ c.if-is_err.true)
 
-pub returns-in-Err-clause-err : goal.returns-in-Err-clause-err
-returns-in-Err-clause-err g c =
+pub returns-else-is_err-clause-err : goal.returns-else-is_err-clause-err
+returns-else-is_err-clause-err g c = on_not_err _ c.write_whole-written.result (sym c.is_err.ensures.value ∙ c.if-is_err.false)
+
+pub returns-else-is_err-clause-ok : goal.returns-else-is_err-clause-ok
+returns-else-is_err-clause-ok g c =
     let key = c.args.key.now in
-    let old = c.args.cedar.now.state in
+    let old = c.args.trie.now.state in
     let same = to_z-of_z w32 c.args.value c.ranges.value in
-    let never : IsShortage c.in-Err.error → ⊥ = search rules in
+    let clean : fault key c.args.value ≡ None = subst (λ (v : ℤ). fault key v ≡ None) same (no_fault (fault key (to_z w32 (of_z w32 c.args.value))) c.in-Ok.field-0 c.in-Ok.ensures.faulty) in
+    Obeys-on_ok c.write_whole-written.result (Some (Put c.args.value, key)) old c.update_bytes.new.self.state (g.W.Write.contents (device_of c.args.writer.now)) (g.W.Write.contents (device_of c.write_whole-written.new.writer)) (111 ∷ 107 ∷ 10 ∷ [])
+    (c.in-Ok.ensures.ok ∙ ap (λ v. stored old key v) same ∙ put_obeyed old key c.args.value clean)
+    (ap (λ f. refusal f ++ 10 ∷ []) (sym clean)) c.write_whole-written.ensures.ok
+
+pub returns-in_default : goal.returns-in_default
+returns-in_default g c =
+    let key = c.args.key.now in
+    let old = c.args.trie.now.state in
+    let same = to_z-of_z w32 c.args.value c.ranges.value in
+    let never : IsShortage c.in-Err.error → ⊥ = no_shortage c.in-Err.error c.in_default.not-Memory c.in_default.not-SlotLimit in
     let why : fault key c.args.value ≡ Some c.in-Err.error = subst (λ (v : ℤ). fault key v ≡ Some c.in-Err.error) same (refused_by _ (fault key (to_z w32 (of_z w32 c.args.value))) _ c.in-Err.error c.in-Err.ensures.faulty c.in-Err.ensures.refused never) in
-    Leaves-on_err c.write_refusal.result (Some (Put c.args.value, key)) old (c.update_bytes.new.self.state) (g.W.Write.contents (device_of c.args.writer.now)) (g.W.Write.contents (device_of c.write_refusal.new.writer)) (refusal (Some c.in-Err.error) ++ 10 ∷ [])
-    c.in-Err.ensures.err (ap (λ f. refusal f ++ 10 ∷ []) (sym why)) c.write_refusal.ensures.err
+    let held = g.W.Write.contents (device_of c.args.writer.now) in
+    let holds = g.W.Write.contents (device_of c.write_refusal.new.writer) in
+    let alone = write_alone _ c.write_refusal.result c.write_refusal.ensures.cause in
+    record {
+      ok = Obeys-on_ok c.write_refusal.result (Some (Put c.args.value, key)) old c.update_bytes.new.self.state held holds (refusal (Some c.in-Err.error) ++ 10 ∷ [])
+          (c.in-Err.ensures.err ∙ put_refused old key c.args.value c.in-Err.error why) (ap (λ f. refusal f ++ 10 ∷ []) (sym why)) c.write_refusal.ensures.ok;
+      err = Leaves-on_err c.write_refusal.result (Some (Put c.args.value, key)) old c.update_bytes.new.self.state held holds (refusal (Some c.in-Err.error) ++ 10 ∷ [])
+          c.in-Err.ensures.err (ap (λ f. refusal f ++ 10 ∷ []) (sym why)) c.write_refusal.ensures.err;
+      cause = λ failed. write_failed _ c.write_refusal.result Write c.write_refusal.ensures.cause failed;
+      unfailed = c.write_refusal.ensures.unfailed;
+      never_read = alone.0;
+      limit = λ full. absurd (alone.1 full);
+    }
 
 pub write_refusal-requires : goal.write_refusal-requires
 write_refusal-requires g c =
-    let never : IsShortage c.in-Err.error → ⊥ = search rules in
+    let never : IsShortage c.in-Err.error → ⊥ = no_shortage c.in-Err.error c.in_default.not-Memory c.in_default.not-SlotLimit in
     pair_kind c.args.key.now (to_z w32 (of_z w32 c.args.value)) c.in-Err.error
     (refused_by _ (fault c.args.key.now (to_z w32 (of_z w32 c.args.value))) _ c.in-Err.error c.in-Err.ensures.faulty c.in-Err.ensures.refused never)
+
+pub returns-in-Memory-clause-err : goal.returns-in-Memory-clause-err
+returns-in-Memory-clause-err g c =
+    Leaves-unanswered (Some (Put c.args.value, c.args.key.now)) c.args.trie.now.state c.update_bytes.new.self.state (g.W.Write.contents (device_of c.args.writer.now)) c.in-Err.ensures.err
+
+pub returns-in-SlotLimit-clause-err : goal.returns-in-SlotLimit-clause-err
+returns-in-SlotLimit-clause-err g c =
+    Leaves-unanswered (Some (Put c.args.value, c.args.key.now)) c.args.trie.now.state c.update_bytes.new.self.state (g.W.Write.contents (device_of c.args.writer.now)) c.in-Err.ensures.err
+
+pub returns-in-SlotLimit-clause-limit : goal.returns-in-SlotLimit-clause-limit
+returns-in-SlotLimit-clause-limit g c =
+    let full : ◌≡◌ {A = Result (Unit {0}) CedarError} (Err c.in-Err.error) (Err SlotLimit) = ap Err c.in-SlotLimit.is in
+    λ _. c.in-Err.ensures.limit full

@@ -1,5 +1,7 @@
-use Rattle.cedar_cli.proofs.Newlines.{first_newline}
+use Rattle.cedar_cli.proofs.Newlines.{first_newline, newline_within}
 use Rattle.cedar_cli.proofs.script.position_of_newline.Goals as goal
 
 pub returns : goal.returns
-returns c = first_newline c.args.text.now c.memchr.result c.memchr.ensures
+returns c =
+    let first = first_newline c.args.text.now c.memchr.result c.memchr.ensures in
+    record { first = first; within = newline_within c.args.text.now c.memchr.result first }

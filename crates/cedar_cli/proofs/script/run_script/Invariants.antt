@@ -10,6 +10,6 @@ abbrev pub invariant-loop-turn : goal.invariant-loop-turn
 invariant-loop-turn g l =
     (came : List ℕ) × Consumes (g.R.Read.remaining l.fn.reader.device) (g.R.Read.remaining l.reader.device) came
     × (l.turn ≤ length came) × IsOpen l.line.items
-    × Advances (l.fn.cedar.state) (l.cedar.state)
+    × Advances (l.fn.trie.state) (l.trie.state)
     (g.W.Write.contents l.fn.writer.device) (g.W.Write.contents l.writer.device) came l.line.items
     × (has_failed l.reader ≡ has_failed l.fn.reader) × (has_failed l.writer ≡ has_failed l.fn.writer)

@@ -8,7 +8,7 @@ use Rattle.cedar_cli.proofs.script.take_bytes.Given as goal
 abbrev pub invariant-loop-at : goal.invariant-loop-at
 invariant-loop-at g l =
     (gone : List ℕ) × (l.bytes ≡ gone ++ l.rest) × IsOpen l.line.items
-    × Advances l.fn.cedar.state l.cedar.state
+    × Advances l.fn.trie.state l.trie.state
     (g.W.Write.contents (device_of l.fn.writer)) (g.W.Write.contents (device_of l.writer)) (l.fn.line.items ++ gone) l.line.items
     × (has_failed l.writer ≡ has_failed l.fn.writer)
 

@@ -1,0 +1,16 @@
+use Rattle.std.proofs.Common.{rules, ap, ◌≡◌, ℤ, to_z, of_z, w32, FitsSigned, ◌∙◌}
+use Rattle.std.proofs.lemmas.Int.{to_z-of_z}
+use Rattle.cedar_tree.specs.State.{stored}
+use Rattle.cedar_cli.proofs.Orders.{put_back}
+use Rattle.cedar_cli.proofs.answers.take_back.Goals as goal
+
+pub returns-in-Some : goal.returns-in-Some
+returns-in-Some g c =
+    let key = c.args.key.now in
+    let old = c.args.trie.now.state in
+    let new = c.update_bytes.new.self.state in
+    let v = c.in-Some.value in
+    let fits : FitsSigned w32 v = search rules in
+    let same : to_z w32 (of_z w32 v) ≡ v = to_z-of_z w32 v fits in
+    let back = put_back c.update_bytes.result old new key (to_z w32 (of_z w32 v)) c.update_bytes.ensures.ok c.update_bytes.ensures.refused in
+    record { state = rw c.in-Some.is (λ fine held. back (rw same fine) held ∙ ap (λ (w : ℤ). stored old key w) same) }
