@@ -1,5 +1,5 @@
-//! The slot table of a double-array trie: its slots, the rings in which the free ones stand, the blocks of slots and
-//! their lists.
+//! The table of slots of a double-array trie: its slots, the rings in which the free ones stand, the blocks of slots and
+//! their lists; the labelled tree that the held slots stand for; and look-ups, updates and erasures.
 #![tactic(auto)]
 
 mod blocks;
