@@ -2,7 +2,7 @@
 #![tactic(auto)]
 
 use cedar_cli::{FAULT, USAGE, USAGE_LINE, run_program};
-use cedarwood::Watched;
+use cedarwood::{DefaultLayout, Watched};
 use std::alloc::{AllocError, Global};
 use std::env;
 use std::io::{BufWriter, Stderr, Write};
@@ -26,8 +26,9 @@ fn main(rt: HostRuntime) -> ExitCode {
     };
     let mut reader = Watched::new(rt.stdin());
     let mut writer = Watched::new(output);
-    let status = run_program(
+    let status = run_program::<DefaultLayout, 1073741824, _, _, _, _, _>(
         rt.alloc(),
+        &rt,
         &arguments,
         &mut reader,
         &mut writer,

@@ -1,6 +1,9 @@
+pub mod Begun
+pub mod BlockCounts
 pub mod Bytes
+pub mod EntryLines
+pub mod JoinedLines
 pub mod Newlines
 pub mod Orders
 pub mod Runs
 pub mod Text
-pub mod Words

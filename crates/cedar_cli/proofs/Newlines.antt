@@ -112,17 +112,17 @@ gone_further chunk gone rest at whole e =
     whole ∙ ap (λ l. gone ++ l) (cut_at rest at e)
     ∙ sym (append_assoc gone (take at rest ++ 10 ∷ []) (take (length rest - (at + 1)) (drop (at + 1) rest)))
 
--- the first place of a byte 10, as a search answers it
-pub first_newline : (text : List ℕ) (found : Option ℕ) → IsFirstByte (is_byte 10) text found → found ≡ position is_newline text
-first_newline text None none = sym (rw at_end (grind (arith, common_steps))) where
-  at_end : position_or_len is_newline text ≡ length text
-  at_end = position_or_len_is is_newline text (length text) 0 (omega arith) (λ k low. not_true (none k (omega arith) low)) (λ out. absurd (omega arith))
-first_newline text (Some at) first = sym (rw at_first (grind (arith, common_steps))) where
+-- the first place of a byte, as a search answers it
+pub first_byte : (b : ℕ) (text : List ℕ) (found : Option ℕ) → IsFirstByte (is_byte b) text found → found ≡ position (is_byte b) text
+first_byte b text None none = sym (rw at_end (grind (arith, common_steps))) where
+  at_end : position_or_len (is_byte b) text ≡ length text
+  at_end = position_or_len_is (is_byte b) text (length text) 0 (omega arith) (λ k low. not_true (none k (omega arith) low)) (λ out. absurd (omega arith))
+first_byte b text (Some at) first = sym (rw at_first (grind (arith, common_steps))) where
   within : at < length text
   within = first.0.high
 
-  at_first : position_or_len is_newline text ≡ at
-  at_first = position_or_len_is is_newline text at 0 (omega arith) (λ k low. not_true (first.0.before k (omega arith) low)) (λ _. first.1)
+  at_first : position_or_len (is_byte b) text ≡ at
+  at_first = position_or_len_is (is_byte b) text at 0 (omega arith) (λ k low. not_true (first.0.before k (omega arith) low)) (λ _. first.1)
 
 -- before the first byte
 pub none_taken : (t : State) (held : Option (List ℕ)) (line : List ℕ) → Advances t t held held (line ++ []) line

@@ -8,14 +8,14 @@ use Rattle.cedar_tree.specs.State.{State, stored, erased}
 use Rattle.cedar_tree.specs.Tree.{Tree, number_at, IsSound}
 use Rattle.cedar_tree.specs.Queries.{exact}
 use Rattle.cedar_tree.proofs.TreeLemmas.{cut-put, put-put, put_held, number_at-put_same}
-use Rattle.cedar_table.specs.declared.error.CedarError.{CedarError}
-use Rattle.cedar_table.specs.declared.error.CedarError.TheVariants.{EmptyKey, NulByte, InvalidValue, InvalidMaxTrial, DuplicateKey, KeysNotSorted, Memory, SlotLimit}
+use Rattle.cedar_slots.specs.declared.error.CedarError.{CedarError}
+use Rattle.cedar_slots.specs.declared.error.CedarError.TheVariants.{EmptyKey, NulByte, InvalidValue, InvalidMaxTrial, DuplicateKey, KeysNotSorted, Memory, SlotLimit}
 use Rattle.cedar_cli.specs.Command.{Order}
 use Rattle.cedarwood.specs.Fault.{fault, key_fault, or_else, value_fault, IsShortage}
 use Rattle.cedar_cli.specs.Script.{refusal, IsPairFault, found_text, reply, obeyed, Leaves, WritesFront}
 use Rattle.cedar_cli.specs.declared.command.Verb.TheVariants.{Put, Erase}
 use Rattle.cedar_cli.specs.declared.script.ScriptError.{ScriptError}
-use Rattle.cedar_cli.specs.declared.script.ScriptError.TheVariants.{Read, Write, SlotLimit as NoSlot}
+use Rattle.cedar_cli.specs.declared.script.ScriptError.TheVariants.{Read, Write, Memory as NoMemory, SlotLimit as NoSlot}
 use Rattle.std.specs.Io.KnownBytes.{Appends}
 use Rattle.cedar_cli.proofs.Bytes.{Appends-none}
 
@@ -173,6 +173,10 @@ pub write_alone : (P : Type 0) (r : Result (Unit {0}) ScriptError) → OnErr r (
     → (r ≡ Err Read → ⊥) × (r ≡ Err NoSlot → ⊥)
 write_alone P (Ok x) h = ((λ f. absurd (cc)), (λ f. absurd (cc)))
 write_alone P (Err x) h = let is = h.0 in ((λ f. absurd (cc)), (λ f. absurd (cc)))
+
+pub never_memory : (P : Type 0) (r : Result (Unit {0}) ScriptError) → OnErr r ((r ≡ Err Write) × P) → r ≡ Err NoMemory → ⊥
+never_memory P (Ok x) h f = cc
+never_memory P (Err x) h f = let is = h.0 in cc
 
 -- the text where nothing was found
 pub none_reply : (t : Tree) (key : List ℕ) → None ≡ exact t key → codes "none" ≡ found_text (number_at t key) (length key)

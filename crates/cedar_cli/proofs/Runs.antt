@@ -1,16 +1,14 @@
 -- What came of a script, and what of it was finished.
-use Rattle.std.proofs.Common.{◌≡◌, ℕ, List, [], ◌∷◌, ◌++◌, Option, Some, None, refl, sym, ap, subst, ◌∙◌, append_assoc, append-nil, length, length-append, ◌≤◌, ◌<◌, arith, inl, inr, ◌==◌, Bool, true, false}
+use Rattle.std.proofs.Common.{◌≡◌, ℕ, List, [], ◌∷◌, ◌++◌, Option, Some, None, refl, sym, ap, subst, ◌∙◌, append_assoc, append-nil, length, length-append, ◌≤◌, ◌<◌, arith, inl, inr, ◌==◌, true, false}
 use Rattle.std.proofs.lemmas.Bool.{eqb-true, eqb-false}
 use Rattle.std.proofs.lemmas.List.{nil_from_length}
 use Rattle.std.specs.Prelude.{IfSome, ◌⊎◌}
 use Rattle.std.specs.Io.KnownBytes.{Consumes, Appends, Keeps, IsAtEnd}
 use Rattle.cedar_tree.specs.State.{State}
-use Rattle.cedar_tree.specs.Tree.{empty_tree}
 use Rattle.cedar_cli.specs.Command.{order_of}
 use Rattle.cedar_cli.specs.Lines.{lines_of, IsOpen}
-use Rattle.cedar_cli.specs.Options.{empty_state}
 use Rattle.cedar_cli.specs.Script.{Obeys, Leaves, Finishes, Splits, Advances, Stops, EndsEarly, IsCutShort, AppendsFront, reply, answer, answers, obeyed, state_after}
-use Rattle.cedar_cli.proofs.Bytes.{Appends-kept, cut_short_none, lines_of-last, Finishes-append, line_finished}
+use Rattle.cedar_cli.proofs.Bytes.{Appends-kept, Appends-none, cut_short_none, lines_of-last, Finishes-append, line_finished}
 
 -- bytes consumed in two parts
 pub Consumes-append : (a b c : Option (List ℕ)) (x y : List ℕ) → Consumes a b x → Consumes b c y → Consumes a c (x ++ y)
@@ -152,33 +150,30 @@ finished_front old new held holds kept lines h k =
     (answers old lines, [], sym (append-nil (answers old lines)), Appends-kept held holds kept (answers old lines) (subst (Appends held holds) (append-nil (answers old lines)) h.1) k)
 
 -- what a program's run that ended early wrote
-pub ended_fronts : (old new : State) (ordered : Bool) (held holds kept input : Option (List ℕ))
-    → old.tree ≡ empty_tree → old.ordered ≡ ordered → Keeps holds kept
+pub ended_fronts : (old new : State) (held holds kept input : Option (List ℕ)) → Keeps holds kept
     → IfSome input (λ script. length script < 9223372036854775808 → EndsEarly old new held holds script)
-    → IfSome input (λ script. length script < 9223372036854775808 → AppendsFront held kept (answers (empty_state ordered) (lines_of script)))
-ended_fronts old new ordered held holds kept None empty order k h = tt
-ended_fronts old new ordered held holds kept (Some script) empty order k h = λ few.
-    let begun : old ≡ empty_state ordered = λ i. record { tree = empty i; ordered = order i } in
-    subst (λ (s : State). AppendsFront held kept (answers s (lines_of script))) begun (ended_front old new held holds kept script (h few) k)
+    → IfSome input (λ script. length script < 9223372036854775808 → AppendsFront held kept (answers old (lines_of script)))
+ended_fronts old new held holds kept None k h = tt
+ended_fronts old new held holds kept (Some script) k h = λ few. ended_front old new held holds kept script (h few) k
 
 -- what a program's run that answered its whole script wrote, where the writer keeps its bytes
-pub finished_whole : (old new : State) (ordered : Bool) (held holds kept input : Option (List ℕ))
-    → old.tree ≡ empty_tree → old.ordered ≡ ordered → Keeps holds kept
+pub finished_whole : (old new : State) (held holds kept input : Option (List ℕ)) → Keeps holds kept
     → IfSome input (λ script. length script < 9223372036854775808 → Finishes old new held holds (lines_of script) [])
-    → IfSome input (λ script. length script < 9223372036854775808 → Appends held kept (answers (empty_state ordered) (lines_of script)))
-finished_whole old new ordered held holds kept None empty order k h = tt
-finished_whole old new ordered held holds kept (Some script) empty order k h = λ few.
-    let begun : old ≡ empty_state ordered = λ i. record { tree = empty i; ordered = order i } in
+    → IfSome input (λ script. length script < 9223372036854775808 → Appends held kept (answers old (lines_of script)))
+finished_whole old new held holds kept None k h = tt
+finished_whole old new held holds kept (Some script) k h = λ few.
     let lines = lines_of script in
-    subst (λ (s : State). Appends held kept (answers s lines)) begun
-    (Appends-kept held holds kept (answers old lines) (subst (Appends held holds) (append-nil (answers old lines)) (h few).1) k)
+    Appends-kept held holds kept (answers old lines) (subst (Appends held holds) (append-nil (answers old lines)) (h few).1) k
 
 -- and that is a front of its answers
-pub finished_fronts : (old new : State) (ordered : Bool) (held holds kept input : Option (List ℕ))
-    → old.tree ≡ empty_tree → old.ordered ≡ ordered → Keeps holds kept
+pub finished_fronts : (old new : State) (held holds kept input : Option (List ℕ)) → Keeps holds kept
     → IfSome input (λ script. length script < 9223372036854775808 → Finishes old new held holds (lines_of script) [])
-    → IfSome input (λ script. length script < 9223372036854775808 → AppendsFront held kept (answers (empty_state ordered) (lines_of script)))
-finished_fronts old new ordered held holds kept None empty order k h = tt
-finished_fronts old new ordered held holds kept (Some script) empty order k h = λ few.
-    let begun : old ≡ empty_state ordered = λ i. record { tree = empty i; ordered = order i } in
-    subst (λ (s : State). AppendsFront held kept (answers s (lines_of script))) begun (finished_front old new held holds kept (lines_of script) (h few) k)
+    → IfSome input (λ script. length script < 9223372036854775808 → AppendsFront held kept (answers old (lines_of script)))
+finished_fronts old new held holds kept None k h = tt
+finished_fronts old new held holds kept (Some script) k h = λ few. finished_front old new held holds kept (lines_of script) (h few) k
+
+-- nothing written is a front of all answers
+pub none_front : (s : State) (held input : Option (List ℕ))
+    → IfSome input (λ script. length script < 9223372036854775808 → AppendsFront held held (answers s (lines_of script)))
+none_front s held None = tt
+none_front s held (Some script) = λ few. ([], answers s (lines_of script), refl, Appends-none held)

@@ -5,7 +5,7 @@ use Rattle.std.specs.Result.{result_ok}
 use Rattle.std.specs.Str.Parse.{without_leading_sign, signed_digits_value}
 use Rattle.hex.specs.Hex.{decode_of}
 use Rattle.cedar_cli.specs.declared.command.Verb.{Verb}
-use Rattle.cedar_cli.specs.declared.command.Verb.TheVariants.{Put, Erase, Exact}
+use Rattle.cedar_cli.specs.declared.command.Verb.TheVariants.{Put, Erase, Exact, Segment, Prefixes, Predict, Entries}
 
 -- what to do, and with which key
 abbrev pub Order : Type 0
@@ -47,14 +47,17 @@ abbrev pub with_key_and_value : List ℕ → Option Order
 with_key_and_value text =
     option_and_then (λ key. option_map (λ v. (Put v, key)) (value_of (after_first is_space text))) (key_of (before_first is_space text))
 
--- the order of a line: `+ K V`, `- K` or `= K`
+-- the order of a line: `+ K V`, `- K`, `= K`, `< K`, `> K`, `/ K` or `*`, whose key is the empty one
 abbrev pub order_of : List ℕ → Option Order
 order_of [] = None
-order_of (c ∷ []) = None
+order_of (c ∷ []) = if c == 42 then Some (Entries, []) else None
 order_of (c ∷ space ∷ rest) =
     if space == 32 then
     if c == 43 then with_key_and_value rest
     else if c == 45 then with_key Erase rest
     else if c == 61 then with_key Exact rest
+    else if c == 60 then with_key Prefixes rest
+    else if c == 62 then with_key Predict rest
+    else if c == 47 then with_key Segment rest
     else None
     else None

@@ -3,6 +3,8 @@ pub use Rattle.cedar_tree.specs.Queries
 pub use Rattle.cedar_tree.specs.State
 pub use Rattle.cedarwood.specs.Fault
 pub use Rattle.cedarwood.specs.WatchedDevice
+pub use Rattle.cedarwood.specs.Dictionary
+pub mod Blocks
 pub mod Command
 pub mod Lines
 pub mod Options

@@ -4,11 +4,14 @@ use Rattle.std.specs.Prelude.{◌≡◌, ℕ, ◌<◌, if◌then◌else◌, ℤ,
 use Rattle.std.specs.Fmt.{signed_decimal}
 use Rattle.std.specs.Io.KnownBytes.{Appends}
 use Rattle.cedar_tree.specs.Tree.{number_at}
+use Rattle.cedar_tree.specs.Queries.{Entry, front, predict, walk}
 use Rattle.cedar_tree.specs.State.{State, stored, erased}
-use Rattle.cedar_cli.specs.declared.command.Verb.TheVariants.{Put, Erase, Exact}
-use Rattle.cedar_table.specs.declared.error.CedarError.{CedarError}
-use Rattle.cedar_table.specs.declared.error.CedarError.TheVariants.{EmptyKey, NulByte, InvalidValue}
+use Rattle.cedar_cli.specs.declared.command.Verb.TheVariants.{Put, Erase, Exact, Segment, Prefixes, Predict, Entries}
+use Rattle.cedar_slots.specs.declared.error.CedarError.{CedarError}
+use Rattle.cedar_slots.specs.declared.error.CedarError.TheVariants.{EmptyKey, NulByte, InvalidValue}
 use Rattle.cedarwood.specs.Fault.{fault}
+use Rattle.hex.specs.Hex.{encode_lower}
+use Rattle.cedar_words.specs.Words.{Token, segments}
 use Rattle.cedar_cli.specs.Command.{Order, order_of}
 use Rattle.cedar_cli.specs.Lines.{lines_of}
 
@@ -32,12 +35,60 @@ abbrev pub found_text : Option ℤ → ℕ → List ℕ
 found_text None n = codes "none"
 found_text (Some v) n = signed_decimal v ++ 32 ∷ decimal n
 
+-- a number and a colon
+abbrev pub field : ℕ → List ℕ
+field n = decimal n ++ codes ":"
+
+-- a token's number, or `-`
+abbrev pub number_text : Option ℤ → List ℕ
+number_text None = codes "-"
+number_text (Some v) = signed_decimal v
+
+-- a token: where it begins, how many bytes it has, and its number
+abbrev pub token_text : Token → List ℕ
+token_text t = field t.0 ++ (field t.1 ++ number_text t.2)
+
+-- the texts of some things, each after a space
+abbrev pub spaced : {T : Type 0} → (T → List ℕ) → List T → List ℕ
+spaced text [] = []
+spaced text (thing ∷ things) = (codes " " ++ text thing) ++ spaced text things
+
+-- their texts with one space between them, or `none`
+abbrev pub joined : {T : Type 0} → (T → List ℕ) → List T → List ℕ
+joined text [] = codes "none"
+joined text (thing ∷ things) = text thing ++ spaced text things
+
+-- tokens with one space between them, or `none`
+abbrev pub tokens_text : List Token → List ℕ
+tokens_text tokens = joined token_text tokens
+
+-- what a walk found: a number, and a count of bytes
+abbrev pub pair_text : ℤ × ℕ → List ℕ
+pair_text pair = signed_decimal pair.0 ++ (codes ":" ++ decimal pair.1)
+
+-- all that it found, with one space between them, or `none`
+abbrev pub pairs_text : List (ℤ × ℕ) → List ℕ
+pairs_text pairs = joined pair_text pairs
+
+-- the line of an entry: its key in hexadecimal, its number and byte 10
+abbrev pub entry_line : Entry → List ℕ
+entry_line entry = encode_lower entry.0 ++ (codes " " ++ (signed_decimal entry.1 ++ 10 ∷ []))
+
+-- the lines of some entries
+abbrev pub entry_lines : List Entry → List ℕ
+entry_lines [] = []
+entry_lines (entry ∷ entries) = entry_line entry ++ entry_lines entries
+
 -- what is answered to an order, without the byte 10 at its end
 abbrev pub reply : State → Option Order → List ℕ
 reply s None = codes "bad line"
 reply s (Some (Put v, key)) = refusal (fault key v)
 reply s (Some (Erase, key)) = if is_some (number_at s.tree key) then codes "erased" else codes "absent"
 reply s (Some (Exact, key)) = found_text (number_at s.tree key) (length key)
+reply s (Some (Segment, key)) = tokens_text (segments s.tree key)
+reply s (Some (Prefixes, key)) = pairs_text (front s.tree key)
+reply s (Some (Predict, key)) = pairs_text (predict s.tree key)
+reply s (Some (Entries, key)) = entry_lines (walk s.tree) ++ codes "end"
 
 -- the state after an order
 abbrev pub obeyed : State → Option Order → State

@@ -1,16 +1,22 @@
 //! The answer to one line. A line whose answer isn't written whole changes nothing.
 
-ghost use Rattle.std.specs.Prelude.{◌≡◌, ◌++◌, ◌∷◌, [], true, Some, None, MatchOption, IsSome, OnOk, OnErr};
+ghost use Rattle.std.specs.Prelude.{◌≡◌, ◌<◌, ◌++◌, ◌∷◌, [], length, true, Some, None, MatchOption, IsSome, OnOk, OnErr};
 ghost use Rattle.std.specs.Io.KnownBytes.{Appends};
 ghost use Rattle.cedar_tree.specs.State.{stored, erased};
 ghost use Rattle.cedar_tree.specs.Tree.{number_at};
+ghost use Rattle.cedarwood.specs.Dictionary.{Grows};
 ghost use Rattle.cedarwood.specs.Fault.{fault};
 ghost use Rattle.cedarwood.specs.WatchedDevice.{device_of, has_failed};
+ghost use Rattle.cedar_cli.specs.Blocks.{GrowsWithin};
 ghost use Rattle.cedar_cli.specs.Command.{order_of};
 ghost use Rattle.cedar_cli.specs.Script.{Obeys, Leaves, WritesFront, IsPairFault, refusal, found_text};
 
 use crate::command::{Verb, parse_line};
+use crate::entry_lines::write_entries;
+use crate::pairs::write_pairs;
 use crate::script::ScriptError;
+use crate::tokens::write_tokens;
+use cedar_words::segment;
 use cedarwood::{CedarError, Layout, Trie, Watched};
 use itoa::Buffer;
 use std::alloc::Allocator;
@@ -31,6 +37,10 @@ pub(crate) fn answer_line<L: Layout, const SLOTS: usize, A: Allocator + Copy, W:
     ensures unfailed { OnOk result (has_failed writer.new ≡ has_failed writer.old) }
     ensures never_read { result ≡ Err ScriptError.Read → ⊥ }
     ensures limit { result ≡ Err ScriptError.SlotLimit → trie.new.size ≡ SLOTS }
+    ensures starved { result ≡ Err ScriptError.Memory → has_failed writer.new ≡ has_failed writer.old }
+    ensures full { result ≡ Err ScriptError.SlotLimit → has_failed writer.new ≡ has_failed writer.old }
+    ensures blocks { GrowsWithin (length line.now) trie.old trie.new }
+    ensures max_trial { trie.new.max_trial ≡ trie.old.max_trial }
 {
     let Ok(command) = parse_line(alloc, line) else {
         return Err(ScriptError::Memory);
@@ -41,6 +51,10 @@ pub(crate) fn answer_line<L: Layout, const SLOTS: usize, A: Allocator + Copy, W:
             Verb::Put(value) => answer_put(trie, &command.key, value, writer),
             Verb::Erase => answer_erase(trie, &command.key, writer),
             Verb::Exact => answer_exact(trie, &command.key, writer),
+            Verb::Prefixes => answer_prefixes(trie, &command.key, writer),
+            Verb::Predict => answer_predict(trie, &command.key, writer),
+            Verb::Entries => answer_entries(trie, &command.key, writer),
+            Verb::Segment => answer_segment(trie, &command.key, writer),
         },
     }
 }
@@ -60,7 +74,12 @@ fn answer_put<L: Layout, const SLOTS: usize, A: Allocator + Copy, W: Write>(
     ensures cause { result ≡ Err ScriptError.Write → has_failed writer.new ≡ true }
     ensures unfailed { OnOk result (has_failed writer.new ≡ has_failed writer.old) }
     ensures never_read { result ≡ Err ScriptError.Read → ⊥ }
+    ensures memory { result ≡ Err ScriptError.Memory → (trie.new.size ≡ trie.new.capacity) × (trie.new.capacity < SLOTS) }
     ensures limit { result ≡ Err ScriptError.SlotLimit → trie.new.size ≡ SLOTS }
+    ensures starved { result ≡ Err ScriptError.Memory → has_failed writer.new ≡ has_failed writer.old }
+    ensures full { result ≡ Err ScriptError.SlotLimit → has_failed writer.new ≡ has_failed writer.old }
+    ensures blocks { GrowsWithin (length key.now) trie.old trie.new }
+    ensures max_trial { trie.new.max_trial ≡ trie.old.max_trial }
 {
     let before = trie.exact_match_search_bytes(key);
     match trie.update_bytes(key, value) {
@@ -91,6 +110,8 @@ fn answer_erase<L: Layout, const SLOTS: usize, A: Allocator + Copy, W: Write>(
         (W.contents (device_of writer.old)) (W.contents (device_of writer.new))) }
     ensures cause { OnErr result ((result ≡ Err ScriptError.Write) × (has_failed writer.new ≡ true)) }
     ensures unfailed { OnOk result (has_failed writer.new ≡ has_failed writer.old) }
+    ensures blocks { Grows 0 trie.old trie.new }
+    ensures max_trial { trie.new.max_trial ≡ trie.old.max_trial }
 {
     match trie.exact_match_search_bytes(key) {
         Some(_) => write_whole(writer, b"erased\n")?,
@@ -119,12 +140,84 @@ fn answer_exact<L: Layout, const SLOTS: usize, A: Allocator + Copy, W: Write>(
     }
 }
 
+/// Answers the fronts of a query that are held.
+fn answer_prefixes<L: Layout, const SLOTS: usize, A: Allocator + Copy, W: Write>(
+    trie: &Trie<L, SLOTS, A>,
+    key: &[u8],
+    writer: &mut Watched<W>,
+) -> Result<(), ScriptError>
+    ensures ok { OnOk result (Obeys (Some (Verb.Prefixes, key.now)) trie.now.state trie.now.state
+        (W.contents (device_of writer.old)) (W.contents (device_of writer.new))) }
+    ensures err { OnErr result (Leaves (Some (Verb.Prefixes, key.now)) trie.now.state trie.now.state
+        (W.contents (device_of writer.old)) (W.contents (device_of writer.new))) }
+    ensures cause { OnErr result ((result ≡ Err ScriptError.Write) × (has_failed writer.new ≡ true)) }
+    ensures unfailed { OnOk result (has_failed writer.new ≡ has_failed writer.old) }
+{
+    write_pairs(writer, &mut trie.common_prefix_iter_bytes(key))
+}
+
+/// Answers the keys that begin with a query.
+fn answer_predict<L: Layout, const SLOTS: usize, A: Allocator + Copy, W: Write>(
+    trie: &Trie<L, SLOTS, A>,
+    key: &[u8],
+    writer: &mut Watched<W>,
+) -> Result<(), ScriptError>
+    ensures ok { OnOk result (Obeys (Some (Verb.Predict, key.now)) trie.now.state trie.now.state
+        (W.contents (device_of writer.old)) (W.contents (device_of writer.new))) }
+    ensures err { OnErr result (Leaves (Some (Verb.Predict, key.now)) trie.now.state trie.now.state
+        (W.contents (device_of writer.old)) (W.contents (device_of writer.new))) }
+    ensures cause { OnErr result ((result ≡ Err ScriptError.Write) × (has_failed writer.new ≡ true)) }
+    ensures unfailed { OnOk result (has_failed writer.new ≡ has_failed writer.old) }
+{
+    write_pairs(writer, &mut trie.common_prefix_predict_iter_bytes(key))
+}
+
+/// Answers all entries. The line has no key, so any key will do.
+fn answer_entries<L: Layout, const SLOTS: usize, A: Allocator + Copy, W: Write>(
+    trie: &Trie<L, SLOTS, A>,
+    key: &[u8],
+    writer: &mut Watched<W>,
+) -> Result<(), ScriptError>
+    ensures ok { OnOk result (Obeys (Some (Verb.Entries, key.now)) trie.now.state trie.now.state
+        (W.contents (device_of writer.old)) (W.contents (device_of writer.new))) }
+    ensures err { OnErr result (Leaves (Some (Verb.Entries, key.now)) trie.now.state trie.now.state
+        (W.contents (device_of writer.old)) (W.contents (device_of writer.new))) }
+    ensures cause { result ≡ Err ScriptError.Write → has_failed writer.new ≡ true }
+    ensures starved { result ≡ Err ScriptError.Memory → has_failed writer.new ≡ has_failed writer.old }
+    ensures never_read { result ≡ Err ScriptError.Read → ⊥ }
+    ensures never_full { result ≡ Err ScriptError.SlotLimit → ⊥ }
+    ensures unfailed { OnOk result (has_failed writer.new ≡ has_failed writer.old) }
+{
+    let Ok(entries) = trie.entries() else {
+        return Err(ScriptError::Memory);
+    };
+    write_entries(writer, entries)
+}
+
+/// Answers the tokens of a text.
+fn answer_segment<L: Layout, const SLOTS: usize, A: Allocator + Copy, W: Write>(
+    trie: &Trie<L, SLOTS, A>,
+    text: &[u8],
+    writer: &mut Watched<W>,
+) -> Result<(), ScriptError>
+    ensures ok { OnOk result (Obeys (Some (Verb.Segment, text.now)) trie.now.state trie.now.state
+        (W.contents (device_of writer.old)) (W.contents (device_of writer.new))) }
+    ensures err { OnErr result (Leaves (Some (Verb.Segment, text.now)) trie.now.state trie.now.state
+        (W.contents (device_of writer.old)) (W.contents (device_of writer.new))) }
+    ensures cause { OnErr result ((result ≡ Err ScriptError.Write) × (has_failed writer.new ≡ true)) }
+    ensures unfailed { OnOk result (has_failed writer.new ≡ has_failed writer.old) }
+{
+    write_tokens(writer, segment(trie, text))
+}
+
 /// Puts back what a key held before a value was stored.
 fn take_back<L: Layout, const SLOTS: usize, A: Allocator + Copy>(
     trie: &mut Trie<L, SLOTS, A>,
     key: &[u8],
     before: Option<(i32, usize)>,
 )
+    ensures blocks { MatchOption before (Grows 0 trie.old trie.new) (λ found. IsSome (number_at trie.old.state.tree key.now) → Grows 0 trie.old trie.new) }
+    ensures max_trial { trie.new.max_trial ≡ trie.old.max_trial }
     ensures state { MatchOption before
         (trie.new.state ≡ erased trie.old.state key.now)
         (λ found. fault key.now found.0 ≡ None → IsSome (number_at trie.old.state.tree key.now)
@@ -179,8 +272,23 @@ fn write_found<W: Write>(
     write_line(writer, b" ", figures.format(length).as_bytes())
 }
 
+/// Writes two parts.
+pub(crate) fn write_both<W: Write>(
+    writer: &mut Watched<W>,
+    first: &[u8],
+    second: &[u8],
+) -> Result<(), ScriptError>
+    ensures ok { OnOk result (Appends (W.contents (device_of writer.old)) (W.contents (device_of writer.new)) (first.now ++ second.now)) }
+    ensures err { OnErr result (WritesFront (W.contents (device_of writer.old)) (W.contents (device_of writer.new)) (first.now ++ second.now)) }
+    ensures cause { OnErr result ((result ≡ Err ScriptError.Write) × (has_failed writer.new ≡ true)) }
+    ensures unfailed { OnOk result (has_failed writer.new ≡ has_failed writer.old) }
+{
+    write_whole(writer, first)?;
+    write_whole(writer, second)
+}
+
 /// Writes a line that has two parts, and its byte 10.
-fn write_line<W: Write>(
+pub(crate) fn write_line<W: Write>(
     writer: &mut Watched<W>,
     first: &[u8],
     second: &[u8],
@@ -197,7 +305,10 @@ fn write_line<W: Write>(
 
 /// Writes all of some bytes. The first fault ends it, an interrupted write too: a part was then written, and
 /// not all. (`write_all` of the standard library promises nothing of what a failed call wrote.)
-fn write_whole<W: Write>(writer: &mut Watched<W>, bytes: &[u8]) -> Result<(), ScriptError>
+pub(crate) fn write_whole<W: Write>(
+    writer: &mut Watched<W>,
+    bytes: &[u8],
+) -> Result<(), ScriptError>
     ensures ok { OnOk result (Appends (W.contents (device_of writer.old)) (W.contents (device_of writer.new)) bytes.now) }
     ensures err { OnErr result (WritesFront (W.contents (device_of writer.old)) (W.contents (device_of writer.new)) bytes.now) }
     ensures cause { OnErr result ((result ≡ Err ScriptError.Write) × (has_failed writer.new ≡ true)) }

@@ -1,7 +1,8 @@
 ghost use Rattle.std.specs.Prelude.{◌≡◌, IfOk, option_map, position};
 ghost use Rattle.std.specs.List.{before_first, after_first};
-ghost use Rattle.cedar_cli.specs.Command.{order_of, key_of, value_of, is_space};
+ghost use Rattle.cedar_cli.specs.Command.{order_of, key_of, value_of, is_space, with_key};
 
+use memchr::memchr;
 use std::alloc::{AllocError, Allocator};
 
 /// What a line asks for.
@@ -11,6 +12,14 @@ pub(crate) enum Verb {
     Put(i32),
     Erase,
     Exact,
+    /// The fronts of the key that are held.
+    Prefixes,
+    /// The keys that begin with the key.
+    Predict,
+    /// All entries. The key is empty.
+    Entries,
+    /// Cut the key into tokens.
+    Segment,
 }
 
 /// What to do, and with which key.
@@ -41,33 +50,38 @@ pub(crate) fn parse_line<A: Allocator + Copy>(
                 key,
             }))
         }
-        [b'-', b' ', rest @ ..] => {
-            let Some(key) = parse_key(alloc, rest)? else {
-                return Ok(None);
-            };
-            Ok(Some(Command {
-                verb: Verb::Erase,
-                key,
-            }))
-        }
-        [b'=', b' ', rest @ ..] => {
-            let Some(key) = parse_key(alloc, rest)? else {
-                return Ok(None);
-            };
-            Ok(Some(Command {
-                verb: Verb::Exact,
-                key,
-            }))
-        }
+        [b'-', b' ', rest @ ..] => keyed(alloc, Verb::Erase, rest),
+        [b'=', b' ', rest @ ..] => keyed(alloc, Verb::Exact, rest),
+        [b'<', b' ', rest @ ..] => keyed(alloc, Verb::Prefixes, rest),
+        [b'>', b' ', rest @ ..] => keyed(alloc, Verb::Predict, rest),
+        [b'/', b' ', rest @ ..] => keyed(alloc, Verb::Segment, rest),
+        [b'*'] => Ok(Some(Command {
+            verb: Verb::Entries,
+            key: Vec::new(alloc),
+        })),
         _ => Ok(None),
     }
+}
+
+/// Reads a line that has a key alone.
+fn keyed<A: Allocator + Copy>(
+    alloc: A,
+    verb: Verb,
+    text: &[u8],
+) -> Result<Option<Command<A>>, AllocError>
+    ensures { IfOk result (λ command. option_map (λ c. (c.verb, c.key.items)) command ≡ with_key verb text.now) }
+{
+    let Some(key) = parse_key(alloc, text)? else {
+        return Ok(None);
+    };
+    Ok(Some(Command { verb, key }))
 }
 
 /// Where the first space is.
 fn position_of_space(text: &[u8]) -> Option<usize>
     ensures { result ≡ position is_space text.now }
 {
-    text.iter().position(|byte| *byte == b' ')
+    memchr(b' ', text)
 }
 
 /// The bytes before the first space, and those after it.

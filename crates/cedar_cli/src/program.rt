@@ -1,102 +1,196 @@
-//! The program: arguments and three streams in, a status out.
+//! The program: arguments, files and three streams in, a status out.
 
-ghost use Rattle.std.specs.Prelude.{◌≡◌, ◌<◌, ◌≤◌, ◌^◌, ◌↔◌, true, length, map, None, OnOk, OnErr, IfSome};
+ghost use Rattle.std.specs.Prelude.{◌≡◌, ◌<◌, ◌≤◌, ◌^◌, ◌↔◌, true, length, None, OnOk, OnErr, IfErr, IfOk, IfSome};
 ghost use Rattle.std.specs.Io.KnownBytes.{Appends};
+ghost use Rattle.cedar_slots.specs.Places.{IsSlotLimit};
+ghost use Rattle.cedar_tree.specs.State.{State};
 ghost use Rattle.cedarwood.specs.WatchedDevice.{device_of, has_failed};
 ghost use Rattle.cedar_cli.specs.Lines.{lines_of};
-ghost use Rattle.cedar_cli.specs.Options.{empty_state, order_in};
+ghost use Rattle.cedar_cli.specs.Options.{asked_by, shown, BeginsWith};
 ghost use Rattle.cedar_cli.specs.Script.{answers, AppendsFront};
 
+use crate::fits::fits;
+use crate::options::{Options, options_of};
 use crate::script::{ScriptError, run_script};
-use cedarwood::{CedarBuilder, Watched};
+use cedarwood::{CedarBuilder, CedarPersistenceError, Layout, Trie, Watched};
 use std::alloc::Allocator;
 use std::io::{Read, Write};
+use std::rt::Files;
 
 /// The status of a run that did all it was asked for.
 pub const DONE: u8 = 0;
 
-/// The status after a fault of the input or the output, and where memory ran out.
+/// The status after a fault of the input or the output, and where memory or slots ran out.
 pub const FAULT: u8 = 1;
 
 /// The status where the arguments are wrong.
 pub const USAGE: u8 = 2;
 
-/// The line that wrong arguments are answered by.
-pub const USAGE_LINE: &str = "usage: cedar [--unordered]\n";
+/// The status where a load or a save was refused.
+pub const REFUSED: u8 = 3;
 
-/// Answers the script on `reader` to `writer`, from a dictionary that is empty at first, and says the status
-/// to end with: [`DONE`], [`FAULT`] or [`USAGE`]. Where it isn't `DONE`, a line on `errors` says why; a fault
-/// of `errors` isn't told. The one option is `--unordered`, once: a new label then goes before its siblings and not to its
-/// ascending place.
+/// The line that wrong arguments are answered by.
+pub const USAGE_LINE: &str = "usage: cedar [--unordered] [--load PATH] [--save PATH]\n";
+
+/// What ends a run early.
+#[derive(Debug, Drop)]
+enum Fault {
+    Script(ScriptError),
+    Load(CedarPersistenceError),
+    Save(CedarPersistenceError),
+}
+
+/// Answers the script on `reader` to `writer`, and says the status to end with: [`DONE`], [`FAULT`], [`USAGE`] or
+/// [`REFUSED`]. Where it isn't `DONE`, a line on `errors` says why; a fault of `errors` isn't told. The dictionary is of
+/// the layout `L` and has `SLOTS` slots at most. The options, each once at most and in any order:
 ///
-/// After a fault of the script what was answered is still flushed, and a fault of that flush isn't told.
-pub fn run_program<A: Allocator + Copy, R: Read, W: Write, E: Write>(
+/// - `--unordered`: a new label goes before its siblings and not to its ascending place;
+/// - `--load PATH`: the dictionary is loaded from this file, and not empty at first; not beside `--unordered`, since a
+///   file has its settings;
+/// - `--save PATH`: once all is answered and flushed, it is saved in this file.
+///
+/// The first fault ends the run, so nothing is saved after one. After a fault of the script what was answered is still
+/// flushed, and a fault of that flush isn't told.
+pub fn run_program<
+    L: Layout,
+    const SLOTS: usize,
+    F: Files,
+    A: Allocator + Copy,
+    R: Read,
+    W: Write,
+    E: Write,
+>(
     alloc: A,
+    files: &F,
     arguments: &[&str],
     reader: &mut Watched<R>,
     writer: &mut Watched<W>,
     errors: &mut Watched<E>,
 ) -> u8
-    ensures status { result ≤ 2 }
-    ensures usage { (result ≡ 2) ↔ (order_in (map (λ word. word.now) arguments.now) ≡ None) }
+    requires limit { IsSlotLimit SLOTS }
+    ensures status { result ≤ 3 }
+    ensures usage { (result ≡ 2) ↔ (asked_by arguments.now ≡ None) }
     ensures untouched { result ≡ 2 → (reader.new ≡ reader.old) × (writer.new ≡ writer.old) }
     ensures silent { result ≡ 0 → errors.new ≡ errors.old }
 
     // All lines of the input are answered, and nothing else was written.
-    ensures done { result ≡ 0 → IfSome (order_in (map (λ word. word.now) arguments.now)) (λ ordered. IfSome (R.remaining (device_of reader.old)) (λ input. length input < 2 ^ 63 →
-        Appends (W.contents (device_of writer.old)) (W.contents (device_of writer.new)) (answers (empty_state ordered) (lines_of input)))) }
+    ensures done { result ≡ 0 → IfSome (asked_by arguments.now) (λ asked. (begun : State) × BeginsWith asked begun × IfSome (R.remaining (device_of reader.old)) (λ input. length input < 2 ^ 63 →
+        Appends (W.contents (device_of writer.old)) (W.contents (device_of writer.new)) (answers begun (lines_of input)))) }
 
     // No call of the reader or the writer failed.
     ensures unfailed { result ≡ 0 → (has_failed reader.new ≡ has_failed reader.old) × (has_failed writer.new ≡ has_failed writer.old) }
 
     // Whatever happens, what was written begins the answers.
-    ensures begun { IfSome (order_in (map (λ word. word.now) arguments.now)) (λ ordered. IfSome (R.remaining (device_of reader.old)) (λ input. length input < 2 ^ 63 →
-        AppendsFront (W.contents (device_of writer.old)) (W.contents (device_of writer.new)) (answers (empty_state ordered) (lines_of input)))) }
+    ensures begun { IfSome (asked_by arguments.now) (λ asked. (begun : State) × BeginsWith asked begun × IfSome (R.remaining (device_of reader.old)) (λ input. length input < 2 ^ 63 →
+        AppendsFront (W.contents (device_of writer.old)) (W.contents (device_of writer.new)) (answers begun (lines_of input)))) }
 {
-    let Some(ordered) = order_of_arguments(arguments) else {
+    let Some(options) = options_of(arguments) else {
         let _ = errors.write_all(USAGE_LINE.as_bytes());
         return USAGE;
     };
-    match answer_script(alloc, ordered, reader, writer) {
+    match run_options::<L, SLOTS, F, A, R, W>(alloc, files, options, reader, writer) {
         Ok(()) => DONE,
-        Err(fault) => {
+        Err(fault) => tell(fault, errors),
+    }
+}
+
+/// Tells of a fault, and says the status to end with.
+fn tell<E: Write>(fault: Fault, errors: &mut Watched<E>) -> u8
+    ensures above { 0 < result }
+    ensures within { result ≤ 3 }
+    ensures other { result ≡ 2 → ⊥ }
+{
+    match fault {
+        Fault::Script(fault) => {
             let _ = errors.write_all(fault_line(fault).as_bytes());
             FAULT
+        }
+        Fault::Load(error) => {
+            let _ = writeln!(errors, "cedar: load: {error}");
+            REFUSED
+        }
+        Fault::Save(error) => {
+            let _ = writeln!(errors, "cedar: save: {error}");
+            REFUSED
         }
     }
 }
 
-/// Whether labels are to ascend, or None where the arguments are wrong.
-fn order_of_arguments(arguments: &[&str]) -> Option<bool>
-    ensures { result ≡ order_in (map (λ word. word.now) arguments.now) }
+/// Loads or makes the dictionary, answers the script, flushes the answers, and saves the dictionary.
+fn run_options<L: Layout, const SLOTS: usize, F: Files, A: Allocator + Copy, R: Read, W: Write>(
+    alloc: A,
+    files: &F,
+    options: Options<'_>,
+    reader: &mut Watched<R>,
+    writer: &mut Watched<W>,
+) -> Result<(), Fault>
+    requires limit { IsSlotLimit SLOTS }
+    ensures ok { OnOk result ((begun : State) × BeginsWith (shown options.entry) begun × IfSome (R.remaining (device_of reader.old)) (λ input. length input < 2 ^ 63 →
+        Appends (W.contents (device_of writer.old)) (W.contents (device_of writer.new)) (answers begun (lines_of input)))) }
+    ensures begun { (begun : State) × BeginsWith (shown options.entry) begun × IfSome (R.remaining (device_of reader.old)) (λ input. length input < 2 ^ 63 →
+        AppendsFront (W.contents (device_of writer.old)) (W.contents (device_of writer.new)) (answers begun (lines_of input))) }
+    ensures unfailed { OnOk result ((has_failed reader.new ≡ has_failed reader.old) × (has_failed writer.new ≡ has_failed writer.old)) }
 {
-    match arguments {
-        [] => Some(true),
-        [option] if *option == "--unordered" => Some(false),
-        _ => None,
+    let place: Option<Trie<L, SLOTS, A>> = None;
+    if !fits(&place) {
+        return Err(Fault::Script(ScriptError::Memory));
+    }
+    let mut trie: Trie<L, SLOTS, A> = first_trie(alloc, files, options)?;
+    match answer_script(alloc, &mut trie, reader, writer) {
+        Ok(()) => save(files, &trie, options),
+        Err(fault) => Err(Fault::Script(fault)),
     }
 }
 
-/// Answers the script from a dictionary that is empty at first, and flushes the answers.
-fn answer_script<A: Allocator + Copy, R: Read, W: Write>(
+/// Saves the dictionary, if that is asked for.
+fn save<L: Layout, const SLOTS: usize, F: Files, A: Allocator + Copy>(
+    files: &F,
+    trie: &Trie<L, SLOTS, A>,
+    options: Options<'_>,
+) -> Result<(), Fault> {
+    match options.save {
+        Some(path) => trie.save_to_path(files, path).map_err(Fault::Save),
+        None => Ok(()),
+    }
+}
+
+/// The dictionary that the script begins with.
+fn first_trie<L: Layout, const SLOTS: usize, F: Files, A: Allocator + Copy>(
     alloc: A,
-    ordered: bool,
+    files: &F,
+    options: Options<'_>,
+) -> Result<Trie<L, SLOTS, A>, Fault>
+    requires limit { IsSlotLimit SLOTS }
+    ensures { IfOk result (λ trie. BeginsWith (shown options.entry) trie.state) }
+{
+    match options.load {
+        Some(path) => Trie::load_from_path(alloc, files, path).map_err(Fault::Load),
+        None => {
+            let builder = CedarBuilder::new().ordered(options.ordered);
+            match Trie::with(alloc, builder) {
+                Ok(trie) => Ok(trie),
+                Err(_) => Err(Fault::Script(ScriptError::Memory)),
+            }
+        }
+    }
+}
+
+/// Answers the script, and flushes the answers.
+fn answer_script<L: Layout, const SLOTS: usize, A: Allocator + Copy, R: Read, W: Write>(
+    alloc: A,
+    trie: &mut Trie<L, SLOTS, A>,
     reader: &mut Watched<R>,
     writer: &mut Watched<W>,
 ) -> Result<(), ScriptError>
     ensures ok { OnOk result (IfSome (R.remaining (device_of reader.old)) (λ input. length input < 2 ^ 63 →
-        Appends (W.contents (device_of writer.old)) (W.contents (device_of writer.new)) (answers (empty_state ordered) (lines_of input)))) }
-    ensures err { OnErr result (IfSome (R.remaining (device_of reader.old)) (λ input. length input < 2 ^ 63 →
-        AppendsFront (W.contents (device_of writer.old)) (W.contents (device_of writer.new)) (answers (empty_state ordered) (lines_of input)))) }
+        Appends (W.contents (device_of writer.old)) (W.contents (device_of writer.new)) (answers trie.old.state (lines_of input)))) }
+    ensures begun { IfSome (R.remaining (device_of reader.old)) (λ input. length input < 2 ^ 63 →
+        AppendsFront (W.contents (device_of writer.old)) (W.contents (device_of writer.new)) (answers trie.old.state (lines_of input))) }
     ensures read_cause { result ≡ Err ScriptError.Read → has_failed reader.new ≡ true }
     ensures write_cause { result ≡ Err ScriptError.Write → has_failed writer.new ≡ true }
     ensures unfailed { OnOk result ((has_failed reader.new ≡ has_failed reader.old) × (has_failed writer.new ≡ has_failed writer.old)) }
 {
-    let builder = CedarBuilder::new().ordered(ordered);
-    let Ok(mut cedar) = builder.build(alloc) else {
-        return Err(ScriptError::Memory);
-    };
-    let outcome = run_script(alloc, &mut cedar, reader, writer);
+    let outcome = run_script(alloc, trie, reader, writer);
     let flushed = writer.flush();
     outcome?;
     match flushed {
@@ -105,7 +199,7 @@ fn answer_script<A: Allocator + Copy, R: Read, W: Write>(
     }
 }
 
-/// What standard error is told of a fault.
+/// What standard error is told of a fault of the script.
 fn fault_line(fault: ScriptError) -> &'static str {
     match fault {
         ScriptError::Read => "cedar: read fault\n",

@@ -1,8 +1,9 @@
 //! A run of a script: lines in, answers out.
 
-ghost use Rattle.std.specs.Prelude.{◌≡◌, ◌<◌, ◌^◌, List, ℕ, [], ◌∷◌, ◌++◌, length, true, OnOk, OnErr, IfSome, position};
+ghost use Rattle.std.specs.Prelude.{◌≡◌, ◌<◌, ◌^◌, ◌+◌, List, ℕ, [], ◌∷◌, ◌++◌, length, true, OnOk, OnErr, IfSome, position};
 ghost use Rattle.std.specs.Io.KnownBytes.{Consumes};
 ghost use Rattle.cedarwood.specs.WatchedDevice.{device_of, has_failed};
+ghost use Rattle.cedar_cli.specs.Blocks.{GrowsBefore, GrowsWithin};
 ghost use Rattle.cedar_cli.specs.Lines.{lines_of, IsOpen, is_newline};
 ghost use Rattle.cedar_cli.specs.Script.{Finishes, Advances, Stops, EndsEarly};
 
@@ -31,7 +32,7 @@ const MAX_READS: u64 = 1 << 63;
 /// A read takes this many bytes at most.
 const CHUNK: usize = 8192;
 
-/// Answers each line of what the reader has left. Memory holds one line and one key at a time. The writer
+/// Answers each line of what the reader has left. Memory holds one line and at most two keys at a time. The writer
 /// is flushed before each read, so that one who waits for an answer before the next line gets it.
 ///
 /// A line is the bytes up to byte 10 (`\n`); a last nonempty piece without it is a line too. A line is
@@ -70,8 +71,15 @@ pub fn run_script<L: Layout, const SLOTS: usize, A: Allocator + Copy, R: Read, W
     // A run that answers the whole script met no fault.
     ensures unfailed { OnOk result ((has_failed reader.new ≡ has_failed reader.old) × (has_failed writer.new ≡ has_failed writer.old)) }
 
-    // Slots are wanting only where all that there may be are in use.
+    // A script of n bytes makes n blocks at most, so slots are wanting only where all that there may be are in use and
+    // these came in the run, or were there before it.
     ensures limit { result ≡ Err ScriptError.SlotLimit → trie.new.size ≡ SLOTS }
+    ensures blocks { IfSome (R.remaining (device_of reader.old)) (λ input. GrowsWithin (length input) trie.old trie.new) }
+
+    // Want of memory or slots is told only where no call of a device failed, and the settings stay.
+    ensures starved { result ≡ Err ScriptError.Memory → (has_failed reader.new ≡ has_failed reader.old) × (has_failed writer.new ≡ has_failed writer.old) }
+    ensures full { result ≡ Err ScriptError.SlotLimit → (has_failed reader.new ≡ has_failed reader.old) × (has_failed writer.new ≡ has_failed writer.old) }
+    ensures max_trial { trie.new.max_trial ≡ trie.old.max_trial }
 {
     let mut line = Vec::new(alloc);
     let mut chunk = [0u8; CHUNK];
@@ -112,6 +120,11 @@ fn take_bytes<L: Layout, const SLOTS: usize, A: Allocator + Copy, W: Write>(
     ensures unfailed { OnOk result (has_failed writer.new ≡ has_failed writer.old) }
     ensures never_read { result ≡ Err ScriptError.Read → ⊥ }
     ensures limit { result ≡ Err ScriptError.SlotLimit → trie.new.size ≡ SLOTS }
+    ensures starved { result ≡ Err ScriptError.Memory → has_failed writer.new ≡ has_failed writer.old }
+    ensures full { result ≡ Err ScriptError.SlotLimit → has_failed writer.new ≡ has_failed writer.old }
+    ensures blocks_taken { OnOk result (GrowsBefore (length line.new.items) (length line.old.items + length bytes.now) trie.old trie.new) }
+    ensures blocks_left { OnErr result (GrowsWithin (length line.old.items + length bytes.now) trie.old trie.new) }
+    ensures max_trial { trie.new.max_trial ≡ trie.old.max_trial }
 {
     let mut rest = bytes;
     while let Some(at) = position_of_newline(rest) {
@@ -151,6 +164,10 @@ fn end_line<L: Layout, const SLOTS: usize, A: Allocator + Copy, W: Write>(
     ensures unfailed { OnOk result (has_failed writer.new ≡ has_failed writer.old) }
     ensures never_read { result ≡ Err ScriptError.Read → ⊥ }
     ensures limit { result ≡ Err ScriptError.SlotLimit → trie.new.size ≡ SLOTS }
+    ensures starved { result ≡ Err ScriptError.Memory → has_failed writer.new ≡ has_failed writer.old }
+    ensures full { result ≡ Err ScriptError.SlotLimit → has_failed writer.new ≡ has_failed writer.old }
+    ensures blocks { GrowsWithin (length line.old.items + length piece.now) trie.old trie.new }
+    ensures max_trial { trie.new.max_trial ≡ trie.old.max_trial }
 {
     if line.is_empty() {
         return answer_line(alloc, trie, piece, writer);

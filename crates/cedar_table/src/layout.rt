@@ -12,15 +12,16 @@ pub enum Stored {
 
 /// How a node's base and number are kept in its base field.
 pub trait Layout {
-    ghost use Rattle.std.specs.Prelude.{◌≡◌, ◌≢◌, ◌<◌, ◌^◌};
+    ghost use Rattle.std.specs.Prelude.{◌≡◌, ◌≢◌, ◌<◌, ◌^◌, ◌↔◌, IsTrue};
     ghost use Rattle.cedar_table.specs.declared.layout.Stored.{Stored};
     ghost use Rattle.cedar_table.specs.declared.layout.Stored.TheVariants.{AtBase, Nothing};
-    ghost use Rattle.cedar_table.specs.Layouts.{LayoutKind, default_layout, reading};
+    ghost use Rattle.cedar_table.specs.Table.Layouts.{LayoutKind, layout_byte, reading, reduced_layout};
 
     ghost kind: { LayoutKind };
 
-    // There is no other one yet.
-    ghost only: { kind ≡ default_layout };
+    /// Whether a node that owns no slot keeps its number in its own base field.
+    fn keeps_numbers() -> bool
+        ensures { IsTrue result ↔ (kind ≡ reduced_layout) };
 
     /// What a base field says.
     fn read_base(field: i32) -> Stored
@@ -35,18 +36,23 @@ pub trait Layout {
     fn base_field(base: usize) -> i32
         requires { base < 2 ^ 31 }
         ensures { reading kind result ≡ AtBase base };
+
+    /// The byte that names the layout in a file.
+    fn file_byte() -> u8
+        ensures { result ≡ layout_byte kind };
 }
 
 /// A node's base is kept as it is, and each number stands in a slot of its own.
 pub struct DefaultLayout;
 
 impl Layout for DefaultLayout {
-    ghost use Rattle.cedar_table.specs.Layouts.{default_layout};
-    ghost use Rattle.std.proofs.Common.{refl};
+    ghost use Rattle.cedar_table.specs.Table.Layouts.{default_layout};
 
     ghost kind = { default_layout };
 
-    ghost only = { refl };
+    fn keeps_numbers() -> bool {
+        false
+    }
 
     fn read_base(field: i32) -> Stored {
         if field < 0 {
@@ -61,5 +67,41 @@ impl Layout for DefaultLayout {
 
     fn base_field(base: usize) -> i32 {
         base as i32
+    }
+
+    fn file_byte() -> u8 {
+        0
+    }
+}
+
+/// A node's base `b` is kept as `-(b + 1)`; the number of a node that owns no slot stands in its own base field.
+pub struct ReducedLayout;
+
+impl Layout for ReducedLayout {
+    ghost use Rattle.cedar_table.specs.Table.Layouts.{reduced_layout};
+
+    ghost kind = { reduced_layout };
+
+    fn keeps_numbers() -> bool {
+        true
+    }
+
+    fn read_base(field: i32) -> Stored {
+        if field >= 0 {
+            return Stored::OwnNumber(field);
+        }
+        Stored::AtBase(-(field + 1) as usize)
+    }
+
+    fn read_node(field: i32) -> Stored {
+        Self::read_base(field)
+    }
+
+    fn base_field(base: usize) -> i32 {
+        -(base as i32) - 1
+    }
+
+    fn file_byte() -> u8 {
+        1
     }
 }

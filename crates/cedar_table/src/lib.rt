@@ -1,31 +1,29 @@
-//! The table of slots of a double-array trie: its slots, the rings in which the free ones stand, the blocks of slots and
-//! their lists; the labelled tree that the held slots stand for; and look-ups, updates and erasures.
+//! The table of slots of a double-array trie: the labelled tree that its held slots stand for; look-ups and walks, updates
+//! and erasures, builds from sorted pairs, and the test of a table that nobody has vouched for.
 #![tactic(auto)]
 
-mod blocks;
-mod erase;
-mod error;
-mod labels;
+mod bulk;
+mod check;
+mod clone;
+mod edit;
 mod laws;
 mod layout;
-mod leaf;
-mod number;
-mod places;
-mod records;
+mod parts;
 mod relocation;
-mod resolve;
-mod search;
-mod slots;
-mod step;
 mod table;
-mod ticks;
 mod update;
+mod walk;
 
-pub use error::CedarError;
-pub use laws::{
-    full_blocks_are_counted, held_slots_are_counted, held_slots_are_named, one_path, one_tree,
+pub use bulk::spans::Pair;
+pub use cedar_slots::{
+    BLOCK_SIZE, BlockRecord, CedarError, Corrupt, NInfoRecord, NodeRecord, Ticks,
 };
-pub use layout::{DefaultLayout, Layout, Stored};
-pub use records::{BlockRecord, NInfoRecord, NodeRecord};
-pub use table::{BLOCK_SIZE, Table};
-pub use ticks::Ticks;
+pub use laws::{
+    full_blocks_are_counted, held_slots_are_counted, held_slots_are_named, marks_are_read,
+    one_path, one_tree, slots_stay,
+};
+pub use layout::{DefaultLayout, Layout, ReducedLayout, Stored};
+pub use parts::Parts;
+pub use table::Table;
+pub use walk::fronts::Front;
+pub use walk::visits::Visited;

@@ -1,21 +1,15 @@
 //! The table: slots in blocks, free or held, with the settings that it was made with.
 
 ghost use Rattle.std.specs.Prelude.{◌≡◌, ◌≤ℤ◌, ◌*◌, ◌≤◌, length, pos};
-ghost use Rattle.cedar_table.specs.Places.{IsSlotLimit, IsTable, Shaped};
-ghost use Rattle.cedar_table.specs.Views.{places_of};
+ghost use Rattle.cedar_slots.specs.Places.{IsSlotLimit, IsTable, Shaped};
+ghost use Rattle.cedar_slots.specs.Views.{places_of};
 
-use crate::error::CedarError;
 use crate::layout::{Layout, Stored};
-use crate::places::Places;
-use crate::records::{BlockRecord, NInfoRecord, NodeRecord};
-use crate::ticks::Ticks;
 use arrayvec::ArrayVec;
+use cedar_slots::{BLOCK_SIZE, BlockRecord, CedarError, NInfoRecord, NodeRecord, Places, Ticks};
 use std::alloc::Allocator;
 use std::marker::PhantomData;
 use std::sync::ledger::Ledger;
-
-/// The slots of a block.
-pub const BLOCK_SIZE: usize = 256;
 
 /// The labels of one node, and 0 for its number: as many as there can be, so that a set of labels takes no memory.
 pub type Labels = ArrayVec<u8, 256>;
@@ -36,15 +30,15 @@ pub struct Table<L: Layout, const SLOTS: usize, A: Allocator> {
 impl<L: Layout, const SLOTS: usize, A: Allocator> Table<L, SLOTS, A> {
     ghost use Rattle.std.specs.Prelude.{ℕ, ◌≢◌, ◌<◌, ◌^◌, ◌⊎◌, ◌+◌, ◌-◌, ◌/◌, ◌↔◌, count_by, IfErr, IfOk, IsTrue, negsuc, OnErr};
     ghost use Rattle.std.specs.List.{range_with_len};
-    ghost use Rattle.cedar_table.specs.declared.error.CedarError.TheVariants.{Memory};
-    ghost use Rattle.cedar_table.specs.Blocks.{block_at, head_of};
-    ghost use Rattle.cedar_table.specs.Cells.{Gives, HasPlaces, Held, InfoWritten, is_held, IsPlace, NodeWritten, NoPlace, SameHeld, Takes};
-    ghost use Rattle.cedar_table.specs.Layouts.{reading};
-    ghost use Rattle.cedar_table.specs.Places.{AddsBlock, IsNew, MayRefuse, reject_at, SameSlots};
-    ghost use Rattle.cedar_table.specs.Reserved.{freed};
-    ghost use Rattle.cedar_table.specs.Slots.{check_at, node_at};
-    ghost use Rattle.cedar_table.specs.TableFields.{capacity_of, cells, fields, SameSettings, size_of};
-    ghost use Rattle.cedar_table.specs.WellFormed.{IsWellFormed, tree_of};
+    ghost use Rattle.cedar_slots.specs.declared.error.CedarError.TheVariants.{Memory};
+    ghost use Rattle.cedar_slots.specs.Blocks.{block_at};
+    ghost use Rattle.cedar_table.specs.Table.Cells.{Gives, HasPlaces, Held, InfoWritten, is_held, IsPlace, NodeWritten, NoPlace, SameHeld, Takes};
+    ghost use Rattle.cedar_table.specs.Table.Layouts.{reading};
+    ghost use Rattle.cedar_slots.specs.Places.{AddsBlock, IsNew, MayRefuse, reject_at, SameSlots};
+    ghost use Rattle.cedar_table.specs.Relocation.Reserved.{freed};
+    ghost use Rattle.cedar_slots.specs.Slots.{check_at};
+    ghost use Rattle.cedar_table.specs.Table.TableFields.{capacity_of, cells, fields, SameFrame, SameSettings, size_of};
+    ghost use Rattle.cedar_table.specs.Meaning.WellFormed.{IsWellFormed, tree_of};
     ghost use Rattle.cedar_tree.specs.Tree.{empty_tree};
 
     /// A table with one block, in which the root alone is held. It stands for the empty tree.
@@ -76,6 +70,14 @@ impl<L: Layout, const SLOTS: usize, A: Allocator> Table<L, SLOTS, A> {
         })
     }
 
+    /// Where the table's memory comes from.
+    pub fn allocator(&self) -> A
+    where
+        A: Copy,
+    {
+        *self.places.slots.nodes.allocator()
+    }
+
     /// Takes the free slot `slot` for `owner`, with `base` in its base field.
     pub fn pop_e_node(&mut self, slot: usize, base: i32, owner: usize)
         requires sound { IsTable SLOTS (fields self.old).places }
@@ -86,9 +88,7 @@ impl<L: Layout, const SLOTS: usize, A: Allocator> Table<L, SLOTS, A> {
         ensures takes { Takes (cells self.old) (cells self.new) slot owner }
         ensures base { (cells self.new).base slot ≡ base }
         ensures stored { (cells self.new).stored slot ≡ reading L.kind base }
-        ensures size { size_of (fields self.new) ≡ size_of (fields self.old) }
-        ensures capacity { capacity_of (fields self.new) ≡ capacity_of (fields self.old) }
-        ensures settings { SameSettings (fields self.old) (fields self.new) }
+        ensures frame { SameFrame (fields self.old) (fields self.new) }
     {
         let node = NodeRecord {
             base,
@@ -108,9 +108,7 @@ impl<L: Layout, const SLOTS: usize, A: Allocator> Table<L, SLOTS, A> {
         ensures takes { Takes (freed (cells self.old) slot) (cells self.new) slot owner }
         ensures base { (cells self.new).base slot ≡ base }
         ensures stored { (cells self.new).stored slot ≡ reading L.kind base }
-        ensures size { size_of (fields self.new) ≡ size_of (fields self.old) }
-        ensures capacity { capacity_of (fields self.new) ≡ capacity_of (fields self.old) }
-        ensures settings { SameSettings (fields self.old) (fields self.new) }
+        ensures frame { SameFrame (fields self.old) (fields self.new) }
     {
         let check = owner as i32;
         self.write_node(slot, NodeRecord { base, check });
@@ -129,9 +127,7 @@ impl<L: Layout, const SLOTS: usize, A: Allocator> Table<L, SLOTS, A> {
         requires not_root { 0 < slot }
         ensures sound { IsTable SLOTS (fields self.new).places }
         ensures gives { Gives (cells self.old) (cells self.new) slot }
-        ensures size { size_of (fields self.new) ≡ size_of (fields self.old) }
-        ensures capacity { capacity_of (fields self.new) ≡ capacity_of (fields self.old) }
-        ensures settings { SameSettings (fields self.old) (fields self.new) }
+        ensures frame { SameFrame (fields self.old) (fields self.new) }
     {
         self.places.push_e_node(slot);
     }
@@ -144,9 +140,7 @@ impl<L: Layout, const SLOTS: usize, A: Allocator> Table<L, SLOTS, A> {
         requires owner { (slot ≡ 0) ⊎ (pos 0 ≤ℤ node.check) }
         ensures sound { IsTable SLOTS (fields self.new).places }
         ensures written { NodeWritten (reading L.kind) (cells self.old) (cells self.new) slot node.base node.check }
-        ensures size { size_of (fields self.new) ≡ size_of (fields self.old) }
-        ensures capacity { capacity_of (fields self.new) ≡ capacity_of (fields self.old) }
-        ensures settings { SameSettings (fields self.old) (fields self.new) }
+        ensures frame { SameFrame (fields self.old) (fields self.new) }
     {
         self.places.write_node(slot, node);
     }
@@ -158,9 +152,7 @@ impl<L: Layout, const SLOTS: usize, A: Allocator> Table<L, SLOTS, A> {
         requires slot_held { Held (cells self.old) slot }
         ensures sound { IsTable SLOTS (fields self.new).places }
         ensures written { InfoWritten (cells self.old) (cells self.new) slot info.sibling info.child }
-        ensures size { size_of (fields self.new) ≡ size_of (fields self.old) }
-        ensures capacity { capacity_of (fields self.new) ≡ capacity_of (fields self.old) }
-        ensures settings { SameSettings (fields self.old) (fields self.new) }
+        ensures frame { SameFrame (fields self.old) (fields self.new) }
     {
         self.places.write_info(slot, info);
     }

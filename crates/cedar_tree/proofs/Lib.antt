@@ -14,3 +14,5 @@ pub mod ChangeLemmas
 pub mod EditLemmas
 pub mod PutLemmas
 pub mod CutLemmas
+pub mod VisitLemmas
+pub mod FrontFromLemmas

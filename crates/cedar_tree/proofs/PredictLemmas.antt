@@ -31,7 +31,7 @@ pub filter-every : {X : Type 0} (xs : List X) → filter (λ x. true) xs ≡ xs
 filter-every [] = refl
 filter-every (x ∷ xs) = ap (λ r. x ∷ r) (filter-every xs)
 
-map-after : {X Y Z : Type 0} (f : Y → Z) (g : X → Y) (h : X → Z) (xs : List X) → ((x : X) → f (g x) ≡ h x) → map f (map g xs) ≡ map h xs
+pub map-after : {X Y Z : Type 0} (f : Y → Z) (g : X → Y) (h : X → Z) (xs : List X) → ((x : X) → f (g x) ≡ h x) → map f (map g xs) ≡ map h xs
 map-after f g h [] e = refl
 map-after f g h (x ∷ xs) e = λ i. e x i ∷ map-after f g h xs e i
 

@@ -5,3 +5,4 @@ pub mod Laws
 pub mod State
 pub mod Stored
 pub mod Statements
+pub mod Walks

@@ -7,10 +7,12 @@ ghost use Rattle.cedar_tree.specs.Statements.{PutIsReadBack, PutStaysLocal, CutI
 mod cuts;
 mod edits;
 mod puts;
+mod walks;
 
 pub use cuts::{cut_nodes_stay, edits_stay_ascending, paths_go_on};
 pub use edits::{cut_ends, cut_goes_up_its_path, put_goes_along_its_path};
 pub use puts::{cut_takes_leaves_back, leaf_stands_at_its_path};
+pub use walks::{front_goes_on, walks_begin, walks_go_on};
 
 /// A put number is read back at its path, and each other path's number stays.
 pub fn put_is_read_back()

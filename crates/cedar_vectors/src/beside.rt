@@ -1,5 +1,6 @@
-//! Mixed calls on the dictionary beside the plain tree.
-use cedarwood::{Cedar, CedarBuilder};
+//! Mixed calls on the dictionary beside the plain tree, in both layouts.
+use crate::layouts::{Full, built};
+use cedarwood::{CedarBuilder, DefaultLayout, Layout, ReducedLayout};
 use plain_tree::PlainTree;
 use std::alloc::{AllocError, Global};
 use std::process::Abort;
@@ -46,12 +47,19 @@ enum Keys {
     Words,
 }
 
+// How a run's dictionary is made, and where its keys come from.
+#[derive(Clone, Copy, Debug)]
+struct Plan {
+    ordered: bool,
+    max_trial: i32,
+    keys: Keys,
+}
+
 // A dictionary, the tree that it has to answer from, and where the sequence of keys has come to.
 #[derive(Drop)]
-struct Beside {
-    trie: Cedar<Global>,
+struct Beside<L: Layout> {
+    trie: Full<L>,
     tree: PlainTree<Global>,
-    ordered: bool,
     seed: u32,
 }
 
@@ -85,13 +93,13 @@ fn key(alloc: Global, seed: &mut u32, keys: Keys) -> Result<Vec<u8>, AllocError>
 }
 
 // One call on both, and whether they answered the same.
-fn call(alloc: Global, both: &mut Beside, keys: Keys) -> Result<bool, AllocError> {
-    let key = key(alloc, &mut both.seed, keys)?;
+fn call<L: Layout>(alloc: Global, both: &mut Beside<L>, plan: Plan) -> Result<bool, AllocError> {
+    let key = key(alloc, &mut both.seed, plan.keys)?;
     let number = next(&mut both.seed);
     let agreed = match number % 8 {
         0..4 => {
             let value = (number / 8) as i32;
-            both.tree.put(alloc, both.ordered, &key, value)?;
+            both.tree.put(alloc, plan.ordered, &key, value)?;
             both.trie.update_bytes(&key, value).is_ok()
         }
         4 | 5 => both.tree.cut(&key) == both.trie.erase_bytes(&key),
@@ -100,42 +108,54 @@ fn call(alloc: Global, both: &mut Beside, keys: Keys) -> Result<bool, AllocError
     Ok(agreed && both.tree.exact(&key) == both.trie.exact_match_search_bytes(&key))
 }
 
-// Whether both hold the same, in as many slots as the tree takes.
-fn agree(alloc: Global, both: &Beside) -> Result<bool, AllocError> {
+// Whether both hold the same, in as many slots as the tree takes or, where a number may stand in its node's own slot,
+// in as many as the tree has nodes, and at most one more for each number.
+fn agree<L: Layout>(alloc: Global, both: &Beside<L>) -> Result<bool, AllocError> {
     let entries = both.tree.walk(alloc)?;
     for (key, value) in &entries {
         if both.trie.exact_match_search_bytes(key) != Some((*value, key.len())) {
             return Ok(false);
         }
     }
-    let used = both.tree.used(alloc)?;
     let same_len = both.trie.len() == entries.len();
     let same_empty = both.trie.is_empty() == entries.is_empty();
-    Ok(same_len && same_empty && both.trie.used_node_slots() == used)
+    Ok(same_len && same_empty && fits(alloc, both)?)
 }
 
-// Mixed calls, and then each key erased.
-fn run(
+// Whether each number has a slot of its own, or in the reduced layout so many as its nodes leave open.
+fn fits<L: Layout>(alloc: Global, both: &Beside<L>) -> Result<bool, AllocError> {
+    let used = both.trie.used_node_slots();
+    let most = both.tree.used(alloc)?;
+    if !L::keeps_numbers() {
+        return Ok(used == most);
+    }
+    let prefixes = both.tree.prefixes(alloc)?.len();
+    Ok(prefixes < used && used <= most)
+}
+
+// Mixed calls.
+fn make_calls<L: Layout>(
     rt: &impl Abort,
     alloc: Global,
-    keys: Keys,
-    ordered: bool,
-    max_trial: i32,
-) -> Result<(), Fail> {
-    let builder = CedarBuilder::new().ordered(ordered).max_trial(max_trial)?;
-    let mut both = Beside {
-        trie: builder.build(alloc)?,
-        tree: PlainTree::new(alloc),
-        ordered,
-        seed: 7,
-    };
+    both: &mut Beside<L>,
+    plan: Plan,
+) -> Result<(), AllocError> {
     for turn in 0..CALLS {
-        assert!(rt; call(alloc, &mut both, keys)?, "call {turn} of {keys:?}");
+        assert!(rt; call(alloc, both, plan)?, "call {turn} of {plan:?}");
         if turn % 200 == 0 {
-            assert!(rt; agree(alloc, &both)?, "after call {turn} of {keys:?}");
+            assert!(rt; agree(alloc, both)?, "after call {turn} of {plan:?}");
         }
     }
-    assert!(rt; agree(alloc, &both)?, "after {keys:?}");
+    assert!(rt; agree(alloc, both)?, "after {plan:?}");
+    Ok(())
+}
+
+// Each key is erased, and the root's slot is left.
+fn erase_all<L: Layout>(
+    rt: &impl Abort,
+    alloc: Global,
+    both: &mut Beside<L>,
+) -> Result<(), AllocError> {
     let entries = both.tree.walk(alloc)?;
     for (key, _) in &entries {
         assert!(rt; both.trie.erase_bytes(key));
@@ -144,22 +164,51 @@ fn run(
     Ok(())
 }
 
-// Each source of keys, in an order.
-fn each_source(rt: &impl Abort, alloc: Global, ordered: bool, max_trial: i32) -> Result<(), Fail> {
+fn run<L: Layout>(rt: &impl Abort, alloc: Global, plan: Plan) -> Result<(), Fail> {
+    let builder = CedarBuilder::new()
+        .ordered(plan.ordered)
+        .max_trial(plan.max_trial)?;
+    let mut both = Beside::<L> {
+        trie: built(alloc, builder)?,
+        tree: PlainTree::new(alloc),
+        seed: 7,
+    };
+    make_calls(rt, alloc, &mut both, plan)?;
+    erase_all(rt, alloc, &mut both)?;
+    Ok(())
+}
+
+// Each source of keys, where one failed search closes a block, and where three do.
+fn each_source<L: Layout>(rt: &impl Abort, alloc: Global, ordered: bool) -> Result<(), Fail> {
     for keys in [Keys::FewLabels, Keys::AllBytes, Keys::Words] {
-        run(rt, alloc, keys, ordered, max_trial)?;
+        for max_trial in [1, 3] {
+            let plan = Plan {
+                ordered,
+                max_trial,
+                keys,
+            };
+            run::<L>(rt, alloc, plan)?;
+        }
     }
     Ok(())
 }
 
 #[test]
 fn ascending_labels(rt: HostRuntime) -> Result<(), Fail> {
-    each_source(&rt, rt.alloc(), true, 1)?;
-    each_source(&rt, rt.alloc(), true, 3)
+    each_source::<DefaultLayout>(&rt, rt.alloc(), true)
+}
+
+#[test]
+fn ascending_labels_reduced(rt: HostRuntime) -> Result<(), Fail> {
+    each_source::<ReducedLayout>(&rt, rt.alloc(), true)
 }
 
 #[test]
 fn new_labels_first(rt: HostRuntime) -> Result<(), Fail> {
-    each_source(&rt, rt.alloc(), false, 1)?;
-    each_source(&rt, rt.alloc(), false, 3)
+    each_source::<DefaultLayout>(&rt, rt.alloc(), false)
+}
+
+#[test]
+fn new_labels_first_reduced(rt: HostRuntime) -> Result<(), Fail> {
+    each_source::<ReducedLayout>(&rt, rt.alloc(), false)
 }

@@ -1,11 +1,21 @@
-//! The calls of the dictionary, at values made by hand.
-use cedarwood::{Cedar, CedarError, MAX_VALUE, MIN_VALUE};
+//! The calls of the dictionary in both layouts, at values made by hand.
+ghost use Rattle.std.specs.Prelude.{◌≡◌, ◌<◌};
+
+use crate::layouts::empty;
+use cedarwood::{
+    Cedar, CedarBuilder, CedarError, DefaultLayout, Layout, MAX_VALUE, MIN_VALUE, ReducedLayout,
+    Ticks,
+};
+use std::alloc::Global;
+use std::marker::Brand;
+use std::process::Abort;
+use std::sync::ledger::{Blank, Ledger};
 use std::test::Fail;
+use test_devices::Refusing;
 
 // Each call once, and each answer that it has.
-#[test]
-fn stores_finds_and_removes(rt: HostRuntime) -> Result<(), Fail> {
-    let mut cedar = Cedar::new(rt.alloc())?;
+fn expect_each_call<L: Layout>(rt: &impl Abort, alloc: Global) -> Result<(), Fail> {
+    let mut cedar = empty::<L>(alloc)?;
     assert_eq!(rt; cedar.exact_match_search_bytes(b"a"), None);
     cedar.update_bytes(b"a", 1)?;
     cedar.update_bytes(b"a", 2)?;
@@ -20,10 +30,15 @@ fn stores_finds_and_removes(rt: HostRuntime) -> Result<(), Fail> {
     Ok(())
 }
 
-// Keys that begin other keys, and the least and greatest byte and value.
 #[test]
-fn keeps_what_shares_a_path(rt: HostRuntime) -> Result<(), Fail> {
-    let mut cedar = Cedar::new(rt.alloc())?;
+fn stores_finds_and_removes(rt: HostRuntime) -> Result<(), Fail> {
+    expect_each_call::<DefaultLayout>(&rt, rt.alloc())?;
+    expect_each_call::<ReducedLayout>(&rt, rt.alloc())
+}
+
+// Keys that begin other keys, and the least and greatest byte and value.
+fn expect_shared_path<L: Layout>(rt: &impl Abort, alloc: Global) -> Result<(), Fail> {
+    let mut cedar = empty::<L>(alloc)?;
     cedar.update_bytes(b"abc", 3)?;
     cedar.update_bytes(b"a", 1)?;
     cedar.update_bytes(b"ab", 2)?;
@@ -46,10 +61,15 @@ fn keeps_what_shares_a_path(rt: HostRuntime) -> Result<(), Fail> {
     Ok(())
 }
 
-// A pair with several faults is refused for the first of them, and nothing is stored.
 #[test]
-fn names_the_first_fault(rt: HostRuntime) -> Result<(), Fail> {
-    let mut cedar = Cedar::new(rt.alloc())?;
+fn keeps_what_shares_a_path(rt: HostRuntime) -> Result<(), Fail> {
+    expect_shared_path::<DefaultLayout>(&rt, rt.alloc())?;
+    expect_shared_path::<ReducedLayout>(&rt, rt.alloc())
+}
+
+// A pair with several faults is refused for the first of them, and nothing is stored.
+fn expect_first_fault<L: Layout>(rt: &impl Abort, alloc: Global) -> Result<(), Fail> {
+    let mut cedar = empty::<L>(alloc)?;
     let refused: [(&[u8], i32, CedarError); 6] = [
         (b"", -1, CedarError::EmptyKey),
         (b"a\0b", -1, CedarError::NulByte { position: 1 }),
@@ -76,5 +96,57 @@ fn names_the_first_fault(rt: HostRuntime) -> Result<(), Fail> {
         Err(CedarError::InvalidValue { value: -1 })
     );
     assert_eq!(rt; cedar.exact_match_search_bytes(b"a"), Some((2147483645, 1)));
+    Ok(())
+}
+
+#[test]
+fn names_the_first_fault(rt: HostRuntime) -> Result<(), Fail> {
+    expect_first_fault::<DefaultLayout>(&rt, rt.alloc())?;
+    expect_first_fault::<ReducedLayout>(&rt, rt.alloc())
+}
+
+// A key that is held, a longer one, and a front of it that holds nothing.
+fn expect_counted<C: Ledger>(cedar: &Cedar<Global>, blank: Blank, rt: &impl Abort)
+    requires name { blank.name ≡ C.name }
+    requires parts { blank.parts ≡ C.parts }
+    requires some { 0 < blank.parts }
+{
+    let ticks = &mut Ticks::<C>::new(blank);
+    assert_eq!(rt;
+        cedar.exact_match_search_counted(b"abc", ticks),
+        Some((3, 3))
+    );
+    assert_eq!(rt; cedar.exact_match_search_counted(b"abcd", ticks), None);
+    assert_eq!(rt; cedar.exact_match_search_counted(b"ab", ticks), None);
+}
+
+#[test]
+fn a_counted_search(rt: HostRuntime) -> Result<(), Fail> {
+    let mut cedar = Cedar::new(rt.alloc())?;
+    cedar.update("abc", 3)?;
+    expect_counted::<Brand>(&cedar, Blank::new(1), &rt);
+    Ok(())
+}
+
+// An empty dictionary of other settings takes the place of one, unless its memory is refused.
+#[test]
+fn renewed(rt: HostRuntime) -> Result<(), Fail> {
+    let memory = Refusing::new(rt.alloc());
+    let mut cedar = Cedar::new(&memory)?;
+    cedar.update("ab", 1)?;
+    memory.refuse(1, 1);
+    let builder = CedarBuilder::new().ordered(false);
+    assert_eq!(rt; cedar.renew(&memory, builder), Err(CedarError::Memory));
+    assert_eq!(rt; cedar.exact_match_search("ab"), Some((1, 2)));
+    assert_eq!(rt; cedar.renew(&memory, builder), Ok(()));
+    assert_eq!(rt; cedar.exact_match_search("ab"), None);
+    assert_eq!(rt;
+        (cedar.len(), cedar.used_node_slots(), cedar.node_capacity()),
+        (0, 1, 256)
+    );
+    cedar.update("a", 1)?;
+    cedar.update("b", 2)?;
+    let found = cedar.common_prefix_predict("")?;
+    assert_eq!(rt; found.as_slice(), [(2, 1), (1, 1)].as_slice());
     Ok(())
 }

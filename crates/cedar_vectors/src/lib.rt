@@ -4,14 +4,28 @@
 #[cfg(test)]
 mod beside;
 #[cfg(test)]
+mod builds;
+#[cfg(test)]
 mod dictionary;
 #[cfg(test)]
 mod growth;
 #[cfg(test)]
+mod layouts;
+#[cfg(test)]
 mod program;
+#[cfg(test)]
+mod queries;
+#[cfg(test)]
+mod reduced;
 #[cfg(test)]
 mod runs;
 #[cfg(test)]
 mod settings;
 #[cfg(test)]
+mod sorted;
+#[cfg(test)]
+mod sorted_texts;
+#[cfg(test)]
 mod texts;
+#[cfg(test)]
+mod words;

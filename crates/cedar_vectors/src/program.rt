@@ -1,7 +1,10 @@
 //! The program: its statuses, and what it says on its errors' writer.
-use cedar_cli::{DONE, FAULT, USAGE, run_program};
-use cedarwood::Watched;
-use std::alloc::{AllocError, Global};
+ghost use Rattle.cedar_slots.specs.Places.{IsSlotLimit};
+
+use cedar_cli::{DONE, FAULT, REFUSED, USAGE, run_program};
+use cedarwood::{DefaultLayout, Watched};
+use std::alloc::AllocError;
+use std::fs;
 use std::test::Fail;
 use test_devices::{Ending, FailingReader, FailingWriter, FlushCounter, Refusing};
 
@@ -9,7 +12,7 @@ const SCRIPT: &[u8] = b"+ 61 1\n= 61\n";
 
 const ANSWERS: &str = "ok\n1 1\n";
 
-const USAGE_TEXT: &str = "usage: cedar [--unordered]\n";
+const USAGE_TEXT: &str = "usage: cedar [--unordered] [--load PATH] [--save PATH]\n";
 
 // What fails in a run.
 #[derive(Clone, Copy)]
@@ -45,11 +48,12 @@ struct Left {
 
 // Runs the program on the script. The writer of errors takes `errors_room` bytes.
 fn run(
-    alloc: Global,
+    rt: &HostRuntime,
     arguments: &[&str],
     faults: Faults,
     errors_room: usize,
 ) -> Result<Left, AllocError> {
+    let alloc = rt.alloc();
     let refusing = Refusing::new(alloc);
     refusing.refuse(faults.request, faults.request);
     let mut written = vec![in alloc; 0u8; faults.room]?;
@@ -60,7 +64,14 @@ fn run(
     let mut reader = Watched::new(reader);
     let mut writer = Watched::new(FlushCounter::new(writer, faults.flush));
     let mut errors = Watched::new(errors);
-    let status = run_program(&refusing, arguments, &mut reader, &mut writer, &mut errors);
+    let status = run_program::<DefaultLayout, 1073741824, _, _, _, _, _>(
+        &refusing,
+        rt,
+        arguments,
+        &mut reader,
+        &mut writer,
+        &mut errors,
+    );
     let is_reader_failed = reader.failed();
     let is_writer_failed = writer.failed();
     let inside = writer.into_inner();
@@ -83,7 +94,7 @@ fn run(
 // The script comes in one read, and the next read finds its end: two flushes, and one after the run.
 #[test]
 fn a_good_run(rt: HostRuntime) -> Result<(), Fail> {
-    let left = run(rt.alloc(), &[], NONE, 128)?;
+    let left = run(&rt, &[], NONE, 128)?;
     assert_eq!(rt; left.status, DONE);
     assert_eq!(rt; left.written.as_slice(), ANSWERS.as_bytes());
     assert!(rt; left.told.is_empty());
@@ -93,16 +104,21 @@ fn a_good_run(rt: HostRuntime) -> Result<(), Fail> {
     Ok(())
 }
 
-// Other arguments than the one option, once: nothing is read, written or flushed.
+// Other arguments than the options, each once: nothing is read, written or flushed.
 #[test]
 fn wrong_arguments(rt: HostRuntime) -> Result<(), Fail> {
-    let cases: [&[&str]; 6] = [
+    let cases: [&[&str]; 11] = [
         &["--unordered", "--unordered"],
         &["--unorder"],
         &["x"],
         &[""],
-        &["--load", "x"],
         &["--", "x"],
+        &["--load"],
+        &["--save"],
+        &["--load", "x", "--unordered"],
+        &["--unordered", "--load", "x"],
+        &["--load", "x", "--load", "y"],
+        &["--save", "x", "--save", "x"],
     ];
     for arguments in cases {
         let faults = Faults {
@@ -111,25 +127,123 @@ fn wrong_arguments(rt: HostRuntime) -> Result<(), Fail> {
             flush: 1,
             ..NONE
         };
-        let left = run(rt.alloc(), arguments, faults, 128)?;
+        let left = run(&rt, arguments, faults, 128)?;
         assert_eq!(rt; left.status, 2);
         assert!(rt; left.written.is_empty());
         assert_eq!(rt; left.told.as_slice(), USAGE_TEXT.as_bytes());
         assert!(rt; !left.is_reader_failed && !left.is_writer_failed);
         assert_eq!(rt; (left.flushes, left.requests), (0, 0));
-        let silenced = run(rt.alloc(), arguments, faults, 0)?;
+        let silenced = run(&rt, arguments, faults, 0)?;
         assert_eq!(rt; silenced.status, 2);
     }
+    Ok(())
+}
+
+// A dictionary is saved, and loaded by the next run.
+#[test]
+fn a_saved_dictionary(rt: HostRuntime) -> Result<(), Fail> {
+    let saved = run(&rt, &["--save", "program_saved.cedar"], NONE, 128)?;
+    assert_eq!(rt; (saved.status, saved.told.len()), (DONE, 0));
+    let loaded = run(&rt, &["--load", "program_saved.cedar"], NONE, 128)?;
+    assert_eq!(rt; loaded.status, DONE);
+    assert_eq!(rt; loaded.written.as_slice(), ANSWERS.as_bytes());
+    let bytes = fs::read(&rt, "program_saved.cedar")?;
+    assert_eq!(rt; bytes.len(), 5762);
+    Ok(())
+}
+
+// A file that is cut, one that isn't there, and a place where none can be made.
+#[test]
+fn refused_files(rt: HostRuntime) -> Result<(), Fail> {
+    fs::write(&rt, "program_cut.cedar", "CEDARW")?;
+    let cut = run(&rt, &["--load", "program_cut.cedar"], NONE, 128)?;
+    assert_eq!(rt; cut.status, REFUSED);
+    assert!(rt; cut.written.is_empty());
+    assert_eq!(rt;
+        cut.told.as_slice(),
+        b"cedar: load: serialized cedar trie is truncated\n".as_slice()
+    );
+    let missing = run(&rt, &["--load", "program_missing.cedar"], NONE, 128)?;
+    assert_eq!(rt; missing.status, 3);
+    assert!(rt;
+        missing
+            .told
+            .starts_with(b"cedar: load: persistence I/O error: ")
+    );
+    let nowhere = run(&rt, &["--save", "program_missing/x.cedar"], NONE, 128)?;
+    assert_eq!(rt; nowhere.status, 3);
+    assert_eq!(rt; nowhere.written.as_slice(), ANSWERS.as_bytes());
+    assert!(rt;
+        nowhere
+            .told
+            .starts_with(b"cedar: save: persistence I/O error: ")
+    );
     Ok(())
 }
 
 // The answers to look-ups don't depend on the order of labels.
 #[test]
 fn new_labels_first(rt: HostRuntime) -> Result<(), Fail> {
-    let left = run(rt.alloc(), &["--unordered"], NONE, 128)?;
+    let left = run(&rt, &["--unordered"], NONE, 128)?;
     assert_eq!(rt; left.status, 0);
     assert_eq!(rt; left.written.as_slice(), ANSWERS.as_bytes());
     assert!(rt; left.told.is_empty());
+    Ok(())
+}
+
+// The status that the program ends with on a script, what it writes, and what it tells.
+fn answered<const SLOTS: usize>(
+    rt: &HostRuntime,
+    arguments: &[&str],
+    script: &str,
+) -> (u8, Vec<u8>, Vec<u8>)
+    requires { IsSlotLimit SLOTS }
+{
+    let alloc = rt.alloc();
+    let mut reader = Watched::new(script.as_bytes());
+    let mut writer = Watched::new(Vec::new(alloc));
+    let mut errors = Watched::new(Vec::new(alloc));
+    let status = run_program::<DefaultLayout, SLOTS, _, _, _, _, _>(
+        alloc,
+        rt,
+        arguments,
+        &mut reader,
+        &mut writer,
+        &mut errors,
+    );
+    (status, writer.into_inner(), errors.into_inner())
+}
+
+// With one block of slots the first key's number has no place: what was answered before is written, and the fault is told.
+#[tactic(auto, using(crate::proofs::Limits::limit_256))]
+#[test]
+fn out_of_slots(rt: HostRuntime) -> Result<(), Fail> {
+    let (status, written, told) = answered::<256>(&rt, &[], "= 61\n+ 61 1\n= 61\n");
+    assert_eq!(rt; status, FAULT);
+    assert_eq!(rt; written.as_slice(), b"none\n".as_slice());
+    assert_eq!(rt; told.as_slice(), b"cedar: slot limit\n".as_slice());
+    Ok(())
+}
+
+// Keys that want one another's slots.
+#[tactic(auto, using(cedarwood::proofs::DictionaryLemmas::default_limit))]
+#[test]
+fn conflicts(rt: HostRuntime) -> Result<(), Fail> {
+    let scripts = [
+        (
+            "+ 6162 1\n+ 616201 2\n= 6162\n= 616201\n",
+            "ok\nok\n1 2\n2 3\n",
+        ),
+        (
+            "+ 6162 1\n+ 6163 2\n+ 616205 3\n+ 616203 4\n= 6162\n= 6163\n= 616205\n= 616203\n",
+            "ok\nok\nok\nok\n1 2\n2 2\n3 3\n4 3\n",
+        ),
+    ];
+    for (script, answers) in scripts {
+        let (status, written, _) = answered::<1073741824>(&rt, &["--unordered"], script);
+        assert_eq!(rt; status, 0);
+        assert_eq!(rt; written.as_slice(), answers.as_bytes());
+    }
     Ok(())
 }
 
@@ -182,13 +296,13 @@ const CASES: [(Faults, &str, &str, u64); 7] = [
 #[test]
 fn faults_of_devices(rt: HostRuntime) -> Result<(), Fail> {
     for (faults, written, told, flushes) in CASES {
-        let left = run(rt.alloc(), &[], faults, 128)?;
+        let left = run(&rt, &[], faults, 128)?;
         assert_eq!(rt; left.status, 1);
         assert_eq!(rt; left.written.as_slice(), written.as_bytes());
         assert_eq!(rt; left.told.as_slice(), told.as_bytes());
         assert_eq!(rt; left.flushes, flushes);
         for errors_room in [0, 6] {
-            let silenced = run(rt.alloc(), &[], faults, errors_room)?;
+            let silenced = run(&rt, &[], faults, errors_room)?;
             assert_eq!(rt; silenced.status, 1);
             assert_eq!(rt; silenced.written.as_slice(), written.as_bytes());
         }
@@ -199,19 +313,19 @@ fn faults_of_devices(rt: HostRuntime) -> Result<(), Fail> {
 // Each request refused in turn: what was written begins the answers, and the error is told.
 #[test]
 fn refused_memory(rt: HostRuntime) -> Result<(), Fail> {
-    let whole = run(rt.alloc(), &[], NONE, 128)?;
+    let whole = run(&rt, &[], NONE, 128)?;
     assert_eq!(rt; whole.status, 0);
     assert!(rt; whole.requests > 0);
     for earlier in 0..whole.requests {
         let request = earlier + 1;
-        let left = run(rt.alloc(), &[], Faults { request, ..NONE }, 128)?;
+        let left = run(&rt, &[], Faults { request, ..NONE }, 128)?;
         assert_eq!(rt; left.status, 1, "at request {request}");
         assert!(rt;
             ANSWERS.as_bytes().starts_with(&left.written),
             "at request {request}"
         );
         assert_eq!(rt; left.told.as_slice(), b"cedar: out of memory\n".as_slice());
-        let silenced = run(rt.alloc(), &[], Faults { request, ..NONE }, 0)?;
+        let silenced = run(&rt, &[], Faults { request, ..NONE }, 0)?;
         assert_eq!(rt; silenced.status, 1, "at request {request}");
     }
     Ok(())

@@ -1,11 +1,15 @@
-//! Runs of calls, at values made by hand.
-use cedarwood::{Answer, Call, Cedar, CedarBuilder, CedarError, run_calls};
+//! Runs of calls in both layouts, at values made by hand.
+use crate::layouts::empty;
+use cedarwood::{
+    Answer, Call, CedarBuilder, CedarError, DefaultLayout, Layout, ReducedLayout, run_calls,
+};
+use std::alloc::Global;
+use std::process::Abort;
 use std::test::Fail;
 
 // Each call and each answer but those for want of memory, and a new dictionary in the midst of them.
-#[test]
-fn answers_call_after_call(rt: HostRuntime) -> Result<(), Fail> {
-    let mut cedar = Cedar::new(rt.alloc())?;
+fn expect_answers<L: Layout>(rt: &impl Abort, alloc: Global) -> Result<(), Fail> {
+    let mut cedar = empty::<L>(alloc)?;
     let settings = CedarBuilder::new().ordered(false);
     let calls = [
         Call::Update {
@@ -27,7 +31,7 @@ fn answers_call_after_call(rt: HostRuntime) -> Result<(), Fail> {
             value: 4,
         },
     ];
-    let answers = run_calls(&mut cedar, rt.alloc(), &calls)?;
+    let answers = run_calls(&mut cedar, alloc, &calls)?;
     let wanted = [
         Answer::Update(Ok(())),
         Answer::Update(Err(CedarError::EmptyKey)),
@@ -43,4 +47,10 @@ fn answers_call_after_call(rt: HostRuntime) -> Result<(), Fail> {
     assert_eq!(rt; cedar.exact_match_search_bytes(b"c"), Some((4, 1)));
     assert_eq!(rt; cedar.len(), 1);
     Ok(())
+}
+
+#[test]
+fn answers_call_after_call(rt: HostRuntime) -> Result<(), Fail> {
+    expect_answers::<DefaultLayout>(&rt, rt.alloc())?;
+    expect_answers::<ReducedLayout>(&rt, rt.alloc())
 }

@@ -16,6 +16,8 @@ fn a_builder(rt: HostRuntime) -> Result<(), Fail> {
     let builder = CedarBuilder::new().ordered(false).max_trial(2)?;
     assert_eq!(rt; builder, builder.clone()?);
     assert!(rt; builder != Cedar::<Global>::builder());
+    assert!(rt; CedarBuilder::new() != CedarBuilder::new().ordered(false));
+    assert!(rt; CedarBuilder::new() != CedarBuilder::new().max_trial(2)?);
     assert_eq!(rt; CedarBuilder::default(), CedarBuilder::new());
     let mut cedar = builder.build(rt.alloc())?;
     cedar.update("b", 1)?;

@@ -3,8 +3,8 @@ use Rattle.std.proofs.Common.{Bool, ltb, ◌≡◌, ℕ, suc, not, ◌+◌, ◌<
 use Rattle.std.proofs.lemmas.Bool.{eqb-false, ltb-false}
 use Rattle.std.specs.List.{position_or_len}
 use Rattle.cedar_tree.specs.Tree.{IsPath, IsKey}
-use Rattle.cedar_table.specs.declared.error.CedarError.{CedarError}
-use Rattle.cedar_table.specs.declared.error.CedarError.TheVariants.{EmptyKey, NulByte}
+use Rattle.cedar_slots.specs.declared.error.CedarError.{CedarError}
+use Rattle.cedar_slots.specs.declared.error.CedarError.TheVariants.{EmptyKey, NulByte}
 use Rattle.cedarwood.specs.Fault.{key_fault, value_fault, fault, or_else, IsInRange}
 
 ok_or_err : {T : Type 0} (r : Result T CedarError) (x : T) (e : CedarError) → r ≡ Ok x → r ≡ Err e → ⊥
@@ -18,7 +18,7 @@ pub no_fault : {T : Type 0} (f : Option CedarError) (r : Result T CedarError) (x
 no_fault None r x h ok = refl
 no_fault (Some e) r x h ok = absurd (ok_or_err r x e ok h)
 
-key_part : (a b : Option CedarError) → or_else a b ≡ None → (a ≡ None) × (b ≡ None)
+pub key_part : (a b : Option CedarError) → or_else a b ≡ None → (a ≡ None) × (b ≡ None)
 key_part None b h = (refl, h)
 key_part (Some e) b h = absurd (some_or_none e h)
 

@@ -2,18 +2,21 @@
 use Rattle.std.proofs.Common.{◌≡◌, ℕ, zero, suc, ◌+◌, ◌*◌, ◌≤◌, ◌==◌, inl, inr, Bool, true, false, cond, length, refl, ap, sym, ◌∙◌, arith}
 use Rattle.std.proofs.lemmas.Bool.{cases_eq}
 use Rattle.std.proofs.lemmas.Bool.Decides.{nat_tests}
-use Rattle.cedar_table.specs.Steps.{blocks_after, MakesBlocks}
-use Rattle.cedar_table.specs.TableFields.{Fields, capacity_of, size_of}
-use Rattle.cedar_table.specs.WellFormed.{tree_of}
+use Rattle.cedar_table.specs.Meaning.Marks.{marks}
+use Rattle.cedar_table.specs.Edit.Steps.{blocks_after, MakesBlocks}
+use Rattle.cedar_table.specs.Table.TableFields.{Fields, capacity_of, size_of}
+use Rattle.cedar_table.specs.Meaning.WellFormed.{tree_of}
 use Rattle.cedarwood.specs.Dictionary.{Dictionary, Grows, capacity_after}
 
 -- the value of a dictionary over a table
 abbrev pub dictionary_of : Fields → Dictionary
 dictionary_of T = record {
   state = record { tree = tree_of T; ordered = T.ordered };
+  marked = marks T;
   max_trial = T.places.blocks.max_trial;
   size = size_of T;
   capacity = capacity_of T;
+  table = T;
 }
 
 same_test : (a c : ℕ) → (256 * a == 256 * c) ≡ (a == c)
@@ -59,3 +62,26 @@ grows n T T' made = record {
 pub grows_none : (d : Dictionary) → Grows 0 d d
 unfolding capacity_after
 grows_none d = record { size = omega arith; capacity = refl }
+
+-- the slots that there are once m blocks and then n more are in use
+pub capacity_after-sum : (m n size capacity : ℕ) → capacity_after (m + n) size capacity ≡ capacity_after n (size + 256 * m) (capacity_after m size capacity)
+unfolding capacity_after
+capacity_after-sum zero n size capacity =
+    let none : zero + n ≡ n = omega arith in
+    let same : size + 256 * zero ≡ size = omega arith in
+    rw (none, same) refl
+capacity_after-sum (suc m) n size capacity =
+    let one_less : suc m + n ≡ suc (m + n) = omega arith in
+    let same : size + 256 * suc m ≡ size + 256 + 256 * m = omega arith in
+    rw (one_less, same) (capacity_after-sum m n (size + 256) (cond (size == capacity) (2 * capacity) capacity))
+
+-- blocks that came in two steps
+pub grows_further : (m n : ℕ) (a b c : Dictionary) → Grows m a b → Grows n b c → Grows (m + n) a c
+grows_further m n a b c first second =
+    let size : b.size ≡ a.size + 256 * m = first.size in
+    let capacity : b.capacity ≡ capacity_after m a.size a.capacity = first.capacity in
+    record {
+      size = omega (arith, first.size, second.size);
+      capacity = second.capacity ∙ ap (λ s. capacity_after n s b.capacity) size ∙ ap (capacity_after n (a.size + 256 * m)) capacity
+          ∙ sym (capacity_after-sum m n a.size a.capacity);
+    }

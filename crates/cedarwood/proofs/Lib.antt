@@ -2,4 +2,12 @@ pub mod DictionaryLemmas
 pub mod FaultLemmas
 pub mod GrowthLemmas
 pub mod RunLemmas
+pub mod SortedInputLemmas
 pub mod UpdateLemmas
+pub mod PredictionLemmas
+pub mod BuildLemmas
+pub mod CollectLemmas
+pub mod EntriesLemmas
+pub mod LoadLemmas
+pub mod SaveLemmas
+mod ValidLemmas

@@ -1,18 +1,19 @@
 -- What an update of the table says of the dictionary.
-use Rattle.std.proofs.Common.{◌≡◌, ℕ, ℤ, ◌+◌, ◌*◌, ◌-◌, ◌<◌, ◌≤◌, ◌⊎◌, inl, inr, Bool, true, false, cond, int_le, ◌&&◌, ◌==◌, pos, List, [], ◌∷◌, length, Option, Some, None, IfSome, IsSome, is_some, option_map, position, refl, ap, sym, subst, ◌∙◌, arith, Result, Ok, Err, OnOk, OnErr, IfErr, IsOk, rules}
+use Rattle.std.proofs.Common.{◌≡◌, ℕ, ℤ, ◌+◌, ◌*◌, ◌-◌, ◌<◌, ◌≤◌, ◌⊎◌, inl, inr, Bool, true, false, cond, int_le, ◌&&◌, ◌==◌, pos, List, [], ◌∷◌, length, Option, Some, None, IfSome, IsSome, is_some, option_map, position, refl, ap, sym, subst, ◌∙◌, arith, Result, Ok, Err, OnOk, OnErr, IfErr, IsErr, IsOk, rules}
 use Rattle.std.proofs.lemmas.Result.{on_ok_weaker, on_err_weaker}
 use Rattle.cedar_tree.specs.Tree.{Tree, has_label, number_at, put}
 use Rattle.cedar_tree.specs.Queries.{used}
 use Rattle.cedar_tree.specs.State.{State, stored}
-use Rattle.cedar_table.specs.declared.error.CedarError.{CedarError}
-use Rattle.cedar_table.specs.declared.error.CedarError.TheVariants.{EmptyKey, NulByte, InvalidValue, Memory, SlotLimit}
-use Rattle.cedar_table.specs.Cells.{NoPlace}
-use Rattle.cedar_table.specs.Layouts.{default_layout}
-use Rattle.cedar_table.specs.Places.{MayRefuse, PlaceFields}
-use Rattle.cedar_table.specs.Steps.{MakesBlocks, SameModes, blocks_after}
-use Rattle.cedar_table.specs.TableFields.{Fields, capacity_of, size_of}
-use Rattle.cedar_table.specs.WellFormed.{IsWellFormed, cells_in, tree_of}
-use Rattle.cedar_table.proofs.BlocksCountLemmas.{full_blocks_counted}
+use Rattle.cedar_slots.specs.declared.error.CedarError.{CedarError}
+use Rattle.cedar_slots.specs.declared.error.CedarError.TheVariants.{EmptyKey, NulByte, InvalidValue, Memory, SlotLimit}
+use Rattle.cedar_table.specs.Table.Cells.{NoPlace}
+use Rattle.cedar_table.specs.Table.Layouts.{default_layout}
+use Rattle.cedar_table.specs.Meaning.Marks.{marks, MarksPut}
+use Rattle.cedar_slots.specs.Places.{MayRefuse, PlaceFields}
+use Rattle.cedar_table.specs.Edit.Steps.{MakesBlocks, SameModes, blocks_after}
+use Rattle.cedar_table.specs.Table.TableFields.{Fields, capacity_of, size_of}
+use Rattle.cedar_table.specs.Meaning.WellFormed.{IsWellFormed, cells_in, tree_of}
+use Rattle.cedar_table.proofs.MeaningLemmas.FullBlocks.{full_blocks_counted}
 use Rattle.cedarwood.specs.Dictionary.{Dictionary, Grows, first_bytes}
 use Rattle.cedarwood.specs.Fault.{fault, key_fault, value_fault, or_else, IsShortage}
 use Rattle.cedarwood.proofs.GrowthLemmas.{dictionary_of, blocks_stay, grows}
@@ -60,6 +61,19 @@ fault_of (Some x) r e h sound was = ap Some (err_is r x e h was)
 
 pub has_fault : {X : Type 0} (f : Option CedarError) (r : Result X CedarError) (e : CedarError) → (f ≡ None → IsOk r) → r ≡ Err e → f ≡ None → ⊥
 has_fault f r e sound was none = not_both r e (sound none) was
+
+-- a refusal says nothing of a success, and what holds holds after a refusal
+pub refused_no_ok : {X E : Type 0} (P : Type 0) (r : Result X E) → IsErr r → OnOk r P
+refused_no_ok P (Ok x) h = let apart : false ≡ true = h in cc
+refused_no_ok P (Err e) h = tt
+
+pub always_on_err : {X E : Type 0} {P : Type 0} (r : Result X E) → P → OnErr r P
+always_on_err (Ok x) p = tt
+always_on_err (Err e) p = p
+
+-- what is said of a refusal's error
+pub why_refused : {X : Type 0} (P : CedarError → Type 0) (r : Result X CedarError) (e : CedarError) → IfErr r P → r ≡ Err e → P e
+why_refused P r e h is = subst (λ x. IfErr x P) is h
 
 -- ---- a pair without one
 
@@ -113,6 +127,12 @@ module _ {X : Type 0} (slots : ℕ) (T T' : Fields) (d : Dictionary) (same : dic
       ap (λ t. record { tree = t; ordered = T'.ordered }) done
       ∙ same_stored (tree_of T) T'.ordered T.ordered d.state key v w same_tree same_order e modes.ordered)
 
+  pub marks_follow : (P : Type 0) → OnOk r (P → MarksPut (tree_of T) (marks T) (marks T') key) → OnOk r (P → MarksPut d.state.tree d.marked (marks T') key)
+  marks_follow P done = subst (λ (x : Dictionary). OnOk r (P → MarksPut x.state.tree x.marked (marks T') key)) same done
+
+  pub marks_remain : OnErr r (marks T' ≡ marks T) → OnErr r (marks T' ≡ d.marked)
+  marks_remain kept = subst (λ (x : Dictionary). OnErr r (marks T' ≡ x.marked)) same kept
+
   pub state_stays : SameModes T T' → OnErr r (tree_of T' ≡ tree_of T)
       → OnErr r (◌≡◌ {A = State} (record { tree = tree_of T'; ordered = T'.ordered }) d.state)
   state_stays modes =
@@ -135,11 +155,11 @@ module _ {X : Type 0} (slots : ℕ) (T T' : Fields) (d : Dictionary) (same : dic
   pub over_held : (is_some (number_at (tree_of T) key) ≡ true → OnErr r ⊥ × MakesBlocks 0 T T') → IsSome (number_at d.state.tree key) → Grows 0 d (dictionary_of T')
   over_held over held = grows_by 0 (over (subst (λ t. IsSome (number_at t key)) same_tree held)).1
 
-  pub at_one_byte : IsWellFormed slots T → T.layout ≡ default_layout → (b : ℕ)
-      → (has_label (tree_of T).children b ≡ false → (OnErr r ⊥ × MakesBlocks 0 T T') ⊎ NoPlace (size_of T) (cells_in T))
+  pub at_one_byte : IsWellFormed slots T → (b : ℕ)
+      → (has_label (tree_of T).children b ≡ false → (OnErr r ⊥ × MakesBlocks 0 T T') ⊎ (T.layout ≡ default_layout) × NoPlace (size_of T) (cells_in T))
       → has_label d.state.tree.children b ≡ false
-      → (IsOk r × Grows 0 d (dictionary_of T')) ⊎ (d.size + first_bytes d.state.tree ≡ used d.state.tree + 255)
-  at_one_byte well layout b made absent = elim (made (subst (λ (t : Tree). has_label t.children b ≡ false) same_tree absent)) [
+      → (IsOk r × Grows 0 d (dictionary_of T')) ⊎ (T.layout ≡ default_layout) × (d.size + first_bytes d.state.tree ≡ used d.state.tree + 255)
+  at_one_byte well b made absent = elim (made (subst (λ (t : Tree). has_label t.children b ≡ false) same_tree absent)) [
     | inl m ↦ inl (is_ok_of r m.0, grows_by 0 m.1)
-    | inr full ↦ inr (subst (λ (x : Dictionary). x.size + first_bytes x.state.tree ≡ used x.state.tree + 255) same (full_blocks_counted slots T well layout full))
+    | inr full ↦ inr (full.0, subst (λ (x : Dictionary). x.size + first_bytes x.state.tree ≡ used x.state.tree + 255) same (full_blocks_counted slots T well full.0 full.1))
   ]

@@ -1,25 +1,31 @@
 -- What a caller sees of a dictionary.
-use Rattle.std.specs.Prelude.{◌≡◌, ℕ, zero, suc, ◌+◌, ◌*◌, ◌==◌, cond, length, ℤ}
+use Rattle.std.specs.Prelude.{◌≡◌, ℕ, zero, suc, ◌+◌, ◌*◌, ◌^◌, ◌<◌, ◌≤◌, ◌==◌, true, cond, length, ℤ}
 use Rattle.std.specs.Coded.{Coded, code_by, coded×, coded_ℕ, coded_ℤ}
 use Rattle.std.proofs.Common.{refl}
 use Rattle.cedar_tree.specs.State.{State, state_code}
-use Rattle.cedar_tree.specs.Tree.{Tree}
-use Rattle.cedar_table.specs.Meaning.{labels}
+use Rattle.cedar_tree.specs.Stored.{coded_tree}
+use Rattle.cedar_tree.specs.Tree.{AllNumbers, IsAscending, IsSound, Tree}
+use Rattle.cedar_table.specs.Meaning.StandsFor.{labels}
+use Rattle.cedar_table.specs.Table.TableFields.{Fields}
+use Rattle.cedarwood.specs.TableCode.{fields_code}
+use Rattle.cedar_table.specs.Meaning.WellFormed.{is_value}
 
--- the state that its answers come from, how many failed searches close a block, and how many slots are in use and there
--- are
+-- the state that its answers come from, the tree with just those numbers that have slots of their own, how many failed searches
+-- close a block, how many slots are in use and there are, and the table that it is kept in, which is what a file has of it
 pub record Dictionary : Type 0 where
   pub state : State
+  pub marked : Tree
   pub max_trial : ℤ
   pub size : ℕ
   pub capacity : ℕ
+  pub table : Fields
 
 -- it serves `impl Model` alone
 abbrev pub dictionary_code : Coded Dictionary
 dictionary_code =
-    code_by ((State × ℤ) × (ℕ × ℕ)) (coded× (coded× state_code coded_ℤ) (coded× coded_ℕ coded_ℕ))
-    (λ d. ((d.state, d.max_trial), (d.size, d.capacity)))
-    (λ p. record { state = p.0.0; max_trial = p.0.1; size = p.1.0; capacity = p.1.1 })
+    code_by ((((State × Tree) × ℤ) × (ℕ × ℕ)) × Fields) (coded× (coded× (coded× (coded× state_code coded_tree) coded_ℤ) (coded× coded_ℕ coded_ℕ)) fields_code)
+    (λ d. ((((d.state, d.marked), d.max_trial), (d.size, d.capacity)), d.table))
+    (λ p. record { state = p.0.0.0.0; marked = p.0.0.0.1; max_trial = p.0.0.1; size = p.0.1.0; capacity = p.0.1.1; table = p.1 })
     (λ _. refl)
 
 -- how many slots there are once n blocks more are in use: twice as many where all are in use
@@ -35,3 +41,14 @@ pub record Grows (n : ℕ) (before after : Dictionary) : Type 0 where
 -- how many bytes begin a key: the root's children
 abbrev pub first_bytes : Tree → ℕ
 first_bytes t = length (labels t.children)
+
+-- what holds of each dictionary that may have `slots` slots
+pub record IsValid (slots : ℕ) (d : Dictionary) : Type 0 where
+  pub sound : IsSound d.state.tree
+  pub ascending : d.state.ordered ≡ true → IsAscending d.state.tree.children
+  pub values : AllNumbers (λ v. is_value v ≡ true) d.state.tree.children
+  -- whole blocks are in use, of a power of two of them, and no more than there may be
+  pub blocks : (n : ℕ) × (0 < n) × (d.size ≡ 256 * n)
+  pub doubled : (k : ℕ) × (d.capacity ≡ 256 * 2 ^ k)
+  pub room : d.size ≤ d.capacity
+  pub within : d.capacity ≤ slots

@@ -1,8 +1,15 @@
 pub use Rattle.cedar_tree.specs.Tree
 pub use Rattle.cedar_tree.specs.Queries
 pub use Rattle.cedar_tree.specs.State
+pub mod Builds
 pub mod Dictionary
 pub mod Fault
 pub mod Memory
 pub mod Runs
-pub mod WatchedDevice
+pub mod SortedInput
+pub mod WalkPlaces
+pub mod Walks
+pub mod TableCode
+pub mod Loading
+pub use Rattle.cedar_format.specs.WatchedDevice
+pub mod Updates

@@ -1,10 +1,15 @@
 //! The settings of a dictionary.
 
-ghost use Rattle.std.specs.Prelude.{◌≡◌, ◌≤ℤ◌, ◌↔◌, IfErr, IfOk, IsOk, pos, true};
+ghost use Rattle.std.specs.Prelude.{◌≡◌, ◌≤ℤ◌, ◌↔◌, ◌⊎◌, ◌+◌, ◌*◌, ◌≤◌, ℕ, Err, IfErr, IfOk, IfSome, IsOk, length, None, pos, true};
+ghost use Rattle.cedar_table.specs.Bulk.Sorted.{entries_of};
 ghost use Rattle.cedar_tree.specs.Tree.{empty_tree};
+ghost use Rattle.cedar_tree.specs.Queries.{asc, prefixes};
+ghost use Rattle.cedarwood.specs.Dictionary.{capacity_after};
+ghost use Rattle.cedarwood.specs.SortedInput.{sorted_fault};
 
 use crate::CedarError;
 use crate::fits::fits;
+use crate::sorted::check_sorted;
 use crate::trie::{Cedar, Trie};
 use std::alloc::Allocator;
 
@@ -48,8 +53,8 @@ impl CedarBuilder {
         }
     }
 
-    /// Sets how many failed searches close a block. More of them may pack the slots closer, for more time; no answer
-    /// depends on it.
+    /// Sets how many failed searches close a block. More of them may pack the slots closer, for more time; no
+    /// answer depends on it, as long as nothing is refused for memory or slots.
     ///
     /// # Errors
     /// `InvalidMaxTrial` where the number is 0 or less.
@@ -74,6 +79,7 @@ impl CedarBuilder {
     /// `Memory` where a request was refused.
     pub fn build<A: Allocator + Copy>(self, alloc: A) -> Result<Cedar<A>, CedarError>
         ensures empty { IfOk result (λ cedar. cedar.state.tree ≡ empty_tree) }
+        ensures unmarked { IfOk result (λ cedar. cedar.marked ≡ empty_tree) }
         ensures ordered { IfOk result (λ cedar. cedar.state.ordered ≡ self.ordered) }
         ensures max_trial { IfOk result (λ cedar. cedar.max_trial ≡ self.max_trial) }
         ensures size { IfOk result (λ cedar. (cedar.size ≡ 256) × (cedar.capacity ≡ 256)) }
@@ -88,6 +94,70 @@ impl CedarBuilder {
             Some(cedar) => Ok(cedar),
             None if has_room => Trie::with(alloc, self),
             None => Err(CedarError::Memory),
+        }
+    }
+
+    /// A dictionary of some pairs, whose keys ascend by bytes, with these settings. It takes its memory from `alloc`.
+    ///
+    /// # Errors
+    /// The first fault of the input: each pair's own of `EmptyKey`, `NulByte` and `InvalidValue`, in this order, and then
+    /// `DuplicateKey` or `KeysNotSorted` where its key isn't above the one before it. Without one, `Memory` where a request
+    /// was refused, and `SlotLimit` where the limit of slots allows no further block.
+    pub fn from_sorted_bytes<A: Allocator + Copy>(
+        self,
+        alloc: A,
+        pairs: &[(&[u8], i32)],
+    ) -> Result<Cedar<A>, CedarError>
+        ensures faulty { IfSome (sorted_fault pairs.now) (λ e. result ≡ Err e) }
+        ensures tree { IfOk result (λ cedar. cedar.state.tree ≡ asc (entries_of pairs.now)) }
+        ensures marks { IfOk result (λ cedar. cedar.marked ≡ asc (entries_of pairs.now)) }
+        ensures ordered { IfOk result (λ cedar. cedar.state.ordered ≡ self.ordered) }
+        ensures max_trial { IfOk result (λ cedar. cedar.max_trial ≡ self.max_trial) }
+        ensures size { IfOk result (λ cedar. (n : ℕ) × (n ≤ length (prefixes (asc (entries_of pairs.now)))) × (cedar.size ≡ 256 + 256 * n) × (cedar.capacity ≡ capacity_after n 256 256)) }
+        ensures refused { sorted_fault pairs.now ≡ None → IfErr result (λ e.
+            (e ≡ CedarError.Memory) ⊎ ((e ≡ CedarError.SlotLimit) × (1073741824 ≤ 256 * length (prefixes (asc (entries_of pairs.now)))))) }
+        ensures fits { IfOk result (λ _. CedarFitsInMemory A.row A.Allocator) }
+    {
+        let place: Option<Cedar<A>> = None;
+        let has_room = fits(&place);
+        match place {
+            Some(cedar) => Ok(cedar),
+            None if has_room => Trie::from_sorted_bytes_with(alloc, self, pairs),
+            None => {
+                check_sorted(pairs)?;
+                Err(CedarError::Memory)
+            }
+        }
+    }
+
+    /// `from_sorted_bytes` for text keys.
+    ///
+    /// # Errors
+    /// As [`CedarBuilder::from_sorted_bytes`].
+    pub fn from_sorted<A: Allocator + Copy>(
+        self,
+        alloc: A,
+        pairs: &[(&str, i32)],
+    ) -> Result<Cedar<A>, CedarError>
+        ensures faulty { IfSome (sorted_fault pairs.now) (λ e. result ≡ Err e) }
+        ensures tree { IfOk result (λ cedar. cedar.state.tree ≡ asc (entries_of pairs.now)) }
+        ensures marks { IfOk result (λ cedar. cedar.marked ≡ asc (entries_of pairs.now)) }
+        ensures ordered { IfOk result (λ cedar. cedar.state.ordered ≡ self.ordered) }
+        ensures max_trial { IfOk result (λ cedar. cedar.max_trial ≡ self.max_trial) }
+        ensures size { IfOk result (λ cedar. (n : ℕ) × (n ≤ length (prefixes (asc (entries_of pairs.now)))) × (cedar.size ≡ 256 + 256 * n) × (cedar.capacity ≡ capacity_after n 256 256)) }
+        ensures refused { sorted_fault pairs.now ≡ None → IfErr result (λ e.
+            (e ≡ CedarError.Memory) ⊎ ((e ≡ CedarError.SlotLimit) × (1073741824 ≤ 256 * length (prefixes (asc (entries_of pairs.now)))))) }
+        ensures fits { IfOk result (λ _. CedarFitsInMemory A.row A.Allocator) }
+    {
+        let place: Option<Cedar<A>> = None;
+        let has_room = fits(&place);
+        match place {
+            Some(cedar) => Ok(cedar),
+            None if has_room => Trie::from_sorted_with(alloc, self, pairs),
+            None => {
+                check_sorted(pairs)?;
+                Err(CedarError::Memory)
+            }
         }
     }
 }

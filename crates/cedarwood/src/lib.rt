@@ -12,19 +12,42 @@
 //! ```
 #![tactic(auto)]
 
+mod build;
 mod builder;
+mod clone;
+mod figures;
 mod fits;
+mod insert;
+mod laws;
 mod pair;
+pub mod persistence;
+mod queries;
 mod runs;
-mod search;
+mod sorted;
 mod trie;
-mod watched;
 
 pub use builder::CedarBuilder;
-pub use cedar_table::{CedarError, DefaultLayout, Layout, Ticks};
+pub use cedar_format::{
+    CedarPersistenceError, Watched, one_table_for_its_bytes, well_formed_tables_pass,
+};
+pub use cedar_table::{CedarError, DefaultLayout, Layout, ReducedLayout, Ticks};
+// Laws of the tree that all answers come from, for whoever proves something of a dictionary's callers.
+pub use cedar_tree::{
+    cut_undoes_put, front_is_exact, keys_come_before_extensions, predict_is_part_of_walk,
+    walk_ascends, walk_is_map,
+};
+pub use figures::MemoryStats;
+pub use laws::{loaded_files_save_again, saved_tables_load_again, sorted_is_stored_in_turn};
+pub use queries::counted::CountedPrefixIter;
+pub use queries::entries::{Entries, EntryError, Utf8Entries};
+pub use queries::predict::PrefixPredictIter;
+pub use queries::prefix::PrefixIter;
+pub use queries::walked::Walked;
 pub use runs::{Answer, Call, run_calls};
-pub use trie::{Cedar, Trie};
-pub use watched::Watched;
+pub use trie::{Cedar, ReducedCedar, Trie};
+
+/// How many bytes a load may ask of memory, if nothing else is said.
+pub const DEFAULT_LOAD_MEMORY_LIMIT: usize = 536870912;
 
 /// The least value that can be stored.
 pub const MIN_VALUE: i32 = 0;

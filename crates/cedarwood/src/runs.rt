@@ -42,7 +42,7 @@ pub fn run_calls<L: Layout, const SLOTS: usize, A: Allocator + Copy>(
     alloc: A,
     calls: &[Call<'_>],
 ) -> Result<Vec<Answer, A>, AllocError>
-    ensures run { IfOk result (λ answers. IsRun trie.old.state calls.now answers.items trie.new.state) }
+    ensures run { IfOk result (λ answers. IsRun L.kind SLOTS trie.old calls.now answers.items trie.new) }
     ensures refused { OnErr result (trie.new ≡ trie.old) }
 {
     let mut answers = Vec::with_capacity(alloc, calls.len())?;
@@ -58,7 +58,7 @@ fn make_call<L: Layout, const SLOTS: usize, A: Allocator + Copy>(
     alloc: A,
     call: &Call<'_>,
 ) -> Answer
-    ensures { IsStep trie.old.state call.now result trie.new.state }
+    ensures { IsStep L.kind SLOTS trie.old call.now result trie.new }
 {
     match call {
         Call::New { settings } => Answer::New(trie.renew(alloc, *settings)),

@@ -1,17 +1,24 @@
 //! The dictionary and its calls.
 
 ghost use Rattle.std.specs.Prelude.{◌≡◌, ◌⊎◌, ℕ, ◌+◌, ◌-◌, ◌*◌, ◌/◌, ◌<◌, ◌≤◌, ◌==◌, [], ◌∷◌, length, true, false, None, IsSome, IsOk, IfOk, IfErr, OnOk, OnErr, IfSome, IsTrue, ◌↔◌, pos};
-ghost use Rattle.cedar_table.specs.Places.{IsSlotLimit};
+ghost use Rattle.cedar_table.specs.Table.Layouts.{default_layout, reduced_layout};
+ghost use Rattle.cedar_table.specs.Meaning.Marks.{MarksCut, MarksPut};
+ghost use Rattle.cedar_slots.specs.Places.{IsSlotLimit};
+ghost use Rattle.cedar_table.specs.Bulk.Sorted.{entries_of};
+ghost use Rattle.cedar_table.specs.Bulk.SortedMarks.{SortedMarks};
 ghost use Rattle.cedar_tree.specs.Tree.{empty_tree, has_label, number_at, IsSound};
-ghost use Rattle.cedar_tree.specs.Queries.{exact, used, walk};
+ghost use Rattle.cedar_tree.specs.Queries.{asc, exact, prefixes, used, walk};
 ghost use Rattle.cedar_tree.specs.State.{stored, erased};
-ghost use Rattle.cedarwood.specs.Dictionary.{first_bytes, Grows};
+ghost use Rattle.cedarwood.specs.Dictionary.{capacity_after, first_bytes, Grows, IsValid};
 ghost use Rattle.cedarwood.specs.Fault.{fault, value_fault, IsShortage};
+ghost use Rattle.cedarwood.specs.SortedInput.{sorted_fault};
+ghost use Rattle.cedarwood.specs.Updates.{IsUpdate};
 
 use crate::builder::CedarBuilder;
 use crate::pair::check_pair;
-use crate::search::uncounted;
-use crate::{CedarError, DefaultLayout, Layout, Ticks};
+use crate::queries::exact::uncounted;
+use crate::sorted::{byte_pairs, check_sorted};
+use crate::{CedarError, DefaultLayout, Layout, ReducedLayout, Ticks};
 use cedar_table::Table;
 use std::alloc::Allocator;
 use std::marker::{Brand, Model};
@@ -20,19 +27,25 @@ use std::sync::ledger::{Blank, Ledger};
 /// A mutable dictionary from byte strings to whole numbers, kept as a double-array trie of `SLOTS` slots at most (a
 /// power of two from 256 to 2^30).
 ///
-/// A contract sees its state, the labelled tree that its answers come from and whether the labels of each node ascend; how
-/// many failed searches close a block; and how many slots are in use and there are.
+/// A contract sees its state, the labelled tree that its answers come from and whether the labels of each node ascend; the
+/// tree with just those numbers that have slots of their own; how many failed searches close a block; how many slots are in
+/// use and there are; and the table, which is what a file has of it.
 #[derive(Drop)]
 pub struct Trie<L: Layout, const SLOTS: usize, A: Allocator> {
-    table: Table<L, SLOTS, A>,
+    pub(crate) table: Table<L, SLOTS, A>,
 }
 
 /// The dictionary by default: a number takes a slot of its own, and there may be 2^30 slots.
 pub type Cedar<A> = Trie<DefaultLayout, 1073741824, A>;
 
+/// The dictionary of fewer slots: the number of a key stands in its node's own slot, until a longer key goes
+/// through that node.
+pub type ReducedCedar<A> = Trie<ReducedLayout, 1073741824, A>;
+
 impl<L: Layout, const SLOTS: usize, A: Allocator> Model for Trie<L, SLOTS, A> {
-    ghost use Rattle.cedar_table.specs.TableFields.{capacity_of, fields, size_of};
-    ghost use Rattle.cedar_table.specs.WellFormed.{IsWellFormed, tree_of};
+    ghost use Rattle.cedar_table.specs.Meaning.Marks.{marks};
+    ghost use Rattle.cedar_table.specs.Table.TableFields.{capacity_of, fields, size_of};
+    ghost use Rattle.cedar_table.specs.Meaning.WellFormed.{IsWellFormed, tree_of};
     ghost use Rattle.cedarwood.specs.Dictionary.{Dictionary, dictionary_code};
 
     ghost Value = { Dictionary };
@@ -41,9 +54,11 @@ impl<L: Layout, const SLOTS: usize, A: Allocator> Model for Trie<L, SLOTS, A> {
 
     ghost view = { λ t. record {
       state = record { tree = tree_of (fields t.table); ordered = (fields t.table).ordered };
+      marked = marks (fields t.table);
       max_trial = (fields t.table).places.blocks.max_trial;
       size = size_of (fields t.table);
       capacity = capacity_of (fields t.table);
+      table = fields t.table;
     } };
 
     ghost invariant = { λ t. IsWellFormed SLOTS (fields t.table) };
@@ -58,6 +73,7 @@ impl<A: Allocator + Copy> Trie<DefaultLayout, 1073741824, A> {
     /// `Memory` where a request was refused.
     pub fn new(alloc: A) -> Result<Self, CedarError>
         ensures empty { IfOk result (λ cedar. cedar.state.tree ≡ empty_tree) }
+        ensures unmarked { IfOk result (λ cedar. cedar.marked ≡ empty_tree) }
         ensures settings { IfOk result (λ cedar. cedar.state.ordered ≡ true) }
         ensures max_trial { IfOk result (λ cedar. cedar.max_trial ≡ pos 1) }
         ensures size { IfOk result (λ cedar. (cedar.size ≡ 256) × (cedar.capacity ≡ 256)) }
@@ -65,6 +81,42 @@ impl<A: Allocator + Copy> Trie<DefaultLayout, 1073741824, A> {
         ensures fits { IfOk result (λ _. CedarFitsInMemory A.row A.Allocator) }
     {
         Self::builder().build(alloc)
+    }
+
+    /// A dictionary of some pairs, whose keys ascend by bytes, with the settings by default. It takes its memory from `alloc`.
+    ///
+    /// # Errors
+    /// As [`CedarBuilder::from_sorted_bytes`].
+    pub fn from_sorted_bytes(alloc: A, pairs: &[(&[u8], i32)]) -> Result<Self, CedarError>
+        ensures faulty { IfSome (sorted_fault pairs.now) (λ e. result ≡ Err e) }
+        ensures tree { IfOk result (λ cedar. cedar.state.tree ≡ asc (entries_of pairs.now)) }
+        ensures marks { IfOk result (λ cedar. cedar.marked ≡ asc (entries_of pairs.now)) }
+        ensures settings { IfOk result (λ cedar. cedar.state.ordered ≡ true) }
+        ensures max_trial { IfOk result (λ cedar. cedar.max_trial ≡ pos 1) }
+        ensures size { IfOk result (λ cedar. (n : ℕ) × (n ≤ length (prefixes (asc (entries_of pairs.now)))) × (cedar.size ≡ 256 + 256 * n) × (cedar.capacity ≡ capacity_after n 256 256)) }
+        ensures refused { sorted_fault pairs.now ≡ None → IfErr result (λ e.
+            (e ≡ CedarError.Memory) ⊎ ((e ≡ CedarError.SlotLimit) × (1073741824 ≤ 256 * length (prefixes (asc (entries_of pairs.now)))))) }
+        ensures fits { IfOk result (λ _. CedarFitsInMemory A.row A.Allocator) }
+    {
+        Self::builder().from_sorted_bytes(alloc, pairs)
+    }
+
+    /// `from_sorted_bytes` for text keys.
+    ///
+    /// # Errors
+    /// As [`CedarBuilder::from_sorted`].
+    pub fn from_sorted(alloc: A, pairs: &[(&str, i32)]) -> Result<Self, CedarError>
+        ensures faulty { IfSome (sorted_fault pairs.now) (λ e. result ≡ Err e) }
+        ensures tree { IfOk result (λ cedar. cedar.state.tree ≡ asc (entries_of pairs.now)) }
+        ensures marks { IfOk result (λ cedar. cedar.marked ≡ asc (entries_of pairs.now)) }
+        ensures settings { IfOk result (λ cedar. cedar.state.ordered ≡ true) }
+        ensures max_trial { IfOk result (λ cedar. cedar.max_trial ≡ pos 1) }
+        ensures size { IfOk result (λ cedar. (n : ℕ) × (n ≤ length (prefixes (asc (entries_of pairs.now)))) × (cedar.size ≡ 256 + 256 * n) × (cedar.capacity ≡ capacity_after n 256 256)) }
+        ensures refused { sorted_fault pairs.now ≡ None → IfErr result (λ e.
+            (e ≡ CedarError.Memory) ⊎ ((e ≡ CedarError.SlotLimit) × (1073741824 ≤ 256 * length (prefixes (asc (entries_of pairs.now)))))) }
+        ensures fits { IfOk result (λ _. CedarFitsInMemory A.row A.Allocator) }
+    {
+        Self::builder().from_sorted(alloc, pairs)
     }
 
     /// The settings by default.
@@ -84,6 +136,7 @@ impl<L: Layout, const SLOTS: usize, A: Allocator + Copy> Trie<L, SLOTS, A> {
     pub fn with(alloc: A, builder: CedarBuilder) -> Result<Self, CedarError>
         requires limit { IsSlotLimit SLOTS }
         ensures empty { IfOk result (λ trie. trie.state.tree ≡ empty_tree) }
+        ensures unmarked { IfOk result (λ trie. trie.marked ≡ empty_tree) }
         ensures ordered { IfOk result (λ trie. trie.state.ordered ≡ builder.ordered) }
         ensures max_trial { IfOk result (λ trie. trie.max_trial ≡ builder.max_trial) }
         ensures size { IfOk result (λ trie. (trie.size ≡ 256) × (trie.capacity ≡ 256)) }
@@ -94,12 +147,73 @@ impl<L: Layout, const SLOTS: usize, A: Allocator + Copy> Trie<L, SLOTS, A> {
         })
     }
 
+    /// A dictionary of some pairs, whose keys ascend by bytes, with the settings of a builder, of any layout and limit of
+    /// slots. Each node gets all of its slots at once. Its labels ascend at first, whatever the settings.
+    ///
+    /// # Errors
+    /// The first fault of the input: each pair's own of `EmptyKey`, `NulByte` and `InvalidValue`, in this order, and then
+    /// `DuplicateKey` or `KeysNotSorted` where its key isn't above the one before it. Without one, `Memory` where a request
+    /// was refused, and `SlotLimit` where the limit of slots allows no further block.
+    pub fn from_sorted_bytes_with(
+        alloc: A,
+        builder: CedarBuilder,
+        pairs: &[(&[u8], i32)],
+    ) -> Result<Self, CedarError>
+        requires limit { IsSlotLimit SLOTS }
+        ensures faulty { IfSome (sorted_fault pairs.now) (λ e. result ≡ Err e) }
+        ensures tree { IfOk result (λ trie. trie.state.tree ≡ asc (entries_of pairs.now)) }
+
+        // Where a number may stand in its node's own slot, just those of keys that begin longer ones have slots of their own; by
+        // default all have.
+        ensures marks { IfOk result (λ trie. SortedMarks L.kind (asc (entries_of pairs.now)) trie.marked) }
+        ensures ordered { IfOk result (λ trie. trie.state.ordered ≡ builder.ordered) }
+        ensures max_trial { IfOk result (λ trie. trie.max_trial ≡ builder.max_trial) }
+
+        // It makes one block at most for each distinct nonempty prefix of a key: so slots are wanted only by many of these.
+        ensures size { IfOk result (λ trie. (n : ℕ) × (n ≤ length (prefixes (asc (entries_of pairs.now)))) × (trie.size ≡ 256 + 256 * n) × (trie.capacity ≡ capacity_after n 256 256)) }
+        ensures refused { sorted_fault pairs.now ≡ None → IfErr result (λ e.
+            (e ≡ CedarError.Memory) ⊎ ((e ≡ CedarError.SlotLimit) × (SLOTS ≤ 256 * length (prefixes (asc (entries_of pairs.now)))))) }
+    {
+        check_sorted(pairs)?;
+        Ok(Trie {
+            table: Table::build_sorted(alloc, builder.ordered, builder.max_trial, pairs)?,
+        })
+    }
+
+    /// `from_sorted_bytes_with` for text keys. Once all pairs are tested, it asks for memory for a list of the keys' places besides,
+    /// and gives it back at the end.
+    ///
+    /// # Errors
+    /// As [`Trie::from_sorted_bytes_with`].
+    pub fn from_sorted_with(
+        alloc: A,
+        builder: CedarBuilder,
+        pairs: &[(&str, i32)],
+    ) -> Result<Self, CedarError>
+        requires limit { IsSlotLimit SLOTS }
+        ensures faulty { IfSome (sorted_fault pairs.now) (λ e. result ≡ Err e) }
+        ensures tree { IfOk result (λ trie. trie.state.tree ≡ asc (entries_of pairs.now)) }
+        ensures marks { IfOk result (λ trie. SortedMarks L.kind (asc (entries_of pairs.now)) trie.marked) }
+        ensures ordered { IfOk result (λ trie. trie.state.ordered ≡ builder.ordered) }
+        ensures max_trial { IfOk result (λ trie. trie.max_trial ≡ builder.max_trial) }
+        ensures size { IfOk result (λ trie. (n : ℕ) × (n ≤ length (prefixes (asc (entries_of pairs.now)))) × (trie.size ≡ 256 + 256 * n) × (trie.capacity ≡ capacity_after n 256 256)) }
+        ensures refused { sorted_fault pairs.now ≡ None → IfErr result (λ e.
+            (e ≡ CedarError.Memory) ⊎ ((e ≡ CedarError.SlotLimit) × (SLOTS ≤ 256 * length (prefixes (asc (entries_of pairs.now)))))) }
+    {
+        check_sorted(pairs)?;
+        let pairs = byte_pairs(alloc, pairs)?;
+        Ok(Trie {
+            table: Table::build_sorted(alloc, builder.ordered, builder.max_trial, &pairs)?,
+        })
+    }
+
     /// Puts an empty dictionary with the settings of a builder in the place of this one.
     ///
     /// # Errors
     /// `Memory` where a request was refused. Then this one stays.
     pub fn renew(&mut self, alloc: A, builder: CedarBuilder) -> Result<(), CedarError>
         ensures empty { OnOk result (self.new.state.tree ≡ empty_tree) }
+        ensures unmarked { OnOk result (self.new.marked ≡ empty_tree) }
         ensures ordered { OnOk result (self.new.state.ordered ≡ builder.ordered) }
         ensures max_trial { OnOk result (self.new.max_trial ≡ builder.max_trial) }
         ensures size { OnOk result ((self.new.size ≡ 256) × (self.new.capacity ≡ 256)) }
@@ -120,8 +234,14 @@ impl<L: Layout, const SLOTS: usize, A: Allocator + Copy> Trie<L, SLOTS, A> {
     /// error the dictionary holds what it held. A key that is held takes no memory.
     pub fn update_bytes(&mut self, key: &[u8], value: i32) -> Result<(), CedarError>
         ensures faulty { IfSome (fault key.now value) (λ e. result ≡ Err e) }
+        ensures unmoved { IsSome (fault key.now value) → Grows 0 self.old self.new }
         ensures ok { OnOk result (self.new.state ≡ stored self.old.state key.now value) }
         ensures err { OnErr result (self.new.state ≡ self.old.state) }
+
+        // Where a number may stand in its node's own slot, the numbers of the key's fronts move into slots, and the key's has one if
+        // longer keys are held; all others stay where they are. A refused update moves none.
+        ensures marks { OnOk result (L.kind ≡ reduced_layout → MarksPut self.old.state.tree self.old.marked self.new.marked key.now) }
+        ensures marks_stay { OnErr result (self.new.marked ≡ self.old.marked) }
 
         // Without a fault it is refused only for memory or slots, and then the key isn't held.
         ensures refused { fault key.now value ≡ None → IfErr result (λ e.
@@ -136,11 +256,14 @@ impl<L: Layout, const SLOTS: usize, A: Allocator + Copy> Trie<L, SLOTS, A> {
         ensures spare { 256 * length key.now ≤ self.old.capacity - self.old.size → fault key.now value ≡ None → IsOk result }
         ensures over { IsSome (number_at self.old.state.tree key.now) → Grows 0 self.old self.new }
 
-        // A new first byte alone makes a block, or is refused, only where no slot outside block 0 is free: there, each is held
-        // that isn't the root's or one of its children's.
+        // A new first byte alone makes a block, or is refused, only where its number takes a slot of its own and no slot outside
+        // block 0 is free: there, each is held that isn't the root's or one of its children's.
         ensures one_byte { (b : ℕ) → key.now ≡ b ∷ [] → has_label self.old.state.tree.children b ≡ false → fault key.now value ≡ None
-            → (IsOk result × Grows 0 self.old self.new) ⊎ (self.old.size + first_bytes self.old.state.tree ≡ used self.old.state.tree + 255) }
+            → (IsOk result × Grows 0 self.old self.new) ⊎ ((L.kind ≡ default_layout) × (self.old.size + first_bytes self.old.state.tree ≡ used self.old.state.tree + 255)) }
         ensures max_trial { self.new.max_trial ≡ self.old.max_trial }
+
+        // All of this in one word.
+        ensures updated { IsUpdate L.kind SLOTS self.old self.new key.now value result }
     {
         check_pair(key, value)?;
         self.table.update(key, value)
@@ -148,15 +271,7 @@ impl<L: Layout, const SLOTS: usize, A: Allocator + Copy> Trie<L, SLOTS, A> {
 
     /// `update_bytes` for a text key.
     pub fn update(&mut self, key: &str, value: i32) -> Result<(), CedarError>
-        ensures faulty { IfSome (fault key.now value) (λ e. result ≡ Err e) }
-        ensures ok { OnOk result (self.new.state ≡ stored self.old.state key.now value) }
-        ensures err { OnErr result (self.new.state ≡ self.old.state) }
-        ensures refused { fault key.now value ≡ None → IfErr result (λ e.
-            IsShortage e × (number_at self.old.state.tree key.now ≡ None)) }
-        ensures memory { result ≡ Err CedarError.Memory → (self.new.size ≡ self.new.capacity) × (self.new.capacity < SLOTS) }
-        ensures limit { result ≡ Err CedarError.SlotLimit → self.new.size ≡ SLOTS }
-        ensures spare { 256 * length key.now ≤ self.old.capacity - self.old.size → fault key.now value ≡ None → IsOk result }
-        ensures max_trial { self.new.max_trial ≡ self.old.max_trial }
+        ensures { IsUpdate L.kind SLOTS self.old self.new key.now value result }
     {
         self.update_bytes(key.as_bytes(), value)
     }
@@ -165,6 +280,7 @@ impl<L: Layout, const SLOTS: usize, A: Allocator + Copy> Trie<L, SLOTS, A> {
     pub fn erase_bytes(&mut self, key: &[u8]) -> bool
         ensures answer { IsTrue result ↔ IsSome (number_at self.old.state.tree key.now) }
         ensures after { self.new.state ≡ erased self.old.state key.now }
+        ensures marks { MarksCut self.old.marked self.new.marked key.now }
         ensures size { (self.new.size ≡ self.old.size) × (self.new.capacity ≡ self.old.capacity) }
         ensures max_trial { self.new.max_trial ≡ self.old.max_trial }
     {
@@ -175,6 +291,7 @@ impl<L: Layout, const SLOTS: usize, A: Allocator + Copy> Trie<L, SLOTS, A> {
     pub fn erase(&mut self, key: &str) -> bool
         ensures answer { IsTrue result ↔ IsSome (number_at self.old.state.tree key.now) }
         ensures after { self.new.state ≡ erased self.old.state key.now }
+        ensures marks { MarksCut self.old.marked self.new.marked key.now }
         ensures size { (self.new.size ≡ self.old.size) × (self.new.capacity ≡ self.old.capacity) }
         ensures max_trial { self.new.max_trial ≡ self.old.max_trial }
     {
@@ -216,7 +333,8 @@ impl<L: Layout, const SLOTS: usize, A: Allocator + Copy> Trie<L, SLOTS, A> {
 
     /// How many keys are held.
     pub fn len(&self) -> usize
-        ensures { result ≡ length (walk self.now.state.tree) }
+        ensures count { result ≡ length (walk self.now.state.tree) }
+        ensures valid { IsValid SLOTS self.now }
     {
         self.table.entries()
     }
@@ -228,9 +346,12 @@ impl<L: Layout, const SLOTS: usize, A: Allocator + Copy> Trie<L, SLOTS, A> {
         self.len() == 0
     }
 
-    /// How many slots are held: one for the root, one for each distinct nonempty prefix of keys, and one for each key.
+    /// How many slots are held: one for the root, one for each distinct nonempty prefix of keys, and one for each key whose
+    /// number has a slot of its own, which by default is each.
     pub fn used_node_slots(&self) -> usize
-        ensures { result ≡ used self.now.state.tree }
+        ensures marked { result ≡ 1 + length (prefixes self.now.state.tree) + length (walk self.now.marked) }
+        ensures by_default { L.kind ≡ default_layout → result ≡ used self.now.state.tree }
+        ensures all_marked { L.kind ≡ default_layout → self.now.marked ≡ self.now.state.tree }
     {
         self.table.used_node_slots()
     }

@@ -1,6 +1,8 @@
-//! Tests of scripts: each form of a line, devices that fail, memory that is refused.
+//! Tests of scripts: each form of a line, devices that fail, memory that is refused, slots that run out.
 #![tactic(auto)]
 
+#[cfg(test)]
+mod conflicts;
 #[cfg(test)]
 mod devices;
 #[cfg(test)]
@@ -9,5 +11,9 @@ mod memory;
 mod runs;
 #[cfg(test)]
 mod script;
+#[cfg(test)]
+mod slots;
+#[cfg(test)]
+mod walks;
 #[cfg(test)]
 mod watching;

@@ -1,6 +1,6 @@
 //! Runs of scripts over devices that fail where they are told to, and one script to run.
 use cedar_cli::{ScriptError, run_script};
-use cedarwood::{Cedar, CedarError, Layout, Trie, Watched};
+use cedarwood::{CedarBuilder, CedarError, DefaultLayout, Layout, Trie, Watched};
 use std::alloc::{AllocError, Allocator, Global};
 use test_devices::{Ending, FailingReader, FailingWriter};
 
@@ -137,11 +137,22 @@ pub(crate) fn run<L: Layout, const SLOTS: usize, A: Allocator + Copy>(
     })
 }
 
-/// Runs a script within limits on a new dictionary.
-pub(crate) fn run_alone(alloc: Global, script: &[u8], limits: Limits) -> Result<Ended, CedarError> {
-    let mut cedar = Cedar::new(alloc)?;
-    match run(alloc, alloc, &mut cedar, script, limits) {
+/// Runs a script within limits on a new dictionary of a layout, with these settings.
+#[tactic(auto, using(cedarwood::proofs::DictionaryLemmas::default_limit))]
+pub(crate) fn run_new<L: Layout>(
+    alloc: Global,
+    builder: CedarBuilder,
+    script: &[u8],
+    limits: Limits,
+) -> Result<Ended, CedarError> {
+    let mut trie = Trie::<L, 1073741824, Global>::with(alloc, builder)?;
+    match run(alloc, alloc, &mut trie, script, limits) {
         Ok(ended) => Ok(ended),
         Err(AllocError) => Err(CedarError::Memory),
     }
+}
+
+/// Runs a script within limits on a new dictionary.
+pub(crate) fn run_alone(alloc: Global, script: &[u8], limits: Limits) -> Result<Ended, CedarError> {
+    run_new::<DefaultLayout>(alloc, CedarBuilder::new(), script, limits)
 }

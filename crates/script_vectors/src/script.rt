@@ -1,9 +1,12 @@
 //! The script language: each form of a line, and its answer.
-use crate::runs::{ALL, run_alone};
+use crate::runs::{ALL, run_alone, run_new};
+use cedarwood::{CedarBuilder, DefaultLayout, Layout, ReducedLayout};
+use std::alloc::Global;
+use std::process::Abort;
 use std::test::Fail;
 
 // Scripts of several lines, with their answers.
-const SCRIPTS: [(&str, &str); 10] = [
+const SCRIPTS: [(&str, &str); 11] = [
     ("", ""),
     (
         "+ 61 1\n= 61\n- 61\n= 61\n- 61\n",
@@ -16,7 +19,7 @@ const SCRIPTS: [(&str, &str); 10] = [
     ),
     ("= .\n- 00\n= 00\n", "none\nabsent\nnone\n"),
     // A bad line changes nothing.
-    ("+ 61 1\n< 61\n= 61\n", "ok\nbad line\n1 1\n"),
+    ("+ 61 1\n@ 61\n= 61\n", "ok\nbad line\n1 1\n"),
     // An empty line is one, also before the end.
     ("\n\n= 61\n\n", "bad line\nbad line\nnone\nbad line\n"),
     // Hexadecimal digits of both cases.
@@ -31,14 +34,18 @@ const SCRIPTS: [(&str, &str); 10] = [
         "+ 61 1\n+ 61 -1\n= 61\n",
         "ok\nrefused InvalidValue -1\n1 1\n",
     ),
+    // Tokens: the longest key at each place, or one byte.
+    (
+        "+ 61 1\n+ 616263 3\n/ 6162616263\n/ .\n",
+        "ok\nok\n0:1:1 1:1:- 2:3:3\nnone\n",
+    ),
     // A last line needs no newline.
     ("+ 61 2147483645\n= 61", "ok\n2147483645 1\n"),
 ];
 
-#[test]
-fn scripts(rt: HostRuntime) -> Result<(), Fail> {
+fn expect_answers<L: Layout>(rt: &impl Abort, alloc: Global) -> Result<(), Fail> {
     for (script, answers) in SCRIPTS {
-        let ended = run_alone(rt.alloc(), script.as_bytes(), ALL)?;
+        let ended = run_new::<L>(alloc, CedarBuilder::new(), script.as_bytes(), ALL)?;
         assert_eq!(rt; ended.outcome, Ok(()), "after {script}");
         assert_eq!(rt;
             ended.written.as_slice(),
@@ -49,8 +56,14 @@ fn scripts(rt: HostRuntime) -> Result<(), Fail> {
     Ok(())
 }
 
+#[test]
+fn scripts(rt: HostRuntime) -> Result<(), Fail> {
+    expect_answers::<DefaultLayout>(&rt, rt.alloc())?;
+    expect_answers::<ReducedLayout>(&rt, rt.alloc())
+}
+
 // One line alone, with its answer.
-const LINES: [(&str, &str); 22] = [
+const LINES: [(&str, &str); 24] = [
     // Faults in their order: the key's before the value's.
     ("+ . -1", "refused EmptyKey\n"),
     ("+ 6100 -1", "refused NulByte 1\n"),
@@ -76,6 +89,8 @@ const LINES: [(&str, &str); 22] = [
     ("= 61", "none\n"),
     ("= .", "none\n"),
     ("= 00", "none\n"),
+    ("/ .", "none\n"),
+    ("/ 00fF", "0:1:- 1:1:-\n"),
 ];
 
 #[test]
@@ -89,7 +104,7 @@ fn lines(rt: HostRuntime) -> Result<(), Fail> {
 }
 
 // Lines that are none of the forms.
-const BAD_LINES: [&[u8]; 51] = [
+const BAD_LINES: [&[u8]; 54] = [
     // Values beyond an i32, or that are no number.
     b"+ 61 2147483648",
     b"+ 61 -2147483649",
@@ -128,6 +143,8 @@ const BAD_LINES: [&[u8]; 51] = [
     b" = 61",
     b"- 61 1",
     b"=61",
+    b"/61",
+    b"/ 6",
     b"-61",
     b"+61 1",
     // Other bytes that are often taken for spaces, or for the end of a line.
@@ -140,6 +157,7 @@ const BAD_LINES: [&[u8]; 51] = [
     b"+",
     b"-",
     b"=",
+    b"/",
     b"* ",
     b"x",
     b"# 61",

@@ -1,14 +1,13 @@
 -- A table of the one key 97, made slot by slot: the root's slot, that of the byte and that of the number are held.
-use Rattle.std.proofs.Common.{◌≡◌, ℕ, ◌<◌, ◌≤◌, ◌⊎◌, List, [], ◌∷◌, sym, ◌∙◌, ap, refl, subst, inl, inr, arith, Some, None, ℤ}
+use Rattle.std.proofs.Common.{◌≡◌, ℕ, ◌<◌, ◌⊎◌, [], ◌∷◌, sym, ◌∙◌, ap, refl, subst, inl, inr, arith, Some, ℤ}
 use Rattle.std.specs.Prelude.{bit_xor, pos, negsuc}
 use Rattle.std.proofs.lemmas.Bool.{cases_eq}
-use Rattle.cedar_tree.specs.Tree.{none}
 use Rattle.table_tests.specs.OneKey.{one_key}
 use Rattle.cedar_table.specs.declared.layout.Stored.{Stored}
 use Rattle.cedar_table.specs.declared.layout.Stored.TheVariants.{AtBase}
-use Rattle.cedar_table.specs.Cells.{Cells, Held, InfoWritten, SameAt, SameHeld, Takes}
-use Rattle.cedar_table.specs.Family.{base_in, below, Among, valued, top, Family, Node, InRange}
-use Rattle.cedar_table.specs.Meaning.{Stands}
+use Rattle.cedar_table.specs.Table.Cells.{Cells, Held, InfoWritten, SameAt, SameHeld, Takes}
+use Rattle.cedar_table.specs.Meaning.Family.{base_in, below, Among, valued, top, Family, Node, InRange}
+use Rattle.cedar_table.specs.Meaning.StandsFor.{Stands}
 
 -- what the three held slots have
 pub record OneKey (T : Cells) (v : ℤ) : Type 0 where

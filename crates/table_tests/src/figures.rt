@@ -1,8 +1,8 @@
 //! The table's fields, as the original crate has them.
 
 ghost use Rattle.std.specs.Prelude.{◌≡◌, ◌<◌};
-ghost use Rattle.cedar_table.specs.Places.{IsTable};
-ghost use Rattle.cedar_table.specs.TableFields.{fields};
+ghost use Rattle.cedar_slots.specs.Places.{IsTable};
+ghost use Rattle.cedar_table.specs.Table.TableFields.{fields};
 
 use crate::steps::{block, give, heads, node, take, take_one, take_some};
 use cedar_table::{CedarError, DefaultLayout, Table, Ticks};

@@ -3,9 +3,9 @@
 
 ghost use Rattle.std.specs.Prelude.{◌≡◌, ◌==◌, ◌<◌, IfOk, IsTrue, position};
 ghost use Rattle.cedar_tree.specs.Tree.{IsKey};
-ghost use Rattle.cedar_table.specs.Places.{IsSlotLimit};
-ghost use Rattle.cedar_table.specs.TableFields.{fields};
-ghost use Rattle.cedar_table.specs.WellFormed.{IsWellFormed};
+ghost use Rattle.cedar_slots.specs.Places.{IsSlotLimit};
+ghost use Rattle.cedar_table.specs.Table.TableFields.{fields};
+ghost use Rattle.cedar_table.specs.Meaning.WellFormed.{IsWellFormed};
 
 use cedar_table::{CedarError, DefaultLayout, Table, Ticks};
 use std::alloc::Global;
@@ -15,7 +15,7 @@ use std::sync::ledger::{Blank, Ledger};
 use std::test::Fail;
 
 /// Whether some bytes are a key: one or more, and no byte 0.
-fn is_key(bytes: &[u8]) -> bool
+pub fn is_key(bytes: &[u8]) -> bool
     ensures { IsTrue result → IsKey bytes.now }
 {
     !bytes.is_empty() && nul_position(bytes).is_none()
@@ -29,7 +29,7 @@ fn nul_position(bytes: &[u8]) -> Option<usize>
 }
 
 /// Puts a number of two digits at a key.
-fn put<const SLOTS: usize>(
+pub fn put<const SLOTS: usize>(
     table: &mut Table<DefaultLayout, SLOTS, Global>,
     key: &[u8],
     value: u8,

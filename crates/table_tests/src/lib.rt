@@ -2,11 +2,17 @@
 #![tactic(auto, using(crate::proofs::Limits::limit_256, crate::proofs::Limits::limit_512, crate::proofs::Limits::limit_1024, crate::proofs::Limits::limit_4096, crate::proofs::Limits::limit_65536))]
 
 #[cfg(test)]
+mod checked;
+#[cfg(test)]
+mod checks;
+#[cfg(test)]
 mod figures;
 #[cfg(test)]
 mod keys;
 #[cfg(test)]
 mod lookup;
+#[cfg(test)]
+mod reduced;
 #[cfg(test)]
 mod refused;
 #[cfg(test)]

@@ -2,8 +2,8 @@
 
 ghost use Rattle.std.specs.Prelude.{◌≡◌, ◌<◌, IfOk, pos};
 ghost use Rattle.cedar_tree.specs.Tree.{Tree};
-ghost use Rattle.cedar_table.specs.Meaning.{Stands};
-ghost use Rattle.cedar_table.specs.TableFields.{cells, fields, size_of};
+ghost use Rattle.cedar_table.specs.Meaning.StandsFor.{Stands};
+ghost use Rattle.cedar_table.specs.Table.TableFields.{cells, fields, size_of};
 ghost use Rattle.table_tests.specs.OneKey.{one_key};
 
 use cedar_table::{CedarError, DefaultLayout, NInfoRecord, Table, Ticks};

@@ -1,8 +1,8 @@
 //! Growth that is refused memory.
 
 ghost use Rattle.std.specs.Prelude.{◌≡◌, ◌<◌};
-ghost use Rattle.cedar_table.specs.Places.{IsTable};
-ghost use Rattle.cedar_table.specs.TableFields.{fields};
+ghost use Rattle.cedar_slots.specs.Places.{IsTable};
+ghost use Rattle.cedar_table.specs.Table.TableFields.{fields};
 
 use crate::steps::{all_fields, take};
 use cedar_table::{CedarError, DefaultLayout, Table, Ticks};

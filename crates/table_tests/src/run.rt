@@ -1,8 +1,8 @@
 //! A long run of changes beside a plain set of held slots.
 
 ghost use Rattle.std.specs.Prelude.{◌≡◌, ◌<◌};
-ghost use Rattle.cedar_table.specs.Places.{IsTable};
-ghost use Rattle.cedar_table.specs.TableFields.{fields};
+ghost use Rattle.cedar_slots.specs.Places.{IsTable};
+ghost use Rattle.cedar_table.specs.Table.TableFields.{fields};
 
 use crate::steps::{give, take};
 use cedar_table::{CedarError, DefaultLayout, Table, Ticks};

@@ -1,8 +1,8 @@
 //! Slots taken and given back, where a test of the table allows it.
 
 ghost use Rattle.std.specs.Prelude.{◌≡◌};
-ghost use Rattle.cedar_table.specs.Places.{IsTable};
-ghost use Rattle.cedar_table.specs.TableFields.{fields};
+ghost use Rattle.cedar_slots.specs.Places.{IsTable};
+ghost use Rattle.cedar_table.specs.Table.TableFields.{fields};
 
 use cedar_table::{CedarError, DefaultLayout, Table, Ticks};
 use std::alloc::{AllocError, Allocator, Global};

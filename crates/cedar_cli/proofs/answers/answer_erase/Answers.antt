@@ -2,6 +2,8 @@ use Rattle.std.proofs.Common.{Some}
 use Rattle.std.specs.Prelude.{codes}
 use Rattle.cedarwood.specs.WatchedDevice.{device_of}
 use Rattle.cedar_cli.specs.declared.command.Verb.TheVariants.{Erase}
+use Rattle.cedarwood.proofs.GrowthLemmas.{grows_none}
+use Rattle.cedar_cli.proofs.BlockCounts.{same_blocks}
 use Rattle.cedar_cli.proofs.Bytes.{on_err}
 use Rattle.cedar_cli.proofs.Orders.{erased_reply, absent_reply, Leaves-front, erased_written, absent_written}
 use Rattle.cedar_cli.proofs.answers.answer_erase.Goals as goal
@@ -34,3 +36,12 @@ returns-clause-ok g c =
         | in-None+in_ok-write_whole-in-None w ↦ rw w.writer-is (absent_written s key held (g.W.Write.contents (device_of w.write_whole-in-None.new.writer)) w.in-None.ensures.answer w.in_ok-write_whole-in-None.ensures.ok)
       ],
     )
+
+pub returns-in_err-write_whole-in-Some-clause-blocks : goal.returns-in_err-write_whole-in-Some-clause-blocks
+returns-in_err-write_whole-in-Some-clause-blocks g c = grows_none c.args.trie.now
+
+pub returns-in_err-write_whole-in-None-clause-blocks : goal.returns-in_err-write_whole-in-None-clause-blocks
+returns-in_err-write_whole-in-None-clause-blocks g c = grows_none c.args.trie.now
+
+pub returns-clause-blocks : goal.returns-clause-blocks
+returns-clause-blocks g c = same_blocks c.args.trie.now c.erase_bytes.new.self c.erase_bytes.ensures.size

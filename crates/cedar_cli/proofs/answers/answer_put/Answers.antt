@@ -1,16 +1,17 @@
-use Rattle.std.proofs.Common.{sym, Some, ap, subst, ◌∙◌, ◌++◌, ◌∷◌, [], ◌≡◌, None, ℤ, to_z, of_z, w32, Err}
+use Rattle.std.proofs.Common.{arith, length, sym, Some, ap, subst, ◌∙◌, ◌++◌, ◌∷◌, [], ◌≡◌, None, ℤ, to_z, of_z, w32, Err}
 use Rattle.std.proofs.lemmas.Int.{to_z-of_z}
 use Rattle.cedar_tree.specs.State.{stored}
 use Rattle.cedar_cli.specs.Script.{refusal}
 use Rattle.std.specs.Prelude.{Result}
-use Rattle.cedar_table.specs.declared.error.CedarError.{CedarError}
-use Rattle.cedar_table.specs.declared.error.CedarError.TheVariants.{SlotLimit}
+use Rattle.cedar_slots.specs.declared.error.CedarError.{CedarError}
+use Rattle.cedar_slots.specs.declared.error.CedarError.TheVariants.{Memory, SlotLimit}
 use Rattle.cedar_cli.specs.declared.script.ScriptError.TheVariants.{Write}
 use Rattle.cedarwood.specs.Fault.{fault, IsShortage}
 use Rattle.cedar_cli.specs.declared.command.Verb.TheVariants.{Put}
 use Rattle.cedarwood.specs.WatchedDevice.{device_of}
+use Rattle.cedar_cli.proofs.BlockCounts.{within_further, back_blocks, held_after}
 use Rattle.cedar_cli.proofs.Bytes.{Leaves-on_err, Obeys-on_ok}
-use Rattle.cedar_cli.proofs.Orders.{no_fault, pair_kind, refused_by, taken_back, Leaves-if_err, Leaves-unanswered, no_shortage, put_obeyed, put_refused, on_not_ok, on_not_err, write_failed, write_alone}
+use Rattle.cedar_cli.proofs.Orders.{no_fault, pair_kind, refused_by, taken_back, Leaves-if_err, Leaves-unanswered, no_shortage, put_obeyed, put_refused, on_not_ok, on_not_err, write_failed, write_alone, never_memory}
 use Rattle.cedar_cli.proofs.answers.answer_put.Goals as goal
 
 pub returns-then-is_err-clause-err : goal.returns-then-is_err-clause-err
@@ -59,7 +60,12 @@ returns-in_default g c =
       cause = λ failed. write_failed _ c.write_refusal.result Write c.write_refusal.ensures.cause failed;
       unfailed = c.write_refusal.ensures.unfailed;
       never_read = alone.0;
+      memory = λ m. absurd (never_memory _ c.write_refusal.result c.write_refusal.ensures.cause m);
       limit = λ full. absurd (alone.1 full);
+      starved = λ m. absurd (never_memory _ c.write_refusal.result c.write_refusal.ensures.cause m);
+      full = λ full. absurd (alone.1 full);
+      blocks = (let blocks = c.update_bytes.ensures.blocks in (blocks.0, blocks.1, blocks.3));
+      max_trial = c.update_bytes.ensures.max_trial;
     }
 
 pub write_refusal-requires : goal.write_refusal-requires
@@ -80,3 +86,31 @@ pub returns-in-SlotLimit-clause-limit : goal.returns-in-SlotLimit-clause-limit
 returns-in-SlotLimit-clause-limit g c =
     let full : ◌≡◌ {A = Result (Unit {0}) CedarError} (Err c.in-Err.error) (Err SlotLimit) = ap Err c.in-SlotLimit.is in
     λ _. c.in-Err.ensures.limit full
+
+pub returns-then-is_err-clause-blocks : goal.returns-then-is_err-clause-blocks
+returns-then-is_err-clause-blocks g c =
+    let key = c.args.key.now in
+    let blocks = c.update_bytes.ensures.blocks in
+    let held = held_after c.args.trie.now.state c.update_bytes.new.self.state key (to_z w32 (of_z w32 c.args.value)) c.in-Ok.ensures.ok in
+    let back = back_blocks c.exact_match_search_bytes-before.result _ c.update_bytes.new.self c.take_back.new.trie c.take_back.ensures.blocks held in
+    within_further (length key) 0 (length key) c.args.trie.now c.update_bytes.new.self c.take_back.new.trie (omega arith) (blocks.0, blocks.1, blocks.3) (0, omega arith, back)
+
+pub returns-else-is_err-clause-blocks : goal.returns-else-is_err-clause-blocks
+returns-else-is_err-clause-blocks g c = let blocks = c.update_bytes.ensures.blocks in (blocks.0, blocks.1, blocks.3)
+
+pub returns-in-Memory-clause-blocks : goal.returns-in-Memory-clause-blocks
+returns-in-Memory-clause-blocks g c = let blocks = c.update_bytes.ensures.blocks in (blocks.0, blocks.1, blocks.3)
+
+pub returns-in-SlotLimit-clause-blocks : goal.returns-in-SlotLimit-clause-blocks
+returns-in-SlotLimit-clause-blocks g c = let blocks = c.update_bytes.ensures.blocks in (blocks.0, blocks.1, blocks.3)
+
+pub returns-in-Memory-clause-memory : goal.returns-in-Memory-clause-memory
+returns-in-Memory-clause-memory g c =
+    let starved : ◌≡◌ {A = Result (Unit {0}) CedarError} (Err c.in-Err.error) (Err Memory) = ap Err c.in-Memory.is in
+    λ _. c.in-Err.ensures.memory starved
+
+pub returns-then-is_err-clause-memory : goal.returns-then-is_err-clause-memory
+returns-then-is_err-clause-memory g c = λ m. absurd (never_memory _ c.write_whole-written.result c.write_whole-written.ensures.cause m)
+
+pub returns-else-is_err-clause-memory : goal.returns-else-is_err-clause-memory
+returns-else-is_err-clause-memory g c = λ m. absurd (never_memory _ c.write_whole-written.result c.write_whole-written.ensures.cause m)

@@ -1,7 +1,8 @@
-use Rattle.std.proofs.Common.{◌≡◌, arith, length, sym, subst, ◌∙◌, ◌++◌, ◌∷◌, [], List, ℕ, append_assoc}
+use Rattle.std.proofs.Common.{ap, length-append, ◌+◌, ◌≡◌, arith, length, sym, subst, ◌∙◌, ◌++◌, ◌∷◌, [], List, ℕ, append_assoc}
 use Rattle.cedarwood.specs.WatchedDevice.{device_of}
 use Rattle.cedar_cli.specs.Command.{order_of}
 use Rattle.cedar_cli.specs.Script.{Obeys, Leaves, Advances, Stops}
+use Rattle.cedar_cli.proofs.BlockCounts.{no_blocks, within_more}
 use Rattle.cedar_cli.proofs.Bytes.{line_done, line_left, not_begun, on_err}
 use Rattle.cedar_cli.proofs.Runs.{short_line}
 use Rattle.cedar_cli.proofs.Newlines.{open_append, taken_on_ok, stopped_on_err}
@@ -50,3 +51,25 @@ returns-clause-ok g c =
     let obeyed : Obeys (order_of (line ++ piece)) old new held holds = subst (λ (l : List ℕ). Obeys (order_of l) old new held holds) whole c.in_ok-answer_line.ensures.ok in
     subst (λ (text : List ℕ). Advances old new held holds text []) (append_assoc line piece (10 ∷ []))
     (line_done old new held holds (line ++ piece) (open_append line piece c.requires.«open» c.requires.open_piece) obeyed)
+
+pub returns-then-is_empty-clause-blocks : goal.returns-then-is_empty-clause-blocks
+returns-then-is_empty-clause-blocks g c =
+    let piece = c.args.piece.now in
+    within_more (length piece) (length c.args.line.now.items + length piece) c.args.trie.now c.answer_line.new.trie (omega arith) c.answer_line.ensures.blocks
+
+pub returns-in_default-clause-blocks : goal.returns-in_default-clause-blocks
+returns-in_default-clause-blocks g c = no_blocks (length c.args.line.now.items + length c.args.piece.now) c.args.trie.now
+
+pub returns-in_err-answer_line-clause-blocks : goal.returns-in_err-answer_line-clause-blocks
+returns-in_err-answer_line-clause-blocks g c =
+    let line = c.args.line.now.items in
+    let piece = c.args.piece.now in
+    let whole : c.as_slice.result.now ≡ line ++ piece = c.as_slice.ensures.value ∙ c.in-Ok.ensures.items in
+    within_more (length c.as_slice.result.now) (length line + length piece) c.args.trie.now c.answer_line-2.new.trie (let same = ap length whole in omega (arith, same, length-append line piece)) c.answer_line-2.ensures.blocks
+
+pub returns-clause-blocks : goal.returns-clause-blocks
+returns-clause-blocks g c =
+    let line = c.args.line.now.items in
+    let piece = c.args.piece.now in
+    let whole : c.as_slice.result.now ≡ line ++ piece = c.as_slice.ensures.value ∙ c.in-Ok.ensures.items in
+    within_more (length c.as_slice.result.now) (length line + length piece) c.args.trie.now c.answer_line-2.new.trie (let same = ap length whole in omega (arith, same, length-append line piece)) c.answer_line-2.ensures.blocks

@@ -1,10 +1,15 @@
-use Rattle.std.proofs.Common.{rules, refl, arith, sym, subst, ◌∙◌, ◌≡◌, ◌<◌, ℕ, List, [], ◌++◌, length, length-append, ◌≤◌, take, inl, inr}
+use Rattle.std.proofs.lemmas.Result.{err_from_is_err_and}
+use Rattle.cedar_cli.specs.declared.script.ScriptError.TheVariants.{Memory, SlotLimit}
+use Rattle.std.proofs.Common.{rules, Err, refl, arith, sym, subst, ◌∙◌, ◌≡◌, ◌<◌, ℕ, List, [], ◌++◌, length, length-append, ◌≤◌, take, inl, inr}
 use Rattle.std.specs.Prelude.{◌⊎◌}
 use Rattle.std.specs.Io.KnownBytes.{Consumes, IsAtEnd}
 use Rattle.cedarwood.specs.WatchedDevice.{device_of, has_failed}
+use Rattle.cedar_cli.specs.Blocks.{GrowsWithin}
 use Rattle.cedar_cli.specs.Command.{order_of}
 use Rattle.cedar_cli.specs.Lines.{lines_of, IsOpen}
 use Rattle.cedar_cli.specs.Script.{Obeys, Leaves, Finishes, Advances, Stops, EndsEarly}
+use Rattle.cedarwood.proofs.GrowthLemmas.{grows_none}
+use Rattle.cedar_cli.proofs.BlockCounts.{chunk_taken, chunk_left, last_blocks, so_far_blocks, came_blocks}
 use Rattle.cedar_cli.proofs.Bytes.{unfailed_call, failed_call, bytes_on, Advances-append, Advances-kept, Stops-append, on_err}
 use Rattle.cedar_cli.proofs.Runs.{Consumes-append, Consumes-none, Consumes-kept, end_found, whole_came, of_script, ended_early, Stops-from_advances, all_finished, last_finished, last_left, of_known, long_line, short_line}
 use Rattle.cedar_cli.proofs.script.run_script.Goals as goal
@@ -21,6 +26,8 @@ loop-turn-init g c =
       bytes_on c.args.trie.now.state (g.W.Write.contents (device_of c.args.writer.now)) [],
       refl,
       refl,
+      refl,
+      (0, omega arith, grows_none c.args.trie.now),
     )
 
 pub loop-turn-preserved : goal.loop-turn-preserved
@@ -43,6 +50,8 @@ loop-turn-preserved g c =
       Advances-append old mid new first held holds before.0 c.loop-turn.line.items more c.take_bytes.new.line.items so_far step,
       unfailed_call (has_failed c.loop-turn.reader) (has_failed c.read.new.self) c.in-Ok-read.ensures.failed ∙ before.5,
       c.in_ok-take_bytes.ensures.unfailed ∙ unfailed_call (has_failed c.loop-turn.writer) (has_failed c.flush.new.self) c.in-Ok.ensures.failed ∙ before.6,
+      c.take_bytes.ensures.max_trial ∙ before.7,
+      chunk_taken before.0 more c.loop-turn.line.items c.take_bytes.new.line.items c.args.trie.now c.loop-turn.trie c.take_bytes.new.trie before.8 c.in_ok-take_bytes.ensures.blocks_taken,
     )
 
 pub returns-in_default-clause-err : goal.returns-in_default-clause-err
@@ -198,3 +207,107 @@ returns-in_default-clause-write_cause g c = λ _. failed_call (has_failed c.loop
 
 pub returns-in_default-read-clause-read_cause : goal.returns-in_default-read-clause-read_cause
 returns-in_default-read-clause-read_cause g c = λ _. failed_call (has_failed c.loop-turn.reader) (has_failed c.read.new.self) c.in_default-read.ensures.failed
+
+pub returns-in_err-take_bytes-clause-starved : goal.returns-in_err-take_bytes-clause-starved
+returns-in_err-take_bytes-clause-starved g c = λ is.
+    let before = c.loop-turn.invariant in
+    let p = err_from_is_err_and c.from_residual.result c.from_residual.ensures.1 in
+    let was : c.take_bytes.result ≡ Err Memory = cc (p.1, p.2, c.in_err-take_bytes.was, is) in (
+      unfailed_call (has_failed c.loop-turn.reader) (has_failed c.read.new.self) c.in-Ok-read.ensures.failed ∙ before.5,
+      c.take_bytes.ensures.starved was ∙ unfailed_call (has_failed c.loop-turn.writer) (has_failed c.flush.new.self) c.in-Ok.ensures.failed ∙ before.6,
+    )
+
+pub returns-in_err-take_bytes-clause-full : goal.returns-in_err-take_bytes-clause-full
+returns-in_err-take_bytes-clause-full g c = λ is.
+    let before = c.loop-turn.invariant in
+    let p = err_from_is_err_and c.from_residual.result c.from_residual.ensures.1 in
+    let was : c.take_bytes.result ≡ Err SlotLimit = cc (p.1, p.2, c.in_err-take_bytes.was, is) in (
+      unfailed_call (has_failed c.loop-turn.reader) (has_failed c.read.new.self) c.in-Ok-read.ensures.failed ∙ before.5,
+      c.take_bytes.ensures.full was ∙ unfailed_call (has_failed c.loop-turn.writer) (has_failed c.flush.new.self) c.in-Ok.ensures.failed ∙ before.6,
+    )
+
+pub returns-clause-max_trial : goal.returns-clause-max_trial
+returns-clause-max_trial g c =
+    let before = c.loop-turn.invariant in
+    elim c.if-not-is_empty.branch [
+      | then-not-is_empty+in_ok-answer_line w ↦ rw w.trie-is (w.answer_line.ensures.max_trial ∙ before.7)
+      | else-not-is_empty w ↦ rw w.trie-is before.7
+    ]
+
+pub returns-in_err-answer_line-clause-starved : goal.returns-in_err-answer_line-clause-starved
+returns-in_err-answer_line-clause-starved g c = λ is.
+    let before = c.loop-turn.invariant in
+    let first = has_failed c.args.writer.now in
+    let p = err_from_is_err_and c.from_residual-in_err-answer_line.result c.from_residual-in_err-answer_line.ensures.1 in
+    let was : c.answer_line.result ≡ Err Memory = cc (p.1, p.2, c.in_err-answer_line.was, is) in
+    let read : has_failed c.loop-turn-test.reader ≡ has_failed c.args.reader.now =
+    elim c.loop-turn-test.branch [
+      | else-loop-turn-test w ↦ rw w.reader-is before.5
+      | then-loop-turn-test+in-Ok+in-Ok-read+then-count-eq0 w ↦ rw w.reader-is (unfailed_call (has_failed c.loop-turn.reader) (has_failed w.read.new.self) w.in-Ok-read.ensures.failed ∙ before.5)
+    ] in
+    let flushed : has_failed c.loop-turn-test.writer ≡ first =
+    elim c.loop-turn-test.branch [
+      | else-loop-turn-test w ↦ rw w.writer-is before.6
+      | then-loop-turn-test+in-Ok+in-Ok-read+then-count-eq0 w ↦ rw w.writer-is (unfailed_call (has_failed c.loop-turn.writer) (has_failed w.flush.new.self) w.in-Ok.ensures.failed ∙ before.6)
+    ] in (read, c.answer_line.ensures.starved was ∙ flushed)
+
+pub returns-in_err-answer_line-clause-full : goal.returns-in_err-answer_line-clause-full
+returns-in_err-answer_line-clause-full g c = λ is.
+    let before = c.loop-turn.invariant in
+    let first = has_failed c.args.writer.now in
+    let p = err_from_is_err_and c.from_residual-in_err-answer_line.result c.from_residual-in_err-answer_line.ensures.1 in
+    let was : c.answer_line.result ≡ Err SlotLimit = cc (p.1, p.2, c.in_err-answer_line.was, is) in
+    let read : has_failed c.loop-turn-test.reader ≡ has_failed c.args.reader.now =
+    elim c.loop-turn-test.branch [
+      | else-loop-turn-test w ↦ rw w.reader-is before.5
+      | then-loop-turn-test+in-Ok+in-Ok-read+then-count-eq0 w ↦ rw w.reader-is (unfailed_call (has_failed c.loop-turn.reader) (has_failed w.read.new.self) w.in-Ok-read.ensures.failed ∙ before.5)
+    ] in
+    let flushed : has_failed c.loop-turn-test.writer ≡ first =
+    elim c.loop-turn-test.branch [
+      | else-loop-turn-test w ↦ rw w.writer-is before.6
+      | then-loop-turn-test+in-Ok+in-Ok-read+then-count-eq0 w ↦ rw w.writer-is (unfailed_call (has_failed c.loop-turn.writer) (has_failed w.flush.new.self) w.in-Ok.ensures.failed ∙ before.6)
+    ] in (read, c.answer_line.ensures.full was ∙ flushed)
+
+pub returns-in_default-clause-blocks : goal.returns-in_default-clause-blocks
+returns-in_default-clause-blocks g c =
+    let before = c.loop-turn.invariant in
+    came_blocks (g.R.Read.remaining (device_of c.args.reader.now)) (g.R.Read.remaining (device_of c.loop-turn.reader)) before.0 c.args.trie.now c.loop-turn.trie before.1
+    (so_far_blocks before.0 c.loop-turn.line.items c.args.trie.now c.loop-turn.trie before.8)
+
+pub returns-in_default-read-clause-blocks : goal.returns-in_default-read-clause-blocks
+returns-in_default-read-clause-blocks g c =
+    let before = c.loop-turn.invariant in
+    came_blocks (g.R.Read.remaining (device_of c.args.reader.now)) (g.R.Read.remaining (device_of c.loop-turn.reader)) before.0 c.args.trie.now c.loop-turn.trie before.1
+    (so_far_blocks before.0 c.loop-turn.line.items c.args.trie.now c.loop-turn.trie before.8)
+
+pub returns-in_err-take_bytes-clause-blocks : goal.returns-in_err-take_bytes-clause-blocks
+returns-in_err-take_bytes-clause-blocks g c =
+    let before = c.loop-turn.invariant in
+    let more = take c.in-Ok-read.count c.read.new.buf in
+    let start = g.R.Read.remaining (device_of c.args.reader.now) in
+    let rest = g.R.Read.remaining (device_of c.read.new.self) in
+    came_blocks start rest (before.0 ++ more) c.args.trie.now c.take_bytes.new.trie
+    (Consumes-append start (g.R.Read.remaining (device_of c.loop-turn.reader)) rest before.0 more before.1 c.in-Ok-read.ensures.bytes.0)
+    (chunk_left before.0 more c.loop-turn.line.items c.args.trie.now c.loop-turn.trie c.take_bytes.new.trie before.8 c.in_err-take_bytes.ensures.blocks_left)
+
+pub returns-in_err-answer_line-clause-blocks : goal.returns-in_err-answer_line-clause-blocks
+returns-in_err-answer_line-clause-blocks g c =
+    let before = c.loop-turn.invariant in
+    let line = c.loop-turn.line.items in
+    let answered = subst (λ (l : List ℕ). GrowsWithin (length l) c.loop-turn.trie c.answer_line.new.trie) c.as_slice.ensures.value c.answer_line.ensures.blocks in
+    came_blocks (g.R.Read.remaining (device_of c.args.reader.now)) (g.R.Read.remaining (device_of c.loop-turn.reader)) before.0 c.args.trie.now c.answer_line.new.trie before.1
+    (last_blocks before.0 line c.args.trie.now c.loop-turn.trie c.answer_line.new.trie before.8 answered)
+
+pub returns-clause-blocks : goal.returns-clause-blocks
+returns-clause-blocks g c =
+    let before = c.loop-turn.invariant in
+    let line = c.loop-turn.line.items in
+    let start = g.R.Read.remaining (device_of c.args.reader.now) in
+    let rest = g.R.Read.remaining (device_of c.loop-turn.reader) in
+    elim c.if-not-is_empty.branch [
+      | then-not-is_empty+in_ok-answer_line w ↦
+          let answered = subst (λ (l : List ℕ). GrowsWithin (length l) c.loop-turn.trie w.answer_line.new.trie) w.as_slice.ensures.value w.answer_line.ensures.blocks in
+          rw w.trie-is (came_blocks start rest before.0 c.args.trie.now w.answer_line.new.trie before.1
+          (last_blocks before.0 line c.args.trie.now c.loop-turn.trie w.answer_line.new.trie before.8 answered))
+      | else-not-is_empty w ↦ rw w.trie-is (came_blocks start rest before.0 c.args.trie.now c.loop-turn.trie before.1 (so_far_blocks before.0 line c.args.trie.now c.loop-turn.trie before.8))
+    ]

@@ -1,6 +1,7 @@
 use Rattle.std.proofs.Common.{◌≡◌, ◌≤◌, ℕ, List, length}
 use Rattle.std.specs.Io.KnownBytes.{Consumes}
 use Rattle.cedarwood.specs.WatchedDevice.{has_failed}
+use Rattle.cedar_cli.specs.Blocks.{GrowsBefore}
 use Rattle.cedar_cli.specs.Lines.{IsOpen}
 use Rattle.cedar_cli.specs.Script.{Advances}
 use Rattle.cedar_cli.proofs.script.run_script.Given as goal
@@ -13,3 +14,5 @@ invariant-loop-turn g l =
     × Advances (l.fn.trie.state) (l.trie.state)
     (g.W.Write.contents l.fn.writer.device) (g.W.Write.contents l.writer.device) came l.line.items
     × (has_failed l.reader ≡ has_failed l.fn.reader) × (has_failed l.writer ≡ has_failed l.fn.writer)
+    × (l.trie.max_trial ≡ l.fn.trie.max_trial)
+    × GrowsBefore (length l.line.items) (length came) l.fn.trie l.trie

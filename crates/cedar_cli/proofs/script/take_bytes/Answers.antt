@@ -1,5 +1,6 @@
 use Rattle.std.proofs.Common.{rules, refl, ◌∙◌, sym, ◌++◌, ◌∷◌, [], take, drop, length, ◌-◌, ◌+◌}
 use Rattle.cedarwood.specs.WatchedDevice.{device_of}
+use Rattle.cedar_cli.proofs.BlockCounts.{none_before, further_line, stopped_line, rest_begun, rest_lost}
 use Rattle.cedar_cli.proofs.Bytes.{on_err}
 use Rattle.cedar_cli.proofs.Newlines.{open_append, open_none, open_at, gone_further, line_taken, line_stopped, none_taken, rest_left, rest_taken}
 use Rattle.cedar_cli.proofs.script.take_bytes.Goals as goal
@@ -14,6 +15,8 @@ loop-at-init g c = (
   c.requires.«open»,
   none_taken c.args.trie.now.state (g.W.Write.contents (device_of c.args.writer.now)) c.args.line.now.items,
   refl,
+  refl,
+  none_before c.args.line.now.items c.args.trie.now,
 )
 
 pub returns-in-Ok-clause-ok : goal.returns-in-Ok-clause-ok
@@ -34,6 +37,8 @@ loop-at-preserved g c =
       line_taken c.args.trie.now.state c.loop-at.trie.state c.end_line.new.trie.state (g.W.Write.contents (device_of c.args.writer.now)) (g.W.Write.contents (device_of c.loop-at.writer)) (g.W.Write.contents (device_of c.end_line.new.writer))
           c.args.line.now.items before.0 c.loop-at.line.items (take at rest) c.end_line.new.line.items before.3 c.in_ok-end_line.ensures.ok c.in_ok-end_line.ensures.empty,
       c.in_ok-end_line.ensures.unfailed ∙ before.4,
+      c.end_line.ensures.max_trial ∙ before.5,
+      further_line before.0 (take at rest) c.args.line.now.items c.loop-at.line.items c.end_line.new.line.items c.args.trie.now c.loop-at.trie c.end_line.new.trie before.6 c.end_line.ensures.blocks c.in_ok-end_line.ensures.empty,
     )
 
 pub returns-in_err-end_line-clause-err : goal.returns-in_err-end_line-clause-err
@@ -57,3 +62,22 @@ returns-in-Err-clause-err g c =
     let before = c.loop-at.invariant in
     rest_left c.args.trie.now.state c.loop-at.trie.state (g.W.Write.contents (device_of c.args.writer.now)) (g.W.Write.contents (device_of c.loop-at.writer))
     c.args.line.now.items before.0 c.loop-at.line.items c.loop-at.rest.now c.args.bytes.now before.3 before.1
+
+pub returns-in_err-end_line-clause-blocks_left : goal.returns-in_err-end_line-clause-blocks_left
+returns-in_err-end_line-clause-blocks_left g c =
+    let before = c.loop-at.invariant in
+    let rest = c.loop-at.rest.now in
+    let at = c.in-Some.at in
+    on_err c.from_residual.result
+    (stopped_line before.0 (take at rest) (take (length rest - (at + 1)) (drop (at + 1) rest)) c.args.line.now.items c.loop-at.line.items c.args.bytes.now c.args.trie.now c.loop-at.trie c.end_line.new.trie before.6 c.end_line.ensures.blocks
+    (gone_further c.args.bytes.now before.0 rest at before.1 (sym c.in-Some.ensures.first)))
+
+pub returns-in-Ok-clause-blocks_taken : goal.returns-in-Ok-clause-blocks_taken
+returns-in-Ok-clause-blocks_taken g c =
+    let before = c.loop-at.invariant in
+    rest_begun before.0 c.loop-at.rest.now c.args.line.now.items c.loop-at.line.items _ c.args.bytes.now c.args.trie.now c.loop-at.trie before.6 before.1 c.in-Ok.ensures.items
+
+pub returns-in-Err-clause-blocks_left : goal.returns-in-Err-clause-blocks_left
+returns-in-Err-clause-blocks_left g c =
+    let before = c.loop-at.invariant in
+    rest_lost before.0 c.loop-at.rest.now c.args.line.now.items c.loop-at.line.items c.args.bytes.now c.args.trie.now c.loop-at.trie before.6 before.1

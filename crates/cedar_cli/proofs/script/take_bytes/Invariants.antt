@@ -1,5 +1,6 @@
-use Rattle.std.proofs.Common.{◌≡◌, ℕ, List, ◌++◌, length}
+use Rattle.std.proofs.Common.{◌≡◌, ℕ, List, ◌++◌, length, ◌+◌}
 use Rattle.cedarwood.specs.WatchedDevice.{device_of, has_failed}
+use Rattle.cedar_cli.specs.Blocks.{GrowsBefore}
 use Rattle.cedar_cli.specs.Lines.{IsOpen}
 use Rattle.cedar_cli.specs.Script.{Advances}
 use Rattle.cedar_cli.proofs.script.take_bytes.Given as goal
@@ -11,6 +12,8 @@ invariant-loop-at g l =
     × Advances l.fn.trie.state l.trie.state
     (g.W.Write.contents (device_of l.fn.writer)) (g.W.Write.contents (device_of l.writer)) (l.fn.line.items ++ gone) l.line.items
     × (has_failed l.writer ≡ has_failed l.fn.writer)
+    × (l.trie.max_trial ≡ l.fn.trie.max_trial)
+    × GrowsBefore (length l.line.items) (length l.fn.line.items + length gone) l.fn.trie l.trie
 
 abbrev pub decreases-loop-at : goal.decreases-loop-at
 decreases-loop-at g l = length l.rest

@@ -1,4 +1,4 @@
-use Rattle.cedar_table.proofs.BlocksCountLemmas.{full_blocks_counted}
+use Rattle.cedar_table.proofs.MeaningLemmas.FullBlocks.{full_blocks_counted}
 use Rattle.cedar_table.proofs.laws.full_blocks_are_counted.Goals as goal
 
 pub returns : goal.returns

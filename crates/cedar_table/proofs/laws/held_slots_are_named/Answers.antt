@@ -1,6 +1,6 @@
-use Rattle.cedar_table.specs.TableFields.{size_of}
-use Rattle.cedar_table.specs.WellFormed.{cells_in, tree_of}
-use Rattle.cedar_table.proofs.TallyLemmas.{named_held}
+use Rattle.cedar_table.specs.Table.TableFields.{size_of}
+use Rattle.cedar_table.specs.Meaning.WellFormed.{cells_in, tree_of}
+use Rattle.cedar_table.proofs.MeaningLemmas.HeldCount.{named_held}
 use Rattle.cedar_table.proofs.laws.held_slots_are_named.Goals as goal
 
 pub returns : goal.returns

@@ -1,5 +1,5 @@
-use Rattle.cedar_table.specs.WellFormed.{cells_in}
-use Rattle.cedar_table.proofs.PathLemmas.{one_lead}
+use Rattle.cedar_table.specs.Meaning.WellFormed.{cells_in}
+use Rattle.cedar_table.proofs.MeaningLemmas.Paths.{one_lead}
 use Rattle.cedar_table.proofs.laws.one_path.Goals as goal
 
 pub returns : goal.returns

@@ -1,5 +1,5 @@
-use Rattle.cedar_table.proofs.UniqueLemmas.{one_tree}
-use Rattle.cedar_table.proofs.TreeOfLemmas.{tree_of_is}
+use Rattle.cedar_table.proofs.MeaningLemmas.OneTree.{one_tree}
+use Rattle.cedar_table.proofs.MeaningLemmas.TreeOf.{tree_of_is}
 use Rattle.cedar_table.proofs.laws.one_tree.Goals as goal
 
 pub returns-clause-only : goal.returns-clause-only

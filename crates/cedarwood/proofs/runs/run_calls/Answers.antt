@@ -18,5 +18,5 @@ loop-call-preserved g c =
       count,
       room,
       rw (next, p.items)
-          (run_more c.args.trie.now.state (take i c.args.calls.now) c.loop-call.answers.items c.loop-call.trie.state c.call-item.result c.make_call.result c.make_call.new.trie.state h.2 c.make_call.ensures),
+          (run_more g.L.Layout.kind g.row.SLOTS c.args.trie.now (take i c.args.calls.now) c.loop-call.answers.items c.loop-call.trie c.call-item.result c.make_call.result c.make_call.new.trie h.2 c.make_call.ensures),
     )

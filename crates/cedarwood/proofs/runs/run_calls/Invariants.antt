@@ -7,4 +7,4 @@ use Rattle.cedarwood.proofs.runs.run_calls.Given as goal
 abbrev pub invariant-loop-call : goal.invariant-loop-call
 invariant-loop-call g l =
     (vec_len l.answers ≡ l.call-index) × (length l.calls ≤ vec_capacity l.answers)
-    × IsRun l.initial.trie.state (take l.call-index l.calls) l.answers.items l.trie.state
+    × IsRun g.L.Layout.kind g.row.SLOTS l.initial.trie (take l.call-index l.calls) l.answers.items l.trie

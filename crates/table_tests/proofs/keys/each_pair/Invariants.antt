@@ -1,5 +1,5 @@
-use Rattle.cedar_table.specs.TableFields.{fields}
-use Rattle.cedar_table.specs.WellFormed.{IsWellFormed}
+use Rattle.cedar_table.specs.Table.TableFields.{fields}
+use Rattle.cedar_table.specs.Meaning.WellFormed.{IsWellFormed}
 use Rattle.table_tests.proofs.keys.each_pair.Given as goal
 
 abbrev pub invariant-loop-key : goal.invariant-loop-key

@@ -1,4 +1,4 @@
-use Rattle.std.proofs.Common.{◌<◌, arith, rules}
+use Rattle.std.proofs.Common.{arith, rules}
 use Rattle.table_tests.proofs.lookup.number_of.Goals as goal
 
 pub loop-label-init : goal.loop-label-init

@@ -1,7 +1,7 @@
 use Rattle.std.proofs.Common.{◌<◌}
 use Rattle.cedar_tree.specs.Tree.{Tree}
-use Rattle.cedar_table.specs.Meaning.{Stands}
-use Rattle.cedar_table.specs.TableFields.{cells, fields, size_of}
+use Rattle.cedar_table.specs.Meaning.StandsFor.{Stands}
+use Rattle.cedar_table.specs.Table.TableFields.{cells, fields, size_of}
 use Rattle.table_tests.proofs.lookup.number_of.Given as goal
 
 -- the node stands for some tree

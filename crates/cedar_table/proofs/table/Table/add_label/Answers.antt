@@ -2,15 +2,24 @@ use Rattle.std.proofs.Common.{◌≡◌, ◌<◌, ◌∙◌, arith, inr, rules, 
 use Rattle.std.proofs.lemmas.Int.{to_z-of_z}
 use Rattle.cedar_tree.specs.Edits.{add_leaf, edit_at}
 use Rattle.cedar_table.specs.declared.layout.Stored.TheVariants.{AtBase}
-use Rattle.cedar_table.specs.Cells.{Held}
-use Rattle.cedar_table.specs.Edit.{CanAdd, IsAt}
-use Rattle.cedar_table.specs.Family.{below}
-use Rattle.cedar_table.specs.Layouts.{reading}
-use Rattle.cedar_table.specs.Meaning.{HoldsTree}
-use Rattle.cedar_table.specs.TableFields.{cells, fields, size_of}
-use Rattle.cedar_table.proofs.LabelLemmas.{base_inside, can_add_at, can_link_by, chain_of_node, held_after, label_added_by, root_check_stays, slot_inside, slot_stays}
-use Rattle.cedar_table.proofs.PlaceLemmas.{label_added, path_of_leaf, paths_stay}
+use Rattle.cedar_table.specs.Table.Cells.{Held}
+use Rattle.cedar_table.specs.Edit.NodeEdits.{CanAdd, IsAt}
+use Rattle.cedar_table.specs.Meaning.Family.{below}
+use Rattle.cedar_table.specs.Table.Layouts.{reading}
+use Rattle.cedar_table.specs.Meaning.StandsFor.{HoldsTree}
+use Rattle.cedar_table.specs.Table.TableFields.{cells, fields, size_of}
+use Rattle.cedar_table.proofs.EditLemmas.SlotForLabel.{base_inside, can_add_at, can_link_by, chain_of_node, held_after, label_added_by, root_check_stays, slot_inside, slot_stays}
+use Rattle.cedar_table.proofs.EditLemmas.LeafAtPlace.{label_added, path_of_leaf, paths_stay}
+use Rattle.cedar_table.proofs.MeaningLemmas.NodeAtPath.{at_node}
+use Rattle.cedar_table.proofs.WalkLemmas.SearchStep.{never_nothing}
 use Rattle.cedar_table.proofs.table.Table.add_label.Goals as goal
+
+pub slot_below-slot-requires : goal.slot_below-slot-requires
+slot_below-slot-requires g c =
+    let T = fields c.args.self.now in
+    let n = c.requires.node.1 in
+    let st = at_node (size_of T) (cells c.args.self.now) c.requires.node.0 n.path c.args.node n.holds n.at in
+    (search rules, (c.requires.node_in, never_nothing (size_of T) (cells c.args.self.now) c.args.node _ st))
 
 pub slot_before-before-requires : goal.slot_before-before-requires
 slot_before-before-requires g c =
@@ -36,7 +45,7 @@ pop_e_node-requires g c =
     let shaped = c.args.self.now.shaped in
     let n = c.requires.node in
     let k : CanAdd size T c.args.node c.args.label = can_add_at size T (fields c.args.self.now).ordered n.0 c.args.node c.args.label n.1 c.requires.positive (omega (arith, c.ranges.label.fits)) c.requires.based c.requires.free in
-    let e : c.child_slot-slot.result ≡ below T c.args.node c.args.label = c.child_slot-slot.ensures in (
+    let e : c.slot_below-slot.result ≡ below T c.args.node c.args.label = c.slot_below-slot.ensures in (
       search rules,
       (
         c.requires.sound,
@@ -56,19 +65,19 @@ link-requires g c =
     let n = c.requires.node in
     let popped = c.pop_e_node.ensures in
     let k : CanAdd size T c.args.node c.args.label = can_add_at size T ordered n.0 c.args.node c.args.label n.1 c.requires.positive (omega (arith, c.ranges.label.fits)) c.requires.based c.requires.free in
-    let e : c.child_slot-slot.result ≡ below T c.args.node c.args.label = c.child_slot-slot.ensures in
+    let e : c.slot_below-slot.result ≡ below T c.args.node c.args.label = c.slot_below-slot.ensures in
     let fits : FitsSigned w32 c.base_field.result = search rules in
-    let bare : T₁.stored c.child_slot-slot.result ≡ AtBase 0 = popped.stored ∙ ap (reading g.L.Layout.kind) (to_z-of_z w32 c.base_field.result fits) ∙ c.base_field.ensures in
-    let held = held_after size T T₁ c.args.node c.args.label c.child_slot-slot.result e k popped.takes in (
+    let bare : T₁.stored c.slot_below-slot.result ≡ AtBase 0 = popped.stored ∙ ap (reading g.L.Layout.kind) (to_z-of_z w32 c.base_field.result fits) ∙ c.base_field.ensures in
+    let held = held_after size T T₁ c.args.node c.args.label c.slot_below-slot.result e k popped.takes in (
       search rules,
       (
         popped.sound,
         (
-          can_link_by size T T₁ ordered n.0 c.args.node c.args.label c.child_slot-slot.result _ popped.size e n.1 k popped.takes bare c.slot_before-before.result c.slot_before-before.ensures,
+          can_link_by size T T₁ ordered n.0 c.args.node c.args.label c.slot_below-slot.result _ popped.frame.size e n.1 k popped.takes bare c.slot_before-before.result c.slot_before-before.ensures,
           (
-            subst (λ m. c.args.node < m) (sym popped.size) c.requires.node_in,
+            subst (λ m. c.args.node < m) (sym popped.frame.size) c.requires.node_in,
             (
-              subst (λ m. c.child_slot-slot.result < m) (sym popped.size) (subst (λ s. s < size) (sym e) (slot_inside size T c.args.node c.args.label (omega (arith, c.requires.node_in)) (omega arith) k)),
+              subst (λ m. c.slot_below-slot.result < m) (sym popped.frame.size) (subst (λ s. s < size) (sym e) (slot_inside size T c.args.node c.args.label (omega (arith, c.requires.node_in)) (omega arith) k)),
               (held.0, (inr (c.args.node, popped.takes.at), held.1)),
             ),
           ),
@@ -85,7 +94,7 @@ returns-clause-added g c =
     let popped = c.pop_e_node.ensures in
     let k : CanAdd size T c.args.node c.args.label = can_add_at size T ordered n.0 c.args.node c.args.label n.1 c.requires.positive (omega (arith, c.ranges.label.fits)) c.requires.based c.requires.free in
     let fits : FitsSigned w32 c.base_field.result = search rules in
-    label_added_by size T (cells c.pop_e_node.new.self) (cells c.link.new.self) ordered n.0 c.args.node c.args.label c.child_slot-slot.result c.child_slot-slot.ensures n.1 k popped.takes (popped.stored ∙ ap (reading g.L.Layout.kind) (to_z-of_z w32 c.base_field.result fits) ∙ c.base_field.ensures)
+    label_added_by size T (cells c.pop_e_node.new.self) (cells c.link.new.self) ordered n.0 c.args.node c.args.label c.slot_below-slot.result c.slot_below-slot.ensures n.1 k popped.takes (popped.stored ∙ ap (reading g.L.Layout.kind) (to_z-of_z w32 c.base_field.result fits) ∙ c.base_field.ensures)
     c.slot_before-before.result c.slot_before-before.ensures c.link.ensures.linked
 
 pub returns-clause-slot : goal.returns-clause-slot
@@ -93,11 +102,11 @@ returns-clause-slot g c =
     let T = cells c.args.self.now in
     let n = c.requires.node in
     let k : CanAdd (size_of (fields c.args.self.now)) T c.args.node c.args.label = can_add_at (size_of (fields c.args.self.now)) T (fields c.args.self.now).ordered n.0 c.args.node c.args.label n.1 c.requires.positive (omega (arith, c.ranges.label.fits)) c.requires.based c.requires.free in
-    slot_stays (size_of (fields c.args.self.now)) T (cells c.pop_e_node.new.self) (cells c.link.new.self) c.args.node c.args.label c.child_slot-slot.result c.child_slot-slot.ensures k c.pop_e_node.ensures.takes c.slot_before-before.result c.link.ensures.linked
+    slot_stays (size_of (fields c.args.self.now)) T (cells c.pop_e_node.new.self) (cells c.link.new.self) c.args.node c.args.label c.slot_below-slot.result c.slot_below-slot.ensures k c.pop_e_node.ensures.takes c.slot_before-before.result c.link.ensures.linked
 
 pub returns-clause-tree : goal.returns-clause-tree
 returns-clause-tree g c = λ f w h u at.
-    subst (λ n. HoldsTree n (cells c.link.new.self) (edit_at w (λ v. v) (add_leaf (fields c.args.self.now).ordered c.args.label) f)) (sym (c.link.ensures.size ∙ c.pop_e_node.ensures.size))
+    subst (λ n. HoldsTree n (cells c.link.new.self) (edit_at w (λ v. v) (add_leaf (fields c.args.self.now).ordered c.args.label) f)) (sym (c.link.ensures.frame.size ∙ c.pop_e_node.ensures.frame.size))
     (label_added (size_of (fields c.args.self.now)) (cells c.args.self.now) (cells c.link.new.self) c.args.label (fields c.args.self.now).ordered f w c.args.node h u at (returns-clause-added g c))
 
 pub returns-clause-leaf : goal.returns-clause-leaf
@@ -113,4 +122,4 @@ returns-clause-paths g c = λ v s at.
 
 pub returns-clause-root_check : goal.returns-clause-root_check
 returns-clause-root_check g c =
-    root_check_stays (cells c.args.self.now) (cells c.pop_e_node.new.self) (cells c.link.new.self) c.args.node c.args.label c.child_slot-slot.result c.child_slot-slot.ensures c.requires.free c.pop_e_node.ensures.takes c.slot_before-before.result c.link.ensures.linked
+    root_check_stays (cells c.args.self.now) (cells c.pop_e_node.new.self) (cells c.link.new.self) c.args.node c.args.label c.slot_below-slot.result c.slot_below-slot.ensures c.requires.free c.pop_e_node.ensures.takes c.slot_before-before.result c.link.ensures.linked

@@ -1,9 +1,10 @@
 use Rattle.std.proofs.Common.{rules, ◌∙◌, sym}
-use Rattle.cedar_table.specs.Edit.{IsNodeOf}
-use Rattle.cedar_table.specs.Family.{below}
-use Rattle.cedar_table.specs.Reserved.{freed}
-use Rattle.cedar_table.specs.TableFields.{cells, fields, size_of}
-use Rattle.cedar_table.proofs.StepsToLemmas.{child_added_over}
+use Rattle.cedar_table.specs.Edit.NodeEdits.{IsNodeOf}
+use Rattle.cedar_table.specs.Meaning.Family.{below}
+use Rattle.cedar_table.specs.Relocation.Reserved.{freed}
+use Rattle.cedar_table.specs.Table.TableFields.{cells, fields, size_of}
+use Rattle.cedar_table.proofs.UpdateLemmas.ChildReached.{child_added_over}
+use Rattle.cedar_table.proofs.UpdateLemmas.BlocksMade.{growth_framed}
 use Rattle.cedar_table.proofs.table.Table.add_over.Goals as goal
 
 pub add_reserved-requires : goal.add_reserved-requires
@@ -13,7 +14,7 @@ add_reserved-requires g c =
     let R = cells c.resolve.new.self in
     let node : IsNodeOf (size_of (fields c.resolve.new.self)) (freed R (below R c.in_ok-node.node c.args.label)) (fields c.resolve.new.self).ordered n.0 c.in_ok-node.node = record {
       holds = k.tree n.0 n.1.holds;
-      ascending = λ o. n.1.ascending (sym c.in_ok-node.ensures.settings.ordered ∙ o);
+      ascending = λ o. n.1.ascending (sym c.in_ok-node.ensures.growth.settings.ordered ∙ o);
       path = n.1.path;
       at = k.at n.1.path n.1.at;
     } in
@@ -22,5 +23,8 @@ add_reserved-requires g c =
 pub returns-clause-stepped : goal.returns-clause-stepped
 returns-clause-stepped g c =
     let add = c.add_reserved.ensures in
-    child_added_over (fields c.args.self.now) (fields c.resolve.new.self) (fields c.add_reserved.new.self) c.args.node c.args.label c.in_ok-node.node c.add_reserved.result
-    c.in_ok-node.ensures.reserved c.in_ok-node.ensures.settings.ordered c.requires.absent add.added add.slot (add.sound.sound.shaped.blocks.some) add.tree add.leaf c.requires.not_root
+    child_added_over (fields c.args.self.now) (fields c.resolve.new.self) (fields c.add_reserved.new.self) c.args.node c.args.label c.in_ok-node.node c.add_reserved.result c.requires.node.0 c.requires.node.1.path c.requires.node.1.holds c.requires.node.1.at
+    c.in_ok-node.ensures.reserved c.in_ok-node.ensures.growth.settings.ordered c.requires.absent add.added add.slot (add.sound.sound.shaped.blocks.some) add.tree add.leaf c.requires.not_root
+
+pub returns-clause-growth : goal.returns-clause-growth
+returns-clause-growth g c = growth_framed _ _ _ c.in_ok-node.ensures.growth c.add_reserved.ensures.frame c.add_reserved.ensures.root_check

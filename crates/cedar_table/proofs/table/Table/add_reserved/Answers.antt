@@ -2,18 +2,18 @@ use Rattle.std.proofs.Common.{◌≡◌, ◌<◌, ◌∙◌, arith, inr, rules, 
 use Rattle.std.proofs.lemmas.Int.{to_z-of_z}
 use Rattle.cedar_tree.specs.Edits.{add_leaf, edit_at}
 use Rattle.cedar_table.specs.declared.layout.Stored.TheVariants.{AtBase}
-use Rattle.cedar_table.specs.Cells.{Takes}
-use Rattle.cedar_table.specs.Edit.{CanAdd, IsAt}
-use Rattle.cedar_table.specs.Family.{below}
-use Rattle.cedar_table.specs.Layouts.{reading}
-use Rattle.cedar_table.specs.Meaning.{HoldsTree}
-use Rattle.cedar_table.specs.Reserved.{freed}
-use Rattle.cedar_table.specs.TableFields.{cells, fields, size_of}
-use Rattle.cedar_table.proofs.ClaimLemmas.{chain_there, freed_free, node_apart, place_there, slot_far}
-use Rattle.cedar_table.proofs.LabelLemmas.{base_inside, can_add_at, can_link_by, held_after, label_added_by, root_check_stays, slot_inside, slot_stays}
-use Rattle.cedar_table.proofs.PlaceLemmas.{label_added, path_of_leaf}
-use Rattle.cedar_table.proofs.ReservedLemmas.{freed_root}
-use Rattle.cedar_table.proofs.StepLemmas.{pos_injective}
+use Rattle.cedar_table.specs.Table.Cells.{Takes}
+use Rattle.cedar_table.specs.Edit.NodeEdits.{CanAdd, IsAt}
+use Rattle.cedar_table.specs.Meaning.Family.{below}
+use Rattle.cedar_table.specs.Table.Layouts.{reading}
+use Rattle.cedar_table.specs.Meaning.StandsFor.{HoldsTree}
+use Rattle.cedar_table.specs.Relocation.Reserved.{freed}
+use Rattle.cedar_table.specs.Table.TableFields.{cells, fields, size_of}
+use Rattle.cedar_table.proofs.EditLemmas.KeptSlotGiven.{chain_there, freed_free, node_apart, place_there, slot_far}
+use Rattle.cedar_table.proofs.EditLemmas.SlotForLabel.{base_inside, can_add_at, can_link_by, held_after, label_added_by, root_check_stays, slot_inside, slot_stays}
+use Rattle.cedar_table.proofs.EditLemmas.LeafAtPlace.{label_added, path_of_leaf}
+use Rattle.cedar_table.proofs.RelocationLemmas.KeptSlot.{freed_root}
+use Rattle.cedar_table.proofs.MeaningLemmas.ExclusiveOr.{pos_injective}
 use Rattle.cedar_table.proofs.table.Table.add_reserved.Goals as goal
 
 pub slot_before-before-requires : goal.slot_before-before-requires
@@ -69,11 +69,11 @@ link-requires g c =
       (
         claim.sound,
         (
-          can_link_by size T T₁ ordered n.0 c.args.node c.args.label c.child_slot-slot.result _ claim.size e n.1 k takes bare c.slot_before-before.result before,
+          can_link_by size T T₁ ordered n.0 c.args.node c.args.label c.child_slot-slot.result _ claim.frame.size e n.1 k takes bare c.slot_before-before.result before,
           (
-            subst (λ m. c.args.node < m) (sym claim.size) c.requires.node_in,
+            subst (λ m. c.args.node < m) (sym claim.frame.size) c.requires.node_in,
             (
-              subst (λ m. c.child_slot-slot.result < m) (sym claim.size) (subst (λ s. s < size) (sym e) (slot_inside size T c.args.node c.args.label (omega (arith, c.requires.node_in)) (omega arith) k)),
+              subst (λ m. c.child_slot-slot.result < m) (sym claim.frame.size) (subst (λ s. s < size) (sym e) (slot_inside size T c.args.node c.args.label (omega (arith, c.requires.node_in)) (omega arith) k)),
               (held.0, (inr (c.args.node, takes.at), held.1)),
             ),
           ),
@@ -123,7 +123,7 @@ returns-clause-slot g c =
 
 pub returns-clause-tree : goal.returns-clause-tree
 returns-clause-tree g c = λ f w h u at.
-    subst (λ n. HoldsTree n (cells c.link.new.self) (edit_at w (λ v. v) (add_leaf (fields c.args.self.now).ordered c.args.label) f)) (sym (c.link.ensures.size ∙ c.claim.ensures.size))
+    subst (λ n. HoldsTree n (cells c.link.new.self) (edit_at w (λ v. v) (add_leaf (fields c.args.self.now).ordered c.args.label) f)) (sym (c.link.ensures.frame.size ∙ c.claim.ensures.frame.size))
     (label_added (size_of (fields c.args.self.now)) (freed (cells c.args.self.now) (below (cells c.args.self.now) c.args.node c.args.label)) (cells c.link.new.self) c.args.label (fields c.args.self.now).ordered f w c.args.node h u at (returns-clause-added g c))
 
 pub returns-clause-leaf : goal.returns-clause-leaf

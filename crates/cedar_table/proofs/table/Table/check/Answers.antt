@@ -1,10 +1,10 @@
 use Rattle.std.proofs.Common.{◌≡◌, ◌∙◌, ap, arith, of_z, sym, to_z, w32}
 use Rattle.std.proofs.lemmas.Int.{ints}
 use Rattle.std.proofs.lemmas.List.{get_or_read}
-use Rattle.cedar_table.specs.declared.records.NodeRecord.{NodeRecord}
-use Rattle.cedar_table.specs.Slots.{blank_node, check_at}
-use Rattle.cedar_table.specs.Views.{places_of}
-use Rattle.cedar_table.proofs.CellLemmas.{active_is}
+use Rattle.cedar_slots.specs.declared.records.NodeRecord.{NodeRecord}
+use Rattle.cedar_slots.specs.Slots.{blank_node, check_at}
+use Rattle.cedar_slots.specs.Views.{places_of}
+use Rattle.cedar_table.proofs.CellsLemmas.HeldSlots.{active_is}
 use Rattle.cedar_table.proofs.table.Table.check.Goals as goal
 
 pub returns-clause-cell : goal.returns-clause-cell

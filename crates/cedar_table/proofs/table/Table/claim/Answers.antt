@@ -1,8 +1,8 @@
 use Rattle.std.proofs.Common.{◌≡◌, ◌<◌, ◌≤ℤ◌, ◌∙◌, ap, arith, inr, rules, subst, sym, pos, to_z, w32, FitsSigned}
 use Rattle.std.proofs.lemmas.Int.{ints, to_z_pos, to_z-of_z}
-use Rattle.cedar_table.specs.Layouts.{reading}
-use Rattle.cedar_table.specs.TableFields.{cells}
-use Rattle.cedar_table.proofs.ClaimLemmas.{claimed}
+use Rattle.cedar_table.specs.Table.Layouts.{reading}
+use Rattle.cedar_table.specs.Table.TableFields.{cells}
+use Rattle.cedar_table.proofs.EditLemmas.KeptSlotGiven.{claimed}
 use Rattle.cedar_table.proofs.table.Table.claim.Goals as goal
 
 pub write_node-requires : goal.write_node-requires
@@ -13,7 +13,7 @@ write_node-requires g c =
 pub write_info-requires : goal.write_info-requires
 write_info-requires g c =
     let owner : to_z w32 c.args.owner ≡ pos c.args.owner = to_z_pos w32 c.args.owner (omega (arith, c.requires.owner_in)) in
-    (search rules, (c.write_node.ensures.sound, (subst (λ n. c.args.slot < n) (sym c.write_node.ensures.size) c.requires.slot_in, inr (c.args.owner, c.write_node.ensures.written.check_at ∙ owner))))
+    (search rules, (c.write_node.ensures.sound, (subst (λ n. c.args.slot < n) (sym c.write_node.ensures.frame.size) c.requires.slot_in, inr (c.args.owner, c.write_node.ensures.written.check_at ∙ owner))))
 
 pub returns-clause-takes : goal.returns-clause-takes
 returns-clause-takes g c =

@@ -1,13 +1,13 @@
 use Rattle.std.proofs.Common.{◌≡◌, ◌<◌, ◌∙◌, ap, arith, inr, rules, subst, sym, pos, ℤ, w32, FitsSigned}
 use Rattle.std.proofs.lemmas.Int.{to_z-of_z}
-use Rattle.cedar_table.specs.Cells.{Held}
-use Rattle.cedar_table.specs.Layouts.{reading}
-use Rattle.cedar_table.specs.TableFields.{cells}
-use Rattle.cedar_table.proofs.FrameLemmas.{frame_then}
-use Rattle.cedar_table.proofs.RepointLemmas.{repointed_held}
-use Rattle.cedar_table.proofs.MoveSlotLemmas.{copied, move_renames}
-use Rattle.cedar_table.proofs.ReservedLemmas.{gives_freed}
-use Rattle.cedar_table.proofs.StepLemmas.{pos_injective}
+use Rattle.cedar_table.specs.Table.Cells.{Held}
+use Rattle.cedar_table.specs.Table.Layouts.{reading}
+use Rattle.cedar_table.specs.Table.TableFields.{cells}
+use Rattle.cedar_table.proofs.UpdateLemmas.Frame.{frame_then}
+use Rattle.cedar_table.proofs.RelocationLemmas.Repointed.{repointed_held}
+use Rattle.cedar_table.proofs.RelocationLemmas.OneSlot.{copied, move_renames}
+use Rattle.cedar_table.proofs.RelocationLemmas.KeptSlot.{gives_freed}
+use Rattle.cedar_table.proofs.MeaningLemmas.ExclusiveOr.{pos_injective}
 use Rattle.cedar_table.proofs.table.Table.copy_slot.Goals as goal
 
 pub repoint_under-requires : goal.repoint_under-requires
@@ -23,7 +23,7 @@ pop_e_node-requires g c =
 
 pub write_info-requires : goal.write_info-requires
 write_info-requires g c =
-    let same = sym (c.pop_e_node.ensures.size ∙ c.repoint_under.ensures.frame.size) in
+    let same = sym (c.pop_e_node.ensures.frame.size ∙ c.repoint_under.ensures.frame.size) in
     (search rules, (c.pop_e_node.ensures.sound, (subst (λ n. c.args.to < n) same c.requires.to_in, inr (c.args.owner, c.pop_e_node.ensures.takes.at))))
 
 pub returns-clause-still : goal.returns-clause-still
@@ -45,5 +45,4 @@ returns-clause-renamed g c =
 pub returns-clause-frame : goal.returns-clause-frame
 returns-clause-frame g c =
     frame_then _ _ _ c.repoint_under.ensures.frame
-    (frame_then _ _ _ (record { size = c.pop_e_node.ensures.size; capacity = c.pop_e_node.ensures.capacity; settings = c.pop_e_node.ensures.settings })
-    (record { size = c.write_info.ensures.size; capacity = c.write_info.ensures.capacity; settings = c.write_info.ensures.settings }))
+    (frame_then _ _ _ c.pop_e_node.ensures.frame c.write_info.ensures.frame)

@@ -1,13 +1,13 @@
 use Rattle.std.proofs.Common.{◌≡◌, ◌<◌, ◌∙◌, arith, inl, inr, refl, rules, subst, sym, ap, pos, None}
 use Rattle.cedar_tree.specs.Edits.{edit_at}
-use Rattle.cedar_table.specs.Cells.{Gives}
-use Rattle.cedar_table.specs.Edit.{SetsChild}
-use Rattle.cedar_table.specs.Family.{below}
-use Rattle.cedar_table.specs.Meaning.{HoldsTree}
-use Rattle.cedar_table.specs.TableFields.{cells, fields, size_of}
-use Rattle.cedar_table.proofs.AtLemmas.{held_node, not_own_owner, number_dropped_at}
-use Rattle.cedar_table.proofs.GiveLemmas.{drops_number}
-use Rattle.cedar_table.proofs.LabelLemmas.{lead_inside}
+use Rattle.cedar_table.specs.Table.Cells.{Gives}
+use Rattle.cedar_table.specs.Edit.NodeEdits.{SetsChild}
+use Rattle.cedar_table.specs.Meaning.Family.{below}
+use Rattle.cedar_table.specs.Meaning.StandsFor.{HoldsTree}
+use Rattle.cedar_table.specs.Table.TableFields.{cells, fields, size_of}
+use Rattle.cedar_table.proofs.EditLemmas.AtPath.{held_node, not_own_owner, number_dropped_at}
+use Rattle.cedar_table.proofs.EditLemmas.SlotGiven.{drops_number}
+use Rattle.cedar_table.proofs.EditLemmas.SlotForLabel.{lead_inside}
 use Rattle.cedar_table.proofs.table.Table.drop_number.Goals as goal
 
 pub sibling-first-requires : goal.sibling-first-requires
@@ -33,7 +33,7 @@ push_e_node-requires g c =
       (
         first.sound,
         (
-          subst (λ m. c.child_slot-slot.result < m) (sym first.size) (subst (λ s. s < size) (sym e) (lead_inside size T c.args.node c.requires.based.1)),
+          subst (λ m. c.child_slot-slot.result < m) (sym first.frame.size) (subst (λ s. s < size) (sym e) (lead_inside size T c.args.node c.requires.based.1)),
           (inr (c.args.node, first.set.check c.child_slot-slot.result ∙ mine), omega (arith, not_root)),
         ),
       ),
@@ -50,7 +50,7 @@ returns-clause-dropped g c =
 
 pub returns-clause-tree : goal.returns-clause-tree
 returns-clause-tree g c = λ f w h at.
-    subst (λ m. HoldsTree m (cells c.push_e_node.new.self) (edit_at w (λ _. None) (λ u. u) f)) (sym (c.push_e_node.ensures.size ∙ c.set_child.ensures.size))
+    subst (λ m. HoldsTree m (cells c.push_e_node.new.self) (edit_at w (λ _. None) (λ u. u) f)) (sym (c.push_e_node.ensures.frame.size ∙ c.set_child.ensures.frame.size))
     (number_dropped_at (size_of (fields c.args.self.now)) (cells c.args.self.now) (cells c.push_e_node.new.self) f w c.args.node (λ z. omega (arith, z, c.requires.not_root)) h at (returns-clause-dropped g c))
 
 pub returns-clause-root_check : goal.returns-clause-root_check

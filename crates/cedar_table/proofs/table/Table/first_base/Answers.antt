@@ -1,14 +1,15 @@
-use Rattle.std.proofs.Common.{◌≤◌, rules, ◌∙◌, ◌<◌, arith, inl, inr, refl, subst, sym}
+use Rattle.std.proofs.Common.{◌≤◌, rules, ◌<◌, arith, inl, inr, refl, subst, sym}
 use Rattle.std.specs.Prelude.{bit_xor}
-use Rattle.cedar_table.specs.Cells.{Held}
-use Rattle.cedar_table.specs.Renaming.{Rebased}
-use Rattle.cedar_table.specs.Views.{places_of}
-use Rattle.cedar_table.specs.TableFields.{cells, fields, size_of}
-use Rattle.cedar_table.proofs.AtLemmas.{held_node}
-use Rattle.cedar_table.proofs.BlocksMadeLemmas.{found_blocks, made_framed, made_larger, made_nothing, refuses_still, slots_of_same}
-use Rattle.cedar_table.proofs.FirstBaseLemmas.{held_still, leaf_based, LeafBased}
-use Rattle.cedar_table.proofs.StepAnswerLemmas.{refused_as}
-use Rattle.cedar_table.proofs.StepLemmas.{xor_within}
+use Rattle.cedar_table.specs.Table.Cells.{Held}
+use Rattle.cedar_table.specs.Relocation.Renaming.{Rebased}
+use Rattle.cedar_slots.specs.Views.{places_of}
+use Rattle.cedar_table.specs.Table.TableFields.{cells, fields, size_of}
+use Rattle.cedar_table.proofs.EditLemmas.AtPath.{held_node}
+use Rattle.cedar_table.proofs.UpdateLemmas.BlocksMade.{found_blocks, growth_framed, growth_nothing, made_framed, made_larger, made_nothing, refuses_still, slots_of_same}
+use Rattle.cedar_table.proofs.EditLemmas.FirstBase.{held_still, leaf_based, LeafBased}
+use Rattle.cedar_table.proofs.UpdateLemmas.StepAnswers.{refused_as}
+use Rattle.cedar_table.proofs.MeaningLemmas.ExclusiveOr.{xor_within}
+use Rattle.cedar_table.specs.Edit.Steps.{MayAddBlock}
 use Rattle.cedar_table.proofs.table.Table.first_base.Goals as goal
 
 pub returns-in_err-slot-clause-refused : goal.returns-in_err-slot-clause-refused
@@ -16,8 +17,8 @@ returns-in_err-slot-clause-refused g c =
     refused_as c.from_residual.result c.in_err-slot.field-0.0 _ c.from_residual.ensures.1
     (refuses_still (places_of c.args.self.now.places) (places_of c.find_place.new.self.places) _ _ (slots_of_same (fields c.args.self.now) (fields c.find_place.new.self) c.in_err-slot.ensures.unchanged) c.in_err-slot.ensures.refused.1)
 
-pub returns-in_err-slot-clause-blocks : goal.returns-in_err-slot-clause-blocks
-returns-in_err-slot-clause-blocks g c = (0, omega arith, made_nothing (fields c.args.self.now) (fields c.find_place.new.self) c.in_err-slot.ensures.unchanged)
+pub returns-in_err-slot-clause-growth : goal.returns-in_err-slot-clause-growth
+returns-in_err-slot-clause-growth g c = growth_nothing (fields c.args.self.now) (fields c.find_place.new.self) c.in_err-slot.ensures.unchanged
 
 pub set_base-requires : goal.set_base-requires
 set_base-requires g c =
@@ -53,21 +54,23 @@ returns-clause-placed g c =
       root = λ z. z;
       based = λ z. k.in_range;
       free = k.free;
+      marks = k.marks;
     }
 
 pub returns-clause-tree : goal.returns-clause-tree
 returns-clause-tree g c = (based g c).tree
 
-pub returns-clause-blocks : goal.returns-clause-blocks
-returns-clause-blocks g c =
-    let found = found_blocks _ (fields c.args.self.now) (fields c.find_place.new.self) _ c.in_ok-slot.ensures.made in
-    (found.0, found.1, made_framed found.0 (fields c.args.self.now) (fields c.find_place.new.self) (fields c.set_base.new.self) found.2 c.set_base.ensures.frame)
+pub returns-clause-growth : goal.returns-clause-growth
+returns-clause-growth g c =
+    let found : MayAddBlock (fields c.args.self.now) (fields c.find_place.new.self) = record {
+      blocks = found_blocks _ (fields c.args.self.now) (fields c.find_place.new.self) _ c.in_ok-slot.ensures.made;
+      root_check = (c.in_ok-slot.ensures.held.other 0 (inl refl)).check;
+      settings = c.in_ok-slot.ensures.settings;
+    } in
+    growth_framed _ _ _ found c.set_base.ensures.frame (c.set_base.ensures.rebased.check 0)
 
 pub returns-clause-made : goal.returns-clause-made
 returns-clause-made g c = elim c.in_ok-slot.ensures.made [
   | inl e ↦ inl (tt, made_framed 0 (fields c.args.self.now) (fields c.find_place.new.self) (fields c.set_base.new.self) (made_nothing (fields c.args.self.now) (fields c.find_place.new.self) e) c.set_base.ensures.frame)
   | inr n ↦ inr n.0
 ]
-
-pub returns-clause-root_check : goal.returns-clause-root_check
-returns-clause-root_check g c = c.set_base.ensures.rebased.check 0 ∙ (c.in_ok-slot.ensures.held.other 0 (inl refl)).check

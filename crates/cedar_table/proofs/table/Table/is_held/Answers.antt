@@ -1,8 +1,8 @@
 use Rattle.std.proofs.Common.{◌≡◌, ◌≤ℤ◌, Bool, arith, false, of_z, pos, refl, to_z, true, w32}
 use Rattle.std.proofs.lemmas.Int.{ints}
 use lib.Dec.{T}
-use Rattle.cedar_table.specs.TableFields.{cells}
-use Rattle.cedar_table.proofs.CellLemmas.{held_natural, natural_held}
+use Rattle.cedar_table.specs.Table.TableFields.{cells}
+use Rattle.cedar_table.proofs.CellsLemmas.HeldSlots.{held_natural, natural_held}
 use Rattle.cedar_table.proofs.table.Table.is_held.Goals as goal
 
 is_true : (t : Bool) → T t → t ≡ true

@@ -2,11 +2,11 @@ use Rattle.std.proofs.Common.{◌≡◌, arith, rules, sym, ◌∙◌, ap, pos, 
 use Rattle.std.proofs.lemmas.Bool.{eqb-true, eq-eqb}
 use Rattle.std.proofs.lemmas.Int.{ints, to_z_pos, to_z-of_z}
 use Rattle.std.proofs.lemmas.List.{get_or_read}
-use Rattle.cedar_table.specs.declared.records.NodeRecord.{NodeRecord}
-use Rattle.cedar_table.specs.Slots.{blank_node, check_at}
-use Rattle.cedar_table.specs.TableFields.{cells}
-use Rattle.cedar_table.specs.Views.{places_of}
-use Rattle.cedar_table.proofs.CellLemmas.{active_is}
+use Rattle.cedar_slots.specs.declared.records.NodeRecord.{NodeRecord}
+use Rattle.cedar_slots.specs.Slots.{blank_node, check_at}
+use Rattle.cedar_table.specs.Table.TableFields.{cells}
+use Rattle.cedar_slots.specs.Views.{places_of}
+use Rattle.cedar_table.proofs.CellsLemmas.HeldSlots.{active_is}
 use Rattle.cedar_table.proofs.table.Table.is_owned_by.Goals as goal
 
 pub returns : goal.returns

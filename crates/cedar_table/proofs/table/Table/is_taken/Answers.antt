@@ -1,5 +1,5 @@
 use Rattle.std.proofs.Common.{◌∙◌}
-use Rattle.cedar_table.proofs.RoomLemmas.{not_both, one_is}
+use Rattle.cedar_table.proofs.EditLemmas.Room.{not_both, one_is}
 use Rattle.cedar_table.proofs.table.Table.is_taken.Goals as goal
 
 pub returns-clause-taken : goal.returns-clause-taken

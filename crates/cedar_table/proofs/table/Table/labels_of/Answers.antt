@@ -1,9 +1,9 @@
 use Rattle.std.proofs.Common.{◌≡◌, ◌≤◌, ◌<◌, ◌∙◌, ap, arith, rules, subst, sym, bit_xor, length, ℕ, ◌++◌}
-use Rattle.cedar_table.specs.Family.{base_of, below}
-use Rattle.cedar_table.specs.TableFields.{cells, fields, size_of}
-use Rattle.cedar_table.proofs.LabelsLemmas.{listed_all, listed_next, listed_none, owned_few, owned_split}
-use Rattle.cedar_table.proofs.RepointLemmas.{base_within}
-use Rattle.cedar_table.proofs.StepLemmas.{xor_within}
+use Rattle.cedar_table.specs.Meaning.Family.{base_of, below}
+use Rattle.cedar_table.specs.Table.TableFields.{cells, fields, size_of}
+use Rattle.cedar_table.proofs.MeaningLemmas.LabelList.{listed_all, listed_next, listed_none, owned_few, owned_split}
+use Rattle.cedar_table.proofs.RelocationLemmas.Repointed.{base_within}
+use Rattle.cedar_table.proofs.MeaningLemmas.ExclusiveOr.{xor_within}
 use Rattle.cedar_table.proofs.table.Table.labels_of.Goals as goal
 
 pub loop-label-init : goal.loop-label-init

@@ -1,6 +1,6 @@
 use Rattle.std.proofs.Common.{◌<◌, rules, sym, subst}
-use Rattle.cedar_table.specs.TableFields.{cells}
-use Rattle.cedar_table.proofs.SettingLemmas.{held_still, linked_behind}
+use Rattle.cedar_table.specs.Table.TableFields.{cells}
+use Rattle.cedar_table.proofs.EditLemmas.LabelsWritten.{held_still, linked_behind}
 use Rattle.cedar_table.proofs.table.Table.link_behind.Goals as goal
 
 pub set_sibling-requires-2 : goal.set_sibling-requires-2
@@ -10,7 +10,7 @@ set_sibling-requires-2 g c =
       (
         first.sound,
         (
-          subst (λ n. c.args.before < n) (sym first.size) c.requires.before_in,
+          subst (λ n. c.args.before < n) (sym first.frame.size) c.requires.before_in,
           held_still (cells c.args.self.now) (cells c.set_sibling.new.self) c.args.before (first.set.check c.args.before) c.requires.before_held,
         ),
       ),

@@ -1,6 +1,6 @@
 use Rattle.std.proofs.Common.{◌<◌, rules, sym, subst}
-use Rattle.cedar_table.specs.TableFields.{cells}
-use Rattle.cedar_table.proofs.SettingLemmas.{held_still, linked_child}
+use Rattle.cedar_table.specs.Table.TableFields.{cells}
+use Rattle.cedar_table.proofs.EditLemmas.LabelsWritten.{held_still, linked_child}
 use Rattle.cedar_table.proofs.table.Table.link_first.Goals as goal
 
 pub set_child-requires : goal.set_child-requires
@@ -10,7 +10,7 @@ set_child-requires g c =
       (
         first.sound,
         (
-          subst (λ n. c.args.node < n) (sym first.size) c.requires.node_in,
+          subst (λ n. c.args.node < n) (sym first.frame.size) c.requires.node_in,
           held_still (cells c.args.self.now) (cells c.set_sibling.new.self) c.args.node (first.set.check c.args.node) c.requires.node_held,
         ),
       ),

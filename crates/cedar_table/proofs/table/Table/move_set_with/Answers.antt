@@ -1,13 +1,14 @@
-use Rattle.std.proofs.Common.{arith, rules, subst, sym, ℕ, ◌≤◌, ◌∙◌, inl, refl}
+use Rattle.std.proofs.Common.{arith, rules, subst, sym, ℕ, ◌≤◌, inl, refl}
 use Rattle.std.specs.Prelude.{bit_xor}
-use Rattle.cedar_table.specs.Family.{Among, owned}
-use Rattle.cedar_table.specs.Meaning.{HoldsTree}
-use Rattle.cedar_table.specs.Renaming.{Movable, SetMoved}
-use Rattle.cedar_table.specs.Reserved.{freed}
-use Rattle.cedar_table.specs.TableFields.{cells, fields, size_of}
-use Rattle.cedar_table.proofs.BlocksMadeLemmas.{made_framed, made_larger}
-use Rattle.cedar_table.proofs.MovableLemmas.{relocated_holds}
-use Rattle.cedar_table.proofs.ResolveLemmas.{can_relocate, place_of, same_holds, set_moved}
+use Rattle.cedar_table.specs.Meaning.Family.{Among, owned}
+use Rattle.cedar_table.specs.Meaning.StandsFor.{HoldsTree}
+use Rattle.cedar_table.specs.Relocation.Renaming.{Movable, SetMoved}
+use Rattle.cedar_table.specs.Relocation.Reserved.{freed}
+use Rattle.cedar_table.specs.Table.TableFields.{cells, fields, size_of}
+use Rattle.cedar_table.proofs.UpdateLemmas.BlocksMade.{growth_framed, made_larger}
+use Rattle.cedar_table.proofs.RelocationLemmas.Movable.{relocated_holds}
+use Rattle.cedar_table.proofs.RelocationLemmas.PlacesFirst.{can_relocate, place_of, same_holds, set_moved}
+use Rattle.cedar_table.specs.Edit.Steps.{MayAddBlock}
 use Rattle.cedar_table.proofs.table.Table.move_set_with.Goals as goal
 
 pub relocate_with-requires : goal.relocate_with-requires
@@ -45,10 +46,11 @@ returns-clause-moved g c =
           subst (λ n. HoldsTree n (freed T' k) f) (sym c.relocate_with.ensures.frame.size) (relocated_holds _ T₁ (freed T' k) c.args.node b f c.relocate_with.ensures.relocated made);
     }
 
-pub returns-clause-blocks : goal.returns-clause-blocks
-returns-clause-blocks g c =
-    let blocks = c.place_for.ensures.blocks in
-    (blocks.0, blocks.1, made_framed blocks.0 (fields c.args.self.now) (fields c.place_for.new.self) (fields c.relocate_with.new.self) blocks.2 c.relocate_with.ensures.frame)
-
-pub returns-clause-root_check : goal.returns-clause-root_check
-returns-clause-root_check g c = c.relocate_with.ensures.root_check ∙ (c.place_for.ensures.held.other 0 (inl refl)).check
+pub returns-clause-growth : goal.returns-clause-growth
+returns-clause-growth g c =
+    let placed : MayAddBlock (fields c.args.self.now) (fields c.place_for.new.self) = record {
+      blocks = c.place_for.ensures.blocks;
+      root_check = (c.place_for.ensures.held.other 0 (inl refl)).check;
+      settings = c.place_for.ensures.settings;
+    } in
+    growth_framed _ _ _ placed c.relocate_with.ensures.frame c.relocate_with.ensures.root_check

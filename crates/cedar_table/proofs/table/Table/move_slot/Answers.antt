@@ -1,8 +1,8 @@
 use Rattle.std.proofs.Common.{◌≡◌, ◌<◌, arith, inr, rules, subst, sym}
 use Rattle.std.specs.Prelude.{pos}
-use Rattle.cedar_table.specs.TableFields.{cells}
-use Rattle.cedar_table.proofs.FrameLemmas.{frame_then}
-use Rattle.cedar_table.proofs.ReservedLemmas.{given_same, renames_same}
+use Rattle.cedar_table.specs.Table.TableFields.{cells}
+use Rattle.cedar_table.proofs.UpdateLemmas.Frame.{frame_then}
+use Rattle.cedar_table.proofs.RelocationLemmas.KeptSlot.{given_same, renames_same}
 use Rattle.cedar_table.proofs.table.Table.move_slot.Goals as goal
 
 pub copy_slot-requires : goal.copy_slot-requires
@@ -20,4 +20,4 @@ returns-clause-renamed g c =
     renames_same _ _ _ _ c.copy_slot.ensures.renamed (given_same _ _ c.args.from not_root c.push_e_node.ensures.gives)
 
 pub returns-clause-frame : goal.returns-clause-frame
-returns-clause-frame g c = frame_then _ _ _ c.copy_slot.ensures.frame (record { size = c.push_e_node.ensures.size; capacity = c.push_e_node.ensures.capacity; settings = c.push_e_node.ensures.settings })
+returns-clause-frame g c = frame_then _ _ _ c.copy_slot.ensures.frame c.push_e_node.ensures.frame

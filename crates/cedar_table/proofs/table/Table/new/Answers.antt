@@ -1,15 +1,16 @@
 use Rattle.std.proofs.Common.{◌≡◌, ap, arith, refl, rules, subst}
 use Rattle.std.specs.Prelude.{negsuc}
 use Rattle.std.proofs.lemmas.Int.{ints}
-use Rattle.cedar_table.specs.declared.records.NodeRecord.{NodeRecord}
+use Rattle.cedar_slots.specs.declared.records.NodeRecord.{NodeRecord}
 use Rattle.cedar_table.specs.declared.layout.Stored.TheVariants.{AtBase}
-use Rattle.cedar_table.specs.Places.{IsNew}
-use Rattle.cedar_table.specs.Slots.{check_at}
-use Rattle.cedar_table.specs.TableFields.{Fields}
-use Rattle.cedar_table.specs.Views.{places_of}
-use Rattle.cedar_table.specs.WellFormed.{cells_in}
-use Rattle.cedar_table.proofs.NewLemmas.{bare_new, IsTable-new}
-use Rattle.cedar_table.proofs.TreeOfLemmas.{new_tree, new_well_formed}
+use Rattle.cedar_slots.specs.Places.{IsNew}
+use Rattle.cedar_slots.specs.Slots.{check_at}
+use Rattle.cedar_table.specs.Table.TableFields.{Fields}
+use Rattle.cedar_slots.specs.Views.{places_of}
+use Rattle.cedar_table.specs.Meaning.WellFormed.{cells_in}
+use Rattle.cedar_slots.proofs.PlacementLemmas.FirstBlock.{IsTable-new}
+use Rattle.cedar_table.proofs.CellsLemmas.FirstSlots.{bare_new}
+use Rattle.cedar_table.proofs.MeaningLemmas.TreeOf.{new_tree, new_well_formed}
 use Rattle.cedar_table.proofs.table.Table.new.Goals as goal
 
 pub returns-clause-well_formed : goal.returns-clause-well_formed

@@ -1,9 +1,9 @@
 use Rattle.std.proofs.Common.{◌≡◌, subst}
 use Rattle.std.specs.Prelude.{pos}
-use Rattle.cedar_table.specs.Renaming.{Renames, single}
-use Rattle.cedar_table.specs.Reserved.{freed}
-use Rattle.cedar_table.specs.TableFields.{cells}
-use Rattle.cedar_table.proofs.ReservedLemmas.{marked_same, renames_same}
+use Rattle.cedar_table.specs.Relocation.Renaming.{Renames, single}
+use Rattle.cedar_table.specs.Relocation.Reserved.{freed}
+use Rattle.cedar_table.specs.Table.TableFields.{cells}
+use Rattle.cedar_table.proofs.RelocationLemmas.KeptSlot.{marked_same, renames_same}
 use Rattle.cedar_table.proofs.table.Table.pass_slot.Goals as goal
 
 pub returns-then-from-wanted-clause-passed : goal.returns-then-from-wanted-clause-passed

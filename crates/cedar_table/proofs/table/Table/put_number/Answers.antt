@@ -1,144 +1,95 @@
-use Rattle.std.proofs.Common.{rules, ◌≡◌, ◌≢◌, ◌∙◌, ◌<◌, ap, arith, inl, inr, subst, sym, of_z, to_z, w32, FitsSigned, Some}
-use Rattle.std.specs.Prelude.{List, ℕ, OnOk, pos}
+use Rattle.std.proofs.Common.{rules, ◌≡◌, ◌≢◌, ◌∙◌, ap, arith, inl, inr, subst, of_z, to_z, refl, w32, FitsSigned, Some}
+use Rattle.std.specs.Prelude.{List, ℕ, ℤ, OnOk}
 use Rattle.std.proofs.lemmas.Int.{to_z-of_z}
 use Rattle.cedar_tree.specs.Tree.{Forest}
 use Rattle.cedar_tree.specs.Edits.{edit_at}
-use Rattle.cedar_table.specs.Meaning.{HoldsTree}
-use Rattle.cedar_table.specs.Cells.{Held}
-use Rattle.cedar_table.specs.Family.{base_in, base_of, below}
-use Rattle.cedar_table.specs.Edit.{IsAt, IsNodeOf}
-use Rattle.cedar_table.specs.Renaming.{SameFrame}
-use Rattle.cedar_table.specs.TableFields.{cells, fields, size_of}
-use Rattle.cedar_table.proofs.BlocksMadeLemmas.{framed_none, made_framed}
-use Rattle.cedar_table.proofs.ClaimLemmas.{slot_far}
-use Rattle.cedar_table.proofs.RoomLemmas.{based_node, not_free_held}
-use Rattle.cedar_table.proofs.StepsToLemmas.{label_inside, owner_ranged}
+use Rattle.cedar_table.specs.declared.layout.Stored.TheVariants.{OwnNumber}
+use Rattle.cedar_table.specs.Edit.NodeEdits.{IsAt}
+use Rattle.cedar_table.specs.Meaning.Family.{base_in}
+use Rattle.cedar_table.specs.Meaning.StandsFor.{HoldsTree}
+use Rattle.cedar_table.specs.Table.TableFields.{cells, fields, size_of}
+use Rattle.cedar_table.specs.Meaning.WellFormed.{is_value}
+use Rattle.cedar_table.proofs.UpdateLemmas.BlocksMade.{framed_none, growth_none}
+use Rattle.cedar_table.proofs.EditLemmas.OwnNumber.{field_paths, kind_is, own_reduced, spare_past}
+use Rattle.cedar_table.proofs.EditLemmas.NumberMovesOut.{leaf_alone}
+use Rattle.cedar_table.proofs.UpdateLemmas.MarksAfterPut.{own_put}
+use Rattle.cedar_table.proofs.UpdateLemmas.StepAnswers.{on_success}
 use Rattle.cedar_table.proofs.table.Table.put_number.Goals as goal
 
-pub is_owned_by-requires : goal.is_owned_by-requires
-is_owned_by-requires g c =
+pub set_own_number-requires : goal.set_own_number-requires
+set_own_number-requires g c =
     let n = c.requires.node in
-    let inside = label_inside (size_of (fields c.args.self.now)) (cells c.args.self.now) (fields c.args.self.now).ordered n.0 c.args.node 0 n.1 (omega arith) (omega (arith, c.requires.node_in)) (omega arith) c.requires.no_own_number in
-    (search rules, (subst (λ s. s < size_of (fields c.args.self.now)) (sym c.child_slot-slot.ensures) inside, c.requires.node_in))
-
-pub set_number-requires : goal.set_number-requires
-set_number-requires g c =
-    let T = cells c.args.self.now in
-    let n = c.requires.node in
-    let mine : T.check (below T c.args.node 0) ≡ pos c.args.node = ap T.check (sym c.child_slot-slot.ensures) ∙ c.is_owned_by.ensures.0 c.if-is_owned_by.true in
-    let range = owner_ranged (size_of (fields c.args.self.now)) T (fields c.args.self.now).ordered n.0 c.args.node (below T c.args.node 0) n.1 c.requires.not_root c.requires.no_own_number mine in
-    (search rules, (c.requires.sound, (c.requires.node_in, (omega (arith, c.requires.not_root), (n, (range, inl mine))))))
-
-pub returns-then-is_owned_by-clause-set : goal.returns-then-is_owned_by-clause-set
-returns-then-is_owned_by-clause-set g c = λ f w h on.
+    let keeps = c.keeps_own.ensures.0 c.if-keeps_own.true in
+    let alone = leaf_alone (size_of (fields c.args.self.now)) (cells c.args.self.now) n.0 n.1.path c.args.node n.1.holds n.1.at c.requires.not_root keeps.1 in
     let fits : FitsSigned w32 c.args.value = search rules in
     let same : to_z w32 (of_z w32 c.args.value) ≡ c.args.value = to_z-of_z w32 c.args.value fits in
-    subst (λ z. HoldsTree (size_of (fields c.set_number.new.self)) (cells c.set_number.new.self) (edit_at w (λ _. Some z) (λ u. u) f)) same (c.set_number.ensures.tree f w h on)
+    (search rules, (c.requires.sound, (c.requires.node_in, (c.requires.not_root, (n, (alone, (keeps.0, ap is_value same ∙ c.requires.value)))))))
 
-pub returns-then-is_owned_by-clause-blocks : goal.returns-then-is_owned_by-clause-blocks
-returns-then-is_owned_by-clause-blocks g c =
-    let frame : SameFrame (fields c.args.self.now) (fields c.set_number.new.self) = record { size = c.set_number.ensures.size; capacity = c.set_number.ensures.capacity; settings = c.set_number.ensures.settings } in
-    (0, omega arith, framed_none (fields c.args.self.now) (fields c.set_number.new.self) frame)
-
-pub returns-then-is_owned_by-clause-owned : goal.returns-then-is_owned_by-clause-owned
-returns-then-is_owned_by-clause-owned g c = λ _.
-    let frame : SameFrame (fields c.args.self.now) (fields c.set_number.new.self) = record { size = c.set_number.ensures.size; capacity = c.set_number.ensures.capacity; settings = c.set_number.ensures.settings } in
-    (tt, framed_none (fields c.args.self.now) (fields c.set_number.new.self) frame)
-
-pub returns-then-is_owned_by-clause-leaf : goal.returns-then-is_owned_by-clause-leaf
-returns-then-is_owned_by-clause-leaf g c = λ _.
-    let frame : SameFrame (fields c.args.self.now) (fields c.set_number.new.self) = record { size = c.set_number.ensures.size; capacity = c.set_number.ensures.capacity; settings = c.set_number.ensures.settings } in
-    inl (tt, framed_none (fields c.args.self.now) (fields c.set_number.new.self) frame)
-
-pub is_taken-requires : goal.is_taken-requires
-is_taken-requires g c =
-    let n = c.requires.node in
-    let T = cells c.args.self.now in
-    let inside = label_inside (size_of (fields c.args.self.now)) T (fields c.args.self.now).ordered n.0 c.args.node 0 n.1 (omega arith) (omega (arith, c.requires.node_in)) (omega arith) c.requires.no_own_number in (
-      search rules,
-      (
-        c.requires.node_in,
-        (
-          subst (λ s. s < size_of (fields c.args.self.now)) (sym c.child_slot-slot.ensures) inside,
-          λ b z. slot_far _ 0 (based_node (size_of (fields c.args.self.now)) T (fields c.args.self.now).ordered n.0 c.args.node n.1 c.requires.no_own_number b).1.0 (omega arith) (sym c.child_slot-slot.ensures ∙ z),
-        ),
-      ),
-    )
-
-pub put_over-requires : goal.put_over-requires
-put_over-requires g c =
-    let n = c.requires.node in
-    let T = cells c.args.self.now in
-    let k = c.is_taken.ensures.taken c.if-is_taken.true in
-    let based = based_node (size_of (fields c.args.self.now)) T (fields c.args.self.now).ordered n.0 c.args.node n.1 c.requires.no_own_number k.0 in
-    let taken : Held T (below T c.args.node 0) = subst (Held T) c.child_slot-slot.ensures (not_free_held T c.child_slot-slot.result k.1) in
-    let absent : T.check (below T c.args.node 0) ≢ pos c.args.node = λ o.
-    let is_mine = c.is_owned_by.ensures.1 (ap T.check c.child_slot-slot.ensures ∙ o) in
-    let not_mine = c.if-is_owned_by.false in
-    cc in
-    (search rules, (c.requires.sound, (c.requires.node_in, (based.0, (based.1.0, (n, (taken, absent)))))))
-
-pub returns-then-is_taken-clause-set : goal.returns-then-is_taken-clause-set
-returns-then-is_taken-clause-set g c =
+pub returns-then-keeps_own-clause-set : goal.returns-then-keeps_own-clause-set
+returns-then-keeps_own-clause-set g c = λ f w h on.
     let fits : FitsSigned w32 c.args.value = search rules in
     let same : to_z w32 (of_z w32 c.args.value) ≡ c.args.value = to_z-of_z w32 c.args.value fits in
-    subst (λ z. OnOk c.put_over.result ((f : Forest) (w : List ℕ) → HoldsTree (size_of (fields c.args.self.now)) (cells c.args.self.now) f → IsAt (cells c.args.self.now) w c.args.node
-    → HoldsTree (size_of (fields c.put_over.new.self)) (cells c.put_over.new.self) (edit_at w (λ _. Some z) (λ u. u) f))) same c.put_over.ensures.set
+    subst (λ z. HoldsTree (size_of (fields c.set_own_number.new.self)) (cells c.set_own_number.new.self) (edit_at w (λ _. Some z) (λ u. u) f)) same (c.set_own_number.ensures.tree f w h on)
 
-pub returns-then-is_taken-clause-owned : goal.returns-then-is_taken-clause-owned
-returns-then-is_taken-clause-owned g c = λ o.
-    let T = cells c.args.self.now in
-    let is_mine = c.is_owned_by.ensures.1 (ap T.check c.child_slot-slot.ensures ∙ o) in
-    let not_mine = c.if-is_owned_by.false in
-    absurd (cc)
+pub returns-then-keeps_own-clause-growth : goal.returns-then-keeps_own-clause-growth
+returns-then-keeps_own-clause-growth g c = growth_none (fields c.args.self.now) (fields c.set_own_number.new.self) c.set_own_number.ensures.frame (c.set_own_number.ensures.set.check 0)
 
-pub returns-then-is_taken-clause-leaf : goal.returns-then-is_taken-clause-leaf
-returns-then-is_taken-clause-leaf g c = λ bare. absurd ((c.is_taken.ensures.taken c.if-is_taken.true).0 (ap base_in bare))
+pub returns-then-keeps_own-clause-owned : goal.returns-then-keeps_own-clause-owned
+returns-then-keeps_own-clause-owned g c = λ _. (tt, framed_none (fields c.args.self.now) (fields c.set_own_number.new.self) c.set_own_number.ensures.frame)
 
-pub room_for-requires : goal.room_for-requires
-room_for-requires g c =
-    let T = cells c.args.self.now in
-    let absent : T.check (below T c.args.node 0) ≢ pos c.args.node = λ o.
-    let is_mine = c.is_owned_by.ensures.1 (ap T.check c.child_slot-slot.ensures ∙ o) in
-    let not_mine = c.if-is_owned_by.false in
+pub returns-then-keeps_own-clause-own : goal.returns-then-keeps_own-clause-own
+returns-then-keeps_own-clause-own g c = λ _ _. (tt, framed_none (fields c.args.self.now) (fields c.set_own_number.new.self) c.set_own_number.ensures.frame)
+
+pub returns-then-keeps_own-clause-leaf : goal.returns-then-keeps_own-clause-leaf
+returns-then-keeps_own-clause-leaf g c = λ _. inl (tt, framed_none (fields c.args.self.now) (fields c.set_own_number.new.self) c.set_own_number.ensures.frame)
+
+pub put_in_slot-requires : goal.put_in_slot-requires
+put_in_slot-requires g c =
+    let no_own : (v : ℤ) → (cells c.args.self.now).stored c.args.node ≢ OwnNumber v = λ v e.
+    let yes = c.keeps_own.ensures.1 (own_reduced g.L.Layout.kind _ v e, ap base_in e) in
+    let no = c.if-keeps_own.false in
     cc in
-    let open_slot : (base_of T c.args.node ≢ 0) → Held T (below T c.args.node 0) → ⊥ = λ b. subst (λ s. Held T s → ⊥) c.child_slot-slot.ensures (c.is_taken.ensures.«open» (λ t. let f = c.if-is_taken.false in cc) b) in
-    (search rules, (c.requires.sound, (c.requires.node_in, (c.requires.node, ((λ z. absurd (c.requires.not_root z)), (c.requires.no_own_number, (absent, open_slot)))))))
-
-pub returns-in_err-room_for-clause-leaf : goal.returns-in_err-room_for-clause-leaf
-returns-in_err-room_for-clause-leaf g c = λ bare. elim (c.in_err-room_for.ensures.leaf c.requires.not_root bare) [ inl never ↦ absurd never.0 | inr full ↦ inr full ]
-
-pub set_number-requires-2 : goal.set_number-requires-2
-set_number-requires-2 g c =
-    let n = c.requires.node in
-    let room = c.in_ok-room_for.ensures in
-    let other : c.args.node ≢ 0 = λ z. c.requires.not_root (room.placed.root z) in
-    let node : IsNodeOf (size_of (fields c.room_for.new.self)) (cells c.room_for.new.self) (fields c.room_for.new.self).ordered n.0 c.args.node = record {
-      holds = room.tree n.0 n.1.holds;
-      ascending = λ o. n.1.ascending (sym room.settings.ordered ∙ o);
-      path = n.1.path;
-      at = room.placed.at n.1.path n.1.at;
-    } in
-    (search rules, (room.sound, (room.placed.inside, (omega (arith, other), ((n.0, node), (room.placed.based other, inr room.placed.free))))))
+    (search rules, (c.requires.sound, (c.requires.node_in, (c.requires.not_root, (c.requires.node, no_own)))))
 
 pub returns-clause-set : goal.returns-clause-set
-returns-clause-set g c = λ f w h on.
+returns-clause-set g c =
     let fits : FitsSigned w32 c.args.value = search rules in
     let same : to_z w32 (of_z w32 c.args.value) ≡ c.args.value = to_z-of_z w32 c.args.value fits in
-    subst (λ z. HoldsTree (size_of (fields c.set_number-2.new.self)) (cells c.set_number-2.new.self) (edit_at w (λ _. Some z) (λ u. u) f)) same
-    (c.set_number-2.ensures.tree f w (c.in_ok-room_for.ensures.tree f h) (c.in_ok-room_for.ensures.placed.at w on))
+    subst (λ z. OnOk c.put_in_slot.result ((f : Forest) (w : List ℕ) → HoldsTree (size_of (fields c.args.self.now)) (cells c.args.self.now) f → IsAt (cells c.args.self.now) w c.args.node
+    → HoldsTree (size_of (fields c.put_in_slot.new.self)) (cells c.put_in_slot.new.self) (edit_at w (λ _. Some z) (λ u. u) f))) same c.put_in_slot.ensures.set
 
-pub returns-clause-owned : goal.returns-clause-owned
-returns-clause-owned g c = λ o.
-    let T = cells c.args.self.now in
-    let is_mine = c.is_owned_by.ensures.1 (ap T.check c.child_slot-slot.ensures ∙ o) in
-    let not_mine = c.if-is_owned_by.false in
+pub returns-clause-own : goal.returns-clause-own
+returns-clause-own g c = λ v e.
+    let yes = c.keeps_own.ensures.1 (own_reduced g.L.Layout.kind _ v e, ap base_in e) in
+    let no = c.if-keeps_own.false in
     absurd (cc)
 
 pub returns-clause-leaf : goal.returns-clause-leaf
-returns-clause-leaf g c = λ bare.
-    let frame : SameFrame (fields c.room_for.new.self) (fields c.set_number-2.new.self) = record { size = c.set_number-2.ensures.size; capacity = c.set_number-2.ensures.capacity; settings = c.set_number-2.ensures.settings } in
-    elim (c.in_ok-room_for.ensures.leaf c.requires.not_root bare) [
-      | inl made ↦ inl (tt, made_framed 0 (fields c.args.self.now) (fields c.room_for.new.self) (fields c.set_number-2.new.self) made.1 frame)
-      | inr full ↦ inr full
-    ]
+returns-clause-leaf g c = λ bare. elim (kind_is g.L.Layout.kind) [
+  | inl default ↦ elim (c.put_in_slot.ensures.leaf bare) [ inl made ↦ inl made | inr full ↦ inr (default, full) ]
+  | inr reduced ↦
+      let yes = c.keeps_own.ensures.1 (reduced, ap base_in bare) in
+      let no = c.if-keeps_own.false in
+      absurd (cc)
+]
+
+pub returns-then-keeps_own-clause-marks : goal.returns-then-keeps_own-clause-marks
+returns-then-keeps_own-clause-marks g c = λ other.
+    let keeps = c.keeps_own.ensures.0 c.if-keeps_own.true in
+    absurd (other keeps.0 keeps.1)
+
+pub returns-then-keeps_own-clause-marks_own : goal.returns-then-keeps_own-clause-marks_own
+returns-then-keeps_own-clause-marks_own g c = λ reduced none_there.
+    let n = c.requires.node.1 in
+    let T = fields c.args.self.now in
+    let alone = leaf_alone (size_of T) (cells c.args.self.now) _ n.path c.args.node n.holds n.at c.requires.not_root none_there in
+    own_put (cells c.args.self.now) (cells c.set_own_number.new.self) c.args.node _ alone c.set_own_number.ensures.set
+    (field_paths (size_of T) (cells c.args.self.now) (cells c.set_own_number.new.self) _ n.path c.args.node (size_of T) _ _ n.holds n.at c.requires.not_root alone c.set_own_number.ensures.set (spare_past T (omega (arith, c.requires.node_in))) (inl (_, refl, refl)))
+
+pub returns-clause-marks : goal.returns-clause-marks
+returns-clause-marks g c = on_success c.put_in_slot.result _ _ (λ k _. k) c.put_in_slot.ensures.marks
+
+pub returns-clause-marks_own : goal.returns-clause-marks_own
+returns-clause-marks_own g c =
+    let no = c.if-keeps_own.false in
+    on_success c.put_in_slot.result _ _ (λ _ reduced none_there. let yes = c.keeps_own.ensures.1 (reduced, none_there) in absurd (cc)) c.put_in_slot.ensures.marks

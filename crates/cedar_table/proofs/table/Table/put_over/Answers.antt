@@ -1,11 +1,13 @@
-use Rattle.std.proofs.Common.{rules, ◌≡◌, ◌≢◌, ◌∙◌, arith, subst, sym, of_z, to_z, w32, FitsSigned, Some}
+use Rattle.std.proofs.Common.{rules, ◌≡◌, ◌≢◌, ◌∙◌, arith, subst, sym, of_z, to_z, w32, FitsSigned, Some, true}
 use Rattle.std.proofs.lemmas.Int.{to_z-of_z}
 use Rattle.cedar_tree.specs.Edits.{edit_at}
-use Rattle.cedar_table.specs.Edit.{IsNodeOf}
-use Rattle.cedar_table.specs.Family.{below}
-use Rattle.cedar_table.specs.Meaning.{HoldsTree}
-use Rattle.cedar_table.specs.Reserved.{freed}
-use Rattle.cedar_table.specs.TableFields.{cells, fields, size_of}
+use Rattle.cedar_table.specs.Edit.NodeEdits.{IsNodeOf}
+use Rattle.cedar_table.specs.Meaning.Family.{below}
+use Rattle.cedar_table.specs.Meaning.StandsFor.{HoldsTree}
+use Rattle.cedar_table.specs.Relocation.Reserved.{freed}
+use Rattle.cedar_table.specs.Table.TableFields.{cells, fields, size_of}
+use Rattle.cedar_table.proofs.UpdateLemmas.MarksAfterPut.{kept_then_put, slot_put}
+use Rattle.cedar_table.proofs.UpdateLemmas.BlocksMade.{growth_framed}
 use Rattle.cedar_table.proofs.table.Table.put_over.Goals as goal
 
 pub set_reserved-requires : goal.set_reserved-requires
@@ -15,7 +17,7 @@ set_reserved-requires g c =
     let R = cells c.resolve.new.self in
     let node : IsNodeOf (size_of (fields c.resolve.new.self)) (freed R (below R c.in_ok-node.node 0)) (fields c.resolve.new.self).ordered n.0 c.in_ok-node.node = record {
       holds = k.tree n.0 n.1.holds;
-      ascending = λ o. n.1.ascending (sym c.in_ok-node.ensures.settings.ordered ∙ o);
+      ascending = λ o. n.1.ascending (sym c.in_ok-node.ensures.growth.settings.ordered ∙ o);
       path = n.1.path;
       at = k.at n.1.path n.1.at;
     } in
@@ -29,3 +31,16 @@ returns-clause-set g c = λ f w h on.
     let same : to_z w32 (of_z w32 c.args.value) ≡ c.args.value = to_z-of_z w32 c.args.value fits in
     subst (λ z. HoldsTree (size_of (fields c.set_reserved.new.self)) (cells c.set_reserved.new.self) (edit_at w (λ _. Some z) (λ u. u) f)) same
     (c.set_reserved.ensures.tree f w (k.tree f h) (k.at w on))
+
+pub returns-clause-marks : goal.returns-clause-marks
+returns-clause-marks g c =
+    let n = c.requires.node in
+    let k = c.in_ok-node.ensures.reserved in
+    let R = cells c.resolve.new.self in
+    let T = freed R (below R c.in_ok-node.node 0) in
+    let holds = k.tree n.0 n.1.holds in
+    let put = slot_put (size_of (fields c.resolve.new.self)) T (cells c.set_reserved.new.self) n.0 n.1.path c.in_ok-node.node _ holds (k.at n.1.path n.1.at) c.set_reserved.ensures.set in
+    kept_then_put (cells c.args.self.now) T (cells c.set_reserved.new.self) n.1.path c.args.node c.in_ok-node.node true holds.root n.1.at k.marks k.at put
+
+pub returns-clause-growth : goal.returns-clause-growth
+returns-clause-growth g c = growth_framed _ _ _ c.in_ok-node.ensures.growth c.set_reserved.ensures.frame c.set_reserved.ensures.root_check

@@ -1,8 +1,7 @@
 use Rattle.std.proofs.Common.{take, bit_xor}
-use Rattle.cedar_table.specs.Places.{IsTable}
-use Rattle.cedar_table.specs.TableFields.{cells, fields}
-use Rattle.cedar_table.specs.Renaming.{SameFrame}
-use Rattle.cedar_table.proofs.ReservingLemmas.{Reserving}
+use Rattle.cedar_slots.specs.Places.{IsTable}
+use Rattle.cedar_table.specs.Table.TableFields.{cells, fields, SameFrame}
+use Rattle.cedar_table.proofs.RelocationLemmas.MovedAround.{Reserving}
 use Rattle.cedar_table.proofs.table.Table.relocate_with.Given as goal
 
 abbrev pub invariant-loop-other : goal.invariant-loop-other

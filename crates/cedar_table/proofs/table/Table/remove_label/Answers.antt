@@ -1,12 +1,12 @@
 use Rattle.std.proofs.Common.{◌≡◌, ◌<◌, ◌∙◌, arith, inl, inr, refl, rules, subst, sym, ap, pos}
-use Rattle.cedar_table.specs.Family.{below}
-use Rattle.cedar_table.specs.Meaning.{HoldsTree}
+use Rattle.cedar_table.specs.Meaning.Family.{below}
+use Rattle.cedar_table.specs.Meaning.StandsFor.{HoldsTree}
 use Rattle.cedar_tree.specs.Tree.{without}
 use Rattle.cedar_tree.specs.Edits.{edit_at}
-use Rattle.cedar_table.specs.TableFields.{cells, fields, size_of}
-use Rattle.cedar_table.proofs.AtLemmas.{held_node, label_removed, not_own_owner}
-use Rattle.cedar_table.proofs.LabelLemmas.{chain_of_node}
-use Rattle.cedar_table.proofs.UnlinkLemmas.{can_lead, owned_inside, removes_at, same_checks}
+use Rattle.cedar_table.specs.Table.TableFields.{cells, fields, size_of}
+use Rattle.cedar_table.proofs.EditLemmas.AtPath.{held_node, label_removed, not_own_owner}
+use Rattle.cedar_table.proofs.EditLemmas.SlotForLabel.{chain_of_node}
+use Rattle.cedar_table.proofs.EditLemmas.Unlinked.{can_lead, owned_inside, removes_at, same_checks}
 use Rattle.cedar_table.proofs.table.Table.remove_label.Goals as goal
 
 pub slot_to-before-requires : goal.slot_to-before-requires
@@ -48,7 +48,7 @@ push_e_node-requires g c =
       (
         led.sound,
         (
-          subst (λ m. c.child_slot-slot.result < m) (sym led.size) (subst (λ s. s < size) (sym e) inside),
+          subst (λ m. c.child_slot-slot.result < m) (sym led.frame.size) (subst (λ s. s < size) (sym e) inside),
           (inr (c.args.node, same_checks T (cells c.lead_to.new.self) c.args.node c.sibling-next.result c.slot_to-before.result led.set c.child_slot-slot.result ∙ mine), omega (arith, not_root)),
         ),
       ),
@@ -66,7 +66,7 @@ returns-clause-removed g c =
 
 pub returns-clause-tree : goal.returns-clause-tree
 returns-clause-tree g c = λ f w h at.
-    subst (λ m. HoldsTree m (cells c.push_e_node.new.self) (edit_at w (λ v. v) (λ u. without u c.args.label) f)) (sym (c.push_e_node.ensures.size ∙ c.lead_to.ensures.size))
+    subst (λ m. HoldsTree m (cells c.push_e_node.new.self) (edit_at w (λ v. v) (λ u. without u c.args.label) f)) (sym (c.push_e_node.ensures.frame.size ∙ c.lead_to.ensures.frame.size))
     (label_removed (size_of (fields c.args.self.now)) (cells c.args.self.now) (cells c.push_e_node.new.self) f w c.args.node c.args.label h at (returns-clause-removed g c))
 
 pub returns-clause-root_check : goal.returns-clause-root_check

@@ -1,8 +1,8 @@
 use Rattle.std.proofs.Common.{◌<◌, arith, rules, subst, sym}
-use Rattle.cedar_table.specs.TableFields.{cells, fields, size_of}
-use Rattle.cedar_table.specs.Family.{base_in}
-use Rattle.cedar_table.proofs.FrameLemmas.{frame_then}
-use Rattle.cedar_table.proofs.RepointLemmas.{base_within, repointed_both}
+use Rattle.cedar_table.specs.Table.TableFields.{cells, fields, size_of}
+use Rattle.cedar_table.specs.Meaning.Family.{base_in}
+use Rattle.cedar_table.proofs.UpdateLemmas.Frame.{frame_then}
+use Rattle.cedar_table.proofs.RelocationLemmas.Repointed.{base_within, repointed_both}
 use Rattle.cedar_table.proofs.table.Table.repoint.Goals as goal
 
 pub repoint_chain-requires : goal.repoint_chain-requires

@@ -1,9 +1,8 @@
 use Rattle.std.proofs.Common.{length}
-use Rattle.cedar_table.specs.Places.{IsTable}
-use Rattle.cedar_table.specs.Reading.{chain}
-use Rattle.cedar_table.specs.Renaming.{SameFrame}
-use Rattle.cedar_table.specs.TableFields.{cells, fields}
-use Rattle.cedar_table.proofs.RepointLemmas.{Walked}
+use Rattle.cedar_slots.specs.Places.{IsTable}
+use Rattle.cedar_table.specs.Meaning.Reading.{chain}
+use Rattle.cedar_table.specs.Table.TableFields.{cells, fields, SameFrame}
+use Rattle.cedar_table.proofs.RelocationLemmas.Repointed.{Walked}
 use Rattle.cedar_table.proofs.table.Table.repoint_chain.Given as goal
 
 abbrev pub invariant-loop-label : goal.invariant-loop-label

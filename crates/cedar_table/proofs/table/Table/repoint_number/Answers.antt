@@ -1,18 +1,16 @@
-use Rattle.std.proofs.Common.{◌∙◌, ◌<◌, arith, inr, rules, subst, sym}
+use Rattle.std.proofs.Common.{◌≡◌, ◌∙◌, ◌<◌, ap, arith, inr, refl, rules, subst, sym}
 use lib.Bits.{xor_zero_r}
-use Rattle.cedar_table.specs.TableFields.{cells, fields, size_of}
-use Rattle.cedar_table.proofs.RepointLemmas.{base_within, chain_given, chain_kept, no_number, number_given}
+use Rattle.cedar_table.specs.Meaning.Family.{below}
+use Rattle.cedar_table.specs.Table.TableFields.{cells, fields, size_of}
+use Rattle.cedar_table.proofs.RelocationLemmas.Repointed.{base_within, chain_given, chain_kept, no_number, number_given}
 use Rattle.cedar_table.proofs.table.Table.repoint_number.Goals as goal
-
-pub is_owned_by-requires : goal.is_owned_by-requires
-is_owned_by-requires g c =
-    let n = c.requires.node in
-    (search rules, (subst (λ s. s < size_of (fields c.args.self.now)) (sym c.base_of-slot.ensures) (base_within _ _ _ n.head n.labels (omega (arith, c.args.self.now.shaped.blocks.some)) n.family), c.requires.from_in))
 
 pub set_check-requires : goal.set_check-requires
 set_check-requires g c =
     let n = c.requires.node in
-    (search rules, (c.requires.sound, (subst (λ s. s < size_of (fields c.args.self.now)) (sym c.base_of-slot.ensures) (base_within _ _ _ n.head n.labels (omega (arith, c.args.self.now.shaped.blocks.some)) n.family), (inr (c.args.from, c.is_owned_by.ensures.0 c.if-is_owned_by.true), c.requires.to_in))))
+    let T = cells c.args.self.now in
+    let at = c.base_of-slot.ensures ∙ sym (xor_zero_r _) in
+    (search rules, (c.requires.sound, (subst (λ s. s < size_of (fields c.args.self.now)) (sym c.base_of-slot.ensures) (base_within _ _ _ n.head n.labels (omega (arith, c.args.self.now.shaped.blocks.some)) n.family), (inr (c.args.from, ap T.check at ∙ c.has_number_slot.ensures.0 c.if-has_number_slot.true), c.requires.to_in))))
 
 pub sibling-requires : goal.sibling-requires
 sibling-requires g c =
@@ -20,18 +18,22 @@ sibling-requires g c =
     let inside : c.base_of-slot.result < size_of (fields c.args.self.now) = subst (λ s. s < size_of (fields c.args.self.now)) (sym c.base_of-slot.ensures) (base_within _ _ _ n.head n.labels (omega (arith, c.args.self.now.shaped.blocks.some)) n.family) in
     (search rules, omega (arith, inside, c.set_check.ensures.frame.capacity, c.args.self.now.shaped.blocks.active_in))
 
-pub returns-then-is_owned_by-clause-number : goal.returns-then-is_owned_by-clause-number
-returns-then-is_owned_by-clause-number g c =
-    number_given (cells c.args.self.now) c.args.from c.args.to c.base_of-slot.result c.requires.not_root (c.base_of-slot.ensures ∙ sym (xor_zero_r _)) _ (c.is_owned_by.ensures.0 c.if-is_owned_by.true) c.set_check.ensures.at
+pub returns-then-has_number_slot-clause-number : goal.returns-then-has_number_slot-clause-number
+returns-then-has_number_slot-clause-number g c =
+    let T = cells c.args.self.now in
+    let at : c.base_of-slot.result ≡ below T c.args.from 0 = c.base_of-slot.ensures ∙ sym (xor_zero_r _) in
+    number_given T c.args.from c.args.to c.base_of-slot.result c.requires.not_root at _ (ap T.check at ∙ c.has_number_slot.ensures.0 c.if-has_number_slot.true) c.set_check.ensures.at
 
-pub returns-then-is_owned_by-clause-chain : goal.returns-then-is_owned_by-clause-chain
-returns-then-is_owned_by-clause-chain g c =
-    chain_given (cells c.args.self.now) c.args.from c.args.to c.base_of-slot.result c.requires.not_root (c.base_of-slot.ensures ∙ sym (xor_zero_r _)) _ c.sibling.result _ (c.is_owned_by.ensures.0 c.if-is_owned_by.true) c.set_check.ensures.at c.sibling.ensures
+pub returns-then-has_number_slot-clause-chain : goal.returns-then-has_number_slot-clause-chain
+returns-then-has_number_slot-clause-chain g c =
+    let T = cells c.args.self.now in
+    let at : c.base_of-slot.result ≡ below T c.args.from 0 = c.base_of-slot.ensures ∙ sym (xor_zero_r _) in
+    chain_given T c.args.from c.args.to c.base_of-slot.result c.requires.not_root at _ c.sibling.result _ (ap T.check at ∙ c.has_number_slot.ensures.0 c.if-has_number_slot.true) c.set_check.ensures.at c.sibling.ensures
 
 pub returns-clause-number : goal.returns-clause-number
 returns-clause-number g c =
-    no_number (cells c.args.self.now) c.args.from c.args.to c.base_of-slot.result c.requires.not_root (c.base_of-slot.ensures ∙ sym (xor_zero_r _)) (λ o. let yes = c.is_owned_by.ensures.1 o in cc)
+    no_number (cells c.args.self.now) c.args.from c.args.to _ c.requires.not_root refl (λ o. let yes = c.has_number_slot.ensures.1 o in cc)
 
 pub returns-clause-chain : goal.returns-clause-chain
 returns-clause-chain g c =
-    chain_kept (cells c.args.self.now) c.args.from c.args.to c.base_of-slot.result c.requires.not_root (c.base_of-slot.ensures ∙ sym (xor_zero_r _)) c.child.result _ (λ o. let yes = c.is_owned_by.ensures.1 o in cc) c.child.ensures
+    chain_kept (cells c.args.self.now) c.args.from c.args.to _ c.requires.not_root refl c.child.result _ (λ o. let yes = c.has_number_slot.ensures.1 o in cc) c.child.ensures

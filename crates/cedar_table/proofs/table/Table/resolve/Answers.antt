@@ -1,9 +1,9 @@
 use Rattle.std.proofs.Common.{◌<◌, ◌∙◌, ap, arith, rules, subst, sym, ℕ, List, []}
-use Rattle.cedar_table.specs.Edit.{follow_on}
-use Rattle.cedar_table.specs.Family.{below}
-use Rattle.cedar_table.specs.TableFields.{cells, fields, size_of}
-use Rattle.cedar_table.proofs.BlocksMadeLemmas.{made_larger}
-use Rattle.cedar_table.proofs.ConflictLemmas.{conflict, reserves_kept, reserves_moved, reserves_own, slot_inside, slot_owned}
+use Rattle.cedar_table.specs.Edit.NodeEdits.{follow_on}
+use Rattle.cedar_table.specs.Meaning.Family.{below}
+use Rattle.cedar_table.specs.Table.TableFields.{cells, fields, size_of}
+use Rattle.cedar_table.proofs.UpdateLemmas.BlocksMade.{made_larger}
+use Rattle.cedar_table.proofs.RelocationLemmas.Conflict.{conflict, reserves_kept, reserves_moved, reserves_own, slot_inside, slot_owned}
 use Rattle.cedar_table.proofs.table.Table.resolve.Goals as goal
 
 pub owner-owner-requires : goal.owner-owner-requires
@@ -51,7 +51,7 @@ returns-then-is_longer-clause-reserved g c =
     let F = fields c.args.self.now in
     let F' = fields c.move_with.new.self in
     let n = c.requires.node in
-    let blocks = c.move_with.ensures.blocks in
+    let blocks = c.move_with.ensures.growth.blocks in
     let m = c.in_ok-move_with.ensures.moved in
     reserves_own F F' n.0 c.args.node c.args.label (follow_on n.1.path []) (made_larger blocks.0 F F' blocks.2) c.requires.node_in n.1.holds n.1.at.0 n.1.at.1 c.requires.not_root c.requires.based (omega (arith, c.ranges.label)) m.0 m.1 m.2 m.3 m.4 m.5
 
@@ -60,7 +60,7 @@ returns-then-moves-clause-reserved g c =
     let F = fields c.args.self.now in
     let F' = fields c.move_away.new.self in
     let n = c.requires.node in
-    let blocks = c.move_away.ensures.blocks in
+    let blocks = c.move_away.ensures.growth.blocks in
     let m = c.in_ok-new_base.ensures.moved in
     reserves_moved F F' n.0 c.args.node c.args.label (follow_on n.1.path []) (made_larger blocks.0 F F' blocks.2) c.requires.node_in n.1.holds n.1.at.0 n.1.at.1 c.requires.not_root c.requires.based (omega (arith, c.ranges.label)) c.owner-owner.result c.in_ok-new_base.new_base c.base_of-old_base.result c.child_slot-slot.result m.0 m.0 c.child_slot-slot.ensures c.owner-owner.ensures c.requires.absent c.base_of-old_base.ensures (c.is_owned_by-moves.ensures.0 c.if-moves.true) m.1
 
@@ -69,6 +69,6 @@ returns-clause-reserved g c =
     let F = fields c.args.self.now in
     let F' = fields c.move_away.new.self in
     let n = c.requires.node in
-    let blocks = c.move_away.ensures.blocks in
+    let blocks = c.move_away.ensures.growth.blocks in
     let m = c.in_ok-new_base.ensures.moved in
     reserves_kept F F' n.0 c.args.node c.args.label (follow_on n.1.path []) (made_larger blocks.0 F F' blocks.2) c.requires.node_in n.1.holds n.1.at.0 n.1.at.1 c.requires.not_root c.requires.based (omega (arith, c.ranges.label)) c.owner-owner.result c.in_ok-new_base.new_base c.child_slot-slot.result m.0 m.0 c.child_slot-slot.ensures c.owner-owner.ensures c.requires.absent (λ mine. let yes_mine = c.is_owned_by-moves.ensures.1 mine in cc) m.1

@@ -1,9 +1,10 @@
-use Rattle.std.proofs.Common.{rules, ◌≡◌, ◌∙◌, ◌<◌, arith, inl, inr, sym}
+use Rattle.std.proofs.Common.{rules, ◌≡◌, ◌∙◌, ◌<◌, arith, inl, inr, refl, sym}
 use Rattle.cedar_table.specs.declared.layout.Stored.TheVariants.{AtBase}
-use Rattle.cedar_table.specs.TableFields.{cells, fields, size_of}
-use Rattle.cedar_table.specs.Views.{places_of}
-use Rattle.cedar_table.proofs.BlocksMadeLemmas.{made_none, same_slots}
-use Rattle.cedar_table.proofs.RoomLemmas.{label_free, label_place, LabelPlace, leaf_base}
+use Rattle.cedar_table.specs.Table.TableFields.{cells, fields, size_of}
+use Rattle.cedar_slots.specs.Views.{places_of}
+use Rattle.cedar_table.proofs.UpdateLemmas.BlocksMade.{growth_nothing, made_none, same_slots}
+use Rattle.cedar_table.proofs.MeaningLemmas.NumberSlots.{marks_same}
+use Rattle.cedar_table.proofs.EditLemmas.Room.{label_free, label_place, LabelPlace, leaf_base}
 use Rattle.cedar_table.proofs.table.Table.room_for.Goals as goal
 
 pub first_base-requires : goal.first_base-requires
@@ -30,10 +31,11 @@ returns-clause-placed g c =
         | inl root ↦ label_free (size_of (fields c.args.self.now)) T n.0 c.args.node c.args.label n.1.holds root.1 c.requires.positive_at_root small c.requires.absent
         | inr based ↦ c.requires.slot_free (λ e. based (is ∙ e))
       ];
+      marks = marks_same (cells c.args.self.now);
     }
 
-pub returns-clause-blocks : goal.returns-clause-blocks
-returns-clause-blocks g c = (0, omega arith, made_none (fields c.args.self.now) (fields c.args.self.now) (same_slots (places_of c.args.self.now.places)))
+pub returns-clause-growth : goal.returns-clause-growth
+returns-clause-growth g c = growth_nothing (fields c.args.self.now) (fields c.args.self.now) refl
 
 pub returns-clause-leaf : goal.returns-clause-leaf
 returns-clause-leaf g c = λ _ _. inl (tt, made_none (fields c.args.self.now) (fields c.args.self.now) (same_slots (places_of c.args.self.now.places)))

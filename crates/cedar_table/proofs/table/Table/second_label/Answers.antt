@@ -1,17 +1,17 @@
 use Rattle.std.proofs.Common.{◌≡◌, ◌∙◌, ◌<◌, ap, arith, rules, sym, bit_xor, ℕ}
 use lib.Bits.{xor_zero_r}
-use Rattle.cedar_table.specs.Family.{below}
-use Rattle.cedar_table.specs.TableFields.{cells, fields, size_of}
-use Rattle.cedar_table.proofs.LongerLemmas.{label_inside, second_after, second_none, second_valued}
+use Rattle.cedar_table.specs.Meaning.Family.{below}
+use Rattle.cedar_table.specs.Table.TableFields.{cells, fields, size_of}
+use Rattle.cedar_table.proofs.RelocationLemmas.LongerChain.{label_inside, second_after, second_none, second_valued}
 use Rattle.cedar_table.proofs.table.Table.second_label.Goals as goal
 
-pub returns-then-is_owned_by : goal.returns-then-is_owned_by
-returns-then-is_owned_by g c = λ h ls f.
-    second_valued _ (cells c.args.self.now) c.args.node c.base_of-base.result c.sibling.result h ls c.requires.not_root (c.base_of-base.ensures ∙ sym (xor_zero_r _)) (c.is_owned_by.ensures.0 c.if-is_owned_by.true) c.sibling.ensures f
+pub returns-then-has_number_slot : goal.returns-then-has_number_slot
+returns-then-has_number_slot g c = λ h ls f.
+    second_valued _ (cells c.args.self.now) c.args.node c.base_of-base.result c.sibling.result h ls c.requires.not_root (c.base_of-base.ensures ∙ sym (xor_zero_r _)) (ap (cells c.args.self.now).check (c.base_of-base.ensures ∙ sym (xor_zero_r _)) ∙ c.has_number_slot.ensures.0 c.if-has_number_slot.true) c.sibling.ensures f
 
 pub returns-then-first-eq0 : goal.returns-then-first-eq0
 returns-then-first-eq0 g c = λ h ls f.
-    second_none _ (cells c.args.self.now) c.args.node c.base_of-base.result c.child-first.result h ls c.requires.not_root (c.base_of-base.ensures ∙ sym (xor_zero_r _)) (λ o. let yes = c.is_owned_by.ensures.1 o in cc) c.child-first.ensures c.if-first-eq0.true f
+    second_none _ (cells c.args.self.now) c.args.node c.base_of-base.result c.child-first.result h ls c.requires.not_root (c.base_of-base.ensures ∙ sym (xor_zero_r _)) (λ o. let yes = c.has_number_slot.ensures.1 (ap (cells c.args.self.now).check (xor_zero_r _ ∙ sym c.base_of-base.ensures) ∙ o) in cc) c.child-first.ensures c.if-first-eq0.true f
 
 pub sibling-requires-2 : goal.sibling-requires-2
 sibling-requires-2 g c =
@@ -24,4 +24,4 @@ pub returns : goal.returns
 returns g c = λ h ls f.
     let T = cells c.args.self.now in
     let at : bit_xor c.base_of-base.result c.from.result ≡ below T c.args.node c.child-first.result = ap (λ b. bit_xor b c.from.result) c.base_of-base.ensures ∙ ap (below T c.args.node) c.from.ensures in
-    second_after _ T c.args.node c.base_of-base.result c.child-first.result _ c.sibling-2.result h ls c.requires.not_root (c.base_of-base.ensures ∙ sym (xor_zero_r _)) (λ o. let yes = c.is_owned_by.ensures.1 o in cc) c.child-first.ensures c.if-first-eq0.false at c.sibling-2.ensures f
+    second_after _ T c.args.node c.base_of-base.result c.child-first.result _ c.sibling-2.result h ls c.requires.not_root (c.base_of-base.ensures ∙ sym (xor_zero_r _)) (λ o. let yes = c.has_number_slot.ensures.1 (ap (cells c.args.self.now).check (xor_zero_r _ ∙ sym c.base_of-base.ensures) ∙ o) in cc) c.child-first.ensures c.if-first-eq0.false at c.sibling-2.ensures f

@@ -1,13 +1,13 @@
 use Rattle.std.proofs.Common.{◌≡◌, ◌∙◌, arith, ap, inr, of_z, rules, sym, to_z, w32, ℤ, FitsSigned}
 use Rattle.std.proofs.lemmas.Int.{ints, to_z-of_z}
 use Rattle.std.proofs.lemmas.List.{get_or_read}
-use Rattle.cedar_table.specs.declared.records.NodeRecord.{NodeRecord}
-use Rattle.cedar_table.specs.Layouts.{reading}
-use Rattle.cedar_table.specs.Slots.{blank_node, check_at}
-use Rattle.cedar_table.specs.TableFields.{cells}
-use Rattle.cedar_table.specs.Views.{places_of}
-use Rattle.cedar_table.proofs.CellLemmas.{active_is, held_natural}
-use Rattle.cedar_table.proofs.RelocationLemmas.{rebased}
+use Rattle.cedar_slots.specs.declared.records.NodeRecord.{NodeRecord}
+use Rattle.cedar_table.specs.Table.Layouts.{reading}
+use Rattle.cedar_slots.specs.Slots.{blank_node, check_at}
+use Rattle.cedar_table.specs.Table.TableFields.{cells}
+use Rattle.cedar_slots.specs.Views.{places_of}
+use Rattle.cedar_table.proofs.CellsLemmas.HeldSlots.{active_is, held_natural}
+use Rattle.cedar_table.proofs.RelocationLemmas.SetMoved.{rebased}
 use Rattle.cedar_table.proofs.table.Table.set_base.Goals as goal
 
 pub write_node-requires : goal.write_node-requires

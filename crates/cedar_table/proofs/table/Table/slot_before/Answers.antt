@@ -1,12 +1,17 @@
-use Rattle.std.proofs.Common.{◌≡◌, ◌<◌, ◌∙◌, ap, arith, inl, inr, pos, rules, subst, sym}
-use Rattle.cedar_table.specs.Edit.{IsLabelOf, IsLead}
-use Rattle.cedar_table.specs.Family.{base_of, below, Links}
-use Rattle.cedar_table.specs.TableFields.{cells, fields, size_of}
-use Rattle.cedar_table.proofs.ChainLemmas.{first_links, lead_links, links_few, links_next, root_stored, strictly_below}
-use Rattle.cedar_table.proofs.LabelLemmas.{lead_inside, root_lead}
-use Rattle.cedar_table.proofs.StepLemmas.{xor_within}
+use Rattle.std.proofs.Common.{◌≡◌, ◌<◌, ◌∙◌, arith, inl, inr, pos, rules, subst, sym}
+use Rattle.cedar_table.specs.Edit.NodeEdits.{IsLabelOf, IsLead}
+use Rattle.cedar_table.specs.Meaning.Family.{base_of, below, Links}
+use Rattle.cedar_table.specs.Table.TableFields.{cells, fields, size_of}
+use Rattle.cedar_table.proofs.MeaningLemmas.Chain.{first_links, lead_links, links_few, links_next, root_stored, strictly_below}
+use Rattle.cedar_table.proofs.EditLemmas.SlotForLabel.{lead_inside, root_lead}
+use Rattle.cedar_table.proofs.MeaningLemmas.ExclusiveOr.{xor_within}
 use Rattle.cedar_table.proofs.table.Table.slot_before.Goals as goal
-use Rattle.cedar_table.proofs.table.Table.slot_before.Goals.{then-node-eq0-via-then-node-eq0, then-node-eq0-via-else-node-eq0+then-is_owned_by, then-not-self-via-then-not-self, then-not-self-via-else-not-self+then-first-eq0, then-not-self-via-else-not-self+else-first-eq0+then-label-first}
+use Rattle.cedar_table.proofs.table.Table.slot_before.Goals.{then-node-eq0-via-then-node-eq0, then-node-eq0-via-else-node-eq0+then-has_number_slot, then-not-self-via-then-not-self, then-not-self-via-else-not-self+then-first-eq0, then-not-self-via-else-not-self+else-first-eq0+then-label-first}
+
+pub has_number_slot-requires : goal.has_number_slot-requires
+has_number_slot-requires g c =
+    let k = c.requires.chain in
+    (search rules, (c.requires.node_in, (c.if-node-eq0.false, record { head = k.head; labels = k.listed; family = k.family })))
 
 pub last_before-requires : goal.last_before-requires
 last_before-requires g c =
@@ -18,7 +23,7 @@ last_before-requires g c =
     let e : s ≡ below T c.args.node 0 = c.child_slot-lead.ensures in
     let lead : IsLead T c.args.node s = elim c.then-node-eq0.branch [
       | then-node-eq0-via-then-node-eq0 w ↦ inl (w.if-node-eq0.true, e ∙ root_lead T c.args.node w.if-node-eq0.true (root_stored size T ordered c.args.node k w.if-node-eq0.true))
-      | then-node-eq0-via-else-node-eq0+then-is_owned_by w ↦ inr (ap T.check (sym e) ∙ w.is_owned_by.ensures.0 w.if-is_owned_by.true, e)
+      | then-node-eq0-via-else-node-eq0+then-has_number_slot w ↦ inr (w.has_number_slot.ensures.0 w.if-has_number_slot.true, e)
     ] in
     let links : Links T c.args.node (T.sibling s) k.listed = lead_links size T ordered c.args.node s k lead in (
       search rules,
@@ -40,7 +45,7 @@ returns-then-not-self g c =
     let first : c.child-first.result ≡ T.child c.args.node = c.child-first.ensures in
     record {
       not_root = c.if-node-eq0.false;
-      no_number = λ o. let yes = c.is_owned_by.ensures.1 (ap T.check c.child_slot-lead.ensures ∙ o) in let no = c.if-is_owned_by.false in cc;
+      no_number = λ o. let yes = c.has_number_slot.ensures.1 o in let no = c.if-has_number_slot.false in cc;
       place = λ is. elim c.then-not-self.branch [
         | then-not-self-via-then-not-self w ↦ let no = w.if-not-self.true in cc
         | then-not-self-via-else-not-self+then-first-eq0 w ↦ inl (sym first ∙ w.if-first-eq0.true)
@@ -58,7 +63,7 @@ last_before-requires-2 g c =
     let r = c.child-first.result in
     let s = c.child_slot-start.result in
     let e : s ≡ below T a r = c.child_slot-start.ensures in
-    let none : T.check (below T a 0) ≡ pos a → ⊥ = λ o. let yes = c.is_owned_by.ensures.1 (ap T.check c.child_slot-lead.ensures ∙ o) in let no = c.if-is_owned_by.false in cc in
+    let none : T.check (below T a 0) ≡ pos a → ⊥ = λ o. let yes = c.has_number_slot.ensures.1 o in let no = c.if-has_number_slot.false in cc in
     let links : Links T a r k.listed = subst (λ x. Links T a x k.listed) (sym c.child-first.ensures) (first_links size T ordered a k c.if-node-eq0.false none) in
     let n = links_next T a r k.listed links c.if-first-eq0.false in
     let less : r < c.args.label = strictly_below T a r c.args.label n.label.owner (λ more. omega (arith, c.if-label-first.false, more)) c.requires.absent in

@@ -1,10 +1,10 @@
 use Rattle.std.proofs.Common.{◌≡◌, ◌<◌, ◌∙◌, ap, arith, inr, subst, sym}
-use Rattle.cedar_table.specs.Edit.{IsLabelOf}
-use Rattle.cedar_table.specs.Family.{Among, base_of, below, Links}
-use Rattle.cedar_table.specs.TableFields.{cells, fields, size_of}
-use Rattle.cedar_table.proofs.NodeLemmas.{owned_label}
-use Rattle.cedar_table.proofs.StepLemmas.{xor_within}
-use Rattle.cedar_table.proofs.WalkLemmas.{first_along, links_past}
+use Rattle.cedar_table.specs.Edit.NodeEdits.{IsLabelOf}
+use Rattle.cedar_table.specs.Meaning.Family.{Among, base_of, below, Links}
+use Rattle.cedar_table.specs.Table.TableFields.{cells, fields, size_of}
+use Rattle.cedar_table.proofs.MeaningLemmas.OneNode.{owned_label}
+use Rattle.cedar_table.proofs.MeaningLemmas.ExclusiveOr.{xor_within}
+use Rattle.cedar_table.proofs.MeaningLemmas.ChainWalk.{first_along, links_past}
 use Rattle.cedar_table.proofs.table.Table.slot_to.Goals as goal
 
 pub loop-step-init : goal.loop-step-init

@@ -1,7 +1,7 @@
 use Rattle.std.proofs.Common.{ℕ, ◌+◌, ◌<◌, List, length}
-use Rattle.cedar_table.specs.Edit.{IsLink}
-use Rattle.cedar_table.specs.Family.{Among, Links}
-use Rattle.cedar_table.specs.TableFields.{cells, fields, size_of}
+use Rattle.cedar_table.specs.Edit.NodeEdits.{IsLink}
+use Rattle.cedar_table.specs.Meaning.Family.{Among, Links}
+use Rattle.cedar_table.specs.Table.TableFields.{cells, fields, size_of}
 use Rattle.cedar_table.proofs.table.Table.slot_to.Given as goal
 
 -- the label comes in the chain behind this slot

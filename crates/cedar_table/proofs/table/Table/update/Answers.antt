@@ -1,127 +1,144 @@
-use Rattle.std.proofs.Common.{FitsSigned, inl, inr, of_z, rules, to_z, w32, subst, sym, ◌+◌, ◌<◌, arith, ◌≡◌}
+use Rattle.std.proofs.Common.{◌≡◌, ◌⊎◌, ◌∙◌, ◌<◌, ℕ, ap, arith, FitsSigned, inl, inr, None, of_z, refl, rules, subst, sym, take, to_z, w32}
+use Rattle.std.specs.Prelude.{is_some, length, true}
 use Rattle.std.proofs.lemmas.Int.{to_z-of_z}
-use Rattle.std.specs.Prelude.{Some}
-use Rattle.cedar_tree.specs.Edits.{edit_at}
-use Rattle.cedar_table.specs.Growing.{TakenBack}
-use Rattle.cedar_table.specs.Meaning.{HoldsTree}
-use Rattle.cedar_table.specs.WellFormed.{cells_in}
-use Rattle.cedar_table.specs.TableFields.{fields, size_of}
-use Rattle.cedar_table.proofs.UpdateLemmas.{base_inside, entries_fit, is_put, IsPut, no_more, no_own, not_root, one_more, owned_tells, put_refused}
-use Rattle.cedar_table.proofs.WalkedLemmas.{node_walked, walked_same}
+use Rattle.cedar_tree.specs.Tree.{has_label, number_at, put, Tree}
+use Rattle.cedar_tree.specs.Queries.{node_at}
+use Rattle.cedar_table.specs.Table.Cells.{NoPlace}
+use Rattle.cedar_table.specs.Meaning.Marks.{KeepsMarks, mark, MovesOut}
+use Rattle.cedar_table.specs.Edit.Steps.{MakesBlocks, root_of}
+use Rattle.cedar_table.specs.Table.TableFields.{Fields, fields, size_of}
+use Rattle.cedar_table.specs.Meaning.WellFormed.{cells_in, is_value, tree_of}
+use Rattle.cedar_table.proofs.UpdateLemmas.MarksMovedBack.{childless_first, moved_back}
+use Rattle.cedar_table.proofs.MeaningLemmas.NumberSlots.{root_unmarked}
+use Rattle.cedar_table.proofs.UpdateLemmas.MarkedTree.{marks_put}
+use Rattle.cedar_table.proofs.UpdateLemmas.MarksAfterUpdate.{puts_marks}
+use Rattle.cedar_table.proofs.MeaningLemmas.SameMarks.{marks_stay}
+use Rattle.cedar_table.proofs.UpdateLemmas.StepAnswers.{on_refusal}
+use Rattle.cedar_table.proofs.UpdateLemmas.Ending.{refuses_on}
+use Rattle.cedar_table.proofs.UpdateLemmas.BlocksMade.{made_framed}
+use Rattle.cedar_table.proofs.UpdateLemmas.WayAndPut.{all_made, each_moved, fewer_made, some_or_none}
+use Rattle.cedar_table.proofs.UpdateLemmas.AlongKey.{key_some}
 use Rattle.cedar_table.proofs.table.Table.update.Goals as goal
 
-pub returns-in_err-end-clause-one_byte : goal.returns-in_err-end-clause-one_byte
-returns-in_err-end-clause-one_byte g c = λ b e new. inr (c.in_err-end.ensures.refused.one_byte b e new)
+pub returns-in_err-moved-clause-blocks : goal.returns-in_err-moved-clause-blocks
+returns-in_err-moved-clause-blocks g c =
+    let some = key_some c.args.key.now c.requires.key in
+    let made = c.in_err-moved.ensures.blocks in
+    let few : made.0 < 1 = made.2 in
+    (made.0, omega (arith, few, some), on_refusal c.from_residual.result _ (omega (arith, few, some)), made.3)
 
-pub is_owned_by-is_new-requires : goal.is_owned_by-is_new-requires
-is_owned_by-is_new-requires g c =
-    let k = c.in_ok-end.ensures.walked in
-    let mid = fields c.walk_in.new.self in
-    (search rules, (subst (λ x. x < size_of mid) (sym c.base_of.ensures) (base_inside g.row.SLOTS (fields c.args.self.now) mid c.args.key.now c.in_ok-end.end c.requires.well_formed c.requires.key k), k.inside))
+pub put_along-requires : goal.put_along-requires
+put_along-requires g c =
+    let fits : FitsSigned w32 c.args.value = search rules in
+    let same : to_z w32 (of_z w32 c.args.value) ≡ c.args.value = to_z-of_z w32 c.args.value fits in
+    (search rules, (c.make_way.ensures.well_formed, (c.requires.key, (ap is_value same ∙ c.requires.value, c.in_ok-moved.ensures.way))))
 
-pub put_number-requires : goal.put_number-requires
-put_number-requires g c =
-    let k = c.in_ok-end.ensures.walked in
-    let mid = fields c.walk_in.new.self in
-    (search rules, (k.table, (k.inside, (not_root g.row.SLOTS (fields c.args.self.now) mid c.args.key.now c.in_ok-end.end c.requires.well_formed c.requires.key k, (node_walked _ _ _ _ _ _ _ k, no_own mid g.L.Layout.only c.in_ok-end.end)))))
-
-pub trim-requires : goal.trim-requires
-trim-requires g c =
-    let e = c.in-Err.ensures in
-    let k = walked_same g.row.SLOTS (fields c.args.self.now) (fields c.walk_in.new.self) (fields c.put_number.new.self) _ _ _ c.in_ok-end.end c.in_ok-end.ensures.walked (λ _. g.L.Layout.kind) e.sound e.unchanged e.settings in
-    (search rules, (k.table, (k.inside, node_walked _ _ _ _ _ _ _ k)))
-
--- the number was refused
-refused : (g : _) (c : goal.After-trim g) → TakenBack g.row.SLOTS (fields c.args.self.now) (fields c.trim.new.self) c.args.key.now c.in-Err.error
-refused g c =
-    let e = c.in-Err.ensures in
-    let t = c.trim.ensures in
-    put_refused g.row.SLOTS (fields c.args.self.now) (fields c.walk_in.new.self) c.args.key.now c.in_ok-end.end c.requires.well_formed c.requires.key c.in_ok-end.ensures.walked
-    (fields c.put_number.new.self) (fields c.trim.new.self) c.in-Err.error g.L.Layout.only
-    (record { layout = λ _. g.L.Layout.kind; table = e.sound; unchanged = e.unchanged; settings = e.settings; refused = e.refused })
-    (record { table = t.sound; tree = t.tree; size = t.size; capacity = t.capacity; root_check = t.root_check; settings = t.settings })
-    (λ own. (e.owned own).0) (λ leaf. elim (e.leaf leaf) [ inl never ↦ absurd never.0 | inr full ↦ full ])
-
-pub returns-in-Err-clause-well_formed : goal.returns-in-Err-clause-well_formed
-returns-in-Err-clause-well_formed g c = (refused g c).well_formed
-
-pub returns-in-Err-clause-taken_back : goal.returns-in-Err-clause-taken_back
-returns-in-Err-clause-taken_back g c = (refused g c).tree
+pub close_way-requires : goal.close_way-requires
+close_way-requires g c =
+    (search rules, (c.put_along.ensures.well_formed, each_moved c.in_ok-moved.moved _ (λ n is. let k = c.in_ok-moved.ensures.moved n is in (k.0, k.1))))
 
 pub returns-in-Err-clause-refused : goal.returns-in-Err-clause-refused
-returns-in-Err-clause-refused g c = (refused g c).refused
+returns-in-Err-clause-refused g c = refuses_on (fields c.put_along.new.self) (fields c.close_way.new.self) g.row.SLOTS c.in-Err.error c.close_way.ensures.frame c.in-Err.ensures.refused
 
 pub returns-in-Err-clause-blocks : goal.returns-in-Err-clause-blocks
 returns-in-Err-clause-blocks g c =
-    let made = (refused g c).blocks in
+    let first = c.make_way.ensures.blocks in
+    let next = c.in-Err.ensures.blocks in
+    let made = fewer_made (fields c.args.self.now) (fields c.make_way.new.self) (fields c.put_along.new.self) (length c.args.key.now) c.in_ok-moved.moved c.in_ok-moved.ensures.none (first.0, first.1, first.3) (next.0, next.2, next.3)
+    (λ n is. let k = c.in_ok-moved.ensures.moved n is in let rest = c.in-Err.ensures.lacking k.1 k.2 in (rest.0, rest.2, rest.3)) in
     let few = made.1 in
-    (made.0, omega (arith, few), few, made.2)
+    (made.0, omega (arith, few), few, made_framed made.0 (fields c.args.self.now) (fields c.put_along.new.self) (fields c.close_way.new.self) made.2 c.close_way.ensures.frame)
 
 pub returns-in-Err-clause-over : goal.returns-in-Err-clause-over
-returns-in-Err-clause-over g c = λ h. absurd ((refused g c).over h)
+returns-in-Err-clause-over g c = λ held. absurd (c.in-Err.ensures.over (ap (λ (t : Tree). is_some (number_at t c.args.key.now)) c.make_way.ensures.tree ∙ held)).0
 
 pub returns-in-Err-clause-one_byte : goal.returns-in-Err-clause-one_byte
-returns-in-Err-clause-one_byte g c = λ b e new. inr ((refused g c).one_byte b e new)
+returns-in-Err-clause-one_byte g c = λ b is new.
+    let none_moved : c.in_ok-moved.moved ≡ None = (c.in_ok-moved.ensures.one_byte (ap length is)).0 in
+    let same : fields c.make_way.new.self ≡ fields c.args.self.now = c.in_ok-moved.ensures.none none_moved in
+    elim (c.in-Err.ensures.one_byte b is (ap (λ (t : Tree). has_label t.children b) c.make_way.ensures.tree ∙ new)) [
+      | inl made ↦ absurd made.0
+      | inr full ↦ inr (full.0, subst (λ (T : Fields). NoPlace (size_of T) (cells_in T)) same full.1)
+    ]
 
-pub overflow_add-self : goal.overflow_add-self
-overflow_add-self g c =
-    let most = entries_fit g.row.SLOTS (fields c.args.self.now) c.requires.well_formed g.L.Layout.only in
-    let mid : c.walk_in.new.self.entries ≡ c.args.self.now.entries = c.in_ok-end.ensures.walked.settings.entries in
-    let new : c.put_number.new.self.entries ≡ c.walk_in.new.self.entries = c.in_default.ensures.settings.entries in
-    omega (arith, most, mid, new)
-
--- the number is put, and counted
-put_new : (g : _) (c : goal.After-self-1 g) → IsPut g.row.SLOTS (fields c.args.self.now) (record (fields c.put_number.new.self) { entries = c.put_number.new.self.entries + 1 }) c.args.key.now c.args.value
-put_new g c =
-    let e = c.in_default.ensures in
-    let old = fields c.args.self.now in let mid = fields c.walk_in.new.self in let new = fields c.put_number.new.self in
-    let k = c.in_ok-end.ensures.walked in
-    let well = c.requires.well_formed in let key = c.args.key.now in
+pub returns-clause-put : goal.returns-clause-put
+returns-clause-put g c =
     let fits : FitsSigned w32 c.args.value = search rules in
     let same : to_z w32 (of_z w32 c.args.value) ≡ c.args.value = to_z-of_z w32 c.args.value fits in
-    is_put g.row.SLOTS old mid key c.in_ok-end.end well c.requires.key k new c.args.value (c.put_number.new.self.entries + 1) c.requires.value g.L.Layout.only
-    (record { table = e.sound; set = λ f w h at. subst (λ v. HoldsTree (size_of new) (cells_in new) (edit_at w (λ _. Some v) (λ u. u) f)) same (e.set f w h at); blocks = e.blocks; owned = λ own. (e.owned own).1; leaf = λ is. elim (e.leaf is) [ inl none ↦ inl none.1 | inr full ↦ inr full ]; root_check = e.root_check; settings = e.settings })
-    (one_more _ _ _ (owned_tells g.row.SLOTS old mid key c.in_ok-end.end well c.requires.key k g.L.Layout.only c.base_of.result c.is_owned_by-is_new.result c.base_of.ensures c.is_owned_by-is_new.ensures) c.if-is_new.true)
+    c.in_default.ensures.put ∙ ap (λ v. put (tree_of (fields c.make_way.new.self)) (fields c.make_way.new.self).ordered c.args.key.now v) same
+    ∙ ap (λ (t : Tree). put t (fields c.make_way.new.self).ordered c.args.key.now c.args.value) c.make_way.ensures.tree
+    ∙ ap (λ o. put (tree_of (fields c.args.self.now)) o c.args.key.now c.args.value) c.make_way.ensures.modes.ordered
 
-pub returns-then-is_new-clause-well_formed : goal.returns-then-is_new-clause-well_formed
-returns-then-is_new-clause-well_formed g c = (put_new g c).well_formed
+pub returns-clause-blocks : goal.returns-clause-blocks
+returns-clause-blocks g c =
+    let first = c.make_way.ensures.blocks in
+    let next = c.in_default.ensures.blocks in
+    let made = all_made (fields c.args.self.now) (fields c.make_way.new.self) (fields c.put_along.new.self) (length c.args.key.now) c.in_ok-moved.moved c.in_ok-moved.ensures.none (first.0, first.1, first.3) (next.0, next.1, next.3)
+    (λ n is. let k = c.in_ok-moved.ensures.moved n is in let rest = c.in_default.ensures.lacking k.1 k.2 in (rest.0, rest.1, rest.3)) in
+    (made.0, made.1, tt, made.2)
 
-pub returns-then-is_new-clause-put : goal.returns-then-is_new-clause-put
-returns-then-is_new-clause-put g c = (put_new g c).tree
+pub returns-clause-over : goal.returns-clause-over
+returns-clause-over g c = λ held.
+    let none_moved : c.in_ok-moved.moved ≡ None = (c.in_ok-moved.ensures.over held).0 in
+    let same : fields c.make_way.new.self ≡ fields c.args.self.now = c.in_ok-moved.ensures.none none_moved in
+    (tt, subst (λ (T : Fields). MakesBlocks 0 T (fields c.put_along.new.self)) same (c.in_default.ensures.over (ap (λ (t : Tree). is_some (number_at t c.args.key.now)) c.make_way.ensures.tree ∙ held)).1)
 
-pub returns-then-is_new-clause-blocks : goal.returns-then-is_new-clause-blocks
-returns-then-is_new-clause-blocks g c = let made = (put_new g c).blocks in (made.0, made.1, tt, made.2)
+pub returns-clause-one_byte : goal.returns-clause-one_byte
+returns-clause-one_byte g c = λ b is new.
+    let none_moved : c.in_ok-moved.moved ≡ None = (c.in_ok-moved.ensures.one_byte (ap length is)).0 in
+    let same : fields c.make_way.new.self ≡ fields c.args.self.now = c.in_ok-moved.ensures.none none_moved in
+    elim (c.in_default.ensures.one_byte b is (ap (λ (t : Tree). has_label t.children b) c.make_way.ensures.tree ∙ new)) [
+      | inl made ↦ inl (tt, subst (λ (T : Fields). MakesBlocks 0 T (fields c.put_along.new.self)) same made.1)
+      | inr full ↦ inr (full.0, subst (λ (T : Fields). NoPlace (size_of T) (cells_in T)) same full.1)
+    ]
 
-pub returns-then-is_new-clause-over : goal.returns-then-is_new-clause-over
-returns-then-is_new-clause-over g c = λ h. (tt, (put_new g c).over h)
+pub returns-in_err-moved-clause-marks : goal.returns-in_err-moved-clause-marks
+returns-in_err-moved-clause-marks g c = on_refusal c.from_residual.result _ c.in_err-moved.ensures.stays
 
-pub returns-then-is_new-clause-one_byte : goal.returns-then-is_new-clause-one_byte
-returns-then-is_new-clause-one_byte g c = λ b e new. elim ((put_new g c).one_byte b e new) [ inl none ↦ inl (tt, none) | inr full ↦ inr full ]
+pub returns-in-Err-clause-marks : goal.returns-in-Err-clause-marks
+returns-in-Err-clause-marks g c =
+    let T = fields c.args.self.now in
+    let mid = fields c.make_way.new.self in
+    let after = fields c.put_along.new.self in
+    let last = fields c.close_way.new.self in
+    let well = c.put_along.ensures.well_formed in
+    elim (some_or_none c.in_ok-moved.moved) [
+      | inl none_moved ↦
+          let same : mid ≡ T = c.in_ok-moved.ensures.none none_moved in
+          let still : cells_in last ≡ cells_in after = c.close_way.ensures.none none_moved in
+          subst (λ (F : Fields). KeepsMarks (cells_in F) (cells_in last)) same (subst (KeepsMarks (cells_in mid)) (sym still) c.in-Err.ensures.marks)
+      | inr some ↦
+          let u = take some.0 c.args.key.now in
+          let k = c.in_ok-moved.ensures.moves some.0 some.1 in
+          let tree : tree_of after ≡ tree_of T = c.in-Err.ensures.taken_back ∙ c.make_way.ensures.tree in
+          moved_back (cells_in T) (cells_in mid) (cells_in after) (cells_in last) (root_of (tree_of T).children) u c.requires.well_formed.stands.root well.stands.root k c.in-Err.ensures.marks
+          (λ s at is. c.close_way.ensures.here some.0 s some.1 at is
+          (childless_first (size_of after) (cells_in after) (tree_of after).children u s well.stands at (λ z. root_unmarked (size_of after) (cells_in after) (tree_of after).children true well.stands (ap (mark (cells_in after)) (sym z) ∙ is))
+          (λ l h. k.childless l (ap (λ (t : Tree). has_label (node_at (root_of t.children) u).children l) (sym tree) ∙ h))))
+          (λ s at. c.close_way.ensures.others some.0 s some.1 at)
+    ]
 
--- the number is put over another
-put_over : (g : _) (c : goal.Else-is_new g) → IsPut g.row.SLOTS (fields c.args.self.now) (fields c.put_number.new.self) c.args.key.now c.args.value
-put_over g c =
-    let e = c.in_default.ensures in
-    let old = fields c.args.self.now in let mid = fields c.walk_in.new.self in let new = fields c.put_number.new.self in
-    let k = c.in_ok-end.ensures.walked in
-    let well = c.requires.well_formed in let key = c.args.key.now in
-    let fits : FitsSigned w32 c.args.value = search rules in
-    let same : to_z w32 (of_z w32 c.args.value) ≡ c.args.value = to_z-of_z w32 c.args.value fits in
-    is_put g.row.SLOTS old mid key c.in_ok-end.end well c.requires.key k new c.args.value c.put_number.new.self.entries c.requires.value g.L.Layout.only
-    (record { table = e.sound; set = λ f w h at. subst (λ v. HoldsTree (size_of new) (cells_in new) (edit_at w (λ _. Some v) (λ u. u) f)) same (e.set f w h at); blocks = e.blocks; owned = λ own. (e.owned own).1; leaf = λ is. elim (e.leaf is) [ inl none ↦ inl none.1 | inr full ↦ inr full ]; root_check = e.root_check; settings = e.settings })
-    (no_more _ _ _ (owned_tells g.row.SLOTS old mid key c.in_ok-end.end well c.requires.key k g.L.Layout.only c.base_of.result c.is_owned_by-is_new.result c.base_of.ensures c.is_owned_by-is_new.ensures) c.if-is_new.false)
+pub returns-clause-new_marks : goal.returns-clause-new_marks
+returns-clause-new_marks g c =
+    let T = fields c.args.self.now in
+    let mid = fields c.make_way.new.self in
+    let way = c.in_ok-moved.ensures in
+    let moved : (mid ≡ T) ⊎ ((n : ℕ) × (n < length c.args.key.now) × MovesOut (cells_in T) (cells_in mid) (root_of (tree_of T).children) (take n c.args.key.now)) = elim (some_or_none c.in_ok-moved.moved) [
+      | inl none_moved ↦ inl (way.none none_moved)
+      | inr some ↦ inr (some.0, (way.moved some.0 some.1).0, way.moves some.0 some.1)
+    ] in
+    puts_marks g.row.SLOTS T mid (fields c.put_along.new.self) c.args.key.now c.requires.well_formed c.make_way.ensures.well_formed c.make_way.ensures.tree refl way.way (λ held. way.none (way.over held).0) moved c.in_default.ensures.marks c.in_default.ensures.new_mark
 
-pub returns-else-is_new-clause-well_formed : goal.returns-else-is_new-clause-well_formed
-returns-else-is_new-clause-well_formed g c = (put_over g c).well_formed
+pub returns-clause-marks_put : goal.returns-clause-marks_put
+returns-clause-marks_put g c = λ reduced.
+    marks_put g.row.SLOTS (fields c.args.self.now) (fields c.put_along.new.self) c.args.key.now c.args.value c.requires.well_formed c.in_default.ensures.well_formed (key_some c.args.key.now c.requires.key) reduced
+    (returns-clause-put g c) (returns-clause-new_marks g c)
 
-pub returns-else-is_new-clause-put : goal.returns-else-is_new-clause-put
-returns-else-is_new-clause-put g c = (put_over g c).tree
+pub returns-in_err-moved-clause-marks_stay : goal.returns-in_err-moved-clause-marks_stay
+returns-in_err-moved-clause-marks_stay g c =
+    on_refusal c.from_residual.result _ (marks_stay g.row.SLOTS (fields c.args.self.now) (fields c.make_way.new.self) c.requires.well_formed c.make_way.ensures.well_formed c.make_way.ensures.tree c.in_err-moved.ensures.stays)
 
-pub returns-else-is_new-clause-blocks : goal.returns-else-is_new-clause-blocks
-returns-else-is_new-clause-blocks g c = let made = (put_over g c).blocks in (made.0, made.1, tt, made.2)
-
-pub returns-else-is_new-clause-over : goal.returns-else-is_new-clause-over
-returns-else-is_new-clause-over g c = λ h. (tt, (put_over g c).over h)
-
-pub returns-else-is_new-clause-one_byte : goal.returns-else-is_new-clause-one_byte
-returns-else-is_new-clause-one_byte g c = λ b e new. elim ((put_over g c).one_byte b e new) [ inl none ↦ inl (tt, none) | inr full ↦ inr full ]
+pub returns-in-Err-clause-marks_stay : goal.returns-in-Err-clause-marks_stay
+returns-in-Err-clause-marks_stay g c =
+    marks_stay g.row.SLOTS (fields c.args.self.now) (fields c.close_way.new.self) c.requires.well_formed c.close_way.ensures.well_formed
+    (c.close_way.ensures.tree ∙ c.in-Err.ensures.taken_back ∙ c.make_way.ensures.tree) (returns-in-Err-clause-marks g c)

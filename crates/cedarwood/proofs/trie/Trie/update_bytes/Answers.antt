@@ -1,13 +1,15 @@
-use Rattle.std.proofs.Common.{rules, ◌≡◌, ℕ, ℤ, ◌<◌, ◌≤◌, None, Err, IfSome, arith, get_or, length, subst, sym, w32, to_z, of_z, FitsSigned}
+use Rattle.std.proofs.Common.{rules, ◌≡◌, ℕ, ℤ, ◌<◌, ◌≤◌, None, Option, IsSome, true, false, Err, IfSome, arith, get_or, length, refl, subst, sym, w32, to_z, of_z, FitsSigned}
 use Rattle.std.proofs.lemmas.Int.{to_z-of_z}
 use Rattle.std.proofs.lemmas.Result.{err_from_is_err_and}
-use Rattle.cedar_table.specs.TableFields.{fields}
-use Rattle.cedar_table.specs.declared.error.CedarError.TheVariants.{Memory, SlotLimit}
+use Rattle.cedar_table.specs.Table.TableFields.{fields}
+use Rattle.cedar_slots.specs.declared.error.CedarError.TheVariants.{Memory, SlotLimit}
+use Rattle.cedar_table.proofs.BulkLemmas.InnerKeys.{always_on_ok}
+use Rattle.cedar_table.proofs.BulkLemmas.SlotsOfNumbers.{all_marked}
 use Rattle.cedarwood.specs.Fault.{fault}
 use Rattle.cedarwood.proofs.DictionaryLemmas.{is_value_of}
 use Rattle.cedarwood.proofs.FaultLemmas.{no_fault, key_of, in_range_of}
 use Rattle.cedarwood.proofs.GrowthLemmas.{grows_none}
-use Rattle.cedarwood.proofs.UpdateLemmas.{at_one_byte, fault_no_shortage, fault_of, grows_by, has_fault, is_refused, is_spare, over_held, state_stays, stored_is}
+use Rattle.cedarwood.proofs.UpdateLemmas.{always_on_err, refused_no_ok, why_refused, at_one_byte, fault_no_shortage, fault_of, grows_by, has_fault, is_refused, is_spare, marks_follow, marks_remain, over_held, state_stays, stored_is}
 use Rattle.cedarwood.proofs.trie.Trie.update_bytes.Goals as goal
 
 -- ---- a pair with a fault
@@ -19,6 +21,9 @@ returns-in_err-check_pair-clause-faulty g c =
     let fits : FitsSigned w32 c.args.value = search rules in
     subst (λ v. IfSome (fault c.args.key.now v) (λ e. c.from_residual.result ≡ Err e)) (to_z-of_z w32 c.args.value fits)
     (subst (λ r. IfSome (fault c.args.key.now (to_z w32 (of_z w32 c.args.value))) (λ e. r ≡ Err e)) same c.check_pair.ensures.faulty)
+
+pub returns-in_err-check_pair-clause-unmoved : goal.returns-in_err-check_pair-clause-unmoved
+returns-in_err-check_pair-clause-unmoved g c = λ some. grows_none c.args.self.now
 
 pub returns-in_err-check_pair-clause-refused : goal.returns-in_err-check_pair-clause-refused
 returns-in_err-check_pair-clause-refused g c = λ fine.
@@ -84,6 +89,16 @@ returns-clause-faulty g c =
     subst (λ w. IfSome (fault c.args.key.now w) (λ e. c.update.result ≡ Err e)) (to_z-of_z w32 c.args.value fits)
     (subst (λ o. IfSome o (λ e. c.update.result ≡ Err e)) (sym fine) tt)
 
+none_is_some : {X : Type 0} (o : Option X) → o ≡ None → IsSome o → ⊥
+none_is_some {X} o none some = let apart : false ≡ true = subst (λ (x : Option X). IsSome x) none some in cc
+
+pub returns-clause-unmoved : goal.returns-clause-unmoved
+returns-clause-unmoved g c = λ some.
+    let v : ℤ = to_z w32 (of_z w32 c.args.value) in
+    let fits : FitsSigned w32 c.args.value = search rules in
+    let fine : fault c.args.key.now v ≡ None = no_fault (fault c.args.key.now v) c.check_pair.result tt c.check_pair.ensures.faulty (c.in_ok-check_pair.was) in
+    absurd (none_is_some (fault c.args.key.now c.args.value) (subst (λ w. fault c.args.key.now w ≡ None) (to_z-of_z w32 c.args.value fits) fine) some)
+
 pub returns-clause-ok : goal.returns-clause-ok
 returns-clause-ok g c =
     let fits : FitsSigned w32 c.args.value = search rules in
@@ -94,6 +109,15 @@ pub returns-clause-err : goal.returns-clause-err
 returns-clause-err g c =
     state_stays g.row.SLOTS (fields c.self.inside.table) (fields c.update.new.self) c.args.self.now c.self.view_is c.update.result c.args.key.now
     c.update.ensures.modes c.update.ensures.taken_back
+
+pub returns-clause-marks : goal.returns-clause-marks
+returns-clause-marks g c =
+    marks_follow g.row.SLOTS (fields c.self.inside.table) (fields c.update.new.self) c.args.self.now c.self.view_is c.update.result c.args.key.now
+    _ c.update.ensures.marks_put
+
+pub returns-clause-marks_stay : goal.returns-clause-marks_stay
+returns-clause-marks_stay g c =
+    marks_remain g.row.SLOTS (fields c.self.inside.table) (fields c.update.new.self) c.args.self.now c.self.view_is c.update.result c.args.key.now c.update.ensures.marks_stay
 
 pub returns-clause-refused : goal.returns-clause-refused
 returns-clause-refused g c = λ fine.
@@ -122,4 +146,44 @@ returns-clause-over g c =
 pub returns-clause-one_byte : goal.returns-clause-one_byte
 returns-clause-one_byte g c = λ b is absent fine.
     at_one_byte g.row.SLOTS (fields c.self.inside.table) (fields c.update.new.self) c.args.self.now c.self.view_is c.update.result c.args.key.now
-    c.self.invariant g.L.Layout.only b (c.update.ensures.one_byte b is) absent
+    c.self.invariant b (c.update.ensures.one_byte b is) absent
+
+-- ---- all of it in one word
+
+pub returns-in_err-check_pair-clause-updated : goal.returns-in_err-check_pair-clause-updated
+returns-in_err-check_pair-clause-updated g c = record {
+  faulty = returns-in_err-check_pair-clause-faulty g c;
+  unmoved = returns-in_err-check_pair-clause-unmoved g c;
+  ok = refused_no_ok _ c.from_residual.result c.from_residual.ensures.0;
+  err = always_on_err c.from_residual.result refl;
+  by_default = refused_no_ok _ c.from_residual.result c.from_residual.ensures.0;
+  marks = refused_no_ok _ c.from_residual.result c.from_residual.ensures.0;
+  marks_stay = always_on_err c.from_residual.result refl;
+  refused = returns-in_err-check_pair-clause-refused g c;
+  memory = returns-in_err-check_pair-clause-memory g c;
+  limit = returns-in_err-check_pair-clause-limit g c;
+  blocks = returns-in_err-check_pair-clause-blocks g c;
+  spare = returns-in_err-check_pair-clause-spare g c;
+  over = returns-in_err-check_pair-clause-over g c;
+  one_byte = returns-in_err-check_pair-clause-one_byte g c;
+  max_trial = refl;
+}
+
+pub returns-clause-updated : goal.returns-clause-updated
+returns-clause-updated g c = record {
+  faulty = returns-clause-faulty g c;
+  unmoved = returns-clause-unmoved g c;
+  ok = returns-clause-ok g c;
+  err = returns-clause-err g c;
+  by_default = always_on_ok c.update.result (all_marked g.row.SLOTS (fields c.update.new.self) c.update.ensures.well_formed);
+  marks = returns-clause-marks g c;
+  marks_stay = returns-clause-marks_stay g c;
+  refused = returns-clause-refused g c;
+  memory = λ is. let why = why_refused _ c.update.result Memory c.update.ensures.refused is in (omega (arith, why), omega (arith, why));
+  limit = λ is. let why = why_refused _ c.update.result SlotLimit c.update.ensures.refused is in omega (arith, why);
+  blocks = returns-clause-blocks g c;
+  spare = returns-clause-spare g c;
+  over = returns-clause-over g c;
+  one_byte = returns-clause-one_byte g c;
+  max_trial = search rules;
+}

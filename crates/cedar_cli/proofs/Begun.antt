@@ -1,0 +1,55 @@
+-- What a run of the program begins with, and what its arguments ask for.
+use Rattle.std.proofs.Common.{◌≡◌, ℕ, Bool, true, false, List, [], ◌∷◌, Option, Some, None, Bor, not, ◌&&◌, refl}
+use Rattle.std.specs.Prelude.{MatchOption, Result, Ok, Err, OnOk, bytes_eq, codes, is_some, option_map}
+use Rattle.cedar_tree.specs.State.{State}
+use Rattle.cedar_cli.specs.Options.{Asked, BeginsWith, asked_besides, empty_state, is_new, loading, saving, unordered}
+
+by_load : (load : Option (List ℕ)) (s : State) → MatchOption load (s ≡ s) (λ _. Unit {0})
+by_load None s = refl
+by_load (Some path) s = tt
+
+-- an empty dictionary will do, whatever was asked
+pub begins_empty : (a : Asked) → BeginsWith a (empty_state a.ordered)
+begins_empty a = by_load a.load (empty_state a.ordered)
+
+pub on_ok : {T E P : Type 0} (r : Result T E) → P → OnOk r P
+on_ok (Ok x) p = p
+on_ok (Err e) p = tt
+
+and_false : (b : Bool) → (b && false) ≡ false
+and_false true = refl
+and_false false = refl
+
+-- an option that has been given is not new, and neither is another word
+pub given_before : (word option : List ℕ) (given : Bool) → given ≡ true → is_new word option given ≡ false
+given_before word option given e = rw e (and_false (bytes_eq word option))
+
+pub other_word : (word option : List ℕ) (given : Bool) → bytes_eq word option ≡ false → is_new word option given ≡ false
+other_word word option given e = rw e refl
+
+pub ordered_given : (word option : List ℕ) (ordered : Bool) → ordered ≡ false → is_new word option (not ordered) ≡ false
+ordered_given word option ordered e = rw e (and_false (bytes_eq word option))
+
+-- what is there, and what is not
+pub none_given : (o : Option (Bor (List ℕ))) → is_some o ≡ false → is_some (option_map (λ p. p.now) o) ≡ false
+none_given None h = refl
+none_given (Some p) h = h
+
+pub some_given : (o : Option (Bor (List ℕ))) → is_some o ≡ true → is_some (option_map (λ p. p.now) o) ≡ true
+some_given None h = h
+some_given (Some p) h = refl
+
+-- an option and what follows it
+pub unordered_first : (a : Asked) (word : List ℕ) (rest : List (List ℕ)) → bytes_eq word (codes "--unordered") ≡ true → a.ordered ≡ true
+    → asked_besides a (word ∷ rest) ≡ asked_besides (unordered a) rest
+unordered_first a word [] e o = rw (e, o) refl
+unordered_first a word (path ∷ rest) e o = rw (e, o) refl
+
+pub load_first : (a : Asked) (word path : List ℕ) (rest : List (List ℕ)) → is_new word (codes "--unordered") (not a.ordered) ≡ false
+    → bytes_eq word (codes "--load") ≡ true → is_some a.load ≡ false → asked_besides a (word ∷ path ∷ rest) ≡ asked_besides (loading a path) rest
+load_first a word path rest other e new = rw (other, e, new) refl
+
+pub save_first : (a : Asked) (word path : List ℕ) (rest : List (List ℕ)) → is_new word (codes "--unordered") (not a.ordered) ≡ false
+    → is_new word (codes "--load") (is_some a.load) ≡ false
+    → bytes_eq word (codes "--save") ≡ true → is_some a.save ≡ false → asked_besides a (word ∷ path ∷ rest) ≡ asked_besides (saving a path) rest
+save_first a word path rest other old e new = rw (other, old, e, new) refl

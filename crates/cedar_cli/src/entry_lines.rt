@@ -1,0 +1,84 @@
+//! The lines of a dictionary's entries. They take no memory but the walk's own.
+
+ghost use Rattle.std.specs.Prelude.{◌≡◌, ◌*◌, ◌++◌, ◌∷◌, [], true, OnOk, OnErr, codes, length};
+ghost use Rattle.std.specs.Io.KnownBytes.{Appends};
+ghost use Rattle.hex.specs.Hex.{encode_lower};
+ghost use Rattle.cedarwood.specs.WatchedDevice.{device_of, has_failed};
+ghost use Rattle.cedar_cli.specs.Script.{WritesFront, entry_line, entry_lines};
+
+use crate::answers::{write_line, write_whole};
+use crate::script::ScriptError;
+use cedarwood::{Entries, Walked, Watched};
+use itoa::Buffer;
+use std::alloc::Allocator;
+use std::io::Write;
+
+/// How many bytes of a key are made digits at a time.
+const PIECE: usize = 64;
+
+/// Writes the line of each entry, and then that of their end.
+pub(crate) fn write_entries<T: Walked, A: Allocator + Copy, W: Write>(
+    writer: &mut Watched<W>,
+    mut entries: Entries<'_, T, A>,
+) -> Result<(), ScriptError>
+    ensures ok { OnOk result (Appends (W.contents (device_of writer.old)) (W.contents (device_of writer.new)) ((entry_lines entries.entry ++ codes "end") ++ 10 ∷ [])) }
+    ensures err { OnErr result (WritesFront (W.contents (device_of writer.old)) (W.contents (device_of writer.new)) ((entry_lines entries.entry ++ codes "end") ++ 10 ∷ [])) }
+    ensures cause { result ≡ Err ScriptError.Write → has_failed writer.new ≡ true }
+    ensures starved { result ≡ Err ScriptError.Memory → has_failed writer.new ≡ has_failed writer.old }
+    ensures never_read { result ≡ Err ScriptError.Read → ⊥ }
+    ensures never_full { result ≡ Err ScriptError.SlotLimit → ⊥ }
+    ensures unfailed { OnOk result (has_failed writer.new ≡ has_failed writer.old) }
+{
+    while let Some(entry) = entries.next() {
+        let Ok((key, value)) = entry else {
+            return Err(ScriptError::Memory);
+        };
+        write_entry(writer, &key, value)?;
+    }
+    write_whole(writer, b"end\n")
+}
+
+/// Writes the line of an entry.
+fn write_entry<W: Write>(writer: &mut Watched<W>, key: &[u8], value: i32) -> Result<(), ScriptError>
+    ensures ok { OnOk result (Appends (W.contents (device_of writer.old)) (W.contents (device_of writer.new)) (entry_line (key.now, value))) }
+    ensures err { OnErr result (WritesFront (W.contents (device_of writer.old)) (W.contents (device_of writer.new)) (entry_line (key.now, value))) }
+    ensures cause { OnErr result ((result ≡ Err ScriptError.Write) × (has_failed writer.new ≡ true)) }
+    ensures unfailed { OnOk result (has_failed writer.new ≡ has_failed writer.old) }
+{
+    write_digits(writer, key)?;
+    let mut figures = Buffer::new();
+    write_line(writer, b" ", figures.format(value).as_bytes())
+}
+
+/// Writes some bytes in hexadecimal.
+fn write_digits<W: Write>(writer: &mut Watched<W>, bytes: &[u8]) -> Result<(), ScriptError>
+    ensures ok { OnOk result (Appends (W.contents (device_of writer.old)) (W.contents (device_of writer.new)) (encode_lower bytes.now)) }
+    ensures err { OnErr result (WritesFront (W.contents (device_of writer.old)) (W.contents (device_of writer.new)) (encode_lower bytes.now)) }
+    ensures cause { OnErr result ((result ≡ Err ScriptError.Write) × (has_failed writer.new ≡ true)) }
+    ensures unfailed { OnOk result (has_failed writer.new ≡ has_failed writer.old) }
+{
+    let mut digits = [0u8; 2 * PIECE];
+    let mut rest = bytes;
+    while !rest.is_empty() {
+        let count = rest.len().min(PIECE);
+        write_piece(writer, &rest[..count], &mut digits[..2 * count])?;
+        rest = &rest[count..];
+    }
+    Ok(())
+}
+
+/// Writes some bytes in hexadecimal, with room for their digits.
+fn write_piece<W: Write>(
+    writer: &mut Watched<W>,
+    bytes: &[u8],
+    digits: &mut [u8],
+) -> Result<(), ScriptError>
+    requires room { length digits.old ≡ 2 * length bytes.now }
+    ensures ok { OnOk result (Appends (W.contents (device_of writer.old)) (W.contents (device_of writer.new)) (encode_lower bytes.now)) }
+    ensures err { OnErr result (WritesFront (W.contents (device_of writer.old)) (W.contents (device_of writer.new)) (encode_lower bytes.now)) }
+    ensures cause { OnErr result ((result ≡ Err ScriptError.Write) × (has_failed writer.new ≡ true)) }
+    ensures unfailed { OnOk result (has_failed writer.new ≡ has_failed writer.old) }
+{
+    let _ = hex::encode_to_slice(bytes, digits);
+    write_whole(writer, digits)
+}

@@ -1,0 +1,14 @@
+//! Whether a type fits in memory.
+
+ghost use Rattle.std.specs.Prelude.{IsTrue};
+ghost use Rattle.std.specs.Mem.{FitsInMemory};
+
+use std::mem;
+
+/// Whether a value that may come to `place` fits in memory. It always does, and that is known at compile time; it tells a
+/// proof so, where the type names a type parameter of the function.
+pub(crate) fn fits<T>(place: &Option<T>) -> bool
+    ensures { IsTrue result → FitsInMemory T.row }
+{
+    mem::size_of_val(place) <= isize::MAX as usize
+}

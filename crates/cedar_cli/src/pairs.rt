@@ -1,0 +1,100 @@
+//! The line of what a prefix walk or a prediction found. It takes no memory.
+
+ghost use Rattle.std.specs.Prelude.{◌≡◌, ◌++◌, ◌∷◌, [], true, OnOk, OnErr, codes};
+ghost use Rattle.std.specs.Io.KnownBytes.{Appends};
+ghost use Rattle.cedarwood.specs.WatchedDevice.{device_of, has_failed};
+ghost use Rattle.cedar_cli.specs.Script.{WritesFront, pair_text, pairs_text, spaced};
+
+use crate::answers::{write_both, write_whole};
+use crate::script::ScriptError;
+use cedarwood::{PrefixIter, PrefixPredictIter, Walked, Watched};
+use itoa::Buffer;
+use std::io::Write;
+
+/// What finds pairs, each of a value and a count of bytes, one after another.
+pub(crate) trait Pairs {
+    ghost use Rattle.std.specs.Prelude.{◌≡◌, ℕ, ℤ, List, [], ◌∷◌, MatchOption};
+
+    /// Those that are still to come.
+    ghost left: { Self → List (ℤ × ℕ) };
+
+    /// The next one.
+    fn next_pair(&mut self) -> Option<(i32, usize)>
+        ensures { MatchOption result (left self.old ≡ []) (λ pair. left self.old ≡ pair ∷ left self.new) };
+}
+
+impl<'a, T: Walked> Pairs for PrefixIter<'a, T> {
+    ghost left = { λ walk. walk.rest };
+
+    fn next_pair(&mut self) -> Option<(i32, usize)> {
+        self.next()
+    }
+}
+
+impl<'a, T: Walked> Pairs for PrefixPredictIter<'a, T> {
+    ghost left = { λ rest. rest };
+
+    fn next_pair(&mut self) -> Option<(i32, usize)> {
+        self.next()
+    }
+}
+
+/// Writes the line of some pairs.
+pub(crate) fn write_pairs<P: Pairs, W: Write>(
+    writer: &mut Watched<W>,
+    pairs: &mut P,
+) -> Result<(), ScriptError>
+    ensures ok { OnOk result (Appends (W.contents (device_of writer.old)) (W.contents (device_of writer.new)) (pairs_text (P.left pairs.old) ++ 10 ∷ [])) }
+    ensures err { OnErr result (WritesFront (W.contents (device_of writer.old)) (W.contents (device_of writer.new)) (pairs_text (P.left pairs.old) ++ 10 ∷ [])) }
+    ensures cause { OnErr result ((result ≡ Err ScriptError.Write) × (has_failed writer.new ≡ true)) }
+    ensures unfailed { OnOk result (has_failed writer.new ≡ has_failed writer.old) }
+{
+    let Some(first) = pairs.next_pair() else {
+        return write_whole(writer, b"none\n");
+    };
+    write_pair(writer, first)?;
+    write_further(writer, pairs)
+}
+
+/// Writes some pairs, each after a space, and byte 10.
+fn write_further<P: Pairs, W: Write>(
+    writer: &mut Watched<W>,
+    pairs: &mut P,
+) -> Result<(), ScriptError>
+    ensures ok { OnOk result (Appends (W.contents (device_of writer.old)) (W.contents (device_of writer.new)) (spaced pair_text (P.left pairs.old) ++ 10 ∷ [])) }
+    ensures err { OnErr result (WritesFront (W.contents (device_of writer.old)) (W.contents (device_of writer.new)) (spaced pair_text (P.left pairs.old) ++ 10 ∷ [])) }
+    ensures cause { OnErr result ((result ≡ Err ScriptError.Write) × (has_failed writer.new ≡ true)) }
+    ensures unfailed { OnOk result (has_failed writer.new ≡ has_failed writer.old) }
+{
+    while let Some(pair) = pairs.next_pair() {
+        write_after_space(writer, pair)?;
+    }
+    write_whole(writer, b"\n")
+}
+
+/// Writes a space and a pair.
+fn write_after_space<W: Write>(
+    writer: &mut Watched<W>,
+    pair: (i32, usize),
+) -> Result<(), ScriptError>
+    ensures ok { OnOk result (Appends (W.contents (device_of writer.old)) (W.contents (device_of writer.new)) (codes " " ++ pair_text pair)) }
+    ensures err { OnErr result (WritesFront (W.contents (device_of writer.old)) (W.contents (device_of writer.new)) (codes " " ++ pair_text pair)) }
+    ensures cause { OnErr result ((result ≡ Err ScriptError.Write) × (has_failed writer.new ≡ true)) }
+    ensures unfailed { OnOk result (has_failed writer.new ≡ has_failed writer.old) }
+{
+    write_whole(writer, b" ")?;
+    write_pair(writer, pair)
+}
+
+/// Writes a pair.
+fn write_pair<W: Write>(writer: &mut Watched<W>, pair: (i32, usize)) -> Result<(), ScriptError>
+    ensures ok { OnOk result (Appends (W.contents (device_of writer.old)) (W.contents (device_of writer.new)) (pair_text pair)) }
+    ensures err { OnErr result (WritesFront (W.contents (device_of writer.old)) (W.contents (device_of writer.new)) (pair_text pair)) }
+    ensures cause { OnErr result ((result ≡ Err ScriptError.Write) × (has_failed writer.new ≡ true)) }
+    ensures unfailed { OnOk result (has_failed writer.new ≡ has_failed writer.old) }
+{
+    let (value, count) = pair;
+    let mut figures = Buffer::new();
+    write_whole(writer, figures.format(value).as_bytes())?;
+    write_both(writer, b":", figures.format(count).as_bytes())
+}

@@ -1,0 +1,104 @@
+//! The line of a text's tokens. It takes no memory.
+
+ghost use Rattle.std.specs.Prelude.{◌≡◌, ◌++◌, ◌∷◌, [], true, OnOk, OnErr, codes};
+ghost use Rattle.std.specs.Io.KnownBytes.{Appends};
+ghost use Rattle.cedarwood.specs.WatchedDevice.{device_of, has_failed};
+ghost use Rattle.cedar_cli.specs.Script.{WritesFront, field, number_text, spaced, token_text, tokens_text};
+
+use crate::answers::write_whole;
+use crate::script::ScriptError;
+use cedar_words::{LongestPrefix, Segments};
+use cedarwood::Watched;
+use itoa::Buffer;
+use std::io::Write;
+
+/// Writes the line of some tokens.
+pub(crate) fn write_tokens<T: LongestPrefix, W: Write>(
+    writer: &mut Watched<W>,
+    mut tokens: Segments<'_, T>,
+) -> Result<(), ScriptError>
+    ensures ok { OnOk result (Appends (W.contents (device_of writer.old)) (W.contents (device_of writer.new)) (tokens_text tokens.entry ++ 10 ∷ [])) }
+    ensures err { OnErr result (WritesFront (W.contents (device_of writer.old)) (W.contents (device_of writer.new)) (tokens_text tokens.entry ++ 10 ∷ [])) }
+    ensures cause { OnErr result ((result ≡ Err ScriptError.Write) × (has_failed writer.new ≡ true)) }
+    ensures unfailed { OnOk result (has_failed writer.new ≡ has_failed writer.old) }
+{
+    let Some(first) = tokens.next() else {
+        return write_whole(writer, b"none\n");
+    };
+    write_token(writer, first)?;
+    write_spaced(writer, tokens)
+}
+
+/// Writes some tokens, each after a space, and byte 10.
+fn write_spaced<T: LongestPrefix, W: Write>(
+    writer: &mut Watched<W>,
+    mut tokens: Segments<'_, T>,
+) -> Result<(), ScriptError>
+    ensures ok { OnOk result (Appends (W.contents (device_of writer.old)) (W.contents (device_of writer.new)) (spaced token_text tokens.entry ++ 10 ∷ [])) }
+    ensures err { OnErr result (WritesFront (W.contents (device_of writer.old)) (W.contents (device_of writer.new)) (spaced token_text tokens.entry ++ 10 ∷ [])) }
+    ensures cause { OnErr result ((result ≡ Err ScriptError.Write) × (has_failed writer.new ≡ true)) }
+    ensures unfailed { OnOk result (has_failed writer.new ≡ has_failed writer.old) }
+{
+    while let Some(token) = tokens.next() {
+        write_next(writer, token)?;
+    }
+    write_whole(writer, b"\n")
+}
+
+/// Writes a space and a token.
+fn write_next<W: Write>(
+    writer: &mut Watched<W>,
+    token: (usize, usize, Option<i32>),
+) -> Result<(), ScriptError>
+    ensures ok { OnOk result (Appends (W.contents (device_of writer.old)) (W.contents (device_of writer.new)) (codes " " ++ token_text token)) }
+    ensures err { OnErr result (WritesFront (W.contents (device_of writer.old)) (W.contents (device_of writer.new)) (codes " " ++ token_text token)) }
+    ensures cause { OnErr result ((result ≡ Err ScriptError.Write) × (has_failed writer.new ≡ true)) }
+    ensures unfailed { OnOk result (has_failed writer.new ≡ has_failed writer.old) }
+{
+    write_whole(writer, b" ")?;
+    write_token(writer, token)
+}
+
+/// Writes a token.
+fn write_token<W: Write>(
+    writer: &mut Watched<W>,
+    token: (usize, usize, Option<i32>),
+) -> Result<(), ScriptError>
+    ensures ok { OnOk result (Appends (W.contents (device_of writer.old)) (W.contents (device_of writer.new)) (token_text token)) }
+    ensures err { OnErr result (WritesFront (W.contents (device_of writer.old)) (W.contents (device_of writer.new)) (token_text token)) }
+    ensures cause { OnErr result ((result ≡ Err ScriptError.Write) × (has_failed writer.new ≡ true)) }
+    ensures unfailed { OnOk result (has_failed writer.new ≡ has_failed writer.old) }
+{
+    let (start, len, value) = token;
+    write_field(writer, start)?;
+    write_field(writer, len)?;
+    write_value(writer, value)
+}
+
+/// Writes a number and a colon.
+fn write_field<W: Write>(writer: &mut Watched<W>, number: usize) -> Result<(), ScriptError>
+    ensures ok { OnOk result (Appends (W.contents (device_of writer.old)) (W.contents (device_of writer.new)) (field number)) }
+    ensures err { OnErr result (WritesFront (W.contents (device_of writer.old)) (W.contents (device_of writer.new)) (field number)) }
+    ensures cause { OnErr result ((result ≡ Err ScriptError.Write) × (has_failed writer.new ≡ true)) }
+    ensures unfailed { OnOk result (has_failed writer.new ≡ has_failed writer.old) }
+{
+    let mut figures = Buffer::new();
+    write_whole(writer, figures.format(number).as_bytes())?;
+    write_whole(writer, b":")
+}
+
+/// Writes a token's value, or `-`.
+fn write_value<W: Write>(writer: &mut Watched<W>, value: Option<i32>) -> Result<(), ScriptError>
+    ensures ok { OnOk result (Appends (W.contents (device_of writer.old)) (W.contents (device_of writer.new)) (number_text value)) }
+    ensures err { OnErr result (WritesFront (W.contents (device_of writer.old)) (W.contents (device_of writer.new)) (number_text value)) }
+    ensures cause { OnErr result ((result ≡ Err ScriptError.Write) × (has_failed writer.new ≡ true)) }
+    ensures unfailed { OnOk result (has_failed writer.new ≡ has_failed writer.old) }
+{
+    match value {
+        Some(value) => {
+            let mut figures = Buffer::new();
+            write_whole(writer, figures.format(value).as_bytes())
+        }
+        None => write_whole(writer, b"-"),
+    }
+}

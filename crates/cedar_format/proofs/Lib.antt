@@ -1,0 +1,16 @@
+pub mod Filling
+pub mod NumberLemmas
+pub mod Lists
+pub mod Pieces
+pub mod HeaderSpelling
+pub mod Sizes
+pub mod Asking
+pub mod Again
+pub mod Apart
+pub mod OneTable
+pub mod FileTable
+pub mod Passing
+pub mod Missing
+pub mod HeaderReading
+pub mod Decoding
+pub mod Lacking

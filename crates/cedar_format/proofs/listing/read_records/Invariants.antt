@@ -1,0 +1,17 @@
+use Rattle.std.proofs.Common.{◌≡◌, true, ◌≤◌, ◌-◌, vec_len, vec_capacity}
+use Rattle.std.specs.Prelude.{All}
+use Rattle.std.specs.List.{flat_map}
+use Rattle.std.specs.Io.KnownBytes.{Consumes}
+use Rattle.cedar_format.proofs.listing.read_records.Given as goal
+
+abbrev pub invariant-loop-records : goal.invariant-loop-records
+invariant-loop-records g l = record {
+  count : vec_len l.records ≤ l.count;
+  room : l.count ≤ vec_capacity l.records;
+  bytes : Consumes (g.R.Read.remaining l.initial.reader.device) (g.R.Read.remaining l.reader.device) (flat_map g.T.Record.bytes_of l.records.items);
+  fits : All g.T.Record.Fits l.records.items;
+  failed : l.initial.reader.failed ≡ true → l.reader.failed ≡ true;
+}
+
+abbrev pub decreases-loop-records : goal.decreases-loop-records
+decreases-loop-records g l = l.count - vec_len l.records

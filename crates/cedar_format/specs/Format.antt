@@ -1,0 +1,208 @@
+-- Format 1.0: what its bytes mean, and which of them are refused.
+use Rattle.std.specs.Prelude.{◌≡◌, ◌⊎◌, ℕ, ℤ, pos, ◌+◌, ◌*◌, ◌/◌, ◌%◌, ◌==◌, ◌&&◌, ◌<◌, ◌≤◌, ◌^◌, nat_lt, nat_le, nat_eq, List, [], ◌∷◌, length, take, drop, slice_index, Option, None, codes, int_lt, if◌then◌else◌, Result, IsErrAnd}
+use Rattle.std.specs.Int.{w16, w32, w64, from_le_bytes, cast_signed, cast_unsigned, is_power_of_two}
+use Rattle.std.specs.List.{concat, starts_with}
+use Rattle.cedar_slots.specs.declared.records.NodeRecord.{NodeRecord}
+use Rattle.cedar_slots.specs.declared.records.NInfoRecord.{NInfoRecord}
+use Rattle.cedar_slots.specs.declared.records.BlockRecord.{BlockRecord}
+use Rattle.cedar_slots.specs.Places.{IsPowerOfTwo}
+use Rattle.cedar_format.specs.Numbers.{i32_bytes, u16_bytes, u64_bytes, IsI32}
+use Rattle.cedar_format.specs.Records.{FitsBody}
+use Rattle.cedar_format.specs.declared.header.Header.{Header}
+use Rattle.cedar_format.specs.Refusal.{Refusal, InvalidMagic, UnsupportedVersion, UnsupportedByteOrder, LayoutMismatch, InvalidHeader, AllocationLimitExceeded, Truncated, TrailingData, unless, first_refusal, refusal}
+use Rattle.cedar_format.specs.declared.error.CedarPersistenceError.{CedarPersistenceError}
+use Rattle.cedar_format.specs.Reading.{Begins, LacksTable}
+
+-- the number that stands at a place of the bytes, the lowest byte first
+abbrev pub u8_at : ℕ → List ℕ → ℕ
+u8_at at bytes = slice_index bytes at
+
+unfoldable pub u16_at : ℕ → List ℕ → ℕ
+u16_at at bytes = from_le_bytes w16 (drop at bytes)
+
+unfoldable pub i32_at : ℕ → List ℕ → ℤ
+i32_at at bytes = cast_signed w32 (from_le_bytes w32 (drop at bytes))
+
+unfoldable pub u64_at : ℕ → List ℕ → ℕ
+u64_at at bytes = from_le_bytes w64 (drop at bytes)
+
+-- `CEDARW` and two bytes 0
+abbrev pub magic : List ℕ
+magic = 67 ∷ 69 ∷ 68 ∷ 65 ∷ 82 ∷ 87 ∷ 0 ∷ 0 ∷ []
+
+-- the header that stands in the first 88 bytes
+abbrev pub header_at : List ℕ → Header
+header_at bytes = record {
+  ordered = u16_at 14 bytes == 1;
+  max_trial = i32_at 16 bytes;
+  full_head = i32_at 20 bytes;
+  closed_head = i32_at 24 bytes;
+  open_head = i32_at 28 bytes;
+  array_len = u64_at 32 bytes;
+  n_infos_len = u64_at 40 bytes;
+  blocks_len = u64_at 48 bytes;
+  reject_len = u64_at 56 bytes;
+  capacity = u64_at 64 bytes;
+  size = u64_at 72 bytes;
+  entries = u64_at 80 bytes;
+}
+
+-- a step that reads the bytes up to a place
+abbrev pub reads_to : ℕ → List ℕ → Option Refusal
+reads_to end bytes = unless (nat_le end (length bytes)) Truncated
+
+-- the magic bytes and the version
+abbrev pub version_refusal : List ℕ → Option Refusal
+version_refusal bytes = first_refusal (
+    reads_to 8 bytes
+    ∷ unless (starts_with nat_eq bytes magic) InvalidMagic
+    ∷ reads_to 12 bytes
+    ∷ unless ((u16_at 8 bytes == 1) && (u16_at 10 bytes == 0)) (UnsupportedVersion (u16_at 8 bytes) (u16_at 10 bytes))
+    ∷ [])
+
+-- the byte order, the layout and the flags
+abbrev pub kind_refusal : ℕ → List ℕ → Option Refusal
+kind_refusal layout bytes = first_refusal (
+    reads_to 13 bytes
+    ∷ unless (u8_at 12 bytes == 1) (UnsupportedByteOrder (u8_at 12 bytes))
+    ∷ reads_to 14 bytes
+    ∷ unless (u8_at 13 bytes == layout) (LayoutMismatch layout (u8_at 13 bytes))
+    ∷ reads_to 16 bytes
+    ∷ unless (nat_lt (u16_at 14 bytes) 2) (InvalidHeader (codes "flags") (u16_at 14 bytes))
+    ∷ [])
+
+-- the steps of a header: these, and that all of it is there
+abbrev pub header_refusal : ℕ → List ℕ → Option Refusal
+header_refusal layout bytes = first_refusal (version_refusal bytes ∷ kind_refusal layout bytes ∷ reads_to 88 bytes ∷ [])
+
+-- the flags of a header
+abbrev pub flags_of : Header → ℕ
+flags_of h = if h.ordered then 1 else 0
+
+-- the bytes of a header of this layout: its fields one after another
+abbrev pub header_bytes : ℕ → Header → List ℕ
+header_bytes layout h = concat (
+    magic
+    ∷ u16_bytes 1
+    ∷ u16_bytes 0
+    ∷ (1 ∷ layout ∷ [])
+    ∷ u16_bytes (flags_of h)
+    ∷ i32_bytes h.max_trial
+    ∷ i32_bytes h.full_head
+    ∷ i32_bytes h.closed_head
+    ∷ i32_bytes h.open_head
+    ∷ u64_bytes h.array_len
+    ∷ u64_bytes h.n_infos_len
+    ∷ u64_bytes h.blocks_len
+    ∷ u64_bytes h.reject_len
+    ∷ u64_bytes h.capacity
+    ∷ u64_bytes h.size
+    ∷ u64_bytes h.entries
+    ∷ [])
+
+-- numbers of their types
+pub record FitsHeader (h : Header) : Type 0 where
+  pub max_trial : IsI32 h.max_trial
+  pub full_head : IsI32 h.full_head
+  pub closed_head : IsI32 h.closed_head
+  pub open_head : IsI32 h.open_head
+  pub array_len : h.array_len < 2 ^ 64
+  pub n_infos_len : h.n_infos_len < 2 ^ 64
+  pub blocks_len : h.blocks_len < 2 ^ 64
+  pub reject_len : h.reject_len < 2 ^ 64
+  pub capacity : h.capacity < 2 ^ 64
+  pub size : h.size < 2 ^ 64
+  pub entries : h.entries < 2 ^ 64
+
+-- these 88 bytes are a header of this layout, with these fields
+pub record IsHeader (layout : ℕ) (bytes : List ℕ) (h : Header) : Type 0 where
+  pub len : length bytes ≡ 88
+  pub accepted : header_refusal layout bytes ≡ None
+  pub fields : h ≡ header_at bytes
+  pub spelled : bytes ≡ header_bytes layout h
+  pub fits : FitsHeader h
+
+-- the most bytes that a load asks for
+abbrev pub need : Header → ℕ
+need h = 2 * (10 * h.capacity + 20 * (h.capacity / 256) + 514) + 18 * h.size + h.capacity / 256
+
+-- the tests of the sizes, and of the need
+abbrev pub size_refusal : ℕ → ℕ → Header → Option Refusal
+size_refusal slots limit h = first_refusal (
+    unless ((h.array_len == h.capacity) && (h.n_infos_len == h.capacity)) (InvalidHeader (codes "node_vector_lengths") h.array_len)
+    ∷ unless (is_power_of_two h.capacity && nat_le 256 h.capacity && nat_le h.capacity slots) (InvalidHeader (codes "capacity") h.capacity)
+    ∷ unless ((h.size % 256 == 0) && nat_le 256 h.size && nat_le h.size h.capacity) (InvalidHeader (codes "size") h.size)
+    ∷ unless ((h.blocks_len == h.capacity / 256) && (h.reject_len == 257) && nat_le h.entries h.size) (InvalidHeader (codes "state_lengths") h.blocks_len)
+    ∷ unless (nat_le (need h) limit) (AllocationLimitExceeded (need h) limit)
+    ∷ [])
+
+-- how many bytes the four tables have
+abbrev pub body_len : Header → ℕ
+body_len h = h.capacity * 8 + (h.capacity * 2 + (h.blocks_len * 20 + h.reject_len * 2))
+
+-- the sizes of a header that passes, as numbers
+pub record HasSizes (slots : ℕ) (h : Header) : Type 0 where
+  pub array_len : h.array_len ≡ h.capacity
+  pub n_infos_len : h.n_infos_len ≡ h.capacity
+  pub blocks : 256 * h.blocks_len ≡ h.capacity
+  pub doubled : IsPowerOfTwo h.blocks_len
+  pub reject_len : h.reject_len ≡ 257
+  pub capacity : h.capacity ≤ slots
+  pub some : 256 ≤ h.size
+  pub in_blocks : 256 * (h.size / 256) ≡ h.size
+  pub size : h.size ≤ h.capacity
+
+-- what was read of a file: the header's sizes pass, there are as many records as it says, and all numbers are of their types
+pub record IsFile (slots limit : ℕ) (h : Header) (nodes : List NodeRecord) (infos : List NInfoRecord) (blocks : List BlockRecord) (reject : List ℤ) : Type 0 where
+  pub sizes : size_refusal slots limit h ≡ None
+  pub nodes_len : length nodes ≡ h.capacity
+  pub infos_len : length infos ≡ h.capacity
+  pub blocks_len : length blocks ≡ h.blocks_len
+  pub reject_len : length reject ≡ h.reject_len
+  pub numbers : FitsBody nodes infos blocks reject
+
+-- the bytes begin with this header, and it passes all tests of its own
+pub record Passes (layout slots limit : ℕ) (bytes : Option (List ℕ)) (h : Header) : Type 0 where
+  pub front : List ℕ
+  pub is : IsHeader layout front h
+  pub sizes : size_refusal slots limit h ≡ None
+  pub first : Begins bytes front
+
+-- nothing is counted before the header has passed, and then as much as it allows
+abbrev pub CountsWithin : ℕ → ℕ → ℕ → Option (List ℕ) → (Header → ℕ) → ℕ → ℕ → Type 0
+CountsWithin layout slots limit bytes most before after =
+    (after ≡ before) ⊎ ((h : Header) × Passes layout slots limit bytes h × (after ≤ before + most h))
+
+-- how many bytes a file has
+abbrev pub file_len : Header → ℕ
+file_len h = 88 + body_len h
+
+-- that the body is there, and nothing behind it
+abbrev pub body_refusal : Header → List ℕ → Option Refusal
+body_refusal h bytes = first_refusal (
+    unless (nat_le (file_len h) (length bytes)) Truncated
+    ∷ unless (length bytes == file_len h) TrailingData
+    ∷ [])
+
+-- the test of the number of trials
+abbrev pub trial_refusal : Header → Option Refusal
+trial_refusal h = unless (int_lt (pos 0) h.max_trial) (InvalidHeader (codes "max_trial") (cast_unsigned w32 h.max_trial))
+
+-- the first refusal of the header, its sizes and the body, in that order
+abbrev pub decode_refusal : ℕ → ℕ → ℕ → List ℕ → Option Refusal
+decode_refusal layout slots limit bytes =
+    let front = take 88 bytes in
+    let h = header_at front in
+    first_refusal (header_refusal layout front ∷ size_refusal slots limit h ∷ body_refusal h bytes ∷ [])
+
+-- a file's fields were read, or refused as they should be, or a table found no room after the header had passed
+abbrev pub DecodeAnswers : {X : Type 0} → ℕ → ℕ → ℕ → List ℕ → Result X CedarPersistenceError → Type 0
+DecodeAnswers layout slots limit bytes answer =
+    let front = take 88 bytes in
+    let h = header_at front in
+    (refusal answer ≡ decode_refusal layout slots limit bytes)
+    ⊎ (IsErrAnd answer (LacksTable h) × (header_refusal layout front ≡ None) × (size_refusal slots limit h ≡ None))
+
+-- the first refusal of all steps but those on memory and on the table
+abbrev pub header_answer : ℕ → ℕ → ℕ → List ℕ → Option Refusal
+header_answer layout slots limit bytes = first_refusal (decode_refusal layout slots limit bytes ∷ trial_refusal (header_at (take 88 bytes)) ∷ [])

@@ -1,0 +1,53 @@
+-- What reads and writes tell of the bytes that a reader has left and a writer holds, where those are known.
+use Rattle.std.specs.Prelude.{ℕ, ◌≡◌, ◌<◌, ◌⊎◌, Bool, true, false, List, ◌++◌, length, take, Option, Some, None, ⊤}
+use Rattle.cedar_format.specs.declared.error.CedarPersistenceError.{CedarPersistenceError}
+use Rattle.cedar_format.specs.declared.error.CedarPersistenceError.TheVariants.{Io, Truncated, AllocationFailed, TrailingData}
+use Rattle.std.specs.Io.KnownBytes.{Appends}
+use Rattle.cedar_format.specs.declared.header.Header.{Header}
+
+-- fewer than n bytes are left
+abbrev pub EndsWithin : Option (List ℕ) → ℕ → Type 0
+EndsWithin None n = ⊤
+EndsWithin (Some bytes) n = length bytes < n
+
+-- why n bytes could not be read: the reader failed, or fewer than n were left
+abbrev pub Misses : Option (List ℕ) → Bool → ℕ → CedarPersistenceError → Type 0
+Misses left failed n (Io cause) = failed ≡ true
+Misses left failed n Truncated = failed ≡ false → EndsWithin left n
+Misses left failed n _ = ⊥
+
+-- the device failed
+abbrev pub IsIo : CedarPersistenceError → Type 0
+IsIo (Io cause) = ⊤
+IsIo _ = ⊥
+
+-- memory was refused
+abbrev pub IsLack : CedarPersistenceError → Type 0
+IsLack (AllocationFailed n) = ⊤
+IsLack _ = ⊥
+
+-- what a byte behind the end answers, or a fault there
+abbrev pub Trails : Option (List ℕ) → Bool → CedarPersistenceError → Type 0
+Trails left failed (Io cause) = failed ≡ true
+Trails None failed TrailingData = ⊤
+Trails (Some bytes) failed TrailingData = 0 < length bytes
+Trails left failed _ = ⊥
+
+-- one of the four tables had no room, in their order of size
+abbrev pub LacksTable : Header → CedarPersistenceError → Type 0
+LacksTable h (AllocationFailed n) = (n ≡ h.capacity) ⊎ ((n ≡ h.blocks_len) ⊎ (n ≡ h.reject_len))
+LacksTable h _ = ⊥
+
+-- where memory was refused, it was for one of the four tables of a header with this property
+abbrev pub LacksNoMore : (Header → Type 0) → CedarPersistenceError → Type 0
+LacksNoMore passed (AllocationFailed n) = (h : Header) × passed h × ((n ≡ h.capacity) ⊎ ((n ≡ h.blocks_len) ⊎ (n ≡ h.reject_len)))
+LacksNoMore passed _ = ⊤
+
+-- these bytes come first
+abbrev pub Begins : Option (List ℕ) → List ℕ → Type 0
+Begins None front = ⊤
+Begins (Some bytes) front = take (length front) bytes ≡ front
+
+-- what was written, and then what waits in a buffer, are these bytes
+abbrev pub Holds : Option (List ℕ) → Option (List ℕ) → List ℕ → List ℕ → Type 0
+Holds old new waiting bytes = (front : List ℕ) × Appends old new front × (front ++ waiting ≡ bytes)

@@ -1,0 +1,16 @@
+-- What a caller sees of a watched reader or writer.
+use Rattle.std.specs.Prelude.{ℕ, Bool, true, ◌&&◌, ◌==◌, not, List, length, Result, Ok, Err}
+use Rattle.cedar_format.specs.declared.watched.Watched.{Watched}
+
+-- the reader or writer inside
+abbrev pub device_of : {D : Type 0} → Watched D → D
+device_of w = w.device
+
+-- whether one of its calls failed so far
+abbrev pub has_failed : {D : Type 0} → Watched D → Bool
+has_failed w = w.failed
+
+-- a write of these bytes answered a fault, or took none of some bytes
+abbrev pub is_write_fault : {E : Type 0} → Result ℕ E → List ℕ → Bool
+is_write_fault (Ok n) bytes = n == 0 && not (length bytes == 0)
+is_write_fault (Err e) bytes = true

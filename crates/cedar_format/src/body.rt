@@ -1,0 +1,217 @@
+//! The tables of a file.
+
+ghost use Rattle.std.specs.Prelude.{◌≡◌, ◌<◌, ◌≤◌, ◌+◌, ◌^◌, ◌⊎◌, true, false, length, List, ℕ, [], ◌++◌, IfErr, IfOk, IfSome, OnOk, None, vec_len, vec_capacity};
+ghost use Rattle.std.specs.Io.KnownBytes.{Consumes, IsAtEnd};
+ghost use Rattle.cedar_slots.specs.Places.{IsSlotLimit};
+ghost use Rattle.cedar_format.specs.Format.{body_len, need, CountsWithin, DecodeAnswers, IsFile, IsHeader, Passes};
+ghost use Rattle.cedar_format.specs.Records.{body_bytes, FitsBody};
+ghost use Rattle.cedar_format.specs.Reading.{IsIo, LacksNoMore, LacksTable, Misses, Trails};
+ghost use Rattle.cedar_format.specs.WatchedDevice.{device_of, has_failed};
+
+use crate::error::CedarPersistenceError;
+use crate::header::{Header, check_sizes, read_header};
+use crate::listing::read_records;
+use crate::reserve::reserve_counted;
+use crate::watched::Watched;
+use cedar_table::{BlockRecord, NInfoRecord, NodeRecord, Ticks};
+use std::alloc::Allocator;
+use std::io::{ErrorKind, Read};
+use std::marker::Brand;
+use std::sync::ledger::{Blank, Ledger};
+
+/// The fields of a file.
+#[derive(Drop)]
+pub struct Decoded<A: Allocator> {
+    pub header: Header,
+    pub nodes: Vec<NodeRecord, A>,
+    pub n_infos: Vec<NInfoRecord, A>,
+    pub blocks: Vec<BlockRecord, A>,
+    pub reject: Vec<i16, A>,
+}
+
+/// The four tables, empty and with room for what the header says.
+fn reserve_tables<A: Allocator + Copy, C: Ledger>(
+    alloc: A,
+    header: Header,
+    asked: &mut Ticks<C>,
+) -> Result<Decoded<A>, CedarPersistenceError>
+    requires capacity { header.capacity ≤ 2 ^ 30 }
+    requires blocks { header.blocks_len ≤ 2 ^ 22 }
+    requires reject { header.reject_len ≡ 257 }
+    ensures header { IfOk result (λ d. d.header ≡ header) }
+    ensures nodes { IfOk result (λ d. (d.nodes.items ≡ []) × (header.capacity ≤ vec_capacity d.nodes)) }
+    ensures n_infos { IfOk result (λ d. (d.n_infos.items ≡ []) × (header.capacity ≤ vec_capacity d.n_infos)) }
+    ensures blocks { IfOk result (λ d. (d.blocks.items ≡ []) × (header.blocks_len ≤ vec_capacity d.blocks)) }
+    ensures reject { IfOk result (λ d. (d.reject.items ≡ []) × (header.reject_len ≤ vec_capacity d.reject)) }
+    ensures err { IfErr result (LacksTable header) }
+    ensures asked { asked.new ≤ asked.old + body_len header }
+{
+    let mut nodes = Vec::new(alloc);
+    reserve_counted(&mut nodes, header.capacity, asked)?;
+    let mut n_infos = Vec::new(alloc);
+    reserve_counted(&mut n_infos, header.capacity, asked)?;
+    let mut blocks = Vec::new(alloc);
+    reserve_counted(&mut blocks, header.blocks_len, asked)?;
+    let mut reject = Vec::new(alloc);
+    reserve_counted(&mut reject, header.reject_len, asked)?;
+    Ok(Decoded {
+        header,
+        nodes,
+        n_infos,
+        blocks,
+        reject,
+    })
+}
+
+/// Reads the four tables, one after another.
+fn read_tables<R: Read, A: Allocator>(
+    reader: &mut Watched<R>,
+    tables: Decoded<A>,
+) -> Result<Decoded<A>, CedarPersistenceError>
+    requires nodes { (tables.nodes.items ≡ []) × (tables.header.capacity ≤ vec_capacity tables.nodes) }
+    requires n_infos { (tables.n_infos.items ≡ []) × (tables.header.capacity ≤ vec_capacity tables.n_infos) }
+    requires blocks { (tables.blocks.items ≡ []) × (tables.header.blocks_len ≤ vec_capacity tables.blocks) }
+    requires reject { (tables.reject.items ≡ []) × (tables.header.reject_len ≤ vec_capacity tables.reject) }
+    ensures header { IfOk result (λ d. d.header ≡ tables.header) }
+    ensures nodes { IfOk result (λ d. vec_len d.nodes ≡ tables.header.capacity) }
+    ensures n_infos { IfOk result (λ d. vec_len d.n_infos ≡ tables.header.capacity) }
+    ensures blocks { IfOk result (λ d. vec_len d.blocks ≡ tables.header.blocks_len) }
+    ensures reject { IfOk result (λ d. vec_len d.reject ≡ tables.header.reject_len) }
+    ensures bytes { IfOk result (λ d. Consumes (R.remaining (device_of reader.old)) (R.remaining (device_of reader.new)) (body_bytes d.nodes.items d.n_infos.items d.blocks.items d.reject.items)) }
+    ensures fits { IfOk result (λ d. FitsBody d.nodes.items d.n_infos.items d.blocks.items d.reject.items) }
+    ensures len { IfOk result (λ d. length (body_bytes d.nodes.items d.n_infos.items d.blocks.items d.reject.items) ≡ body_len tables.header) }
+    ensures misses { IfErr result (Misses (R.remaining (device_of reader.old)) (has_failed reader.new) (body_len tables.header)) }
+    ensures failed { has_failed reader.old ≡ true → has_failed reader.new ≡ true }
+{
+    let Decoded {
+        header,
+        mut nodes,
+        mut n_infos,
+        mut blocks,
+        mut reject,
+    } = tables;
+    read_records(reader, header.capacity, &mut nodes)?;
+    read_records(reader, header.capacity, &mut n_infos)?;
+    read_records(reader, header.blocks_len, &mut blocks)?;
+    read_records(reader, header.reject_len, &mut reject)?;
+    Ok(Decoded {
+        header,
+        nodes,
+        n_infos,
+        blocks,
+        reject,
+    })
+}
+
+/// The end of the input, by one exact read of one byte.
+fn read_end<R: Read>(reader: &mut Watched<R>) -> Result<(), CedarPersistenceError>
+    ensures bytes { OnOk result (Consumes (R.remaining (device_of reader.old)) (R.remaining (device_of reader.new)) []) }
+    ensures ended { OnOk result (has_failed reader.new ≡ false → IsAtEnd (R.remaining (device_of reader.old))) }
+    ensures at_end { OnOk result (has_failed reader.new ≡ false → IsAtEnd (R.remaining (device_of reader.new))) }
+    ensures trailing { IfErr result (Trails (R.remaining (device_of reader.old)) (has_failed reader.new)) }
+    ensures failed { has_failed reader.old ≡ true → has_failed reader.new ≡ true }
+{
+    let mut byte = [0u8; 1];
+    let (count, fault) = reader.read_available(&mut byte);
+    if count > 0 {
+        return Err(CedarPersistenceError::TrailingData);
+    }
+    match fault {
+        Some(error) => {
+            if error.kind() == ErrorKind::UnexpectedEof {
+                Ok(())
+            } else {
+                Err(CedarPersistenceError::Io(error))
+            }
+        }
+        None => Ok(()),
+    }
+}
+
+/// Reads the fields of a file of this layout, up to its end. The bytes that are asked of memory aren't counted.
+///
+/// # Errors
+/// As `decode_counted`.
+pub fn decode<R: Read, A: Allocator + Copy>(
+    alloc: A,
+    reader: &mut Watched<R>,
+    layout: u8,
+    slots: usize,
+    memory_limit: usize,
+) -> Result<Decoded<A>, CedarPersistenceError>
+    requires slots { IsSlotLimit slots }
+    ensures bytes { IfOk result (λ d. (front : List ℕ) × IsHeader layout front d.header
+        × Consumes (R.remaining (device_of reader.old)) (R.remaining (device_of reader.new)) (front ++ body_bytes d.nodes.items d.n_infos.items d.blocks.items d.reject.items)) }
+    ensures file { IfOk result (λ d. IsFile slots memory_limit d.header d.nodes.items d.n_infos.items d.blocks.items d.reject.items) }
+    ensures answer { IfSome (R.remaining (device_of reader.old)) (λ bytes. has_failed reader.new ≡ false → DecodeAnswers layout slots memory_limit bytes result) }
+    ensures at_end { OnOk result (has_failed reader.new ≡ false → IsAtEnd (R.remaining (device_of reader.new))) }
+    ensures io { IfErr result (λ e. IsIo e → has_failed reader.new ≡ true) }
+    ensures lacks { IfErr result (LacksNoMore (Passes layout slots memory_limit (R.remaining (device_of reader.old)))) }
+{
+    uncounted::<Brand, R, A>(alloc, reader, layout, slots, memory_limit, Blank::new(1))
+}
+
+/// Decodes with a count of its own, which nothing reads.
+fn uncounted<C: Ledger, R: Read, A: Allocator + Copy>(
+    alloc: A,
+    reader: &mut Watched<R>,
+    layout: u8,
+    slots: usize,
+    memory_limit: usize,
+    blank: Blank,
+) -> Result<Decoded<A>, CedarPersistenceError>
+    requires slots { IsSlotLimit slots }
+    requires name { blank.name ≡ C.name }
+    requires parts { blank.parts ≡ C.parts }
+    requires some { 0 < blank.parts }
+    ensures bytes { IfOk result (λ d. (front : List ℕ) × IsHeader layout front d.header
+        × Consumes (R.remaining (device_of reader.old)) (R.remaining (device_of reader.new)) (front ++ body_bytes d.nodes.items d.n_infos.items d.blocks.items d.reject.items)) }
+    ensures file { IfOk result (λ d. IsFile slots memory_limit d.header d.nodes.items d.n_infos.items d.blocks.items d.reject.items) }
+    ensures answer { IfSome (R.remaining (device_of reader.old)) (λ bytes. has_failed reader.new ≡ false → DecodeAnswers layout slots memory_limit bytes result) }
+    ensures at_end { OnOk result (has_failed reader.new ≡ false → IsAtEnd (R.remaining (device_of reader.new))) }
+    ensures io { IfErr result (λ e. IsIo e → has_failed reader.new ≡ true) }
+    ensures lacks { IfErr result (LacksNoMore (Passes layout slots memory_limit (R.remaining (device_of reader.old)))) }
+{
+    let mut asked = Ticks::<C>::new(blank);
+    decode_counted(alloc, reader, layout, slots, memory_limit, &mut asked)
+}
+
+/// Reads the fields of a file of this layout, up to its end, and counts the bytes that are asked of memory.
+///
+/// # Errors
+/// The first refusal, if there is one; `AllocationFailed` with the number of elements where a table's request was refused,
+/// once the header has passed; `Io` where the reader failed.
+pub fn decode_counted<R: Read, A: Allocator + Copy, C: Ledger>(
+    alloc: A,
+    reader: &mut Watched<R>,
+    layout: u8,
+    slots: usize,
+    memory_limit: usize,
+    asked: &mut Ticks<C>,
+) -> Result<Decoded<A>, CedarPersistenceError>
+    requires slots { IsSlotLimit slots }
+
+    // Whatever the reader does, fields come only with just their bytes.
+    ensures bytes { IfOk result (λ d. (front : List ℕ) × IsHeader layout front d.header
+        × Consumes (R.remaining (device_of reader.old)) (R.remaining (device_of reader.new)) (front ++ body_bytes d.nodes.items d.n_infos.items d.blocks.items d.reject.items)) }
+    ensures file { IfOk result (λ d. IsFile slots memory_limit d.header d.nodes.items d.n_infos.items d.blocks.items d.reject.items) }
+
+    // A reader that tells its bytes and does not fail gets the first refusal, if there is one.
+    ensures answer { IfSome (R.remaining (device_of reader.old)) (λ bytes. has_failed reader.new ≡ false → DecodeAnswers layout slots memory_limit bytes result) }
+    ensures at_end { OnOk result (has_failed reader.new ≡ false → IsAtEnd (R.remaining (device_of reader.new))) }
+    ensures io { IfErr result (λ e. IsIo e → has_failed reader.new ≡ true) }
+    ensures lacks { IfErr result (LacksNoMore (Passes layout slots memory_limit (R.remaining (device_of reader.old)))) }
+
+    // Nothing is asked of memory before the header has passed, and then at most the need that it was tested for.
+    ensures asked { CountsWithin layout slots memory_limit (R.remaining (device_of reader.old)) need asked.old asked.new }
+
+    // The header of what was read has passed.
+    ensures passes { IfOk result (λ d. Passes layout slots memory_limit (R.remaining (device_of reader.old)) d.header) }
+{
+    let header = read_header(reader, layout)?;
+    check_sizes(&header, slots, memory_limit)?;
+    let empty = reserve_tables(alloc, header, asked)?;
+    let tables = read_tables(reader, empty)?;
+    read_end(reader)?;
+    Ok(tables)
+}

@@ -1,0 +1,18 @@
+//! The laws of the format: no two tables share bytes, and the file of a well-formed table passes.
+
+ghost use Rattle.cedar_format.specs.Statements.{HeadersAreReadAgain, OneTable, TablesPass};
+
+/// No two tables share their bytes.
+pub fn one_table_for_its_bytes()
+    ensures { OneTable }
+{}
+
+/// The file of a well-formed table passes all steps of a load but those on memory, under a limit of at least its need.
+pub fn well_formed_tables_pass()
+    ensures { TablesPass }
+{}
+
+/// The fields of a header that was written are read again.
+pub fn headers_are_read_again()
+    ensures { HeadersAreReadAgain }
+{}

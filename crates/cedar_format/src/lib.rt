@@ -1,0 +1,30 @@
+//! The binary format of a table, version 1.0: its exact bytes and its exact refusals; and the devices that it is read from
+//! and written to.
+#![tactic(auto)]
+
+mod body;
+mod buffer;
+mod error;
+mod header;
+mod laws;
+mod listing;
+mod numbers;
+mod record;
+mod reserve;
+mod table;
+mod watched;
+
+pub use body::{Decoded, decode, decode_counted};
+pub use cedar_table::{BlockRecord, NInfoRecord, NodeRecord};
+pub use error::CedarPersistenceError;
+pub use header::{
+    FLAG_ORDERED, HEADER_LEN, Header, LAYOUT, LITTLE_ENDIAN, MAGIC, MAJOR, MINOR, REDUCED_LAYOUT,
+    read_header, write_header,
+};
+pub use laws::{headers_are_read_again, one_table_for_its_bytes, well_formed_tables_pass};
+pub use numbers::{
+    read_i16, read_i32, read_u8, read_u16, read_u64, read_usize, write_i16, write_i32, write_usize,
+};
+pub use reserve::reserve_exact;
+pub use table::{table_of, write_table};
+pub use watched::Watched;

@@ -1,0 +1,116 @@
+//! Lists of records, in large pieces.
+
+ghost use Rattle.std.specs.Prelude.{◌≡◌, ◌+◌, ◌*◌, ◌≤◌, true, All, List, ℕ, [], ◌++◌, length, IfErr, OnOk, vec_len, vec_capacity};
+ghost use Rattle.std.specs.List.{flat_map};
+ghost use Rattle.std.specs.Io.KnownBytes.{Appends, Consumes};
+ghost use Rattle.arrayvec.specs.ArrayVec.{array_vec_len};
+ghost use Rattle.cedar_format.specs.Reading.{Holds, IsIo, Misses};
+ghost use Rattle.cedar_format.specs.WatchedDevice.{device_of, has_failed};
+
+use crate::buffer::{BUFFER_LEN, Buffer};
+use crate::error::CedarPersistenceError;
+use crate::numbers::{read_bytes, write_bytes};
+use crate::record::Record;
+use crate::watched::Watched;
+use std::alloc::Allocator;
+use std::io::{Read, Write};
+
+/// Reads a list of so many records.
+pub(crate) fn read_records<R: Read, T: Record, A: Allocator>(
+    reader: &mut Watched<R>,
+    count: usize,
+    records: &mut Vec<T, A>,
+) -> Result<(), CedarPersistenceError>
+    requires empty { records.old.items ≡ [] }
+    requires room { count ≤ vec_capacity records.old }
+    ensures count { OnOk result (vec_len records.new ≡ count) }
+    ensures bytes { OnOk result (Consumes (R.remaining (device_of reader.old)) (R.remaining (device_of reader.new)) (flat_map T.bytes_of records.new.items)) }
+    ensures fits { OnOk result (All T.Fits records.new.items) }
+    ensures len { OnOk result (length (flat_map T.bytes_of records.new.items) ≡ count * T.LEN) }
+    ensures misses { IfErr result (Misses (R.remaining (device_of reader.old)) (has_failed reader.new) (count * T.LEN)) }
+    ensures failed { has_failed reader.old ≡ true → has_failed reader.new ≡ true }
+{
+    let most = BUFFER_LEN / T::LEN;
+    while records.len() < count {
+        let left = count - records.len();
+        read_piece(reader, left.min(most), records)?;
+    }
+    Ok(())
+}
+
+/// Reads as many further records as fit in one buffer.
+fn read_piece<R: Read, T: Record, A: Allocator>(
+    reader: &mut Watched<R>,
+    count: usize,
+    records: &mut Vec<T, A>,
+) -> Result<(), CedarPersistenceError>
+    requires piece { count * T.LEN ≤ 4096 }
+    requires room { vec_len records.old + count ≤ vec_capacity records.old }
+    requires fits { All T.Fits records.old.items }
+    ensures count { OnOk result (vec_len records.new ≡ vec_len records.old + count) }
+    ensures capacity { vec_capacity records.new ≡ vec_capacity records.old }
+    ensures bytes { OnOk result ((bytes : List ℕ) × Consumes (R.remaining (device_of reader.old)) (R.remaining (device_of reader.new)) bytes × (flat_map T.bytes_of records.new.items ≡ flat_map T.bytes_of records.old.items ++ bytes)) }
+    ensures fits { OnOk result (All T.Fits records.new.items) }
+    ensures misses { IfErr result (Misses (R.remaining (device_of reader.old)) (has_failed reader.new) (count * T.LEN)) }
+    ensures failed { has_failed reader.old ≡ true → has_failed reader.new ≡ true }
+{
+    let mut buffer = [0u8; BUFFER_LEN];
+    let bytes = &mut buffer[..count * T::LEN];
+    read_bytes(reader, bytes)?;
+    take_records(bytes, count, records);
+    Ok(())
+}
+
+/// Takes the records that some bytes are.
+fn take_records<T: Record, A: Allocator>(bytes: &[u8], count: usize, records: &mut Vec<T, A>)
+    requires len { length bytes.now ≡ count * T.LEN }
+    requires room { vec_len records.old + count ≤ vec_capacity records.old }
+    requires fits { All T.Fits records.old.items }
+    ensures count { vec_len records.new ≡ vec_len records.old + count }
+    ensures capacity { vec_capacity records.new ≡ vec_capacity records.old }
+    ensures bytes { flat_map T.bytes_of records.new.items ≡ flat_map T.bytes_of records.old.items ++ bytes.now }
+    ensures fits { All T.Fits records.new.items }
+{
+    let mut rest = bytes;
+    for _ in 0..count {
+        records.push_reserved(T::take_from(&mut rest));
+    }
+}
+
+/// Writes a list of records.
+pub(crate) fn write_records<W: Write, T: Record>(
+    writer: &mut Watched<W>,
+    records: &[T],
+) -> Result<(), CedarPersistenceError>
+    ensures bytes { OnOk result (Appends (W.contents (device_of writer.old)) (W.contents (device_of writer.new)) (flat_map T.bytes_of records.now)) }
+    ensures fits { OnOk result (All T.Fits records.now) }
+    ensures err { IfErr result (λ e. IsIo e × (has_failed writer.new ≡ true)) }
+    ensures failed { has_failed writer.old ≡ true → has_failed writer.new ≡ true }
+{
+    let mut buffer = Buffer::new();
+    for item in records {
+        make_room(writer, &mut buffer, T::LEN)?;
+        item.put_in(&mut buffer);
+    }
+    write_bytes(writer, buffer.as_slice())
+}
+
+/// Makes room for so many bytes in the buffer: where there is too little, its bytes are written.
+fn make_room<W: Write>(
+    writer: &mut Watched<W>,
+    buffer: &mut Buffer,
+    len: usize,
+) -> Result<(), CedarPersistenceError>
+    requires { len ≤ 4096 }
+    ensures room { OnOk result (array_vec_len buffer.new + len ≤ 4096) }
+    ensures bytes { OnOk result (Holds (W.contents (device_of writer.old)) (W.contents (device_of writer.new)) buffer.new.items buffer.old.items) }
+    ensures err { IfErr result (λ e. IsIo e × (has_failed writer.new ≡ true)) }
+    ensures failed { has_failed writer.old ≡ true → has_failed writer.new ≡ true }
+{
+    if BUFFER_LEN - buffer.len() >= len {
+        return Ok(());
+    }
+    write_bytes(writer, buffer.as_slice())?;
+    buffer.clear();
+    Ok(())
+}

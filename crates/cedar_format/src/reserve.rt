@@ -1,0 +1,44 @@
+//! Room for a table's lists.
+
+ghost use Rattle.std.specs.Prelude.{◌≡◌, ◌+◌, ◌*◌, ◌<◌, ◌≤◌, ◌^◌, IfErr, OnOk, vec_len, vec_capacity};
+ghost use Rattle.cedar_format.specs.Refusal.{refusal_of, AllocationFailed};
+
+use crate::error::CedarPersistenceError;
+use crate::record::Record;
+use cedar_table::Ticks;
+use std::alloc::Allocator;
+use std::sync::ledger::Ledger;
+
+/// Makes room for exactly `len` more elements.
+///
+/// # Errors
+/// `AllocationFailed` with `len` where the request was refused.
+pub fn reserve_exact<T, A: Allocator>(
+    vec: &mut Vec<T, A>,
+    len: usize,
+) -> Result<(), CedarPersistenceError>
+    ensures items { vec.new.items ≡ vec.old.items }
+    ensures ok { OnOk result (vec_len vec.new + len ≤ vec_capacity vec.new) }
+    ensures err { IfErr result (λ e. refusal_of e ≡ AllocationFailed len) }
+{
+    match vec.reserve_exact(len) {
+        Ok(()) => Ok(()),
+        Err(_) => Err(CedarPersistenceError::AllocationFailed { requested: len }),
+    }
+}
+
+/// Makes room for exactly `len` more records, and counts the bytes that are asked for.
+pub(crate) fn reserve_counted<T: Record, A: Allocator, C: Ledger>(
+    vec: &mut Vec<T, A>,
+    len: usize,
+    asked: &mut Ticks<C>,
+) -> Result<(), CedarPersistenceError>
+    requires { len * T.LEN < 2 ^ 64 }
+    ensures items { vec.new.items ≡ vec.old.items }
+    ensures ok { OnOk result (vec_len vec.new + len ≤ vec_capacity vec.new) }
+    ensures err { IfErr result (λ e. refusal_of e ≡ AllocationFailed len) }
+    ensures counted { asked.new ≡ asked.old + len * T.LEN }
+{
+    asked.add((len * T::LEN) as u64);
+    reserve_exact(vec, len)
+}

@@ -1,0 +1,4 @@
+pub mod ChecksLemmas
+pub mod ListsLemmas
+pub mod PlacementLemmas
+pub mod RingsLemmas

@@ -1,0 +1,21 @@
+use Rattle.std.proofs.Common.{◌/◌, ◌∙◌, refl}
+use Rattle.cedar_slots.specs.Places.{PlaceFields}
+use Rattle.cedar_slots.proofs.RingsLemmas.SlotTaken.{Bounded-same, recounted}
+use Rattle.cedar_slots.proofs.PlacementLemmas.PlaceSearch.{Sound-recounted, Turned-at}
+use Rattle.cedar_slots.proofs.places.Places.begin_at.Goals as goal
+use Rattle.cedar_slots.specs.Views.{blocks_of, places_of}
+
+pub returns-clause-sound : goal.returns-clause-sound
+returns-clause-sound g c =
+    let old = (places_of c.args.self.now) in
+    let new : PlaceFields = record old { blocks = (blocks_of c.set_counts.new.self) } in
+    let e = c.set_counts.ensures in
+    let was = c.counts-counts.result in
+    let now = c.beginning_at.result in
+    let turned = Turned-at old c.args.slot c.requires.sound c.requires.place was now c.counts-counts.ensures c.beginning_at.ensures.num c.beginning_at.ensures.e_head in
+    Sound-recounted old new (c.args.slot / 256) c.requires.sound c.requires.place.is_active was now
+    (recounted old new (c.args.slot / 256) c.requires.sound c.requires.place.is_active was now c.counts-counts.ensures e.made
+    (Bounded-same old.blocks.max_trial new.blocks.max_trial was now e.max_trial c.beginning_at.ensures.reject c.beginning_at.ensures.trial)
+    (λ _ zero. c.beginning_at.ensures.trial ∙ zero)
+    e.lists e.active e.len e.max_trial e.others e.idle c.requires.sound.rejects)
+    refl turned.members turned.ring turned.counted

@@ -1,0 +1,74 @@
+use Rattle.std.proofs.Common.{◌≡◌, ◌/◌, ◌≤ℤ◌, ◌<ℤ◌, ◌∙◌, arith, pos, sym}
+use Rattle.std.proofs.lemmas.Int.{ints}
+use Rattle.cedar_slots.specs.Places.{PlaceFields}
+use Rattle.cedar_slots.proofs.RingsLemmas.SlotTaken.{Bounded-more, Bounded-one, num_natural, num_room, recounted, Sound-given_alone, FreesSlot-given_alone, headed, head_in, Sound-given_after, FreesSlot-given_after}
+use Rattle.cedar_slots.proofs.places.Places.push_e_node.Goals as goal
+use Rattle.cedar_slots.specs.Views.{blocks_of, places_of, slots_of}
+
+pub give_after-requires-clause-head_in : goal.give_after-requires-clause-head_in
+give_after-requires-clause-head_in g c =
+    let some = λ (none : c.counts-counts.result.num ≡ _). let same : c.counts-counts.result.num ≡ c.reserved.result = none ∙ sym c.reserved.ensures in c.if-counts-reserved.false (omega (arith, ints)) in
+    let at_head = headed (places_of c.args.self.now) c.args.slot c.requires.sound c.requires.slot_in c.requires.not_root c.requires.slot_used c.counts-counts.result c.counts-counts.ensures some c.head-head.result c.head-head.ensures in
+    omega (arith, (head_in (places_of c.args.self.now) c.args.slot c.requires.sound c.requires.slot_in c.requires.not_root c.requires.slot_used c.counts-counts.result c.counts-counts.ensures some c.head-head.result at_head).0)
+
+pub give_after-requires-clause-next_in : goal.give_after-requires-clause-next_in
+give_after-requires-clause-next_in g c =
+    let some = λ (none : c.counts-counts.result.num ≡ _). let same : c.counts-counts.result.num ≡ c.reserved.result = none ∙ sym c.reserved.ensures in c.if-counts-reserved.false (omega (arith, ints)) in
+    let at_head = headed (places_of c.args.self.now) c.args.slot c.requires.sound c.requires.slot_in c.requires.not_root c.requires.slot_used c.counts-counts.result c.counts-counts.ensures some c.head-head.result c.head-head.ensures in
+    omega (arith, (head_in (places_of c.args.self.now) c.args.slot c.requires.sound c.requires.slot_in c.requires.not_root c.requires.slot_used c.counts-counts.result c.counts-counts.ensures some c.head-head.result at_head).1)
+
+pub more-requires : goal.more-requires
+more-requires g c = num_room (places_of c.args.self.now) c.args.slot c.requires.sound c.requires.slot_in c.requires.not_root c.requires.slot_used c.counts-counts.result c.counts-counts.ensures
+
+pub returns-then-counts-reserved-clause-sound : goal.returns-then-counts-reserved-clause-sound
+returns-then-counts-reserved-clause-sound g c =
+    let new : PlaceFields = record (places_of c.args.self.now) { slots = (slots_of c.give_alone.new.self); blocks = (blocks_of c.set_counts.new.self) } in
+    let e = c.set_counts.ensures in
+    let same : c.counts-counts.result.num ≡ c.reserved.result = omega (arith, ints) in
+    Sound-given_alone (places_of c.args.self.now) c.args.slot c.requires.sound c.requires.slot_in c.requires.not_root c.requires.slot_used c.counts-counts.result c.counts-counts.ensures new c.one.result (same ∙ c.reserved.ensures)
+    (recounted (places_of c.args.self.now) new (c.args.slot / 256) c.requires.sound c.requires.slot_in c.counts-counts.result c.one.result c.counts-counts.ensures e.made
+    (Bounded-one c.args.self.now.blocks.max_trial new.blocks.max_trial c.counts-counts.result c.one.result c.reject_for-floor.result _ e.max_trial c.one.ensures.reject (omega (arith, ints)) c.reject_for-floor.ensures.bounds c.one.ensures.trial)
+    (λ _ zero. c.one.ensures.trial ∙ zero)
+    e.lists e.active e.len e.max_trial e.others e.idle c.requires.sound.rejects)
+    c.give_alone.ensures.nodes c.give_alone.ensures.infos c.give_alone.ensures.len c.give_alone.ensures.infos_len c.one.ensures.num c.one.ensures.e_head
+
+pub returns-then-counts-reserved-clause-frees_slot : goal.returns-then-counts-reserved-clause-frees_slot
+returns-then-counts-reserved-clause-frees_slot g c =
+    FreesSlot-given_alone (places_of c.args.self.now) c.args.slot c.requires.sound c.requires.slot_in c.requires.not_root c.requires.slot_used c.counts-counts.result c.counts-counts.ensures (slots_of c.give_alone.new.self) c.give_alone.ensures.nodes c.give_alone.ensures.infos
+
+pub returns-else-counts-reserved-clause-sound : goal.returns-else-counts-reserved-clause-sound
+returns-else-counts-reserved-clause-sound g c =
+    let new : PlaceFields = record (places_of c.args.self.now) { slots = (slots_of c.give_after.new.self); blocks = (blocks_of c.set_counts-else-counts-reserved.new.self) } in
+    let e = c.set_counts-else-counts-reserved.ensures in
+    let some = λ (none : c.counts-counts.result.num ≡ _). let same : c.counts-counts.result.num ≡ c.reserved.result = none ∙ sym c.reserved.ensures in c.if-counts-reserved.false (omega (arith, ints)) in
+    let at_head = headed (places_of c.args.self.now) c.args.slot c.requires.sound c.requires.slot_in c.requires.not_root c.requires.slot_used c.counts-counts.result c.counts-counts.ensures some c.head-head.result c.head-head.ensures in
+    Sound-given_after (places_of c.args.self.now) c.args.slot c.requires.sound c.requires.slot_in c.requires.not_root c.requires.slot_used c.counts-counts.result c.counts-counts.ensures some c.head-head.result at_head new c.more.result
+    (recounted (places_of c.args.self.now) new (c.args.slot / 256) c.requires.sound c.requires.slot_in c.counts-counts.result c.more.result c.counts-counts.ensures e.made
+    (Bounded-more c.args.self.now.blocks.max_trial new.blocks.max_trial c.counts-counts.result c.more.result c.reject_for-floor.result _ e.max_trial c.requires.sound.pruned.max_trial c.more.ensures.reject (omega (arith, ints)) c.reject_for-floor.ensures.bounds c.more.ensures.trial)
+    (λ _ _. c.more.ensures.trial)
+    e.lists e.active e.len e.max_trial e.others e.idle c.requires.sound.rejects)
+    c.give_after.ensures.nodes c.give_after.ensures.infos c.give_after.ensures.len c.give_after.ensures.infos_len c.more.ensures.num c.more.ensures.e_head
+
+pub returns-else-counts-reserved-clause-frees_slot : goal.returns-else-counts-reserved-clause-frees_slot
+returns-else-counts-reserved-clause-frees_slot g c =
+    let some = λ (none : c.counts-counts.result.num ≡ _). let same : c.counts-counts.result.num ≡ c.reserved.result = none ∙ sym c.reserved.ensures in c.if-counts-reserved.false (omega (arith, ints)) in
+    let at_head = headed (places_of c.args.self.now) c.args.slot c.requires.sound c.requires.slot_in c.requires.not_root c.requires.slot_used c.counts-counts.result c.counts-counts.ensures some c.head-head.result c.head-head.ensures in
+    FreesSlot-given_after (places_of c.args.self.now) c.args.slot c.requires.sound c.requires.slot_in c.requires.not_root c.requires.slot_used c.counts-counts.result c.counts-counts.ensures some c.head-head.result at_head (slots_of c.give_after.new.self) c.give_after.ensures.nodes c.give_after.ensures.infos
+
+pub reject_for-floor-requires-clause-natural : goal.reject_for-floor-requires-clause-natural
+reject_for-floor-requires-clause-natural g c =
+    let low : pos 0 ≤ℤ c.counts-counts.result.num = num_natural (places_of c.args.self.now) c.args.slot c.requires.sound c.requires.slot_in c.requires.not_root c.requires.slot_used c.counts-counts.result c.counts-counts.ensures in
+    let room : c.counts-counts.result.num <ℤ pos 256 = num_room (places_of c.args.self.now) c.args.slot c.requires.sound c.requires.slot_in c.requires.not_root c.requires.slot_used c.counts-counts.result c.counts-counts.ensures in
+    omega (arith, ints)
+
+pub reject_for-floor-requires-clause-at_most : goal.reject_for-floor-requires-clause-at_most
+reject_for-floor-requires-clause-at_most g c =
+    let low : pos 0 ≤ℤ c.counts-counts.result.num = num_natural (places_of c.args.self.now) c.args.slot c.requires.sound c.requires.slot_in c.requires.not_root c.requires.slot_used c.counts-counts.result c.counts-counts.ensures in
+    let room : c.counts-counts.result.num <ℤ pos 256 = num_room (places_of c.args.self.now) c.args.slot c.requires.sound c.requires.slot_in c.requires.not_root c.requires.slot_used c.counts-counts.result c.counts-counts.ensures in
+    omega (arith, ints)
+
+pub overflow_add-counts : goal.overflow_add-counts
+overflow_add-counts g c =
+    let low : pos 0 ≤ℤ c.counts-counts.result.num = num_natural (places_of c.args.self.now) c.args.slot c.requires.sound c.requires.slot_in c.requires.not_root c.requires.slot_used c.counts-counts.result c.counts-counts.ensures in
+    let room : c.counts-counts.result.num <ℤ pos 256 = num_room (places_of c.args.self.now) c.args.slot c.requires.sound c.requires.slot_in c.requires.not_root c.requires.slot_used c.counts-counts.result c.counts-counts.ensures in
+    omega (arith, ints)

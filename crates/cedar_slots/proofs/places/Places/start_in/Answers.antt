@@ -1,0 +1,35 @@
+use Rattle.std.proofs.Common.{◌<◌, ◌≤ℤ◌, arith, pos, subst}
+use Rattle.std.specs.Prelude.{bit_xor}
+use Rattle.std.proofs.lemmas.Int.{ints}
+use Rattle.cedar_slots.specs.Slots.{AllFree}
+use Rattle.cedar_slots.proofs.PlacementLemmas.PlaceSearch.{free_slot_in, head_start, next_start, start_fits, start_positive}
+use Rattle.cedar_slots.proofs.places.Places.start_in.Goals as goal
+use Rattle.cedar_slots.specs.Views.{places_of}
+
+pub loop-init : goal.loop-init
+loop-init g c =
+    let some : pos 1 ≤ℤ c.counts-counts.result.num = omega (arith, ints) in
+    head_start (places_of c.args.self.now) c.requires.sound c.args.block c.requires.not_root c.requires.block_in c.counts-counts.result c.counts-counts.ensures some c.head-head.result c.head-head.ensures
+
+pub fits-requires-clause-base_in : goal.fits-requires-clause-base_in
+fits-requires-clause-base_in g c =
+    let small : c.from.result < 256 = omega (arith, c.type_inv.labels 0) in
+    omega (arith, start_fits (places_of c.args.self.now) c.requires.sound c.args.block c.loop.slot c.from.result c.requires.block_in c.loop.invariant.here small)
+
+pub fits-requires-clause-not_root : goal.fits-requires-clause-not_root
+fits-requires-clause-not_root g c =
+    let small : c.from.result < 256 = omega (arith, c.type_inv.labels 0) in
+    start_positive c.args.block c.loop.slot c.from.result c.requires.not_root c.loop.invariant.here small
+
+pub returns-then-fits : goal.returns-then-fits
+returns-then-fits g c = record {
+  free = c.loop.invariant.free;
+  here = c.loop.invariant.here;
+  fits = subst (λ l. AllFree c.args.self.now.slots.nodes.items (bit_xor c.loop.slot l) c.args.labels.now) c.from.ensures (c.fits.ensures.fits c.if-fits.true);
+}
+
+pub next_free-slot-requires : goal.next_free-slot-requires
+next_free-slot-requires g c = omega (arith, free_slot_in (places_of c.args.self.now) c.args.block c.loop.slot c.loop.invariant)
+
+pub loop-preserved : goal.loop-preserved
+loop-preserved g c = next_start (places_of c.args.self.now) c.requires.sound c.args.block c.loop.slot c.next_free-slot.result c.requires.block_in c.loop.invariant c.next_free-slot.ensures

@@ -1,0 +1,10 @@
+use Rattle.std.proofs.Common.{◌≡◌, ℕ, ◌+◌, ◌<◌, ◌≤◌, length}
+use Rattle.cedar_slots.specs.Slots.{SlotLink}
+use Rattle.cedar_slots.proofs.slots.Slots.free_root_block.Given as goal
+
+abbrev pub invariant-loop-slot : goal.invariant-loop-slot
+invariant-loop-slot g l = record {
+  len : length l.self.nodes.items ≡ length l.initial.self.nodes.items;
+  infos : l.self.infos.items ≡ l.initial.self.infos.items;
+  steps : (s : ℕ) → 1 ≤ s → s < l.slot → SlotLink l.self.nodes.items s (s + 1);
+}

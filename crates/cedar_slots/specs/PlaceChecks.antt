@@ -1,0 +1,81 @@
+-- What a check of slots and blocks that nobody has vouched for looks for.
+use Rattle.std.specs.Prelude.{◌≡◌, ℕ, ◌*◌, ◌/◌, ◌≤◌, ◌&&◌, Bool, true, false, cond, ◌==◌, nat_lt, List, pos, count_by}
+use Rattle.std.specs.List.{range_with_len}
+use Rattle.cedar_slots.specs.Blocks.{blank_block, block_at, BlockFields, BlockLink, counts_at, head_of, kind_of, ring_of}
+use Rattle.cedar_slots.specs.declared.blocks.BlockType.{BlockType}
+use Rattle.cedar_slots.specs.declared.blocks.BlockType.TheVariants.{Open, Closed, Full}
+use Rattle.cedar_slots.specs.declared.records.NodeRecord.{NodeRecord}
+use Rattle.cedar_slots.specs.Places.{Bounded, PlaceFields}
+use Rattle.cedar_slots.specs.Ring.{first_of, occurs, Ring}
+use Rattle.cedar_slots.specs.Slots.{blank_info, blank_node, info_at, is_free, node_at, SlotFields}
+
+-- xs has each number that passes the test once, and nothing else, and they are linked as a ring that begins at first
+pub record RingOf (Link : ℕ → ℕ → Type 0) (test : ℕ → Bool) (first : ℕ) (xs : List ℕ) : Type 0 where
+  pub once : (x : ℕ) → occurs x xs ≡ cond (test x) 1 0
+  pub is_linked : Ring Link xs
+  pub begins : first_of xs ≡ first
+
+-- there is such a ring
+abbrev pub HasRing : (ℕ → ℕ → Type 0) → (ℕ → Bool) → ℕ → Type 0
+HasRing Link test first = (xs : List ℕ) × RingOf Link test first xs
+
+-- y may stand after x in such a ring
+abbrev pub IsAfter : (ℕ → ℕ → Type 0) → (ℕ → Bool) → ℕ → ℕ → Type 0
+IsAfter Link test x y = Link x y × (test y ≡ true)
+
+-- how many of the n numbers from low on pass the test
+unfoldable pub passing : (ℕ → Bool) → ℕ → ℕ → ℕ
+passing test low n = count_by test (range_with_len low n)
+
+-- the slot s of the block b is free
+abbrev pub free_here : List NodeRecord → ℕ → ℕ → Bool
+free_here nodes b s = is_free nodes s && (s / 256 == b)
+
+-- how many slots of the block b are free
+abbrev pub free_count : List NodeRecord → ℕ → ℕ
+free_count nodes b = passing (free_here nodes b) (256 * b) 256
+
+-- no free slot of the block b has a label
+abbrev pub Cleared : SlotFields → ℕ → Type 0
+Cleared slots b = (s : ℕ) → is_free slots.nodes s ≡ true → s / 256 ≡ b → info_at slots.infos s ≡ blank_info
+
+-- the slots that are not in use are blank
+abbrev pub BlankSlots : PlaceFields → Type 0
+BlankSlots table = (s : ℕ) → 256 * table.blocks.active ≤ s → (node_at table.slots.nodes s ≡ blank_node) × (info_at table.slots.infos s ≡ blank_info)
+
+-- the blocks that are not in use are blank
+abbrev pub BlankBlocks : BlockFields → Type 0
+BlankBlocks blocks = (b : ℕ) → blocks.active ≤ b → block_at blocks.records b ≡ blank_block
+
+-- what a search may read in the block b is in range; in block 0 no search was tried
+pub record InRange (blocks : BlockFields) (b : ℕ) : Type 0 where
+  pub bounded : Bounded blocks.max_trial (counts_at blocks.records b)
+  pub root : b ≡ 0 → (counts_at blocks.records b).trial ≡ pos 0
+
+abbrev pub is_full : BlockType → Bool
+is_full Open = false
+is_full Closed = false
+is_full Full = true
+
+abbrev pub same_list : BlockType → BlockType → Bool
+same_list Open Open = true
+same_list Closed Closed = true
+same_list Full Full = true
+same_list _ _ = false
+
+-- the block b is one of those in use that a list's ring has: block 0 closes the full ring
+abbrev pub in_ring : BlockFields → BlockType → ℕ → Bool
+in_ring blocks list b = nat_lt b blocks.active && cond (b == 0) (is_full list) (same_list (kind_of blocks.max_trial (counts_at blocks.records b)) list)
+
+-- how many blocks a list's ring has
+abbrev pub ring_count : BlockFields → BlockType → ℕ
+ring_count blocks list = passing (in_ring blocks list) 0 blocks.active
+
+-- the list has just the blocks that it is to have, and they are linked as a ring that the head begins
+pub record ListOf (blocks : BlockFields) (list : BlockType) (xs : List ℕ) : Type 0 where
+  pub once : (b : ℕ) → occurs b (ring_of list xs) ≡ cond (in_ring blocks list b) 1 0
+  pub is_linked : Ring (BlockLink blocks.records) (ring_of list xs)
+  pub headed : head_of blocks list ≡ pos (first_of xs)
+
+abbrev pub HasList : BlockFields → BlockType → Type 0
+HasList blocks list = (xs : List ℕ) × ListOf blocks list xs

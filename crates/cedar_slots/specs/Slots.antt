@@ -1,0 +1,80 @@
+-- The free slots of a block, and the ring in which they stand.
+use Rattle.std.specs.Prelude.{All, bit_xor, true, ◌≡◌, ℕ, ◌/◌, ◌<◌, Bool, not, ◌&&◌, cond, ◌==◌, List, slice_index_or, slice_set, ℤ, pos, neg_ℤ, int_lt, unsigned_abs}
+use Rattle.cedar_slots.specs.declared.records.NodeRecord.{NodeRecord}
+use Rattle.cedar_slots.specs.declared.records.NInfoRecord.{NInfoRecord}
+use Rattle.cedar_slots.specs.Ring.{occurs, Ring}
+
+-- the slots' records
+pub record SlotFields : Type 0 where
+  pub nodes : List NodeRecord
+  pub infos : List NInfoRecord
+
+-- a slot that is not in use
+abbrev pub blank_node : NodeRecord
+blank_node = record { base = pos 0; check = pos 0 }
+
+abbrev pub blank_info : NInfoRecord
+blank_info = record { sibling = 0; child = 0 }
+
+abbrev pub node_at : List NodeRecord → ℕ → NodeRecord
+node_at nodes s = slice_index_or nodes s blank_node
+
+abbrev pub info_at : List NInfoRecord → ℕ → NInfoRecord
+info_at infos s = slice_index_or infos s blank_info
+
+abbrev pub check_at : List NodeRecord → ℕ → ℤ
+check_at nodes s = (node_at nodes s).check
+
+abbrev pub base_at : List NodeRecord → ℕ → ℤ
+base_at nodes s = (node_at nodes s).base
+
+abbrev pub set_check : List NodeRecord → ℕ → ℤ → List NodeRecord
+set_check nodes s z = slice_set nodes s (record { base = base_at nodes s; check = z })
+
+abbrev pub set_base : List NodeRecord → ℕ → ℤ → List NodeRecord
+set_base nodes s z = slice_set nodes s (record { base = z; check = check_at nodes s })
+
+-- the free slot b stands after the free slot a
+abbrev pub SlotLink : List NodeRecord → ℕ → ℕ → Type 0
+SlotLink nodes a b = (check_at nodes a ≡ neg_ℤ (pos b)) × (base_at nodes b ≡ neg_ℤ (pos a))
+
+-- the nodes once b stands after a
+unfoldable pub linked : List NodeRecord → ℕ → ℕ → List NodeRecord
+linked nodes a b = set_base (set_check nodes a (neg_ℤ (pos b))) b (neg_ℤ (pos a))
+
+-- the nodes once s has left its ring, where it stood between a and b, and holds the node given
+abbrev pub taken_between : List NodeRecord → ℕ → ℕ → ℕ → NodeRecord → List NodeRecord
+taken_between nodes a b s node = slice_set (linked nodes a b) s node
+
+unfoldable pub taken : List NodeRecord → ℕ → NodeRecord → List NodeRecord
+taken nodes s node = taken_between nodes (unsigned_abs (base_at nodes s)) (unsigned_abs (check_at nodes s)) s node
+
+-- a slot is free where its check is below 0; the root is not
+abbrev pub is_free : List NodeRecord → ℕ → Bool
+is_free nodes s = not (s == 0) && int_lt (check_at nodes s) (pos 0)
+
+-- each of these labels has a free slot from the base on
+abbrev pub AllFree : List NodeRecord → ℕ → List ℕ → Type 0
+AllFree nodes base labels = All (λ label. is_free nodes (bit_xor base label) ≡ true) labels
+
+-- xs has each free slot of the block b once, and nothing else, and they are linked as a ring
+pub record FreeRing (nodes : List NodeRecord) (infos : List NInfoRecord) (b : ℕ) (xs : List ℕ) : Type 0 where
+  pub once : (s : ℕ) → occurs s xs ≡ cond (is_free nodes s && (s / 256 == b)) 1 0
+  pub is_linked : Ring (SlotLink nodes) xs
+  pub cleared : (s : ℕ) → 0 < occurs s xs → info_at infos s ≡ blank_info
+
+-- the node of each slot outside the block b is as it was
+abbrev pub SameOutside : ℕ → List NodeRecord → List NodeRecord → Type 0
+SameOutside b before after = (s : ℕ) → (s / 256 ≡ b → ⊥) → node_at after s ≡ node_at before s
+
+-- the nodes once the slot s stands in a ring of its own
+unfoldable pub given_alone : List NodeRecord → ℕ → List NodeRecord
+given_alone nodes s = linked nodes s s
+
+-- the nodes once s stands between a and b
+abbrev pub given_between : List NodeRecord → ℕ → ℕ → ℕ → List NodeRecord
+given_between nodes a b s = linked (linked nodes a s) s b
+
+-- the nodes once s stands after the free slot h
+unfoldable pub given_after : List NodeRecord → ℕ → ℕ → List NodeRecord
+given_after nodes h s = given_between nodes h (unsigned_abs (check_at nodes h)) s

@@ -1,0 +1,399 @@
+//! The blocks, and the lists in which they stand.
+
+ghost use Rattle.std.specs.Prelude.{◌≡◌, ℕ, ◌+◌, ◌^◌, ◌<◌, ◌≤◌, ◌+ℤ◌, ◌<ℤ◌, ◌≤ℤ◌, ℤ, List, ◌∷◌, IsTrue, length, unsigned_abs, pos};
+ghost use Rattle.cedar_slots.specs.Ring.{occurs};
+ghost use Rattle.std.specs.Int.{int_max};
+ghost use Rattle.cedar_slots.specs.Blocks.{block_at, counts_at, fresh_counts, head_of, HasLists, KeepsCounts, KeepsLinks, kind_of, linked_blocks, ListRings, next_at, Popped, prev_at, replaced, SameFrom, Sized, total};
+ghost use Rattle.cedar_slots.specs.Views.{blocks_of};
+ghost use Rattle.cedar_slots.specs.declared.blocks.BlockType.{BlockType};
+
+use crate::records::BlockRecord;
+use std::alloc::Allocator;
+
+/// What a block counts, and where its free slots begin.
+#[derive(Clone, Copy)]
+pub struct Counts {
+    /// How many slots are free; in block 0 the root counts too.
+    pub num: i16,
+    /// A set of as many labels finds no place in the block.
+    pub reject: i16,
+    /// How often a search for a place has failed in the block.
+    pub trial: i32,
+    /// A free slot of the block, if it has one.
+    pub e_head: i32,
+}
+
+impl Counts {
+    /// What the block of this number counts while all of its slots are free.
+    fn fresh(block: usize) -> Counts
+        requires { block < 2 ^ 22 }
+        ensures { result ≡ fresh_counts block }
+    {
+        Counts {
+            num: 256,
+            reject: 257,
+            trial: 0,
+            e_head: (256 * block) as i32,
+        }
+    }
+
+    /// What a block counts once `slot` was taken, which stood before `next` in its ring.
+    pub fn less(self, slot: usize, next: usize) -> Counts
+        requires some { pos 1 ≤ℤ self.num }
+        requires slot_fits { slot < 2 ^ 31 }
+        requires next_fits { next < 2 ^ 31 }
+        ensures num { (n : ℕ) → self.num ≡ pos (n + 1) → result.num ≡ pos n }
+        ensures head_taken { self.e_head ≡ pos slot → result.e_head ≡ pos next }
+        ensures head_kept { (self.e_head ≡ pos slot → ⊥) → result.e_head ≡ self.e_head }
+        ensures trial { result.trial ≡ self.trial }
+        ensures reject { result.reject ≡ self.reject }
+    {
+        let e_head = if self.e_head == slot as i32 {
+            next as i32
+        } else {
+            self.e_head
+        };
+        Counts {
+            num: self.num - 1,
+            e_head,
+            ..self
+        }
+    }
+
+    /// What a block counts whose free slots begin with `slot`.
+    pub fn beginning_at(self, slot: usize) -> Counts
+        requires { slot < 2 ^ 31 }
+        ensures num { result.num ≡ self.num }
+        ensures reject { result.reject ≡ self.reject }
+        ensures trial { result.trial ≡ self.trial }
+        ensures e_head { result.e_head ≡ pos slot }
+    {
+        Counts {
+            e_head: slot as i32,
+            ..self
+        }
+    }
+
+    /// What a block counts once `wanted` labels have found no place in it.
+    pub fn failed(self, wanted: i16, max_trial: i32) -> Counts
+        requires { self.trial <ℤ max_trial }
+        ensures num { result.num ≡ self.num }
+        ensures reject { result.reject ≡ wanted }
+        ensures trial { result.trial ≡ self.trial +ℤ pos 1 }
+        ensures e_head { result.e_head ≡ self.e_head }
+    {
+        Counts {
+            reject: wanted,
+            trial: self.trial + 1,
+            ..self
+        }
+    }
+
+    /// The number of the slot at which the free ones begin, where there is one.
+    pub fn head(self) -> usize
+        ensures { result ≡ unsigned_abs self.e_head }
+    {
+        self.e_head.unsigned_abs() as usize
+    }
+
+    /// What a block counts once a slot was given back to its other free slots. `floor` is what no
+    /// block with as many free slots rejects.
+    pub fn more(self, floor: i16) -> Counts
+        requires { self.num <ℤ pos 256 }
+        ensures num { (n : ℕ) → self.num ≡ pos n → result.num ≡ pos (n + 1) }
+        ensures e_head { result.e_head ≡ self.e_head }
+        ensures trial { result.trial ≡ pos 0 }
+        ensures reject { result.reject ≡ int_max self.reject floor }
+    {
+        let trial = 0;
+        Counts {
+            num: self.num + 1,
+            reject: self.reject.max(floor),
+            trial,
+            ..self
+        }
+    }
+
+    /// Whether these counts name the list that the block's counts before named, as far as that shows without a list: both
+    /// leave the block several free slots and as many trials.
+    fn keeps_list(self, before: Counts) -> bool
+        ensures { IsTrue result → (max_trial : ℤ) → kind_of max_trial self ≡ kind_of max_trial before }
+    {
+        if before.num < 2 || self.num < 2 {
+            return false;
+        }
+        self.trial == before.trial
+    }
+
+    /// What a block without free slots counts once `slot` was given back.
+    pub fn one(self, slot: usize, floor: i16) -> Counts
+        requires num { self.num <ℤ pos 256 }
+        requires fits { slot < 2 ^ 31 }
+        ensures num { (n : ℕ) → self.num ≡ pos n → result.num ≡ pos (n + 1) }
+        ensures e_head { result.e_head ≡ pos slot }
+        ensures trial { result.trial ≡ self.trial }
+        ensures reject { result.reject ≡ int_max self.reject floor }
+    {
+        Counts {
+            num: self.num + 1,
+            reject: self.reject.max(floor),
+            e_head: slot as i32,
+            ..self
+        }
+    }
+}
+
+/// The list in which a block stands.
+#[derive(Clone, Copy, PartialEq, Eq)]
+pub enum BlockType {
+    Open,
+    Closed,
+    Full,
+}
+
+/// All blocks, those that are not in use among them, and the heads of their three lists.
+#[derive(Drop)]
+pub struct Blocks<A: Allocator> {
+    pub records: Vec<BlockRecord, A>,
+    pub full_head: i32,
+    pub closed_head: i32,
+    pub open_head: i32,
+    /// How many blocks are in use, block 0 among them.
+    pub active: usize,
+    pub max_trial: i32,
+}
+
+impl<A: Allocator> Blocks<A> {
+    /// The first block of a list, or 0.
+    pub fn head(&self, list: BlockType) -> i32
+        ensures { result ≡ head_of (blocks_of self.now) list }
+    {
+        match list {
+            BlockType::Open => self.open_head,
+            BlockType::Closed => self.closed_head,
+            BlockType::Full => self.full_head,
+        }
+    }
+
+    /// The number of a list's first block, or 0.
+    pub fn first(&self, list: BlockType) -> usize
+        ensures { result ≡ unsigned_abs (head_of (blocks_of self.now) list) }
+    {
+        self.head(list).unsigned_abs() as usize
+    }
+
+    /// The block after `block` in its list.
+    pub fn next(&self, block: usize) -> usize
+        requires { block < length self.now.records.items }
+        ensures { result ≡ unsigned_abs (next_at self.now.records.items block) }
+    {
+        self.records[block].next.unsigned_abs() as usize
+    }
+
+    /// The block before `block` in its list.
+    pub fn previous(&self, block: usize) -> usize
+        requires { block < length self.now.records.items }
+        ensures { result ≡ unsigned_abs (prev_at self.now.records.items block) }
+    {
+        self.records[block].prev.unsigned_abs() as usize
+    }
+
+    /// Makes `to` the block after `from`.
+    fn link(&mut self, from: usize, to: usize)
+        requires from_in { from < length self.old.records.items }
+        requires to_in { to < length self.old.records.items }
+        requires from_fits { from < 2 ^ 31 }
+        requires to_fits { to < 2 ^ 31 }
+        ensures records { self.new.records.items ≡ linked_blocks self.old.records.items from to }
+        ensures heads { (list : BlockType) → head_of (blocks_of self.new) list ≡ head_of (blocks_of self.old) list }
+        ensures counts { KeepsCounts self.old.records.items self.new.records.items }
+        ensures others { (b : ℕ) → (b ≡ from → ⊥) → (b ≡ to → ⊥) → block_at self.new.records.items b ≡ block_at self.old.records.items b }
+        ensures active { self.new.active ≡ self.old.active }
+        ensures max_trial { self.new.max_trial ≡ self.old.max_trial }
+        ensures len { length self.new.records.items ≡ length self.old.records.items }
+    {
+        self.records[from].next = to as i32;
+        self.records[to].prev = from as i32;
+    }
+
+    /// The list that a block's counts name.
+    pub fn list_of(&self, counts: Counts) -> BlockType
+        ensures { result ≡ kind_of self.now.max_trial counts }
+    {
+        let max_trial = self.max_trial;
+        if counts.num == 0 {
+            BlockType::Full
+        } else if counts.num == 1 || counts.trial == max_trial {
+            BlockType::Closed
+        } else {
+            BlockType::Open
+        }
+    }
+
+    fn set_head(&mut self, list: BlockType, block: usize)
+        requires { block < 2 ^ 31 }
+        ensures made { head_of (blocks_of self.new) list ≡ pos block }
+        ensures others { (other : BlockType) → (other ≡ list → ⊥) → head_of (blocks_of self.new) other ≡ head_of (blocks_of self.old) other }
+        ensures records { self.new.records ≡ self.old.records }
+        ensures active { self.new.active ≡ self.old.active }
+        ensures max_trial { self.new.max_trial ≡ self.old.max_trial }
+    {
+        match list {
+            BlockType::Open => self.open_head = block as i32,
+            BlockType::Closed => self.closed_head = block as i32,
+            BlockType::Full => self.full_head = block as i32,
+        }
+    }
+
+    /// Takes `block` out of a list.
+    fn pop_block(&mut self, block: usize, list: BlockType)
+        requires block_in { block < self.old.active }
+        requires previous_in { unsigned_abs (prev_at self.old.records.items block) < self.old.active }
+        requires next_in { unsigned_abs (next_at self.old.records.items block) < self.old.active }
+        requires active_in { self.old.active ≤ length self.old.records.items }
+        requires fits { length self.old.records.items ≤ 2 ^ 30 }
+        ensures idle { SameFrom self.old.active self.old.records.items self.new.records.items }
+        ensures popped { (lists : BlockType → List ℕ) → ListRings (blocks_of self.old) lists → 0 < occurs block (lists list) → Popped (blocks_of self.new) lists list block }
+        ensures counts { KeepsCounts self.old.records.items self.new.records.items }
+        ensures len { length self.new.records.items ≡ length self.old.records.items }
+        ensures active { self.new.active ≡ self.old.active }
+        ensures max_trial { self.new.max_trial ≡ self.old.max_trial }
+    {
+        let previous = self.previous(block);
+        let next = self.next(block);
+        if next == block {
+            self.set_head(list, 0);
+        } else {
+            let head = self.head(list);
+            self.link(previous, next);
+            if head == block as i32 {
+                self.set_head(list, next);
+            }
+        }
+    }
+
+    /// Puts `block` into a list, as its head.
+    fn push_block(&mut self, block: usize, list: BlockType)
+        requires block_in { block < self.old.active }
+        requires head_in { unsigned_abs (head_of (blocks_of self.old) list) < self.old.active }
+        requires last_in { unsigned_abs (prev_at self.old.records.items (unsigned_abs (head_of (blocks_of self.old) list))) < self.old.active }
+        requires active_in { self.old.active ≤ length self.old.records.items }
+        requires fits { length self.old.records.items ≤ 2 ^ 30 }
+        ensures idle { SameFrom self.old.active self.old.records.items self.new.records.items }
+        ensures pushed { (lists : BlockType → List ℕ) → ListRings (blocks_of self.old) lists → total lists block ≡ 0 → ListRings (blocks_of self.new) (replaced lists list (block ∷ lists list)) }
+        ensures counts { KeepsCounts self.old.records.items self.new.records.items }
+        ensures len { length self.new.records.items ≡ length self.old.records.items }
+        ensures active { self.new.active ≡ self.old.active }
+        ensures max_trial { self.new.max_trial ≡ self.old.max_trial }
+    {
+        let head = self.first(list);
+        self.set_head(list, block);
+        if head == 0 && list != BlockType::Full {
+            self.link(block, block);
+        } else {
+            let last = self.previous(head);
+            self.link(last, block);
+            self.link(block, head);
+        }
+    }
+
+    fn write_counts(&mut self, block: usize, counts: Counts)
+        requires { block < length self.old.records.items }
+        ensures made { counts_at self.new.records.items block ≡ counts }
+        ensures others { (b : ℕ) → (b ≡ block → ⊥) → block_at self.new.records.items b ≡ block_at self.old.records.items b }
+        ensures links { KeepsLinks self.old.records.items self.new.records.items }
+        ensures heads { (list : BlockType) → head_of (blocks_of self.new) list ≡ head_of (blocks_of self.old) list }
+        ensures len { length self.new.records.items ≡ length self.old.records.items }
+        ensures active { self.new.active ≡ self.old.active }
+        ensures max_trial { self.new.max_trial ≡ self.old.max_trial }
+    {
+        self.records[block] = BlockRecord {
+            num: counts.num,
+            reject: counts.reject,
+            trial: counts.trial,
+            e_head: counts.e_head,
+            ..self.records[block]
+        };
+    }
+
+    /// What `block` counts.
+    pub fn counts(&self, block: usize) -> Counts
+        requires { block < length self.now.records.items }
+        ensures { result ≡ counts_at self.now.records.items block }
+    {
+        let record = self.records[block];
+        Counts {
+            num: record.num,
+            reject: record.reject,
+            trial: record.trial,
+            e_head: record.e_head,
+        }
+    }
+
+    /// Sets what `block` counts, and moves it to the list that its counts now name.
+    fn set_counts_and_list(&mut self, block: usize, counts: Counts)
+        requires lists { HasLists (blocks_of self.old) }
+        requires sized { Sized (blocks_of self.old) }
+        requires block_in { block < self.old.active }
+        ensures lists { HasLists (blocks_of self.new) }
+        ensures made { counts_at self.new.records.items block ≡ counts }
+        ensures others { (b : ℕ) → (b ≡ block → ⊥) → counts_at self.new.records.items b ≡ counts_at self.old.records.items b }
+        ensures idle { SameFrom self.old.active self.old.records.items self.new.records.items }
+        ensures len { length self.new.records.items ≡ length self.old.records.items }
+        ensures active { self.new.active ≡ self.old.active }
+        ensures max_trial { self.new.max_trial ≡ self.old.max_trial }
+    {
+        let from = self.list_of(self.counts(block));
+        let to = self.list_of(counts);
+        self.write_counts(block, counts);
+        if block != 0 && from != to {
+            self.pop_block(block, from);
+            self.push_block(block, to);
+        }
+    }
+
+    /// Sets what `block` counts, and moves it to the list that its counts now name. Mostly that is the list in which it
+    /// stands, which is seen without a list.
+    // Else the counts go through memory in two widths, and each call waits for them.
+    #[inline(always)]
+    pub fn set_counts(&mut self, block: usize, counts: Counts)
+        requires lists { HasLists (blocks_of self.old) }
+        requires sized { Sized (blocks_of self.old) }
+        requires block_in { block < self.old.active }
+        ensures lists { HasLists (blocks_of self.new) }
+        ensures made { counts_at self.new.records.items block ≡ counts }
+        ensures others { (b : ℕ) → (b ≡ block → ⊥) → counts_at self.new.records.items b ≡ counts_at self.old.records.items b }
+        ensures idle { SameFrom self.old.active self.old.records.items self.new.records.items }
+        ensures len { length self.new.records.items ≡ length self.old.records.items }
+        ensures active { self.new.active ≡ self.old.active }
+        ensures max_trial { self.new.max_trial ≡ self.old.max_trial }
+    {
+        let old = self.counts(block);
+        if counts.keeps_list(old) {
+            self.write_counts(block, counts);
+        } else {
+            self.set_counts_and_list(block, counts);
+        }
+    }
+
+    /// Puts the first block that is not in use into use, with all of its slots free, as the head of
+    /// the open list.
+    pub fn activate(&mut self)
+        requires lists { HasLists (blocks_of self.old) }
+        requires sized { Sized (blocks_of self.old) }
+        requires room { self.old.active < length self.old.records.items }
+        requires tried { pos 1 ≤ℤ self.old.max_trial }
+        ensures lists { HasLists (blocks_of self.new) }
+        ensures active { self.new.active ≡ self.old.active + 1 }
+        ensures made { counts_at self.new.records.items self.old.active ≡ fresh_counts self.old.active }
+        ensures others { (b : ℕ) → (b ≡ self.old.active → ⊥) → counts_at self.new.records.items b ≡ counts_at self.old.records.items b }
+        ensures idle { SameFrom (self.old.active + 1) self.old.records.items self.new.records.items }
+        ensures len { length self.new.records.items ≡ length self.old.records.items }
+        ensures max_trial { self.new.max_trial ≡ self.old.max_trial }
+    {
+        let block = self.active;
+        self.active += 1;
+        self.write_counts(block, Counts::fresh(block));
+        self.push_block(block, BlockType::Open);
+    }
+}

@@ -1,0 +1,388 @@
+//! The slots and their blocks together: which slots are free, and where free ones are found.
+
+ghost use Rattle.std.specs.List.{range_with_len};
+ghost use Rattle.std.specs.Prelude.{◌+◌, count_by, not, slice_set, IfErr, IfNone, IfOk, IfSome, length, OnErr, OnOk, ◌≡◌, ◌≤◌, ◌⊎◌, ℕ, ◌==◌, if◌then◌else◌, ◌<◌, ◌*◌, ◌/◌, ◌≤ℤ◌, false, int_lt, pos, true};
+ghost use Rattle.cedar_slots.specs.Blocks.{counts_at};
+ghost use Rattle.cedar_slots.specs.Slots.{is_free, node_at};
+ghost use Rattle.cedar_slots.specs.Views.{blocks_of, places_of, slots_of};
+ghost use Rattle.cedar_slots.specs.Places.{AddsBlock, FreesSlot, Grown, IsFreePlace, IsNew, IsOpen, IsBase, IsPowerOfTwo, IsSlotLimit, IsStart, MayRefuse, NoneFree, reject_at, Rejects, room_for_one, SameSlots, Shaped, Sound, TakesSlot, Within};
+
+use crate::blocks::{BlockType, Blocks};
+use crate::error::CedarError;
+use crate::records::{BlockRecord, NInfoRecord, NodeRecord};
+use crate::slots::{BLOCK_SIZE, Slots};
+use std::alloc::{AllocError, Allocator};
+
+#[derive(Drop)]
+pub struct Places<A: Allocator> {
+    pub slots: Slots<A>,
+    pub blocks: Blocks<A>,
+    /// For each number of free slots, how many labels at least find no place in a block with as many.
+    pub reject: Vec<i16, A>,
+}
+
+/// How many slots of `block` are counted as free and stand in no ring: the root alone.
+pub(crate) fn reserved(block: usize) -> i16
+    ensures { result ≡ pos (if block == 0 then 1 else 0) }
+{
+    if block == 0 { 1 } else { 0 }
+}
+
+/// The reject values of a new table: a block with n free slots can't take n + 1 labels.
+fn first_rejects<A: Allocator>(alloc: A) -> Result<Vec<i16, A>, AllocError>
+    ensures len { IfOk result (λ rejects. length rejects.items ≡ 257) }
+    ensures values { IfOk result (λ rejects. (i : ℕ) → i ≤ 256 → reject_at rejects.items i ≡ pos (i + 1)) }
+{
+    let mut rejects = vec![in alloc; 0i16; 257]?;
+    for free in 0..257 {
+        rejects[free] = (free + 1) as i16;
+    }
+    Ok(rejects)
+}
+
+impl<A: Allocator> Places<A> {
+    /// One block, in which the root alone is in use.
+    pub fn new(alloc: A, root: NodeRecord, max_trial: i32) -> Result<Places<A>, AllocError>
+    where
+        A: Copy,
+        requires { pos 1 ≤ℤ max_trial }
+        ensures sound { IfOk result (λ places. Sound (places_of places)) }
+        ensures made { IfOk result (λ places. IsNew (places_of places) max_trial) }
+        ensures root { IfOk result (λ places. node_at places.slots.nodes.items 0 ≡ root) }
+    {
+        let mut slots = Slots {
+            nodes: vec![in alloc; NodeRecord::BLANK; BLOCK_SIZE]?,
+            infos: vec![in alloc; NInfoRecord::BLANK; BLOCK_SIZE]?,
+        };
+        slots.free_root_block(root);
+        let records = vec![in alloc; BlockRecord::ROOT; 1]?;
+        let reject = first_rejects(alloc)?;
+        Ok(Places {
+            slots,
+            blocks: Blocks {
+                records,
+                full_head: 0,
+                closed_head: 0,
+                open_head: 0,
+                active: 1,
+                max_trial,
+            },
+            reject,
+        })
+    }
+
+    /// How many slots in use aren't free.
+    pub fn used_slots(&self) -> usize
+        requires { Sound (places_of self.now) }
+        ensures { result ≡ count_by (λ s. not (is_free self.now.slots.nodes.items s)) (range_with_len 0 (256 * self.now.blocks.active)) }
+    {
+        let mut free: usize = 0;
+        for block in 0..self.blocks.active {
+            free += self.blocks.counts(block).num as usize;
+        }
+        1 + BLOCK_SIZE * self.blocks.active - free
+    }
+
+    /// How many labels at least find no place in a block with `num` free slots.
+    fn reject_for(&self, num: i16) -> i16
+        requires rejects { Rejects self.now.reject.items }
+        requires natural { pos 0 ≤ℤ num }
+        requires at_most { num ≤ℤ pos 256 }
+        ensures value { (n : ℕ) → num ≡ pos n → result ≡ reject_at self.now.reject.items n }
+        ensures bounds { Within (pos 1) result (pos 257) }
+    {
+        self.reject[num as usize]
+    }
+
+    /// Takes the free slot `slot`, and stores `node` in it.
+    pub fn pop_e_node(&mut self, slot: usize, node: NodeRecord)
+        requires sound { Sound (places_of self.old) }
+        requires slot_in { slot / 256 < self.old.blocks.active }
+        requires slot_free { is_free self.old.slots.nodes.items slot ≡ true }
+        requires node_used { int_lt node.check (pos 0) ≡ false }
+        ensures sound { Sound (places_of self.new) }
+        ensures takes_slot { TakesSlot (slots_of self.old.slots) (slots_of self.new.slots) slot node }
+        ensures active { self.new.blocks.active ≡ self.old.blocks.active }
+        ensures capacity { length self.new.blocks.records.items ≡ length self.old.blocks.records.items }
+        ensures max_trial { self.new.blocks.max_trial ≡ self.old.blocks.max_trial }
+    {
+        let block = slot / BLOCK_SIZE;
+        let counts = self.blocks.counts(block);
+        let next = self.slots.next_free(slot);
+        self.slots.take(slot, node);
+        self.blocks.set_counts(block, counts.less(slot, next));
+    }
+
+    /// Frees `slot`, which stands in its block after the free slot at the head, if there is one.
+    pub fn push_e_node(&mut self, slot: usize)
+        requires sound { Sound (places_of self.old) }
+        requires slot_in { slot / 256 < self.old.blocks.active }
+        requires slot_used { is_free self.old.slots.nodes.items slot ≡ false }
+        requires not_root { 0 < slot }
+        ensures sound { Sound (places_of self.new) }
+        ensures frees_slot { FreesSlot (slots_of self.old.slots) (slots_of self.new.slots) slot }
+        ensures active { self.new.blocks.active ≡ self.old.blocks.active }
+        ensures capacity { length self.new.blocks.records.items ≡ length self.old.blocks.records.items }
+        ensures max_trial { self.new.blocks.max_trial ≡ self.old.blocks.max_trial }
+    {
+        let block = slot / BLOCK_SIZE;
+        let counts = self.blocks.counts(block);
+        let floor = self.reject_for(counts.num + 1);
+        if counts.num == reserved(block) {
+            self.slots.give_alone(slot);
+            self.blocks.set_counts(block, counts.one(slot, floor));
+        } else {
+            let head = counts.head();
+            self.slots.give_after(head, slot);
+            self.blocks.set_counts(block, counts.more(floor));
+        }
+    }
+
+    /// Stores `node` in a slot in use that isn't free.
+    pub fn write_node(&mut self, slot: usize, node: NodeRecord)
+        requires sound { Sound (places_of self.old) }
+        requires slot_in { slot < 256 * self.old.blocks.active }
+        requires slot_used { is_free self.old.slots.nodes.items slot ≡ false }
+        requires node_used { (slot ≡ 0) ⊎ (int_lt node.check (pos 0) ≡ false) }
+        ensures sound { Sound (places_of self.new) }
+        ensures nodes { self.new.slots.nodes.items ≡ slice_set self.old.slots.nodes.items slot node }
+        ensures infos { self.new.slots.infos.items ≡ self.old.slots.infos.items }
+        ensures blocks { blocks_of self.new.blocks ≡ blocks_of self.old.blocks }
+        ensures capacity { length self.new.blocks.records.items ≡ length self.old.blocks.records.items }
+    {
+        self.slots.nodes[slot] = node;
+    }
+
+    /// Stores `info` in a slot in use that isn't free.
+    pub fn write_info(&mut self, slot: usize, info: NInfoRecord)
+        requires sound { Sound (places_of self.old) }
+        requires slot_in { slot < 256 * self.old.blocks.active }
+        requires slot_used { is_free self.old.slots.nodes.items slot ≡ false }
+        ensures sound { Sound (places_of self.new) }
+        ensures nodes { self.new.slots.nodes.items ≡ self.old.slots.nodes.items }
+        ensures infos { self.new.slots.infos.items ≡ slice_set self.old.slots.infos.items slot info }
+        ensures blocks { blocks_of self.new.blocks ≡ blocks_of self.old.blocks }
+        ensures capacity { length self.new.blocks.records.items ≡ length self.old.blocks.records.items }
+    {
+        self.slots.infos[slot] = info;
+    }
+
+    /// A free slot outside block 0, if there is one.
+    pub fn free_slot(&self) -> Option<usize>
+        requires { Sound (places_of self.now) }
+        ensures found { IfSome result (λ slot. IsFreePlace (places_of self.now) slot) }
+        ensures none { IfNone result (NoneFree (places_of self.now)) }
+    {
+        let closed = self.blocks.first(BlockType::Closed);
+        if closed != 0 {
+            return Some(self.blocks.counts(closed).head());
+        }
+        let open = self.blocks.first(BlockType::Open);
+        if open != 0 {
+            return Some(self.blocks.counts(open).head());
+        }
+        None
+    }
+
+    /// Makes room for one more block, if there is none: the tables double.
+    fn make_room(&mut self, slots: usize) -> Result<(), AllocError>
+        requires sound { Sound (places_of self.old) }
+        requires limit { IsSlotLimit slots }
+        requires below { 256 * self.old.blocks.active < slots }
+        requires within { 256 * length self.old.blocks.records.items ≤ slots }
+        ensures shaped { Shaped (places_of self.new) }
+        ensures doubled { IsPowerOfTwo (length self.new.blocks.records.items) }
+        ensures grown { Grown (places_of self.old) (places_of self.new) }
+        ensures within { 256 * length self.new.blocks.records.items ≤ slots }
+        ensures room { OnOk result (self.new.blocks.active < length self.new.blocks.records.items) }
+        ensures capacity { OnOk result (length self.new.blocks.records.items ≡ room_for_one (places_of self.old)) }
+        ensures full { OnErr result (self.old.blocks.active ≡ length self.old.blocks.records.items) }
+        ensures err { OnErr result (places_of self.new ≡ places_of self.old) }
+    {
+        let blocks = self.blocks.records.len();
+        if self.blocks.active < blocks {
+            return Ok(());
+        }
+        self.slots.nodes.reserve(BLOCK_SIZE * blocks)?;
+        self.slots.infos.reserve(BLOCK_SIZE * blocks)?;
+        self.blocks.records.reserve(blocks)?;
+        self.slots
+            .nodes
+            .resize(2 * BLOCK_SIZE * blocks, NodeRecord::BLANK)?;
+        self.slots
+            .infos
+            .resize(2 * BLOCK_SIZE * blocks, NInfoRecord::BLANK)?;
+        self.blocks.records.resize(2 * blocks, BlockRecord::BLANK)?;
+        Ok(())
+    }
+
+    /// Puts one more block into use, and answers its number. The tables double if all of their
+    /// blocks are in use, up to `slots` slots.
+    pub fn add_block(&mut self, slots: usize) -> Result<usize, CedarError>
+        requires sound { Sound (places_of self.old) }
+        requires limit { IsSlotLimit slots }
+        requires within { 256 * length self.old.blocks.records.items ≤ slots }
+        ensures sound { Sound (places_of self.new) }
+        ensures within { 256 * length self.new.blocks.records.items ≤ slots }
+        ensures max_trial { self.new.blocks.max_trial ≡ self.old.blocks.max_trial }
+        ensures added { IfOk result (λ block. AddsBlock (places_of self.old) (places_of self.new) block) }
+        ensures refused { IfErr result (λ error. MayRefuse (places_of self.old) slots error) }
+        ensures unchanged { OnErr result (places_of self.new ≡ places_of self.old) }
+    {
+        if BLOCK_SIZE * self.blocks.active == slots {
+            return Err(CedarError::SlotLimit);
+        }
+        self.make_room(slots)?;
+        let block = self.blocks.active;
+        self.slots.free_block(BLOCK_SIZE * block);
+        self.blocks.activate();
+        Ok(block)
+    }
+
+    /// A free slot outside block 0. A block is made only where there is none.
+    pub fn find_place(&mut self, slots: usize) -> Result<usize, CedarError>
+        requires sound { Sound (places_of self.old) }
+        requires limit { IsSlotLimit slots }
+        requires within { 256 * length self.old.blocks.records.items ≤ slots }
+        ensures sound { Sound (places_of self.new) }
+        ensures within { 256 * length self.new.blocks.records.items ≤ slots }
+        ensures max_trial { self.new.blocks.max_trial ≡ self.old.blocks.max_trial }
+        ensures found { IfOk result (λ slot. IsFreePlace (places_of self.new) slot) }
+        ensures made { IfOk result (λ slot. (places_of self.new ≡ places_of self.old) ⊎ (NoneFree (places_of self.old) × AddsBlock (places_of self.old) (places_of self.new) (slot / 256))) }
+        ensures refused { IfErr result (λ error. NoneFree (places_of self.old) × MayRefuse (places_of self.old) slots error) }
+        ensures unchanged { OnErr result (places_of self.new ≡ places_of self.old) }
+    {
+        if let Some(slot) = self.free_slot() {
+            return Ok(slot);
+        }
+        let block = self.add_block(slots)?;
+        Ok(BLOCK_SIZE * block)
+    }
+
+    /// Makes `slot` the first free slot of its block.
+    fn begin_at(&mut self, slot: usize)
+        requires sound { Sound (places_of self.old) }
+        requires place { IsFreePlace (places_of self.old) slot }
+        ensures sound { Sound (places_of self.new) }
+        ensures same { SameSlots (places_of self.old) (places_of self.new) }
+    {
+        let block = slot / BLOCK_SIZE;
+        let counts = self.blocks.counts(block);
+        self.blocks.set_counts(block, counts.beginning_at(slot));
+    }
+
+    /// Notes that `wanted` labels found no place in a block with `num` free slots.
+    fn lower_reject(&mut self, num: i16, wanted: i16)
+        requires rejects { Rejects self.old.reject.items }
+        requires natural { pos 0 ≤ℤ num }
+        requires at_most { num ≤ℤ pos 256 }
+        requires some { pos 1 ≤ℤ wanted }
+        ensures rejects { Rejects self.new.reject.items }
+        ensures slots { slots_of self.new.slots ≡ slots_of self.old.slots }
+        ensures blocks { blocks_of self.new.blocks ≡ blocks_of self.old.blocks }
+    {
+        let index = num as usize;
+        self.reject[index] = self.reject[index].min(wanted);
+    }
+
+    /// Notes that `wanted` labels found no place in `block`, which is closed after `max_trial` times.
+    fn count_failure(&mut self, block: usize, wanted: i16)
+        requires sound { Sound (places_of self.old) }
+        requires open { IsOpen (blocks_of self.old.blocks) block }
+        requires some { pos 1 ≤ℤ wanted }
+        requires few { wanted ≤ℤ pos 256 }
+        ensures sound { Sound (places_of self.new) }
+        ensures same { SameSlots (places_of self.old) (places_of self.new) }
+        ensures max_trial { self.new.blocks.max_trial ≡ self.old.blocks.max_trial }
+        ensures others { (b : ℕ) → (b ≡ block → ⊥) → counts_at self.new.blocks.records.items b ≡ counts_at self.old.blocks.records.items b }
+    {
+        let counts = self.blocks.counts(block);
+        self.lower_reject(counts.num, wanted);
+        let max_trial = self.blocks.max_trial;
+        self.blocks
+            .set_counts(block, counts.failed(wanted, max_trial));
+    }
+
+    /// The first free slot of `block` on which the first label can stand with room for all others,
+    /// if the block's `reject` allows a search.
+    fn start_in(&self, block: usize, labels: &[u8]) -> Option<usize>
+        requires sound { Sound (places_of self.now) }
+        requires not_root { 0 < block }
+        requires block_in { block < self.now.blocks.active }
+        requires some { 0 < length labels.now }
+        requires few { length labels.now ≤ 256 }
+        ensures { IfSome result (λ slot. IsStart (places_of self.now) block slot labels.now) }
+    {
+        let counts = self.blocks.counts(block);
+        let wanted = labels.len() as i16;
+        if counts.num < wanted || counts.reject <= wanted {
+            return None;
+        }
+        let head = counts.head();
+        let mut slot = head;
+        for _ in 0..BLOCK_SIZE {
+            if self.slots.fits(slot ^ usize::from(labels[0]), labels) {
+                return Some(slot);
+            }
+            slot = self.slots.next_free(slot);
+            if slot == head {
+                return None;
+            }
+        }
+        None
+    }
+
+    /// A base from which all labels have free slots, in an open block, as far as `reject` and
+    /// `max_trial` allow a search.
+    fn search(&mut self, labels: &[u8]) -> Option<usize>
+        requires sound { Sound (places_of self.old) }
+        requires some { 0 < length labels.now }
+        requires few { length labels.now ≤ 256 }
+        ensures sound { Sound (places_of self.new) }
+        ensures same { SameSlots (places_of self.old) (places_of self.new) }
+        ensures found { IfSome result (λ base. IsBase (places_of self.new) base labels.now) }
+    {
+        let head = self.blocks.first(BlockType::Open);
+        if head == 0 {
+            return None;
+        }
+        let last = self.blocks.previous(head);
+        let mut block = head;
+        for _ in 0..self.blocks.active {
+            if let Some(slot) = self.start_in(block, labels) {
+                self.begin_at(slot);
+                return Some(slot ^ usize::from(labels[0]));
+            }
+            let next = self.blocks.next(block);
+            self.count_failure(block, labels.len() as i16);
+            if block == last {
+                return None;
+            }
+            block = next;
+        }
+        None
+    }
+
+    /// A base from which all labels have free slots, outside block 0: in an open block that fits
+    /// them all, as far as rejections and trials allow a search, else in a new one. No clause says which.
+    pub fn find_places(&mut self, labels: &[u8], slots: usize) -> Result<usize, CedarError>
+        requires sound { Sound (places_of self.old) }
+        requires some { 0 < length labels.now }
+        requires few { length labels.now ≤ 256 }
+        requires limit { IsSlotLimit slots }
+        requires within { 256 * length self.old.blocks.records.items ≤ slots }
+        ensures sound { Sound (places_of self.new) }
+        ensures within { 256 * length self.new.blocks.records.items ≤ slots }
+        ensures max_trial { self.new.blocks.max_trial ≡ self.old.blocks.max_trial }
+        ensures found { IfOk result (λ base. IsBase (places_of self.new) base labels.now) }
+        ensures made { IfOk result (λ base. SameSlots (places_of self.old) (places_of self.new) ⊎ AddsBlock (places_of self.old) (places_of self.new) (base / 256)) }
+        ensures refused { IfErr result (λ error. MayRefuse (places_of self.old) slots error) }
+        ensures err { OnErr result (SameSlots (places_of self.old) (places_of self.new)) }
+    {
+        if let Some(base) = self.search(labels) {
+            return Ok(base);
+        }
+        let block = self.add_block(slots)?;
+        Ok(BLOCK_SIZE * block ^ usize::from(labels[0]))
+    }
+}

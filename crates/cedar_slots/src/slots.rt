@@ -1,0 +1,158 @@
+//! The slots, and the rings in which the free ones stand.
+
+ghost use Rattle.std.specs.Prelude.{◌≡◌, ℕ, ◌+◌, ◌*◌, ◌/◌, ◌^◌, ◌<◌, ◌≤◌, ◌⊎◌, IsTrue, length, slice_set, unsigned_abs};
+ghost use Rattle.cedar_slots.specs.Slots.{AllFree, base_at, blank_info, check_at, given_after, given_alone, is_free, linked, node_at, SlotLink, taken};
+
+use crate::records::{NInfoRecord, NodeRecord};
+use std::alloc::Allocator;
+
+/// The slots of a block.
+pub const BLOCK_SIZE: usize = 256;
+
+/// All slots, those that are not in use among them.
+#[derive(Drop)]
+pub struct Slots<A: Allocator> {
+    pub nodes: Vec<NodeRecord, A>,
+    pub infos: Vec<NInfoRecord, A>,
+}
+
+impl<A: Allocator> Slots<A> {
+    /// The free slot after `slot` in its ring.
+    pub fn next_free(&self, slot: usize) -> usize
+        requires { slot < length self.now.nodes.items }
+        ensures { result ≡ unsigned_abs (check_at self.now.nodes.items slot) }
+    {
+        self.nodes[slot].check.unsigned_abs() as usize
+    }
+
+    /// The free slot before `slot` in its ring.
+    pub fn previous_free(&self, slot: usize) -> usize
+        requires { slot < length self.now.nodes.items }
+        ensures { result ≡ unsigned_abs (base_at self.now.nodes.items slot) }
+    {
+        self.nodes[slot].base.unsigned_abs() as usize
+    }
+
+    /// Makes `to` the free slot after `from`.
+    pub fn link(&mut self, from: usize, to: usize)
+        requires from_in { from < length self.old.nodes.items }
+        requires to_in { to < length self.old.nodes.items }
+        requires from_fits { from < 2 ^ 31 }
+        requires to_fits { to < 2 ^ 31 }
+        ensures nodes { self.new.nodes.items ≡ linked self.old.nodes.items from to }
+        ensures infos { self.new.infos.items ≡ self.old.infos.items }
+        ensures len { length self.new.nodes.items ≡ length self.old.nodes.items }
+    {
+        self.nodes[from].check = -(to as i32);
+        self.nodes[to].base = -(from as i32);
+    }
+
+    /// Takes `slot` out of its ring, and stores `node` in it.
+    #[tactic(auto, unfolding(crate::specs::Slots::taken))]
+    pub fn take(&mut self, slot: usize, node: NodeRecord)
+        requires slot_in { slot < length self.old.nodes.items }
+        requires previous_in { unsigned_abs (base_at self.old.nodes.items slot) < length self.old.nodes.items }
+        requires next_in { unsigned_abs (check_at self.old.nodes.items slot) < length self.old.nodes.items }
+        requires fits { length self.old.nodes.items ≤ 2 ^ 30 }
+        ensures nodes { self.new.nodes.items ≡ taken self.old.nodes.items slot node }
+        ensures infos { self.new.infos.items ≡ self.old.infos.items }
+        ensures len { length self.new.nodes.items ≡ length self.old.nodes.items }
+    {
+        let previous = self.previous_free(slot);
+        let next = self.next_free(slot);
+        self.link(previous, next);
+        self.nodes[slot] = node;
+    }
+
+    /// Makes `slot` the one free slot of its block.
+    #[tactic(auto, unfolding(crate::specs::Slots::given_alone))]
+    pub fn give_alone(&mut self, slot: usize)
+        requires slot_in { slot < length self.old.nodes.items }
+        requires slot_in_infos { slot < length self.old.infos.items }
+        requires fits { length self.old.nodes.items ≤ 2 ^ 30 }
+        ensures nodes { self.new.nodes.items ≡ given_alone self.old.nodes.items slot }
+        ensures infos { self.new.infos.items ≡ slice_set self.old.infos.items slot blank_info }
+        ensures len { length self.new.nodes.items ≡ length self.old.nodes.items }
+        ensures infos_len { length self.new.infos.items ≡ length self.old.infos.items }
+    {
+        self.link(slot, slot);
+        self.infos[slot] = NInfoRecord::BLANK;
+    }
+
+    /// Makes `slot` free, and puts it after the free slot `head`.
+    #[tactic(auto, unfolding(crate::specs::Slots::given_after))]
+    pub fn give_after(&mut self, head: usize, slot: usize)
+        requires slot_in { slot < length self.old.nodes.items }
+        requires slot_in_infos { slot < length self.old.infos.items }
+        requires head_in { head < length self.old.nodes.items }
+        requires next_in { unsigned_abs (check_at self.old.nodes.items head) < length self.old.nodes.items }
+        requires fits { length self.old.nodes.items ≤ 2 ^ 30 }
+        ensures nodes { self.new.nodes.items ≡ given_after self.old.nodes.items head slot }
+        ensures infos { self.new.infos.items ≡ slice_set self.old.infos.items slot blank_info }
+        ensures len { length self.new.nodes.items ≡ length self.old.nodes.items }
+        ensures infos_len { length self.new.infos.items ≡ length self.old.infos.items }
+    {
+        let next = self.next_free(head);
+        self.link(head, slot);
+        self.link(slot, next);
+        self.infos[slot] = NInfoRecord::BLANK;
+    }
+
+    /// Frees the 256 slots from `first` on, each of which stands before the next one in their ring.
+    pub fn free_block(&mut self, first: usize)
+        requires block_in { first + 256 ≤ length self.old.nodes.items }
+        requires fits { length self.old.nodes.items ≤ 2 ^ 30 }
+        ensures steps { (s : ℕ) → first ≤ s → s < first + 255 → SlotLink self.new.nodes.items s (s + 1) }
+        ensures last { SlotLink self.new.nodes.items (first + 255) first }
+        ensures outside { (s : ℕ) → (s < first) ⊎ (first + 256 ≤ s) → node_at self.new.nodes.items s ≡ node_at self.old.nodes.items s }
+        ensures infos { self.new.infos.items ≡ self.old.infos.items }
+        ensures len { length self.new.nodes.items ≡ length self.old.nodes.items }
+    {
+        let last = first + 255;
+        for slot in first..last {
+            self.link(slot, slot + 1);
+        }
+        self.link(last, first);
+    }
+
+    /// Stores the root, and frees all other slots of block 0, each before the next one in their ring.
+    pub fn free_root_block(&mut self, root: NodeRecord)
+        requires { length self.old.nodes.items ≡ 256 }
+        ensures root { node_at self.new.nodes.items 0 ≡ root }
+        ensures steps { (s : ℕ) → 1 ≤ s → s < 255 → SlotLink self.new.nodes.items s (s + 1) }
+        ensures last { SlotLink self.new.nodes.items 255 1 }
+        ensures infos { self.new.infos.items ≡ self.old.infos.items }
+        ensures len { length self.new.nodes.items ≡ length self.old.nodes.items }
+    {
+        for slot in 1..255 {
+            self.link(slot, slot + 1);
+        }
+        self.link(255, 1);
+        self.nodes[0] = root;
+    }
+
+    /// Whether `slot`, which isn't the root's, is free.
+    pub fn is_free(&self, slot: usize) -> bool
+        requires slot_in { slot < length self.now.nodes.items }
+        requires not_root { 0 < slot }
+        ensures { result ≡ is_free self.now.nodes.items slot }
+    {
+        self.nodes[slot].check < 0
+    }
+
+    /// Whether each label's slot is free from `base` on.
+    pub fn fits(&self, base: usize, labels: &[u8]) -> bool
+        requires fits { length self.now.nodes.items ≤ 2 ^ 30 }
+        requires base_in { 256 * (base / 256) + 256 ≤ length self.now.nodes.items }
+        requires not_root { 0 < base / 256 }
+        ensures fits { IsTrue result → AllFree self.now.nodes.items base labels.now }
+        ensures only { AllFree self.now.nodes.items base labels.now → IsTrue result }
+    {
+        for &label in labels {
+            if !self.is_free(base ^ usize::from(label)) {
+                return false;
+            }
+        }
+        true
+    }
+}

@@ -1,0 +1,10 @@
+-- A table made of sorted pairs.
+pub mod FilledNode
+pub mod InnerKeys
+pub mod LabelByLabel
+pub mod LastLabel
+pub mod NodeByNode
+pub mod Pending
+pub mod SlotsOfNumbers
+pub mod SortedTree
+pub mod Spans

@@ -1,0 +1,15 @@
+use Rattle.std.proofs.Common.{drop, take, ◌<◌}
+use Rattle.cedar_tree.specs.Tree.{IsPath}
+use Rattle.cedar_table.specs.Edit.NodeEdits.{IsAt}
+use Rattle.cedar_table.specs.Edit.Own.{HasWay}
+use Rattle.cedar_table.specs.Table.TableFields.{cells, fields, size_of}
+use Rattle.cedar_table.proofs.table.Table.own_front.Given as goal
+
+-- the labels so far lead to the node, and none of the nodes before it stands in the way
+abbrev pub invariant-loop-length : goal.invariant-loop-length
+invariant-loop-length g l = record {
+  inside : l.node < size_of (fields l.self);
+  at : IsAt (cells l.self) (take l.length l.key) l.node;
+  bytes : IsPath (drop l.length l.key);
+  way : HasWay (cells l.self) l.node (drop l.length l.key) → HasWay (cells l.self) 0 l.key;
+}

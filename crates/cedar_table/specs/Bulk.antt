@@ -1,0 +1,4 @@
+-- Tables made of sorted pairs.
+pub mod Sorted
+pub mod SortedMarks
+pub mod Spans

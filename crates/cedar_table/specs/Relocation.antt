@@ -1,0 +1,4 @@
+-- Sets of slots that move.
+pub mod Renaming
+pub mod Reserved
+pub mod Wanted

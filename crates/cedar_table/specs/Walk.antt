@@ -1,0 +1,3 @@
+-- Where walks that are under way stand in a table.
+pub mod Fronts
+pub mod Visits

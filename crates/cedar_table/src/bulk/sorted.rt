@@ -1,0 +1,151 @@
+//! A table made of sorted pairs: each node gets all of its slots at once, the last child's subtree first.
+
+use crate::bulk::spans::{Pair, Span, number_at, push_spans, wanted_labels};
+use crate::layout::Layout;
+use crate::table::Table;
+use cedar_slots::CedarError;
+use std::alloc::Allocator;
+
+impl<L: Layout, const SLOTS: usize, A: Allocator> Table<L, SLOTS, A> {
+    ghost use Rattle.std.specs.Prelude.{◌≡◌, ◌⊎◌, ℕ, List, [], ◌∷◌, ◌++◌, ◌+◌, ◌*◌, ◌<◌, ◌≤◌, ◌≤ℤ◌, IfErr, IfOk, length, None, OnOk, pos, true};
+    ghost use Rattle.std.specs.List.{AllByRecursion};
+    ghost use Rattle.cedar_tree.specs.Tree.{empty_tree, Forest, none, Tree};
+    ghost use Rattle.cedar_tree.specs.Laws.{ArePathsAscending, ArePathsKeys};
+    ghost use Rattle.cedar_tree.specs.Queries.{asc, prefixes, prefixes_forest};
+    ghost use Rattle.cedar_slots.specs.declared.error.CedarError.TheVariants.{Memory, SlotLimit};
+    ghost use Rattle.cedar_table.specs.declared.layout.Stored.TheVariants.{AtBase};
+    ghost use Rattle.cedar_table.specs.declared.bulk.spans.Span.{Span};
+    ghost use Rattle.cedar_table.specs.Meaning.Family.{base_of};
+    ghost use Rattle.cedar_table.specs.Meaning.StandsFor.{HoldsTree, labels};
+    ghost use Rattle.cedar_slots.specs.Places.{IsSlotLimit, IsTable, MayRefuse};
+    ghost use Rattle.cedar_table.specs.Bulk.Sorted.{entries_of, Fills, IsBareNode};
+    ghost use Rattle.cedar_table.specs.Bulk.SortedMarks.{KeepsOwn, SortedMarks};
+    ghost use Rattle.cedar_table.specs.Meaning.Marks.{marks};
+    ghost use Rattle.cedar_table.specs.Bulk.Spans.{Covers, Filling, IsTreeOfSpan};
+    ghost use Rattle.cedar_table.specs.Edit.Steps.{blocks_after, MakesBlocks, SameModes};
+    ghost use Rattle.cedar_table.specs.Table.TableFields.{capacity_of, cells, fields, SameSettings, size_of};
+    ghost use Rattle.cedar_table.specs.Meaning.WellFormed.{is_value, IsWellFormed, tree_of};
+
+    /// Gives the node of a span its number and its labels, and adds a span for each of these.
+    fn fill_span<'a>(
+        &mut self,
+        span: Span<'a>,
+        pending: &mut Vec<Span<'a>, A>,
+    ) -> Result<(), CedarError>
+        requires sound { IsTable SLOTS (fields self.old).places }
+        requires node_in { span.node < size_of (fields self.old) }
+        requires node { IsBareNode (size_of (fields self.old)) (cells self.old) span.node }
+        requires leaf { (cells self.old).stored span.node ≡ AtBase 0 }
+        requires tree { (t : Tree) × IsTreeOfSpan span.depth span.pairs.now t × (span.node ≡ 0 → t.number ≡ None) }
+        ensures sound { IsTable SLOTS (fields self.new).places }
+        ensures fills { OnOk result ((t : Tree) → IsTreeOfSpan span.entry.depth span.entry.pairs.now t → Fills (size_of (fields self.old)) (size_of (fields self.new)) (cells self.old) (cells self.new) span.entry.node t.number (labels t.children)) }
+        ensures own { OnOk result ((t : Tree) → IsTreeOfSpan span.entry.depth span.entry.pairs.now t → KeepsOwn L.kind (cells self.new) span.entry.node t.number (labels t.children)) }
+        ensures spans { OnOk result ((t : Tree) → IsTreeOfSpan span.entry.depth span.entry.pairs.now t → (spans : List Span) × (pending.new.items ≡ pending.old.items ++ spans) × Covers (base_of (cells self.new) span.entry.node) spans t.children none) }
+        ensures refused { IfErr result (λ error. (error ≡ Memory) ⊎ ((error ≡ SlotLimit) × MayRefuse (fields self.new).places SLOTS SlotLimit × MakesBlocks 0 (fields self.old) (fields self.new))) }
+        ensures blocks { (n : ℕ) × (n ≤ 1) × (span.entry.node ≡ 0 → n ≡ 0) × MakesBlocks n (fields self.old) (fields self.new) }
+        ensures root_check { (cells self.new).check 0 ≡ (cells self.old).check 0 }
+        ensures settings { SameSettings (fields self.old) (fields self.new) }
+    {
+        let number = number_at(span.pairs, span.depth);
+        let skipped = usize::from(number.is_some());
+        let (_, below) = span.pairs.split_at(skipped);
+        let wanted = wanted_labels(number, below, span.depth);
+        let (_, labels) = wanted.split_at(skipped);
+        self.fill_node(span.node, number, &wanted, labels)?;
+        push_spans(pending, self.base_of(span.node), below, span.depth)?;
+        Ok(())
+    }
+
+    /// Fills the node of each span, and those of their children in turn, the last ones first.
+    fn fill_pending<'a>(&mut self, pending: &mut Vec<Span<'a>, A>) -> Result<(), CedarError>
+        requires filling { (g : Forest) × (most : ℕ) × Filling SLOTS (fields self.old) pending.old.items g most }
+        ensures filled { OnOk result ((g : Forest) (most : ℕ) → Filling SLOTS (fields self.old) pending.old.items g most → Filling SLOTS (fields self.new) [] g most) }
+        ensures refused { IfErr result (λ error. (error ≡ Memory) ⊎ ((error ≡ SlotLimit) × ((g : Forest) (most : ℕ) → Filling SLOTS (fields self.old) pending.old.items g most → SLOTS < 256 * most))) }
+        ensures blocks { (n : ℕ) × MakesBlocks n (fields self.old) (fields self.new) }
+        ensures root_check { (cells self.new).check 0 ≡ (cells self.old).check 0 }
+        ensures settings { SameSettings (fields self.old) (fields self.new) }
+    {
+        while let Some(span) = pending.pop() {
+            self.fill_span(span, pending)?;
+        }
+        Ok(())
+    }
+
+    /// Makes an empty table that of some pairs.
+    fn fill<'a>(&mut self, alloc: A, pairs: &'a [Pair<'a>]) -> Result<(), CedarError>
+        requires new { IsTable SLOTS (fields self.old).places }
+        requires root_base { (cells self.old).stored 0 ≡ AtBase 0 }
+        requires empty { HoldsTree (size_of (fields self.old)) (cells self.old) none }
+        requires one { (fields self.old).places.blocks.active ≡ 1 }
+        requires tree { (t : Tree) × IsTreeOfSpan 0 pairs.now t × (t.number ≡ None) }
+        ensures filled { OnOk result ((t : Tree) → IsTreeOfSpan 0 pairs.now t → t.number ≡ None → Filling SLOTS (fields self.new) [] t.children (1 + length (prefixes_forest t.children))) }
+        ensures refused { IfErr result (λ error. (error ≡ Memory) ⊎ ((error ≡ SlotLimit) × ((t : Tree) → IsTreeOfSpan 0 pairs.now t → t.number ≡ None → SLOTS ≤ 256 * length (prefixes_forest t.children)))) }
+        ensures blocks { (n : ℕ) × MakesBlocks n (fields self.old) (fields self.new) }
+        ensures root_check { (cells self.new).check 0 ≡ (cells self.old).check 0 }
+        ensures settings { SameSettings (fields self.old) (fields self.new) }
+    {
+        let mut pending = Vec::new(alloc);
+        let span = Span {
+            node: 0,
+            depth: 0,
+            pairs,
+        };
+        self.fill_span(span, &mut pending)?;
+        self.fill_pending(&mut pending)
+    }
+
+    /// Makes a new table that of some pairs, whose keys ascend.
+    fn fill_sorted(&mut self, alloc: A, pairs: &[Pair<'_>]) -> Result<(), CedarError>
+        requires well_formed { IsWellFormed SLOTS (fields self.old) }
+        requires empty { tree_of (fields self.old) ≡ empty_tree }
+        requires root_base { (cells self.old).stored 0 ≡ AtBase 0 }
+        requires one { (fields self.old).places.blocks.active ≡ 1 }
+        requires keys { ArePathsKeys (entries_of pairs.now) }
+        requires ascending { ArePathsAscending (entries_of pairs.now) }
+        requires values { AllByRecursion (λ e. is_value e.1 ≡ true) (entries_of pairs.now) }
+        ensures well_formed { OnOk result (IsWellFormed SLOTS (fields self.new)) }
+        ensures tree { OnOk result (tree_of (fields self.new) ≡ asc (entries_of pairs.now)) }
+        ensures marks { OnOk result (SortedMarks L.kind (asc (entries_of pairs.now)) (marks (fields self.new))) }
+        ensures blocks { OnOk result ((n : ℕ) × (n ≤ length (prefixes (asc (entries_of pairs.now)))) × MakesBlocks n (fields self.old) (fields self.new)) }
+        ensures refused { IfErr result (λ error. (error ≡ Memory) ⊎ ((error ≡ SlotLimit) × (SLOTS ≤ 256 * length (prefixes (asc (entries_of pairs.now)))))) }
+        ensures modes { SameModes (fields self.old) (fields self.new) }
+    {
+        if pairs.is_empty() {
+            return Ok(());
+        }
+        self.fill(alloc, pairs)?;
+        self.entries = pairs.len();
+        Ok(())
+    }
+
+    /// A table of some pairs of a key and its number, whose keys ascend by bytes, each below the next: it stands for their one
+    /// tree with ascending labels, also where a new label would not go to its ascending place. It makes one block at most for
+    /// each distinct nonempty prefix of a key.
+    pub fn build_sorted(
+        alloc: A,
+        ordered: bool,
+        max_trial: i32,
+        pairs: &[Pair<'_>],
+    ) -> Result<Self, CedarError>
+    where
+        A: Copy,
+        requires tried { pos 1 ≤ℤ max_trial }
+        requires limit { IsSlotLimit SLOTS }
+        requires keys { ArePathsKeys (entries_of pairs.now) }
+        requires ascending { ArePathsAscending (entries_of pairs.now) }
+        requires values { AllByRecursion (λ e. is_value e.1 ≡ true) (entries_of pairs.now) }
+        ensures well_formed { IfOk result (λ table. IsWellFormed SLOTS (fields table)) }
+        ensures tree { IfOk result (λ table. tree_of (fields table) ≡ asc (entries_of pairs.now)) }
+
+        // In the reduced layout just those numbers have slots of their own whose keys begin longer ones.
+        ensures marks { IfOk result (λ table. SortedMarks L.kind (asc (entries_of pairs.now)) (marks (fields table))) }
+        ensures ordered { IfOk result (λ table. (fields table).ordered ≡ ordered) }
+        ensures max_trial { IfOk result (λ table. (fields table).places.blocks.max_trial ≡ max_trial) }
+        ensures blocks { IfOk result (λ table. (n : ℕ) × (n ≤ length (prefixes (asc (entries_of pairs.now)))) × (size_of (fields table) ≡ 256 + 256 * n) × (capacity_of (fields table) ≡ 256 * blocks_after n 1 1)) }
+        ensures refused { IfErr result (λ error. (error ≡ Memory) ⊎ ((error ≡ SlotLimit) × (SLOTS ≤ 256 * length (prefixes (asc (entries_of pairs.now)))))) }
+    {
+        let mut table = Table::new(alloc, ordered, max_trial)?;
+        table.fill_sorted(alloc, pairs)?;
+        Ok(table)
+    }
+}

@@ -1,0 +1,6 @@
+//! Keys put and taken away.
+
+mod erase;
+mod put;
+mod step;
+mod way;

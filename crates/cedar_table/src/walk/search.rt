@@ -1,0 +1,119 @@
+//! Exact search.
+
+use crate::layout::{Layout, Stored};
+use crate::table::Table;
+use cedar_slots::Ticks;
+use std::alloc::Allocator;
+use std::sync::ledger::Ledger;
+
+impl<L: Layout, const SLOTS: usize, A: Allocator> Table<L, SLOTS, A> {
+    ghost use Rattle.std.specs.Prelude.{◌≡◌, ◌≢◌, ◌+◌, ◌<◌, ◌≤◌, ◌↔◌, IsTrue, false, MatchOption, pos, length};
+    ghost use Rattle.cedar_tree.specs.Tree.{Tree, has_label, subtree};
+    ghost use Rattle.cedar_tree.specs.Queries.{exact};
+    ghost use Rattle.cedar_table.specs.declared.layout.Stored.TheVariants.{Nothing};
+    ghost use Rattle.cedar_table.specs.Meaning.Family.{base_of, below};
+    ghost use Rattle.cedar_table.specs.Meaning.StandsFor.{Stands};
+    ghost use Rattle.cedar_table.specs.Table.TableFields.{cells, fields, size_of};
+    ghost use Rattle.cedar_table.specs.Meaning.WellFormed.{IsWellFormed, tree_of};
+
+    /// What the base field of a node says. In the layout by default that is a base, with no test.
+    pub fn stored_at_node(&self, node: usize) -> Stored
+        requires node_in { node < size_of (fields self.now) }
+        requires says { (cells self.now).stored node ≢ Nothing }
+        ensures { result ≡ (cells self.now).stored node }
+    {
+        L::read_node(self.base(node))
+    }
+
+    /// Where a node's slots begin, and 0 if its base field has its own number. In the layout by default there is no test.
+    pub(crate) fn node_base(&self, node: usize) -> usize
+        requires node_in { node < size_of (fields self.now) }
+        requires says { (cells self.now).stored node ≢ Nothing }
+        ensures { result ≡ base_of (cells self.now) node }
+    {
+        match self.stored_at_node(node) {
+            Stored::AtBase(base) => base,
+            Stored::OwnNumber(_) => 0,
+            Stored::Nothing => 0,
+        }
+    }
+
+    /// The slot for a label below a slot that is known to be a node's.
+    pub(crate) fn slot_below(&self, node: usize, label: u8) -> usize
+        requires node_in { node < size_of (fields self.now) }
+        requires says { (cells self.now).stored node ≢ Nothing }
+        ensures { result ≡ below (cells self.now) node label }
+    {
+        self.node_base(node) ^ usize::from(label)
+    }
+
+    /// Whether a slot belongs to an owner: one comparison of a check field with a slot's number.
+    pub fn belongs<C: Ledger>(&self, slot: usize, owner: usize, ticks: &mut Ticks<C>) -> bool
+        requires slot_in { slot < size_of (fields self.now) }
+        requires owner_in { owner < size_of (fields self.now) }
+        ensures answer { IsTrue result ↔ ((cells self.now).check slot ≡ pos owner) }
+        ensures cost { ticks.new ≡ ticks.old + 1 }
+    {
+        let check = self.check(slot, ticks);
+        check == owner as i32
+    }
+
+    /// The slot of a node's child under a label.
+    pub fn follow<C: Ledger>(&self, node: usize, label: u8, ticks: &mut Ticks<C>) -> Option<usize>
+        requires node_in { node < size_of (fields self.now) }
+        requires node { (t : Tree) × Stands (size_of (fields self.now)) (cells self.now) node t }
+        ensures answer { (t : Tree) → Stands (size_of (fields self.now)) (cells self.now) node t → MatchOption result (has_label t.children label ≡ false) (λ s. (s < size_of (fields self.now)) × Stands (size_of (fields self.now)) (cells self.now) s (subtree t.children label)) }
+        ensures cost { ticks.new ≤ ticks.old + 1 }
+    {
+        if label == 0 {
+            return None;
+        }
+        let Stored::AtBase(base) = self.stored_at_node(node) else {
+            return None;
+        };
+        let slot = base ^ usize::from(label);
+        if self.belongs(slot, node, ticks) {
+            Some(slot)
+        } else {
+            None
+        }
+    }
+
+    /// The number of a node.
+    pub fn number<C: Ledger>(&self, node: usize, ticks: &mut Ticks<C>) -> Option<i32>
+        requires node_in { node < size_of (fields self.now) }
+        requires node { (t : Tree) × Stands (size_of (fields self.now)) (cells self.now) node t }
+        ensures answer { (t : Tree) → Stands (size_of (fields self.now)) (cells self.now) node t → result ≡ t.number }
+        ensures cost { ticks.new ≤ ticks.old + 1 }
+    {
+        match self.stored_at_node(node) {
+            Stored::OwnNumber(value) => Some(value),
+            Stored::AtBase(base) => {
+                if self.belongs(base, node, ticks) {
+                    Some(self.base(base))
+                } else {
+                    None
+                }
+            }
+            Stored::Nothing => None,
+        }
+    }
+
+    /// The number of a key, and the key's length. It takes no memory.
+    pub fn exact_match_search_counted<C: Ledger>(
+        &self,
+        key: &[u8],
+        ticks: &mut Ticks<C>,
+    ) -> Option<(i32, usize)>
+        requires { IsWellFormed SLOTS (fields self.now) }
+        ensures answer { result ≡ exact (tree_of (fields self.now)) key.now }
+        ensures cost { ticks.new ≤ ticks.old + length key.now + 1 }
+    {
+        let mut node = 0;
+        for label in key {
+            node = self.follow(node, *label, ticks)?;
+        }
+        let value = self.number(node, ticks)?;
+        Some((value, key.len()))
+    }
+}

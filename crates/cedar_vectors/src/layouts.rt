@@ -1,0 +1,20 @@
+//! Dictionaries of either layout.
+use cedarwood::{CedarBuilder, CedarError, Layout, Trie};
+use std::alloc::Global;
+
+/// A dictionary of a layout, of 2^30 slots at most.
+pub(crate) type Full<L> = Trie<L, 1073741824, Global>;
+
+/// An empty one with these settings.
+#[tactic(auto, using(cedarwood::proofs::DictionaryLemmas::default_limit))]
+pub(crate) fn built<L: Layout>(
+    alloc: Global,
+    builder: CedarBuilder,
+) -> Result<Full<L>, CedarError> {
+    Trie::with(alloc, builder)
+}
+
+/// An empty one with the settings by default.
+pub(crate) fn empty<L: Layout>(alloc: Global) -> Result<Full<L>, CedarError> {
+    built(alloc, CedarBuilder::new())
+}

@@ -1,0 +1,104 @@
+//! The reduced layout: how many slots are used, and the limit of slots.
+use crate::layouts::empty;
+use cedarwood::{CedarBuilder, CedarError, ReducedLayout, Trie};
+use std::alloc::{AllocError, Allocator, Global};
+use std::process::Abort;
+use std::test::Fail;
+
+// A key, its extensions, and what is left of them: a number keeps the slot that it once got.
+#[test]
+fn extensions_of_a_key(rt: HostRuntime) -> Result<(), Fail> {
+    let mut cedar = empty::<ReducedLayout>(rt.alloc())?;
+    cedar.update("a", 0)?;
+    cedar.update("ab", 1)?;
+    cedar.update("abc", 2)?;
+    assert_eq!(rt; (cedar.len(), cedar.used_node_slots()), (3, 6));
+    assert!(rt; cedar.erase("abc"));
+    assert_eq!(rt; (cedar.len(), cedar.used_node_slots()), (2, 5));
+    let mut fresh = empty::<ReducedLayout>(rt.alloc())?;
+    fresh.update("a", 0)?;
+    fresh.update("ab", 1)?;
+    assert_eq!(rt; (fresh.len(), fresh.used_node_slots()), (2, 4));
+    Ok(())
+}
+
+// A number moves to a slot as the first label comes below its node.
+#[test]
+fn a_number_makes_way(rt: HostRuntime) -> Result<(), Fail> {
+    let mut cedar = empty::<ReducedLayout>(rt.alloc())?;
+    cedar.update("a", 7)?;
+    assert_eq!(rt; (cedar.used_node_slots(), cedar.node_capacity()), (2, 256));
+    cedar.update("ab", 8)?;
+    assert_eq!(rt; (cedar.used_node_slots(), cedar.node_capacity()), (4, 512));
+    assert_eq!(rt; cedar.exact_match_search("a"), Some((7, 1)));
+    assert_eq!(rt; cedar.exact_match_search("ab"), Some((8, 2)));
+    Ok(())
+}
+
+// The number of a node that has labels takes a slot at once.
+#[test]
+fn a_number_above_labels(rt: HostRuntime) -> Result<(), Fail> {
+    let mut cedar = empty::<ReducedLayout>(rt.alloc())?;
+    cedar.update("ab", 1)?;
+    assert_eq!(rt; cedar.used_node_slots(), 3);
+    cedar.update("a", 2)?;
+    assert_eq!(rt; cedar.used_node_slots(), 4);
+    assert!(rt; cedar.erase("ab"));
+    assert_eq!(rt; cedar.used_node_slots(), 3);
+    assert!(rt; cedar.erase("a"));
+    assert_eq!(rt; cedar.used_node_slots(), 1);
+    Ok(())
+}
+
+// The keys `b` followed by each byte from 1 to 255.
+fn below_b<A: Allocator + Copy>(alloc: A) -> Result<Vec<[u8; 2], A>, AllocError> {
+    let mut keys = Vec::new(alloc);
+    for second in 0..255 {
+        keys.push([b'b', second + 1])?;
+    }
+    Ok(keys)
+}
+
+// `a` and each of some keys.
+fn with_a<'a, A: Allocator>(
+    alloc: A,
+    keys: &'a [[u8; 2]],
+) -> Result<Vec<(&'a [u8], i32), A>, AllocError> {
+    let mut pairs = Vec::new(alloc);
+    pairs.push((b"a".as_slice(), 7))?;
+    for key in keys {
+        pairs.push((key.as_slice(), 1))?;
+    }
+    Ok(pairs)
+}
+
+fn expect_figures(
+    trie: &Trie<ReducedLayout, 512, Global>,
+    len: usize,
+    used: usize,
+    rt: &impl Abort,
+) {
+    assert_eq!(rt; (trie.len(), trie.used_node_slots()), (len, used));
+    assert_eq!(rt; (trie.node_capacity(), trie.spare_blocks()), (512, 0));
+    assert_eq!(rt; trie.exact_match_search("a"), Some((7, 1)));
+}
+
+// A number takes the last free slot to make way, and goes back as the label is refused.
+#[tactic(auto, using(crate::proofs::Limits::limit_512))]
+#[test]
+fn the_last_slot(rt: HostRuntime) -> Result<(), Fail> {
+    let keys = below_b(rt.alloc())?;
+    let pairs = with_a(rt.alloc(), &keys)?;
+    let builder = CedarBuilder::new();
+    let mut trie = Trie::<ReducedLayout, 512, Global>::from_sorted_bytes_with(
+        rt.alloc(),
+        builder,
+        &pairs,
+    )?;
+    expect_figures(&trie, 256, 258, &rt);
+    assert_eq!(rt; trie.update("ab", 8), Err(CedarError::SlotLimit));
+    expect_figures(&trie, 256, 258, &rt);
+    assert_eq!(rt; trie.update("c", 1), Ok(()));
+    expect_figures(&trie, 257, 259, &rt);
+    Ok(())
+}

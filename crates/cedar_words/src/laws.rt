@@ -1,0 +1,24 @@
+//! Laws of the tokens of a text.
+
+ghost use Rattle.std.specs.Prelude.{◌≡◌, ℕ, ◌+◌, ◌<◌, ℤ, List, [], ◌∷◌, length, drop, All, Option};
+ghost use Rattle.cedar_tree.specs.Tree.{Tree};
+ghost use Rattle.cedar_words.specs.Words.{bytes_in, Covers, IsLongest, len_of, longest, number_of, segments, tokens_behind};
+
+/// The tokens of a text cover it in order: each begins where the one before it ended, has one byte or more, and together they have
+/// the bytes of the text.
+pub fn tokens_cover()
+    ensures covers { (tree : Tree) (text : List ℕ) → Covers (segments tree text) 0 (length text) }
+    ensures bytes { (tree : Tree) (text : List ℕ) → bytes_in (segments tree text) ≡ length text }
+{}
+
+/// Each token is the longest key that begins at its place, with its number, or else one byte where none does.
+pub fn tokens_are_longest()
+    ensures { (tree : Tree) (text : List ℕ) → All (IsLongest tree text) (segments tree text) }
+{}
+
+/// The tokens from a place on are the one there, and then those from its end on.
+pub fn tokens_go_on()
+    ensures ends { (tree : Tree) (place : ℕ) → tokens_behind tree 0 place [] ≡ [] }
+    ensures more { (tree : Tree) (place : ℕ) (text : List ℕ) → 0 < length text → (found : Option (ℤ × ℕ)) → longest tree text ≡ found
+        → tokens_behind tree 0 place text ≡ (place, len_of found, number_of found) ∷ tokens_behind tree 0 (place + len_of found) (drop (len_of found) text) }
+{}

@@ -1,0 +1,27 @@
+//! The longest key at the beginning of a text.
+
+use cedarwood::{Layout, Trie};
+use std::alloc::Allocator;
+
+/// What tells the longest key that a text begins with: any dictionary. The tokens of a text ask for nothing else.
+pub trait LongestPrefix {
+    ghost use Rattle.std.specs.Prelude.{◌≡◌, ◌<◌, IfSome, length};
+    ghost use Rattle.cedar_tree.specs.Tree.{Tree};
+    ghost use Rattle.cedar_words.specs.Words.{longest};
+
+    /// The labelled tree that the answers come from.
+    ghost tree: { Self → Tree };
+
+    /// The value of the longest key that the text begins with, and one less than the key's bytes. It takes no memory.
+    fn longest_prefix(&self, text: &[u8]) -> Option<(i32, usize)>
+        ensures answer { result ≡ longest (tree self.now) text.now }
+        ensures within { IfSome result (λ found. found.1 < length text.now) };
+}
+
+impl<L: Layout, const SLOTS: usize, A: Allocator + Copy> LongestPrefix for Trie<L, SLOTS, A> {
+    ghost tree = { λ trie. trie.state.tree };
+
+    fn longest_prefix(&self, text: &[u8]) -> Option<(i32, usize)> {
+        self.common_prefix_iter_bytes(text).last()
+    }
+}

@@ -1,0 +1,107 @@
+//! The tokens of a text, one after another.
+
+ghost use Rattle.std.specs.Prelude.{◌≡◌, ◌<◌, ◌≤◌, ⊤, List, IfSome, Some, length, min};
+ghost use Rattle.std.specs.Iterator.{item_count, UpTo, YieldsFirst};
+ghost use Rattle.std.specs.Iterator.SizeHint.{IsWithinCount};
+ghost use Rattle.cedar_words.specs.Words.{bytes_in, len_of, longest, number_of, segments, Token};
+
+use crate::longest::LongestPrefix;
+use cedarwood::{Layout, Trie};
+use std::alloc::{AllocError, Allocator};
+use std::iter::FusedIterator;
+use std::marker::Model;
+
+/// The tokens of a text in their order: for each where it begins, how many bytes it has, and its value if it has one. It takes no
+/// memory, and a clone goes on from the same place.
+///
+/// A contract sees the tokens that are left.
+#[derive(Drop)]
+pub struct Segments<'a, T: LongestPrefix> {
+    trie: &'a T,
+    // The bytes that no token has yet, and where they begin in the text.
+    rest: &'a [u8],
+    place: usize,
+}
+
+impl<'a, T: LongestPrefix> Model for Segments<'a, T> {
+    ghost use Rattle.std.specs.Prelude.{◌+◌, ◌<◌, ◌^◌, List, length};
+    ghost use Rattle.cedar_words.specs.Words.{Token, tokens_behind};
+
+    ghost Value = { List Token };
+
+    ghost view = { λ it. tokens_behind (T.tree it.trie.now) 0 it.place it.rest.now };
+
+    ghost invariant = { λ it. it.place + length it.rest.now < 2 ^ 64 };
+}
+
+/// Cuts a text into tokens: at each place the longest key that begins there, with its value, or else one byte without a value. The
+/// tokens cover the text in order. They borrow the dictionary and the text, and take no memory.
+pub fn segment<'a, L: Layout, const SLOTS: usize, A: Allocator + Copy>(
+    trie: &'a Trie<L, SLOTS, A>,
+    text: &'a [u8],
+) -> Segments<'a, Trie<L, SLOTS, A>>
+    ensures { result ≡ segments trie.now.state.tree text.now }
+{
+    Segments {
+        trie,
+        rest: text,
+        place: 0,
+    }
+}
+
+/// How many bytes the first token of a text has, and its value if it has one.
+fn first_token<T: LongestPrefix>(trie: &T, text: &[u8]) -> (usize, Option<i32>)
+    requires { 0 < length text.now }
+    ensures len { result.0 ≡ len_of (longest (T.tree trie.now) text.now) }
+    ensures number { result.1 ≡ number_of (longest (T.tree trie.now) text.now) }
+    ensures within { result.0 ≤ length text.now }
+{
+    match trie.longest_prefix(text) {
+        Some((value, others)) => (others + 1, Some(value)),
+        None => (1, None),
+    }
+}
+
+impl<'a, T: LongestPrefix> Clone for Segments<'a, T> {
+    ghost is_clone = { λ it copy. copy ≡ it };
+
+    ghost is_infallible = { λ _. ⊤ };
+
+    fn clone(&self) -> Result<Self, AllocError> {
+        Ok(Segments {
+            trie: self.trie,
+            rest: self.rest,
+            place: self.place,
+        })
+    }
+}
+
+impl<'a, T: LongestPrefix> Iterator for Segments<'a, T> {
+    type Item = (usize, usize, Option<i32>);
+
+    ghost next_gives = { YieldsFirst (λ (rest : List Token). rest) };
+
+    ghost remaining = { item_count (λ (rest : List Token). rest) };
+
+    fn next(&mut self) -> Option<(usize, usize, Option<i32>)> {
+        if self.rest.is_empty() {
+            return None;
+        }
+        let (len, value) = first_token(self.trie, self.rest);
+        let start = self.place;
+        self.place += len;
+        self.rest = &self.rest[len..];
+        Some((start, len, value))
+    }
+
+    fn size_hint(&self) -> (usize, Option<usize>)
+        ensures lower { IsWithinCount result.0 (item_count (λ (rest : List Token). rest) self.now) }
+        ensures upper { IfSome result.1 (UpTo (item_count (λ (rest : List Token). rest) self.now)) }
+        ensures hint { result ≡ (min (bytes_in self.now) 1, Some (bytes_in self.now)) }
+    {
+        let left = self.rest.len();
+        (left.min(1), Some(left))
+    }
+}
+
+impl<'a, T: LongestPrefix> FusedIterator for Segments<'a, T> {}

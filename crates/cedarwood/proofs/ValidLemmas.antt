@@ -1,0 +1,20 @@
+-- A dictionary over a well-formed table is valid.
+use Rattle.std.proofs.Common.{ℕ, ◌*◌, ap, arith, refl}
+use Rattle.cedar_table.specs.Table.TableFields.{Fields}
+use Rattle.cedar_table.specs.Meaning.WellFormed.{IsWellFormed}
+use Rattle.cedarwood.specs.Dictionary.{IsValid}
+use Rattle.cedarwood.proofs.DictionaryLemmas.{is_sound}
+use Rattle.cedarwood.proofs.GrowthLemmas.{dictionary_of}
+
+pub is_valid : (slots : ℕ) (T : Fields) → IsWellFormed slots T → IsValid slots (dictionary_of T)
+is_valid slots T w =
+    let s = w.table.sound.shaped.blocks in
+    let d = w.table.sound.doubled in record {
+      sound = is_sound slots T w;
+      ascending = w.ascending;
+      values = w.values;
+      blocks = (T.places.blocks.active, s.some, refl);
+      doubled = (d.0, ap (λ n. 256 * n) d.1);
+      room = omega (arith, s.active_in);
+      within = w.table.within;
+    }

@@ -1,0 +1,8 @@
+use Rattle.std.proofs.Common.{◌≤◌, ◌<◌, length, subst, MatchOption}
+use Rattle.cedar_table.specs.Walk.Fronts.{IsOnQuery}
+use Rattle.cedarwood.specs.Dictionary.{Dictionary}
+use Rattle.cedarwood.proofs.queries.walked.TrieWalked.next_front.Goals as goal
+
+pub returns-clause-on : goal.returns-clause-on
+returns-clause-on g c =
+    subst (λ (d : Dictionary). MatchOption c.next_held_front.result (c.args.place ≤ length c.args.query.now) (λ front. (c.args.place < front.len) × IsOnQuery d.table c.args.query.now front.len front.slot)) c.self.view_is c.next_held_front.ensures.on

@@ -1,0 +1,16 @@
+use Rattle.cedar_table.specs.Bulk.Sorted.{entries_of}
+use Rattle.cedarwood.proofs.BuildLemmas.{all_are_stored, front_is_stored, trial_is_kept}
+use Rattle.cedarwood.proofs.trie.Trie.build.Goals as goal
+
+pub returns-clause-stored : goal.returns-clause-stored
+returns-clause-stored g c =
+    let e = c.store_all.ensures in
+    all_are_stored g.L.Layout.kind g.row.SLOTS c.args.self.now (entries_of c.args.pairs.now) c.store_all.result c.store_all.new.self e.faulty e.updates
+
+pub returns-clause-refused : goal.returns-clause-refused
+returns-clause-refused g c = λ fine. front_is_stored g.L.Layout.kind g.row.SLOTS c.args.self.now (entries_of c.args.pairs.now) c.store_all.result c.store_all.new.self fine c.store_all.ensures.updates
+
+pub returns-clause-max_trial : goal.returns-clause-max_trial
+returns-clause-max_trial g c =
+    let e = c.store_all.ensures in
+    trial_is_kept g.L.Layout.kind g.row.SLOTS c.args.self.now (entries_of c.args.pairs.now) c.store_all.result c.store_all.new.self e.unchanged e.updates

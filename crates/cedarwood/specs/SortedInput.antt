@@ -1,0 +1,45 @@
+-- What keeps pairs from being a sorted input.
+use Rattle.std.specs.Prelude.{ℕ, zero, suc, ◌+◌, ℤ, List, [], ◌∷◌, ◌<◌, get_or, map, Option, Some, None}
+use Rattle.std.specs.Cmp.Lexicographic.{slice_cmp}
+use Rattle.std.specs.Ordering.{nat_cmp}
+use Rattle.std.specs.declared.cmp.Ordering.{Ordering}
+use Rattle.std.specs.declared.cmp.Ordering.TheVariants.{Equal, Greater, Less}
+use Rattle.cedar_slots.specs.declared.error.CedarError.{CedarError}
+use Rattle.cedar_slots.specs.declared.error.CedarError.TheVariants.{DuplicateKey, KeysNotSorted}
+use Rattle.cedar_tree.specs.Queries.{Entry}
+use Rattle.cedar_table.specs.Bulk.Sorted.{Pair, entries_of}
+use Rattle.cedarwood.specs.Fault.{fault, or_else}
+
+-- a key that isn't above the one before it is at fault: it repeats that one, or it is smaller
+abbrev pub fault_of_order : ℕ → Ordering → Option CedarError
+fault_of_order index Less = None
+fault_of_order index Equal = Some (DuplicateKey index)
+fault_of_order index Greater = Some (KeysNotSorted index)
+
+-- the fault of a pair that comes behind a key: its own, and then that of its order
+abbrev pub fault_behind : ℕ → List ℕ → List ℕ → ℤ → Option CedarError
+fault_behind index before key v = or_else (fault key v) (fault_of_order index (slice_cmp nat_cmp before key))
+
+-- the first fault of entries that come behind a key, counted from an index on
+abbrev pub fault_from : ℕ → List ℕ → List Entry → Option CedarError
+fault_from index before [] = None
+fault_from index before (e ∷ es) = or_else (fault_behind index before e.0 e.1) (fault_from (index + 1) e.0 es)
+
+-- the entries that pairs stand for, whose keys lend these bytes
+abbrev pub entries_by : {K : Type 0} → (K → List ℕ) → List (K × ℤ) → List Entry
+entries_by bytes pairs = map (λ p. (bytes p.0, p.1)) pairs
+
+-- the first fault of some pairs. The first key has the empty one before it, which no key repeats and none is below.
+abbrev pub sorted_fault : List Pair → Option CedarError
+sorted_fault pairs = fault_from 0 [] (entries_of pairs)
+
+-- the last key of the first i of some entries that come behind a key
+abbrev pub key_at : List ℕ → List Entry → ℕ → List ℕ
+key_at before entries zero = before
+key_at before [] (suc i) = before
+key_at before (e ∷ es) (suc i) = key_at e.0 es i
+
+-- the bytes of keys are below 256, as their type says
+abbrev pub AreBytes : List Entry → Type 0
+AreBytes [] = Unit {0}
+AreBytes (e ∷ es) = ((i : ℕ) → get_or e.0 i 0 < 256) × AreBytes es

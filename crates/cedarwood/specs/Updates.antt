@@ -1,0 +1,31 @@
+-- What an update answers, and what it leaves.
+use Rattle.std.specs.Prelude.{◌≡◌, ◌⊎◌, ℕ, ℤ, ◌+◌, ◌-◌, ◌*◌, ◌<◌, ◌≤◌, false, List, [], ◌∷◌, length, None, IfSome, IsSome, IsOk, IfErr, OnOk, OnErr, Result, Err}
+use Rattle.cedar_tree.specs.Tree.{has_label, number_at}
+use Rattle.cedar_tree.specs.Queries.{used}
+use Rattle.cedar_tree.specs.State.{stored}
+use Rattle.cedar_slots.specs.declared.error.CedarError.{CedarError}
+use Rattle.cedar_slots.specs.declared.error.CedarError.TheVariants.{Memory, SlotLimit}
+use Rattle.cedar_table.specs.Meaning.Marks.{MarksPut}
+use Rattle.cedar_table.specs.Table.Layouts.{LayoutKind, default_layout, reduced_layout}
+use Rattle.cedarwood.specs.Dictionary.{Dictionary, Grows, first_bytes}
+use Rattle.cedarwood.specs.Fault.{fault, IsShortage}
+
+-- an update of the key with the value v in a dictionary of this layout that may have `slots` slots
+pub record IsUpdate (layout : LayoutKind) (slots : ℕ) (before after : Dictionary) (key : List ℕ) (v : ℤ) (result : Result (Unit {0}) CedarError) : Type 0 where
+  pub faulty : IfSome (fault key v) (λ e. result ≡ Err e)
+  pub unmoved : IsSome (fault key v) → Grows 0 before after
+  pub ok : OnOk result (after.state ≡ stored before.state key v)
+  pub err : OnErr result (after.state ≡ before.state)
+  -- which numbers have slots of their own: by default all
+  pub by_default : OnOk result (layout ≡ default_layout → after.marked ≡ after.state.tree)
+  pub marks : OnOk result (layout ≡ reduced_layout → MarksPut before.state.tree before.marked after.marked key)
+  pub marks_stay : OnErr result (after.marked ≡ before.marked)
+  pub refused : fault key v ≡ None → IfErr result (λ e. IsShortage e × (number_at before.state.tree key ≡ None))
+  pub memory : result ≡ Err Memory → (after.size ≡ after.capacity) × (after.capacity < slots)
+  pub limit : result ≡ Err SlotLimit → after.size ≡ slots
+  pub blocks : (n : ℕ) × (n ≤ length key) × (fault key v ≡ None → OnErr result (n < length key)) × Grows n before after
+  pub spare : 256 * length key ≤ before.capacity - before.size → fault key v ≡ None → IsOk result
+  pub over : IsSome (number_at before.state.tree key) → Grows 0 before after
+  pub one_byte : (b : ℕ) → key ≡ b ∷ [] → has_label before.state.tree.children b ≡ false → fault key v ≡ None
+      → (IsOk result × Grows 0 before after) ⊎ ((layout ≡ default_layout) × (before.size + first_bytes before.state.tree ≡ used before.state.tree + 255))
+  pub max_trial : after.max_trial ≡ before.max_trial

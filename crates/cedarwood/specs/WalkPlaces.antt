@@ -1,0 +1,60 @@
+-- Where walks that are under way stand in a table.
+use Rattle.std.specs.Prelude.{◌≡◌, ◌==◌, cond, ℕ, ◌+◌, ◌<◌, ◌≤◌, ℤ, List, [], ◌∷◌, length, map}
+use Rattle.cedar_tree.specs.Queries.{Entry, node_at, predict}
+use Rattle.cedar_tree.specs.Walks.{entries_of, visits_left}
+use Rattle.cedar_table.specs.declared.walk.visits.Visited.{Visited}
+use Rattle.cedar_table.specs.Walk.Fronts.{IsOnQuery}
+use Rattle.cedar_table.specs.Table.TableFields.{Fields}
+use Rattle.cedar_table.specs.Walk.Visits.{IsBelow, left_at, path_to}
+use Rattle.cedar_table.specs.Meaning.WellFormed.{cells_in, IsWellFormed, tree_of}
+use Rattle.cedarwood.specs.declared.queries.predict.PredictPlace.{PredictPlace}
+use Rattle.cedarwood.specs.declared.queries.predict.PredictPlace.TheVariants.{End, Node, Start}
+
+-- a prefix walk has passed the first bytes of its query, which lead to slot s; or it has ended, and passed them all
+pub record IsPrefixPlace (slots : ℕ) (T : Fields) (query : List ℕ) (place s : ℕ) : Type 0 where
+  pub table : IsWellFormed slots T
+  pub within : place ≤ length query
+  pub on : place < length query → IsOnQuery T query place s
+
+-- the answers that a prediction gives for some entries below its query: their numbers, and how many bytes follow the query
+abbrev pub answers_of : List Entry → List (ℤ × ℕ)
+answers_of entries = map (λ entry. (entry.1, length entry.0)) entries
+
+-- what a prediction has left at a place
+abbrev pub predicted_from : Fields → List ℕ → PredictPlace → List (ℤ × ℕ)
+predicted_from T query Start = predict (tree_of T) query
+predicted_from T query (Node slot depth) = answers_of (entries_of (left_at T query depth slot))
+predicted_from T query End = []
+
+-- it stands at a node below its query
+abbrev pub IsPredictPlace : Fields → List ℕ → PredictPlace → Type 0
+IsPredictPlace T query Start = Unit {0}
+IsPredictPlace T query (Node slot depth) = IsBelow (cells_in T) query depth slot
+IsPredictPlace T query End = Unit {0}
+
+-- at most so many nodes are still to come
+abbrev pub nodes_left : Fields → List ℕ → PredictPlace → ℕ
+nodes_left T query Start = length (visits_left (node_at (tree_of T) query) []) + 2
+nodes_left T query (Node slot depth) = length (left_at T query depth slot) + 1
+nodes_left T query End = 0
+
+-- from a place the walk comes to a node
+pub record GoesOnTo (T : Fields) (query : List ℕ) (place : PredictPlace) (next : Visited) : Type 0 where
+  pub below : IsBelow (cells_in T) query next.depth next.slot
+  pub rest : predicted_from T query place ≡ answers_of (entries_of ((path_to T next.depth next.slot, next.number) ∷ left_at T query next.depth next.slot))
+  pub fewer : nodes_left T query (Node next.slot next.depth) < nodes_left T query place
+
+-- the entries that a walk over all keys has left, where it has been at slot s, at the end of the path `key`, and `left` entries are
+-- still to come
+abbrev pub entries_from : Fields → List ℕ → ℕ → ℕ → List Entry
+entries_from T key s left = cond (left == 0) [] (entries_of (left_at T [] (length key) s))
+
+-- it stands there as long as there are any
+pub record IsEntriesPlace (T : Fields) (key : List ℕ) (s : ℕ) : Type 0 where
+  pub below : IsBelow (cells_in T) [] (length key) s
+  pub path : path_to T (length key) s ≡ key
+
+-- it comes to an entry: the first of those left
+pub record ComesToEntry (T : Fields) (left : List Entry) (key : List ℕ) (found : ℕ × ℤ) : Type 0 where
+  pub place : IsEntriesPlace T key found.0
+  pub entries : left ≡ (key, found.1) ∷ entries_of (left_at T [] (length key) found.0)

@@ -1,0 +1,72 @@
+//! Many pairs stored at once.
+
+ghost use Rattle.std.specs.Prelude.{◌≡◌, map, IfErr, IfSome, IsOk, IsSome, None, OnOk};
+ghost use Rattle.cedar_table.specs.Bulk.Sorted.{entries_of};
+ghost use Rattle.cedarwood.specs.Builds.{all_stored, first_fault, IsBuild, IsRefusedBuild};
+ghost use Rattle.cedarwood.specs.SortedInput.{entries_by};
+
+use crate::pair::check_pair;
+use crate::{CedarError, Layout, Trie};
+use std::alloc::Allocator;
+use std::convert::AsSlice;
+
+impl<L: Layout, const SLOTS: usize, A: Allocator + Copy> Trie<L, SLOTS, A> {
+    /// Stores some pairs, one after another: a key's last value stands. All are tested first.
+    ///
+    /// # Errors
+    /// The fault of the first pair that has one, as of [`Trie::update_bytes`]; then nothing has changed. Without one, `Memory`
+    /// where a request was refused and `SlotLimit` where the limit of slots allows no further block: then the pairs before the
+    /// refused one are stored.
+    pub fn build_bytes(&mut self, pairs: &[(&[u8], i32)]) -> Result<(), CedarError>
+        ensures faulty { IfSome (first_fault (entries_of pairs.now)) (λ e. result ≡ Err e) }
+        ensures unchanged { IsSome (first_fault (entries_of pairs.now)) → self.new ≡ self.old }
+
+        // Without a fault it is as many updates, one after another, of which a refused one is the last.
+        ensures updates { first_fault (entries_of pairs.now) ≡ None → IsBuild L.kind SLOTS self.old (entries_of pairs.now) result self.new }
+
+        // So all pairs are stored, or those before one whose key isn't held then.
+        ensures stored { OnOk result (self.new.state ≡ all_stored self.old.state (entries_of pairs.now)) }
+        ensures refused { first_fault (entries_of pairs.now) ≡ None → IfErr result (IsRefusedBuild SLOTS self.old self.new (entries_of pairs.now)) }
+        ensures max_trial { self.new.max_trial ≡ self.old.max_trial }
+    {
+        self.store_all(pairs)
+    }
+
+    /// `build_bytes` for text keys.
+    ///
+    /// # Errors
+    /// As [`Trie::build_bytes`].
+    pub fn build(&mut self, pairs: &[(&str, i32)]) -> Result<(), CedarError>
+        ensures faulty { IfSome (first_fault (entries_of pairs.now)) (λ e. result ≡ Err e) }
+        ensures unchanged { IsSome (first_fault (entries_of pairs.now)) → self.new ≡ self.old }
+        ensures updates { first_fault (entries_of pairs.now) ≡ None → IsBuild L.kind SLOTS self.old (entries_of pairs.now) result self.new }
+        ensures stored { OnOk result (self.new.state ≡ all_stored self.old.state (entries_of pairs.now)) }
+        ensures refused { first_fault (entries_of pairs.now) ≡ None → IfErr result (IsRefusedBuild SLOTS self.old self.new (entries_of pairs.now)) }
+        ensures max_trial { self.new.max_trial ≡ self.old.max_trial }
+    {
+        self.store_all(pairs)
+    }
+
+    fn store_all<K: AsSlice<u8>>(&mut self, pairs: &[(K, i32)]) -> Result<(), CedarError>
+        ensures faulty { IfSome (first_fault (entries_by K.items pairs.now)) (λ e. result ≡ Err e) }
+        ensures unchanged { IsSome (first_fault (entries_by K.items pairs.now)) → self.new ≡ self.old }
+        ensures updates { first_fault (entries_by K.items pairs.now) ≡ None → IsBuild L.kind SLOTS self.old (entries_by K.items pairs.now) result self.new }
+    {
+        check_pairs(pairs)?;
+        for pair in pairs {
+            self.update_bytes(pair.0.as_slice(), pair.1)?;
+        }
+        Ok(())
+    }
+}
+
+/// Tests some pairs, one after another.
+fn check_pairs<K: AsSlice<u8>>(pairs: &[(K, i32)]) -> Result<(), CedarError>
+    ensures faulty { IfSome (first_fault (entries_by K.items pairs.now)) (λ e. result ≡ Err e) }
+    ensures sound { first_fault (entries_by K.items pairs.now) ≡ None → IsOk result }
+{
+    for pair in pairs {
+        check_pair(pair.0.as_slice(), pair.1)?;
+    }
+    Ok(())
+}

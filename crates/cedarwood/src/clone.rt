@@ -1,0 +1,19 @@
+//! A dictionary copied.
+
+use crate::{Layout, Trie};
+use std::alloc::{AllocError, Allocator};
+
+/// A copy has an equal table, field by field, with the same settings: so it answers as the original does, and saves the same bytes.
+/// A change of the one doesn't show in the other.
+impl<L: Layout, const SLOTS: usize, A: Allocator + Copy> Clone for Trie<L, SLOTS, A> {
+    ghost use Rattle.std.specs.Prelude.{◌≡◌};
+
+    // All that a contract sees of it is equal, its table among it.
+    ghost is_clone = { λ trie copy. copy ≡ trie };
+
+    fn clone(&self) -> Result<Self, AllocError> {
+        Ok(Trie {
+            table: self.table.clone()?,
+        })
+    }
+}

@@ -1,0 +1,63 @@
+//! The figures of a dictionary, and how it is printed.
+
+ghost use Rattle.std.specs.Prelude.{◌≡◌, ◌+◌, ◌*◌, ◌/◌, length};
+ghost use Rattle.cedar_tree.specs.Queries.{prefixes, used, walk};
+ghost use Rattle.cedar_table.specs.Table.Layouts.{default_layout};
+
+use crate::{Layout, Trie};
+use std::alloc::Allocator;
+use std::fmt;
+
+/// The figures of a dictionary, all from one moment.
+#[derive(Clone, Copy, Debug, PartialEq, Eq)]
+pub struct MemoryStats {
+    /// How many keys are held.
+    pub entries: usize,
+    /// How many slots are held, the root's among them.
+    pub used_node_slots: usize,
+    /// How many slots there are, in use or not.
+    pub node_capacity: usize,
+    /// How many bytes the slots, the blocks and the reject values take.
+    pub allocated_bytes: usize,
+}
+
+impl<L: Layout, const SLOTS: usize, A: Allocator + Copy> Trie<L, SLOTS, A> {
+    /// How many bytes the table takes: 10 for each slot, in use or not, 20 for each block of 256 slots, and 514 for the reject
+    /// values. What the allocator keeps beside these isn't counted.
+    pub fn allocated_bytes(&self) -> usize
+        ensures { result ≡ 10 * self.now.capacity + 20 * (self.now.capacity / 256) + 514 }
+    {
+        let capacity = self.table.capacity();
+        10 * capacity + 20 * (capacity / 256) + 514
+    }
+
+    /// The figures, at once: `len`, `used_node_slots`, `node_capacity` and `allocated_bytes`.
+    pub fn memory_stats(&self) -> MemoryStats
+        ensures entries { result.entries ≡ length (walk self.now.state.tree) }
+        ensures used { result.used_node_slots ≡ 1 + length (prefixes self.now.state.tree) + length (walk self.now.marked) }
+        ensures used_by_default { L.kind ≡ default_layout → result.used_node_slots ≡ used self.now.state.tree }
+        ensures capacity { result.node_capacity ≡ self.now.capacity }
+        ensures bytes { result.allocated_bytes ≡ 10 * self.now.capacity + 20 * (self.now.capacity / 256) + 514 }
+    {
+        MemoryStats {
+            entries: self.len(),
+            used_node_slots: self.used_node_slots(),
+            node_capacity: self.node_capacity(),
+            allocated_bytes: self.allocated_bytes(),
+        }
+    }
+}
+
+/// Prints how many keys are held, how many slots are in use, and whether the labels of each node ascend:
+/// `Cedar(entries=1, node_slots=512, ordered=true)`, whatever the layout.
+impl<L: Layout, const SLOTS: usize, A: Allocator> fmt::Debug for Trie<L, SLOTS, A> {
+    fn fmt<W: fmt::Write>(&self, f: &mut fmt::Formatter<W>) -> fmt::Result {
+        let entries = self.table.entries();
+        let node_slots = self.table.size();
+        let ordered = self.table.ordered();
+        write!(
+            f,
+            "Cedar(entries={entries}, node_slots={node_slots}, ordered={ordered})"
+        )
+    }
+}

@@ -1,0 +1,25 @@
+//! Laws of the dictionary's states and files.
+
+ghost use Rattle.std.specs.Prelude.{◌≡◌, List, true};
+ghost use Rattle.cedar_tree.specs.Queries.{asc, Entry};
+ghost use Rattle.cedar_tree.specs.State.{new_state, State};
+ghost use Rattle.cedarwood.specs.Builds.{all_stored};
+ghost use Rattle.cedarwood.specs.Loading.{LoadedFilesSaveAgain, OwnFilesLoad};
+
+/// The state of a sorted input is that which storing its pairs one after another in a new dictionary gives, where labels
+/// ascend: so what `from_sorted_bytes` makes answers as what `build_bytes` of the same pairs makes of a new dictionary.
+pub fn sorted_is_stored_in_turn()
+    ensures { (pairs : List Entry) → all_stored new_state pairs ≡ record { tree = asc pairs; ordered = true } }
+{}
+
+/// What a load makes of the bytes that a save wrote is the same table, if it finds room: `save_to_writer` says that they are
+/// the table's own file, and `LoadAnswers` is what each load says of its answer.
+pub fn saved_tables_load_again()
+    ensures { OwnFilesLoad }
+{}
+
+/// What a load makes of some bytes is saved as these bytes: with `LoadAnswers` of a load that was answered `Ok`, the bytes that
+/// `save_to_writer` appends are those that were read.
+pub fn loaded_files_save_again()
+    ensures { LoadedFilesSaveAgain }
+{}

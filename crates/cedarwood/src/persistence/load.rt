@@ -1,0 +1,133 @@
+//! How a dictionary is loaded.
+
+ghost use Rattle.std.specs.Prelude.{◌≡◌, ◌+◌, ◌*◌, false, true, IfErr, IfOk, IfSome};
+ghost use Rattle.std.specs.Io.KnownBytes.{Consumes};
+ghost use Rattle.cedar_table.specs.Table.Layouts.{layout_byte};
+ghost use Rattle.cedar_slots.specs.Places.{IsSlotLimit};
+ghost use Rattle.cedar_table.specs.Table.TableFields.{fields};
+ghost use Rattle.cedar_table.specs.Meaning.WellFormed.{IsWellFormed};
+ghost use Rattle.cedar_format.specs.Format.{need, trial_refusal, CountsWithin, Passes};
+ghost use Rattle.cedar_format.specs.Reading.{IsIo, IsLack, LacksNoMore};
+ghost use Rattle.cedar_format.specs.Refusal.{refusal, refusal_of, CorruptData};
+ghost use Rattle.cedar_format.specs.Tables.{table_bytes};
+ghost use Rattle.cedar_format.specs.WatchedDevice.{device_of, has_failed};
+ghost use Rattle.cedarwood.specs.Loading.{LoadAnswers};
+
+use crate::persistence::uncounted::uncounted;
+use crate::{CedarPersistenceError, DEFAULT_LOAD_MEMORY_LIMIT, Layout, Ticks, Trie, Watched};
+use cedar_format::{Header, decode_counted, table_of};
+use cedar_table::Corrupt;
+use std::alloc::Allocator;
+use std::io::Read;
+use std::marker::Brand;
+use std::sync::ledger::{Blank, Ledger};
+
+impl<L: Layout, const SLOTS: usize, A: Allocator + Copy> Trie<L, SLOTS, A> {
+    /// Loads the dictionary that was saved. The bytes that are asked of memory are counted, and the records that are read
+    /// to test the table.
+    ///
+    /// # Errors
+    /// The first refusal of the header and of the input's length, if there is one; `CorruptData` where the bytes are of no
+    /// well-formed table; `AllocationFailed` with the number of elements where a request was refused, once the header has
+    /// passed; `Io` where the reader failed.
+    pub fn load_counted<R: Read, C: Ledger, D: Ledger>(
+        alloc: A,
+        reader: &mut Watched<R>,
+        memory_limit: usize,
+        asked: &mut Ticks<C>,
+        reads: &mut Ticks<D>,
+    ) -> Result<Self, CedarPersistenceError>
+        requires limit { IsSlotLimit SLOTS }
+
+        // Whatever the reader does, a dictionary comes only with just the bytes of its table, which is well-formed.
+        ensures bytes { IfOk result (λ trie. Consumes (R.remaining (device_of reader.old)) (R.remaining (device_of reader.new)) (table_bytes trie.table)) }
+        ensures formed { IfOk result (λ trie. IsWellFormed SLOTS trie.table) }
+
+        // A reader that tells its bytes and does not fail gets the answer that they decide.
+        ensures answer { IfSome (R.remaining (device_of reader.old)) (λ bytes. has_failed reader.new ≡ false → LoadAnswers (λ trie. trie.table) L.kind SLOTS memory_limit bytes result) }
+        ensures io { IfErr result (λ e. IsIo e → has_failed reader.new ≡ true) }
+        ensures lacks { IfErr result (LacksNoMore (Passes (layout_byte L.kind) SLOTS memory_limit (R.remaining (device_of reader.old)))) }
+
+        // Before the header has passed nothing is asked of memory and no record is read for the test.
+        ensures asked { CountsWithin (layout_byte L.kind) SLOTS memory_limit (R.remaining (device_of reader.old)) need asked.old asked.new }
+        ensures reads { CountsWithin (layout_byte L.kind) SLOTS memory_limit (R.remaining (device_of reader.old)) (λ h. 16 * h.capacity + 1024) reads.old reads.new }
+    {
+        let decoded = decode_counted(alloc, reader, L::file_byte(), SLOTS, memory_limit, asked)?;
+        check_trials(&decoded.header)?;
+        let table = table_of(decoded, memory_limit);
+        match table.check_well_formed(reads) {
+            Ok(()) => Ok(Trie { table }),
+            Err(corrupt) => Err(refused(corrupt)),
+        }
+    }
+
+    /// Loads the dictionary that was saved, if that asks for `memory_limit` bytes at most.
+    ///
+    /// # Errors
+    /// As `load_counted`.
+    pub fn load_from_reader_with_limit<R: Read>(
+        alloc: A,
+        reader: &mut Watched<R>,
+        memory_limit: usize,
+    ) -> Result<Self, CedarPersistenceError>
+        requires limit { IsSlotLimit SLOTS }
+        ensures bytes { IfOk result (λ trie. Consumes (R.remaining (device_of reader.old)) (R.remaining (device_of reader.new)) (table_bytes trie.table)) }
+        ensures formed { IfOk result (λ trie. IsWellFormed SLOTS trie.table) }
+        ensures answer { IfSome (R.remaining (device_of reader.old)) (λ bytes. has_failed reader.new ≡ false → LoadAnswers (λ trie. trie.table) L.kind SLOTS memory_limit bytes result) }
+        ensures io { IfErr result (λ e. IsIo e → has_failed reader.new ≡ true) }
+        ensures lacks { IfErr result (LacksNoMore (Passes (layout_byte L.kind) SLOTS memory_limit (R.remaining (device_of reader.old)))) }
+    {
+        uncounted::<Brand, Brand, Self, A, R>(
+            alloc,
+            reader,
+            memory_limit,
+            Blank::new(1),
+            Blank::new(1),
+        )
+    }
+
+    /// `load_from_reader_with_limit` with the limit by default, 2^29 bytes.
+    ///
+    /// # Errors
+    /// As `load_counted`.
+    pub fn load_from_reader<R: Read>(
+        alloc: A,
+        reader: &mut Watched<R>,
+    ) -> Result<Self, CedarPersistenceError>
+        requires limit { IsSlotLimit SLOTS }
+        ensures bytes { IfOk result (λ trie. Consumes (R.remaining (device_of reader.old)) (R.remaining (device_of reader.new)) (table_bytes trie.table)) }
+        ensures formed { IfOk result (λ trie. IsWellFormed SLOTS trie.table) }
+        ensures answer { IfSome (R.remaining (device_of reader.old)) (λ bytes. has_failed reader.new ≡ false → LoadAnswers (λ trie. trie.table) L.kind SLOTS 536870912 bytes result) }
+        ensures io { IfErr result (λ e. IsIo e → has_failed reader.new ≡ true) }
+        ensures lacks { IfErr result (LacksNoMore (Passes (layout_byte L.kind) SLOTS 536870912 (R.remaining (device_of reader.old)))) }
+    {
+        Self::load_from_reader_with_limit(alloc, reader, DEFAULT_LOAD_MEMORY_LIMIT)
+    }
+}
+
+/// Tests the number of trials that a header gives.
+fn check_trials(header: &Header) -> Result<(), CedarPersistenceError>
+    ensures refusal { refusal result ≡ trial_refusal header.now }
+    ensures io { IfErr result (λ e. IsIo e → ⊥) }
+    ensures room { IfErr result (λ e. IsLack e → ⊥) }
+{
+    if header.max_trial > 0 {
+        return Ok(());
+    }
+    Err(CedarPersistenceError::InvalidHeader {
+        field: "max_trial",
+        value: u64::from(u32::from_le_bytes(header.max_trial.to_le_bytes())),
+    })
+}
+
+/// The answer to a table that isn't well-formed.
+fn refused(corrupt: Corrupt) -> CedarPersistenceError
+    ensures refusal { refusal_of result ≡ CorruptData }
+    ensures room { IsLack result → ⊥ }
+{
+    CedarPersistenceError::CorruptData {
+        section: corrupt.section,
+        index: corrupt.index,
+        reason: corrupt.reason,
+    }
+}

@@ -1,0 +1,150 @@
+//! The walks of a dictionary: the prefix walk and the prediction, as iterators and collected, and all entries.
+
+ghost use Rattle.std.specs.Prelude.{◌≡◌, ◌<◌, IfErr, IfOk, length};
+ghost use Rattle.cedar_tree.specs.Queries.{front, predict, walk};
+
+use crate::queries::counted::CountedPrefixIter;
+use crate::queries::entries::{Entries, Utf8Entries};
+use crate::queries::predict::PrefixPredictIter;
+use crate::queries::prefix::PrefixIter;
+use crate::{CedarError, Layout, Trie};
+use std::alloc::Allocator;
+use std::sync::ledger::{Blank, Ledger};
+
+impl<L: Layout, const SLOTS: usize, A: Allocator + Copy> Trie<L, SLOTS, A> {
+    /// The fronts of a query that are held, shortest first: for each the value, and one less than the bytes of the front. The walk
+    /// borrows the dictionary and the query, and takes no memory.
+    pub fn common_prefix_iter_bytes<'a>(&'a self, query: &'a [u8]) -> PrefixIter<'a, Self>
+        ensures rest { result.rest ≡ front self.now.state.tree query.now }
+        ensures left { result.left ≡ length query.now }
+        ensures query { result.query ≡ length query.now }
+    {
+        // Its table is well-formed.
+        let _ = &self.table;
+        PrefixIter::new(self, query)
+    }
+
+    /// `common_prefix_iter_bytes` for a text query.
+    pub fn common_prefix_iter<'a>(&'a self, query: &'a str) -> PrefixIter<'a, Self>
+        ensures rest { result.rest ≡ front self.now.state.tree query.now }
+        ensures left { result.left ≡ length query.now }
+        ensures query { result.query ≡ length query.now }
+    {
+        self.common_prefix_iter_bytes(query.as_bytes())
+    }
+
+    /// `common_prefix_iter_bytes`, with a count of the comparisons of a check field that the walk makes: never more than twice as
+    /// many as the query has bytes.
+    pub fn common_prefix_iter_counted<'a, C: Ledger>(
+        &'a self,
+        query: &'a [u8],
+        blank: Blank,
+    ) -> CountedPrefixIter<'a, Self, C>
+        requires name { blank.name ≡ C.name }
+        requires parts { blank.parts ≡ C.parts }
+        requires some { 0 < blank.parts }
+        ensures rest { result.rest ≡ front self.now.state.tree query.now }
+        ensures ticks { result.ticks ≡ 0 }
+        ensures query { result.query ≡ length query.now }
+    {
+        CountedPrefixIter::new(self.common_prefix_iter_bytes(query), blank)
+    }
+
+    /// What `common_prefix_iter_bytes` gives, in a vector.
+    ///
+    /// # Errors
+    /// `Memory` where a request was refused.
+    pub fn common_prefix_search_bytes(
+        &self,
+        query: &[u8],
+    ) -> Result<Vec<(i32, usize), A>, CedarError>
+        ensures found { IfOk result (λ found. found.items ≡ front self.now.state.tree query.now) }
+        ensures refused { IfErr result (λ e. e ≡ CedarError.Memory) }
+    {
+        let found = self
+            .common_prefix_iter_bytes(query)
+            .collect(self.table.allocator())?;
+        Ok(found)
+    }
+
+    /// `common_prefix_search_bytes` for a text query.
+    ///
+    /// # Errors
+    /// `Memory` where a request was refused.
+    pub fn common_prefix_search(&self, query: &str) -> Result<Vec<(i32, usize), A>, CedarError>
+        ensures found { IfOk result (λ found. found.items ≡ front self.now.state.tree query.now) }
+        ensures refused { IfErr result (λ e. e ≡ CedarError.Memory) }
+    {
+        self.common_prefix_search_bytes(query.as_bytes())
+    }
+
+    /// The keys that begin with a query, each before its extensions and in the order of the walk: for each the value, and how many
+    /// bytes follow the query. The walk borrows the dictionary and the query, and takes no memory.
+    pub fn common_prefix_predict_iter_bytes<'a>(
+        &'a self,
+        query: &'a [u8],
+    ) -> PrefixPredictIter<'a, Self>
+        ensures { result ≡ predict self.now.state.tree query.now }
+    {
+        // Its table is well-formed.
+        let _ = &self.table;
+        PrefixPredictIter::new(self, query)
+    }
+
+    /// `common_prefix_predict_iter_bytes` for a text query.
+    pub fn common_prefix_predict_iter<'a>(&'a self, query: &'a str) -> PrefixPredictIter<'a, Self>
+        ensures { result ≡ predict self.now.state.tree query.now }
+    {
+        self.common_prefix_predict_iter_bytes(query.as_bytes())
+    }
+
+    /// What `common_prefix_predict_iter_bytes` gives, in a vector.
+    ///
+    /// # Errors
+    /// `Memory` where a request was refused.
+    pub fn common_prefix_predict_bytes(
+        &self,
+        query: &[u8],
+    ) -> Result<Vec<(i32, usize), A>, CedarError>
+        ensures found { IfOk result (λ found. found.items ≡ predict self.now.state.tree query.now) }
+        ensures refused { IfErr result (λ e. e ≡ CedarError.Memory) }
+    {
+        let found = self
+            .common_prefix_predict_iter_bytes(query)
+            .collect(self.table.allocator())?;
+        Ok(found)
+    }
+
+    /// `common_prefix_predict_bytes` for a text query.
+    ///
+    /// # Errors
+    /// `Memory` where a request was refused.
+    pub fn common_prefix_predict(&self, query: &str) -> Result<Vec<(i32, usize), A>, CedarError>
+        ensures found { IfOk result (λ found. found.items ≡ predict self.now.state.tree query.now) }
+        ensures refused { IfErr result (λ e. e ≡ CedarError.Memory) }
+    {
+        self.common_prefix_predict_bytes(query.as_bytes())
+    }
+
+    /// All keys with their values, in the order of the walk. Each key is copied for its item.
+    ///
+    /// # Errors
+    /// `Memory` where a request was refused.
+    pub fn entries(&self) -> Result<Entries<'_, Self, A>, CedarError>
+        ensures entries { IfOk result (λ entries. entries ≡ walk self.now.state.tree) }
+        ensures refused { IfErr result (λ e. e ≡ CedarError.Memory) }
+    {
+        Ok(Entries::new(self, self.table.allocator(), self.table.entries()))
+    }
+
+    /// `entries` with keys as text.
+    ///
+    /// # Errors
+    /// `Memory` where a request was refused.
+    pub fn entries_str(&self) -> Result<Utf8Entries<'_, Self, A>, CedarError>
+        ensures entries { IfOk result (λ entries. entries ≡ walk self.now.state.tree) }
+        ensures refused { IfErr result (λ e. e ≡ CedarError.Memory) }
+    {
+        Ok(Utf8Entries::new(self.entries()?))
+    }
+}

@@ -1,0 +1,225 @@
+//! All keys and their values.
+
+ghost use Rattle.std.specs.Prelude.{◌≡◌, ◌<◌, List, [], ◌∷◌, ◌↔◌, IfOk, IfSome, IsTrue, length, MatchOption, MatchResult, Some, string_bytes};
+ghost use Rattle.std.specs.Iterator.{item_count, UpTo};
+ghost use Rattle.std.specs.Iterator.SizeHint.{IsWithinCount};
+ghost use Rattle.cedar_tree.specs.Queries.{Entry};
+ghost use Rattle.cedar_tree.specs.Walks.{entries_of};
+ghost use Rattle.cedar_table.specs.Walk.Visits.{left_at};
+ghost use Rattle.cedar_table.specs.Meaning.WellFormed.{IsWellFormed};
+ghost use Rattle.cedar_slots.specs.declared.error.CedarError.TheVariants.{Memory};
+ghost use Rattle.cedarwood.specs.WalkPlaces.{ComesToEntry, IsEntriesPlace};
+ghost use Rattle.cedarwood.specs.Walks.{IsEntryError};
+
+use crate::CedarError;
+use crate::queries::walked::Walked;
+use std::alloc::{AllocError, Allocator};
+use std::iter::FusedIterator;
+use std::marker::Model;
+
+/// All keys with their values, each key before its extensions and in the order of the walk. Each key is copied for its item; where a
+/// request for memory is refused, the error is the last item.
+///
+/// A contract sees the entries that are left.
+#[derive(Drop)]
+pub struct Entries<'a, T: Walked, A: Allocator + Copy> {
+    trie: &'a T,
+    // The node that the walk has been at, and its key.
+    slot: usize,
+    key: Vec<u8, A>,
+    // How many entries are still to come.
+    left: usize,
+}
+
+impl<'a, T: Walked, A: Allocator + Copy> Model for Entries<'a, T, A> {
+    ghost use Rattle.std.specs.Prelude.{◌≡◌, ◌<◌, length, List};
+    ghost use Rattle.cedar_tree.specs.Queries.{Entry};
+    ghost use Rattle.cedar_table.specs.Meaning.WellFormed.{IsWellFormed};
+    ghost use Rattle.cedarwood.specs.WalkPlaces.{entries_from, IsEntriesPlace};
+
+    ghost Value = { List Entry };
+
+    ghost view = { λ it. entries_from (T.shown it.trie.now) it.key.items it.slot it.left };
+
+    ghost invariant = { λ it. IsWellFormed T.slots (T.shown it.trie.now) × (0 < it.left → IsEntriesPlace (T.shown it.trie.now) it.key.items it.slot)
+        × (length (entries_from (T.shown it.trie.now) it.key.items it.slot it.left) ≡ it.left) };
+}
+
+/// Goes on from a node to the next one that has a number: `key` is the path of the one, and becomes that of the other.
+fn next_entry<T: Walked, A: Allocator>(
+    trie: &T,
+    slot: usize,
+    key: &mut Vec<u8, A>,
+) -> Result<Option<(usize, i32)>, AllocError>
+    requires well_formed { IsWellFormed T.slots (T.shown trie.now) }
+    requires place { IsEntriesPlace (T.shown trie.now) key.old.items slot }
+    ensures { IfOk result (λ found. MatchOption found (entries_of (left_at (T.shown trie.now) [] (length key.old.items) slot) ≡ []) (ComesToEntry (T.shown trie.now) (entries_of (left_at (T.shown trie.now) [] (length key.old.items) slot)) key.new.items)) }
+{
+    let mut at = slot;
+    while let Some(next) = trie.next_node(at, key.len()) {
+        key.truncate(next.depth - 1);
+        key.push(next.label)?;
+        at = next.slot;
+        if let Some(number) = next.number {
+            return Ok(Some((at, number)));
+        }
+    }
+    Ok(None)
+}
+
+impl<'a, T: Walked, A: Allocator + Copy> Entries<'a, T, A> {
+    ghost use Rattle.cedar_tree.specs.Queries.{walk};
+    ghost use Rattle.cedar_table.specs.Meaning.WellFormed.{tree_of};
+
+    // All entries, of which there are so many.
+    pub(crate) fn new(trie: &'a T, alloc: A, entries: usize) -> Self
+        requires well_formed { IsWellFormed T.slots (T.shown trie.now) }
+        requires entries { entries ≡ length (walk (tree_of (T.shown trie.now))) }
+        ensures { result ≡ walk (tree_of (T.shown trie.now)) }
+    {
+        Entries {
+            trie,
+            slot: 0,
+            key: Vec::new(alloc),
+            left: entries,
+        }
+    }
+
+    /// How many entries are still to come: none after an error.
+    pub fn len(&self) -> usize
+        ensures { result ≡ length self.now }
+    {
+        self.left
+    }
+
+    /// Whether no entry is still to come.
+    pub fn is_empty(&self) -> bool
+        ensures { IsTrue result ↔ (self.now ≡ []) }
+    {
+        self.left == 0
+    }
+}
+
+impl<'a, T: Walked, A: Allocator + Copy> Iterator for Entries<'a, T, A> {
+    type Item = Result<(Vec<u8, A>, i32), CedarError>;
+
+    ghost next_gives = { λ rest item later. MatchOption item ((rest ≡ []) × (later ≡ [])) (λ found. MatchResult found
+        (λ entry. rest ≡ (entry.0.items, entry.1) ∷ later)
+        (λ error. (error ≡ Memory) × (later ≡ []) × (0 < length rest))) };
+
+    ghost remaining = { item_count (λ (rest : List Entry). rest) };
+
+    fn next(&mut self) -> Option<Result<(Vec<u8, A>, i32), CedarError>> {
+        if self.left == 0 {
+            return None;
+        }
+        match next_copied(self.trie, self.slot, &mut self.key) {
+            Ok(Some((slot, number, key))) => {
+                self.slot = slot;
+                self.left -= 1;
+                Some(Ok((key, number)))
+            }
+            Ok(None) => {
+                self.left = 0;
+                None
+            }
+            Err(_) => {
+                self.left = 0;
+                Some(Err(CedarError::Memory))
+            }
+        }
+    }
+
+    fn size_hint(&self) -> (usize, Option<usize>)
+        ensures lower { IsWithinCount result.0 (item_count (λ (rest : List Entry). rest) self.now) }
+        ensures upper { IfSome result.1 (UpTo (item_count (λ (rest : List Entry). rest) self.now)) }
+        ensures hint { result ≡ (0, Some (length self.now)) }
+    {
+        (0, Some(self.left))
+    }
+}
+
+impl<'a, T: Walked, A: Allocator + Copy> FusedIterator for Entries<'a, T, A> {}
+
+/// `next_entry`, with a copy of the key.
+fn next_copied<T: Walked, A: Allocator + Copy>(
+    trie: &T,
+    slot: usize,
+    key: &mut Vec<u8, A>,
+) -> Result<Option<(usize, i32, Vec<u8, A>)>, AllocError>
+    requires well_formed { IsWellFormed T.slots (T.shown trie.now) }
+    requires place { IsEntriesPlace (T.shown trie.now) key.old.items slot }
+    ensures { IfOk result (λ found. MatchOption found (entries_of (left_at (T.shown trie.now) [] (length key.old.items) slot) ≡ []) (λ entry.
+        (entry.2.items ≡ key.new.items) × ComesToEntry (T.shown trie.now) (entries_of (left_at (T.shown trie.now) [] (length key.old.items) slot)) key.new.items (entry.0, entry.1))) }
+{
+    let Some((found, number)) = next_entry(trie, slot, key)? else {
+        return Ok(None);
+    };
+    let mut copy = Vec::new(*key.allocator());
+    copy.extend_from_slice(key)?;
+    Ok(Some((found, number, copy)))
+}
+
+/// Why a text entry can't be given.
+#[derive(Clone, Copy, Debug, PartialEq, Eq)]
+pub enum EntryError {
+    /// The key isn't UTF-8.
+    Utf8,
+    /// A request for memory was refused.
+    Memory,
+}
+
+/// `Entries` with keys as text. A key that isn't UTF-8 gives an error in its place, and the walk goes on.
+///
+/// A contract sees the entries that are left.
+#[derive(Drop)]
+pub struct Utf8Entries<'a, T: Walked, A: Allocator + Copy> {
+    entries: Entries<'a, T, A>,
+}
+
+impl<'a, T: Walked, A: Allocator + Copy> Model for Utf8Entries<'a, T, A> {
+    ghost use Rattle.std.specs.Prelude.{List};
+    ghost use Rattle.cedar_tree.specs.Queries.{Entry};
+
+    ghost Value = { List Entry };
+
+    ghost view = { λ it. it.entries };
+}
+
+impl<'a, T: Walked, A: Allocator + Copy> Utf8Entries<'a, T, A> {
+    pub(crate) fn new(entries: Entries<'a, T, A>) -> Self
+        ensures { result ≡ entries.entry }
+    {
+        Utf8Entries { entries }
+    }
+}
+
+impl<'a, T: Walked, A: Allocator + Copy> Iterator for Utf8Entries<'a, T, A> {
+    type Item = Result<(String<A>, i32), EntryError>;
+
+    ghost next_gives = { λ rest item later. MatchOption item ((rest ≡ []) × (later ≡ [])) (λ found. MatchResult found
+        (λ entry. rest ≡ (string_bytes entry.0, entry.1) ∷ later)
+        (λ error. IsEntryError rest error later)) };
+
+    ghost remaining = { item_count (λ (rest : List Entry). rest) };
+
+    fn next(&mut self) -> Option<Result<(String<A>, i32), EntryError>> {
+        match self.entries.next()? {
+            Ok((key, number)) => match String::from_utf8(key) {
+                Ok(text) => Some(Ok((text, number))),
+                Err(_) => Some(Err(EntryError::Utf8)),
+            },
+            Err(_) => Some(Err(EntryError::Memory)),
+        }
+    }
+
+    fn size_hint(&self) -> (usize, Option<usize>)
+        ensures lower { IsWithinCount result.0 (item_count (λ (rest : List Entry). rest) self.now) }
+        ensures upper { IfSome result.1 (UpTo (item_count (λ (rest : List Entry). rest) self.now)) }
+        ensures hint { result ≡ (0, Some (length self.now)) }
+    {
+        self.entries.size_hint()
+    }
+}
+
+impl<'a, T: Walked, A: Allocator + Copy> FusedIterator for Utf8Entries<'a, T, A> {}

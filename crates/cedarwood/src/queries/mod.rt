@@ -1,0 +1,9 @@
+//! What a dictionary answers: exact searches, prefix walks, predictions and entries.
+
+mod calls;
+pub(crate) mod counted;
+pub(crate) mod entries;
+pub(crate) mod exact;
+pub(crate) mod predict;
+pub(crate) mod prefix;
+pub(crate) mod walked;

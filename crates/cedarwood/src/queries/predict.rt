@@ -1,0 +1,124 @@
+//! The prediction: the numbers of all keys that begin with a query.
+
+ghost use Rattle.std.specs.Prelude.{◌≡◌, ⊤, ℕ, ℤ, List, [], IfSome, None, MatchOption};
+ghost use Rattle.std.specs.Iterator.{item_count, UpTo, YieldsFirst};
+ghost use Rattle.std.specs.Iterator.SizeHint.{IsWithinCount};
+ghost use Rattle.cedar_table.specs.Meaning.WellFormed.{IsWellFormed};
+ghost use Rattle.cedarwood.specs.WalkPlaces.{GoesOnTo, IsPredictPlace, predicted_from};
+
+use crate::queries::walked::Walked;
+use cedar_table::Visited;
+use std::alloc::AllocError;
+use std::iter::FusedIterator;
+use std::marker::Model;
+
+/// Where the walk stands.
+#[derive(Clone, Copy)]
+pub(crate) enum PredictPlace {
+    /// The query's node hasn't been looked for.
+    Start,
+    /// It has been at this node, so many labels below the query's, and not yet below it.
+    Node { slot: usize, depth: usize },
+    /// Nothing is left.
+    End,
+}
+
+/// The keys that begin with a query, each before its extensions and in the order of the walk: for each the value, and how many bytes
+/// follow the query. It takes no memory, and a clone goes on from the same place.
+///
+/// A contract sees the items that are left.
+#[derive(Drop)]
+pub struct PrefixPredictIter<'a, T: Walked> {
+    trie: &'a T,
+    query: &'a [u8],
+    place: PredictPlace,
+}
+
+impl<'a, T: Walked> Model for PrefixPredictIter<'a, T> {
+    ghost use Rattle.std.specs.Prelude.{ℕ, ℤ, List};
+
+    ghost Value = { List (ℤ × ℕ) };
+
+    ghost use Rattle.cedar_table.specs.Meaning.WellFormed.{IsWellFormed};
+    ghost use Rattle.cedarwood.specs.WalkPlaces.{IsPredictPlace, predicted_from};
+
+    ghost view = { λ it. predicted_from (T.shown it.trie.now) it.query.now it.place };
+
+    ghost invariant = { λ it. IsWellFormed T.slots (T.shown it.trie.now) × IsPredictPlace (T.shown it.trie.now) it.query.now it.place };
+}
+
+impl<'a, T: Walked> PrefixPredictIter<'a, T> {
+    ghost use Rattle.cedar_tree.specs.Queries.{predict};
+    ghost use Rattle.cedar_table.specs.Meaning.WellFormed.{IsWellFormed, tree_of};
+
+    // Before the query's node is looked for.
+    pub(crate) fn new(trie: &'a T, query: &'a [u8]) -> Self
+        requires { IsWellFormed T.slots (T.shown trie.now) }
+        ensures { result ≡ predict (tree_of (T.shown trie.now)) query.now }
+    {
+        PrefixPredictIter {
+            trie,
+            query,
+            place: PredictPlace::Start,
+        }
+    }
+}
+
+/// The node that a walk comes to next.
+fn visited_next<T: Walked>(trie: &T, query: &[u8], place: PredictPlace) -> Option<Visited>
+    requires well_formed { IsWellFormed T.slots (T.shown trie.now) }
+    requires place { IsPredictPlace (T.shown trie.now) query.now place }
+    ensures { MatchOption result (predicted_from (T.shown trie.now) query.now place ≡ []) (GoesOnTo (T.shown trie.now) query.now place) }
+{
+    match place {
+        PredictPlace::Start => trie.start(query),
+        PredictPlace::Node { slot, depth } => trie.next_node(slot, depth),
+        PredictPlace::End => None,
+    }
+}
+
+impl<'a, T: Walked> Clone for PrefixPredictIter<'a, T> {
+    ghost is_clone = { λ it copy. copy ≡ it };
+
+    ghost is_infallible = { λ _. ⊤ };
+
+    fn clone(&self) -> Result<Self, AllocError> {
+        Ok(PrefixPredictIter {
+            trie: self.trie,
+            query: self.query,
+            place: self.place,
+        })
+    }
+}
+
+impl<'a, T: Walked> Iterator for PrefixPredictIter<'a, T> {
+    type Item = (i32, usize);
+
+    ghost next_gives = { YieldsFirst (λ (rest : List (ℤ × ℕ)). rest) };
+
+    ghost remaining = { item_count (λ (rest : List (ℤ × ℕ)). rest) };
+
+    fn next(&mut self) -> Option<(i32, usize)> {
+        while let Some(next) = visited_next(self.trie, self.query, self.place) {
+            self.place = PredictPlace::Node {
+                slot: next.slot,
+                depth: next.depth,
+            };
+            if let Some(number) = next.number {
+                return Some((number, next.depth));
+            }
+        }
+        self.place = PredictPlace::End;
+        None
+    }
+
+    fn size_hint(&self) -> (usize, Option<usize>)
+        ensures lower { IsWithinCount result.0 (item_count (λ (rest : List (ℤ × ℕ)). rest) self.now) }
+        ensures upper { IfSome result.1 (UpTo (item_count (λ (rest : List (ℤ × ℕ)). rest) self.now)) }
+        ensures hint { result ≡ (0, None) }
+    {
+        (0, None)
+    }
+}
+
+impl<'a, T: Walked> FusedIterator for PrefixPredictIter<'a, T> {}

@@ -1,0 +1,143 @@
+//! The prefix walk: the numbers of the fronts of a query that are held.
+
+ghost use Rattle.std.specs.Prelude.{◌≡◌, ◌+◌, ◌*◌, ◌<◌, ◌≤◌, ⊤, IfSome, Some, length};
+ghost use Rattle.std.specs.Iterator.{item_count, MakesProgress, UpTo, YieldsFirst};
+ghost use Rattle.std.specs.Iterator.SizeHint.{IsWithinCount};
+ghost use Rattle.cedarwood.specs.Walks.{PrefixWalk};
+
+use crate::Ticks;
+use crate::queries::walked::Walked;
+use std::alloc::AllocError;
+use std::iter::FusedIterator;
+use std::marker::{Brand, Model};
+use std::sync::ledger::{Blank, Ledger};
+
+/// The fronts of a query that are held, shortest first: for each the value, and one less than the bytes of the front. It takes no
+/// memory, and a clone goes on from the same place.
+///
+/// A contract sees the items that are left, how many bytes of the query are still to be looked at, and how many it has.
+#[derive(Drop)]
+pub struct PrefixIter<'a, T: Walked> {
+    trie: &'a T,
+    query: &'a [u8],
+    // How many bytes of the query the walk has passed, all of them once it has ended; and the node that they lead to.
+    place: usize,
+    node: usize,
+}
+
+impl<'a, T: Walked> Model for PrefixIter<'a, T> {
+    ghost use Rattle.std.specs.Prelude.{◌-◌, length};
+    ghost use Rattle.cedar_tree.specs.Walks.{front_from};
+    ghost use Rattle.cedar_table.specs.Meaning.WellFormed.{tree_of};
+    ghost use Rattle.cedarwood.specs.Walks.{PrefixWalk, prefix_walk_code};
+    ghost use Rattle.cedarwood.specs.WalkPlaces.{IsPrefixPlace};
+
+    ghost Value = { PrefixWalk };
+
+    ghost coded = { prefix_walk_code };
+
+    ghost view = { λ it. record {
+      rest = front_from (tree_of (T.shown it.trie.now)) it.query.now it.place;
+      left = length it.query.now - it.place;
+      query = length it.query.now;
+    } };
+
+    ghost invariant = { λ it. IsPrefixPlace T.slots (T.shown it.trie.now) it.query.now it.place it.node };
+}
+
+impl<'a, T: Walked> PrefixIter<'a, T> {
+    ghost use Rattle.cedar_tree.specs.Queries.{front};
+    ghost use Rattle.cedar_table.specs.Meaning.WellFormed.{IsWellFormed, tree_of};
+
+    // Before the first byte of the query.
+    pub(crate) fn new(trie: &'a T, query: &'a [u8]) -> Self
+        requires { IsWellFormed T.slots (T.shown trie.now) }
+        ensures rest { result.rest ≡ front (tree_of (T.shown trie.now)) query.now }
+        ensures left { result.left ≡ length query.now }
+        ensures query { result.query ≡ length query.now }
+    {
+        PrefixIter {
+            trie,
+            query,
+            place: 0,
+            node: 0,
+        }
+    }
+
+    /// The next item. Each comparison of a check field is counted, two for a byte of the query at most: so a whole walk makes at most
+    /// twice as many as the query has bytes.
+    pub fn next_counted<C: Ledger>(&mut self, ticks: &mut Ticks<C>) -> Option<(i32, usize)>
+        ensures gives { YieldsFirst (λ (walk : PrefixWalk). walk.rest) self.old result self.new }
+        ensures query { self.new.query ≡ self.old.query }
+        ensures cost { ticks.new + 2 * self.new.left ≤ ticks.old + 2 * self.old.left }
+    {
+        if self.place == self.query.len() {
+            return None;
+        }
+        let Some(front) = self
+            .trie
+            .next_front(self.query, self.place, self.node, ticks)
+        else {
+            self.place = self.query.len();
+            return None;
+        };
+        self.place = front.len;
+        self.node = front.slot;
+        Some((front.number, front.len - 1))
+    }
+}
+
+impl<'a, T: Walked> Clone for PrefixIter<'a, T> {
+    ghost is_clone = { λ it copy. copy ≡ it };
+
+    ghost is_infallible = { λ _. ⊤ };
+
+    fn clone(&self) -> Result<Self, AllocError> {
+        Ok(PrefixIter {
+            trie: self.trie,
+            query: self.query,
+            place: self.place,
+            node: self.node,
+        })
+    }
+}
+
+impl<'a, T: Walked> Iterator for PrefixIter<'a, T> {
+    type Item = (i32, usize);
+
+    ghost next_gives = { YieldsFirst (λ (walk : PrefixWalk). walk.rest) };
+
+    ghost remaining = { item_count (λ (walk : PrefixWalk). walk.rest) };
+
+    fn next(&mut self) -> Option<(i32, usize)>
+        ensures steps { YieldsFirst (λ (walk : PrefixWalk). walk.rest) self.old result self.new }
+        ensures goes { MakesProgress (λ (_ : PrefixWalk). ⊤) (item_count (λ (walk : PrefixWalk). walk.rest)) self.old result self.new }
+        ensures query { self.new.query ≡ self.old.query }
+    {
+        uncounted_step::<Brand, T>(self, Blank::new(1))
+    }
+
+    fn size_hint(&self) -> (usize, Option<usize>)
+        ensures lower { IsWithinCount result.0 (item_count (λ (walk : PrefixWalk). walk.rest) self.now) }
+        ensures upper { IfSome result.1 (UpTo (item_count (λ (walk : PrefixWalk). walk.rest) self.now)) }
+        ensures hint { result ≡ (0, Some self.now.query) }
+    {
+        (0, Some(self.query.len()))
+    }
+}
+
+impl<'a, T: Walked> FusedIterator for PrefixIter<'a, T> {}
+
+/// Takes a step with a count of its own, which nothing reads.
+fn uncounted_step<C: Ledger, T: Walked>(
+    walk: &mut PrefixIter<'_, T>,
+    blank: Blank,
+) -> Option<(i32, usize)>
+    requires name { blank.name ≡ C.name }
+    requires parts { blank.parts ≡ C.parts }
+    requires some { 0 < blank.parts }
+    ensures gives { YieldsFirst (λ (walk : PrefixWalk). walk.rest) walk.old result walk.new }
+    ensures query { walk.new.query ≡ walk.old.query }
+{
+    walk.next_counted(&mut Ticks::<C>::new(blank))
+}

@@ -1,0 +1,75 @@
+//! What walks that are under way ask of a dictionary.
+
+use crate::{Layout, Ticks, Trie};
+use cedar_table::{Front, Visited};
+use std::alloc::Allocator;
+use std::sync::ledger::Ledger;
+
+/// A dictionary, as its walks see it: any [`Trie`]. A walk knows it by this trait alone, since a call on a type with a const
+/// parameter asks for the size of that type, of which a borrow says nothing.
+pub trait Walked {
+    ghost use Rattle.std.specs.Prelude.{◌≡◌, ℕ, List, ◌∷◌, [], ◌+◌, ◌*◌, ◌-◌, ◌<◌, ◌≤◌, length, MatchOption};
+    ghost use Rattle.cedar_tree.specs.Tree.{empty_tree};
+    ghost use Rattle.cedar_tree.specs.Queries.{node_at};
+    ghost use Rattle.cedar_tree.specs.Walks.{front_from};
+    ghost use Rattle.cedar_table.specs.Walk.Fronts.{IsOnQuery, passed};
+    ghost use Rattle.cedar_table.specs.Table.TableFields.{Fields};
+    ghost use Rattle.cedar_table.specs.Walk.Visits.{ComesTo, IsBelow, left_at, path_to};
+    ghost use Rattle.cedar_table.specs.Meaning.WellFormed.{cells_in, IsWellFormed, tree_of};
+
+    /// How many slots it may have, and the table that it is kept in.
+    ghost slots: { ℕ };
+
+    ghost shown: { Self → Fields };
+
+    /// The next front of a query that is held.
+    fn next_front<C: Ledger>(
+        &self,
+        query: &[u8],
+        place: usize,
+        node: usize,
+        ticks: &mut Ticks<C>,
+    ) -> Option<Front>
+        requires well_formed { IsWellFormed slots (shown self.now) }
+        requires on { IsOnQuery (shown self.now) query.now place node }
+        ensures answer { MatchOption result (front_from (tree_of (shown self.now)) query.now place ≡ []) (λ front.
+            (0 < front.len) × (front_from (tree_of (shown self.now)) query.now place ≡ (front.number, front.len - 1) ∷ front_from (tree_of (shown self.now)) query.now front.len)) }
+        ensures on { MatchOption result (place ≤ length query.now) (λ front. (place < front.len) × IsOnQuery (shown self.now) query.now front.len front.slot) }
+        ensures cost { ticks.new ≤ ticks.old + 2 * (passed query.now result - place) };
+
+    /// The slot of a query's node, if there is one, and the node's number, if it has one.
+    fn start(&self, query: &[u8]) -> Option<Visited>
+        requires { IsWellFormed slots (shown self.now) }
+        ensures { MatchOption result (node_at (tree_of (shown self.now)) query.now ≡ empty_tree) (λ first.
+            (first.depth ≡ 0) × IsBelow (cells_in (shown self.now)) query.now 0 first.slot × (first.number ≡ (node_at (tree_of (shown self.now)) query.now).number)) };
+
+    /// The next node of a walk.
+    fn next_node(&self, node: usize, depth: usize) -> Option<Visited>
+        requires well_formed { IsWellFormed slots (shown self.now) }
+        requires below { (start : List ℕ) × IsBelow (cells_in (shown self.now)) start depth node }
+        ensures { (start : List ℕ) → IsBelow (cells_in (shown self.now)) start depth node → MatchOption result (left_at (shown self.now) start depth node ≡ []) (ComesTo (shown self.now) start (left_at (shown self.now) start depth node) (path_to (shown self.now) depth node)) };
+}
+
+impl<L: Layout, const SLOTS: usize, A: Allocator + Copy> Walked for Trie<L, SLOTS, A> {
+    ghost slots = { SLOTS };
+
+    ghost shown = { λ trie. trie.table };
+
+    fn next_front<C: Ledger>(
+        &self,
+        query: &[u8],
+        place: usize,
+        node: usize,
+        ticks: &mut Ticks<C>,
+    ) -> Option<Front> {
+        self.table.next_held_front(query, place, node, ticks)
+    }
+
+    fn start(&self, query: &[u8]) -> Option<Visited> {
+        self.table.walk_start(query)
+    }
+
+    fn next_node(&self, node: usize, depth: usize) -> Option<Visited> {
+        self.table.node_after(node, depth)
+    }
+}

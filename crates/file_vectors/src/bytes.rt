@@ -1,0 +1,198 @@
+//! Saved files byte by byte, and dictionaries that are saved and loaded.
+use cedarwood::{Cedar, CedarBuilder, CedarPersistenceError, DefaultLayout, Layout, Trie, Watched};
+use std::alloc::{AllocError, Global};
+use std::test::Fail;
+
+/// A dictionary of a layout.
+pub type Full<L> = Trie<L, 1073741824, Global>;
+
+/// The bytes of a saved dictionary.
+pub fn saved<L: Layout>(alloc: Global, trie: &Full<L>) -> Result<Vec<u8>, CedarPersistenceError> {
+    let mut writer = Watched::new(Vec::new(alloc));
+    trie.save_to_writer(&mut writer)?;
+    Ok(writer.into_inner())
+}
+
+/// The dictionary of some bytes, read as of a layout.
+#[tactic(auto, using(cedarwood::proofs::DictionaryLemmas::default_limit))]
+pub fn loaded_as<L: Layout>(alloc: Global, bytes: &[u8]) -> Result<Full<L>, CedarPersistenceError> {
+    Trie::load_from_reader(alloc, &mut Watched::new(bytes))
+}
+
+/// The dictionary of some bytes.
+pub fn loaded(alloc: Global, bytes: &[u8]) -> Result<Cedar<Global>, CedarPersistenceError> {
+    loaded_as::<DefaultLayout>(alloc, bytes)
+}
+
+/// The dictionary of the first bytes.
+pub fn loaded_front(
+    alloc: Global,
+    bytes: &[u8],
+    len: usize,
+) -> Result<Cedar<Global>, CedarPersistenceError> {
+    loaded(alloc, &bytes[..len.min(bytes.len())])
+}
+
+/// Changes a byte of a file.
+pub fn set(file: &mut [u8], at: usize, byte: u8) {
+    if at < file.len() {
+        file[at] = byte;
+    }
+}
+
+/// The header of a file with these heads and sizes.
+fn header(
+    alloc: Global,
+    open_head: i32,
+    capacity: u64,
+    entries: u64,
+) -> Result<Vec<u8>, AllocError> {
+    let mut bytes = Vec::from_slice(alloc, b"CEDARW\0\0\x01\0\0\0\x01\0\x01\0\x01\0\0\0")?;
+    bytes.extend_from_slice(&[0; 8])?;
+    bytes.extend_from_slice(&open_head.to_le_bytes())?;
+    for size in [
+        capacity,
+        capacity,
+        capacity / 256,
+        257,
+        capacity,
+        capacity,
+        entries,
+    ] {
+        bytes.extend_from_slice(&size.to_le_bytes())?;
+    }
+    Ok(bytes)
+}
+
+fn put_node(bytes: &mut Vec<u8>, base: i32, check: i32) -> Result<(), AllocError> {
+    bytes.extend_from_slice(&base.to_le_bytes())?;
+    bytes.extend_from_slice(&check.to_le_bytes())
+}
+
+fn put_block(bytes: &mut Vec<u8>, place: i32, num: i16, e_head: i32) -> Result<(), AllocError> {
+    bytes.extend_from_slice(&place.to_le_bytes())?;
+    bytes.extend_from_slice(&place.to_le_bytes())?;
+    bytes.extend_from_slice(&num.to_le_bytes())?;
+    bytes.extend_from_slice(&257i16.to_le_bytes())?;
+    bytes.extend_from_slice(&[0; 4])?;
+    bytes.extend_from_slice(&e_head.to_le_bytes())
+}
+
+fn put_rejects(bytes: &mut Vec<u8>) -> Result<(), AllocError> {
+    for free in 0..257i16 {
+        bytes.extend_from_slice(&(free + 1).to_le_bytes())?;
+    }
+    Ok(())
+}
+
+/// The file of a new dictionary.
+pub fn empty_file(alloc: Global) -> Result<Vec<u8>, AllocError> {
+    let mut bytes = header(alloc, 0, 256, 0)?;
+    put_node(&mut bytes, 0, -1)?;
+    put_node(&mut bytes, -255, -2)?;
+    for slot in 2..255usize {
+        put_node(&mut bytes, 1 - slot as i32, -1 - slot as i32)?;
+    }
+    put_node(&mut bytes, -254, -1)?;
+    bytes.extend_from_slice(&[0; 512])?;
+    put_block(&mut bytes, 0, 256, 1)?;
+    put_rejects(&mut bytes)?;
+    Ok(bytes)
+}
+
+/// The file of the key `a` with 7.
+pub fn one_key_file(alloc: Global) -> Result<Vec<u8>, AllocError> {
+    let mut bytes = header(alloc, 1, 512, 1)?;
+    put_node(&mut bytes, 0, -1)?;
+    put_node(&mut bytes, -255, -2)?;
+    for slot in 2..255usize {
+        match slot {
+            96 => put_node(&mut bytes, -95, -98)?,
+            97 => put_node(&mut bytes, 256, 0)?,
+            98 => put_node(&mut bytes, -96, -99)?,
+            _ => put_node(&mut bytes, 1 - slot as i32, -1 - slot as i32)?,
+        }
+    }
+    put_node(&mut bytes, -254, -1)?;
+    put_node(&mut bytes, 7, 97)?;
+    put_node(&mut bytes, -511, -258)?;
+    for slot in 258..511usize {
+        put_node(&mut bytes, 1 - slot as i32, -1 - slot as i32)?;
+    }
+    put_node(&mut bytes, -510, -257)?;
+    bytes.extend_from_slice(&[97])?;
+    bytes.extend_from_slice(&[0; 1023])?;
+    put_block(&mut bytes, 0, 255, 1)?;
+    put_block(&mut bytes, 1, 255, 257)?;
+    put_rejects(&mut bytes)?;
+    Ok(bytes)
+}
+
+#[test]
+fn a_new_dictionary(rt: HostRuntime) -> Result<(), Fail> {
+    let bytes = saved(rt.alloc(), &Cedar::new(rt.alloc())?)?;
+    assert_eq!(&rt; bytes.len(), 3182);
+    assert!(&rt; bytes == empty_file(rt.alloc())?);
+    let again = loaded(rt.alloc(), &bytes)?;
+    assert_eq!(&rt; (again.len(), again.used_node_slots()), (0, 1));
+    Ok(())
+}
+
+#[test]
+fn one_key(rt: HostRuntime) -> Result<(), Fail> {
+    let mut cedar = Cedar::new(rt.alloc())?;
+    cedar.update("a", 7)?;
+    let bytes = saved(rt.alloc(), &cedar)?;
+    assert_eq!(&rt; bytes.len(), 5762);
+    assert!(&rt; bytes == one_key_file(rt.alloc())?);
+    let mut again = loaded(rt.alloc(), &bytes)?;
+    assert_eq!(&rt; again.exact_match_search("a"), Some((7, 1)));
+    assert_eq!(&rt; (again.len(), again.used_node_slots()), (1, 3));
+    again.update("ab", 8)?;
+    assert_eq!(&rt; again.exact_match_search("ab"), Some((8, 2)));
+    assert!(&rt; again.erase("a"));
+    assert_eq!(&rt; (again.len(), again.used_node_slots()), (1, 4));
+    Ok(())
+}
+
+// The settings come from the file, and it saves as the same bytes.
+#[test]
+fn settings_are_kept(rt: HostRuntime) -> Result<(), Fail> {
+    let builder = CedarBuilder::new().ordered(false).max_trial(3)?;
+    let mut cedar = builder.build(rt.alloc())?;
+    for (key, value) in [("b", 1), ("a", 2), ("c", 3)] {
+        cedar.update(key, value)?;
+    }
+    let bytes = saved(rt.alloc(), &cedar)?;
+    assert_eq!(&rt; (bytes.get(14), bytes.get(16)), (Some(&0), Some(&3)));
+    let again = loaded(rt.alloc(), &bytes)?;
+    for (key, value) in [("b", 1), ("a", 2), ("c", 3)] {
+        assert_eq!(&rt; again.exact_match_search(key), Some((value, 1)));
+    }
+    assert!(&rt; saved(rt.alloc(), &again)? == bytes);
+    Ok(())
+}
+
+// A dictionary of some thousand keys goes on as the saved one: the same calls leave the same bytes.
+#[test]
+fn many_keys(rt: HostRuntime) -> Result<(), Fail> {
+    let mut cedar = Cedar::new(rt.alloc())?;
+    for number in 0..3000u32 {
+        let mixed = number.wrapping_mul(2654435761);
+        let mut key = mixed.to_be_bytes();
+        for byte in &mut key {
+            *byte |= 1;
+        }
+        cedar.update_bytes(&key, number as i32)?;
+    }
+    let bytes = saved(rt.alloc(), &cedar)?;
+    let mut again = loaded(rt.alloc(), &bytes)?;
+    assert!(&rt; saved(rt.alloc(), &again)? == bytes);
+    assert_eq!(&rt; again.len(), cedar.len());
+    for key in ["x", "xy", "xyz", "longer"] {
+        cedar.update(key, 1)?;
+        again.update(key, 1)?;
+    }
+    assert!(&rt; saved(rt.alloc(), &again)? == saved(rt.alloc(), &cedar)?);
+    Ok(())
+}

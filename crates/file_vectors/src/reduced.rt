@@ -1,0 +1,71 @@
+//! Files of the reduced layout.
+use crate::bytes::{Full, empty_file, loaded, loaded_as, saved, set};
+use cedarwood::{Cedar, CedarBuilder, CedarError, CedarPersistenceError, ReducedLayout, Trie};
+use std::alloc::{AllocError, Global};
+use std::test::Fail;
+
+#[tactic(auto, using(cedarwood::proofs::DictionaryLemmas::default_limit))]
+fn empty(alloc: Global) -> Result<Full<ReducedLayout>, CedarError> {
+    Trie::with(alloc, CedarBuilder::new())
+}
+
+fn set_node(file: &mut [u8], slot: usize, base: i32, check: i32) {
+    let at = slot.wrapping_mul(8).wrapping_add(88);
+    for (place, byte) in base.to_le_bytes().iter().enumerate() {
+        set(file, at.wrapping_add(place), *byte);
+    }
+    for (place, byte) in check.to_le_bytes().iter().enumerate() {
+        set(file, at.wrapping_add(place).wrapping_add(4), *byte);
+    }
+}
+
+// The file of the key `a` with 7, which stands in the node's own slot.
+fn one_key_file(alloc: Global) -> Result<Vec<u8>, AllocError> {
+    let mut file = empty_file(alloc)?;
+    for (at, byte) in [(13, 1), (80, 1), (2136, 97), (2656, 255), (2657, 0)] {
+        set(&mut file, at, byte);
+    }
+    for (slot, base, check) in [(0, -1, -1), (96, -95, -98), (97, 7, 0), (98, -96, -99)] {
+        set_node(&mut file, slot, base, check);
+    }
+    Ok(file)
+}
+
+#[test]
+fn one_key(rt: HostRuntime) -> Result<(), Fail> {
+    let mut trie = empty(rt.alloc())?;
+    trie.update("a", 7)?;
+    let bytes = saved(rt.alloc(), &trie)?;
+    assert_eq!(&rt; bytes.len(), 3182);
+    assert!(&rt; bytes == one_key_file(rt.alloc())?);
+    let again = loaded_as::<ReducedLayout>(rt.alloc(), &bytes)?;
+    assert_eq!(&rt; again.exact_match_search("a"), Some((7, 1)));
+    assert_eq!(&rt; (again.len(), again.used_node_slots()), (1, 2));
+    Ok(())
+}
+
+// A file of one layout is none of the other.
+#[test]
+fn the_other_layout(rt: HostRuntime) -> Result<(), Fail> {
+    let file = one_key_file(rt.alloc())?;
+    assert!(&rt;
+        matches!(
+            loaded(rt.alloc(), &file),
+            Err(CedarPersistenceError::LayoutMismatch {
+                expected: 0,
+                found: 1
+            })
+        )
+    );
+    let file = saved(rt.alloc(), &Cedar::new(rt.alloc())?)?;
+    assert!(&rt;
+        matches!(
+            loaded_as::<ReducedLayout>(rt.alloc(), &file),
+            Err(CedarPersistenceError::LayoutMismatch {
+                expected: 1,
+                found: 0
+            })
+        )
+    );
+    Ok(())
+}

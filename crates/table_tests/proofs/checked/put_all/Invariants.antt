@@ -1,0 +1,6 @@
+use Rattle.cedar_table.specs.Table.TableFields.{fields}
+use Rattle.cedar_table.specs.Meaning.WellFormed.{IsWellFormed}
+use Rattle.table_tests.proofs.checked.put_all.Given as goal
+
+abbrev pub invariant-loop-key : goal.invariant-loop-key
+invariant-loop-key l = IsWellFormed 1024 (fields l.table)

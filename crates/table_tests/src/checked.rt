@@ -1,0 +1,275 @@
+//! Tables that stand for a tree, and tables that don't.
+
+ghost use Rattle.std.specs.Prelude.{◌≡◌, ◌<◌, IfOk};
+ghost use Rattle.cedar_slots.specs.Places.{IsTable};
+ghost use Rattle.cedar_table.specs.Table.TableFields.{fields};
+ghost use Rattle.cedar_table.specs.Meaning.WellFormed.{IsWellFormed};
+
+use crate::keys::put;
+use crate::steps::take;
+use cedar_table::{CedarError, DefaultLayout, NInfoRecord, NodeRecord, Table, Ticks};
+use std::alloc::Global;
+use std::marker::Brand;
+use std::process::Abort;
+use std::sync::ledger::{Blank, Ledger};
+use std::test::Fail;
+
+type Small = Table<DefaultLayout, 1024, Global>;
+
+/// The part of the table, the place and the reason of a fault, and none in a table that stands for a tree.
+fn fault<C: Ledger>(
+    table: &Small,
+    ticks: &mut Ticks<C>,
+) -> Option<(&'static str, usize, &'static str)>
+    requires { IsTable 1024 (fields table.now).places }
+{
+    match table.check_tree(ticks) {
+        Ok(()) => None,
+        Err(fault) => Some((fault.section, fault.index, fault.reason)),
+    }
+}
+
+/// Puts a number at each of some keys.
+fn put_all(table: &mut Small, keys: &[&[u8]]) -> Result<(), CedarError>
+    requires { IsWellFormed 1024 (fields table.old) }
+    ensures { IsWellFormed 1024 (fields table.new) }
+{
+    for key in keys {
+        put(table, key, 7)?;
+    }
+    Ok(())
+}
+
+/// A table of some keys.
+fn table_of(alloc: Global, ordered: bool, keys: &[&[u8]]) -> Result<Small, CedarError>
+    ensures { IfOk result (λ table. IsWellFormed 1024 (fields table)) }
+{
+    let mut table = Table::<DefaultLayout, 1024, Global>::new(alloc, ordered, 1)?;
+    put_all(&mut table, keys)?;
+    Ok(table)
+}
+
+/// Gives a held slot other fields.
+fn set_node<C: Ledger>(
+    table: &mut Small,
+    slot: usize,
+    base: i32,
+    owner: usize,
+    ticks: &mut Ticks<C>,
+) -> bool
+    requires { IsTable 1024 (fields table.old).places }
+    ensures { IsTable 1024 (fields table.new).places }
+{
+    if slot >= table.size() || owner >= 1024 {
+        return false;
+    }
+    let held = table.is_held(slot, ticks);
+    if !held {
+        return false;
+    }
+    let check = owner as i32;
+    table.write_node(slot, NodeRecord { base, check });
+    true
+}
+
+/// Gives a held slot other labels.
+fn set_info<C: Ledger>(
+    table: &mut Small,
+    slot: usize,
+    sibling: u8,
+    child: u8,
+    ticks: &mut Ticks<C>,
+) -> bool
+    requires { IsTable 1024 (fields table.old).places }
+    ensures { IsTable 1024 (fields table.new).places }
+{
+    if slot >= table.size() {
+        return false;
+    }
+    let held = table.is_held(slot, ticks);
+    if !held {
+        return false;
+    }
+    table.write_info(slot, NInfoRecord { sibling, child });
+    true
+}
+
+fn each_update<C: Ledger>(rt: &impl Abort, alloc: Global, blank: Blank) -> Result<(), Fail>
+    requires name { blank.name ≡ C.name }
+    requires parts { blank.parts ≡ C.parts }
+    requires some { 0 < blank.parts }
+{
+    let ticks = &mut Ticks::<C>::new(blank);
+    let keys: [&[u8]; 8] = [
+        b"ab",
+        b"a",
+        b"abc",
+        b"b",
+        b"\xff\x01",
+        b"ac",
+        b"abcd",
+        b"ab\x05",
+    ];
+    for ordered in [true, false] {
+        let mut table = table_of(alloc, ordered, &[])?;
+        assert_eq!(rt; fault(&table, ticks), None);
+        for key in keys {
+            put_all(&mut table, &[key])?;
+            assert_eq!(rt; fault(&table, ticks), None);
+        }
+        for key in keys {
+            assert!(rt; table.erase(key));
+            assert_eq!(rt; fault(&table, ticks), None);
+        }
+    }
+    Ok(())
+}
+
+/// Tables made by updates and erasures, in both orders.
+#[test]
+fn changed_tables(rt: HostRuntime) -> Result<(), Fail> {
+    each_update::<Brand>(&rt, rt.alloc(), Blank::new(1))
+}
+
+fn each_node<C: Ledger>(rt: &impl Abort, alloc: Global, blank: Blank) -> Result<(), Fail>
+    requires name { blank.name ≡ C.name }
+    requires parts { blank.parts ≡ C.parts }
+    requires some { 0 < blank.parts }
+{
+    let ticks = &mut Ticks::<C>::new(blank);
+    let mut table = table_of(alloc, true, &[b"a"])?;
+    assert!(rt; set_node(&mut table, 97, 0, 0, ticks));
+    let bare = ("trie", 97, "structural node has no children");
+    assert_eq!(rt; fault(&table, ticks), Some(bare));
+    assert!(rt; set_node(&mut table, 97, 512, 0, ticks));
+    let outside = ("trie", 97, "base is outside active nodes");
+    assert_eq!(rt; fault(&table, ticks), Some(outside));
+    assert!(rt; set_node(&mut table, 97, -2, 0, ticks));
+    let unread = ("trie", 97, "invalid default-layout base");
+    assert_eq!(rt; fault(&table, ticks), Some(unread));
+    assert!(rt; set_node(&mut table, 97, 256, 0, ticks));
+    assert_eq!(rt; fault(&table, ticks), None);
+    assert!(rt; set_info(&mut table, 97, 0, 1, ticks));
+    let value = ("trie", 256, "invalid terminal value node");
+    assert_eq!(rt; fault(&table, ticks), Some(value));
+    Ok(())
+}
+
+/// A node without base, number or child, and one with a child before its number.
+#[test]
+fn damaged_nodes(rt: HostRuntime) -> Result<(), Fail> {
+    each_node::<Brand>(&rt, rt.alloc(), Blank::new(1))
+}
+
+fn each_number<C: Ledger>(rt: &impl Abort, alloc: Global, blank: Blank) -> Result<(), Fail>
+    requires name { blank.name ≡ C.name }
+    requires parts { blank.parts ≡ C.parts }
+    requires some { 0 < blank.parts }
+{
+    let ticks = &mut Ticks::<C>::new(blank);
+    let mut table = table_of(alloc, true, &[b"a"])?;
+    let value = ("trie", 256, "invalid terminal value node");
+    for number in [-1, 2147483646, i32::MIN, i32::MAX] {
+        assert!(rt; set_node(&mut table, 256, number, 97, ticks));
+        assert_eq!(rt; fault(&table, ticks), Some(value));
+    }
+    assert!(rt; set_node(&mut table, 256, 2147483645, 97, ticks));
+    assert_eq!(rt; fault(&table, ticks), None);
+    assert!(rt; set_info(&mut table, 256, 0, 1, ticks));
+    assert_eq!(rt; fault(&table, ticks), Some(value));
+    Ok(())
+}
+
+/// Values out of range.
+#[test]
+fn damaged_numbers(rt: HostRuntime) -> Result<(), Fail> {
+    each_number::<Brand>(&rt, rt.alloc(), Blank::new(1))
+}
+
+fn each_forgery<C: Ledger>(rt: &impl Abort, alloc: Global, blank: Blank) -> Result<(), Fail>
+    requires name { blank.name ≡ C.name }
+    requires parts { blank.parts ≡ C.parts }
+    requires some { 0 < blank.parts }
+{
+    let ticks = &mut Ticks::<C>::new(blank);
+    let mut table = table_of(alloc, true, &[])?;
+    assert!(rt; take(&mut table, 97, 98, 0, ticks));
+    assert!(rt; take(&mut table, 98, 7, 97, ticks));
+    assert!(rt; set_info(&mut table, 0, 97, 0, ticks));
+    assert_eq!(rt;
+        fault(&table, ticks),
+        Some(("trie", 97, "base lies in block zero"))
+    );
+    // A tree with one number, and a table that says 0.
+    let mut table = table_of(alloc, true, &[b"a"])?;
+    assert!(rt; table.erase(b"a"));
+    assert!(rt; take(&mut table, 97, 256, 0, ticks));
+    assert!(rt; take(&mut table, 256, 7, 97, ticks));
+    let unlisted = ("trie", 0, "occupied node is unreachable");
+    assert_eq!(rt; fault(&table, ticks), Some(unlisted));
+    assert!(rt; set_info(&mut table, 0, 97, 0, ticks));
+    let entries = ("entries", 0, "entry count does not match trie values");
+    assert_eq!(rt; fault(&table, ticks), Some(entries));
+    Ok(())
+}
+
+/// A base in block 0, slots that no chain lists, and a number more than the table says.
+#[test]
+fn forged_tables(rt: HostRuntime) -> Result<(), Fail> {
+    each_forgery::<Brand>(&rt, rt.alloc(), Blank::new(1))
+}
+
+fn each_chain<C: Ledger>(rt: &impl Abort, alloc: Global, blank: Blank) -> Result<(), Fail>
+    requires name { blank.name ≡ C.name }
+    requires parts { blank.parts ≡ C.parts }
+    requires some { 0 < blank.parts }
+{
+    let ticks = &mut Ticks::<C>::new(blank);
+    let mut table = table_of(alloc, false, &[b"b", b"a"])?;
+    assert_eq!(rt; (table.sibling(0), fault(&table, ticks)), (97, None));
+    assert!(rt; set_info(&mut table, 98, 97, 0, ticks));
+    let (section, _, reason) = fault(&table, ticks).unwrap_or_default();
+    assert_eq!(rt;
+        (section, reason),
+        ("siblings", "sibling chain contains a cycle")
+    );
+    let mut table = table_of(alloc, true, &[b"b", b"a"])?;
+    let unsorted = ("siblings", 0, "ordered sibling chain is not sorted");
+    assert!(rt; set_info(&mut table, 98, 97, 0, ticks));
+    assert_eq!(rt; fault(&table, ticks), Some(unsorted));
+    assert!(rt; set_info(&mut table, 97, 0, 0, ticks));
+    assert!(rt; set_info(&mut table, 0, 98, 0, ticks));
+    assert_eq!(rt; fault(&table, ticks), Some(unsorted));
+    assert!(rt; set_info(&mut table, 0, 99, 0, ticks));
+    let unowned = ("siblings", 0, "child ownership link is invalid");
+    assert_eq!(rt; fault(&table, ticks), Some(unowned));
+    Ok(())
+}
+
+/// Chains that go round, that don't ascend where they have to, and that name a free slot.
+#[test]
+fn damaged_chains(rt: HostRuntime) -> Result<(), Fail> {
+    each_chain::<Brand>(&rt, rt.alloc(), Blank::new(1))
+}
+
+fn each_ring<C: Ledger>(rt: &impl Abort, alloc: Global, blank: Blank) -> Result<(), Fail>
+    requires name { blank.name ≡ C.name }
+    requires parts { blank.parts ≡ C.parts }
+    requires some { 0 < blank.parts }
+{
+    let ticks = &mut Ticks::<C>::new(blank);
+    let mut table = table_of(alloc, true, &[b"a"])?;
+    assert!(rt; take(&mut table, 300, 301 ^ 1, 301, ticks));
+    assert!(rt; take(&mut table, 301, 300 ^ 1, 300, ticks));
+    assert!(rt; set_info(&mut table, 300, 0, 1, ticks));
+    assert!(rt; set_info(&mut table, 301, 0, 1, ticks));
+    let apart = ("trie", 0, "occupied node is unreachable");
+    assert_eq!(rt; fault(&table, ticks), Some(apart));
+    Ok(())
+}
+
+/// Two nodes that are each below the other, and not below the root.
+#[test]
+fn nodes_apart(rt: HostRuntime) -> Result<(), Fail> {
+    each_ring::<Brand>(&rt, rt.alloc(), Blank::new(1))
+}

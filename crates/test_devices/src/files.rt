@@ -1,0 +1,205 @@
+//! A file system with one file, whose calls fail where they are told to.
+
+use crate::device::{Ending, FailingReader};
+use std::alloc::Allocator;
+use std::cell::Cell;
+use std::fs::{Metadata, OpenFile, OpenOptions};
+use std::io;
+use std::io::{ErrorKind, Read, Seek, SeekFrom, Write};
+use std::rt::Files;
+
+/// What the file's calls do.
+#[derive(Clone, Copy, Debug)]
+pub struct FilePlan {
+    /// Whether it can be opened, or made.
+    pub opens: bool,
+    /// How many bytes are read or written before a fault.
+    pub room: usize,
+    /// Whether it can be flushed.
+    pub flushes: bool,
+}
+
+/// What was done with the file.
+#[derive(Clone, Copy, Debug, PartialEq, Eq)]
+pub struct FileUse {
+    /// How often it was opened to be read, and to be written.
+    pub opened: u32,
+    pub made: u32,
+    /// How many bytes were written, and whether they are those that were expected.
+    pub written: usize,
+    pub as_expected: bool,
+    /// How many flushes there were, the failed ones too.
+    pub flushes: u32,
+}
+
+impl FileUse {
+    /// Nothing was done.
+    pub const NONE: FileUse = FileUse {
+        opened: 0,
+        made: 0,
+        written: 0,
+        as_expected: true,
+        flushes: 0,
+    };
+}
+
+/// A file system with one file, at whatever path. It is read as some bytes; what is written to it is compared with them.
+#[derive(Clone, Copy)]
+pub struct FakeFiles<'a> {
+    bytes: &'a [u8],
+    plan: FilePlan,
+    uses: &'a Cell<FileUse>,
+}
+
+/// The file, once it is open.
+#[derive(Drop)]
+pub struct FakeFile<'a> {
+    bytes: &'a [u8],
+    reader: FailingReader<'a>,
+    plan: FilePlan,
+    uses: &'a Cell<FileUse>,
+}
+
+/// A directory without names.
+#[derive(Drop)]
+pub struct NoNames;
+
+fn unsupported<T>() -> io::Result<T> {
+    Err(io::Error::from(ErrorKind::Unsupported))
+}
+
+impl<'a> FakeFiles<'a> {
+    /// A file of these bytes, or for them, which goes by the plan and notes its uses.
+    pub fn new(bytes: &'a [u8], plan: FilePlan, uses: &'a Cell<FileUse>) -> FakeFiles<'a> {
+        FakeFiles { bytes, plan, uses }
+    }
+}
+
+impl<'a> Files for FakeFiles<'a> {
+    type File = FakeFile<'a>;
+
+    type Dir = NoNames;
+
+    fn open_file(&self, how: &OpenOptions, _path: &str) -> io::Result<FakeFile<'a>> {
+        how.check()?;
+        let mut uses = self.uses.get();
+        if how.asks_write() && how.asks_create() && how.asks_truncate() {
+            uses.made = uses.made.saturating_add(1);
+        } else {
+            uses.opened = uses.opened.saturating_add(1);
+        }
+        self.uses.set(uses);
+        if !self.plan.opens {
+            return Err(io::Error::from(ErrorKind::NotFound));
+        }
+        let ending = if self.plan.room < self.bytes.len() {
+            Ending::Fault
+        } else {
+            Ending::Quiet
+        };
+        Ok(FakeFile {
+            bytes: self.bytes,
+            reader: FailingReader::new(self.bytes, self.plan.room, 1000, ending),
+            plan: self.plan,
+            uses: self.uses,
+        })
+    }
+
+    fn open_dir(&self, _path: &str) -> io::Result<NoNames> {
+        unsupported()
+    }
+
+    fn metadata(&self, _path: &str) -> io::Result<Metadata> {
+        unsupported()
+    }
+
+    fn symlink_metadata(&self, _path: &str) -> io::Result<Metadata> {
+        unsupported()
+    }
+
+    fn copy(&self, _from: &str, _to: &str) -> io::Result<u64> {
+        unsupported()
+    }
+
+    fn rename(&self, _from: &str, _to: &str) -> io::Result<()> {
+        unsupported()
+    }
+
+    fn remove_file(&self, _path: &str) -> io::Result<()> {
+        unsupported()
+    }
+
+    fn create_dir(&self, _path: &str) -> io::Result<()> {
+        unsupported()
+    }
+
+    fn remove_dir(&self, _path: &str) -> io::Result<()> {
+        unsupported()
+    }
+
+    fn remove_dir_all<B: Allocator>(&self, _alloc: B, _path: &str) -> io::Result<()> {
+        unsupported()
+    }
+}
+
+impl Read for FakeFile<'_> {
+    fn read(&mut self, buf: &mut [u8]) -> io::Result<usize> {
+        self.reader.read(buf)
+    }
+}
+
+impl Write for FakeFile<'_> {
+    fn write(&mut self, buf: &[u8]) -> io::Result<usize> {
+        let mut uses = self.uses.get();
+        let room = self.plan.room.saturating_sub(uses.written);
+        if room == 0 && !buf.is_empty() {
+            return Err(io::Error::from(ErrorKind::Other));
+        }
+        let count = buf.len().min(room);
+        let expected = self.bytes.get(uses.written..).unwrap_or_default();
+        uses.as_expected = uses.as_expected && expected.starts_with(&buf[..count]);
+        uses.written = uses.written.saturating_add(count);
+        self.uses.set(uses);
+        Ok(count)
+    }
+
+    fn flush(&mut self) -> io::Result<()> {
+        let mut uses = self.uses.get();
+        uses.flushes = uses.flushes.saturating_add(1);
+        self.uses.set(uses);
+        if self.plan.flushes {
+            return Ok(());
+        }
+        Err(io::Error::from(ErrorKind::Other))
+    }
+}
+
+impl Seek for FakeFile<'_> {
+    fn seek(&mut self, _to: SeekFrom) -> io::Result<u64> {
+        unsupported()
+    }
+}
+
+impl OpenFile for FakeFile<'_> {
+    fn metadata(&self) -> io::Result<Metadata> {
+        unsupported()
+    }
+
+    fn set_len(&self, _size: u64) -> io::Result<()> {
+        unsupported()
+    }
+
+    fn sync_all(&self) -> io::Result<()> {
+        unsupported()
+    }
+
+    fn sync_data(&self) -> io::Result<()> {
+        unsupported()
+    }
+}
+
+impl Read for NoNames {
+    fn read(&mut self, _buf: &mut [u8]) -> io::Result<usize> {
+        Ok(0)
+    }
+}
