@@ -1,16 +1,39 @@
 -- What a run of the program begins with, and what its arguments ask for.
-use Rattle.std.proofs.Common.{◌≡◌, ℕ, Bool, true, false, List, [], ◌∷◌, Option, Some, None, Bor, not, ◌&&◌, refl}
+use Rattle.std.proofs.Common.{◌≡◌, ℕ, Bool, true, false, List, [], ◌∷◌, Option, Some, None, Bor, not, ◌&&◌, ap, refl, ◌∙◌}
 use Rattle.std.specs.Prelude.{MatchOption, Result, Ok, Err, OnOk, bytes_eq, codes, is_some, option_map}
-use Rattle.cedar_tree.specs.State.{State}
-use Rattle.cedar_cli.specs.Options.{Asked, BeginsWith, asked_besides, empty_state, is_new, loading, saving, unordered}
+use Rattle.cedar_tree.specs.Tree.{Tree, empty_tree}
+use Rattle.cedar_table.specs.Table.Layouts.{LayoutKind, default_layout, reduced_layout}
+use Rattle.cedarwood.specs.Dictionary.{Dictionary}
+use Rattle.cedar_cli.specs.Options.{Asked, BeginsWith, asked_besides, empty, in_v1_0, is_new, loading, saving, shown, unordered}
+use Rattle.cedar_cli.specs.declared.options.Options.{Options}
+use Rattle.cedar_cli.specs.Seen.{Seen, marked_in, seen}
 
-by_load : (load : Option (List ℕ)) (s : State) → MatchOption load (s ≡ s) (λ _. Unit {0})
+by_load : (load : Option (List ℕ)) (s : Seen) → MatchOption load (s ≡ s) (λ _. Unit {0})
 by_load None s = refl
 by_load (Some path) s = tt
 
 -- an empty dictionary will do, whatever was asked
-pub begins_empty : (a : Asked) → BeginsWith a (empty_state a.ordered)
-begins_empty a = by_load a.load (empty_state a.ordered)
+pub begins_empty : (layout : LayoutKind) (a : Asked) → BeginsWith layout a (empty layout a.ordered)
+begins_empty layout a = (refl, by_load a.load (empty layout a.ordered))
+
+-- a new dictionary is seen as an empty one
+pub seen_new : (layout : LayoutKind) (d : Dictionary) (ordered : Bool) → d.state.tree ≡ empty_tree → d.marked ≡ empty_tree → d.state.ordered ≡ ordered
+    → seen layout d ≡ empty layout ordered
+seen_new layout d ordered tree unmarked order = same (marked_in layout d) (by_layout layout) where
+  by_layout : (l : LayoutKind) → marked_in l d ≡ empty_tree
+  by_layout default_layout = tree
+  by_layout reduced_layout = unmarked
+
+  same : (m : Tree) → m ≡ empty_tree → ◌≡◌ {A = Seen} (record { layout = layout; state = d.state; marked = m }) (empty layout ordered)
+  same m e =
+      ap (λ (t : Tree). record { layout = layout; state = d.state; marked = t }) e
+      ∙ ap (λ (t : Tree). record { layout = layout; state = record { tree = t; ordered = d.state.ordered }; marked = empty_tree }) tree
+      ∙ ap (λ (o : Bool). record { layout = layout; state = record { tree = empty_tree; ordered = o }; marked = empty_tree }) order
+
+-- so a run may begin with one where none is loaded
+pub begins_new : (layout : LayoutKind) (o : Options) (d : Dictionary) → o.load ≡ None → d.state.tree ≡ empty_tree → d.marked ≡ empty_tree → d.state.ordered ≡ o.ordered
+    → BeginsWith layout (shown o) (seen layout d)
+begins_new layout o d none tree unmarked order = (refl, rw none (seen_new layout d o.ordered tree unmarked order))
 
 pub on_ok : {T E P : Type 0} (r : Result T E) → P → OnOk r P
 on_ok (Ok x) p = p
@@ -45,11 +68,17 @@ pub unordered_first : (a : Asked) (word : List ℕ) (rest : List (List ℕ)) →
 unordered_first a word [] e o = rw (e, o) refl
 unordered_first a word (path ∷ rest) e o = rw (e, o) refl
 
+pub v1_0_first : (a : Asked) (word : List ℕ) (rest : List (List ℕ)) → is_new word (codes "--unordered") (not a.ordered) ≡ false
+    → bytes_eq word (codes "--v1-0") ≡ true → a.v1_0 ≡ false → asked_besides a (word ∷ rest) ≡ asked_besides (in_v1_0 a) rest
+v1_0_first a word [] other e new = rw (other, e, new) refl
+v1_0_first a word (path ∷ rest) other e new = rw (other, e, new) refl
+
 pub load_first : (a : Asked) (word path : List ℕ) (rest : List (List ℕ)) → is_new word (codes "--unordered") (not a.ordered) ≡ false
+    → is_new word (codes "--v1-0") a.v1_0 ≡ false
     → bytes_eq word (codes "--load") ≡ true → is_some a.load ≡ false → asked_besides a (word ∷ path ∷ rest) ≡ asked_besides (loading a path) rest
-load_first a word path rest other e new = rw (other, e, new) refl
+load_first a word path rest other full e new = rw (other, full, e, new) refl
 
 pub save_first : (a : Asked) (word path : List ℕ) (rest : List (List ℕ)) → is_new word (codes "--unordered") (not a.ordered) ≡ false
-    → is_new word (codes "--load") (is_some a.load) ≡ false
+    → is_new word (codes "--v1-0") a.v1_0 ≡ false → is_new word (codes "--load") (is_some a.load) ≡ false
     → bytes_eq word (codes "--save") ≡ true → is_some a.save ≡ false → asked_besides a (word ∷ path ∷ rest) ≡ asked_besides (saving a path) rest
-save_first a word path rest other old e new = rw (other, old, e, new) refl
+save_first a word path rest other full old e new = rw (other, full, old, e, new) refl

@@ -16,7 +16,7 @@ use Rattle.cedarwood.proofs.GrowthLemmas.{grows_further, grows_none}
 use Rattle.cedar_cli.specs.Blocks.{GrowsWithin, GrowsBefore}
 use Rattle.cedar_cli.specs.Command.{Order, order_of, key_of, value_of, with_key, with_key_and_value, is_space}
 use Rattle.cedar_cli.specs.declared.command.Verb.{Verb}
-use Rattle.cedar_cli.specs.declared.command.Verb.TheVariants.{Put, Erase, Exact, Segment, Prefixes, Predict, Entries}
+use Rattle.cedar_cli.specs.declared.command.Verb.TheVariants.{Put, Erase, Exact, Segment, Prefixes, Predict, Entries, Figures}
 
 -- none came
 pub no_blocks : (most : ℕ) (d : Dictionary) → GrowsWithin most d d
@@ -80,7 +80,7 @@ put_short rest =
 -- a line's key has half as many bytes as the line, at most
 pub line_short : (line : List ℕ) → HasShortKey (length line) (order_of line)
 line_short [] = tt
-line_short (c ∷ []) = either_short (length (c ∷ [])) (c == 42) (Some (Entries, [])) None (omega arith) tt
+line_short (c ∷ []) = either_short (length (c ∷ [])) (c == 42) (Some (Entries, [])) _ (omega arith) (either_short (length (c ∷ [])) (c == 35) (Some (Figures, [])) None (omega arith) tt)
 line_short (c ∷ space ∷ rest) =
     let n = length (c ∷ space ∷ rest) in
     let alone : (verb : Verb) → HasShortKey n (with_key verb rest) = λ verb. alone_short verb (length rest) (key_of rest) (key_short rest) in
@@ -93,7 +93,7 @@ line_short (c ∷ space ∷ rest) =
     (either_short n (c == 47) _ None (alone Segment) tt)))))) tt
 
 -- what is put back over a number that is held makes none
-pub back_blocks : (before : Option (ℤ × ℕ)) (Held : Type 0) (mid new : Dictionary) → MatchOption before (Grows 0 mid new) (λ _. Held → Grows 0 mid new) → Held → Grows 0 mid new
+pub back_blocks : (before : Option ℤ) (Held : Type 0) (mid new : Dictionary) → MatchOption before (Grows 0 mid new) (λ _. Held → Grows 0 mid new) → Held → Grows 0 mid new
 back_blocks None Held mid new h held = h
 back_blocks (Some found) Held mid new h held = h held
 

@@ -6,7 +6,8 @@ use Rattle.std.specs.Prelude.{Result, Ok, Err, OnOk, OnErr}
 use Rattle.cedar_tree.specs.State.{State}
 use Rattle.cedar_cli.specs.Command.{Order, order_of}
 use Rattle.cedar_cli.specs.Lines.{lines_of, onto_first, IsOpen}
-use Rattle.cedar_cli.specs.Script.{WritesFront, reply, answer, answers, obeyed, state_after, IsCutShort, Leaves, Obeys, Finishes, Splits, Advances, Stops}
+use Rattle.cedar_cli.specs.Seen.{Seen}
+use Rattle.cedar_cli.specs.Script.{WritesFront, reply, answer, answers, obeyed, seen_after, IsCutShort, Leaves, Obeys, Finishes, Splits, Advances, Stops}
 use Rattle.std.specs.Io.KnownBytes.{Appends, Keeps}
 
 -- bytes appended in two parts
@@ -59,7 +60,7 @@ then_err (Ok x) a b c done bytes p h = tt
 then_err (Err e) a b c done bytes p h = front_after a b c done bytes p h
 
 -- an answer is cut short where nothing of it is written
-pub cut_short_none : (t : State) (lines : List (List ℕ)) → IsCutShort t lines []
+pub cut_short_none : (t : Seen) (lines : List (List ℕ)) → IsCutShort t lines []
 cut_short_none t [] = refl
 cut_short_none t (line ∷ lines) = (answer t line, omega (arith, length-append (reply t (order_of line)) (10 ∷ [])), refl)
 
@@ -78,29 +79,39 @@ open_push [] b o e = (e, tt)
 open_push (c ∷ line) b o e = (o.0, open_push line b o.1 e)
 
 -- answers to lines and then to more lines
-pub answers-append : (t : State) (a b : List (List ℕ)) → answers t (a ++ b) ≡ answers t a ++ answers (state_after t a) b
+pub answers-append : (t : Seen) (a b : List (List ℕ)) → answers t (a ++ b) ≡ answers t a ++ answers (seen_after t a) b
 answers-append t [] b = refl
 answers-append t (line ∷ a) b =
     ap (λ l. answer t line ++ l) (answers-append (obeyed t (order_of line)) a b)
-    ∙ sym (append_assoc (answer t line) (answers (obeyed t (order_of line)) a) (answers (state_after (obeyed t (order_of line)) a) b))
+    ∙ sym (append_assoc (answer t line) (answers (obeyed t (order_of line)) a) (answers (seen_after (obeyed t (order_of line)) a) b))
 
-pub state_after-append : (t : State) (a b : List (List ℕ)) → state_after t (a ++ b) ≡ state_after (state_after t a) b
-state_after-append t [] b = refl
-state_after-append t (line ∷ a) b = state_after-append (obeyed t (order_of line)) a b
+pub seen_after-append : (t : Seen) (a b : List (List ℕ)) → seen_after t (a ++ b) ≡ seen_after (seen_after t a) b
+seen_after-append t [] b = refl
+seen_after-append t (line ∷ a) b = seen_after-append (obeyed t (order_of line)) a b
 
 -- lines finished one after another
-pub Finishes-append : (old mid new : State) (a b c : Option (List ℕ)) (first second : List (List ℕ)) (part : List ℕ)
-    → Finishes old mid a b first [] → Finishes mid new b c second part → Finishes old new a c (first ++ second) part
-Finishes-append old mid new a b c first second part p q = (
-  q.0 ∙ ap (λ t. state_after t second) p.0 ∙ sym (state_after-append old first second),
-  rw same (Appends-append a b c (answers old first ++ []) (answers mid second ++ part) p.1 q.1),
+pub Finishes-append : (old mid new : Seen) (a b c : Option (List ℕ)) (first second : List (List ℕ))
+    → Finishes old mid a b first → Finishes mid new b c second → Finishes old new a c (first ++ second)
+Finishes-append old mid new a b c first second p q = (
+  q.0 ∙ ap (λ t. seen_after t second) p.0 ∙ sym (seen_after-append old first second),
+  rw same (Appends-append a b c (answers old first) (answers mid second) p.1 q.1),
 ) where
-  same : answers old (first ++ second) ++ part ≡ (answers old first ++ []) ++ (answers mid second ++ part)
+  same : answers old (first ++ second) ≡ answers old first ++ answers mid second
+  same = answers-append old first second ∙ ap (λ t. answers old first ++ answers t second) (sym p.0)
+
+-- what was written of the lines that follow some finished ones
+pub front_further : (old mid : Seen) (a b c : Option (List ℕ)) (first second : List (List ℕ)) (part : List ℕ)
+    → Finishes old mid a b first → Appends b c (answers mid second ++ part) → Appends a c (answers old (first ++ second) ++ part)
+front_further old mid a b c first second part p q = rw same (Appends-append a b c (answers old first) (answers mid second ++ part) p.1 q) where
+  same : answers old (first ++ second) ++ part ≡ answers old first ++ (answers mid second ++ part)
   same =
-      ap (λ l. l ++ part) (answers-append old first second)
-      ∙ append_assoc (answers old first) (answers (state_after old first) second) part
-      ∙ ap (λ l. answers old first ++ (l ++ part)) (ap (λ t. answers t second) (sym p.0))
-      ∙ ap (λ l. l ++ (answers mid second ++ part)) (sym (append-nil (answers old first)))
+      ap (λ l. l ++ part) (answers-append old first second ∙ ap (λ t. answers old first ++ answers t second) (sym p.0))
+      ∙ append_assoc (answers old first) (answers mid second) part
+
+-- what is seen after lines that follow some finished ones
+pub seen_further : (old mid : Seen) (a b : Option (List ℕ)) (first second : List (List ℕ)) → Finishes old mid a b first
+    → seen_after mid second ≡ seen_after old (first ++ second)
+seen_further old mid a b first second p = ap (λ t. seen_after t second) p.0 ∙ sym (seen_after-append old first second)
 
 pub Splits-append : (text more left rest_left : List ℕ) (first second : List (List ℕ)) → Splits text first left → Splits (left ++ more) second rest_left → Splits (text ++ more) (first ++ second) rest_left
 Splits-append text more left rest_left first second p q = λ rest.
@@ -108,25 +119,33 @@ Splits-append text more left rest_left first second p q = λ rest.
     ∙ ap (λ l. first ++ l) (ap lines_of (sym (append_assoc left more rest)) ∙ q rest)
     ∙ sym (append_assoc first second (lines_of (rest_left ++ rest)))
 
-pub Advances-append : (old mid new : State) (a b c : Option (List ℕ)) (text left more left' : List ℕ)
+pub Advances-append : (old mid new : Seen) (a b c : Option (List ℕ)) (text left more left' : List ℕ)
     → Advances old mid a b text left → Advances mid new b c (left ++ more) left' → Advances old new a c (text ++ more) left'
 Advances-append old mid new a b c text left more left' p q =
-    (p.0 ++ q.0, Splits-append text more left left' p.0 q.0 p.1 q.1, Finishes-append old mid new a b c p.0 q.0 [] p.2 q.2)
+    (p.0 ++ q.0, Splits-append text more left left' p.0 q.0 p.1 q.1, Finishes-append old mid new a b c p.0 q.0 p.2 q.2)
 
-pub Stops-append : (old mid new : State) (a b c : Option (List ℕ)) (text left more : List ℕ)
+pub Stops-append : (old mid : Seen) (new : State) (a b c : Option (List ℕ)) (text left more : List ℕ)
     → Advances old mid a b text left → Stops mid new b c (left ++ more) → Stops old new a c (text ++ more)
 Stops-append old mid new a b c text left more p q =
-    (p.0 ++ q.0, q.1, q.2, Splits-append text more left q.1 p.0 q.0 p.1 q.3, Finishes-append old mid new a b c p.0 q.0 q.2 p.2 q.4, q.5)
+    let same : seen_after mid q.0 ≡ seen_after old (p.0 ++ q.0) = seen_further old mid a b p.0 q.0 p.2 in (
+      p.0 ++ q.0,
+      q.1,
+      q.2,
+      Splits-append text more left q.1 p.0 q.0 p.1 q.3,
+      q.4 ∙ ap (λ (t : Seen). t.state) same,
+      front_further old mid a b c p.0 q.0 q.2 p.2 q.5,
+      (λ rest. subst (λ (t : Seen). IsCutShort t (lines_of (q.1 ++ rest)) q.2) same (q.6 rest)),
+    )
 
 -- an answer that wasn't written whole leaves its order
-pub Leaves-on_err : {T E : Type 0} (r : Result T E) (order : Option Order) (old new : State) (held holds : Option (List ℕ)) (bytes : List ℕ)
-    → new ≡ old → bytes ≡ reply old order ++ 10 ∷ []
+pub Leaves-on_err : {T E : Type 0} (r : Result T E) (order : Option Order) (old : Seen) (new : State) (held holds : Option (List ℕ)) (bytes : List ℕ)
+    → new ≡ old.state → bytes ≡ reply old order ++ 10 ∷ []
     → OnErr r (WritesFront held holds bytes) → OnErr r (Leaves order old new held holds)
 Leaves-on_err (Ok x) order old new held holds bytes same e h = tt
 Leaves-on_err (Err x) order old new held holds bytes same e h = (same, subst (WritesFront held holds) e h)
 
 -- one written whole obeys it
-pub Obeys-on_ok : {T E : Type 0} (r : Result T E) (order : Option Order) (old new : State) (held holds : Option (List ℕ)) (bytes : List ℕ)
+pub Obeys-on_ok : {T E : Type 0} (r : Result T E) (order : Option Order) (old new : Seen) (held holds : Option (List ℕ)) (bytes : List ℕ)
     → new ≡ obeyed old order → bytes ≡ reply old order ++ 10 ∷ [] → OnOk r (Appends held holds bytes) → OnOk r (Obeys order old new held holds)
 Obeys-on_ok (Err x) order old new held holds bytes same e h = tt
 Obeys-on_ok (Ok x) order old new held holds bytes same e h = (same, rw (← e) h)
@@ -135,48 +154,49 @@ line_then : (line rest : List ℕ) → IsOpen line → lines_of ((line ++ 10 ∷
 line_then line rest o = ap lines_of (append_assoc line (10 ∷ []) rest) ∙ lines_of-line line rest o
 
 -- a line that was answered is finished
-pub line_finished : (old new : State) (held holds : Option (List ℕ)) (line : List ℕ) → Obeys (order_of line) old new held holds → Finishes old new held holds (line ∷ []) []
-line_finished old new held holds line h = (h.0, rw (append-nil (answer old line ++ []), append-nil (answer old line)) h.1)
+pub line_finished : (old new : Seen) (held holds : Option (List ℕ)) (line : List ℕ) → Obeys (order_of line) old new held holds → Finishes old new held holds (line ∷ [])
+line_finished old new held holds line h = (h.0, rw (append-nil (answer old line)) h.1)
 
 -- and taken, with its byte 10
-pub line_done : (old new : State) (held holds : Option (List ℕ)) (line : List ℕ) → IsOpen line → Obeys (order_of line) old new held holds → Advances old new held holds (line ++ 10 ∷ []) []
+pub line_done : (old new : Seen) (held holds : Option (List ℕ)) (line : List ℕ) → IsOpen line → Obeys (order_of line) old new held holds → Advances old new held holds (line ++ 10 ∷ []) []
 line_done old new held holds line o h =
     (line ∷ [], (λ rest. line_then line rest o), line_finished old new held holds line h)
 
 -- in a line whose answer was not written whole the run stops
-pub line_left : (old new : State) (held holds : Option (List ℕ)) (line : List ℕ) → IsOpen line → Leaves (order_of line) old new held holds → Stops old new held holds (line ++ 10 ∷ [])
+pub line_left : (old : Seen) (new : State) (held holds : Option (List ℕ)) (line : List ℕ) → IsOpen line → Leaves (order_of line) old new held holds → Stops old new held holds (line ++ 10 ∷ [])
 line_left old new held holds line o h =
     let front = h.1 in
-    ([], line ++ 10 ∷ [], front.0, (λ rest. refl), (h.0, front.4), (λ rest. rw (line_then line rest o) (front.1, front.2, ap (λ t. reply t (order_of line) ++ 10 ∷ []) h.0 ∙ front.3)))
+    ([], line ++ 10 ∷ [], front.0, (λ rest. refl), h.0, front.4, (λ rest. rw (line_then line rest o) (front.1, front.2, front.3)))
 
 -- bytes that end no line
-pub bytes_on : (t : State) (held : Option (List ℕ)) (text : List ℕ) → Advances t t held held text text
+pub bytes_on : (t : Seen) (held : Option (List ℕ)) (text : List ℕ) → Advances t t held held text text
 bytes_on t held text = ([], (λ rest. refl), (refl, Appends-none held))
 
 -- a run that stops before it answers
-pub not_begun : (t : State) (held : Option (List ℕ)) (text : List ℕ) → Stops t t held held text
-not_begun t held text = ([], text, [], (λ rest. refl), (refl, Appends-none held), (λ rest. cut_short_none t (lines_of (text ++ rest))))
+pub not_begun : (t : Seen) (held : Option (List ℕ)) (text : List ℕ) → Stops t t.state held held text
+not_begun t held text = ([], text, [], (λ rest. refl), refl, Appends-none held, (λ rest. cut_short_none t (lines_of (text ++ rest))))
 
 pub on_err : {T E P : Type 0} (r : Result T E) → P → OnErr r P
 on_err (Ok x) p = tt
 on_err (Err e) p = p
 
 -- a run that stopped in a text stopped in it however the text goes on
-pub Stops-more : (old new : State) (a c : Option (List ℕ)) (text more : List ℕ) → Stops old new a c text → Stops old new a c (text ++ more)
+pub Stops-more : (old : Seen) (new : State) (a c : Option (List ℕ)) (text more : List ℕ) → Stops old new a c text → Stops old new a c (text ++ more)
 Stops-more old new a c text more h = (
   h.0,
   h.1 ++ more,
   h.2,
   (λ rest. ap lines_of (append_assoc text more rest) ∙ h.3 (more ++ rest) ∙ ap (λ l. h.0 ++ lines_of l) (sym (append_assoc h.1 more rest))),
   h.4,
-  (λ rest. rw (append_assoc h.1 more rest) (h.5 (more ++ rest))),
+  h.5,
+  (λ rest. rw (append_assoc h.1 more rest) (h.6 (more ++ rest))),
 )
 
 -- a text that was taken stays so where the writer keeps its bytes
-pub Advances-kept : (old new : State) (held holds kept : Option (List ℕ)) (text left : List ℕ)
+pub Advances-kept : (old new : Seen) (held holds kept : Option (List ℕ)) (text left : List ℕ)
     → Advances old new held holds text left → Keeps holds kept → Advances old new held kept text left
 Advances-kept old new held holds kept text left h k =
-    (h.0, h.1, (h.2.0, Appends-kept held holds kept (answers old h.0 ++ []) h.2.1 k))
+    (h.0, h.1, (h.2.0, Appends-kept held holds kept (answers old h.0) h.2.1 k))
 
 or_false : (b : Bool) → (b || false) ≡ b
 or_false true = refl

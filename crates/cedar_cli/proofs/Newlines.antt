@@ -12,6 +12,7 @@ use Rattle.cedar_tree.specs.State.{State}
 use Rattle.cedar_cli.specs.Command.{order_of}
 use Rattle.cedar_cli.specs.Lines.{IsOpen, is_newline}
 use Rattle.cedar_cli.specs.Script.{Obeys, Leaves, Advances, Stops}
+use Rattle.cedar_cli.specs.Seen.{Seen}
 use Rattle.cedar_cli.proofs.Bytes.{line_done, line_left, bytes_on, not_begun, Advances-append, Stops-append, Stops-more}
 use Rattle.cedar_cli.proofs.Text.{before_at, after_at, before_none}
 
@@ -60,26 +61,26 @@ cut_at text at e =
     ∙ ap (λ l. (take at text ++ 10 ∷ []) ++ l) (sym (after_at is_newline text at e))
 
 -- a line was taken where its answer was written
-pub taken_on_ok : {T E : Type 0} (r : Result T E) (old new : State) (held holds : Option (List ℕ)) (line : List ℕ)
+pub taken_on_ok : {T E : Type 0} (r : Result T E) (old new : Seen) (held holds : Option (List ℕ)) (line : List ℕ)
     → IsOpen line → OnOk r (Obeys (order_of line) old new held holds) → OnOk r (Advances old new held holds (line ++ 10 ∷ []) [])
 taken_on_ok (Ok x) old new held holds line o h = line_done old new held holds line o h
 taken_on_ok (Err e) old new held holds line o h = tt
 
 -- and the run stops in it where it was not
-pub stopped_on_err : {T E : Type 0} (r : Result T E) (old new : State) (held holds : Option (List ℕ)) (line : List ℕ)
+pub stopped_on_err : {T E : Type 0} (r : Result T E) (old : Seen) (new : State) (held holds : Option (List ℕ)) (line : List ℕ)
     → IsOpen line → OnErr r (Leaves (order_of line) old new held holds) → OnErr r (Stops old new held holds (line ++ 10 ∷ []))
 stopped_on_err (Ok x) old new held holds line o h = tt
 stopped_on_err (Err e) old new held holds line o h = line_left old new held holds line o h
 
 -- a further line of a chunk was taken
-pub line_taken : (old mid new : State) (a b c : Option (List ℕ)) (begun gone line piece left : List ℕ)
+pub line_taken : (old mid new : Seen) (a b c : Option (List ℕ)) (begun gone line piece left : List ℕ)
     → Advances old mid a b (begun ++ gone) line → Advances mid new b c (line ++ (piece ++ 10 ∷ [])) [] → left ≡ []
     → Advances old new a c (begun ++ (gone ++ (piece ++ 10 ∷ []))) left
 line_taken old mid new a b c begun gone line piece left p q empty =
     rw (empty, ← append_assoc begun gone (piece ++ 10 ∷ [])) (Advances-append old mid new a b c (begun ++ gone) line (piece ++ 10 ∷ []) [] p q)
 
 -- the run stopped in a line of a chunk
-pub line_stopped : (old mid new : State) (a b c : Option (List ℕ)) (begun gone line piece after chunk : List ℕ)
+pub line_stopped : (old mid : Seen) (new : State) (a b c : Option (List ℕ)) (begun gone line piece after chunk : List ℕ)
     → Advances old mid a b (begun ++ gone) line → Stops mid new b c (line ++ (piece ++ 10 ∷ []))
     → chunk ≡ (gone ++ (piece ++ 10 ∷ [])) ++ after
     → Stops old new a c (begun ++ chunk)
@@ -92,18 +93,18 @@ line_stopped old mid new a b c begun gone line piece after chunk p q whole =
           ∙ ap (λ l. begun ++ l) (sym whole)
 
 -- the rest of a chunk begins the next line
-pub rest_taken : (old new : State) (a b : Option (List ℕ)) (begun gone line rest chunk : List ℕ)
+pub rest_taken : (old new : Seen) (a b : Option (List ℕ)) (begun gone line rest chunk : List ℕ)
     → Advances old new a b (begun ++ gone) line → chunk ≡ gone ++ rest → Advances old new a b (begun ++ chunk) (line ++ rest)
 rest_taken old new a b begun gone line rest chunk p whole =
     subst (λ text. Advances old new a b text (line ++ rest)) (append_assoc begun gone rest ∙ ap (λ l. begun ++ l) (sym whole))
     (Advances-append old new new a b b (begun ++ gone) line rest (line ++ rest) p (bytes_on new b (line ++ rest)))
 
 -- or the run stops before it
-pub rest_left : (old new : State) (a b : Option (List ℕ)) (begun gone line rest chunk : List ℕ)
-    → Advances old new a b (begun ++ gone) line → chunk ≡ gone ++ rest → Stops old new a b (begun ++ chunk)
+pub rest_left : (old new : Seen) (a b : Option (List ℕ)) (begun gone line rest chunk : List ℕ)
+    → Advances old new a b (begun ++ gone) line → chunk ≡ gone ++ rest → Stops old new.state a b (begun ++ chunk)
 rest_left old new a b begun gone line rest chunk p whole =
-    subst (Stops old new a b) (append_assoc begun gone rest ∙ ap (λ l. begun ++ l) (sym whole))
-    (Stops-append old new new a b b (begun ++ gone) line rest p (not_begun new b (line ++ rest)))
+    subst (Stops old new.state a b) (append_assoc begun gone rest ∙ ap (λ l. begun ++ l) (sym whole))
+    (Stops-append old new new.state a b b (begun ++ gone) line rest p (not_begun new b (line ++ rest)))
 
 -- what was taken of a chunk, once its next line is
 pub gone_further : (chunk gone rest : List ℕ) (at : ℕ) → chunk ≡ gone ++ rest → position is_newline rest ≡ Some at
@@ -125,7 +126,7 @@ first_byte b text (Some at) first = sym (rw at_first (grind (arith, common_steps
   at_first = position_or_len_is (is_byte b) text at 0 (omega arith) (λ k low. not_true (first.0.before k (omega arith) low)) (λ _. first.1)
 
 -- before the first byte
-pub none_taken : (t : State) (held : Option (List ℕ)) (line : List ℕ) → Advances t t held held (line ++ []) line
+pub none_taken : (t : Seen) (held : Option (List ℕ)) (line : List ℕ) → Advances t t held held (line ++ []) line
 none_taken t held line = subst (λ (text : List ℕ). Advances t t held held text line) (sym (append-nil line)) (bytes_on t held line)
 
 -- where a byte 10 is found, it stands within the text

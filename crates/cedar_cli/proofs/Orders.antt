@@ -12,8 +12,9 @@ use Rattle.cedar_slots.specs.declared.error.CedarError.{CedarError}
 use Rattle.cedar_slots.specs.declared.error.CedarError.TheVariants.{EmptyKey, NulByte, InvalidValue, InvalidMaxTrial, DuplicateKey, KeysNotSorted, Memory, SlotLimit}
 use Rattle.cedar_cli.specs.Command.{Order}
 use Rattle.cedarwood.specs.Fault.{fault, key_fault, or_else, value_fault, IsShortage}
-use Rattle.cedar_cli.specs.Script.{refusal, IsPairFault, found_text, reply, obeyed, Leaves, WritesFront}
-use Rattle.cedar_cli.specs.declared.command.Verb.TheVariants.{Put, Erase}
+use Rattle.cedar_cli.specs.Seen.{Seen}
+use Rattle.cedar_cli.specs.Script.{refusal, IsPairFault, figures_text, found_text, reply, Leaves, WritesFront}
+use Rattle.cedar_cli.specs.declared.command.Verb.TheVariants.{Erase}
 use Rattle.cedar_cli.specs.declared.script.ScriptError.{ScriptError}
 use Rattle.cedar_cli.specs.declared.script.ScriptError.TheVariants.{Read, Write, Memory as NoMemory, SlotLimit as NoSlot}
 use Rattle.std.specs.Io.KnownBytes.{Appends}
@@ -38,11 +39,11 @@ pub found_reply : (t : Tree) (key : List ℕ) (v : ℤ) (n : ℕ) → ◌≡◌ 
 found_reply t key v n h = let p = exact_found t key v n h in rw (p.0, p.1) refl
 
 -- the answer to an erasure, where the key is held and where it isn't
-pub erased_reply : (s : State) (key : List ℕ) (found : ℤ × ℕ) → ◌≡◌ {A = Option (ℤ × ℕ)} (Some found) (exact s.tree key) → codes "erased" ≡ reply s (Some (Erase, key))
-erased_reply s key found h = rw (exact_found s.tree key found.0 found.1 h).0 refl
+pub erased_reply : (s : Seen) (key : List ℕ) (found : ℤ × ℕ) → ◌≡◌ {A = Option (ℤ × ℕ)} (Some found) (exact s.state.tree key) → codes "erased" ≡ reply s (Some (Erase, key))
+erased_reply s key found h = rw (exact_found s.state.tree key found.0 found.1 h).0 refl
 
-pub absent_reply : (s : State) (key : List ℕ) → None ≡ exact s.tree key → codes "absent" ≡ reply s (Some (Erase, key))
-absent_reply s key h = rw (exact_missed s.tree key h) refl
+pub absent_reply : (s : Seen) (key : List ℕ) → None ≡ exact s.state.tree key → codes "absent" ≡ reply s (Some (Erase, key))
+absent_reply s key h = rw (exact_missed s.state.tree key h) refl
 
 -- the line of a fault that has a number in it
 pub nul_line : (e : CedarError) (at : ℕ) (figures : List ℕ) → e ≡ NulByte at → figures ≡ decimal at
@@ -57,6 +58,11 @@ value_line e v figures is text = rw (is, text) (sym (append_assoc (codes "refuse
 pub found_line : (v : ℤ) (n : ℕ) (first second : List ℕ) → first ≡ signed_decimal v → second ≡ decimal n
     → first ++ (codes " " ++ (second ++ 10 ∷ [])) ≡ found_text (Some v) n ++ 10 ∷ []
 found_line v n first second e f = rw (e, f) (sym (append_assoc (signed_decimal v) (32 ∷ decimal n) (10 ∷ [])))
+
+-- the line of two figures
+pub figures_line : (keys slots : ℕ) (first second : List ℕ) → first ≡ decimal keys → second ≡ decimal slots
+    → first ++ (codes " " ++ (second ++ 10 ∷ [])) ≡ figures_text keys slots ++ 10 ∷ []
+figures_line keys slots first second e f = rw (e, f) (sym (append_assoc (decimal keys) (32 ∷ decimal slots) (10 ∷ [])))
 
 -- a call that was obeyed met no fault
 pub no_fault : {T : Type 0} (f : Option CedarError) (x : T) → IfSome f (λ e. ◌≡◌ {A = Result T CedarError} (Ok x) (Err e)) → f ≡ None
@@ -92,24 +98,24 @@ pair_kind (b ∷ key) v e h = at_nul (position (λ c. c == 0) (b ∷ key)) h whe
   at_nul None f = value_kind v (int_le (pos 0) v && int_le v (pos 2147483645)) e f
 
 -- a value that was stored is taken back
-pub taken_back : (before : Option (ℤ × ℕ)) (old mid new : State) (key : List ℕ) (v : ℤ)
-    → before ≡ exact old.tree key → IsSound old.tree → IfSome before (λ found. value_fault found.0 ≡ None) → fault key v ≡ None
+pub taken_back : (before : Option ℤ) (old mid new : State) (key : List ℕ) (v : ℤ)
+    → before ≡ number_at old.tree key → IsSound old.tree → IfSome before (λ w. value_fault w ≡ None) → fault key v ≡ None
     → mid ≡ stored old key v
-    → MatchOption before (new ≡ erased mid key) (λ found. fault key found.0 ≡ None → IsSome (number_at mid.tree key) → new ≡ stored mid key found.0)
+    → MatchOption before (new ≡ erased mid key) (λ w. fault key w ≡ None → IsSome (number_at mid.tree key) → new ≡ stored mid key w)
     → new ≡ old
 taken_back None old mid new key v answer sound range none done back =
-    back ∙ ap (λ s. erased s key) done ∙ ap (λ t. record { tree = t; ordered = old.ordered }) (cut-put old.tree old.ordered key v sound.1 (exact_missed old.tree key answer))
-taken_back (Some found) old mid new key v answer sound range none done back =
-    back (fault_other key v found.0 none range) held
-    ∙ ap (λ s. stored s key found.0) done
+    back ∙ ap (λ s. erased s key) done ∙ ap (λ t. record { tree = t; ordered = old.ordered }) (cut-put old.tree old.ordered key v sound.1 (sym answer))
+taken_back (Some w) old mid new key v answer sound range none done back =
+    back (fault_other key v w none range) held
+    ∙ ap (λ s. stored s key w) done
     ∙ ap (λ t. record { tree = t; ordered = old.ordered })
-    (put-put old.tree old.ordered key v found.0
-    ∙ put_held old.tree old.ordered key found.0 (exact_found old.tree key found.0 found.1 answer).0) where
+    (put-put old.tree old.ordered key v w
+    ∙ put_held old.tree old.ordered key w (sym answer)) where
       held : IsSome (number_at mid.tree key)
       held = rw (done, number_at-put_same old.tree old.ordered key v) refl
 
 -- nothing of the answer is written, and the order is left
-pub Leaves-unanswered : (order : Option Order) (old new : State) (held : Option (List ℕ)) → new ≡ old → Leaves order old new held held
+pub Leaves-unanswered : (order : Option Order) (old : Seen) (new : State) (held : Option (List ℕ)) → new ≡ old.state → Leaves order old new held held
 Leaves-unanswered order old new held same =
     (same, ([], reply old order ++ 10 ∷ [], omega (arith, length-append (reply old order) (10 ∷ [])), refl, Appends-none held))
 
@@ -124,13 +130,13 @@ put_back (Err e) old new key v done refused fine held = absurd (not_held (number
   not_held (Some x) h e = absurd (cc)
 
 -- an answer of which a front alone was written leaves its order
-pub Leaves-front : (order : Option Order) (s : State) (held holds : Option (List ℕ)) (line : List ℕ)
-    → line ≡ reply s order → WritesFront held holds (line ++ 10 ∷ []) → Leaves order s s held holds
+pub Leaves-front : (order : Option Order) (s : Seen) (held holds : Option (List ℕ)) (line : List ℕ)
+    → line ≡ reply s order → WritesFront held holds (line ++ 10 ∷ []) → Leaves order s s.state held holds
 Leaves-front order s held holds line e h = (refl, subst (λ l. WritesFront held holds (l ++ 10 ∷ [])) e h)
 
 -- an answer that wasn't written whole leaves its order, where the tree is then the old one
-pub Leaves-if_err : {T E : Type 0} (r : Result T E) (order : Option Order) (old new : State) (held holds : Option (List ℕ)) (bytes : List ℕ)
-    → (is_err r ≡ true → new ≡ old) → bytes ≡ reply old order ++ 10 ∷ []
+pub Leaves-if_err : {T E : Type 0} (r : Result T E) (order : Option Order) (old : Seen) (new : State) (held holds : Option (List ℕ)) (bytes : List ℕ)
+    → (is_err r ≡ true → new ≡ old.state) → bytes ≡ reply old order ++ 10 ∷ []
     → OnErr r (WritesFront held holds bytes) → OnErr r (Leaves order old new held holds)
 Leaves-if_err (Ok x) order old new held holds bytes same e h = tt
 Leaves-if_err (Err x) order old new held holds bytes same e h = (same refl, subst (WritesFront held holds) e h)
@@ -145,14 +151,6 @@ no_shortage (DuplicateKey at) m s h = h
 no_shortage (KeysNotSorted at) m s h = h
 no_shortage Memory m s h = m refl
 no_shortage SlotLimit m s h = s refl
-
--- a put without a fault stores its value
-pub put_obeyed : (s : State) (key : List ℕ) (v : ℤ) → fault key v ≡ None → stored s key v ≡ obeyed s (Some (Put v, key))
-put_obeyed s key v clean = rw clean refl
-
--- one with a fault changes nothing
-pub put_refused : (s : State) (key : List ℕ) (v : ℤ) (e : CedarError) → fault key v ≡ Some e → s ≡ obeyed s (Some (Put v, key))
-put_refused s key v e why = rw why refl
 
 -- a call that failed is no success, and one that didn't is no failure
 pub on_not_ok : {T E : Type 0} (P : Type 0) (r : Result T E) → is_err r ≡ true → OnOk r P
@@ -183,10 +181,10 @@ pub none_reply : (t : Tree) (key : List ℕ) → None ≡ exact t key → codes 
 none_reply t key h = rw (exact_missed t key h) refl
 
 -- what an erasure answers was written
-pub erased_written : (s : State) (key : List ℕ) (found : ℤ × ℕ) (held holds : Option (List ℕ)) → ◌≡◌ {A = Option (ℤ × ℕ)} (Some found) (exact s.tree key)
+pub erased_written : (s : Seen) (key : List ℕ) (found : ℤ × ℕ) (held holds : Option (List ℕ)) → ◌≡◌ {A = Option (ℤ × ℕ)} (Some found) (exact s.state.tree key)
     → Appends held holds (codes "erased" ++ 10 ∷ []) → Appends held holds (reply s (Some (Erase, key)) ++ 10 ∷ [])
 erased_written s key found held holds h p = subst (λ (l : List ℕ). Appends held holds (l ++ 10 ∷ [])) (erased_reply s key found h) p
 
-pub absent_written : (s : State) (key : List ℕ) (held holds : Option (List ℕ)) → None ≡ exact s.tree key
+pub absent_written : (s : Seen) (key : List ℕ) (held holds : Option (List ℕ)) → None ≡ exact s.state.tree key
     → Appends held holds (codes "absent" ++ 10 ∷ []) → Appends held holds (reply s (Some (Erase, key)) ++ 10 ∷ [])
 absent_written s key held holds h p = subst (λ (l : List ℕ). Appends held holds (l ++ 10 ∷ [])) (absent_reply s key h) p

@@ -7,8 +7,9 @@ use Rattle.std.specs.Io.KnownBytes.{Consumes, Appends, Keeps, IsAtEnd}
 use Rattle.cedar_tree.specs.State.{State}
 use Rattle.cedar_cli.specs.Command.{order_of}
 use Rattle.cedar_cli.specs.Lines.{lines_of, IsOpen}
-use Rattle.cedar_cli.specs.Script.{Obeys, Leaves, Finishes, Splits, Advances, Stops, EndsEarly, IsCutShort, AppendsFront, reply, answer, answers, obeyed, state_after}
-use Rattle.cedar_cli.proofs.Bytes.{Appends-kept, Appends-none, cut_short_none, lines_of-last, Finishes-append, line_finished}
+use Rattle.cedar_cli.specs.Script.{Obeys, Leaves, Finishes, Splits, Advances, Stops, EndsEarly, IsCutShort, AppendsFront, answer, answers, obeyed, seen_after}
+use Rattle.cedar_cli.specs.Seen.{Seen}
+use Rattle.cedar_cli.proofs.Bytes.{Appends-append, Appends-kept, Appends-none, answers-append, cut_short_none, lines_of-last, Finishes-append, line_finished}
 
 -- bytes consumed in two parts
 pub Consumes-append : (a b c : Option (List ℕ)) (x y : List ℕ) → Consumes a b x → Consumes b c y → Consumes a c (x ++ y)
@@ -49,18 +50,25 @@ of_script None h f = tt
 of_script (Some input) h f = f input h
 
 -- a run that stopped in what came ended early
-pub ended_early : (old new : State) (held holds a b : Option (List ℕ)) (came : List ℕ)
+pub ended_early : (old : Seen) (new : State) (held holds a b : Option (List ℕ)) (came : List ℕ)
     → Consumes a b came → Stops old new held holds came → IfSome a (λ input. length input < 9223372036854775808 → EndsEarly old new held holds input)
 ended_early old new held holds None b came p h = tt
 ended_early old new held holds (Some input) None came p h = absurd p
 ended_early old new held holds (Some input) (Some rest) came p h = λ _.
-    (h.0, lines_of (h.1 ++ rest), ap lines_of p ∙ h.3 rest, (h.2, h.4, h.5 rest))
+    (h.0, lines_of (h.1 ++ rest), ap lines_of p ∙ h.3 rest, (h.2, h.4, h.5, h.6 rest))
 
 -- a run that has only advanced can stop
-pub Stops-from_advances : (old new : State) (held holds : Option (List ℕ)) (text left : List ℕ)
-    → Advances old new held holds text left → Stops old new held holds text
-Stops-from_advances old new held holds text left h =
-    (h.0, left, [], h.1, h.2, (λ rest. cut_short_none new (lines_of (left ++ rest))))
+pub Stops-from_advances : (old new : Seen) (held holds : Option (List ℕ)) (text left : List ℕ)
+    → Advances old new held holds text left → Stops old new.state held holds text
+Stops-from_advances old new held holds text left h = (
+  h.0,
+  left,
+  [],
+  h.1,
+  ap (λ (t : Seen). t.state) h.2.0,
+  rw (append-nil (answers old h.0)) h.2.1,
+  (λ rest. cut_short_none (seen_after old h.0) (lines_of (left ++ rest))),
+)
 
 -- the lines of a whole text
 whole : (text left : List ℕ) (finished : List (List ℕ)) → Splits text finished left → lines_of text ≡ finished ++ lines_of left
@@ -72,33 +80,36 @@ last_line [] o h = absurd (omega arith)
 last_line (b ∷ line) o h = lines_of-last b line o
 
 -- all lines are finished where nothing is left
-pub all_finished : (old new : State) (held holds : Option (List ℕ)) (text left : List ℕ)
-    → Advances old new held holds text left → left ≡ [] → Finishes old new held holds (lines_of text) []
+pub all_finished : (old new : Seen) (held holds : Option (List ℕ)) (text left : List ℕ)
+    → Advances old new held holds text left → left ≡ [] → Finishes old new held holds (lines_of text)
 all_finished old new held holds text left h e =
     rw (whole text left h.0 h.1 ∙ ap (λ l. h.0 ++ lines_of l) e ∙ append-nil h.0) h.2
 
 -- and where the last piece was answered
-pub last_finished : (old mid new : State) (a b c : Option (List ℕ)) (text line : List ℕ)
+pub last_finished : (old mid new : Seen) (a b c : Option (List ℕ)) (text line : List ℕ)
     → IsOpen line → 0 < length line → Advances old mid a b text line → Obeys (order_of line) mid new b c
-    → Finishes old new a c (lines_of text) []
+    → Finishes old new a c (lines_of text)
 last_finished old mid new a b c text line o long h k =
     rw (whole text line h.0 h.1 ∙ ap (λ l. h.0 ++ l) (last_line line o long))
-    (Finishes-append old mid new a b c h.0 (line ∷ []) [] h.2 (line_finished mid new b c line k))
+    (Finishes-append old mid new a b c h.0 (line ∷ []) h.2 (line_finished mid new b c line k))
 
 -- the answer to the last piece was not written whole
-pub last_left : (old mid new : State) (a b c : Option (List ℕ)) (text line : List ℕ)
+pub last_left : (old mid : Seen) (new : State) (a b c : Option (List ℕ)) (text line : List ℕ)
     → IsOpen line → 0 < length line → Advances old mid a b text line → Leaves (order_of line) mid new b c
     → EndsEarly old new a c text
-last_left old mid new a b c text line o long h k = (
-  h.0 ++ [],
-  line ∷ [],
-  whole text line h.0 h.1 ∙ ap (λ l. h.0 ++ l) (last_line line o long) ∙ ap (λ l. l ++ line ∷ []) (sym (append-nil h.0)),
-  (
-    k.1.0,
-    Finishes-append old mid new a b c h.0 [] k.1.0 h.2 (k.0, k.1.4),
-    (k.1.1, k.1.2, ap (λ t. reply t (order_of line) ++ 10 ∷ []) k.0 ∙ k.1.3),
-  ),
-)
+last_left old mid new a b c text line o long h k =
+    let front = k.1 in
+    let same : mid ≡ seen_after old h.0 = h.2.0 in (
+      h.0,
+      line ∷ [],
+      whole text line h.0 h.1 ∙ ap (λ l. h.0 ++ l) (last_line line o long),
+      (
+        front.0,
+        k.0 ∙ ap (λ (t : Seen). t.state) same,
+        Appends-append a b c (answers old h.0) front.0 h.2.1 front.4,
+        subst (λ (t : Seen). IsCutShort t (line ∷ []) front.0) same (front.1, front.2, front.3),
+      ),
+    )
 
 -- what holds of every script holds of a known one
 pub of_known : (P : List ℕ → Type 0) (a : Option (List ℕ)) → ((input : List ℕ) → P input) → IfSome a P
@@ -112,14 +123,8 @@ long_line line n e h = let ne = eqb-false n 0 h in omega arith
 pub short_line : (line : List ℕ) (n : ℕ) → length line ≡ n → (n == 0) ≡ true → line ≡ []
 short_line line n e h = nil_from_length line (e ∙ eqb-true n 0 h)
 
-answers-append : (s : State) (a b : List (List ℕ)) → answers s (a ++ b) ≡ answers s a ++ answers (state_after s a) b
-answers-append s [] b = refl
-answers-append s (line ∷ a) b =
-    ap (λ l. answer s line ++ l) (answers-append (obeyed s (order_of line)) a b)
-    ∙ sym (append_assoc (answer s line) (answers (obeyed s (order_of line)) a) (answers (state_after (obeyed s (order_of line)) a) b))
-
 -- what is cut short is a front of the answers
-cut_front : (s : State) (others : List (List ℕ)) (part : List ℕ) → IsCutShort s others part → (rest : List ℕ) × (answers s others ≡ part ++ rest)
+cut_front : (s : Seen) (others : List (List ℕ)) (part : List ℕ) → IsCutShort s others part → (rest : List ℕ) × (answers s others ≡ part ++ rest)
 cut_front s [] part cut = ([], sym (append-nil part ∙ cut))
 cut_front s (line ∷ lines) part cut = (
   cut.0 ++ answers (obeyed s (order_of line)) lines,
@@ -127,53 +132,51 @@ cut_front s (line ∷ lines) part cut = (
 )
 
 -- a run that ended early wrote a front of its script's answers
-pub ended_front : (old new : State) (held holds kept : Option (List ℕ)) (script : List ℕ)
+pub ended_front : (old : Seen) (new : State) (held holds kept : Option (List ℕ)) (script : List ℕ)
     → EndsEarly old new held holds script → Keeps holds kept → AppendsFront held kept (answers old (lines_of script))
 ended_front old new held holds kept script h k =
     let finished = h.0 in
     let others = h.1 in
     let part = h.3.0 in
-    let more = cut_front new others part h.3.2 in (
+    let more = cut_front (seen_after old finished) others part h.3.3 in (
       answers old finished ++ part,
       more.0,
       ap (answers old) h.2 ∙ answers-append old finished others
-          ∙ ap (λ s. answers old finished ++ answers s others) (sym h.3.1.0)
           ∙ ap (λ l. answers old finished ++ l) more.1
           ∙ sym (append_assoc (answers old finished) part more.0),
-      Appends-kept held holds kept (answers old finished ++ part) h.3.1.1 k,
+      Appends-kept held holds kept (answers old finished ++ part) h.3.2 k,
     )
 
 -- one that finished wrote them all
-pub finished_front : (old new : State) (held holds kept : Option (List ℕ)) (lines : List (List ℕ))
-    → Finishes old new held holds lines [] → Keeps holds kept → AppendsFront held kept (answers old lines)
+pub finished_front : (old new : Seen) (held holds kept : Option (List ℕ)) (lines : List (List ℕ))
+    → Finishes old new held holds lines → Keeps holds kept → AppendsFront held kept (answers old lines)
 finished_front old new held holds kept lines h k =
-    (answers old lines, [], sym (append-nil (answers old lines)), Appends-kept held holds kept (answers old lines) (subst (Appends held holds) (append-nil (answers old lines)) h.1) k)
+    (answers old lines, [], sym (append-nil (answers old lines)), Appends-kept held holds kept (answers old lines) h.1 k)
 
 -- what a program's run that ended early wrote
-pub ended_fronts : (old new : State) (held holds kept input : Option (List ℕ)) → Keeps holds kept
+pub ended_fronts : (old : Seen) (new : State) (held holds kept input : Option (List ℕ)) → Keeps holds kept
     → IfSome input (λ script. length script < 9223372036854775808 → EndsEarly old new held holds script)
     → IfSome input (λ script. length script < 9223372036854775808 → AppendsFront held kept (answers old (lines_of script)))
 ended_fronts old new held holds kept None k h = tt
 ended_fronts old new held holds kept (Some script) k h = λ few. ended_front old new held holds kept script (h few) k
 
 -- what a program's run that answered its whole script wrote, where the writer keeps its bytes
-pub finished_whole : (old new : State) (held holds kept input : Option (List ℕ)) → Keeps holds kept
-    → IfSome input (λ script. length script < 9223372036854775808 → Finishes old new held holds (lines_of script) [])
+pub finished_whole : (old new : Seen) (held holds kept input : Option (List ℕ)) → Keeps holds kept
+    → IfSome input (λ script. length script < 9223372036854775808 → Finishes old new held holds (lines_of script))
     → IfSome input (λ script. length script < 9223372036854775808 → Appends held kept (answers old (lines_of script)))
 finished_whole old new held holds kept None k h = tt
 finished_whole old new held holds kept (Some script) k h = λ few.
-    let lines = lines_of script in
-    Appends-kept held holds kept (answers old lines) (subst (Appends held holds) (append-nil (answers old lines)) (h few).1) k
+    Appends-kept held holds kept (answers old (lines_of script)) (h few).1 k
 
 -- and that is a front of its answers
-pub finished_fronts : (old new : State) (held holds kept input : Option (List ℕ)) → Keeps holds kept
-    → IfSome input (λ script. length script < 9223372036854775808 → Finishes old new held holds (lines_of script) [])
+pub finished_fronts : (old new : Seen) (held holds kept input : Option (List ℕ)) → Keeps holds kept
+    → IfSome input (λ script. length script < 9223372036854775808 → Finishes old new held holds (lines_of script))
     → IfSome input (λ script. length script < 9223372036854775808 → AppendsFront held kept (answers old (lines_of script)))
 finished_fronts old new held holds kept None k h = tt
 finished_fronts old new held holds kept (Some script) k h = λ few. finished_front old new held holds kept (lines_of script) (h few) k
 
 -- nothing written is a front of all answers
-pub none_front : (s : State) (held input : Option (List ℕ))
+pub none_front : (s : Seen) (held input : Option (List ℕ))
     → IfSome input (λ script. length script < 9223372036854775808 → AppendsFront held held (answers s (lines_of script)))
 none_front s held None = tt
 none_front s held (Some script) = λ few. ([], answers s (lines_of script), refl, Appends-none held)

@@ -5,7 +5,7 @@ use Rattle.std.specs.Result.{result_ok}
 use Rattle.std.specs.Str.Parse.{without_leading_sign, signed_digits_value}
 use Rattle.hex.specs.Hex.{decode_of}
 use Rattle.cedar_cli.specs.declared.command.Verb.{Verb}
-use Rattle.cedar_cli.specs.declared.command.Verb.TheVariants.{Put, Erase, Exact, Segment, Prefixes, Predict, Entries}
+use Rattle.cedar_cli.specs.declared.command.Verb.TheVariants.{Put, Erase, Exact, Segment, Prefixes, Predict, Entries, Figures}
 
 -- what to do, and with which key
 abbrev pub Order : Type 0
@@ -47,10 +47,14 @@ abbrev pub with_key_and_value : List ℕ → Option Order
 with_key_and_value text =
     option_and_then (λ key. option_map (λ v. (Put v, key)) (value_of (after_first is_space text))) (key_of (before_first is_space text))
 
--- the order of a line: `+ K V`, `- K`, `= K`, `< K`, `> K`, `/ K` or `*`, whose key is the empty one
+-- a line without a key
+abbrev pub alone : ℕ → Option Order
+alone c = if c == 42 then Some (Entries, []) else if c == 35 then Some (Figures, []) else None
+
+-- the order of a line: `+ K V`, `- K`, `= K`, `< K`, `> K`, `/ K`, or `*` or `#`, whose key is the empty one
 abbrev pub order_of : List ℕ → Option Order
 order_of [] = None
-order_of (c ∷ []) = if c == 42 then Some (Entries, []) else None
+order_of (c ∷ []) = alone c
 order_of (c ∷ space ∷ rest) =
     if space == 32 then
     if c == 43 then with_key_and_value rest

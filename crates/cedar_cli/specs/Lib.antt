@@ -9,3 +9,4 @@ pub mod Command
 pub mod Lines
 pub mod Options
 pub mod Script
+pub mod Seen

@@ -1,12 +1,12 @@
--- What a script's run writes, and the state that it leaves: first of one order, then of the lines of a script,
+-- What a script's run writes, and what it leaves: first of one order, then of the lines of a script,
 -- and last of a run that has come to some place in its script.
 use Rattle.std.specs.Prelude.{◌≡◌, ℕ, ◌<◌, if◌then◌else◌, ℤ, List, [], ◌∷◌, ◌++◌, length, Option, Some, None, codes, decimal, is_some}
 use Rattle.std.specs.Fmt.{signed_decimal}
 use Rattle.std.specs.Io.KnownBytes.{Appends}
 use Rattle.cedar_tree.specs.Tree.{number_at}
 use Rattle.cedar_tree.specs.Queries.{Entry, front, predict, walk}
-use Rattle.cedar_tree.specs.State.{State, stored, erased}
-use Rattle.cedar_cli.specs.declared.command.Verb.TheVariants.{Put, Erase, Exact, Segment, Prefixes, Predict, Entries}
+use Rattle.cedar_tree.specs.State.{State}
+use Rattle.cedar_cli.specs.declared.command.Verb.TheVariants.{Put, Erase, Exact, Segment, Prefixes, Predict, Entries, Figures}
 use Rattle.cedar_slots.specs.declared.error.CedarError.{CedarError}
 use Rattle.cedar_slots.specs.declared.error.CedarError.TheVariants.{EmptyKey, NulByte, InvalidValue}
 use Rattle.cedarwood.specs.Fault.{fault}
@@ -14,6 +14,7 @@ use Rattle.hex.specs.Hex.{encode_lower}
 use Rattle.cedar_words.specs.Words.{Token, segments}
 use Rattle.cedar_cli.specs.Command.{Order, order_of}
 use Rattle.cedar_cli.specs.Lines.{lines_of}
+use Rattle.cedar_cli.specs.Seen.{Seen, cut_in, is_held, put_in, slots_held}
 
 -- a pair was at fault, and no call wanted memory or slots
 abbrev pub IsPairFault : CedarError → Type 0
@@ -79,22 +80,27 @@ abbrev pub entry_lines : List Entry → List ℕ
 entry_lines [] = []
 entry_lines (entry ∷ entries) = entry_line entry ++ entry_lines entries
 
+-- how many keys are held and how many slots, with a space between them
+abbrev pub figures_text : ℕ → ℕ → List ℕ
+figures_text keys slots = decimal keys ++ 32 ∷ decimal slots
+
 -- what is answered to an order, without the byte 10 at its end
-abbrev pub reply : State → Option Order → List ℕ
+abbrev pub reply : Seen → Option Order → List ℕ
 reply s None = codes "bad line"
 reply s (Some (Put v, key)) = refusal (fault key v)
-reply s (Some (Erase, key)) = if is_some (number_at s.tree key) then codes "erased" else codes "absent"
-reply s (Some (Exact, key)) = found_text (number_at s.tree key) (length key)
-reply s (Some (Segment, key)) = tokens_text (segments s.tree key)
-reply s (Some (Prefixes, key)) = pairs_text (front s.tree key)
-reply s (Some (Predict, key)) = pairs_text (predict s.tree key)
-reply s (Some (Entries, key)) = entry_lines (walk s.tree) ++ codes "end"
+reply s (Some (Erase, key)) = if is_held s key then codes "erased" else codes "absent"
+reply s (Some (Exact, key)) = found_text (number_at s.state.tree key) (length key)
+reply s (Some (Segment, key)) = tokens_text (segments s.state.tree key)
+reply s (Some (Prefixes, key)) = pairs_text (front s.state.tree key)
+reply s (Some (Predict, key)) = pairs_text (predict s.state.tree key)
+reply s (Some (Entries, key)) = entry_lines (walk s.state.tree) ++ codes "end"
+reply s (Some (Figures, key)) = figures_text (length (walk s.state.tree)) (slots_held s)
 
--- the state after an order
-abbrev pub obeyed : State → Option Order → State
+-- what is seen after an order
+abbrev pub obeyed : Seen → Option Order → Seen
 obeyed s None = s
-obeyed s (Some (Put v, key)) = if is_some (fault key v) then s else stored s key v
-obeyed s (Some (Erase, key)) = erased s key
+obeyed s (Some (Put v, key)) = if is_some (fault key v) then s else put_in s key v
+obeyed s (Some (Erase, key)) = cut_in s key
 obeyed s (Some (verb, key)) = s
 
 -- What a device holds is known or not: `Some` bytes, or `None` where it doesn't tell. Below, `held` is what the
@@ -109,46 +115,46 @@ abbrev pub AppendsFront : Option (List ℕ) → Option (List ℕ) → List ℕ �
 AppendsFront held holds bytes = (part : List ℕ) × (rest : List ℕ) × (bytes ≡ part ++ rest) × Appends held holds part
 
 -- an order was obeyed, and its answer written whole
-abbrev pub Obeys : Option Order → State → State → Option (List ℕ) → Option (List ℕ) → Type 0
+abbrev pub Obeys : Option Order → Seen → Seen → Option (List ℕ) → Option (List ℕ) → Type 0
 Obeys order old new held holds = (new ≡ obeyed old order) × Appends held holds (reply old order ++ 10 ∷ [])
 
 -- an order was not obeyed: its answer was not written whole, and the state stays
-abbrev pub Leaves : Option Order → State → State → Option (List ℕ) → Option (List ℕ) → Type 0
-Leaves order old new held holds = (new ≡ old) × WritesFront held holds (reply old order ++ 10 ∷ [])
+abbrev pub Leaves : Option Order → Seen → State → Option (List ℕ) → Option (List ℕ) → Type 0
+Leaves order old new held holds = (new ≡ old.state) × WritesFront held holds (reply old order ++ 10 ∷ [])
 
 -- the answer to a line, with its byte 10
-abbrev pub answer : State → List ℕ → List ℕ
+abbrev pub answer : Seen → List ℕ → List ℕ
 answer s line = reply s (order_of line) ++ 10 ∷ []
 
 -- the answers to some lines, one after another
-abbrev pub answers : State → List (List ℕ) → List ℕ
+abbrev pub answers : Seen → List (List ℕ) → List ℕ
 answers s [] = []
 answers s (line ∷ lines) = answer s line ++ answers (obeyed s (order_of line)) lines
 
--- the state after some lines
-abbrev pub state_after : State → List (List ℕ) → State
-state_after s [] = s
-state_after s (line ∷ lines) = state_after (obeyed s (order_of line)) lines
+-- what is seen after some lines
+abbrev pub seen_after : Seen → List (List ℕ) → Seen
+seen_after s [] = s
+seen_after s (line ∷ lines) = seen_after (obeyed s (order_of line)) lines
 
--- a dictionary came from one state to another by these lines, and the writer took their answers and then these bytes
-abbrev pub Finishes : State → State → Option (List ℕ) → Option (List ℕ) → List (List ℕ) → List ℕ → Type 0
-Finishes old new held holds lines more =
-    (new ≡ state_after old lines) × Appends held holds (answers old lines ++ more)
+-- a dictionary came from one state to another by these lines, and the writer took their answers
+abbrev pub Finishes : Seen → Seen → Option (List ℕ) → Option (List ℕ) → List (List ℕ) → Type 0
+Finishes old new held holds lines = (new ≡ seen_after old lines) × Appends held holds (answers old lines)
 
 -- some bytes are part of the answer to the first of these lines, and not all of it
-abbrev pub IsCutShort : State → List (List ℕ) → List ℕ → Type 0
+abbrev pub IsCutShort : Seen → List (List ℕ) → List ℕ → Type 0
 IsCutShort s [] part = part ≡ []
 IsCutShort s (line ∷ lines) part = (rest : List ℕ) × (0 < length rest) × (answer s line ≡ part ++ rest)
 
 -- Some lines of a script were finished, and no other: their answers were written whole, the next one's was
 -- not, and the state is theirs.
-abbrev pub StopsAfter : State → State → Option (List ℕ) → Option (List ℕ) → List (List ℕ) → List (List ℕ) → Type 0
+abbrev pub StopsAfter : Seen → State → Option (List ℕ) → Option (List ℕ) → List (List ℕ) → List (List ℕ) → Type 0
 StopsAfter old new held holds finished others =
-    (part : List ℕ) × Finishes old new held holds finished part × IsCutShort new others part
+    (part : List ℕ) × (new ≡ (seen_after old finished).state)
+    × Appends held holds (answers old finished ++ part) × IsCutShort (seen_after old finished) others part
 
 -- A run ended before its script did: the script's first lines are finished, and no other. Here nothing follows
 -- the script, so its last piece is a line without a byte 10 too.
-abbrev pub EndsEarly : State → State → Option (List ℕ) → Option (List ℕ) → List ℕ → Type 0
+abbrev pub EndsEarly : Seen → State → Option (List ℕ) → Option (List ℕ) → List ℕ → Type 0
 EndsEarly old new held holds script =
     (finished : List (List ℕ)) × (others : List (List ℕ)) × (lines_of script ≡ finished ++ others)
     × StopsAfter old new held holds finished others
@@ -159,12 +165,13 @@ abbrev pub Splits : List ℕ → List (List ℕ) → List ℕ → Type 0
 Splits text finished left = (rest : List ℕ) → lines_of (text ++ rest) ≡ finished ++ lines_of (left ++ rest)
 
 -- a text was taken: its whole lines are finished, and this is left of it
-abbrev pub Advances : State → State → Option (List ℕ) → Option (List ℕ) → List ℕ → List ℕ → Type 0
+abbrev pub Advances : Seen → Seen → Option (List ℕ) → Option (List ℕ) → List ℕ → List ℕ → Type 0
 Advances old new held holds text left =
-    (finished : List (List ℕ)) × Splits text finished left × Finishes old new held holds finished []
+    (finished : List (List ℕ)) × Splits text finished left × Finishes old new held holds finished
 
 -- the run stopped in a text: some of its lines are finished, and the next one's answer was not written whole
-abbrev pub Stops : State → State → Option (List ℕ) → Option (List ℕ) → List ℕ → Type 0
+abbrev pub Stops : Seen → State → Option (List ℕ) → Option (List ℕ) → List ℕ → Type 0
 Stops old new held holds text =
     (finished : List (List ℕ)) × (left : List ℕ) × (part : List ℕ) × Splits text finished left
-    × Finishes old new held holds finished part × ((rest : List ℕ) → IsCutShort new (lines_of (left ++ rest)) part)
+    × (new ≡ (seen_after old finished).state) × Appends held holds (answers old finished ++ part)
+    × ((rest : List ℕ) → IsCutShort (seen_after old finished) (lines_of (left ++ rest)) part)

@@ -9,7 +9,8 @@ ghost use Rattle.cedarwood.specs.Fault.{fault};
 ghost use Rattle.cedarwood.specs.WatchedDevice.{device_of, has_failed};
 ghost use Rattle.cedar_cli.specs.Blocks.{GrowsWithin};
 ghost use Rattle.cedar_cli.specs.Command.{order_of};
-ghost use Rattle.cedar_cli.specs.Script.{Obeys, Leaves, WritesFront, IsPairFault, refusal, found_text};
+ghost use Rattle.cedar_cli.specs.Script.{Obeys, Leaves, WritesFront, IsPairFault, refusal, found_text, figures_text};
+ghost use Rattle.cedar_cli.specs.Seen.{seen};
 
 use crate::command::{Verb, parse_line};
 use crate::entry_lines::write_entries;
@@ -29,9 +30,9 @@ pub(crate) fn answer_line<L: Layout, const SLOTS: usize, A: Allocator + Copy, W:
     line: &[u8],
     writer: &mut Watched<W>,
 ) -> Result<(), ScriptError>
-    ensures ok { OnOk result (Obeys (order_of line.now) trie.old.state trie.new.state
+    ensures ok { OnOk result (Obeys (order_of line.now) (seen L.kind trie.old) (seen L.kind trie.new)
         (W.contents (device_of writer.old)) (W.contents (device_of writer.new))) }
-    ensures err { OnErr result (Leaves (order_of line.now) trie.old.state trie.new.state
+    ensures err { OnErr result (Leaves (order_of line.now) (seen L.kind trie.old) trie.new.state
         (W.contents (device_of writer.old)) (W.contents (device_of writer.new))) }
     ensures cause { result ≡ Err ScriptError.Write → has_failed writer.new ≡ true }
     ensures unfailed { OnOk result (has_failed writer.new ≡ has_failed writer.old) }
@@ -54,6 +55,7 @@ pub(crate) fn answer_line<L: Layout, const SLOTS: usize, A: Allocator + Copy, W:
             Verb::Prefixes => answer_prefixes(trie, &command.key, writer),
             Verb::Predict => answer_predict(trie, &command.key, writer),
             Verb::Entries => answer_entries(trie, &command.key, writer),
+            Verb::Figures => answer_figures(trie, &command.key, writer),
             Verb::Segment => answer_segment(trie, &command.key, writer),
         },
     }
@@ -67,9 +69,9 @@ fn answer_put<L: Layout, const SLOTS: usize, A: Allocator + Copy, W: Write>(
     value: i32,
     writer: &mut Watched<W>,
 ) -> Result<(), ScriptError>
-    ensures ok { OnOk result (Obeys (Some (Verb.Put value, key.now)) trie.old.state trie.new.state
+    ensures ok { OnOk result (Obeys (Some (Verb.Put value, key.now)) (seen L.kind trie.old) (seen L.kind trie.new)
         (W.contents (device_of writer.old)) (W.contents (device_of writer.new))) }
-    ensures err { OnErr result (Leaves (Some (Verb.Put value, key.now)) trie.old.state trie.new.state
+    ensures err { OnErr result (Leaves (Some (Verb.Put value, key.now)) (seen L.kind trie.old) trie.new.state
         (W.contents (device_of writer.old)) (W.contents (device_of writer.new))) }
     ensures cause { result ≡ Err ScriptError.Write → has_failed writer.new ≡ true }
     ensures unfailed { OnOk result (has_failed writer.new ≡ has_failed writer.old) }
@@ -81,9 +83,8 @@ fn answer_put<L: Layout, const SLOTS: usize, A: Allocator + Copy, W: Write>(
     ensures blocks { GrowsWithin (length key.now) trie.old trie.new }
     ensures max_trial { trie.new.max_trial ≡ trie.old.max_trial }
 {
-    let before = trie.exact_match_search_bytes(key);
-    match trie.update_bytes(key, value) {
-        Ok(()) => {
+    match trie.insert_bytes(key, value) {
+        Ok(before) => {
             let written = write_whole(writer, b"ok\n");
             if written.is_err() {
                 take_back(trie, key, before);
@@ -104,9 +105,9 @@ fn answer_erase<L: Layout, const SLOTS: usize, A: Allocator + Copy, W: Write>(
     key: &[u8],
     writer: &mut Watched<W>,
 ) -> Result<(), ScriptError>
-    ensures ok { OnOk result (Obeys (Some (Verb.Erase, key.now)) trie.old.state trie.new.state
+    ensures ok { OnOk result (Obeys (Some (Verb.Erase, key.now)) (seen L.kind trie.old) (seen L.kind trie.new)
         (W.contents (device_of writer.old)) (W.contents (device_of writer.new))) }
-    ensures err { OnErr result (Leaves (Some (Verb.Erase, key.now)) trie.old.state trie.new.state
+    ensures err { OnErr result (Leaves (Some (Verb.Erase, key.now)) (seen L.kind trie.old) trie.new.state
         (W.contents (device_of writer.old)) (W.contents (device_of writer.new))) }
     ensures cause { OnErr result ((result ≡ Err ScriptError.Write) × (has_failed writer.new ≡ true)) }
     ensures unfailed { OnOk result (has_failed writer.new ≡ has_failed writer.old) }
@@ -127,9 +128,9 @@ fn answer_exact<L: Layout, const SLOTS: usize, A: Allocator + Copy, W: Write>(
     key: &[u8],
     writer: &mut Watched<W>,
 ) -> Result<(), ScriptError>
-    ensures ok { OnOk result (Obeys (Some (Verb.Exact, key.now)) trie.now.state trie.now.state
+    ensures ok { OnOk result (Obeys (Some (Verb.Exact, key.now)) (seen L.kind trie.now) (seen L.kind trie.now)
         (W.contents (device_of writer.old)) (W.contents (device_of writer.new))) }
-    ensures err { OnErr result (Leaves (Some (Verb.Exact, key.now)) trie.now.state trie.now.state
+    ensures err { OnErr result (Leaves (Some (Verb.Exact, key.now)) (seen L.kind trie.now) trie.now.state
         (W.contents (device_of writer.old)) (W.contents (device_of writer.new))) }
     ensures cause { OnErr result ((result ≡ Err ScriptError.Write) × (has_failed writer.new ≡ true)) }
     ensures unfailed { OnOk result (has_failed writer.new ≡ has_failed writer.old) }
@@ -146,9 +147,9 @@ fn answer_prefixes<L: Layout, const SLOTS: usize, A: Allocator + Copy, W: Write>
     key: &[u8],
     writer: &mut Watched<W>,
 ) -> Result<(), ScriptError>
-    ensures ok { OnOk result (Obeys (Some (Verb.Prefixes, key.now)) trie.now.state trie.now.state
+    ensures ok { OnOk result (Obeys (Some (Verb.Prefixes, key.now)) (seen L.kind trie.now) (seen L.kind trie.now)
         (W.contents (device_of writer.old)) (W.contents (device_of writer.new))) }
-    ensures err { OnErr result (Leaves (Some (Verb.Prefixes, key.now)) trie.now.state trie.now.state
+    ensures err { OnErr result (Leaves (Some (Verb.Prefixes, key.now)) (seen L.kind trie.now) trie.now.state
         (W.contents (device_of writer.old)) (W.contents (device_of writer.new))) }
     ensures cause { OnErr result ((result ≡ Err ScriptError.Write) × (has_failed writer.new ≡ true)) }
     ensures unfailed { OnOk result (has_failed writer.new ≡ has_failed writer.old) }
@@ -162,9 +163,9 @@ fn answer_predict<L: Layout, const SLOTS: usize, A: Allocator + Copy, W: Write>(
     key: &[u8],
     writer: &mut Watched<W>,
 ) -> Result<(), ScriptError>
-    ensures ok { OnOk result (Obeys (Some (Verb.Predict, key.now)) trie.now.state trie.now.state
+    ensures ok { OnOk result (Obeys (Some (Verb.Predict, key.now)) (seen L.kind trie.now) (seen L.kind trie.now)
         (W.contents (device_of writer.old)) (W.contents (device_of writer.new))) }
-    ensures err { OnErr result (Leaves (Some (Verb.Predict, key.now)) trie.now.state trie.now.state
+    ensures err { OnErr result (Leaves (Some (Verb.Predict, key.now)) (seen L.kind trie.now) trie.now.state
         (W.contents (device_of writer.old)) (W.contents (device_of writer.new))) }
     ensures cause { OnErr result ((result ≡ Err ScriptError.Write) × (has_failed writer.new ≡ true)) }
     ensures unfailed { OnOk result (has_failed writer.new ≡ has_failed writer.old) }
@@ -178,9 +179,9 @@ fn answer_entries<L: Layout, const SLOTS: usize, A: Allocator + Copy, W: Write>(
     key: &[u8],
     writer: &mut Watched<W>,
 ) -> Result<(), ScriptError>
-    ensures ok { OnOk result (Obeys (Some (Verb.Entries, key.now)) trie.now.state trie.now.state
+    ensures ok { OnOk result (Obeys (Some (Verb.Entries, key.now)) (seen L.kind trie.now) (seen L.kind trie.now)
         (W.contents (device_of writer.old)) (W.contents (device_of writer.new))) }
-    ensures err { OnErr result (Leaves (Some (Verb.Entries, key.now)) trie.now.state trie.now.state
+    ensures err { OnErr result (Leaves (Some (Verb.Entries, key.now)) (seen L.kind trie.now) trie.now.state
         (W.contents (device_of writer.old)) (W.contents (device_of writer.new))) }
     ensures cause { result ≡ Err ScriptError.Write → has_failed writer.new ≡ true }
     ensures starved { result ≡ Err ScriptError.Memory → has_failed writer.new ≡ has_failed writer.old }
@@ -194,15 +195,31 @@ fn answer_entries<L: Layout, const SLOTS: usize, A: Allocator + Copy, W: Write>(
     write_entries(writer, entries)
 }
 
+/// Answers how many keys are held, and how many slots. The line has no key, so any key will do.
+fn answer_figures<L: Layout, const SLOTS: usize, A: Allocator + Copy, W: Write>(
+    trie: &Trie<L, SLOTS, A>,
+    key: &[u8],
+    writer: &mut Watched<W>,
+) -> Result<(), ScriptError>
+    ensures ok { OnOk result (Obeys (Some (Verb.Figures, key.now)) (seen L.kind trie.now) (seen L.kind trie.now)
+        (W.contents (device_of writer.old)) (W.contents (device_of writer.new))) }
+    ensures err { OnErr result (Leaves (Some (Verb.Figures, key.now)) (seen L.kind trie.now) trie.now.state
+        (W.contents (device_of writer.old)) (W.contents (device_of writer.new))) }
+    ensures cause { OnErr result ((result ≡ Err ScriptError.Write) × (has_failed writer.new ≡ true)) }
+    ensures unfailed { OnOk result (has_failed writer.new ≡ has_failed writer.old) }
+{
+    write_figures(writer, trie.len(), trie.used_node_slots())
+}
+
 /// Answers the tokens of a text.
 fn answer_segment<L: Layout, const SLOTS: usize, A: Allocator + Copy, W: Write>(
     trie: &Trie<L, SLOTS, A>,
     text: &[u8],
     writer: &mut Watched<W>,
 ) -> Result<(), ScriptError>
-    ensures ok { OnOk result (Obeys (Some (Verb.Segment, text.now)) trie.now.state trie.now.state
+    ensures ok { OnOk result (Obeys (Some (Verb.Segment, text.now)) (seen L.kind trie.now) (seen L.kind trie.now)
         (W.contents (device_of writer.old)) (W.contents (device_of writer.new))) }
-    ensures err { OnErr result (Leaves (Some (Verb.Segment, text.now)) trie.now.state trie.now.state
+    ensures err { OnErr result (Leaves (Some (Verb.Segment, text.now)) (seen L.kind trie.now) trie.now.state
         (W.contents (device_of writer.old)) (W.contents (device_of writer.new))) }
     ensures cause { OnErr result ((result ≡ Err ScriptError.Write) × (has_failed writer.new ≡ true)) }
     ensures unfailed { OnOk result (has_failed writer.new ≡ has_failed writer.old) }
@@ -214,17 +231,17 @@ fn answer_segment<L: Layout, const SLOTS: usize, A: Allocator + Copy, W: Write>(
 fn take_back<L: Layout, const SLOTS: usize, A: Allocator + Copy>(
     trie: &mut Trie<L, SLOTS, A>,
     key: &[u8],
-    before: Option<(i32, usize)>,
+    before: Option<i32>,
 )
-    ensures blocks { MatchOption before (Grows 0 trie.old trie.new) (λ found. IsSome (number_at trie.old.state.tree key.now) → Grows 0 trie.old trie.new) }
+    ensures blocks { MatchOption before (Grows 0 trie.old trie.new) (λ _. IsSome (number_at trie.old.state.tree key.now) → Grows 0 trie.old trie.new) }
     ensures max_trial { trie.new.max_trial ≡ trie.old.max_trial }
     ensures state { MatchOption before
         (trie.new.state ≡ erased trie.old.state key.now)
-        (λ found. fault key.now found.0 ≡ None → IsSome (number_at trie.old.state.tree key.now)
-        → trie.new.state ≡ stored trie.old.state key.now found.0) }
+        (λ v. fault key.now v ≡ None → IsSome (number_at trie.old.state.tree key.now)
+        → trie.new.state ≡ stored trie.old.state key.now v) }
 {
     match before {
-        Some((value, _)) => {
+        Some(value) => {
             let _ = trie.update_bytes(key, value);
         }
         None => {
@@ -270,6 +287,22 @@ fn write_found<W: Write>(
     let mut figures = Buffer::new();
     write_whole(writer, figures.format(value).as_bytes())?;
     write_line(writer, b" ", figures.format(length).as_bytes())
+}
+
+/// Writes the line of two figures. It takes no memory.
+fn write_figures<W: Write>(
+    writer: &mut Watched<W>,
+    keys: usize,
+    slots: usize,
+) -> Result<(), ScriptError>
+    ensures ok { OnOk result (Appends (W.contents (device_of writer.old)) (W.contents (device_of writer.new)) (figures_text keys slots ++ 10 ∷ [])) }
+    ensures err { OnErr result (WritesFront (W.contents (device_of writer.old)) (W.contents (device_of writer.new)) (figures_text keys slots ++ 10 ∷ [])) }
+    ensures cause { OnErr result ((result ≡ Err ScriptError.Write) × (has_failed writer.new ≡ true)) }
+    ensures unfailed { OnOk result (has_failed writer.new ≡ has_failed writer.old) }
+{
+    let mut figures = Buffer::new();
+    write_whole(writer, figures.format(keys).as_bytes())?;
+    write_line(writer, b" ", figures.format(slots).as_bytes())
 }
 
 /// Writes two parts.

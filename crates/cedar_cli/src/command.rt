@@ -1,4 +1,4 @@
-ghost use Rattle.std.specs.Prelude.{◌≡◌, IfOk, option_map, position};
+ghost use Rattle.std.specs.Prelude.{◌≡◌, [], IfOk, option_map, position};
 ghost use Rattle.std.specs.List.{before_first, after_first};
 ghost use Rattle.cedar_cli.specs.Command.{order_of, key_of, value_of, is_space, with_key};
 
@@ -18,6 +18,8 @@ pub(crate) enum Verb {
     Predict,
     /// All entries. The key is empty.
     Entries,
+    /// How many keys and slots are held. The key is empty.
+    Figures,
     /// Cut the key into tokens.
     Segment,
 }
@@ -55,11 +57,20 @@ pub(crate) fn parse_line<A: Allocator + Copy>(
         [b'<', b' ', rest @ ..] => keyed(alloc, Verb::Prefixes, rest),
         [b'>', b' ', rest @ ..] => keyed(alloc, Verb::Predict, rest),
         [b'/', b' ', rest @ ..] => keyed(alloc, Verb::Segment, rest),
-        [b'*'] => Ok(Some(Command {
-            verb: Verb::Entries,
-            key: Vec::new(alloc),
-        })),
+        [b'*'] => Ok(Some(keyless(alloc, Verb::Entries))),
+        [b'#'] => Ok(Some(keyless(alloc, Verb::Figures))),
         _ => Ok(None),
+    }
+}
+
+/// The command of a line without a key.
+fn keyless<A: Allocator>(alloc: A, verb: Verb) -> Command<A>
+    ensures verb { result.verb ≡ verb }
+    ensures key { result.key.items ≡ [] }
+{
+    Command {
+        verb,
+        key: Vec::new(alloc),
     }
 }
 

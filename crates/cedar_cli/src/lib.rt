@@ -10,6 +10,7 @@
 //! | `< K` | the fronts of K that are held, each as `V:N`: its value, and one less than its bytes; `none` where there is none |
 //! | `> K` | the keys that begin with K, each as `V:N`: its value, and how many bytes follow K; `none` where there is none |
 //! | `*` | a line `H V` for each key in the order of the walk, H in lower case hexadecimal, and then `end` |
+//! | `#` | how many keys are held, and how many slots, as `2 5` |
 //! | `/ K` | the tokens of K, each as `S:L:V`: where it begins, its length in bytes and its value, `-` where it has none; `none` for the empty K |
 //! | any other | `bad line` |
 //!

@@ -1,7 +1,7 @@
 //! The program's options.
 
 ghost use Rattle.std.specs.Prelude.{◌≡◌, option_map};
-ghost use Rattle.cedar_cli.specs.Options.{asked_besides, asked_by, shown, words};
+ghost use Rattle.cedar_cli.specs.Options.{asked_besides, asked_by, is_excluded, shown, words};
 
 /// What the arguments ask for.
 #[derive(Clone, Copy, Debug)]
@@ -12,6 +12,8 @@ pub(crate) struct Options<'a> {
     pub load: Option<&'a str>,
     /// The file that it is saved in.
     pub save: Option<&'a str>,
+    /// Whether it is saved in format 1.0.
+    pub v1_0: bool,
 }
 
 /// What the arguments ask for, or None where they are wrong.
@@ -22,6 +24,7 @@ pub(crate) fn options_of<'a>(arguments: &[&'a str]) -> Option<Options<'a>>
         ordered: true,
         load: None,
         save: None,
+        v1_0: false,
     };
     with_options(nothing, arguments)
 }
@@ -31,12 +34,19 @@ fn with_options<'a>(options: Options<'a>, arguments: &[&'a str]) -> Option<Optio
     ensures { option_map shown result ≡ asked_besides (shown options.entry) (words arguments.now) }
 {
     let Some((word, after)) = arguments.split_first() else {
-        let excluded = !options.ordered && options.load.is_some();
-        return if excluded { None } else { Some(options) };
+        return if is_excluded(options) {
+            None
+        } else {
+            Some(options)
+        };
     };
     if *word == "--unordered" && options.ordered {
         let ordered = false;
         return with_options(Options { ordered, ..options }, after);
+    }
+    if *word == "--v1-0" && !options.v1_0 {
+        let v1_0 = true;
+        return with_options(Options { v1_0, ..options }, after);
     }
     let (path, after) = after.split_first()?;
     if *word == "--load" && options.load.is_none() {
@@ -48,4 +58,13 @@ fn with_options<'a>(options: Options<'a>, arguments: &[&'a str]) -> Option<Optio
         return with_options(Options { save, ..options }, after);
     }
     None
+}
+
+/// Whether the options don't go together: a loaded dictionary has its own order, and a format is one to save in.
+fn is_excluded(options: Options<'_>) -> bool
+    ensures { result ≡ is_excluded (shown options.entry) }
+{
+    let two_orders = !options.ordered && options.load.is_some();
+    let no_save = options.v1_0 && options.save.is_none();
+    two_orders || no_save
 }

@@ -3,11 +3,11 @@
 ghost use Rattle.std.specs.Prelude.{◌≡◌, ◌<◌, ◌≤◌, ◌^◌, ◌↔◌, true, length, None, OnOk, OnErr, IfErr, IfOk, IfSome};
 ghost use Rattle.std.specs.Io.KnownBytes.{Appends};
 ghost use Rattle.cedar_slots.specs.Places.{IsSlotLimit};
-ghost use Rattle.cedar_tree.specs.State.{State};
 ghost use Rattle.cedarwood.specs.WatchedDevice.{device_of, has_failed};
 ghost use Rattle.cedar_cli.specs.Lines.{lines_of};
 ghost use Rattle.cedar_cli.specs.Options.{asked_by, shown, BeginsWith};
 ghost use Rattle.cedar_cli.specs.Script.{answers, AppendsFront};
+ghost use Rattle.cedar_cli.specs.Seen.{Seen, seen};
 
 use crate::fits::fits;
 use crate::options::{Options, options_of};
@@ -30,7 +30,7 @@ pub const USAGE: u8 = 2;
 pub const REFUSED: u8 = 3;
 
 /// The line that wrong arguments are answered by.
-pub const USAGE_LINE: &str = "usage: cedar [--unordered] [--load PATH] [--save PATH]\n";
+pub const USAGE_LINE: &str = "usage: cedar [--unordered] [--load PATH] [--save PATH] [--v1-0]\n";
 
 /// What ends a run early.
 #[derive(Debug, Drop)]
@@ -47,7 +47,8 @@ enum Fault {
 /// - `--unordered`: a new label goes before its siblings and not to its ascending place;
 /// - `--load PATH`: the dictionary is loaded from this file, and not empty at first; not beside `--unordered`, since a
 ///   file has its settings;
-/// - `--save PATH`: once all is answered and flushed, it is saved in this file.
+/// - `--save PATH`: once all is answered and flushed, it is saved in this file;
+/// - `--v1-0`, only beside `--save`: it is saved in format 1.0, and not in 1.1.
 ///
 /// The first fault ends the run, so nothing is saved after one. After a fault of the script what was answered is still
 /// flushed, and a fault of that flush isn't told.
@@ -74,14 +75,14 @@ pub fn run_program<
     ensures silent { result ≡ 0 → errors.new ≡ errors.old }
 
     // All lines of the input are answered, and nothing else was written.
-    ensures done { result ≡ 0 → IfSome (asked_by arguments.now) (λ asked. (begun : State) × BeginsWith asked begun × IfSome (R.remaining (device_of reader.old)) (λ input. length input < 2 ^ 63 →
+    ensures done { result ≡ 0 → IfSome (asked_by arguments.now) (λ asked. (begun : Seen) × BeginsWith L.kind asked begun × IfSome (R.remaining (device_of reader.old)) (λ input. length input < 2 ^ 63 →
         Appends (W.contents (device_of writer.old)) (W.contents (device_of writer.new)) (answers begun (lines_of input)))) }
 
     // No call of the reader or the writer failed.
     ensures unfailed { result ≡ 0 → (has_failed reader.new ≡ has_failed reader.old) × (has_failed writer.new ≡ has_failed writer.old) }
 
     // Whatever happens, what was written begins the answers.
-    ensures begun { IfSome (asked_by arguments.now) (λ asked. (begun : State) × BeginsWith asked begun × IfSome (R.remaining (device_of reader.old)) (λ input. length input < 2 ^ 63 →
+    ensures begun { IfSome (asked_by arguments.now) (λ asked. (begun : Seen) × BeginsWith L.kind asked begun × IfSome (R.remaining (device_of reader.old)) (λ input. length input < 2 ^ 63 →
         AppendsFront (W.contents (device_of writer.old)) (W.contents (device_of writer.new)) (answers begun (lines_of input)))) }
 {
     let Some(options) = options_of(arguments) else {
@@ -125,9 +126,9 @@ fn run_options<L: Layout, const SLOTS: usize, F: Files, A: Allocator + Copy, R: 
     writer: &mut Watched<W>,
 ) -> Result<(), Fault>
     requires limit { IsSlotLimit SLOTS }
-    ensures ok { OnOk result ((begun : State) × BeginsWith (shown options.entry) begun × IfSome (R.remaining (device_of reader.old)) (λ input. length input < 2 ^ 63 →
+    ensures ok { OnOk result ((begun : Seen) × BeginsWith L.kind (shown options.entry) begun × IfSome (R.remaining (device_of reader.old)) (λ input. length input < 2 ^ 63 →
         Appends (W.contents (device_of writer.old)) (W.contents (device_of writer.new)) (answers begun (lines_of input)))) }
-    ensures begun { (begun : State) × BeginsWith (shown options.entry) begun × IfSome (R.remaining (device_of reader.old)) (λ input. length input < 2 ^ 63 →
+    ensures begun { (begun : Seen) × BeginsWith L.kind (shown options.entry) begun × IfSome (R.remaining (device_of reader.old)) (λ input. length input < 2 ^ 63 →
         AppendsFront (W.contents (device_of writer.old)) (W.contents (device_of writer.new)) (answers begun (lines_of input))) }
     ensures unfailed { OnOk result ((has_failed reader.new ≡ has_failed reader.old) × (has_failed writer.new ≡ has_failed writer.old)) }
 {
@@ -148,10 +149,15 @@ fn save<L: Layout, const SLOTS: usize, F: Files, A: Allocator + Copy>(
     trie: &Trie<L, SLOTS, A>,
     options: Options<'_>,
 ) -> Result<(), Fault> {
-    match options.save {
-        Some(path) => trie.save_to_path(files, path).map_err(Fault::Save),
-        None => Ok(()),
-    }
+    let Some(path) = options.save else {
+        return Ok(());
+    };
+    let saved = if options.v1_0 {
+        trie.save_v1_0_to_path(files, path)
+    } else {
+        trie.save_to_path(files, path)
+    };
+    saved.map_err(Fault::Save)
 }
 
 /// The dictionary that the script begins with.
@@ -161,7 +167,7 @@ fn first_trie<L: Layout, const SLOTS: usize, F: Files, A: Allocator + Copy>(
     options: Options<'_>,
 ) -> Result<Trie<L, SLOTS, A>, Fault>
     requires limit { IsSlotLimit SLOTS }
-    ensures { IfOk result (λ trie. BeginsWith (shown options.entry) trie.state) }
+    ensures { IfOk result (λ trie. BeginsWith L.kind (shown options.entry) (seen L.kind trie)) }
 {
     match options.load {
         Some(path) => Trie::load_from_path(alloc, files, path).map_err(Fault::Load),
@@ -183,9 +189,9 @@ fn answer_script<L: Layout, const SLOTS: usize, A: Allocator + Copy, R: Read, W:
     writer: &mut Watched<W>,
 ) -> Result<(), ScriptError>
     ensures ok { OnOk result (IfSome (R.remaining (device_of reader.old)) (λ input. length input < 2 ^ 63 →
-        Appends (W.contents (device_of writer.old)) (W.contents (device_of writer.new)) (answers trie.old.state (lines_of input)))) }
+        Appends (W.contents (device_of writer.old)) (W.contents (device_of writer.new)) (answers (seen L.kind trie.old) (lines_of input)))) }
     ensures begun { IfSome (R.remaining (device_of reader.old)) (λ input. length input < 2 ^ 63 →
-        AppendsFront (W.contents (device_of writer.old)) (W.contents (device_of writer.new)) (answers trie.old.state (lines_of input))) }
+        AppendsFront (W.contents (device_of writer.old)) (W.contents (device_of writer.new)) (answers (seen L.kind trie.old) (lines_of input))) }
     ensures read_cause { result ≡ Err ScriptError.Read → has_failed reader.new ≡ true }
     ensures write_cause { result ≡ Err ScriptError.Write → has_failed writer.new ≡ true }
     ensures unfailed { OnOk result ((has_failed reader.new ≡ has_failed reader.old) × (has_failed writer.new ≡ has_failed writer.old)) }

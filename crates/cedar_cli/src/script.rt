@@ -6,6 +6,7 @@ ghost use Rattle.cedarwood.specs.WatchedDevice.{device_of, has_failed};
 ghost use Rattle.cedar_cli.specs.Blocks.{GrowsBefore, GrowsWithin};
 ghost use Rattle.cedar_cli.specs.Lines.{lines_of, IsOpen, is_newline};
 ghost use Rattle.cedar_cli.specs.Script.{Finishes, Advances, Stops, EndsEarly};
+ghost use Rattle.cedar_cli.specs.Seen.{seen};
 
 use crate::answers::answer_line;
 use cedarwood::{Layout, Trie, Watched};
@@ -50,19 +51,19 @@ pub fn run_script<L: Layout, const SLOTS: usize, A: Allocator + Copy, R: Read, W
 ) -> Result<(), ScriptError>
     // All lines of what the reader had left are finished, and nothing else was written.
     ensures ok { OnOk result (IfSome (R.remaining (device_of reader.old)) (λ input. length input < 2 ^ 63 →
-        Finishes trie.old.state trie.new.state
-        (W.contents (device_of writer.old)) (W.contents (device_of writer.new)) (lines_of input) [])) }
+        Finishes (seen L.kind trie.old) (seen L.kind trie.new)
+        (W.contents (device_of writer.old)) (W.contents (device_of writer.new)) (lines_of input))) }
 
     // The first lines are finished, the next one's answer was not written whole, and the state is theirs.
     ensures err { OnErr result (IfSome (R.remaining (device_of reader.old)) (λ input. length input < 2 ^ 63 →
-        EndsEarly trie.old.state trie.new.state
+        EndsEarly (seen L.kind trie.old) trie.new.state
         (W.contents (device_of writer.old)) (W.contents (device_of writer.new)) input)) }
 
     // After a fault of the reader the finished lines are those that came whole.
     ensures read { result ≡ Err ScriptError.Read → IfSome (R.remaining (device_of reader.old)) (λ input.
         (came : List ℕ) × (line : List ℕ)
         × Consumes (R.remaining (device_of reader.old)) (R.remaining (device_of reader.new)) came
-        × IsOpen line × Advances trie.old.state trie.new.state
+        × IsOpen line × Advances (seen L.kind trie.old) (seen L.kind trie.new)
         (W.contents (device_of writer.old)) (W.contents (device_of writer.new)) came line) }
 
     ensures read_cause { result ≡ Err ScriptError.Read → has_failed reader.new ≡ true }
@@ -112,9 +113,9 @@ fn take_bytes<L: Layout, const SLOTS: usize, A: Allocator + Copy, W: Write>(
 ) -> Result<(), ScriptError>
     requires open { IsOpen line.old.items }
     ensures still_open { OnOk result (IsOpen line.new.items) }
-    ensures ok { OnOk result (Advances trie.old.state trie.new.state
+    ensures ok { OnOk result (Advances (seen L.kind trie.old) (seen L.kind trie.new)
         (W.contents (device_of writer.old)) (W.contents (device_of writer.new)) (line.old.items ++ bytes.now) line.new.items) }
-    ensures err { OnErr result (Stops trie.old.state trie.new.state
+    ensures err { OnErr result (Stops (seen L.kind trie.old) trie.new.state
         (W.contents (device_of writer.old)) (W.contents (device_of writer.new)) (line.old.items ++ bytes.now)) }
     ensures cause { result ≡ Err ScriptError.Write → has_failed writer.new ≡ true }
     ensures unfailed { OnOk result (has_failed writer.new ≡ has_failed writer.old) }
@@ -156,9 +157,9 @@ fn end_line<L: Layout, const SLOTS: usize, A: Allocator + Copy, W: Write>(
     requires open { IsOpen line.old.items }
     requires open_piece { IsOpen piece.now }
     ensures empty { OnOk result (line.new.items ≡ []) }
-    ensures ok { OnOk result (Advances trie.old.state trie.new.state
+    ensures ok { OnOk result (Advances (seen L.kind trie.old) (seen L.kind trie.new)
         (W.contents (device_of writer.old)) (W.contents (device_of writer.new)) (line.old.items ++ (piece.now ++ 10 ∷ [])) []) }
-    ensures err { OnErr result (Stops trie.old.state trie.new.state
+    ensures err { OnErr result (Stops (seen L.kind trie.old) trie.new.state
         (W.contents (device_of writer.old)) (W.contents (device_of writer.new)) (line.old.items ++ (piece.now ++ 10 ∷ []))) }
     ensures cause { result ≡ Err ScriptError.Write → has_failed writer.new ≡ true }
     ensures unfailed { OnOk result (has_failed writer.new ≡ has_failed writer.old) }

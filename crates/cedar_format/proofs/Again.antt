@@ -35,12 +35,12 @@ flag_fits : (b : Bool) → (if b then 1 else 0) < 2 ^ 16
 flag_fits true = omega arith
 flag_fits false = omega arith
 
-all_same : (a0 b0 : Bool) (a1 b1 : ℤ) (a2 b2 : ℤ) (a3 b3 : ℤ) (a4 b4 : ℤ) (a5 b5 : ℕ) (a6 b6 : ℕ) (a7 b7 : ℕ) (a8 b8 : ℕ) (a9 b9 : ℕ) (a10 b10 : ℕ) (a11 b11 : ℕ) → a0 ≡ b0 → a1 ≡ b1 → a2 ≡ b2 → a3 ≡ b3 → a4 ≡ b4 → a5 ≡ b5 → a6 ≡ b6 → a7 ≡ b7 → a8 ≡ b8 → a9 ≡ b9 → a10 ≡ b10 → a11 ≡ b11
-    → ◌≡◌ {A = Header} (record { ordered = a0; max_trial = a1; full_head = a2; closed_head = a3; open_head = a4; array_len = a5; n_infos_len = a6; blocks_len = a7; reject_len = a8; capacity = a9; size = a10; entries = a11 }) (record { ordered = b0; max_trial = b1; full_head = b2; closed_head = b3; open_head = b4; array_len = b5; n_infos_len = b6; blocks_len = b7; reject_len = b8; capacity = b9; size = b10; entries = b11 })
-all_same a0 b0 a1 b1 a2 b2 a3 b3 a4 b4 a5 b5 a6 b6 a7 b7 a8 b8 a9 b9 a10 b10 a11 b11 p0 p1 p2 p3 p4 p5 p6 p7 p8 p9 p10 p11 = cc
+all_same : (m n : ℕ) (a0 b0 : Bool) (a1 b1 : ℤ) (a2 b2 : ℤ) (a3 b3 : ℤ) (a4 b4 : ℤ) (a5 b5 : ℕ) (a6 b6 : ℕ) (a7 b7 : ℕ) (a8 b8 : ℕ) (a9 b9 : ℕ) (a10 b10 : ℕ) (a11 b11 : ℕ) → m ≡ n → a0 ≡ b0 → a1 ≡ b1 → a2 ≡ b2 → a3 ≡ b3 → a4 ≡ b4 → a5 ≡ b5 → a6 ≡ b6 → a7 ≡ b7 → a8 ≡ b8 → a9 ≡ b9 → a10 ≡ b10 → a11 ≡ b11
+    → ◌≡◌ {A = Header} (record { minor = m; ordered = a0; max_trial = a1; full_head = a2; closed_head = a3; open_head = a4; array_len = a5; n_infos_len = a6; blocks_len = a7; reject_len = a8; capacity = a9; size = a10; entries = a11 }) (record { minor = n; ordered = b0; max_trial = b1; full_head = b2; closed_head = b3; open_head = b4; array_len = b5; n_infos_len = b6; blocks_len = b7; reject_len = b8; capacity = b9; size = b10; entries = b11 })
+all_same m n a0 b0 a1 b1 a2 b2 a3 b3 a4 b4 a5 b5 a6 b6 a7 b7 a8 b8 a9 b9 a10 b10 a11 b11 p p0 p1 p2 p3 p4 p5 p6 p7 p8 p9 p10 p11 = cc
 
-pub same_header : (a b : Header) → a.ordered ≡ b.ordered → a.max_trial ≡ b.max_trial → a.full_head ≡ b.full_head → a.closed_head ≡ b.closed_head → a.open_head ≡ b.open_head → a.array_len ≡ b.array_len → a.n_infos_len ≡ b.n_infos_len → a.blocks_len ≡ b.blocks_len → a.reject_len ≡ b.reject_len → a.capacity ≡ b.capacity → a.size ≡ b.size → a.entries ≡ b.entries → a ≡ b
-same_header a b p0 p1 p2 p3 p4 p5 p6 p7 p8 p9 p10 p11 = all_same a.ordered b.ordered a.max_trial b.max_trial a.full_head b.full_head a.closed_head b.closed_head a.open_head b.open_head a.array_len b.array_len a.n_infos_len b.n_infos_len a.blocks_len b.blocks_len a.reject_len b.reject_len a.capacity b.capacity a.size b.size a.entries b.entries p0 p1 p2 p3 p4 p5 p6 p7 p8 p9 p10 p11
+pub same_header : (a b : Header) → a.minor ≡ b.minor → a.ordered ≡ b.ordered → a.max_trial ≡ b.max_trial → a.full_head ≡ b.full_head → a.closed_head ≡ b.closed_head → a.open_head ≡ b.open_head → a.array_len ≡ b.array_len → a.n_infos_len ≡ b.n_infos_len → a.blocks_len ≡ b.blocks_len → a.reject_len ≡ b.reject_len → a.capacity ≡ b.capacity → a.size ≡ b.size → a.entries ≡ b.entries → a ≡ b
+same_header a b p p0 p1 p2 p3 p4 p5 p6 p7 p8 p9 p10 p11 = all_same a.minor b.minor a.ordered b.ordered a.max_trial b.max_trial a.full_head b.full_head a.closed_head b.closed_head a.open_head b.open_head a.array_len b.array_len a.n_infos_len b.n_infos_len a.blocks_len b.blocks_len a.reject_len b.reject_len a.capacity b.capacity a.size b.size a.entries b.entries p p0 p1 p2 p3 p4 p5 p6 p7 p8 p9 p10 p11
 
 module _ (layout : ℕ) (h : Header) (rest : List ℕ) where
   pub layout_again : slice_index (header_bytes layout h ++ rest) 13 ≡ layout
@@ -50,6 +50,10 @@ module _ (layout : ℕ) (h : Header) (rest : List ℕ) where
   pub flags_again : u16_at 14 (header_bytes layout h ++ rest) ≡ flags_of h
   unfolding u16_at u16_bytes
   flags_again = from_le_bytes-to_le_bytes_2 (flags_of h) (flag_fits h.ordered)
+
+  pub minor_again : h.minor < 2 ^ 16 → u16_at 10 (header_bytes layout h ++ rest) ≡ h.minor
+  unfolding u16_at u16_bytes
+  minor_again fits = from_le_bytes-to_le_bytes_2 h.minor fits
 
   ordered_again : (u16_at 14 (header_bytes layout h ++ rest) == 1) ≡ h.ordered
   unfolding u16_at u16_bytes
@@ -101,7 +105,7 @@ module _ (layout : ℕ) (h : Header) (rest : List ℕ) where
 
   -- the fields that the bytes of a header give are those of the header
   pub header_again : FitsHeader h → header_at (header_bytes layout h ++ rest) ≡ h
-  header_again fits = same_header (header_at (header_bytes layout h ++ rest)) h ordered_again (max_trial_again fits.max_trial) (full_head_again fits.full_head) (closed_head_again fits.closed_head) (open_head_again fits.open_head) (array_len_again fits.array_len) (n_infos_len_again fits.n_infos_len) (blocks_len_again fits.blocks_len) (reject_len_again fits.reject_len) (capacity_again fits.capacity) (size_again fits.size) (entries_again fits.entries)
+  header_again fits = same_header (header_at (header_bytes layout h ++ rest)) h (minor_again fits.minor) ordered_again (max_trial_again fits.max_trial) (full_head_again fits.full_head) (closed_head_again fits.closed_head) (open_head_again fits.open_head) (array_len_again fits.array_len) (n_infos_len_again fits.n_infos_len) (blocks_len_again fits.blocks_len) (reject_len_again fits.reject_len) (capacity_again fits.capacity) (size_again fits.size) (entries_again fits.entries)
 
 -- ---- records
 

@@ -11,7 +11,7 @@ same_front a b x y len e = sym (take_at a x (length a) refl) ∙ ap (take (lengt
 pub same_rest : (a b x y : List ℕ) → length a ≡ length b → a ++ x ≡ b ++ y → x ≡ y
 same_rest a b x y len e = sym (drop_at a x (length a) refl) ∙ ap (drop (length a)) e ∙ drop_at b y (length a) (sym len)
 
-cons_same : {X : Type 0} (x y : X) (xs ys : List X) → x ≡ y → xs ≡ ys → x ∷ xs ≡ y ∷ ys
+pub cons_same : {X : Type 0} (x y : X) (xs ys : List X) → x ≡ y → xs ≡ ys → x ∷ xs ≡ y ∷ ys
 cons_same x y xs ys p q = cc
 
 module _ {X : Type 0} (bytes_of : X → List ℕ) (n : ℕ) (Fits : X → Type 0) (same_len : (x : X) → length (bytes_of x) ≡ n)

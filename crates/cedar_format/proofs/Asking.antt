@@ -2,7 +2,7 @@
 use Rattle.std.proofs.Common.{◌≡◌, ℕ, ◌+◌, ◌≤◌, List, length, take, Option, Some, None, inr, arith, ap, ◌∙◌, take_at, refl}
 use Rattle.std.specs.Io.KnownBytes.{Consumes}
 use Rattle.cedar_format.specs.declared.header.Header.{Header}
-use Rattle.cedar_format.specs.Format.{body_len, need, size_refusal, CountsWithin, IsHeader, Passes}
+use Rattle.cedar_format.specs.Format.{tables_len, need, size_refusal, CountsWithin, IsHeader, Passes}
 use Rattle.cedar_format.specs.Reading.{Begins}
 use Rattle.cedar_format.proofs.Sizes.{within_need}
 
@@ -16,7 +16,7 @@ pub passes : (layout slots limit : ℕ) (front : List ℕ) (h : Header) (old now
 passes layout slots limit front h old now head sizes took = record { front = front; is = head; sizes = sizes; first = begins old now front took }
 
 pub asks_within : (layout slots limit : ℕ) (front : List ℕ) (h : Header) (old now : Option (List ℕ)) (before after : ℕ) → IsHeader layout front h → size_refusal slots limit h ≡ None
-    → Consumes old now front → after ≤ before + body_len h → CountsWithin layout slots limit old need before after
+    → Consumes old now front → after ≤ before + tables_len h → CountsWithin layout slots limit old need before after
 asks_within layout slots limit front h old now before after head sizes took most =
     let within = within_need slots limit h sizes in
     inr (h, passes layout slots limit front h old now head sizes took, omega arith)

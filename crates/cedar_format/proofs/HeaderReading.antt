@@ -6,7 +6,7 @@ use Rattle.std.proofs.lemmas.Option.{IfSome_then}
 use Rattle.std.proofs.lemmas.List.{take_at}
 use Rattle.cedar_format.specs.declared.error.CedarPersistenceError.{CedarPersistenceError}
 use Rattle.cedar_format.specs.declared.header.Header.{Header}
-use Rattle.cedar_format.specs.Format.{header_at, header_bytes, header_refusal, FitsHeader, IsHeader}
+use Rattle.cedar_format.specs.Format.{header_at, header_bytes, header_refusal, FitsHeader, IsHeader, IsVersion}
 use Rattle.cedar_format.specs.Refusal.{Refusal, refusal}
 use Rattle.std.specs.Io.KnownBytes.{Consumes, IsAtEnd}
 
@@ -42,12 +42,12 @@ answer_known old new buf size count failed (Some error) answer result expected l
 -- an accepted header is what was read
 pub accepted_header : (old new : Option (List ℕ)) (front : List ℕ) (layout : ℕ) (answer result : Result Header CedarPersistenceError)
     → IfOk result (λ h. answer ≡ Ok h) → IfOk answer (λ h. h ≡ header_at front) → OnOk answer (88 ≤ length front)
-    → IfOk answer (λ h. take 88 front ≡ header_bytes layout h) → IfOk answer FitsHeader
+    → IfOk answer (λ h. take 88 front ≡ header_bytes layout h) → IfOk answer FitsHeader → IfOk answer (λ h. IsVersion h.minor)
     → refusal answer ≡ header_refusal layout front → Consumes old new front → length front ≤ 88
     → IfOk result (λ h. (bytes : List ℕ) × Consumes old new bytes × IsHeader layout bytes h)
-accepted_header old new front layout answer (Err e) same fields whole spelled fits known took within = tt
-accepted_header old new front layout (Err e) (Ok h) same fields whole spelled fits known took within = absurd cc
-accepted_header old new front layout (Ok k) (Ok h) same fields whole spelled fits known took within =
+accepted_header old new front layout answer (Err e) same fields whole spelled fits version known took within = tt
+accepted_header old new front layout (Err e) (Ok h) same fields whole spelled fits version known took within = absurd cc
+accepted_header old new front layout (Ok k) (Ok h) same fields whole spelled fits version known took within =
     let e : k ≡ h = cc in
     let all : take 88 front ≡ front = take_all 88 front within in (
       front,
@@ -56,6 +56,7 @@ accepted_header old new front layout (Ok k) (Ok h) same fields whole spelled fit
         len = omega arith;
         accepted = sym known;
         fields = sym e ∙ fields;
+        known = subst (λ j. IsVersion j.minor) e version;
         spelled = sym all ∙ spelled ∙ ap (header_bytes layout) e;
         fits = subst FitsHeader e fits;
       },

@@ -95,20 +95,20 @@ module _ (bytes : List ℕ) (whole : 88 ≤ length bytes) (fits : AreBytes bytes
       drop-cons bytes k 0 (omega arith) ∙ ap (λ x. x ∷ drop (suc k) bytes) is ∙ ap (λ n. b ∷ drop n bytes) next
 
   -- the 88 bytes are the fields of the header, one after another
-  pub header_spelled : (layout : ℕ) → true ≡ starts_with nat_eq bytes magic → u16_at 8 bytes ≡ 1 → u16_at 10 bytes ≡ 0 → slice_index bytes 12 ≡ 1 → slice_index bytes 13 ≡ layout → u16_at 14 bytes < 2
+  pub header_spelled : (layout : ℕ) → true ≡ starts_with nat_eq bytes magic → u16_at 8 bytes ≡ 1 → slice_index bytes 12 ≡ 1 → slice_index bytes 13 ≡ layout → u16_at 14 bytes < 2
       → take 88 bytes ≡ header_bytes layout (header_at bytes)
-  header_spelled layout begins major minor order found flags =
+  header_spelled layout begins major order found flags =
       let h = header_at bytes in
       let marked : bytes ≡ magic ++ drop 8 bytes = sym (take-append-drop 8 bytes) ∙ ap (λ l. l ++ drop 8 bytes) (sym (same_text magic (take 8 bytes) begins)) in
       let version : drop 8 bytes ≡ u16_bytes 1 ++ drop 10 bytes = u16_piece 8 10 refl (omega arith) ∙ ap (λ n. u16_bytes n ++ drop 10 bytes) major in
-      let part : drop 10 bytes ≡ u16_bytes 0 ++ drop 12 bytes = u16_piece 10 12 refl (omega arith) ∙ ap (λ n. u16_bytes n ++ drop 12 bytes) minor in
+      let part : drop 10 bytes ≡ u16_bytes h.minor ++ drop 12 bytes = u16_piece 10 12 refl (omega arith) in
       let flag : u16_at 14 bytes ≡ flags_of h = flags_are (u16_at 14 bytes) flags in
       let settings : drop 14 bytes ≡ u16_bytes (flags_of h) ++ drop 16 bytes = u16_piece 14 16 refl (omega arith) ∙ ap (λ n. u16_bytes n ++ drop 16 bytes) flag in
       let all : bytes ≡ header_bytes layout h ++ drop 88 bytes =
       marked
       ∙ ap (λ l. magic ++ l) (version
       ∙ ap (λ l. u16_bytes 1 ++ l) (part
-      ∙ ap (λ l. u16_bytes 0 ++ l) (byte_piece 12 13 1 refl (omega arith) order
+      ∙ ap (λ l. u16_bytes h.minor ++ l) (byte_piece 12 13 1 refl (omega arith) order
       ∙ ap (λ l. 1 ∷ l) (byte_piece 13 14 layout refl (omega arith) found
       ∙ ap (λ l. layout ∷ l) (settings
       ∙ ap (λ l. u16_bytes (flags_of h) ++ l) (i32_piece 16 20 refl (omega arith)

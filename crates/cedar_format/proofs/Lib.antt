@@ -7,8 +7,11 @@ pub mod Sizes
 pub mod Asking
 pub mod Again
 pub mod Apart
+pub mod Filled
 pub mod OneTable
+pub mod FilledFile
 pub mod FileTable
+pub mod Writing
 pub mod Passing
 pub mod Missing
 pub mod HeaderReading

@@ -1,5 +1,5 @@
 -- The file of a well-formed table passes.
-use Rattle.std.proofs.Common.{◌≡◌, ℕ, zero, suc, ◌+◌, ◌*◌, ◌/◌, ◌%◌, ◌^◌, ◌≤◌, ◌<◌, ◌≤ℤ◌, true, List, [], ◌∷◌, ◌++◌, length, take, Option, None, arith, rules, refl, sym, ap, ◌∙◌, append-nil, take_at, length-append}
+use Rattle.std.proofs.Common.{◌≡◌, ℕ, zero, suc, ◌+◌, ◌*◌, ◌/◌, ◌%◌, ◌^◌, ◌≤◌, ◌<◌, ◌≤ℤ◌, true, List, [], ◌∷◌, ◌++◌, length, take, Option, None, arith, rules, refl, sym, ap, ◌∙◌, append-nil, take_at, length-append, length-take-le}
 use Rattle.std.proofs.Math.Nat.{pow-succ'}
 use Rattle.std.proofs.lemmas.Bool.{eq-eqb, le-leb}
 use Rattle.std.proofs.lemmas.Bool.Decides.{nat_tests}
@@ -19,19 +19,19 @@ use Rattle.cedar_table.specs.Meaning.WellFormed.{cells_in, IsWellFormed, tree_of
 use Rattle.cedar_table.proofs.MeaningLemmas.HeldCount.{count_is_named, entries_named}
 use Rattle.cedar_format.specs.declared.header.Header.{Header}
 use Rattle.cedar_format.specs.Numbers.{i16_bytes, length-i16_bytes, u16_bytes}
-use Rattle.cedar_format.specs.Records.{block_bytes, body_bytes, info_bytes, node_bytes}
+use Rattle.cedar_format.specs.Records.{block_bytes, info_bytes, node_bytes}
 use Rattle.cedar_format.specs.Refusal.{Refusal, Truncated, TrailingData, first_refusal, unless}
-use Rattle.cedar_format.specs.Format.{body_refusal, file_len, flags_of, header_answer, header_at, header_bytes, header_refusal, magic, need, size_refusal, trial_refusal, u16_at, FitsHeader}
-use Rattle.cedar_format.specs.Tables.{header_of, table_bytes, FitsTable}
-use Rattle.cedar_format.proofs.Again.{flag_below, flags_again, header_again}
+use Rattle.cedar_format.specs.Format.{body_refusal, file_len, flags_of, header_answer, header_at, header_bytes, header_refusal, listed_bytes, listed_in, magic, need, size_refusal, trial_refusal, u16_at, FitsHeader, IsVersion}
+use Rattle.cedar_format.specs.Tables.{header_of, slots_listed, table_bytes, FitsTable}
+use Rattle.cedar_format.proofs.Again.{flag_below, flags_again, header_again, minor_again}
 use Rattle.cedar_format.proofs.HeaderSpelling.{length-header_bytes}
 use Rattle.cedar_format.proofs.Lists.{length-flat_map_same}
-use Rattle.cedar_format.proofs.OneTable.{block_len, info_len, node_len}
+use Rattle.cedar_format.proofs.OneTable.{block_len, info_len, listed_fits, node_len}
 
 pub read_again : (layout : ℕ) (h : Header) → FitsHeader h → header_at (header_bytes layout h) ≡ h
 read_again layout h fits = ap header_at (sym (append-nil (header_bytes layout h))) ∙ header_again layout h [] fits
 
-front_passes : (layout : ℕ) (bytes : List ℕ) → 88 ≤ length bytes → starts_with nat_eq bytes magic ≡ true → u16_at 8 bytes ≡ 1 → u16_at 10 bytes ≡ 0 → slice_index bytes 12 ≡ 1 → slice_index bytes 13 ≡ layout
+front_passes : (layout : ℕ) (bytes : List ℕ) → 88 ≤ length bytes → starts_with nat_eq bytes magic ≡ true → u16_at 8 bytes ≡ 1 → u16_at 10 bytes < 2 → slice_index bytes 12 ≡ 1 → slice_index bytes 13 ≡ layout
     → u16_at 14 bytes < 2 → header_refusal layout bytes ≡ None
 front_passes layout bytes whole begins major minor order found flags =
     let to_8 : nat_le 8 (length bytes) ≡ true = le-leb 8 (length bytes) (omega arith) in
@@ -41,16 +41,19 @@ front_passes layout bytes whole begins major minor order found flags =
     let to_16 : nat_le 16 (length bytes) ≡ true = le-leb 16 (length bytes) (omega arith) in
     let to_88 : nat_le 88 (length bytes) ≡ true = le-leb 88 (length bytes) whole in
     let same : (layout == layout) ≡ true = eq-eqb layout layout refl in
+    let read : nat_lt (u16_at 10 bytes) 2 ≡ true = grind (arith, nat_tests) in
     let few : nat_lt (u16_at 14 bytes) 2 ≡ true = grind (arith, nat_tests) in
-    rw (to_8, begins, to_12, major, minor, to_13, order, to_14, found, same, to_16, few, to_88) refl
+    rw (to_8, begins, to_12, major, read, to_13, order, to_14, found, same, to_16, few, to_88) refl
 
 major_is : (layout : ℕ) (h : Header) → u16_at 8 (header_bytes layout h) ≡ 1
 unfolding u16_at u16_bytes
 major_is layout h = refl
 
-minor_is : (layout : ℕ) (h : Header) → u16_at 10 (header_bytes layout h) ≡ 0
-unfolding u16_at u16_bytes
-minor_is layout h = refl
+minor_is : (layout : ℕ) (h : Header) → h.minor < 2 → u16_at 10 (header_bytes layout h) < 2
+minor_is layout h known =
+    let again = minor_again layout h [] (omega arith) in
+    let same : u16_at 10 (header_bytes layout h) ≡ h.minor = ap (u16_at 10) (sym (append-nil (header_bytes layout h))) ∙ again in
+    omega arith
 
 order_is : (layout : ℕ) (h : Header) → slice_index (header_bytes layout h) 12 ≡ 1
 unfolding u16_bytes
@@ -67,10 +70,10 @@ flags_pass layout h =
     let same : u16_at 14 (header_bytes layout h) ≡ flags_of h = ap (u16_at 14) (sym (append-nil (header_bytes layout h))) ∙ again in
     omega arith
 
-header_passes : (layout : ℕ) (h : Header) → header_refusal layout (header_bytes layout h) ≡ None
-header_passes layout h =
+header_passes : (layout : ℕ) (h : Header) → h.minor < 2 → header_refusal layout (header_bytes layout h) ≡ None
+header_passes layout h known =
     let len = length-header_bytes layout h in
-    front_passes layout (header_bytes layout h) (omega arith) refl (major_is layout h) (minor_is layout h) (order_is layout h) (found_is layout h) (flags_pass layout h)
+    front_passes layout (header_bytes layout h) (omega arith) refl (major_is layout h) (minor_is layout h known) (order_is layout h) (found_is layout h) (flags_pass layout h)
 
 -- ---- sizes
 
@@ -101,43 +104,50 @@ entries_fit slots T formed =
     let entries = formed.entries in
     omega arith
 
-sizes_pass : (slots limit : ℕ) (T : Fields) → IsWellFormed slots T → need (header_of T) ≤ limit → size_refusal slots limit (header_of T) ≡ None
-sizes_pass slots limit T formed within =
-    let h = header_of T in
+sizes_pass : (version slots limit : ℕ) (T : Fields) → IsWellFormed slots T → need (header_of version T) ≤ limit → size_refusal slots limit (header_of version T) ≡ None
+sizes_pass version slots limit T formed within =
+    let h = header_of version T in
     let sound = formed.table.sound in
     let sized = sound.shaped.blocks in
-    let array : (h.array_len == h.capacity) ≡ true = eq-eqb h.array_len h.capacity sound.shaped.nodes in
-    let infos : (h.n_infos_len == h.capacity) ≡ true = eq-eqb h.n_infos_len h.capacity (sound.shaped.infos ∙ sound.shaped.nodes) in
+    let array : (h.array_len == listed_in h) ≡ true = eq-eqb h.array_len (listed_in h) refl in
     let power : is_power_of_two h.capacity ≡ true = power_passes (length T.places.blocks.records) sound.doubled in
     let least : nat_le 256 h.capacity ≡ true = le-leb 256 h.capacity (omega (arith, sized.some, sized.active_in)) in
     let most : nat_le h.capacity slots ≡ true = le-leb h.capacity slots formed.table.within in
     let whole : (h.size % 256 == 0) ≡ true = eq-eqb (h.size % 256) 0 (omega arith) in
     let some : nat_le 256 h.size ≡ true = le-leb 256 h.size (omega (arith, sized.some)) in
     let inside : nat_le h.size h.capacity ≡ true = le-leb h.size h.capacity (omega (arith, sized.active_in)) in
-    let blocks : (h.blocks_len == h.capacity / 256) ≡ true = eq-eqb h.blocks_len (h.capacity / 256) (omega arith) in
+    let blocks : (h.blocks_len == listed_in h / 256) ≡ true = eq-eqb h.blocks_len (listed_in h / 256) refl in
     let reject : (h.reject_len == 257) ≡ true = eq-eqb h.reject_len 257 sound.rejects.len in
     let entries : nat_le h.entries h.size ≡ true = le-leb h.entries h.size (entries_fit slots T formed) in
     let needed : nat_le (need h) limit ≡ true = le-leb (need h) limit within in
-    rw (array, infos, power, least, most, whole, some, inside, blocks, reject, entries, needed) refl
+    rw (array, power, least, most, whole, some, inside, blocks, reject, entries, needed) refl
 
-body_has : (T : Fields) (slots : ℕ) → IsWellFormed slots T → length (table_bytes T) ≡ file_len (header_of T)
-body_has T slots formed =
-    let h = header_of T in
+body_has : (version slots : ℕ) (T : Fields) → IsWellFormed slots T → length (table_bytes version T) ≡ file_len (header_of version T)
+body_has version slots T formed =
+    let h = header_of version T in
+    let n = slots_listed version T in
     let sound = formed.table.sound in
-    let nodes = flat_map node_bytes T.places.slots.nodes in
-    let infos = flat_map info_bytes T.places.slots.infos in
-    let blocks = flat_map block_bytes T.places.blocks.records in
+    let within = listed_fits version T sound.shaped in
+    let listed_nodes = take n T.places.slots.nodes in
+    let listed_infos = take n T.places.slots.infos in
+    let listed_blocks = take (n / 256) T.places.blocks.records in
+    let nodes = flat_map node_bytes listed_nodes in
+    let infos = flat_map info_bytes listed_infos in
+    let blocks = flat_map block_bytes listed_blocks in
     let reject = flat_map i16_bytes T.places.reject in
     let whole = length-append (header_bytes (layout_byte T.layout) h) (nodes ++ (infos ++ (blocks ++ reject))) in
     let front = length-header_bytes (layout_byte T.layout) h in
     let first = length-append nodes (infos ++ (blocks ++ reject)) in
     let second = length-append infos (blocks ++ reject) in
     let third = length-append blocks reject in
-    let nodes_len = length-flat_map_same node_bytes 8 node_len T.places.slots.nodes in
-    let infos_len = length-flat_map_same info_bytes 2 info_len T.places.slots.infos in
-    let blocks_len = length-flat_map_same block_bytes 20 block_len T.places.blocks.records in
+    let nodes_taken : length listed_nodes ≡ n = length-take-le n T.places.slots.nodes (omega (arith, sound.shaped.nodes)) in
+    let infos_taken : length listed_infos ≡ n = length-take-le n T.places.slots.infos (omega (arith, sound.shaped.nodes, sound.shaped.infos)) in
+    let blocks_taken : length listed_blocks ≡ n / 256 = length-take-le (n / 256) T.places.blocks.records (omega arith) in
+    let nodes_len = length-flat_map_same node_bytes 8 node_len listed_nodes in
+    let infos_len = length-flat_map_same info_bytes 2 info_len listed_infos in
+    let blocks_len = length-flat_map_same block_bytes 20 block_len listed_blocks in
     let reject_len = length-flat_map_same i16_bytes 2 length-i16_bytes T.places.reject in
-    omega (arith, sound.shaped.nodes, sound.shaped.infos)
+    omega arith
 
 body_passes : (n m : ℕ) → m ≡ n → first_refusal (unless (nat_le n m) Truncated ∷ unless (m == n) TrailingData ∷ []) ≡ None
 body_passes n m e =
@@ -153,14 +163,15 @@ trials_pass h tried =
 none_of_four : (a b c d : Option Refusal) → a ≡ None → b ≡ None → c ≡ None → d ≡ None → first_refusal (first_refusal (a ∷ b ∷ c ∷ []) ∷ d ∷ []) ≡ None
 none_of_four a b c d p q r s = rw (p, q, r, s) refl
 
-pub tables_pass : (slots limit : ℕ) (T : Fields) → IsWellFormed slots T → FitsTable T → need (header_of T) ≤ limit
-    → header_answer (layout_byte T.layout) slots limit (table_bytes T) ≡ None
-tables_pass slots limit T formed fits within =
-    let h = header_of T in
+pub tables_pass : (version slots limit : ℕ) (T : Fields) → IsVersion version → IsWellFormed slots T → FitsTable version T → need (header_of version T) ≤ limit
+    → header_answer (layout_byte T.layout) slots limit (table_bytes version T) ≡ None
+tables_pass version slots limit T known formed fits within =
+    let h = header_of version T in
     let byte = layout_byte T.layout in
-    let body = body_bytes T.places.slots.nodes T.places.slots.infos T.places.blocks.records T.places.reject in
-    let front : take 88 (table_bytes T) ≡ header_bytes byte h = take_at (header_bytes byte h) body 88 (length-header_bytes byte h) in
-    let again : header_at (take 88 (table_bytes T)) ≡ h = ap header_at front ∙ read_again byte h fits.header in
-    none_of_four (header_refusal byte (take 88 (table_bytes T))) (size_refusal slots limit (header_at (take 88 (table_bytes T)))) (body_refusal (header_at (take 88 (table_bytes T))) (table_bytes T)) (trial_refusal (header_at (take 88 (table_bytes T))))
-    (ap (header_refusal byte) front ∙ header_passes byte h) (ap (size_refusal slots limit) again ∙ sizes_pass slots limit T formed within)
-    (ap (λ k. body_refusal k (table_bytes T)) again ∙ body_passes (file_len h) (length (table_bytes T)) (body_has T slots formed)) (ap trial_refusal again ∙ trials_pass h formed.table.sound.pruned.max_trial)
+    let bytes = table_bytes version T in
+    let body = listed_bytes (slots_listed version T) T.places.slots.nodes T.places.slots.infos T.places.blocks.records T.places.reject in
+    let front : take 88 bytes ≡ header_bytes byte h = take_at (header_bytes byte h) body 88 (length-header_bytes byte h) in
+    let again : header_at (take 88 bytes) ≡ h = ap header_at front ∙ read_again byte h fits.header in
+    none_of_four (header_refusal byte (take 88 bytes)) (size_refusal slots limit (header_at (take 88 bytes))) (body_refusal (header_at (take 88 bytes)) bytes) (trial_refusal (header_at (take 88 bytes)))
+    (ap (header_refusal byte) front ∙ header_passes byte h known) (ap (size_refusal slots limit) again ∙ sizes_pass version slots limit T formed within)
+    (ap (λ k. body_refusal k bytes) again ∙ body_passes (file_len h) (length bytes) (body_has version slots T formed)) (ap trial_refusal again ∙ trials_pass h formed.table.sound.pruned.max_trial)

@@ -8,7 +8,7 @@ use Rattle.std.proofs.Math.Nat.{mul_assoc, pow-succ'}
 use lib.Count.{ones_step}
 use Rattle.cedar_slots.specs.Places.{IsPowerOfTwo}
 use Rattle.cedar_format.specs.declared.header.Header.{Header}
-use Rattle.cedar_format.specs.Format.{body_len, need, size_refusal, HasSizes}
+use Rattle.cedar_format.specs.Format.{listed, listed_in, need, size_refusal, tables_len, HasSizes}
 use Rattle.cedar_format.specs.Refusal.{Refusal, InvalidHeader, AllocationLimitExceeded, first_refusal, unless}
 
 halved : (n j m : ℕ) → n ≡ 2 * (n / 2) → n / 2 ≡ 2 ^ j * m → 2 ^ suc j ≡ 2 * 2 ^ j → n ≡ 2 ^ suc j * m
@@ -78,24 +78,25 @@ all_three false b c e = absurd cc
 
 pub has_sizes : (slots limit : ℕ) (h : Header) → size_refusal slots limit h ≡ None → HasSizes slots h
 has_sizes slots limit h e =
-    let lens_test = (h.array_len == h.capacity) && (h.n_infos_len == h.capacity) in
+    let lens_test = (h.array_len == listed_in h) && (h.n_infos_len == listed_in h) in
     let capacity_test = is_power_of_two h.capacity && nat_le 256 h.capacity && nat_le h.capacity slots in
     let size_test = (h.size % 256 == 0) && nat_le 256 h.size && nat_le h.size h.capacity in
-    let state_test = (h.blocks_len == h.capacity / 256) && (h.reject_len == 257) && nat_le h.entries h.size in
+    let state_test = (h.blocks_len == listed_in h / 256) && (h.reject_len == 257) && nat_le h.entries h.size in
     let (lens, capacity, size, state) = tests_pass lens_test capacity_test size_test state_test (nat_le (need h) limit)
     (InvalidHeader (codes "node_vector_lengths") h.array_len) (InvalidHeader (codes "capacity") h.capacity) (InvalidHeader (codes "size") h.size) (InvalidHeader (codes "state_lengths") h.blocks_len) (AllocationLimitExceeded (need h) limit) e in
-    let (array, infos) = both (h.array_len == h.capacity) (h.n_infos_len == h.capacity) lens in
+    let (array, infos) = both (h.array_len == listed_in h) (h.n_infos_len == listed_in h) lens in
     let (one, least, most) = all_three (is_power_of_two h.capacity) (nat_le 256 h.capacity) (nat_le h.capacity slots) capacity in
     let (whole, some, in_capacity) = all_three (h.size % 256 == 0) (nat_le 256 h.size) (nat_le h.size h.capacity) size in
-    let (blocks, reject, entries) = all_three (h.blocks_len == h.capacity / 256) (h.reject_len == 257) (nat_le h.entries h.size) state in
+    let (blocks, reject, entries) = all_three (h.blocks_len == listed_in h / 256) (h.reject_len == 257) (nat_le h.entries h.size) state in
     let multiple = one_bit 8 h.capacity (eqb-true _ _ one) (leb-true _ _ least) in
     let is : h.capacity ≡ 256 * multiple.0 = multiple.1 in
-    let whole_blocks : 256 * h.blocks_len ≡ h.capacity = omega (arith, eqb-true _ _ blocks) in
+    let whole_blocks : 256 * (h.capacity / 256) ≡ h.capacity = omega arith in
     record {
       array_len = eqb-true _ _ array;
       n_infos_len = eqb-true _ _ infos;
+      blocks_len = eqb-true _ _ blocks;
       blocks = whole_blocks;
-      doubled = power_of h.blocks_len h.blocks_len (omega arith) (sym (ones_shifted 8 h.blocks_len) ∙ ap count_ones whole_blocks ∙ eqb-true _ _ one);
+      doubled = power_of (h.capacity / 256) (h.capacity / 256) (omega arith) (sym (ones_shifted 8 (h.capacity / 256)) ∙ ap count_ones whole_blocks ∙ eqb-true _ _ one);
       reject_len = eqb-true _ _ reject;
       capacity = leb-true _ _ most;
       some = leb-true _ _ some;
@@ -103,8 +104,16 @@ has_sizes slots limit h e =
       size = leb-true _ _ in_capacity;
     }
 
+at_most : (minor capacity size : ℕ) → size ≤ capacity → listed minor capacity size ≤ capacity
+at_most zero capacity size within = omega arith
+at_most (suc minor) capacity size within = within
+
+-- no more is listed than there is
+pub listed_within : (slots : ℕ) (h : Header) → HasSizes slots h → listed_in h ≤ h.capacity
+listed_within slots h sizes = at_most h.minor h.capacity h.size sizes.size
+
 -- the tables of a header that passes are within the need that it was tested for
-pub within_need : (slots limit : ℕ) (h : Header) → size_refusal slots limit h ≡ None → body_len h ≤ need h
+pub within_need : (slots limit : ℕ) (h : Header) → size_refusal slots limit h ≡ None → tables_len h ≤ need h
 within_need slots limit h e =
     let sizes = has_sizes slots limit h e in
     omega (arith, sizes.blocks, sizes.reject_len)

@@ -1,13 +1,15 @@
--- Format 1.0: what its bytes mean, and which of them are refused.
-use Rattle.std.specs.Prelude.{◌≡◌, ◌⊎◌, ℕ, ℤ, pos, ◌+◌, ◌*◌, ◌/◌, ◌%◌, ◌==◌, ◌&&◌, ◌<◌, ◌≤◌, ◌^◌, nat_lt, nat_le, nat_eq, List, [], ◌∷◌, length, take, drop, slice_index, Option, None, codes, int_lt, if◌then◌else◌, Result, IsErrAnd}
+-- Formats 1.0 and 1.1: what their bytes mean, and which of them are refused.
+use Rattle.std.specs.Prelude.{◌≡◌, ◌⊎◌, ℕ, zero, suc, ℤ, pos, ◌+◌, ◌*◌, ◌/◌, ◌%◌, ◌-◌, ◌++◌, ◌==◌, ◌&&◌, ◌<◌, ◌≤◌, ◌^◌, nat_lt, nat_le, nat_eq, List, [], ◌∷◌, length, replicate, take, drop, slice_index, Option, None, codes, int_lt, if◌then◌else◌, Result, IsErrAnd}
 use Rattle.std.specs.Int.{w16, w32, w64, from_le_bytes, cast_signed, cast_unsigned, is_power_of_two}
 use Rattle.std.specs.List.{concat, starts_with}
 use Rattle.cedar_slots.specs.declared.records.NodeRecord.{NodeRecord}
 use Rattle.cedar_slots.specs.declared.records.NInfoRecord.{NInfoRecord}
 use Rattle.cedar_slots.specs.declared.records.BlockRecord.{BlockRecord}
+use Rattle.cedar_slots.specs.Blocks.{blank_block}
+use Rattle.cedar_slots.specs.Slots.{blank_info, blank_node}
 use Rattle.cedar_slots.specs.Places.{IsPowerOfTwo}
 use Rattle.cedar_format.specs.Numbers.{i32_bytes, u16_bytes, u64_bytes, IsI32}
-use Rattle.cedar_format.specs.Records.{FitsBody}
+use Rattle.cedar_format.specs.Records.{body_bytes, FitsBody}
 use Rattle.cedar_format.specs.declared.header.Header.{Header}
 use Rattle.cedar_format.specs.Refusal.{Refusal, InvalidMagic, UnsupportedVersion, UnsupportedByteOrder, LayoutMismatch, InvalidHeader, AllocationLimitExceeded, Truncated, TrailingData, unless, first_refusal, refusal}
 use Rattle.cedar_format.specs.declared.error.CedarPersistenceError.{CedarPersistenceError}
@@ -33,6 +35,7 @@ magic = 67 ∷ 69 ∷ 68 ∷ 65 ∷ 82 ∷ 87 ∷ 0 ∷ 0 ∷ []
 -- the header that stands in the first 88 bytes
 abbrev pub header_at : List ℕ → Header
 header_at bytes = record {
+  minor = u16_at 10 bytes;
   ordered = u16_at 14 bytes == 1;
   max_trial = i32_at 16 bytes;
   full_head = i32_at 20 bytes;
@@ -57,7 +60,7 @@ version_refusal bytes = first_refusal (
     reads_to 8 bytes
     ∷ unless (starts_with nat_eq bytes magic) InvalidMagic
     ∷ reads_to 12 bytes
-    ∷ unless ((u16_at 8 bytes == 1) && (u16_at 10 bytes == 0)) (UnsupportedVersion (u16_at 8 bytes) (u16_at 10 bytes))
+    ∷ unless ((u16_at 8 bytes == 1) && nat_lt (u16_at 10 bytes) 2) (UnsupportedVersion (u16_at 8 bytes) (u16_at 10 bytes))
     ∷ [])
 
 -- the byte order, the layout and the flags
@@ -84,7 +87,7 @@ abbrev pub header_bytes : ℕ → Header → List ℕ
 header_bytes layout h = concat (
     magic
     ∷ u16_bytes 1
-    ∷ u16_bytes 0
+    ∷ u16_bytes h.minor
     ∷ (1 ∷ layout ∷ [])
     ∷ u16_bytes (flags_of h)
     ∷ i32_bytes h.max_trial
@@ -100,8 +103,13 @@ header_bytes layout h = concat (
     ∷ u64_bytes h.entries
     ∷ [])
 
+-- a minor version that is read
+abbrev pub IsVersion : ℕ → Type 0
+IsVersion version = version < 2
+
 -- numbers of their types
 pub record FitsHeader (h : Header) : Type 0 where
+  pub minor : h.minor < 2 ^ 16
   pub max_trial : IsI32 h.max_trial
   pub full_head : IsI32 h.full_head
   pub closed_head : IsI32 h.closed_head
@@ -119,6 +127,7 @@ pub record IsHeader (layout : ℕ) (bytes : List ℕ) (h : Header) : Type 0 wher
   pub len : length bytes ≡ 88
   pub accepted : header_refusal layout bytes ≡ None
   pub fields : h ≡ header_at bytes
+  pub known : IsVersion h.minor
   pub spelled : bytes ≡ header_bytes layout h
   pub fits : FitsHeader h
 
@@ -126,40 +135,64 @@ pub record IsHeader (layout : ℕ) (bytes : List ℕ) (h : Header) : Type 0 wher
 abbrev pub need : Header → ℕ
 need h = 2 * (10 * h.capacity + 20 * (h.capacity / 256) + 514) + 18 * h.size + h.capacity / 256
 
+-- how many slots a file lists: all, or from minor 1 on those in use alone
+abbrev pub listed : ℕ → ℕ → ℕ → ℕ
+listed zero capacity size = capacity
+listed (suc minor) capacity size = size
+
+abbrev pub listed_in : Header → ℕ
+listed_in h = listed h.minor h.capacity h.size
+
+-- the bytes of the first n slots, of their blocks, and of the reject values
+abbrev pub listed_bytes : ℕ → List NodeRecord → List NInfoRecord → List BlockRecord → List ℤ → List ℕ
+listed_bytes n nodes infos blocks reject = body_bytes (take n nodes) (take n infos) (take (n / 256) blocks) reject
+
+-- a list that is filled up to a length
+abbrev pub filled : {X : Type 0} → X → ℕ → List X → List X
+filled blank len xs = xs ++ replicate (len - length xs) blank
+
 -- the tests of the sizes, and of the need
 abbrev pub size_refusal : ℕ → ℕ → Header → Option Refusal
 size_refusal slots limit h = first_refusal (
-    unless ((h.array_len == h.capacity) && (h.n_infos_len == h.capacity)) (InvalidHeader (codes "node_vector_lengths") h.array_len)
+    unless ((h.array_len == listed_in h) && (h.n_infos_len == listed_in h)) (InvalidHeader (codes "node_vector_lengths") h.array_len)
     ∷ unless (is_power_of_two h.capacity && nat_le 256 h.capacity && nat_le h.capacity slots) (InvalidHeader (codes "capacity") h.capacity)
     ∷ unless ((h.size % 256 == 0) && nat_le 256 h.size && nat_le h.size h.capacity) (InvalidHeader (codes "size") h.size)
-    ∷ unless ((h.blocks_len == h.capacity / 256) && (h.reject_len == 257) && nat_le h.entries h.size) (InvalidHeader (codes "state_lengths") h.blocks_len)
+    ∷ unless ((h.blocks_len == listed_in h / 256) && (h.reject_len == 257) && nat_le h.entries h.size) (InvalidHeader (codes "state_lengths") h.blocks_len)
     ∷ unless (nat_le (need h) limit) (AllocationLimitExceeded (need h) limit)
     ∷ [])
 
--- how many bytes the four tables have
+-- how many bytes the four lists of a file have
 abbrev pub body_len : Header → ℕ
-body_len h = h.capacity * 8 + (h.capacity * 2 + (h.blocks_len * 20 + h.reject_len * 2))
+body_len h = h.array_len * 8 + (h.n_infos_len * 2 + (h.blocks_len * 20 + h.reject_len * 2))
+
+-- how many bytes the four tables that they are read into have
+abbrev pub tables_len : Header → ℕ
+tables_len h = h.capacity * 8 + (h.capacity * 2 + (h.capacity / 256 * 20 + h.reject_len * 2))
 
 -- the sizes of a header that passes, as numbers
 pub record HasSizes (slots : ℕ) (h : Header) : Type 0 where
-  pub array_len : h.array_len ≡ h.capacity
-  pub n_infos_len : h.n_infos_len ≡ h.capacity
-  pub blocks : 256 * h.blocks_len ≡ h.capacity
-  pub doubled : IsPowerOfTwo h.blocks_len
+  pub array_len : h.array_len ≡ listed_in h
+  pub n_infos_len : h.n_infos_len ≡ listed_in h
+  pub blocks_len : h.blocks_len ≡ listed_in h / 256
+  pub blocks : 256 * (h.capacity / 256) ≡ h.capacity
+  pub doubled : IsPowerOfTwo (h.capacity / 256)
   pub reject_len : h.reject_len ≡ 257
   pub capacity : h.capacity ≤ slots
   pub some : 256 ≤ h.size
   pub in_blocks : 256 * (h.size / 256) ≡ h.size
   pub size : h.size ≤ h.capacity
 
--- what was read of a file: the header's sizes pass, there are as many records as it says, and all numbers are of their types
+-- the tables of a file: the header's sizes pass, the numbers that are listed are of their types, and what isn't is blank
 pub record IsFile (slots limit : ℕ) (h : Header) (nodes : List NodeRecord) (infos : List NInfoRecord) (blocks : List BlockRecord) (reject : List ℤ) : Type 0 where
   pub sizes : size_refusal slots limit h ≡ None
   pub nodes_len : length nodes ≡ h.capacity
   pub infos_len : length infos ≡ h.capacity
-  pub blocks_len : length blocks ≡ h.blocks_len
+  pub blocks_len : length blocks ≡ h.capacity / 256
   pub reject_len : length reject ≡ h.reject_len
-  pub numbers : FitsBody nodes infos blocks reject
+  pub numbers : FitsBody (take (listed_in h) nodes) (take (listed_in h) infos) (take (listed_in h / 256) blocks) reject
+  pub nodes_filled : nodes ≡ filled blank_node h.capacity (take (listed_in h) nodes)
+  pub infos_filled : infos ≡ filled blank_info h.capacity (take (listed_in h) infos)
+  pub blocks_filled : blocks ≡ filled blank_block (h.capacity / 256) (take (listed_in h / 256) blocks)
 
 -- the bytes begin with this header, and it passes all tests of its own
 pub record Passes (layout slots limit : ℕ) (bytes : Option (List ℕ)) (h : Header) : Type 0 where

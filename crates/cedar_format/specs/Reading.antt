@@ -1,5 +1,5 @@
 -- What reads and writes tell of the bytes that a reader has left and a writer holds, where those are known.
-use Rattle.std.specs.Prelude.{ℕ, ◌≡◌, ◌<◌, ◌⊎◌, Bool, true, false, List, ◌++◌, length, take, Option, Some, None, ⊤}
+use Rattle.std.specs.Prelude.{ℕ, ◌≡◌, ◌<◌, ◌/◌, ◌⊎◌, Bool, true, false, List, ◌++◌, length, take, Option, Some, None, ⊤}
 use Rattle.cedar_format.specs.declared.error.CedarPersistenceError.{CedarPersistenceError}
 use Rattle.cedar_format.specs.declared.error.CedarPersistenceError.TheVariants.{Io, Truncated, AllocationFailed, TrailingData}
 use Rattle.std.specs.Io.KnownBytes.{Appends}
@@ -35,12 +35,12 @@ Trails left failed _ = ⊥
 
 -- one of the four tables had no room, in their order of size
 abbrev pub LacksTable : Header → CedarPersistenceError → Type 0
-LacksTable h (AllocationFailed n) = (n ≡ h.capacity) ⊎ ((n ≡ h.blocks_len) ⊎ (n ≡ h.reject_len))
+LacksTable h (AllocationFailed n) = (n ≡ h.capacity) ⊎ ((n ≡ h.capacity / 256) ⊎ (n ≡ h.reject_len))
 LacksTable h _ = ⊥
 
 -- where memory was refused, it was for one of the four tables of a header with this property
 abbrev pub LacksNoMore : (Header → Type 0) → CedarPersistenceError → Type 0
-LacksNoMore passed (AllocationFailed n) = (h : Header) × passed h × ((n ≡ h.capacity) ⊎ ((n ≡ h.blocks_len) ⊎ (n ≡ h.reject_len)))
+LacksNoMore passed (AllocationFailed n) = (h : Header) × passed h × ((n ≡ h.capacity) ⊎ ((n ≡ h.capacity / 256) ⊎ (n ≡ h.reject_len)))
 LacksNoMore passed _ = ⊤
 
 -- these bytes come first

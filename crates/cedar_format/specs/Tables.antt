@@ -1,42 +1,57 @@
--- The bytes of a table, and the table of a file's fields.
-use Rattle.std.specs.Prelude.{◌≡◌, ℕ, ℤ, ◌/◌, List, ◌++◌, length}
+-- The bytes of a table in each version, and the table of a file's fields.
+use Rattle.std.specs.Prelude.{◌≡◌, ℕ, ℤ, ◌/◌, List, ◌++◌, length, take}
 use Rattle.cedar_slots.specs.declared.records.NodeRecord.{NodeRecord}
 use Rattle.cedar_slots.specs.declared.records.NInfoRecord.{NInfoRecord}
 use Rattle.cedar_slots.specs.declared.records.BlockRecord.{BlockRecord}
 use Rattle.cedar_table.specs.Table.Layouts.{LayoutKind, layout_byte}
+use Rattle.cedar_slots.specs.Blocks.{blank_block}
+use Rattle.cedar_slots.specs.Places.{Shaped}
+use Rattle.cedar_slots.specs.Slots.{blank_info, blank_node}
 use Rattle.cedar_table.specs.Table.TableFields.{Fields, capacity_of, size_of}
 use Rattle.cedar_table.specs.Meaning.WellFormed.{IsWellFormed}
 use Rattle.cedar_format.specs.declared.header.Header.{Header}
-use Rattle.cedar_format.specs.Format.{header_bytes, FitsHeader}
-use Rattle.cedar_format.specs.Records.{body_bytes, FitsBody}
+use Rattle.cedar_format.specs.Format.{filled, header_bytes, listed, listed_bytes, FitsHeader, IsVersion}
+use Rattle.cedar_format.specs.Records.{FitsBody}
 
--- what the header says of a table
-abbrev pub header_of : Fields → Header
-header_of T = record {
+-- how many slots a table's file of this version lists
+abbrev pub slots_listed : ℕ → Fields → ℕ
+slots_listed version T = listed version (capacity_of T) (size_of T)
+
+-- what the header of this version, which is the minor one, says of a table
+abbrev pub header_of : ℕ → Fields → Header
+header_of version T = record {
+  minor = version;
   ordered = T.ordered;
   max_trial = T.places.blocks.max_trial;
   full_head = T.places.blocks.full_head;
   closed_head = T.places.blocks.closed_head;
   open_head = T.places.blocks.open_head;
-  array_len = length T.places.slots.nodes;
-  n_infos_len = length T.places.slots.infos;
-  blocks_len = length T.places.blocks.records;
+  array_len = slots_listed version T;
+  n_infos_len = slots_listed version T;
+  blocks_len = slots_listed version T / 256;
   reject_len = length T.places.reject;
   capacity = capacity_of T;
   size = size_of T;
   entries = T.entries;
 }
 
--- the bytes of a table: its fields one after another
-abbrev pub table_bytes : Fields → List ℕ
-table_bytes T =
-    header_bytes (layout_byte T.layout) (header_of T)
-    ++ body_bytes T.places.slots.nodes T.places.slots.infos T.places.blocks.records T.places.reject
+-- the bytes of a table: its fields one after another, as far as this version lists them
+abbrev pub table_bytes : ℕ → Fields → List ℕ
+table_bytes version T =
+    header_bytes (layout_byte T.layout) (header_of version T)
+    ++ listed_bytes (slots_listed version T) T.places.slots.nodes T.places.slots.infos T.places.blocks.records T.places.reject
 
--- each number of a table lies in the range of its type
-pub record FitsTable (T : Fields) : Type 0 where
-  pub header : FitsHeader (header_of T)
-  pub body : FitsBody T.places.slots.nodes T.places.slots.infos T.places.blocks.records T.places.reject
+-- each number that is listed lies in the range of its type
+pub record FitsTable (version : ℕ) (T : Fields) : Type 0 where
+  pub header : FitsHeader (header_of version T)
+  pub body : FitsBody (take (slots_listed version T) T.places.slots.nodes) (take (slots_listed version T) T.places.slots.infos) (take (slots_listed version T / 256) T.places.blocks.records) T.places.reject
+
+-- the parts have their sizes, and what this version doesn't list is blank
+pub record IsListed (version : ℕ) (T : Fields) : Type 0 where
+  pub shaped : Shaped T.places
+  pub nodes : T.places.slots.nodes ≡ filled blank_node (capacity_of T) (take (slots_listed version T) T.places.slots.nodes)
+  pub infos : T.places.slots.infos ≡ filled blank_info (capacity_of T) (take (slots_listed version T) T.places.slots.infos)
+  pub blocks : T.places.blocks.records ≡ filled blank_block (capacity_of T / 256) (take (slots_listed version T / 256) T.places.blocks.records)
 
 -- the table that a file's fields are
 abbrev pub file_fields : LayoutKind → Header → List NodeRecord → List NInfoRecord → List BlockRecord → List ℤ → Fields
@@ -58,8 +73,9 @@ file_fields kind h nodes infos blocks reject = record {
   };
 }
 
--- the bytes are those of the well-formed table T, which may have `slots` slots
-pub record IsTableFile (slots : ℕ) (T : Fields) (bytes : List ℕ) : Type 0 where
+-- the bytes are those of the well-formed table T, which may have `slots` slots, in this version
+pub record IsTableFile (version slots : ℕ) (T : Fields) (bytes : List ℕ) : Type 0 where
+  pub known : IsVersion version
   pub formed : IsWellFormed slots T
-  pub fits : FitsTable T
-  pub spelled : bytes ≡ table_bytes T
+  pub fits : FitsTable version T
+  pub spelled : bytes ≡ table_bytes version T

@@ -1,25 +1,27 @@
 //! The tables of a file.
 
-ghost use Rattle.std.specs.Prelude.{◌≡◌, ◌<◌, ◌≤◌, ◌+◌, ◌^◌, ◌⊎◌, true, false, length, List, ℕ, [], ◌++◌, IfErr, IfOk, IfSome, OnOk, None, vec_len, vec_capacity};
+ghost use Rattle.std.specs.Prelude.{◌≡◌, ◌<◌, ◌≤◌, ◌+◌, ◌/◌, ◌^◌, ◌⊎◌, true, false, length, List, ℕ, [], ◌++◌, IfErr, IfOk, IfSome, OnOk, None, vec_capacity};
 ghost use Rattle.std.specs.Io.KnownBytes.{Consumes, IsAtEnd};
+ghost use Rattle.cedar_slots.specs.Blocks.{blank_block};
 ghost use Rattle.cedar_slots.specs.Places.{IsSlotLimit};
-ghost use Rattle.cedar_format.specs.Format.{body_len, need, CountsWithin, DecodeAnswers, IsFile, IsHeader, Passes};
+ghost use Rattle.cedar_slots.specs.Slots.{blank_info, blank_node};
+ghost use Rattle.cedar_format.specs.Format.{body_len, filled, listed_bytes, listed_in, need, tables_len, CountsWithin, DecodeAnswers, IsFile, IsHeader, Passes};
 ghost use Rattle.cedar_format.specs.Records.{body_bytes, FitsBody};
 ghost use Rattle.cedar_format.specs.Reading.{IsIo, LacksNoMore, LacksTable, Misses, Trails};
 ghost use Rattle.cedar_format.specs.WatchedDevice.{device_of, has_failed};
 
 use crate::error::CedarPersistenceError;
 use crate::header::{Header, check_sizes, read_header};
-use crate::listing::read_records;
+use crate::listing::{fill_up, read_records};
 use crate::reserve::reserve_counted;
 use crate::watched::Watched;
-use cedar_table::{BlockRecord, NInfoRecord, NodeRecord, Ticks};
+use cedar_table::{BLOCK_SIZE, BlockRecord, NInfoRecord, NodeRecord, Ticks};
 use std::alloc::Allocator;
 use std::io::{ErrorKind, Read};
 use std::marker::Brand;
 use std::sync::ledger::{Blank, Ledger};
 
-/// The fields of a file.
+/// The fields of a file. What its version doesn't list, up to the capacity, is blank as in a fresh block.
 #[derive(Drop)]
 pub struct Decoded<A: Allocator> {
     pub header: Header,
@@ -36,22 +38,21 @@ fn reserve_tables<A: Allocator + Copy, C: Ledger>(
     asked: &mut Ticks<C>,
 ) -> Result<Decoded<A>, CedarPersistenceError>
     requires capacity { header.capacity ≤ 2 ^ 30 }
-    requires blocks { header.blocks_len ≤ 2 ^ 22 }
     requires reject { header.reject_len ≡ 257 }
     ensures header { IfOk result (λ d. d.header ≡ header) }
     ensures nodes { IfOk result (λ d. (d.nodes.items ≡ []) × (header.capacity ≤ vec_capacity d.nodes)) }
     ensures n_infos { IfOk result (λ d. (d.n_infos.items ≡ []) × (header.capacity ≤ vec_capacity d.n_infos)) }
-    ensures blocks { IfOk result (λ d. (d.blocks.items ≡ []) × (header.blocks_len ≤ vec_capacity d.blocks)) }
+    ensures blocks { IfOk result (λ d. (d.blocks.items ≡ []) × (header.capacity / 256 ≤ vec_capacity d.blocks)) }
     ensures reject { IfOk result (λ d. (d.reject.items ≡ []) × (header.reject_len ≤ vec_capacity d.reject)) }
     ensures err { IfErr result (LacksTable header) }
-    ensures asked { asked.new ≤ asked.old + body_len header }
+    ensures asked { asked.new ≤ asked.old + tables_len header }
 {
     let mut nodes = Vec::new(alloc);
     reserve_counted(&mut nodes, header.capacity, asked)?;
     let mut n_infos = Vec::new(alloc);
     reserve_counted(&mut n_infos, header.capacity, asked)?;
     let mut blocks = Vec::new(alloc);
-    reserve_counted(&mut blocks, header.blocks_len, asked)?;
+    reserve_counted(&mut blocks, header.capacity / BLOCK_SIZE, asked)?;
     let mut reject = Vec::new(alloc);
     reserve_counted(&mut reject, header.reject_len, asked)?;
     Ok(Decoded {
@@ -63,20 +64,20 @@ fn reserve_tables<A: Allocator + Copy, C: Ledger>(
     })
 }
 
-/// Reads the four tables, one after another.
-fn read_tables<R: Read, A: Allocator>(
+/// Reads the four lists of a file, one after another.
+fn read_lists<R: Read, A: Allocator>(
     reader: &mut Watched<R>,
     tables: Decoded<A>,
 ) -> Result<Decoded<A>, CedarPersistenceError>
-    requires nodes { (tables.nodes.items ≡ []) × (tables.header.capacity ≤ vec_capacity tables.nodes) }
-    requires n_infos { (tables.n_infos.items ≡ []) × (tables.header.capacity ≤ vec_capacity tables.n_infos) }
+    requires nodes { (tables.nodes.items ≡ []) × (tables.header.array_len ≤ vec_capacity tables.nodes) }
+    requires n_infos { (tables.n_infos.items ≡ []) × (tables.header.n_infos_len ≤ vec_capacity tables.n_infos) }
     requires blocks { (tables.blocks.items ≡ []) × (tables.header.blocks_len ≤ vec_capacity tables.blocks) }
     requires reject { (tables.reject.items ≡ []) × (tables.header.reject_len ≤ vec_capacity tables.reject) }
     ensures header { IfOk result (λ d. d.header ≡ tables.header) }
-    ensures nodes { IfOk result (λ d. vec_len d.nodes ≡ tables.header.capacity) }
-    ensures n_infos { IfOk result (λ d. vec_len d.n_infos ≡ tables.header.capacity) }
-    ensures blocks { IfOk result (λ d. vec_len d.blocks ≡ tables.header.blocks_len) }
-    ensures reject { IfOk result (λ d. vec_len d.reject ≡ tables.header.reject_len) }
+    ensures nodes { IfOk result (λ d. (length d.nodes.items ≡ tables.header.array_len) × (vec_capacity d.nodes ≡ vec_capacity tables.nodes)) }
+    ensures n_infos { IfOk result (λ d. (length d.n_infos.items ≡ tables.header.n_infos_len) × (vec_capacity d.n_infos ≡ vec_capacity tables.n_infos)) }
+    ensures blocks { IfOk result (λ d. (length d.blocks.items ≡ tables.header.blocks_len) × (vec_capacity d.blocks ≡ vec_capacity tables.blocks)) }
+    ensures reject { IfOk result (λ d. length d.reject.items ≡ tables.header.reject_len) }
     ensures bytes { IfOk result (λ d. Consumes (R.remaining (device_of reader.old)) (R.remaining (device_of reader.new)) (body_bytes d.nodes.items d.n_infos.items d.blocks.items d.reject.items)) }
     ensures fits { IfOk result (λ d. FitsBody d.nodes.items d.n_infos.items d.blocks.items d.reject.items) }
     ensures len { IfOk result (λ d. length (body_bytes d.nodes.items d.n_infos.items d.blocks.items d.reject.items) ≡ body_len tables.header) }
@@ -90,8 +91,8 @@ fn read_tables<R: Read, A: Allocator>(
         mut blocks,
         mut reject,
     } = tables;
-    read_records(reader, header.capacity, &mut nodes)?;
-    read_records(reader, header.capacity, &mut n_infos)?;
+    read_records(reader, header.array_len, &mut nodes)?;
+    read_records(reader, header.n_infos_len, &mut n_infos)?;
     read_records(reader, header.blocks_len, &mut blocks)?;
     read_records(reader, header.reject_len, &mut reject)?;
     Ok(Decoded {
@@ -101,6 +102,40 @@ fn read_tables<R: Read, A: Allocator>(
         blocks,
         reject,
     })
+}
+
+/// Fills the tables up to their capacity: what a file doesn't list is blank.
+fn fill_tables<A: Allocator>(lists: Decoded<A>) -> Decoded<A>
+    requires nodes { lists.header.capacity ≤ vec_capacity lists.nodes }
+    requires n_infos { lists.header.capacity ≤ vec_capacity lists.n_infos }
+    requires blocks { lists.header.capacity / 256 ≤ vec_capacity lists.blocks }
+    ensures header { result.header ≡ lists.header }
+    ensures nodes { result.nodes.items ≡ filled blank_node lists.header.capacity lists.nodes.items }
+    ensures n_infos { result.n_infos.items ≡ filled blank_info lists.header.capacity lists.n_infos.items }
+    ensures blocks { result.blocks.items ≡ filled blank_block (lists.header.capacity / 256) lists.blocks.items }
+    ensures reject { result.reject.items ≡ lists.reject.items }
+{
+    let Decoded {
+        header,
+        mut nodes,
+        mut n_infos,
+        mut blocks,
+        reject,
+    } = lists;
+    fill_up(&mut nodes, header.capacity, NodeRecord::BLANK);
+    fill_up(&mut n_infos, header.capacity, NInfoRecord::BLANK);
+    fill_up(
+        &mut blocks,
+        header.capacity / BLOCK_SIZE,
+        BlockRecord::BLANK,
+    );
+    Decoded {
+        header,
+        nodes,
+        n_infos,
+        blocks,
+        reject,
+    }
 }
 
 /// The end of the input, by one exact read of one byte.
@@ -141,7 +176,7 @@ pub fn decode<R: Read, A: Allocator + Copy>(
 ) -> Result<Decoded<A>, CedarPersistenceError>
     requires slots { IsSlotLimit slots }
     ensures bytes { IfOk result (λ d. (front : List ℕ) × IsHeader layout front d.header
-        × Consumes (R.remaining (device_of reader.old)) (R.remaining (device_of reader.new)) (front ++ body_bytes d.nodes.items d.n_infos.items d.blocks.items d.reject.items)) }
+        × Consumes (R.remaining (device_of reader.old)) (R.remaining (device_of reader.new)) (front ++ listed_bytes (listed_in d.header) d.nodes.items d.n_infos.items d.blocks.items d.reject.items)) }
     ensures file { IfOk result (λ d. IsFile slots memory_limit d.header d.nodes.items d.n_infos.items d.blocks.items d.reject.items) }
     ensures answer { IfSome (R.remaining (device_of reader.old)) (λ bytes. has_failed reader.new ≡ false → DecodeAnswers layout slots memory_limit bytes result) }
     ensures at_end { OnOk result (has_failed reader.new ≡ false → IsAtEnd (R.remaining (device_of reader.new))) }
@@ -165,7 +200,7 @@ fn uncounted<C: Ledger, R: Read, A: Allocator + Copy>(
     requires parts { blank.parts ≡ C.parts }
     requires some { 0 < blank.parts }
     ensures bytes { IfOk result (λ d. (front : List ℕ) × IsHeader layout front d.header
-        × Consumes (R.remaining (device_of reader.old)) (R.remaining (device_of reader.new)) (front ++ body_bytes d.nodes.items d.n_infos.items d.blocks.items d.reject.items)) }
+        × Consumes (R.remaining (device_of reader.old)) (R.remaining (device_of reader.new)) (front ++ listed_bytes (listed_in d.header) d.nodes.items d.n_infos.items d.blocks.items d.reject.items)) }
     ensures file { IfOk result (λ d. IsFile slots memory_limit d.header d.nodes.items d.n_infos.items d.blocks.items d.reject.items) }
     ensures answer { IfSome (R.remaining (device_of reader.old)) (λ bytes. has_failed reader.new ≡ false → DecodeAnswers layout slots memory_limit bytes result) }
     ensures at_end { OnOk result (has_failed reader.new ≡ false → IsAtEnd (R.remaining (device_of reader.new))) }
@@ -193,7 +228,7 @@ pub fn decode_counted<R: Read, A: Allocator + Copy, C: Ledger>(
 
     // Whatever the reader does, fields come only with just their bytes.
     ensures bytes { IfOk result (λ d. (front : List ℕ) × IsHeader layout front d.header
-        × Consumes (R.remaining (device_of reader.old)) (R.remaining (device_of reader.new)) (front ++ body_bytes d.nodes.items d.n_infos.items d.blocks.items d.reject.items)) }
+        × Consumes (R.remaining (device_of reader.old)) (R.remaining (device_of reader.new)) (front ++ listed_bytes (listed_in d.header) d.nodes.items d.n_infos.items d.blocks.items d.reject.items)) }
     ensures file { IfOk result (λ d. IsFile slots memory_limit d.header d.nodes.items d.n_infos.items d.blocks.items d.reject.items) }
 
     // A reader that tells its bytes and does not fail gets the first refusal, if there is one.
@@ -211,7 +246,7 @@ pub fn decode_counted<R: Read, A: Allocator + Copy, C: Ledger>(
     let header = read_header(reader, layout)?;
     check_sizes(&header, slots, memory_limit)?;
     let empty = reserve_tables(alloc, header, asked)?;
-    let tables = read_tables(reader, empty)?;
+    let lists = read_lists(reader, empty)?;
     read_end(reader)?;
-    Ok(tables)
+    Ok(fill_tables(lists))
 }

@@ -7,34 +7,34 @@ ghost use Rattle.cedar_format.specs.Numbers.{u16_bytes, u64_bytes, i16_bytes, i3
 use arrayvec::ArrayVec;
 
 /// How many bytes are read or written at once.
-pub(crate) const BUFFER_LEN: usize = 4096;
+pub(crate) const BUFFER_LEN: usize = 16384;
 
 /// Bytes on their way to a writer.
 pub(crate) type Buffer = ArrayVec<u8, BUFFER_LEN>;
 
 /// Puts bytes behind those in a buffer.
 pub(crate) fn put_bytes(buffer: &mut Buffer, bytes: &[u8])
-    requires { array_vec_len buffer.old + length bytes.now ≤ 4096 }
+    requires { array_vec_len buffer.old + length bytes.now ≤ 16384 }
     ensures bytes { buffer.new.items ≡ buffer.old.items ++ bytes.now }
     ensures len { array_vec_len buffer.new ≡ array_vec_len buffer.old + length bytes.now }
 {
     buffer.try_extend_from_slice(bytes).unwrap();
 }
 
-/// Puts a byte behind those in a buffer.
-pub(crate) fn put_u8(buffer: &mut Buffer, value: u8)
-    requires { array_vec_len buffer.old < 4096 }
-    ensures bytes { buffer.new.items ≡ buffer.old.items ++ value ∷ [] }
-    ensures len { array_vec_len buffer.new ≡ array_vec_len buffer.old + 1 }
-    ensures fits { value < 256 }
+/// Puts two bytes behind those in a buffer.
+pub(crate) fn put_u8_pair(buffer: &mut Buffer, first: u8, second: u8)
+    requires { array_vec_len buffer.old + 2 ≤ 16384 }
+    ensures bytes { buffer.new.items ≡ buffer.old.items ++ (first ∷ second ∷ []) }
+    ensures len { array_vec_len buffer.new ≡ array_vec_len buffer.old + 2 }
+    ensures fits { (first < 256) × (second < 256) }
 {
-    buffer.push(value);
+    put_bytes(buffer, &[first, second]);
 }
 
 /// Puts a number of 2 bytes behind those in a buffer.
 #[tactic(auto, unfolding(crate::specs::Numbers::u16_bytes))]
 pub(crate) fn put_u16(buffer: &mut Buffer, value: u16)
-    requires { array_vec_len buffer.old + 2 ≤ 4096 }
+    requires { array_vec_len buffer.old + 2 ≤ 16384 }
     ensures bytes { buffer.new.items ≡ buffer.old.items ++ u16_bytes value }
     ensures len { array_vec_len buffer.new ≡ array_vec_len buffer.old + 2 }
 {
@@ -44,7 +44,7 @@ pub(crate) fn put_u16(buffer: &mut Buffer, value: u16)
 /// Puts a signed number of 2 bytes behind those in a buffer.
 #[tactic(auto, unfolding(crate::specs::Numbers::i16_bytes))]
 pub(crate) fn put_i16(buffer: &mut Buffer, value: i16)
-    requires { array_vec_len buffer.old + 2 ≤ 4096 }
+    requires { array_vec_len buffer.old + 2 ≤ 16384 }
     ensures bytes { buffer.new.items ≡ buffer.old.items ++ i16_bytes value }
     ensures len { array_vec_len buffer.new ≡ array_vec_len buffer.old + 2 }
     ensures fits { IsI16 value }
@@ -55,7 +55,7 @@ pub(crate) fn put_i16(buffer: &mut Buffer, value: i16)
 /// Puts a signed number of 4 bytes behind those in a buffer.
 #[tactic(auto, unfolding(crate::specs::Numbers::i32_bytes))]
 pub(crate) fn put_i32(buffer: &mut Buffer, value: i32)
-    requires { array_vec_len buffer.old + 4 ≤ 4096 }
+    requires { array_vec_len buffer.old + 4 ≤ 16384 }
     ensures bytes { buffer.new.items ≡ buffer.old.items ++ i32_bytes value }
     ensures len { array_vec_len buffer.new ≡ array_vec_len buffer.old + 4 }
     ensures fits { IsI32 value }
@@ -66,11 +66,24 @@ pub(crate) fn put_i32(buffer: &mut Buffer, value: i32)
 /// Puts a number of 8 bytes behind those in a buffer.
 #[tactic(auto, unfolding(crate::specs::Numbers::u64_bytes))]
 pub(crate) fn put_usize(buffer: &mut Buffer, value: usize)
-    requires { array_vec_len buffer.old + 8 ≤ 4096 }
+    requires { array_vec_len buffer.old + 8 ≤ 16384 }
     ensures bytes { buffer.new.items ≡ buffer.old.items ++ u64_bytes value }
     ensures len { array_vec_len buffer.new ≡ array_vec_len buffer.old + 8 }
 {
     put_bytes(buffer, &(value as u64).to_le_bytes());
+}
+
+/// Puts two signed numbers of 4 bytes behind those in a buffer, at once.
+#[tactic(auto, unfolding(crate::specs::Numbers::i32_bytes))]
+pub(crate) fn put_i32_pair(buffer: &mut Buffer, first: i32, second: i32)
+    requires { array_vec_len buffer.old + 8 ≤ 16384 }
+    ensures bytes { buffer.new.items ≡ buffer.old.items ++ (i32_bytes first ++ i32_bytes second) }
+    ensures len { array_vec_len buffer.new ≡ array_vec_len buffer.old + 8 }
+    ensures fits { IsI32 first × IsI32 second }
+{
+    let [a, b, c, d] = first.to_le_bytes();
+    let [e, f, g, h] = second.to_le_bytes();
+    put_bytes(buffer, &[a, b, c, d, e, f, g, h]);
 }
 
 pub(crate) fn u16_of(bytes: [u8; 2]) -> u16

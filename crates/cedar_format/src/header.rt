@@ -1,7 +1,7 @@
 //! The header of a file.
 
 ghost use Rattle.std.specs.Prelude.{◌≡◌, ◌≤◌, ◌+◌, ◌<◌, ◌^◌, length, nat_eq, slice_index, take, List, ℕ, true, false, ◌⊎◌, IfErr, IfOk, IfNone, IfSome, IsSome, OnOk, None, Ok, Err};
-ghost use Rattle.cedar_format.specs.Format.{u16_at, i32_at, u64_at, header_at, header_refusal, header_bytes, kind_refusal, magic, version_refusal, size_refusal, FitsHeader, IsHeader};
+ghost use Rattle.cedar_format.specs.Format.{u16_at, i32_at, u64_at, header_at, header_refusal, header_bytes, kind_refusal, listed, magic, version_refusal, size_refusal, FitsHeader, IsHeader, IsVersion};
 ghost use Rattle.cedar_format.specs.Reading.{IsIo, IsLack};
 ghost use Rattle.cedar_format.specs.Refusal.{refusal, refusal_of, InvalidHeader};
 ghost use Rattle.cedar_format.specs.WatchedDevice.{device_of, has_failed};
@@ -21,8 +21,11 @@ pub const MAGIC: [u8; 8] = *b"CEDARW\0\0";
 /// The major version of the format.
 pub const MAJOR: u16 = 1;
 
-/// The minor version of the format.
-pub const MINOR: u16 = 0;
+/// The minor version of the format in which a dictionary is saved.
+pub const MINOR: u16 = 1;
+
+/// The minor version before, which lists the slots and blocks that aren't in use too.
+pub const FULL_MINOR: u16 = 0;
 
 /// The mark of the byte order.
 pub const LITTLE_ENDIAN: u8 = 1;
@@ -39,9 +42,10 @@ pub const REDUCED_LAYOUT: u8 = 1;
 /// How many bytes a header has.
 pub const HEADER_LEN: usize = 88;
 
-/// The fields of a header that belong to the table.
+/// The fields of a header that belong to the table, and the minor version that says what it lists.
 #[derive(Clone, Copy, Debug, PartialEq, Eq)]
 pub struct Header {
+    pub minor: u16,
     pub ordered: bool,
     pub max_trial: i32,
     pub full_head: i32,
@@ -98,6 +102,7 @@ fn header_at(bytes: &[u8]) -> Header
     ensures { result ≡ header_at bytes.now }
 {
     Header {
+        minor: u16_at(bytes, 10),
         ordered: u16_at(bytes, 14) == FLAG_ORDERED,
         max_trial: i32_at(bytes, 16),
         full_head: i32_at(bytes, 20),
@@ -118,7 +123,7 @@ fn check_version(bytes: &[u8]) -> Result<(), CedarPersistenceError>
     ensures refusal { refusal result ≡ version_refusal bytes.now }
     ensures begins { OnOk result (true ≡ starts_with nat_eq bytes.now magic) }
     ensures major { OnOk result (u16_at 8 bytes.now ≡ 1) }
-    ensures minor { OnOk result (u16_at 10 bytes.now ≡ 0) }
+    ensures minor { OnOk result (IsVersion (u16_at 10 bytes.now)) }
     ensures io { IfErr result (λ e. IsIo e → ⊥) }
     ensures room { IfErr result (λ e. IsLack e → ⊥) }
 {
@@ -133,7 +138,7 @@ fn check_version(bytes: &[u8]) -> Result<(), CedarPersistenceError>
     }
     let major = u16_at(bytes, 8);
     let minor = u16_at(bytes, 10);
-    if major != MAJOR || minor != MINOR {
+    if major != MAJOR || minor > MINOR {
         return Err(CedarPersistenceError::UnsupportedVersion { major, minor });
     }
     Ok(())
@@ -182,6 +187,7 @@ pub(crate) fn parse_header(bytes: &[u8], layout: u8) -> Result<Header, CedarPers
     ensures whole { OnOk result (88 ≤ length bytes.now) }
     ensures spelled { IfOk result (λ h. take 88 bytes.now ≡ header_bytes layout h) }
     ensures fits { IfOk result FitsHeader }
+    ensures known { IfOk result (λ h. IsVersion h.minor) }
     ensures io { IfErr result (λ e. IsIo e → ⊥) }
     ensures room { IfErr result (λ e. IsLack e → ⊥) }
 {
@@ -238,6 +244,13 @@ fn fault_of(error: io::Error) -> CedarPersistenceError
     }
 }
 
+/// How many slots a file of a minor version lists: all, or from 1 on those in use alone.
+pub(crate) fn listed(minor: u16, capacity: usize, size: usize) -> usize
+    ensures { result ≡ listed minor capacity size }
+{
+    if minor == FULL_MINOR { capacity } else { size }
+}
+
 /// Tests the sizes that a header gives, and whether the need of a load passes the limit.
 pub(crate) fn check_sizes(
     header: &Header,
@@ -249,7 +262,8 @@ pub(crate) fn check_sizes(
     ensures io { IfErr result (λ e. IsIo e → ⊥) }
     ensures room { IfErr result (λ e. IsLack e → ⊥) }
 {
-    if header.array_len != header.capacity || header.n_infos_len != header.capacity {
+    let slots_listed = listed(header.minor, header.capacity, header.size);
+    if header.array_len != slots_listed || header.n_infos_len != slots_listed {
         return Err(invalid("node_vector_lengths", header.array_len));
     }
     let capacity = header.capacity;
@@ -260,10 +274,11 @@ pub(crate) fn check_sizes(
     if size % 256 != 0 || size < 256 || size > capacity {
         return Err(invalid("size", size));
     }
-    let blocks = capacity / 256;
-    if header.blocks_len != blocks || header.reject_len != 257 || header.entries > size {
+    let blocks_listed = slots_listed / 256;
+    if header.blocks_len != blocks_listed || header.reject_len != 257 || header.entries > size {
         return Err(invalid("state_lengths", header.blocks_len));
     }
+    let blocks = capacity / 256;
     let requested = 2 * (10 * capacity + 20 * blocks + 514) + 18 * size + blocks;
     if requested > memory_limit {
         return Err(CedarPersistenceError::AllocationLimitExceeded {
@@ -284,7 +299,7 @@ fn invalid(field: &'static str, value: usize) -> CedarPersistenceError
     }
 }
 
-/// Writes the header of a file of this layout.
+/// Writes the header of a file of this layout, in the version that it names.
 pub fn write_header<W: Write>(
     writer: &mut Watched<W>,
     layout: u8,
@@ -298,7 +313,7 @@ pub fn write_header<W: Write>(
     let mut bytes = Buffer::new();
     put_bytes(&mut bytes, &MAGIC);
     put_u16(&mut bytes, MAJOR);
-    put_u16(&mut bytes, MINOR);
+    put_u16(&mut bytes, header.minor);
     put_bytes(&mut bytes, &[LITTLE_ENDIAN, layout]);
     put_u16(&mut bytes, u16::from(header.ordered));
     put_i32(&mut bytes, header.max_trial);

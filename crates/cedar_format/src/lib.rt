@@ -1,5 +1,5 @@
-//! The binary format of a table, version 1.0: its exact bytes and its exact refusals; and the devices that it is read from
-//! and written to.
+//! The binary format of a table, versions 1.0 and 1.1: its exact bytes and its exact refusals; and the devices that it is
+//! read from and written to.
 #![tactic(auto)]
 
 mod body;
@@ -18,8 +18,8 @@ pub use body::{Decoded, decode, decode_counted};
 pub use cedar_table::{BlockRecord, NInfoRecord, NodeRecord};
 pub use error::CedarPersistenceError;
 pub use header::{
-    FLAG_ORDERED, HEADER_LEN, Header, LAYOUT, LITTLE_ENDIAN, MAGIC, MAJOR, MINOR, REDUCED_LAYOUT,
-    read_header, write_header,
+    FLAG_ORDERED, FULL_MINOR, HEADER_LEN, Header, LAYOUT, LITTLE_ENDIAN, MAGIC, MAJOR, MINOR,
+    REDUCED_LAYOUT, read_header, write_header,
 };
 pub use laws::{headers_are_read_again, one_table_for_its_bytes, well_formed_tables_pass};
 pub use numbers::{

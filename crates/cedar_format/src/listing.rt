@@ -4,6 +4,7 @@ ghost use Rattle.std.specs.Prelude.{◌≡◌, ◌+◌, ◌*◌, ◌≤◌, true
 ghost use Rattle.std.specs.List.{flat_map};
 ghost use Rattle.std.specs.Io.KnownBytes.{Appends, Consumes};
 ghost use Rattle.arrayvec.specs.ArrayVec.{array_vec_len};
+ghost use Rattle.cedar_format.specs.Format.{filled};
 ghost use Rattle.cedar_format.specs.Reading.{Holds, IsIo, Misses};
 ghost use Rattle.cedar_format.specs.WatchedDevice.{device_of, has_failed};
 
@@ -24,27 +25,30 @@ pub(crate) fn read_records<R: Read, T: Record, A: Allocator>(
     requires empty { records.old.items ≡ [] }
     requires room { count ≤ vec_capacity records.old }
     ensures count { OnOk result (vec_len records.new ≡ count) }
+    ensures capacity { OnOk result (vec_capacity records.new ≡ vec_capacity records.old) }
     ensures bytes { OnOk result (Consumes (R.remaining (device_of reader.old)) (R.remaining (device_of reader.new)) (flat_map T.bytes_of records.new.items)) }
     ensures fits { OnOk result (All T.Fits records.new.items) }
     ensures len { OnOk result (length (flat_map T.bytes_of records.new.items) ≡ count * T.LEN) }
     ensures misses { IfErr result (Misses (R.remaining (device_of reader.old)) (has_failed reader.new) (count * T.LEN)) }
     ensures failed { has_failed reader.old ≡ true → has_failed reader.new ≡ true }
 {
+    let mut buffer = [0u8; BUFFER_LEN];
     let most = BUFFER_LEN / T::LEN;
     while records.len() < count {
         let left = count - records.len();
-        read_piece(reader, left.min(most), records)?;
+        read_piece(reader, &mut buffer, left.min(most), records)?;
     }
     Ok(())
 }
 
-/// Reads as many further records as fit in one buffer.
+/// Reads as many further records as fit in the buffer.
 fn read_piece<R: Read, T: Record, A: Allocator>(
     reader: &mut Watched<R>,
+    buffer: &mut [u8; BUFFER_LEN],
     count: usize,
     records: &mut Vec<T, A>,
 ) -> Result<(), CedarPersistenceError>
-    requires piece { count * T.LEN ≤ 4096 }
+    requires piece { count * T.LEN ≤ 16384 }
     requires room { vec_len records.old + count ≤ vec_capacity records.old }
     requires fits { All T.Fits records.old.items }
     ensures count { OnOk result (vec_len records.new ≡ vec_len records.old + count) }
@@ -54,7 +58,6 @@ fn read_piece<R: Read, T: Record, A: Allocator>(
     ensures misses { IfErr result (Misses (R.remaining (device_of reader.old)) (has_failed reader.new) (count * T.LEN)) }
     ensures failed { has_failed reader.old ≡ true → has_failed reader.new ≡ true }
 {
-    let mut buffer = [0u8; BUFFER_LEN];
     let bytes = &mut buffer[..count * T::LEN];
     read_bytes(reader, bytes)?;
     take_records(bytes, count, records);
@@ -74,6 +77,16 @@ fn take_records<T: Record, A: Allocator>(bytes: &[u8], count: usize, records: &m
     let mut rest = bytes;
     for _ in 0..count {
         records.push_reserved(T::take_from(&mut rest));
+    }
+}
+
+/// Fills a list up to a length, in the room that it has.
+pub(crate) fn fill_up<T: Record, A: Allocator>(records: &mut Vec<T, A>, len: usize, blank: T)
+    requires { len ≤ vec_capacity records.old }
+    ensures { records.new.items ≡ filled blank len records.old.items }
+{
+    while records.len() < len {
+        records.push_reserved(blank);
     }
 }
 
@@ -101,8 +114,8 @@ fn make_room<W: Write>(
     buffer: &mut Buffer,
     len: usize,
 ) -> Result<(), CedarPersistenceError>
-    requires { len ≤ 4096 }
-    ensures room { OnOk result (array_vec_len buffer.new + len ≤ 4096) }
+    requires { len ≤ 16384 }
+    ensures room { OnOk result (array_vec_len buffer.new + len ≤ 16384) }
     ensures bytes { OnOk result (Holds (W.contents (device_of writer.old)) (W.contents (device_of writer.new)) buffer.new.items buffer.old.items) }
     ensures err { IfErr result (λ e. IsIo e × (has_failed writer.new ≡ true)) }
     ensures failed { has_failed writer.old ≡ true → has_failed writer.new ≡ true }

@@ -6,7 +6,9 @@ ghost use Rattle.arrayvec.specs.ArrayVec.{array_vec_len};
 ghost use Rattle.cedar_format.specs.Numbers.{i16_bytes, length-i16_bytes, length-i32_bytes, IsI16};
 ghost use Rattle.cedar_format.specs.Records.{node_bytes, info_bytes, block_bytes, FitsNode, FitsInfo, FitsBlock};
 
-use crate::buffer::{Buffer, put_i16, put_i32, put_u8, take_i16, take_i32, take_u8};
+use crate::buffer::{
+    Buffer, put_i16, put_i32, put_i32_pair, put_u8_pair, take_i16, take_i32, take_u8,
+};
 use cedar_table::{BlockRecord, NInfoRecord, NodeRecord};
 
 /// What a file holds a list of.
@@ -31,7 +33,7 @@ pub(crate) trait Record: Copy + Drop {
 
     /// Puts its bytes behind those in a buffer.
     fn put_in(&self, buffer: &mut Buffer)
-        requires { array_vec_len buffer.old + LEN ≤ 4096 }
+        requires { array_vec_len buffer.old + LEN ≤ 16384 }
         ensures bytes { buffer.new.items ≡ buffer.old.items ++ bytes_of self.now }
         ensures fits { Fits self.now };
 
@@ -58,8 +60,7 @@ impl Record for NodeRecord {
     }
 
     fn put_in(&self, buffer: &mut Buffer) {
-        put_i32(buffer, self.base);
-        put_i32(buffer, self.check);
+        put_i32_pair(buffer, self.base, self.check);
     }
 
     ghost same_len = { λ node. Prim.search (rules, length-append, length-i32_bytes) };
@@ -85,8 +86,7 @@ impl Record for NInfoRecord {
     }
 
     fn put_in(&self, buffer: &mut Buffer) {
-        put_u8(buffer, self.sibling);
-        put_u8(buffer, self.child);
+        put_u8_pair(buffer, self.sibling, self.child);
     }
 
     ghost same_len = { λ info. Prim.search rules };

@@ -4,7 +4,9 @@ pub mod InnerKeys
 pub mod LabelByLabel
 pub mod LastLabel
 pub mod NodeByNode
+pub mod OnePair
 pub mod Pending
+pub mod Runs
 pub mod SlotsOfNumbers
 pub mod SortedTree
 pub mod Spans

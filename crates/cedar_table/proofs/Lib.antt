@@ -1,6 +1,5 @@
 pub mod BulkLemmas
 pub mod CellsLemmas
-pub mod CheckLemmas
 pub mod EditLemmas
 pub mod MeaningLemmas
 pub mod RelocationLemmas

@@ -1,5 +1,4 @@
 pub mod Bulk
-pub mod Check
 pub mod Edit
 pub mod Meaning
 pub mod Relocation

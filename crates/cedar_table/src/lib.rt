@@ -1,9 +1,8 @@
 //! The table of slots of a double-array trie: the labelled tree that its held slots stand for; look-ups and walks, updates
-//! and erasures, builds from sorted pairs, and the test of a table that nobody has vouched for.
+//! and erasures, and builds from sorted pairs.
 #![tactic(auto)]
 
 mod bulk;
-mod check;
 mod clone;
 mod edit;
 mod laws;
@@ -14,7 +13,6 @@ mod table;
 mod update;
 mod walk;
 
-pub use bulk::spans::Pair;
 pub use cedar_slots::{
     BLOCK_SIZE, BlockRecord, CedarError, Corrupt, NInfoRecord, NodeRecord, Ticks,
 };

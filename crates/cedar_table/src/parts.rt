@@ -1,15 +1,19 @@
 //! A table as its parts: it is made of them when it is loaded, and gives them when it is saved.
 
-ghost use Rattle.std.specs.Prelude.{◌≡◌, length};
+ghost use Rattle.std.specs.Prelude.{◌≡◌, ◌+◌, ◌*◌, ◌≤◌, ◌≤ℤ◌, length, pos};
+ghost use Rattle.std.specs.Result.{OkIff};
 ghost use Rattle.cedar_table.specs.Table.Parts.{parts_fields};
-ghost use Rattle.cedar_slots.specs.Places.{Shaped};
-ghost use Rattle.cedar_table.specs.Table.TableFields.{fields};
+ghost use Rattle.cedar_slots.specs.Places.{IsPowerOfTwo, IsSlotLimit, IsTable, Shaped};
+ghost use Rattle.cedar_table.specs.Table.TableFields.{capacity_of, fields};
 
 use crate::layout::Layout;
 use crate::table::Table;
-use cedar_slots::{BLOCK_SIZE, BlockRecord, Blocks, NInfoRecord, NodeRecord, Places, Slots};
+use cedar_slots::{
+    BLOCK_SIZE, BlockRecord, Blocks, Corrupt, NInfoRecord, NodeRecord, Places, Slots, Ticks,
+};
 use std::alloc::Allocator;
 use std::marker::PhantomData;
+use std::sync::ledger::Ledger;
 
 /// What a table is made of. `size` is how many slots are in use.
 #[derive(Drop)]
@@ -56,14 +60,28 @@ impl<L: Layout, const SLOTS: usize, A: Allocator> Table<L, SLOTS, A> {
         }
     }
 
-    /// All slots, to be written out. (A comparison of a check field goes by `check`, which counts it.)
+    /// Whether slots, rings, blocks and lists that nobody has vouched for are those of a table. The sizes and `max_trial`
+    /// are tested before, and what the held slots stand for isn't tested. It takes no memory, and reads at most five records
+    /// a slot and 512 more.
+    pub fn check_places<C: Ledger>(&self, reads: &mut Ticks<C>) -> Result<(), Corrupt>
+        requires doubled { IsPowerOfTwo (length (fields self.now).places.blocks.records) }
+        requires limit { IsSlotLimit SLOTS }
+        requires within { capacity_of (fields self.now) ≤ SLOTS }
+        requires tried { pos 1 ≤ℤ (fields self.now).places.blocks.max_trial }
+        ensures answer { OkIff result (IsTable SLOTS (fields self.now).places) tt }
+        ensures cost { reads.new ≤ reads.old + 5 * capacity_of (fields self.now) + 512 }
+    {
+        self.places.check_places(reads)
+    }
+
+    /// All slots, to be written out or tested. (A comparison of a check field goes by `check`, which counts it.)
     pub fn node_records(&self) -> &[NodeRecord]
         ensures { result.now ≡ (fields self.now).places.slots.nodes }
     {
         self.places.slots.nodes.as_slice()
     }
 
-    /// The labels of all slots, to be written out.
+    /// The labels of all slots, to be written out or tested.
     pub fn info_records(&self) -> &[NInfoRecord]
         ensures { result.now ≡ (fields self.now).places.slots.infos }
     {

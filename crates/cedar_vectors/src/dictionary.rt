@@ -1,7 +1,8 @@
 //! The calls of the dictionary in both layouts, at values made by hand.
 ghost use Rattle.std.specs.Prelude.{◌≡◌, ◌<◌};
 
-use crate::layouts::empty;
+use crate::expect::{expect_erased, expect_found};
+use crate::layouts::{Full, empty};
 use cedarwood::{
     Cedar, CedarBuilder, CedarError, DefaultLayout, Layout, MAX_VALUE, MIN_VALUE, ReducedLayout,
     Ticks,
@@ -16,17 +17,17 @@ use test_devices::Refusing;
 // Each call once, and each answer that it has.
 fn expect_each_call<L: Layout>(rt: &impl Abort, alloc: Global) -> Result<(), Fail> {
     let mut cedar = empty::<L>(alloc)?;
-    assert_eq!(rt; cedar.exact_match_search_bytes(b"a"), None);
+    expect_found(rt, &cedar, b"a", None);
     cedar.update_bytes(b"a", 1)?;
     cedar.update_bytes(b"a", 2)?;
-    assert_eq!(rt; cedar.exact_match_search_bytes(b"a"), Some((2, 1)));
-    assert_eq!(rt; cedar.exact_match_search_bytes(b""), None);
-    assert_eq!(rt; cedar.exact_match_search_bytes(b"a\0"), None);
-    assert!(rt; !cedar.erase_bytes(b""));
-    assert!(rt; !cedar.erase_bytes(b"a\0"));
-    assert!(rt; cedar.erase_bytes(b"a"));
-    assert!(rt; !cedar.erase_bytes(b"a"));
-    assert_eq!(rt; cedar.exact_match_search_bytes(b"a"), None);
+    expect_found(rt, &cedar, b"a", Some((2, 1)));
+    expect_found(rt, &cedar, b"", None);
+    expect_found(rt, &cedar, b"a\0", None);
+    expect_erased(rt, &mut cedar, b"", false);
+    expect_erased(rt, &mut cedar, b"a\0", false);
+    expect_erased(rt, &mut cedar, b"a", true);
+    expect_erased(rt, &mut cedar, b"a", false);
+    expect_found(rt, &cedar, b"a", None);
     Ok(())
 }
 
@@ -44,8 +45,8 @@ fn expect_shared_path<L: Layout>(rt: &impl Abort, alloc: Global) -> Result<(), F
     cedar.update_bytes(b"ab", 2)?;
     cedar.update_bytes(b"\xff", MIN_VALUE)?;
     cedar.update_bytes(b"\x01", MAX_VALUE)?;
-    assert!(rt; cedar.erase_bytes(b"ab"));
-    assert!(rt; !cedar.erase_bytes(b"abcd"));
+    expect_erased(rt, &mut cedar, b"ab", true);
+    expect_erased(rt, &mut cedar, b"abcd", false);
     let held: [(&[u8], Option<(i32, usize)>); 7] = [
         (b"a", Some((1, 1))),
         (b"ab", None),
@@ -56,7 +57,7 @@ fn expect_shared_path<L: Layout>(rt: &impl Abort, alloc: Global) -> Result<(), F
         (b"\x01", Some((2147483645, 1))),
     ];
     for (key, found) in held {
-        assert_eq!(rt; cedar.exact_match_search_bytes(key), found, "at {key:?}");
+        expect_found(rt, &cedar, key, found);
     }
     Ok(())
 }
@@ -65,6 +66,17 @@ fn expect_shared_path<L: Layout>(rt: &impl Abort, alloc: Global) -> Result<(), F
 fn keeps_what_shares_a_path(rt: HostRuntime) -> Result<(), Fail> {
     expect_shared_path::<DefaultLayout>(&rt, rt.alloc())?;
     expect_shared_path::<ReducedLayout>(&rt, rt.alloc())
+}
+
+// An update has to be refused so.
+fn expect_refused<L: Layout>(
+    rt: &impl Abort,
+    cedar: &mut Full<L>,
+    key: &[u8],
+    value: i32,
+    error: CedarError,
+) {
+    assert_eq!(rt; cedar.update_bytes(key, value), Err(error));
 }
 
 // A pair with several faults is refused for the first of them, and nothing is stored.
@@ -87,15 +99,18 @@ fn expect_first_fault<L: Layout>(rt: &impl Abort, alloc: Global) -> Result<(), F
         ),
     ];
     for (key, value, error) in refused {
-        assert_eq!(rt; cedar.update_bytes(key, value), Err(error));
-        assert_eq!(rt; cedar.exact_match_search_bytes(key), None);
+        expect_refused(rt, &mut cedar, key, value, error);
+        expect_found(rt, &cedar, key, None);
     }
-    assert_eq!(rt; cedar.update_bytes(b"a", 2147483645), Ok(()));
-    assert_eq!(rt;
-        cedar.update_bytes(b"a", -1),
-        Err(CedarError::InvalidValue { value: -1 })
+    cedar.update_bytes(b"a", 2147483645)?;
+    expect_refused(
+        rt,
+        &mut cedar,
+        b"a",
+        -1,
+        CedarError::InvalidValue { value: -1 },
     );
-    assert_eq!(rt; cedar.exact_match_search_bytes(b"a"), Some((2147483645, 1)));
+    expect_found(rt, &cedar, b"a", Some((2147483645, 1)));
     Ok(())
 }
 

@@ -1,4 +1,4 @@
-//! Growth that is refused: for memory, each request in turn, and at the limit of slots.
+//! Growth: in spare blocks, and at the limit of slots.
 use cedarwood::{Cedar, CedarBuilder, CedarError, DefaultLayout, Trie};
 use std::alloc::Global;
 use std::process::Abort;
@@ -6,42 +6,6 @@ use std::test::Fail;
 use test_devices::Refusing;
 
 type Small<const SLOTS: usize> = Trie<DefaultLayout, SLOTS, Global>;
-
-// How an update of a new key went where one request was refused: how many requests it made, its outcome, how many keys
-// and used slots there were then, and whether the next one succeeds.
-fn update_refused(
-    alloc: Global,
-    request: u64,
-) -> Result<(u64, bool, usize, usize, bool), CedarError> {
-    let memory = Refusing::new(alloc);
-    let mut trie = Cedar::new(&memory)?;
-    memory.refuse(request, request);
-    let outcome = trie.update_bytes(b"ab", 1);
-    let requests = memory.requests();
-    let figures = (trie.len(), trie.used_node_slots());
-    memory.refuse_none();
-    let again = trie.update_bytes(b"ab", 1);
-    let stored = again == Ok(()) && trie.used_node_slots() == 4 && trie.len() == 1;
-    Ok((
-        requests,
-        outcome == Err(CedarError::Memory),
-        figures.0,
-        figures.1,
-        stored,
-    ))
-}
-
-#[test]
-fn each_request_of_an_update(rt: HostRuntime) -> Result<(), Fail> {
-    let (requests, refused, len, used, stored) = update_refused(rt.alloc(), 0)?;
-    assert_eq!(&rt; (refused, len, used, stored), (false, 1, 4, true));
-    assert!(&rt; requests > 0);
-    for earlier in 0..requests {
-        let (_, refused, len, used, stored) = update_refused(rt.alloc(), earlier + 1)?;
-        assert_eq!(&rt; (refused, len, used, stored), (true, 0, 1, true));
-    }
-    Ok(())
-}
 
 // With each request refused while blocks are spare, updates succeed.
 #[test]

@@ -8,6 +8,8 @@ mod builds;
 #[cfg(test)]
 mod dictionary;
 #[cfg(test)]
+mod expect;
+#[cfg(test)]
 mod growth;
 #[cfg(test)]
 mod layouts;
@@ -17,8 +19,6 @@ mod program;
 mod queries;
 #[cfg(test)]
 mod reduced;
-#[cfg(test)]
-mod runs;
 #[cfg(test)]
 mod settings;
 #[cfg(test)]

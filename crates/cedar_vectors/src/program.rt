@@ -5,6 +5,7 @@ use cedar_cli::{DONE, FAULT, REFUSED, USAGE, run_program};
 use cedarwood::{DefaultLayout, Watched};
 use std::alloc::AllocError;
 use std::fs;
+use std::process::Abort;
 use std::test::Fail;
 use test_devices::{Ending, FailingReader, FailingWriter, FlushCounter, Refusing};
 
@@ -12,7 +13,7 @@ const SCRIPT: &[u8] = b"+ 61 1\n= 61\n";
 
 const ANSWERS: &str = "ok\n1 1\n";
 
-const USAGE_TEXT: &str = "usage: cedar [--unordered] [--load PATH] [--save PATH]\n";
+const USAGE_TEXT: &str = "usage: cedar [--unordered] [--load PATH] [--save PATH] [--v1-0]\n";
 
 // What fails in a run.
 #[derive(Clone, Copy)]
@@ -91,23 +92,50 @@ fn run(
     })
 }
 
+// A run has to end with this status, and to have written and told this.
+fn expect_left(rt: &impl Abort, left: &Left, status: u8, written: &[u8], told: &[u8]) {
+    assert_eq!(rt; left.status, status);
+    assert_eq!(rt; left.written.as_slice(), written);
+    assert_eq!(rt; left.told.as_slice(), told);
+}
+
+// No device may have failed.
+fn expect_no_fault(rt: &impl Abort, left: &Left) {
+    assert!(rt; !left.is_reader_failed && !left.is_writer_failed);
+}
+
 // The script comes in one read, and the next read finds its end: two flushes, and one after the run.
 #[test]
 fn a_good_run(rt: HostRuntime) -> Result<(), Fail> {
     let left = run(&rt, &[], NONE, 128)?;
-    assert_eq!(rt; left.status, DONE);
-    assert_eq!(rt; left.written.as_slice(), ANSWERS.as_bytes());
-    assert!(rt; left.told.is_empty());
+    expect_left(&rt, &left, DONE, ANSWERS.as_bytes(), b"");
+    expect_no_fault(&rt, &left);
     assert_eq!(rt; left.flushes, 3);
-    assert!(rt; !left.is_reader_failed && !left.is_writer_failed);
     assert_eq!(rt; (DONE, FAULT, USAGE), (0, 1, 2));
     Ok(())
 }
 
-// Other arguments than the options, each once: nothing is read, written or flushed.
+// Nothing is read, written or flushed, also where the writer of errors fails.
+fn expect_usage(rt: &impl Abort, host: &HostRuntime, arguments: &[&str]) -> Result<(), Fail> {
+    let faults = Faults {
+        reader: Ending::Fault,
+        room: 0,
+        flush: 1,
+        ..NONE
+    };
+    let left = run(host, arguments, faults, 128)?;
+    expect_left(rt, &left, 2, b"", USAGE_TEXT.as_bytes());
+    expect_no_fault(rt, &left);
+    assert_eq!(rt; (left.flushes, left.requests), (0, 0));
+    let silenced = run(host, arguments, faults, 0)?;
+    expect_left(rt, &silenced, 2, b"", b"");
+    Ok(())
+}
+
+// Other arguments than the options, each once.
 #[test]
 fn wrong_arguments(rt: HostRuntime) -> Result<(), Fail> {
-    let cases: [&[&str]; 11] = [
+    let cases: [&[&str]; 14] = [
         &["--unordered", "--unordered"],
         &["--unorder"],
         &["x"],
@@ -119,36 +147,46 @@ fn wrong_arguments(rt: HostRuntime) -> Result<(), Fail> {
         &["--unordered", "--load", "x"],
         &["--load", "x", "--load", "y"],
         &["--save", "x", "--save", "x"],
+        &["--v1-0"],
+        &["--load", "x", "--v1-0"],
+        &["--v1-0", "--save", "x", "--v1-0"],
     ];
     for arguments in cases {
-        let faults = Faults {
-            reader: Ending::Fault,
-            room: 0,
-            flush: 1,
-            ..NONE
-        };
-        let left = run(&rt, arguments, faults, 128)?;
-        assert_eq!(rt; left.status, 2);
-        assert!(rt; left.written.is_empty());
-        assert_eq!(rt; left.told.as_slice(), USAGE_TEXT.as_bytes());
-        assert!(rt; !left.is_reader_failed && !left.is_writer_failed);
-        assert_eq!(rt; (left.flushes, left.requests), (0, 0));
-        let silenced = run(&rt, arguments, faults, 0)?;
-        assert_eq!(rt; silenced.status, 2);
+        expect_usage(&rt, &rt, arguments)?;
     }
     Ok(())
 }
 
-// A dictionary is saved, and loaded by the next run.
+// A dictionary is saved in either version of the format, and loaded by the next run.
 #[test]
 fn a_saved_dictionary(rt: HostRuntime) -> Result<(), Fail> {
-    let saved = run(&rt, &["--save", "program_saved.cedar"], NONE, 128)?;
-    assert_eq!(rt; (saved.status, saved.told.len()), (DONE, 0));
-    let loaded = run(&rt, &["--load", "program_saved.cedar"], NONE, 128)?;
-    assert_eq!(rt; loaded.status, DONE);
-    assert_eq!(rt; loaded.written.as_slice(), ANSWERS.as_bytes());
-    let bytes = fs::read(&rt, "program_saved.cedar")?;
-    assert_eq!(rt; bytes.len(), 5762);
+    let cases: [(&[&str], u8); 2] = [
+        (&["--save", "program_saved.cedar"], 1),
+        (&["--v1-0", "--save", "program_saved.cedar"], 0),
+    ];
+    for (arguments, minor) in cases {
+        let saved = run(&rt, arguments, NONE, 128)?;
+        expect_left(&rt, &saved, DONE, ANSWERS.as_bytes(), b"");
+        let bytes = fs::read(&rt, "program_saved.cedar")?;
+        assert_eq!(rt; (bytes.len(), bytes.get(10)), (5762, Some(&minor)));
+        let loaded = run(&rt, &["--load", "program_saved.cedar"], NONE, 128)?;
+        expect_left(&rt, &loaded, DONE, ANSWERS.as_bytes(), b"");
+    }
+    Ok(())
+}
+
+// A run over a file that can't be read or made: what it wrote, and how the error that it told begins.
+fn expect_file_fault(
+    rt: &impl Abort,
+    host: &HostRuntime,
+    arguments: &[&str],
+    written: &[u8],
+    told: &str,
+) -> Result<(), Fail> {
+    let left = run(host, arguments, NONE, 128)?;
+    assert_eq!(rt; left.status, REFUSED);
+    assert_eq!(rt; left.written.as_slice(), written);
+    assert!(rt; left.told.starts_with(told.as_bytes()));
     Ok(())
 }
 
@@ -156,28 +194,14 @@ fn a_saved_dictionary(rt: HostRuntime) -> Result<(), Fail> {
 #[test]
 fn refused_files(rt: HostRuntime) -> Result<(), Fail> {
     fs::write(&rt, "program_cut.cedar", "CEDARW")?;
-    let cut = run(&rt, &["--load", "program_cut.cedar"], NONE, 128)?;
-    assert_eq!(rt; cut.status, REFUSED);
-    assert!(rt; cut.written.is_empty());
-    assert_eq!(rt;
-        cut.told.as_slice(),
-        b"cedar: load: serialized cedar trie is truncated\n".as_slice()
-    );
-    let missing = run(&rt, &["--load", "program_missing.cedar"], NONE, 128)?;
-    assert_eq!(rt; missing.status, 3);
-    assert!(rt;
-        missing
-            .told
-            .starts_with(b"cedar: load: persistence I/O error: ")
-    );
-    let nowhere = run(&rt, &["--save", "program_missing/x.cedar"], NONE, 128)?;
-    assert_eq!(rt; nowhere.status, 3);
-    assert_eq!(rt; nowhere.written.as_slice(), ANSWERS.as_bytes());
-    assert!(rt;
-        nowhere
-            .told
-            .starts_with(b"cedar: save: persistence I/O error: ")
-    );
+    let cut = "cedar: load: serialized cedar trie is truncated\n";
+    expect_file_fault(&rt, &rt, &["--load", "program_cut.cedar"], b"", cut)?;
+    let load = "cedar: load: persistence I/O error: ";
+    expect_file_fault(&rt, &rt, &["--load", "program_missing.cedar"], b"", load)?;
+    let save = "cedar: save: persistence I/O error: ";
+    let place = ["--save", "program_missing/x.cedar"];
+    expect_file_fault(&rt, &rt, &place, ANSWERS.as_bytes(), save)?;
+    assert_eq!(rt; REFUSED, 3);
     Ok(())
 }
 
@@ -185,9 +209,7 @@ fn refused_files(rt: HostRuntime) -> Result<(), Fail> {
 #[test]
 fn new_labels_first(rt: HostRuntime) -> Result<(), Fail> {
     let left = run(&rt, &["--unordered"], NONE, 128)?;
-    assert_eq!(rt; left.status, 0);
-    assert_eq!(rt; left.written.as_slice(), ANSWERS.as_bytes());
-    assert!(rt; left.told.is_empty());
+    expect_left(&rt, &left, 0, ANSWERS.as_bytes(), b"");
     Ok(())
 }
 
@@ -293,40 +315,52 @@ const CASES: [(Faults, &str, &str, u64); 7] = [
 ];
 
 // The status is the same where the writer of errors fails too, at once or in mid-line.
+fn expect_fault(
+    rt: &impl Abort,
+    host: &HostRuntime,
+    faults: Faults,
+    written: &str,
+    told: &str,
+    flushes: u64,
+) -> Result<(), Fail> {
+    let left = run(host, &[], faults, 128)?;
+    expect_left(rt, &left, 1, written.as_bytes(), told.as_bytes());
+    assert_eq!(rt; left.flushes, flushes);
+    let silenced = run(host, &[], faults, 0)?;
+    expect_left(rt, &silenced, 1, written.as_bytes(), b"");
+    let begun = run(host, &[], faults, 6)?;
+    expect_left(rt, &begun, 1, written.as_bytes(), b"cedar:");
+    Ok(())
+}
+
 #[test]
 fn faults_of_devices(rt: HostRuntime) -> Result<(), Fail> {
     for (faults, written, told, flushes) in CASES {
-        let left = run(&rt, &[], faults, 128)?;
-        assert_eq!(rt; left.status, 1);
-        assert_eq!(rt; left.written.as_slice(), written.as_bytes());
-        assert_eq!(rt; left.told.as_slice(), told.as_bytes());
-        assert_eq!(rt; left.flushes, flushes);
-        for errors_room in [0, 6] {
-            let silenced = run(&rt, &[], faults, errors_room)?;
-            assert_eq!(rt; silenced.status, 1);
-            assert_eq!(rt; silenced.written.as_slice(), written.as_bytes());
-        }
+        expect_fault(&rt, &rt, faults, written, told, flushes)?;
     }
     Ok(())
 }
 
-// Each request refused in turn: what was written begins the answers, and the error is told.
+// What was written begins the answers, and the error is told.
+fn expect_memory(rt: &impl Abort, host: &HostRuntime, request: u64) -> Result<(), Fail> {
+    let faults = Faults { request, ..NONE };
+    let left = run(host, &[], faults, 128)?;
+    let begun = ANSWERS.as_bytes().starts_with(&left.written);
+    assert_eq!(rt; (left.status, begun), (1, true), "at request {request}");
+    assert_eq!(rt; left.told.as_slice(), b"cedar: out of memory\n".as_slice());
+    let silenced = run(host, &[], faults, 0)?;
+    assert_eq!(rt; silenced.status, 1, "at request {request}");
+    Ok(())
+}
+
+// Each request refused in turn.
 #[test]
 fn refused_memory(rt: HostRuntime) -> Result<(), Fail> {
     let whole = run(&rt, &[], NONE, 128)?;
     assert_eq!(rt; whole.status, 0);
     assert!(rt; whole.requests > 0);
     for earlier in 0..whole.requests {
-        let request = earlier + 1;
-        let left = run(&rt, &[], Faults { request, ..NONE }, 128)?;
-        assert_eq!(rt; left.status, 1, "at request {request}");
-        assert!(rt;
-            ANSWERS.as_bytes().starts_with(&left.written),
-            "at request {request}"
-        );
-        assert_eq!(rt; left.told.as_slice(), b"cedar: out of memory\n".as_slice());
-        let silenced = run(&rt, &[], Faults { request, ..NONE }, 0)?;
-        assert_eq!(rt; silenced.status, 1, "at request {request}");
+        expect_memory(&rt, &rt, earlier + 1)?;
     }
     Ok(())
 }

@@ -1,4 +1,5 @@
 //! The reduced layout: how many slots are used, and the limit of slots.
+use crate::expect::{expect_counts, expect_erased, expect_found, expect_room};
 use crate::layouts::empty;
 use cedarwood::{CedarBuilder, CedarError, ReducedLayout, Trie};
 use std::alloc::{AllocError, Allocator, Global};
@@ -12,13 +13,13 @@ fn extensions_of_a_key(rt: HostRuntime) -> Result<(), Fail> {
     cedar.update("a", 0)?;
     cedar.update("ab", 1)?;
     cedar.update("abc", 2)?;
-    assert_eq!(rt; (cedar.len(), cedar.used_node_slots()), (3, 6));
-    assert!(rt; cedar.erase("abc"));
-    assert_eq!(rt; (cedar.len(), cedar.used_node_slots()), (2, 5));
+    expect_counts(&rt, &cedar, 3, 6);
+    expect_erased(&rt, &mut cedar, b"abc", true);
+    expect_counts(&rt, &cedar, 2, 5);
     let mut fresh = empty::<ReducedLayout>(rt.alloc())?;
     fresh.update("a", 0)?;
     fresh.update("ab", 1)?;
-    assert_eq!(rt; (fresh.len(), fresh.used_node_slots()), (2, 4));
+    expect_counts(&rt, &fresh, 2, 4);
     Ok(())
 }
 
@@ -27,11 +28,13 @@ fn extensions_of_a_key(rt: HostRuntime) -> Result<(), Fail> {
 fn a_number_makes_way(rt: HostRuntime) -> Result<(), Fail> {
     let mut cedar = empty::<ReducedLayout>(rt.alloc())?;
     cedar.update("a", 7)?;
-    assert_eq!(rt; (cedar.used_node_slots(), cedar.node_capacity()), (2, 256));
+    expect_counts(&rt, &cedar, 1, 2);
+    expect_room(&rt, &cedar, 256, 0);
     cedar.update("ab", 8)?;
-    assert_eq!(rt; (cedar.used_node_slots(), cedar.node_capacity()), (4, 512));
-    assert_eq!(rt; cedar.exact_match_search("a"), Some((7, 1)));
-    assert_eq!(rt; cedar.exact_match_search("ab"), Some((8, 2)));
+    expect_counts(&rt, &cedar, 2, 4);
+    expect_room(&rt, &cedar, 512, 0);
+    expect_found(&rt, &cedar, b"a", Some((7, 1)));
+    expect_found(&rt, &cedar, b"ab", Some((8, 2)));
     Ok(())
 }
 
@@ -40,13 +43,13 @@ fn a_number_makes_way(rt: HostRuntime) -> Result<(), Fail> {
 fn a_number_above_labels(rt: HostRuntime) -> Result<(), Fail> {
     let mut cedar = empty::<ReducedLayout>(rt.alloc())?;
     cedar.update("ab", 1)?;
-    assert_eq!(rt; cedar.used_node_slots(), 3);
+    expect_counts(&rt, &cedar, 1, 3);
     cedar.update("a", 2)?;
-    assert_eq!(rt; cedar.used_node_slots(), 4);
-    assert!(rt; cedar.erase("ab"));
-    assert_eq!(rt; cedar.used_node_slots(), 3);
-    assert!(rt; cedar.erase("a"));
-    assert_eq!(rt; cedar.used_node_slots(), 1);
+    expect_counts(&rt, &cedar, 2, 4);
+    expect_erased(&rt, &mut cedar, b"ab", true);
+    expect_counts(&rt, &cedar, 1, 3);
+    expect_erased(&rt, &mut cedar, b"a", true);
+    expect_counts(&rt, &cedar, 0, 1);
     Ok(())
 }
 

@@ -162,19 +162,3 @@ fn reduced_numbers(rt: HostRuntime) -> Result<(), Fail> {
     assert_eq!(&rt; (one.len(), one.used_node_slots()), (1, 2));
     Ok(())
 }
-
-// Where each request is refused in turn.
-#[test]
-fn each_request(rt: HostRuntime) -> Result<(), Fail> {
-    let pairs: [(&[u8], i32); 4] = [(b"a", 1), (b"ab", 2), (b"abc", 3), (b"b", 4)];
-    let memory = Refusing::new(rt.alloc());
-    let cedar = Cedar::from_sorted_bytes(&memory, &pairs)?;
-    assert_eq!(&rt; (cedar.len(), cedar.used_node_slots()), (4, 9));
-    for earlier in 0..memory.requests() {
-        let memory = Refusing::new(rt.alloc());
-        memory.refuse(earlier + 1, earlier + 1);
-        let outcome = Cedar::from_sorted_bytes(&memory, &pairs).map(|_| ());
-        assert_eq!(&rt; outcome, Err(CedarError::Memory));
-    }
-    Ok(())
-}

@@ -57,13 +57,17 @@ fn faults_before_memory(rt: HostRuntime) -> Result<(), Fail> {
     Ok(())
 }
 
-// Where each request is refused in turn.
+// Where each request is refused in turn. There are as many as for the same keys as bytes.
 #[test]
 fn each_request_for_texts(rt: HostRuntime) -> Result<(), Fail> {
     let pairs: [(&str, i32); 3] = [("a", 1), ("ab", 2), ("b", 4)];
     let memory = Refusing::new(rt.alloc());
     let cedar = Cedar::from_sorted(&memory, &pairs)?;
     assert_eq!(&rt; (cedar.len(), cedar.used_node_slots()), (3, 7));
+    let bytes: [(&[u8], i32); 3] = [(b"a", 1), (b"ab", 2), (b"b", 4)];
+    let beside = Refusing::new(rt.alloc());
+    let _ = Cedar::from_sorted_bytes(&beside, &bytes)?;
+    assert_eq!(&rt; memory.requests(), beside.requests());
     for earlier in 0..memory.requests() {
         let memory = Refusing::new(rt.alloc());
         memory.refuse(earlier + 1, earlier + 1);

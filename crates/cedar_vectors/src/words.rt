@@ -1,14 +1,15 @@
-//! Texts cut into tokens.
+//! Texts cut into tokens, in both layouts.
 
-use cedar_words::{Segments, segment};
-use cedarwood::Cedar;
+use crate::layouts::{Full, empty};
+use cedar_words::segment;
+use cedarwood::{DefaultLayout, Layout, ReducedLayout};
 use std::alloc::Global;
 use std::process::Abort;
 use std::test::Fail;
 
 // A dictionary of these keys, each with its place as its value.
-fn numbered(alloc: Global, keys: &[&str]) -> Result<Cedar<Global>, Fail> {
-    let mut cedar = Cedar::new(alloc)?;
+fn numbered<L: Layout>(alloc: Global, keys: &[&str]) -> Result<Full<L>, Fail> {
+    let mut cedar = empty(alloc)?;
     let mut value = 0;
     for key in keys {
         cedar.update(key, value)?;
@@ -17,20 +18,21 @@ fn numbered(alloc: Global, keys: &[&str]) -> Result<Cedar<Global>, Fail> {
     Ok(cedar)
 }
 
-fn expect_tokens(
-    tokens: Segments<'_, Cedar<Global>>,
+fn expect_tokens<L: Layout>(
+    cedar: &Full<L>,
+    text: &[u8],
     wanted: &[(usize, usize, Option<i32>)],
     alloc: Global,
     rt: &impl Abort,
 ) -> Result<(), Fail> {
-    let found: Vec<(usize, usize, Option<i32>)> = tokens.collect(alloc)?;
+    let found: Vec<(usize, usize, Option<i32>)> = segment(cedar, text).collect(alloc)?;
     assert_eq!(rt; found.as_slice(), wanted);
     Ok(())
 }
 
-// The longest key at each place, where shorter ones begin there too; bytes that no key begins with are tokens of their own.
-#[test]
-fn words_of_a_text(rt: HostRuntime) -> Result<(), Fail> {
+// The longest key at each place, where shorter ones begin there too; bytes that no key begins with are tokens of their own, a byte 0
+// among them.
+fn expect_words<L: Layout>(rt: &impl Abort, alloc: Global) -> Result<(), Fail> {
     let keys = [
         "a",
         "ab",
@@ -43,7 +45,7 @@ fn words_of_a_text(rt: HostRuntime) -> Result<(), Fail> {
         "中华人民",
         "中华人民共和国",
     ];
-    let cedar = numbered(rt.alloc(), &keys)?;
+    let cedar = numbered::<L>(alloc, &keys)?;
     let wanted = [
         (0, 9, Some(5)),
         (9, 1, None),
@@ -53,23 +55,21 @@ fn words_of_a_text(rt: HostRuntime) -> Result<(), Fail> {
         (13, 1, None),
         (14, 1, None),
     ];
-    let text = "网球拍卖会";
-    expect_tokens(segment(&cedar, text.as_bytes()), &wanted, rt.alloc(), &rt)
+    expect_tokens(&cedar, "网球拍卖会".as_bytes(), &wanted, alloc, rt)?;
+    let wanted = [(0, 1, Some(0)), (1, 1, None), (2, 1, Some(0))];
+    expect_tokens(&cedar, b"a\0a", &wanted, alloc, rt)?;
+    expect_tokens(&cedar, b"", &[], alloc, rt)
 }
 
 #[test]
-fn a_text_with_byte_0(rt: HostRuntime) -> Result<(), Fail> {
-    let mut cedar = Cedar::new(rt.alloc())?;
-    cedar.update("a", 1)?;
-    let wanted = [(0, 1, Some(1)), (1, 1, None), (2, 1, Some(1))];
-    expect_tokens(segment(&cedar, b"a\0a"), &wanted, rt.alloc(), &rt)?;
-    expect_tokens(segment(&cedar, b""), &[], rt.alloc(), &rt)
+fn words_of_a_text(rt: HostRuntime) -> Result<(), Fail> {
+    expect_words::<DefaultLayout>(&rt, rt.alloc())?;
+    expect_words::<ReducedLayout>(&rt, rt.alloc())
 }
 
 // Where a longer key goes on and the text does not, the shorter one is the token. A clone goes on from there, and what has ended stays so.
-#[test]
-fn a_clone_goes_on(rt: HostRuntime) -> Result<(), Fail> {
-    let mut cedar = Cedar::new(rt.alloc())?;
+fn expect_clones<L: Layout>(rt: &impl Abort, alloc: Global) -> Result<(), Fail> {
+    let mut cedar = empty::<L>(alloc)?;
     cedar.update("a", 1)?;
     cedar.update("abc", 3)?;
     let mut tokens = segment(&cedar, b"ababc");
@@ -82,4 +82,10 @@ fn a_clone_goes_on(rt: HostRuntime) -> Result<(), Fail> {
     }
     assert_eq!(rt; tokens.size_hint(), (0, Some(0)));
     Ok(())
+}
+
+#[test]
+fn a_clone_goes_on(rt: HostRuntime) -> Result<(), Fail> {
+    expect_clones::<DefaultLayout>(&rt, rt.alloc())?;
+    expect_clones::<ReducedLayout>(&rt, rt.alloc())
 }

@@ -45,6 +45,15 @@ found_in_range slots T key w =
     all_found (number_at (tree_of T) key) (length key)
     (all-number_at (λ v. is_value v ≡ true) (tree_of T) key (no_number slots T w) w.values)
 
+-- and so is each number that is held
+pub held_in_range : (slots : ℕ) (T : Fields) (key : List ℕ) → IsWellFormed slots T → IfSome (number_at (tree_of T) key) (λ v. value_fault v ≡ None)
+held_in_range slots T key w =
+    by_number (number_at (tree_of T) key) (all-number_at (λ v. is_value v ≡ true) (tree_of T) key (no_number slots T w) w.values)
+  where
+    by_number : (o : Option ℤ) → IfSome o (λ v. is_value v ≡ true) → IfSome o (λ v. value_fault v ≡ None)
+    by_number None h = tt
+    by_number (Some v) h = no_value_fault v h
+
 pub if_ok_always : {X E : Type 0} (P : Type 0) (r : Result X E) → P → IfOk r (λ _. P)
 if_ok_always P (Ok x) p = p
 if_ok_always P (Err e) p = tt

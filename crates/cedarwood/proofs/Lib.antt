@@ -1,7 +1,6 @@
 pub mod DictionaryLemmas
 pub mod FaultLemmas
 pub mod GrowthLemmas
-pub mod RunLemmas
 pub mod SortedInputLemmas
 pub mod UpdateLemmas
 pub mod PredictionLemmas
@@ -9,5 +8,7 @@ pub mod BuildLemmas
 pub mod CollectLemmas
 pub mod EntriesLemmas
 pub mod LoadLemmas
+pub mod MarkedLemmas
+mod OutcomeLemmas
 pub mod SaveLemmas
 mod ValidLemmas

@@ -1,5 +1,5 @@
 -- Each exit of a load is the answer that the bytes decide.
-use Rattle.std.proofs.Common.{◌≡◌, ◌⊎◌, ℕ, ℤ, pos, length, ◌+◌, ◌*◌, ◌≤◌, ◌≤ℤ◌, arith, rules, Bool, true, false, List, [], ◌∷◌, ◌++◌, take, Option, Some, None, Result, Ok, Err, inl, inr, refl, sym, ap, ◌∙◌, subst, append-nil, append_assoc, take_at}
+use Rattle.std.proofs.Common.{◌≡◌, ◌⊎◌, ℕ, ℤ, pos, length, ◌+◌, ◌*◌, ◌/◌, ◌^◌, ◌≤◌, ◌≤ℤ◌, arith, rules, Bool, true, false, List, [], ◌∷◌, ◌++◌, take, Option, Some, None, Result, Ok, Err, inl, inr, refl, sym, ap, ◌∙◌, subst, append-nil, append_assoc, take_at}
 use Rattle.std.specs.Prelude.{IfSome, MatchOption, int_lt}
 use Rattle.std.specs.Result.{IsOkAnd}
 use Rattle.std.specs.Io.KnownBytes.{Consumes, IsAtEnd}
@@ -14,12 +14,11 @@ use Rattle.cedar_format.specs.declared.error.CedarPersistenceError.{CedarPersist
 use Rattle.cedar_format.specs.declared.error.CedarPersistenceError.TheVariants as errors
 use Rattle.cedar_format.specs.Reading.{LacksNoMore}
 use Rattle.cedar_format.specs.declared.header.Header.{Header}
-use Rattle.cedar_format.specs.Format.{decode_refusal, header_answer, header_at, need, trial_refusal, CountsWithin, DecodeAnswers, IsFile, IsHeader, Passes}
-use Rattle.cedar_format.specs.Records.{body_bytes}
+use Rattle.cedar_format.specs.Format.{decode_refusal, header_answer, header_at, listed_bytes, listed_in, need, trial_refusal, CountsWithin, DecodeAnswers, IsFile, IsHeader, IsVersion, Passes}
 use Rattle.cedar_format.specs.Refusal.{Refusal, CorruptData, first_refusal, refusal, refusal_of, unless}
-use Rattle.cedar_format.specs.Tables.{file_fields, header_of, table_bytes, FitsTable, IsTableFile}
-use Rattle.cedar_format.proofs.FileTable.{file_fits, file_header, file_spelled}
-use Rattle.cedar_format.proofs.OneTable.{one_table}
+use Rattle.cedar_format.specs.Tables.{file_fields, header_of, table_bytes, FitsTable, IsListed, IsTableFile}
+use Rattle.cedar_format.proofs.FileTable.{file_fits, file_header, file_is_listed, file_spelled}
+use Rattle.cedar_format.proofs.OneTable.{formed_is_listed, one_table}
 use Rattle.cedar_format.proofs.Passing.{tables_pass}
 use Rattle.cedar_format.proofs.Sizes.{has_sizes}
 use Rattle.cedarwood.specs.Dictionary.{Dictionary}
@@ -63,24 +62,27 @@ module _ (kind : LayoutKind) (slots limit : ℕ) where
   module _ (h : Header) (nodes : List NodeRecord) (infos : List NInfoRecord) (blocks : List BlockRecord) (reject : List ℤ) (file : IsFile slots limit h nodes infos blocks reject)
       (front : List ℕ) (is : IsHeader (layout_byte kind) front h) (T : Fields) (made : T ≡ file_fields kind h nodes infos blocks reject) where
     abbrev body : List ℕ
-    body = body_bytes nodes infos blocks reject
+    body = listed_bytes (listed_in h) nodes infos blocks reject
 
-    spelled : front ++ body ≡ table_bytes T
-    spelled = file_spelled kind slots limit h nodes infos blocks reject file front is ∙ ap table_bytes (sym made)
+    spelled : front ++ body ≡ table_bytes h.minor T
+    spelled = file_spelled kind slots limit h nodes infos blocks reject file front is ∙ ap (table_bytes h.minor) (sym made)
 
-    fits : FitsTable T
-    fits = subst FitsTable (sym made) (file_fits kind slots limit h nodes infos blocks reject file is.fits)
+    fits : FitsTable h.minor T
+    fits = subst (FitsTable h.minor) (sym made) (file_fits kind slots limit h nodes infos blocks reject file is.fits)
 
-    -- the bytes that were read are those of the table
-    pub read_bytes : (old new : Option (List ℕ)) → Consumes old new (front ++ body) → Consumes old new (table_bytes T)
-    read_bytes old new took = subst (Consumes old new) spelled took
+    whole_table : slots ≤ 2 ^ 30 → IsListed h.minor T
+    whole_table most = subst (IsListed h.minor) (sym made) (file_is_listed kind slots limit h nodes infos blocks reject file most)
+
+    -- the bytes that were read are those of the table in the header's version
+    pub read_bytes : (old new : Option (List ℕ)) → Consumes old new (front ++ body) → (version : ℕ) × IsVersion version × Consumes old new (table_bytes version T)
+    read_bytes old new took = (h.minor, is.known, subst (Consumes old new) spelled took)
 
     same_header : (bytes rest : List ℕ) → bytes ≡ (front ++ body) ++ rest → header_at (take 88 bytes) ≡ h
     same_header bytes rest e =
         let whole : bytes ≡ front ++ (body ++ rest) = e ∙ append_assoc front body rest in
         ap header_at (ap (take 88) whole ∙ take_at front (body ++ rest) 88 is.len) ∙ sym is.fields
 
-    all_bytes : (bytes rest : List ℕ) → bytes ≡ (front ++ body) ++ rest → rest ≡ [] → bytes ≡ table_bytes T
+    all_bytes : (bytes rest : List ℕ) → bytes ≡ (front ++ body) ++ rest → rest ≡ [] → bytes ≡ table_bytes h.minor T
     all_bytes bytes rest e end = e ∙ ap (λ l. (front ++ body) ++ l) end ∙ append-nil (front ++ body) ∙ spelled
 
     -- the number of trials was refused
@@ -101,15 +103,19 @@ module _ (kind : LayoutKind) (slots limit : ℕ) where
 
     pub refused_table : (old new : Option (List ℕ)) (failed : Bool) (e : CedarPersistenceError) → Consumes old new (front ++ body) → (failed ≡ false → IsAtEnd new)
         → IfSome old (λ bytes. failed ≡ false → DecodeAnswers {X = ℕ} (layout_byte kind) slots limit bytes (Ok 0)) → None ≡ trial_refusal h
-        → refusal_of e ≡ CorruptData → (IsWellFormed slots T → ⊥)
+        → refusal_of e ≡ CorruptData → (IsWellFormed slots T → ⊥) → slots ≤ 2 ^ 30
         → IfSome old (λ bytes. failed ≡ false → LoadAnswers table_in kind slots limit bytes (Err e))
-    refused_table None new failed e took ended decoded trial corrupt broken = tt
-    refused_table (Some bytes) None failed e took ended decoded trial corrupt broken = absurd took
-    refused_table (Some bytes) (Some rest) failed e took ended decoded trial corrupt broken = λ fine.
+    refused_table None new failed e took ended decoded trial corrupt broken most = tt
+    refused_table (Some bytes) None failed e took ended decoded trial corrupt broken most = absurd took
+    refused_table (Some bytes) (Some rest) failed e took ended decoded trial corrupt broken most = λ fine.
         let answer = trials bytes rest None took (decoded fine) trial in
         let whole = all_bytes bytes rest took (ended fine) in
-        let decided : IsDecided table_in slots bytes (Err e) =
-        (corrupt, λ (U : Fields) (other : IsTableFile slots U bytes). broken (subst (IsWellFormed slots) (sym (one_table T U fits other.fits (sym whole ∙ other.spelled))) other.formed)) in
+        let decided : IsDecided table_in slots bytes (Err e) = (
+          corrupt,
+          λ (version : ℕ) (U : Fields) (other : IsTableFile version slots U bytes).
+              let same = one_table h.minor version T U (whole_table most) (formed_is_listed slots version U other.formed) fits other.fits (sym whole ∙ other.spelled) in
+              broken (subst (IsWellFormed slots) (sym same.0) other.formed),
+        ) in
         inr (subst (λ o. MatchOption o (IsDecided table_in slots bytes (Err e)) (λ r. ◌≡◌ {A = Option Refusal} (Some (refusal_of e)) (Some r))) (sym answer) decided)
 
     pub accepted : (old new : Option (List ℕ)) (failed : Bool) (d : Dictionary) → d.table ≡ T → Consumes old new (front ++ body) → (failed ≡ false → IsAtEnd new)
@@ -120,8 +126,8 @@ module _ (kind : LayoutKind) (slots limit : ℕ) where
     accepted (Some bytes) (Some rest) failed d holds took ended decoded trial formed = λ fine.
         let answer = trials bytes rest None took (decoded fine) trial in
         let whole = all_bytes bytes rest took (ended fine) in
-        let file_of_T : IsTableFile slots T bytes = record { formed = formed; fits = fits; spelled = whole } in
-        let decided : IsDecided table_in slots bytes (Ok d) = subst (λ U. IsTableFile slots U bytes) (sym holds) file_of_T in
+        let file_of_T : IsTableFile h.minor slots T bytes = record { known = is.known; formed = formed; fits = fits; spelled = whole } in
+        let decided : IsDecided table_in slots bytes (Ok d) = (h.minor, subst (λ U. IsTableFile h.minor slots U bytes) (sym holds) file_of_T) in
         inr (subst (λ o. MatchOption o (IsDecided table_in slots bytes (Ok d)) (λ r. ◌≡◌ {A = Option Refusal} None (Some r))) (sym answer) decided)
 
     same_capacity : capacity_of T ≡ h.capacity
@@ -131,7 +137,7 @@ module _ (kind : LayoutKind) (slots limit : ℕ) where
     pub can_be_tested : None ≡ trial_refusal h → IsPowerOfTwo (length T.places.blocks.records) × (capacity_of T ≤ slots) × (pos 1 ≤ℤ T.places.blocks.max_trial)
     can_be_tested passed =
         let sizes = has_sizes slots limit h file.sizes in
-        let records : length T.places.blocks.records ≡ h.blocks_len = ap (λ U. length U.places.blocks.records) made ∙ file.blocks_len in (
+        let records : length T.places.blocks.records ≡ h.capacity / 256 = ap (λ U. length U.places.blocks.records) made ∙ file.blocks_len in (
           subst IsPowerOfTwo (sym records) sizes.doubled,
           omega (arith, same_capacity, sizes.capacity),
           subst (λ z. pos 1 ≤ℤ z) (sym (ap (λ U. U.places.blocks.max_trial) made)) (some_trials h.max_trial _ passed),
@@ -146,28 +152,32 @@ module _ (kind : LayoutKind) (slots limit : ℕ) where
 
 -- ---- a table's own file
 
-own_decided : (slots : ℕ) (T : Fields) (answer : Result Dictionary CedarPersistenceError) → IsTableFile slots T (table_bytes T) → IsDecided table_in slots (table_bytes T) answer → IsOkAnd answer (λ d. d.table ≡ T)
-own_decided slots T (Ok d) file decided = sym (one_table T d.table file.fits decided.fits decided.spelled)
-own_decided slots T (Err e) file decided = absurd (decided.1 T file)
+own_decided : (version slots : ℕ) (T : Fields) (answer : Result Dictionary CedarPersistenceError) → IsTableFile version slots T (table_bytes version T) → IsDecided table_in slots (table_bytes version T) answer
+    → IsOkAnd answer (λ d. d.table ≡ T)
+own_decided version slots T (Ok d) file decided =
+    let other = decided.1 in
+    sym (one_table version decided.0 T d.table (formed_is_listed slots version T file.formed) (formed_is_listed slots decided.0 d.table other.formed) file.fits other.fits other.spelled).0
+own_decided version slots T (Err e) file decided = absurd (decided.1 version T file)
 
-pub own_file_loads : (slots limit : ℕ) (T : Fields) (answer : Result Dictionary CedarPersistenceError) → IsTableFile slots T (table_bytes T) → need (header_of T) ≤ limit
-    → LoadAnswers table_in T.layout slots limit (table_bytes T) answer → LacksMemory (layout_byte T.layout) slots limit (table_bytes T) answer ⊎ IsOkAnd answer (λ d. d.table ≡ T)
-own_file_loads slots limit T answer file within (inl lacks) = inl lacks
-own_file_loads slots limit T answer file within (inr told) =
-    let passes : header_answer (layout_byte T.layout) slots limit (table_bytes T) ≡ None = tables_pass slots limit T file.formed file.fits within in
-    let decided : IsDecided table_in slots (table_bytes T) answer = subst (λ o. MatchOption o (IsDecided table_in slots (table_bytes T) answer) (λ r. refusal answer ≡ Some r)) passes told in
-    inr (own_decided slots T answer file decided)
+pub own_file_loads : (version slots limit : ℕ) (T : Fields) (answer : Result Dictionary CedarPersistenceError) → IsTableFile version slots T (table_bytes version T) → need (header_of version T) ≤ limit
+    → LoadAnswers table_in T.layout slots limit (table_bytes version T) answer → LacksMemory (layout_byte T.layout) slots limit (table_bytes version T) answer ⊎ IsOkAnd answer (λ d. d.table ≡ T)
+own_file_loads version slots limit T answer file within (inl lacks) = inl lacks
+own_file_loads version slots limit T answer file within (inr told) =
+    let bytes = table_bytes version T in
+    let passes : header_answer (layout_byte T.layout) slots limit bytes ≡ None = tables_pass version slots limit T file.known file.formed file.fits within in
+    let decided : IsDecided table_in slots bytes answer = subst (λ o. MatchOption o (IsDecided table_in slots bytes answer) (λ r. refusal answer ≡ Some r)) passes told in
+    inr (own_decided version slots T answer file decided)
 
 -- ---- what was loaded is saved as the same bytes
 
 pub loaded_saves_again : (kind : LayoutKind) (slots limit : ℕ) (bytes : List ℕ) (d : Dictionary) → LoadAnswers table_in kind slots limit bytes (Ok d)
-    → IsTableFile slots d.table bytes × (table_bytes d.table ≡ bytes)
+    → (version : ℕ) × IsTableFile version slots d.table bytes × (table_bytes version d.table ≡ bytes)
 loaded_saves_again kind slots limit bytes d (inl lacks) = absurd lacks.0
 loaded_saves_again kind slots limit bytes d (inr told) = decided (header_answer (layout_byte kind) slots limit bytes) told
   where
     decided : (o : Option Refusal) → MatchOption o (IsDecided table_in slots bytes (Ok d)) (λ r. ◌≡◌ {A = Option Refusal} None (Some r))
-        → IsTableFile slots d.table bytes × (table_bytes d.table ≡ bytes)
-    decided None file = (file, sym file.spelled)
+        → (version : ℕ) × IsTableFile version slots d.table bytes × (table_bytes version d.table ≡ bytes)
+    decided None file = (file.0, file.1, sym file.1.spelled)
     decided (Some r) none = absurd cc
 
 -- ---- a load by path

@@ -31,6 +31,11 @@ begins slots T query k (Some first) there = record {
   fewer = let same : length (left_at T query first.depth first.slot) ≡ length (visits_left (node_at (tree_of T) query) []) = ap (λ d. length (left_at T query d first.slot)) there.0 in omega (arith, same);
 }
 
+-- the node that was found
+pub going : (T : Fields) (query : List ℕ) (place : PredictPlace) (found : Option Visited) (next : Visited) → found ≡ Some next
+    → MatchOption found (predicted_from T query place ≡ []) (GoesOnTo T query place) → GoesOnTo T query place next
+going T query place found next is there = subst (λ r. MatchOption r (predicted_from T query place ≡ []) (GoesOnTo T query place)) is there
+
 -- a node with a number gives an answer
 pub answers : (T : Fields) (query : List ℕ) (place : PredictPlace) (next : Visited) (v : ℤ) → GoesOnTo T query place next → next.number ≡ Some v
     → predicted_from T query place ≡ (v, next.depth) ∷ answers_of (entries_of (left_at T query next.depth next.slot))

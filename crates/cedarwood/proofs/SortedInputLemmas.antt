@@ -14,8 +14,9 @@ use Rattle.cedar_tree.specs.Laws.{ArePathsAscending, ArePathsKeys}
 use Rattle.cedar_slots.specs.declared.error.CedarError.{CedarError}
 use Rattle.cedar_slots.specs.declared.error.CedarError.TheVariants.{DuplicateKey, KeysNotSorted}
 use Rattle.cedar_table.specs.Meaning.WellFormed.{is_value}
+use Rattle.cedar_table.specs.Bulk.Sorted.{entries_by}
 use Rattle.cedarwood.specs.Fault.{fault, or_else}
-use Rattle.cedarwood.specs.SortedInput.{AreBytes, entries_by, fault_behind, fault_from, fault_of_order, key_at}
+use Rattle.cedarwood.specs.SortedInput.{AreBytes, fault_behind, fault_from, fault_of_order, key_at}
 use Rattle.cedarwood.proofs.DictionaryLemmas.{is_value_of}
 use Rattle.cedarwood.proofs.FaultLemmas.{in_range_of, key_of, key_part}
 

@@ -5,6 +5,7 @@ use Rattle.cedar_table.specs.Meaning.WellFormed.{IsWellFormed}
 use Rattle.cedarwood.specs.Dictionary.{IsValid}
 use Rattle.cedarwood.proofs.DictionaryLemmas.{is_sound}
 use Rattle.cedarwood.proofs.GrowthLemmas.{dictionary_of}
+use Rattle.cedarwood.proofs.MarkedLemmas.{is_marked}
 
 pub is_valid : (slots : ℕ) (T : Fields) → IsWellFormed slots T → IsValid slots (dictionary_of T)
 is_valid slots T w =
@@ -12,6 +13,7 @@ is_valid slots T w =
     let d = w.table.sound.doubled in record {
       sound = is_sound slots T w;
       ascending = w.ascending;
+      marked = is_marked slots T w;
       values = w.values;
       blocks = (T.places.blocks.active, s.some, refl);
       doubled = (d.0, ap (λ n. 256 * n) d.1);

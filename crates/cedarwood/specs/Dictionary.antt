@@ -1,10 +1,10 @@
 -- What a caller sees of a dictionary.
-use Rattle.std.specs.Prelude.{◌≡◌, ℕ, zero, suc, ◌+◌, ◌*◌, ◌^◌, ◌<◌, ◌≤◌, ◌==◌, true, cond, length, ℤ}
+use Rattle.std.specs.Prelude.{◌≡◌, ℕ, zero, suc, ◌+◌, ◌*◌, ◌^◌, ◌<◌, ◌≤◌, ◌==◌, Bool, true, cond, List, [], ◌∷◌, length, ℤ, None, is_some}
 use Rattle.std.specs.Coded.{Coded, code_by, coded×, coded_ℕ, coded_ℤ}
 use Rattle.std.proofs.Common.{refl}
 use Rattle.cedar_tree.specs.State.{State, state_code}
 use Rattle.cedar_tree.specs.Stored.{coded_tree}
-use Rattle.cedar_tree.specs.Tree.{AllNumbers, IsAscending, IsSound, Tree}
+use Rattle.cedar_tree.specs.Tree.{AllNumbers, Forest, none, child, IsAscending, IsSound, number_at, Tree}
 use Rattle.cedar_table.specs.Meaning.StandsFor.{labels}
 use Rattle.cedar_table.specs.Table.TableFields.{Fields}
 use Rattle.cedarwood.specs.TableCode.{fields_code}
@@ -42,10 +42,24 @@ pub record Grows (n : ℕ) (before after : Dictionary) : Type 0 where
 abbrev pub first_bytes : Tree → ℕ
 first_bytes t = length (labels t.children)
 
+-- siblings with just those of their numbers whose paths pass a test
+abbrev pub with_some : (List ℕ → Bool) → Forest → Forest
+with_some test none = none
+with_some test (child l n below rest) = child l (cond (test (l ∷ [])) n None) (with_some (λ path. test (l ∷ path)) below) (with_some test rest)
+
+-- a tree with all of its nodes, and just those of its numbers whose paths pass a test
+abbrev pub some_numbers : (List ℕ → Bool) → Tree → Tree
+some_numbers test t = record { number = None; children = with_some test t.children }
+
+-- the tree of marks has all nodes, and some of the numbers: so it is known once it is known which keys have marks
+abbrev pub IsMarked : Dictionary → Type 0
+IsMarked d = d.marked ≡ some_numbers (λ path. is_some (number_at d.marked path)) d.state.tree
+
 -- what holds of each dictionary that may have `slots` slots
 pub record IsValid (slots : ℕ) (d : Dictionary) : Type 0 where
   pub sound : IsSound d.state.tree
   pub ascending : d.state.ordered ≡ true → IsAscending d.state.tree.children
+  pub marked : IsMarked d
   pub values : AllNumbers (λ v. is_value v ≡ true) d.state.tree.children
   -- whole blocks are in use, of a power of two of them, and no more than there may be
   pub blocks : (n : ℕ) × (0 < n) × (d.size ≡ 256 * n)

@@ -5,7 +5,7 @@ pub mod Builds
 pub mod Dictionary
 pub mod Fault
 pub mod Memory
-pub mod Runs
+pub mod OnTable
 pub mod SortedInput
 pub mod WalkPlaces
 pub mod Walks

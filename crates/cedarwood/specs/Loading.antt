@@ -11,11 +11,11 @@ use Rattle.cedar_format.specs.Refusal.{CorruptData, refusal, refusal_of}
 use Rattle.cedar_format.specs.Tables.{header_of, table_bytes, IsTableFile}
 use Rattle.cedarwood.specs.Dictionary.{Dictionary}
 
--- the bytes are those of the table that was loaded, which is well-formed; or they are of no well-formed table, and the data
--- is corrupt
+-- the bytes are those of the table that was loaded, which is well-formed, in one of the versions; or they are of no
+-- well-formed table in any, and the data is corrupt
 abbrev pub IsDecided : {X : Type 0} → (X → Fields) → ℕ → List ℕ → Result X CedarPersistenceError → Type 0
-IsDecided table slots bytes (Ok x) = IsTableFile slots (table x) bytes
-IsDecided table slots bytes (Err e) = (refusal_of e ≡ CorruptData) × ((T : Fields) → IsTableFile slots T bytes → ⊥)
+IsDecided table slots bytes (Ok x) = (version : ℕ) × IsTableFile version slots (table x) bytes
+IsDecided table slots bytes (Err e) = (refusal_of e ≡ CorruptData) × ((version : ℕ) (T : Fields) → IsTableFile version slots T bytes → ⊥)
 
 -- one of the four lists found no room, after the header had passed
 abbrev pub LacksMemory : {X : Type 0} → ℕ → ℕ → ℕ → List ℕ → Result X CedarPersistenceError → Type 0
@@ -34,13 +34,13 @@ LoadAnswers table kind slots limit bytes answer =
 abbrev pub LacksByPath : ℕ → ℕ → ℕ → CedarPersistenceError → Type 0
 LacksByPath layout slots limit e = (e ≡ AllocationFailed 8192) ⊎ LacksNoMore (Passes layout slots limit None) e
 
--- a load of a table's own file, under a limit of at least its need, gives that table again, or a list found no room
+-- a load of a table's own file in any version, under a limit of at least its need, gives that table again, or a list found no room
 abbrev pub OwnFilesLoad : Type 0
-OwnFilesLoad = (slots limit : ℕ) (T : Fields) (answer : Result Dictionary CedarPersistenceError) → IsTableFile slots T (table_bytes T) → need (header_of T) ≤ limit
-    → LoadAnswers (λ d. d.table) T.layout slots limit (table_bytes T) answer
-    → LacksMemory (layout_byte T.layout) slots limit (table_bytes T) answer ⊎ IsOkAnd answer (λ d. d.table ≡ T)
+OwnFilesLoad = (version slots limit : ℕ) (T : Fields) (answer : Result Dictionary CedarPersistenceError) → IsTableFile version slots T (table_bytes version T) → need (header_of version T) ≤ limit
+    → LoadAnswers (λ d. d.table) T.layout slots limit (table_bytes version T) answer
+    → LacksMemory (layout_byte T.layout) slots limit (table_bytes version T) answer ⊎ IsOkAnd answer (λ d. d.table ≡ T)
 
--- what was loaded has the very bytes of its file, so that a save of it gives them back
+-- what was loaded has the very bytes of its file in the version of that file, so that a save in it gives them back
 abbrev pub LoadedFilesSaveAgain : Type 0
 LoadedFilesSaveAgain = (kind : LayoutKind) (slots limit : ℕ) (bytes : List ℕ) (d : Dictionary) → LoadAnswers (λ x. x.table) kind slots limit bytes (Ok d)
-    → IsTableFile slots d.table bytes × (table_bytes d.table ≡ bytes)
+    → (version : ℕ) × IsTableFile version slots d.table bytes × (table_bytes version d.table ≡ bytes)

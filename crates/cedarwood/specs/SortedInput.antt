@@ -1,5 +1,5 @@
 -- What keeps pairs from being a sorted input.
-use Rattle.std.specs.Prelude.{ℕ, zero, suc, ◌+◌, ℤ, List, [], ◌∷◌, ◌<◌, get_or, map, Option, Some, None}
+use Rattle.std.specs.Prelude.{ℕ, zero, suc, ◌+◌, ℤ, List, [], ◌∷◌, ◌<◌, get_or, Option, Some, None}
 use Rattle.std.specs.Cmp.Lexicographic.{slice_cmp}
 use Rattle.std.specs.Ordering.{nat_cmp}
 use Rattle.std.specs.declared.cmp.Ordering.{Ordering}
@@ -24,10 +24,6 @@ fault_behind index before key v = or_else (fault key v) (fault_of_order index (s
 abbrev pub fault_from : ℕ → List ℕ → List Entry → Option CedarError
 fault_from index before [] = None
 fault_from index before (e ∷ es) = or_else (fault_behind index before e.0 e.1) (fault_from (index + 1) e.0 es)
-
--- the entries that pairs stand for, whose keys lend these bytes
-abbrev pub entries_by : {K : Type 0} → (K → List ℕ) → List (K × ℤ) → List Entry
-entries_by bytes pairs = map (λ p. (bytes p.0, p.1)) pairs
 
 -- the first fault of some pairs. The first key has the empty one before it, which no key repeats and none is below.
 abbrev pub sorted_fault : List Pair → Option CedarError

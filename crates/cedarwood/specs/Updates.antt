@@ -7,7 +7,7 @@ use Rattle.cedar_slots.specs.declared.error.CedarError.{CedarError}
 use Rattle.cedar_slots.specs.declared.error.CedarError.TheVariants.{Memory, SlotLimit}
 use Rattle.cedar_table.specs.Meaning.Marks.{MarksPut}
 use Rattle.cedar_table.specs.Table.Layouts.{LayoutKind, default_layout, reduced_layout}
-use Rattle.cedarwood.specs.Dictionary.{Dictionary, Grows, first_bytes}
+use Rattle.cedarwood.specs.Dictionary.{Dictionary, Grows, IsMarked, first_bytes}
 use Rattle.cedarwood.specs.Fault.{fault, IsShortage}
 
 -- an update of the key with the value v in a dictionary of this layout that may have `slots` slots
@@ -19,6 +19,7 @@ pub record IsUpdate (layout : LayoutKind) (slots : ℕ) (before after : Dictiona
   -- which numbers have slots of their own: by default all
   pub by_default : OnOk result (layout ≡ default_layout → after.marked ≡ after.state.tree)
   pub marks : OnOk result (layout ≡ reduced_layout → MarksPut before.state.tree before.marked after.marked key)
+  pub marked : OnOk result (IsMarked after)
   pub marks_stay : OnErr result (after.marked ≡ before.marked)
   pub refused : fault key v ≡ None → IfErr result (λ e. IsShortage e × (number_at before.state.tree key ≡ None))
   pub memory : result ≡ Err Memory → (after.size ≡ after.capacity) × (after.capacity < slots)

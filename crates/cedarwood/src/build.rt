@@ -1,9 +1,8 @@
 //! Many pairs stored at once.
 
 ghost use Rattle.std.specs.Prelude.{◌≡◌, map, IfErr, IfSome, IsOk, IsSome, None, OnOk};
-ghost use Rattle.cedar_table.specs.Bulk.Sorted.{entries_of};
+ghost use Rattle.cedar_table.specs.Bulk.Sorted.{entries_by, entries_of};
 ghost use Rattle.cedarwood.specs.Builds.{all_stored, first_fault, IsBuild, IsRefusedBuild};
-ghost use Rattle.cedarwood.specs.SortedInput.{entries_by};
 
 use crate::pair::check_pair;
 use crate::{CedarError, Layout, Trie};

@@ -1,25 +1,28 @@
 //! A value stored, and the one before it answered.
 
-ghost use Rattle.std.specs.Prelude.{◌≡◌, IfOk};
-ghost use Rattle.cedar_tree.specs.Tree.{number_at};
+ghost use Rattle.std.specs.Prelude.{◌≡◌, IfOk, IfSome, None, OnOk};
+ghost use Rattle.cedar_tree.specs.Tree.{IsSound, number_at};
 ghost use Rattle.cedarwood.specs.Builds.{outcome};
+ghost use Rattle.cedarwood.specs.Fault.{value_fault};
 ghost use Rattle.cedarwood.specs.Updates.{IsUpdate};
 
+use crate::pair::check_pair;
 use crate::{CedarError, Layout, Trie};
 use std::alloc::Allocator;
 
 impl<L: Layout, const SLOTS: usize, A: Allocator + Copy> Trie<L, SLOTS, A> {
-    /// Stores a value at a key, and answers the value that the key held before, if it held one. It is a search and an update.
+    /// Stores a value at a key, and answers the value that the key held before, if it held one. It goes along the key once.
     ///
     /// # Errors
     /// As [`Trie::update_bytes`]: after an error the dictionary holds what it held.
     pub fn insert_bytes(&mut self, key: &[u8], value: i32) -> Result<Option<i32>, CedarError>
         ensures updated { IsUpdate L.kind SLOTS self.old self.new key.now value (outcome result) }
         ensures held { IfOk result (λ held. held ≡ number_at self.old.state.tree key.now) }
+        ensures sound { OnOk result (IsSound self.old.state.tree) }
+        ensures in_range { IfOk result (λ held. IfSome held (λ v. value_fault v ≡ None)) }
     {
-        let held = self.value_at(key);
-        self.update_bytes(key, value)?;
-        Ok(held)
+        check_pair(key, value)?;
+        self.table.update(key, value)
     }
 
     /// `insert_bytes` for a text key.
@@ -31,13 +34,5 @@ impl<L: Layout, const SLOTS: usize, A: Allocator + Copy> Trie<L, SLOTS, A> {
         ensures held { IfOk result (λ held. held ≡ number_at self.old.state.tree key.now) }
     {
         self.insert_bytes(key.as_bytes(), value)
-    }
-
-    /// The value at a key.
-    fn value_at(&self, key: &[u8]) -> Option<i32>
-        ensures { result ≡ number_at self.now.state.tree key.now }
-    {
-        let (value, _) = self.exact_match_search_bytes(key)?;
-        Some(value)
     }
 }

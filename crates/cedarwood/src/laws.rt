@@ -12,14 +12,15 @@ pub fn sorted_is_stored_in_turn()
     ensures { (pairs : List Entry) → all_stored new_state pairs ≡ record { tree = asc pairs; ordered = true } }
 {}
 
-/// What a load makes of the bytes that a save wrote is the same table, if it finds room: `save_to_writer` says that they are
-/// the table's own file, and `LoadAnswers` is what each load says of its answer.
+/// What a load makes of the bytes that a save wrote is the same table, if it finds room: `save_to_writer` and
+/// `save_v1_0_to_writer` say that they are the table's own file in their version, and `LoadAnswers` is what each load says of
+/// its answer.
 pub fn saved_tables_load_again()
     ensures { OwnFilesLoad }
 {}
 
-/// What a load makes of some bytes is saved as these bytes: with `LoadAnswers` of a load that was answered `Ok`, the bytes that
-/// `save_to_writer` appends are those that were read.
+/// What a load makes of some bytes is saved as these bytes, in the version of the file: with `LoadAnswers` of a load that was
+/// answered `Ok`, the bytes that the save of that version appends are those that were read.
 pub fn loaded_files_save_again()
     ensures { LoadedFilesSaveAgain }
 {}

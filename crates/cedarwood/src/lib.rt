@@ -2,7 +2,7 @@
 //!
 //! A key is a nonempty byte string without byte 0, a value a whole number from [`MIN_VALUE`] to
 //! [`MAX_VALUE`]. All lengths and positions count bytes. Whatever calls are made, every answer is that of
-//! one labelled tree, which the contracts carry from call to call: [`run_calls`] says so of any list of calls.
+//! one labelled tree, which the contracts carry from call to call: `run_calls` of `cedar_calls` says so of any list of calls.
 //!
 //! ```
 //! let mut cedar = Cedar::new(rt.alloc())?;
@@ -22,7 +22,6 @@ mod laws;
 mod pair;
 pub mod persistence;
 mod queries;
-mod runs;
 mod sorted;
 mod trie;
 
@@ -43,7 +42,6 @@ pub use queries::entries::{Entries, EntryError, Utf8Entries};
 pub use queries::predict::PrefixPredictIter;
 pub use queries::prefix::PrefixIter;
 pub use queries::walked::Walked;
-pub use runs::{Answer, Call, run_calls};
 pub use trie::{Cedar, ReducedCedar, Trie};
 
 /// How many bytes a load may ask of memory, if nothing else is said.

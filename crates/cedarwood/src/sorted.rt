@@ -1,15 +1,17 @@
-//! The test of a sorted input, and texts as bytes.
+//! The test of a sorted input, and a dictionary made of one.
 
-ghost use Rattle.std.specs.Prelude.{◌≡◌, ◌<◌, ◌≤◌, ℕ, [], get_or, length, None, IsOk, IfOk, IfSome, OnOk};
+ghost use Rattle.std.specs.Prelude.{◌≡◌, ◌<◌, ◌≤◌, ℕ, [], get_or, length, None, IsOk, IfSome, OnOk};
 ghost use Rattle.std.specs.Cmp.Lexicographic.{slice_cmp};
 ghost use Rattle.std.specs.Ordering.{nat_cmp};
-ghost use Rattle.cedar_table.specs.Bulk.Sorted.{entries_of};
-ghost use Rattle.cedarwood.specs.SortedInput.{AreBytes, entries_by, fault_behind, fault_from, fault_of_order, key_at};
+ghost use Rattle.cedar_table.specs.Bulk.Sorted.{entries_by};
+ghost use Rattle.cedarwood.specs.SortedInput.{AreBytes, fault_behind, fault_from, fault_of_order, key_at};
 
-use crate::CedarError;
+use crate::builder::CedarBuilder;
 use crate::pair::check_pair;
-use cedar_table::Pair;
-use std::alloc::{AllocError, Allocator};
+use crate::trie::Trie;
+use crate::{CedarError, Layout};
+use cedar_table::Table;
+use std::alloc::Allocator;
 use std::cmp::Ordering;
 use std::convert::AsSlice;
 
@@ -65,16 +67,33 @@ fn check_order(before: &[u8], key: &[u8], index: usize) -> Result<(), CedarError
     }
 }
 
-/// The pairs of some texts, as pairs of their bytes.
-pub(crate) fn byte_pairs<'a, A: Allocator>(
-    alloc: A,
-    pairs: &[(&'a str, i32)],
-) -> Result<Vec<Pair<'a>, A>, AllocError>
-    ensures { IfOk result (λ same. entries_of same.items ≡ entries_of pairs.now) }
-{
-    let mut same = Vec::with_capacity(alloc, pairs.len())?;
-    for &(text, value) in pairs {
-        same.push_reserved((text.as_bytes(), value));
+impl<L: Layout, const SLOTS: usize, A: Allocator + Copy> Trie<L, SLOTS, A> {
+    ghost use Rattle.std.specs.Prelude.{◌≡◌, ◌⊎◌, ◌+◌, ◌*◌, ◌≤◌, ℕ, [], Err, IfErr, IfOk, IfSome, length, None};
+    ghost use Rattle.cedar_slots.specs.Places.{IsSlotLimit};
+    ghost use Rattle.cedar_tree.specs.Queries.{asc, prefixes};
+    ghost use Rattle.cedar_table.specs.Bulk.SortedMarks.{SortedMarks};
+    ghost use Rattle.cedarwood.specs.Dictionary.{capacity_after};
+
+    /// A dictionary of some pairs, whose keys ascend by bytes, with the settings of a builder. Keys are bytes or texts. It takes no
+    /// memory before all pairs are tested.
+    pub(crate) fn from_sorted_keys<K: AsSlice<u8>>(
+        alloc: A,
+        builder: CedarBuilder,
+        pairs: &[(K, i32)],
+    ) -> Result<Self, CedarError>
+        requires limit { IsSlotLimit SLOTS }
+        ensures faulty { IfSome (fault_from 0 [] (entries_by K.items pairs.now)) (λ e. result ≡ Err e) }
+        ensures tree { IfOk result (λ trie. trie.state.tree ≡ asc (entries_by K.items pairs.now)) }
+        ensures marks { IfOk result (λ trie. SortedMarks L.kind (asc (entries_by K.items pairs.now)) trie.marked) }
+        ensures ordered { IfOk result (λ trie. trie.state.ordered ≡ builder.ordered) }
+        ensures max_trial { IfOk result (λ trie. trie.max_trial ≡ builder.max_trial) }
+        ensures size { IfOk result (λ trie. (n : ℕ) × (n ≤ length (prefixes (asc (entries_by K.items pairs.now)))) × (trie.size ≡ 256 + 256 * n) × (trie.capacity ≡ capacity_after n 256 256)) }
+        ensures refused { fault_from 0 [] (entries_by K.items pairs.now) ≡ None → IfErr result (λ e.
+            (e ≡ CedarError.Memory) ⊎ ((e ≡ CedarError.SlotLimit) × (SLOTS ≤ 256 * length (prefixes (asc (entries_by K.items pairs.now)))))) }
+    {
+        check_sorted(pairs)?;
+        Ok(Trie {
+            table: Table::build_sorted(alloc, builder.ordered, builder.max_trial, pairs)?,
+        })
     }
-    Ok(same)
 }

@@ -9,15 +9,14 @@ ghost use Rattle.cedar_table.specs.Bulk.SortedMarks.{SortedMarks};
 ghost use Rattle.cedar_tree.specs.Tree.{empty_tree, has_label, number_at, IsSound};
 ghost use Rattle.cedar_tree.specs.Queries.{asc, exact, prefixes, used, walk};
 ghost use Rattle.cedar_tree.specs.State.{stored, erased};
-ghost use Rattle.cedarwood.specs.Dictionary.{capacity_after, first_bytes, Grows, IsValid};
+ghost use Rattle.cedarwood.specs.Dictionary.{capacity_after, first_bytes, Grows, IsMarked, IsValid};
 ghost use Rattle.cedarwood.specs.Fault.{fault, value_fault, IsShortage};
+ghost use Rattle.cedarwood.specs.OnTable.{IsOnTable};
 ghost use Rattle.cedarwood.specs.SortedInput.{sorted_fault};
 ghost use Rattle.cedarwood.specs.Updates.{IsUpdate};
 
 use crate::builder::CedarBuilder;
-use crate::pair::check_pair;
 use crate::queries::exact::uncounted;
-use crate::sorted::{byte_pairs, check_sorted};
 use crate::{CedarError, DefaultLayout, Layout, ReducedLayout, Ticks};
 use cedar_table::Table;
 use std::alloc::Allocator;
@@ -174,14 +173,10 @@ impl<L: Layout, const SLOTS: usize, A: Allocator + Copy> Trie<L, SLOTS, A> {
         ensures refused { sorted_fault pairs.now ≡ None → IfErr result (λ e.
             (e ≡ CedarError.Memory) ⊎ ((e ≡ CedarError.SlotLimit) × (SLOTS ≤ 256 * length (prefixes (asc (entries_of pairs.now)))))) }
     {
-        check_sorted(pairs)?;
-        Ok(Trie {
-            table: Table::build_sorted(alloc, builder.ordered, builder.max_trial, pairs)?,
-        })
+        Self::from_sorted_keys(alloc, builder, pairs)
     }
 
-    /// `from_sorted_bytes_with` for text keys. Once all pairs are tested, it asks for memory for a list of the keys' places besides,
-    /// and gives it back at the end.
+    /// `from_sorted_bytes_with` for text keys.
     ///
     /// # Errors
     /// As [`Trie::from_sorted_bytes_with`].
@@ -200,11 +195,7 @@ impl<L: Layout, const SLOTS: usize, A: Allocator + Copy> Trie<L, SLOTS, A> {
         ensures refused { sorted_fault pairs.now ≡ None → IfErr result (λ e.
             (e ≡ CedarError.Memory) ⊎ ((e ≡ CedarError.SlotLimit) × (SLOTS ≤ 256 * length (prefixes (asc (entries_of pairs.now)))))) }
     {
-        check_sorted(pairs)?;
-        let pairs = byte_pairs(alloc, pairs)?;
-        Ok(Trie {
-            table: Table::build_sorted(alloc, builder.ordered, builder.max_trial, &pairs)?,
-        })
+        Self::from_sorted_keys(alloc, builder, pairs)
     }
 
     /// Puts an empty dictionary with the settings of a builder in the place of this one.
@@ -241,6 +232,7 @@ impl<L: Layout, const SLOTS: usize, A: Allocator + Copy> Trie<L, SLOTS, A> {
         // Where a number may stand in its node's own slot, the numbers of the key's fronts move into slots, and the key's has one if
         // longer keys are held; all others stay where they are. A refused update moves none.
         ensures marks { OnOk result (L.kind ≡ reduced_layout → MarksPut self.old.state.tree self.old.marked self.new.marked key.now) }
+        ensures marked { OnOk result (IsMarked self.new) }
         ensures marks_stay { OnErr result (self.new.marked ≡ self.old.marked) }
 
         // Without a fault it is refused only for memory or slots, and then the key isn't held.
@@ -265,8 +257,10 @@ impl<L: Layout, const SLOTS: usize, A: Allocator + Copy> Trie<L, SLOTS, A> {
         // All of this in one word.
         ensures updated { IsUpdate L.kind SLOTS self.old self.new key.now value result }
     {
-        check_pair(key, value)?;
-        self.table.update(key, value)
+        match self.insert_bytes(key, value) {
+            Ok(_) => Ok(()),
+            Err(error) => Err(error),
+        }
     }
 
     /// `update_bytes` for a text key.
@@ -281,6 +275,7 @@ impl<L: Layout, const SLOTS: usize, A: Allocator + Copy> Trie<L, SLOTS, A> {
         ensures answer { IsTrue result ↔ IsSome (number_at self.old.state.tree key.now) }
         ensures after { self.new.state ≡ erased self.old.state key.now }
         ensures marks { MarksCut self.old.marked self.new.marked key.now }
+        ensures marked { IsMarked self.new }
         ensures size { (self.new.size ≡ self.old.size) × (self.new.capacity ≡ self.old.capacity) }
         ensures max_trial { self.new.max_trial ≡ self.old.max_trial }
     {
@@ -292,6 +287,7 @@ impl<L: Layout, const SLOTS: usize, A: Allocator + Copy> Trie<L, SLOTS, A> {
         ensures answer { IsTrue result ↔ IsSome (number_at self.old.state.tree key.now) }
         ensures after { self.new.state ≡ erased self.old.state key.now }
         ensures marks { MarksCut self.old.marked self.new.marked key.now }
+        ensures marked { IsMarked self.new }
         ensures size { (self.new.size ≡ self.old.size) × (self.new.capacity ≡ self.old.capacity) }
         ensures max_trial { self.new.max_trial ≡ self.old.max_trial }
     {
@@ -313,7 +309,8 @@ impl<L: Layout, const SLOTS: usize, A: Allocator + Copy> Trie<L, SLOTS, A> {
         self.table.exact_match_search_counted(key, ticks)
     }
 
-    /// The value at a key and the key's length in bytes, or None where the key isn't held. It takes no memory.
+    /// The value at a key and the key's length in bytes, or None where the key isn't held: so `is_some()` of the answer says whether
+    /// it is. It takes no memory.
     pub fn exact_match_search_bytes(&self, key: &[u8]) -> Option<(i32, usize)>
         ensures answer { result ≡ exact self.now.state.tree key.now }
         ensures sound { IsSound self.now.state.tree }
@@ -368,5 +365,13 @@ impl<L: Layout, const SLOTS: usize, A: Allocator + Copy> Trie<L, SLOTS, A> {
         ensures { result ≡ (self.now.capacity - self.now.size) / 256 }
     {
         self.table.spare_blocks()
+    }
+
+    /// Says that its table is well-formed, and that the state, the marks, the settings and the sizes that a contract sees of it are
+    /// those of this table.
+    pub fn stands_on_its_table(&self)
+        ensures { IsOnTable SLOTS self.now }
+    {
+        let _ = &self.table;
     }
 }

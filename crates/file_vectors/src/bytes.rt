@@ -6,6 +6,16 @@ use std::test::Fail;
 /// A dictionary of a layout.
 pub type Full<L> = Trie<L, 1073741824, Global>;
 
+/// The bytes of a dictionary saved in format 1.0.
+pub fn saved_v1_0<L: Layout>(
+    alloc: Global,
+    trie: &Full<L>,
+) -> Result<Vec<u8>, CedarPersistenceError> {
+    let mut writer = Watched::new(Vec::new(alloc));
+    trie.save_v1_0_to_writer(&mut writer)?;
+    Ok(writer.into_inner())
+}
+
 /// The bytes of a saved dictionary.
 pub fn saved<L: Layout>(alloc: Global, trie: &Full<L>) -> Result<Vec<u8>, CedarPersistenceError> {
     let mut writer = Watched::new(Vec::new(alloc));
@@ -85,7 +95,7 @@ fn put_rejects(bytes: &mut Vec<u8>) -> Result<(), AllocError> {
     Ok(())
 }
 
-/// The file of a new dictionary.
+/// The file of a new dictionary in format 1.0.
 pub fn empty_file(alloc: Global) -> Result<Vec<u8>, AllocError> {
     let mut bytes = header(alloc, 0, 256, 0)?;
     put_node(&mut bytes, 0, -1)?;
@@ -100,7 +110,7 @@ pub fn empty_file(alloc: Global) -> Result<Vec<u8>, AllocError> {
     Ok(bytes)
 }
 
-/// The file of the key `a` with 7.
+/// The file of the key `a` with 7 in format 1.0.
 pub fn one_key_file(alloc: Global) -> Result<Vec<u8>, AllocError> {
     let mut bytes = header(alloc, 1, 512, 1)?;
     put_node(&mut bytes, 0, -1)?;
@@ -130,9 +140,14 @@ pub fn one_key_file(alloc: Global) -> Result<Vec<u8>, AllocError> {
 
 #[test]
 fn a_new_dictionary(rt: HostRuntime) -> Result<(), Fail> {
-    let bytes = saved(rt.alloc(), &Cedar::new(rt.alloc())?)?;
+    let cedar = Cedar::new(rt.alloc())?;
+    let mut bytes = empty_file(rt.alloc())?;
+    assert!(&rt; saved_v1_0(rt.alloc(), &cedar)? == bytes);
+    let old = loaded(rt.alloc(), &bytes)?;
+    assert_eq!(&rt; (old.len(), old.used_node_slots()), (0, 1));
+    set(&mut bytes, 10, 1);
     assert_eq!(&rt; bytes.len(), 3182);
-    assert!(&rt; bytes == empty_file(rt.alloc())?);
+    assert!(&rt; saved(rt.alloc(), &cedar)? == bytes);
     let again = loaded(rt.alloc(), &bytes)?;
     assert_eq!(&rt; (again.len(), again.used_node_slots()), (0, 1));
     Ok(())
@@ -142,9 +157,11 @@ fn a_new_dictionary(rt: HostRuntime) -> Result<(), Fail> {
 fn one_key(rt: HostRuntime) -> Result<(), Fail> {
     let mut cedar = Cedar::new(rt.alloc())?;
     cedar.update("a", 7)?;
-    let bytes = saved(rt.alloc(), &cedar)?;
+    let mut bytes = one_key_file(rt.alloc())?;
+    assert!(&rt; saved_v1_0(rt.alloc(), &cedar)? == bytes);
+    set(&mut bytes, 10, 1);
     assert_eq!(&rt; bytes.len(), 5762);
-    assert!(&rt; bytes == one_key_file(rt.alloc())?);
+    assert!(&rt; saved(rt.alloc(), &cedar)? == bytes);
     let mut again = loaded(rt.alloc(), &bytes)?;
     assert_eq!(&rt; again.exact_match_search("a"), Some((7, 1)));
     assert_eq!(&rt; (again.len(), again.used_node_slots()), (1, 3));
@@ -194,5 +211,29 @@ fn many_keys(rt: HostRuntime) -> Result<(), Fail> {
         again.update(key, 1)?;
     }
     assert!(&rt; saved(rt.alloc(), &again)? == saved(rt.alloc(), &cedar)?);
+    Ok(())
+}
+
+// A block that isn't in use is left out, and comes back blank: both files load to the same table.
+#[test]
+fn spare_blocks_are_left_out(rt: HostRuntime) -> Result<(), Fail> {
+    let mut cedar = Cedar::new(rt.alloc())?;
+    for label in 1..=255u8 {
+        cedar.update_bytes(&[97, label], 1)?;
+    }
+    assert_eq!(&rt; (cedar.node_capacity(), cedar.spare_blocks()), (1024, 1));
+    let short = saved(rt.alloc(), &cedar)?;
+    let long = saved_v1_0(rt.alloc(), &cedar)?;
+    assert_eq!(&rt; (short.len(), long.len()), (8342, 10922));
+    for bytes in [&short, &long] {
+        let mut again = loaded(rt.alloc(), bytes)?;
+        assert_eq!(&rt; (again.node_capacity(), again.spare_blocks()), (1024, 1));
+        assert!(&rt; saved(rt.alloc(), &again)? == short);
+        assert!(&rt; saved_v1_0(rt.alloc(), &again)? == long);
+        for label in 1..=255u8 {
+            again.update_bytes(&[97, label, 97], 2)?;
+            assert_eq!(&rt; again.exact_match_search_bytes(&[97, label]), Some((1, 2)));
+        }
+    }
     Ok(())
 }

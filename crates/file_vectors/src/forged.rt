@@ -1,5 +1,5 @@
 //! Files that pass each test of the header and the length, and whose table is at fault.
-use crate::bytes::{empty_file, loaded, one_key_file, saved, set};
+use crate::bytes::{empty_file, loaded, one_key_file, saved, saved_v1_0, set};
 use cedarwood::{Cedar, CedarPersistenceError};
 use std::alloc::{AllocError, Allocator, Global};
 use std::test::Fail;
@@ -82,11 +82,14 @@ fn head_of_the_full_list(rt: HostRuntime) -> Result<(), Fail> {
         pairs.push((&key[..length], 1))?;
     }
     let trie = Cedar::from_sorted_bytes(rt.alloc(), &pairs)?;
-    let mut file = saved(rt.alloc(), &trie)?;
-    assert_eq!(&rt; file.len(), 21242);
-    assert_eq!(&rt; fault(rt.alloc(), &file), None);
-    set(&mut file, 20, 3);
-    let (section, _, _) = fault(rt.alloc(), &file).unwrap_or_default();
-    assert_eq!(&rt; section, "block-lists");
+    let long = saved_v1_0(rt.alloc(), &trie)?;
+    let short = saved(rt.alloc(), &trie)?;
+    assert_eq!(&rt; (long.len(), short.len()), (21242, 13502));
+    for mut file in [long, short] {
+        assert_eq!(&rt; fault(rt.alloc(), &file), None);
+        set(&mut file, 20, 3);
+        let (section, _, _) = fault(rt.alloc(), &file).unwrap_or_default();
+        assert_eq!(&rt; section, "block-lists");
+    }
     Ok(())
 }

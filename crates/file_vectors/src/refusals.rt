@@ -65,8 +65,8 @@ fn the_front(rt: HostRuntime) -> Result<(), Fail> {
     );
     assert!(&rt;
         matches!(
-            changed(alloc, 10, &[1]),
-            Err(CedarPersistenceError::UnsupportedVersion { major: 1, minor: 1 })
+            changed(alloc, 10, &[2]),
+            Err(CedarPersistenceError::UnsupportedVersion { major: 1, minor: 2 })
         )
     );
     assert!(&rt;
@@ -120,6 +120,58 @@ fn the_sizes(rt: HostRuntime) -> Result<(), Fail> {
                 assert_eq!(&rt; value, number);
             }
             _ => assert!(&rt; false, "at {at}"),
+        }
+    }
+    Ok(())
+}
+
+// What the first 88 bytes of a file of 2048 slots, 1280 of them in use, answer: the length of its lists of slots is 256 times
+// `slots`.
+fn listed(
+    alloc: Global,
+    minor: u8,
+    slots: u8,
+    blocks: u8,
+) -> Result<Cedar<Global>, CedarPersistenceError> {
+    let mut file = empty_file(alloc).map_err(|_| CedarPersistenceError::TrailingData)?;
+    for (at, byte) in [
+        (10, minor),
+        (33, slots),
+        (41, slots),
+        (48, blocks),
+        (65, 8),
+        (73, 5),
+    ] {
+        set(&mut file, at, byte);
+    }
+    loaded_front(alloc, &file, 88)
+}
+
+// Each version lists its own number of slots and blocks.
+#[test]
+fn the_lists(rt: HostRuntime) -> Result<(), Fail> {
+    let alloc = rt.alloc();
+    for (minor, slots, blocks) in [(0, 8, 8), (1, 5, 5)] {
+        assert!(&rt;
+            matches!(
+                listed(alloc, minor, slots, blocks),
+                Err(CedarPersistenceError::Truncated)
+            )
+        );
+    }
+    let cases = [
+        (0, 5, 5, "node_vector_lengths", 1280u64),
+        (0, 8, 5, "state_lengths", 5),
+        (1, 8, 8, "node_vector_lengths", 2048),
+        (1, 5, 8, "state_lengths", 8),
+    ];
+    for (minor, slots, blocks, name, number) in cases {
+        match listed(alloc, minor, slots, blocks) {
+            Err(CedarPersistenceError::InvalidHeader { field, value }) => {
+                assert_eq!(&rt; field, name);
+                assert_eq!(&rt; value, number);
+            }
+            _ => assert!(&rt; false, "of minor {minor}"),
         }
     }
     Ok(())

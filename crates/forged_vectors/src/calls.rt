@@ -1,5 +1,5 @@
 //! What loads goes on: it is saved as the same bytes, takes calls beside a plain tree, is saved and loads again.
-use crate::fields::File;
+use crate::fields::{File, minor};
 use crate::tree::{Entry, keys_of};
 use crate::verdict::{Verdict, judged};
 use cedarwood::{Cedar, CedarPersistenceError, DEFAULT_LOAD_MEMORY_LIMIT, Watched};
@@ -14,10 +14,18 @@ pub const SLOTS: usize = 1073741824;
 // How many calls a loaded file takes.
 const CALLS: u32 = 50;
 
-/// The bytes of a saved dictionary.
-pub fn saved(alloc: Global, trie: &Cedar<Global>) -> Result<Vec<u8>, CedarPersistenceError> {
+/// The bytes of a dictionary that is saved in a minor version of the format.
+pub fn saved(
+    alloc: Global,
+    trie: &Cedar<Global>,
+    minor: u64,
+) -> Result<Vec<u8>, CedarPersistenceError> {
     let mut writer = Watched::new(Vec::new(alloc));
-    trie.save_to_writer(&mut writer)?;
+    if minor == 0 {
+        trie.save_v1_0_to_writer(&mut writer)?;
+    } else {
+        trie.save_to_writer(&mut writer)?;
+    }
     Ok(writer.into_inner())
 }
 
@@ -116,7 +124,7 @@ pub fn expect_goes_on(
     file: &[u8],
     trie: Cedar<Global>,
 ) -> Result<(), Fail> {
-    assert!(rt; saved(alloc, &trie)?.as_slice() == file);
+    assert!(rt; saved(alloc, &trie, minor(file))?.as_slice() == file);
     let fields = File::new(file);
     let entries = keys_of(alloc, fields)?.unwrap_or(Vec::new(alloc));
     let ordered = fields.is_ordered();
@@ -133,10 +141,10 @@ pub fn expect_goes_on(
 }
 
 fn expect_loads_again(rt: &impl Abort, alloc: Global, both: &Beside) -> Result<(), Fail> {
-    let bytes = saved(alloc, &both.trie)?;
+    let bytes = saved(alloc, &both.trie, 1)?;
     assert_eq!(rt; judged_by_default(alloc, &bytes)?, Verdict::Loads);
     let again = loaded(alloc, &bytes)?;
     assert!(rt; agree(alloc, &again, &both.tree)?);
-    assert!(rt; saved(alloc, &again)? == bytes);
+    assert!(rt; saved(alloc, &again, 1)? == bytes);
     Ok(())
 }

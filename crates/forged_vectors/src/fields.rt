@@ -9,6 +9,8 @@ pub struct File<'a> {
     bytes: &'a [u8],
     pub capacity: usize,
     pub size: usize,
+    /// How many slots it lists: all in format 1.0, those in use in 1.1.
+    pub listed: usize,
 }
 
 /// The byte at a place, 0 behind the end.
@@ -51,6 +53,20 @@ pub fn size_at(bytes: &[u8], at: usize) -> usize {
     usize::try_from(unsigned(bytes, at, 8)).unwrap_or(0)
 }
 
+/// The minor version of the format.
+pub fn minor(bytes: &[u8]) -> u64 {
+    unsigned(bytes, 10, 2)
+}
+
+/// How many slots a file lists by its version.
+pub fn listed_at(bytes: &[u8]) -> usize {
+    if minor(bytes) == 0 {
+        size_at(bytes, 64)
+    } else {
+        size_at(bytes, 72)
+    }
+}
+
 /// What a block's record says.
 #[derive(Clone, Copy)]
 pub struct Block {
@@ -68,6 +84,7 @@ impl<'a> File<'a> {
             bytes,
             capacity: size_at(bytes, 64),
             size: size_at(bytes, 72),
+            listed: listed_at(bytes),
         }
     }
 
@@ -111,7 +128,7 @@ impl<'a> File<'a> {
 
     // Where the labels of the slots begin.
     fn labels(self) -> usize {
-        self.capacity.wrapping_mul(8).wrapping_add(88)
+        self.listed.wrapping_mul(8).wrapping_add(88)
     }
 
     pub fn sibling(self, slot: usize) -> u8 {
@@ -125,7 +142,7 @@ impl<'a> File<'a> {
 
     // Where the records of the blocks begin.
     fn records(self) -> usize {
-        self.capacity.wrapping_mul(10).wrapping_add(88)
+        self.listed.wrapping_mul(10).wrapping_add(88)
     }
 
     pub fn block(self, block: usize) -> Block {
@@ -142,7 +159,7 @@ impl<'a> File<'a> {
 
     /// The reject value for so many free slots.
     pub fn reject(self, free: usize) -> i64 {
-        let blocks = (self.capacity / BLOCK).wrapping_mul(20);
+        let blocks = (self.listed / BLOCK).wrapping_mul(20);
         let at = self.records().wrapping_add(blocks);
         short(self.bytes, at.wrapping_add(free.wrapping_mul(2)))
     }

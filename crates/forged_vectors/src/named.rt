@@ -52,34 +52,52 @@ fn key_of(pair: &[u8; 2]) -> &[u8] {
     &pair[..len]
 }
 
-// The file of these 512 keys: blocks 2, 3 and 1 are full.
-fn full_file(alloc: Global) -> Result<Vec<u8>, Fail> {
+// The file of these 512 keys in a minor version: blocks 2, 3 and 1 are full, and blocks 5 to 7 aren't in use.
+fn full_file(alloc: Global, minor: u64) -> Result<Vec<u8>, Fail> {
     let pairs = two_bytes(alloc)?;
     let mut sorted: Vec<(&[u8], i32)> = Vec::new(alloc);
     for pair in &pairs {
         sorted.push((key_of(pair), 1))?;
     }
     let trie = Cedar::from_sorted_bytes(alloc, &sorted)?;
-    Ok(saved(alloc, &trie)?)
+    Ok(saved(alloc, &trie, minor)?)
 }
 
 #[test]
 fn head_of_the_full_list(rt: HostRuntime) -> Result<(), Fail> {
-    let mut file = full_file(rt.alloc())?;
-    assert_eq!(&rt; (file.len(), file.get(20)), (21242, Some(&2)));
-    expect_verdict(&rt, rt.alloc(), &file, Verdict::Loads)?;
-    set(&mut file, 20, 3);
-    expect_verdict(&rt, rt.alloc(), &file, Verdict::Corrupt)
+    for (minor, len) in [(0, 21242), (1, 13502)] {
+        let mut file = full_file(rt.alloc(), minor)?;
+        assert_eq!(&rt; (file.len(), file.get(20)), (len, Some(&2)));
+        expect_verdict(&rt, rt.alloc(), &file, Verdict::Loads)?;
+        set(&mut file, 20, 3);
+        expect_verdict(&rt, rt.alloc(), &file, Verdict::Corrupt)?;
+    }
+    Ok(())
+}
+
+// Each version lists its own number of slots: the file of one isn't read as one of the other.
+#[test]
+fn lists_of_the_other_version(rt: HostRuntime) -> Result<(), Fail> {
+    for (minor, other, value) in [(0, 1, 2048), (1, 0, 1280)] {
+        let mut file = full_file(rt.alloc(), minor)?;
+        set(&mut file, 10, other);
+        let refusal = Verdict::Header {
+            field: "node_vector_lengths",
+            value,
+        };
+        expect_verdict(&rt, rt.alloc(), &file, refusal)?;
+    }
+    Ok(())
 }
 
 // A full block's first free slot is read by nobody, whatever it is.
 #[test]
 fn first_free_slot_of_a_full_block(rt: HostRuntime) -> Result<(), Fail> {
-    let mut file = full_file(rt.alloc())?;
+    let mut file = full_file(rt.alloc(), 0)?;
     set_all(&mut file, 20604, b"\xff\xff\xff\x7f");
     expect_verdict(&rt, rt.alloc(), &file, Verdict::Loads)?;
     let mut trie = loaded(rt.alloc(), &file)?;
-    assert!(&rt; saved(rt.alloc(), &trie)? == file);
+    assert!(&rt; saved(rt.alloc(), &trie, 0)? == file);
     assert_eq!(&rt; trie.len(), 512);
     for pair in &two_bytes(rt.alloc())? {
         assert!(&rt; trie.erase_bytes(key_of(pair)));
@@ -94,7 +112,7 @@ fn labels_out_of_order(rt: HostRuntime) -> Result<(), Fail> {
     for (key, value) in [("b", 1), ("a", 2), ("c", 3)] {
         trie.update(key, value)?;
     }
-    let mut file = saved(rt.alloc(), &trie)?;
+    let mut file = saved(rt.alloc(), &trie, 1)?;
     expect_verdict(&rt, rt.alloc(), &file, Verdict::Loads)?;
     set(&mut file, 14, 1);
     expect_verdict(&rt, rt.alloc(), &file, Verdict::Corrupt)
@@ -122,7 +140,7 @@ fn many_keys(alloc: Global) -> Result<Cedar<Global>, CedarError> {
 fn more_slots_than_the_type_allows(rt: HostRuntime) -> Result<(), Fail> {
     let trie = many_keys(rt.alloc())?;
     assert_eq!(&rt; trie.node_capacity(), 1024);
-    let file = saved(rt.alloc(), &trie)?;
+    let file = saved(rt.alloc(), &trie, 1)?;
     expect_verdict(&rt, rt.alloc(), &file, Verdict::Loads)?;
     let refusal = Verdict::Header {
         field: "capacity",

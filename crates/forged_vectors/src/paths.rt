@@ -1,5 +1,5 @@
 //! Loads and saves by path, over files that can't be opened, made, read, written or flushed, and without memory.
-use crate::vectors::one_key_file;
+use crate::vectors::{one_key_file, set};
 use crate::verdict::{Verdict, answered};
 use cedarwood::{Cedar, CedarPersistenceError};
 use std::alloc::{AllocError, Global};
@@ -69,9 +69,15 @@ fn loads_without_memory(rt: HostRuntime) -> Result<(), Fail> {
     Ok(())
 }
 
-// A save of the key `a` with 7, with one request for memory refused, and what was done with the file.
-fn save(alloc: Global, plan: FilePlan, refused: u64) -> Result<(Answer, FileUse), AllocError> {
-    let file = one_key_file(alloc)?;
+// A save of the key `a` with 7 in a minor version, with one request for memory refused, and what was done with the file.
+fn save(
+    alloc: Global,
+    minor: u8,
+    plan: FilePlan,
+    refused: u64,
+) -> Result<(Answer, FileUse), AllocError> {
+    let mut file = one_key_file(alloc)?;
+    set(&mut file, 10, minor);
     let uses = Cell::new(FileUse::NONE);
     let memory = Refusing::new(alloc);
     let Ok(mut trie) = Cedar::new(&memory) else {
@@ -81,7 +87,12 @@ fn save(alloc: Global, plan: FilePlan, refused: u64) -> Result<(Answer, FileUse)
         return Err(AllocError);
     }
     memory.refuse(refused, refused);
-    let answer = trie.save_to_path(&FakeFiles::new(&file, plan, &uses), "a.cedar");
+    let files = FakeFiles::new(&file, plan, &uses);
+    let answer = if minor == 0 {
+        trie.save_v1_0_to_path(&files, "a.cedar")
+    } else {
+        trie.save_to_path(&files, "a.cedar")
+    };
     Ok(((answered(&answer), requested(&answer)), uses.get()))
 }
 
@@ -94,12 +105,16 @@ fn saves(rt: HostRuntime) -> Result<(), Fail> {
         flushes: 1,
         ..FileUse::NONE
     };
-    assert_eq!(&rt; save(rt.alloc(), GOOD, 0)?, ((Verdict::Loads, 0), whole));
     let unflushed = FilePlan {
         flushes: false,
         ..GOOD
     };
-    assert_eq!(&rt; save(rt.alloc(), unflushed, 0)?, ((Verdict::Io, 0), whole));
+    for minor in [0, 1] {
+        let good = save(rt.alloc(), minor, GOOD, 0)?;
+        assert_eq!(&rt; good, ((Verdict::Loads, 0), whole));
+        let lost = save(rt.alloc(), minor, unflushed, 0)?;
+        assert_eq!(&rt; lost, ((Verdict::Io, 0), whole));
+    }
     Ok(())
 }
 
@@ -109,7 +124,7 @@ fn expect_fault(
     plan: FilePlan,
     written: usize,
 ) -> Result<(), Fail> {
-    let (answer, uses) = save(alloc, plan, 0)?;
+    let (answer, uses) = save(alloc, 1, plan, 0)?;
     assert_eq!(rt; answer, (Verdict::Io, 0));
     assert_eq!(rt;
         (uses.made, uses.written, uses.as_expected),
@@ -128,8 +143,10 @@ fn saves_that_fail(rt: HostRuntime) -> Result<(), Fail> {
     for room in [0, 1, 88, 4096, 5761] {
         expect_fault(&rt, rt.alloc(), FilePlan { room, ..GOOD }, room)?;
     }
-    let (answer, uses) = save(rt.alloc(), GOOD, 1)?;
-    assert_eq!(&rt; answer, (Verdict::Memory, 8192));
-    assert_eq!(&rt; (uses.made, uses.written), (1, 0));
+    for minor in [0, 1] {
+        let (answer, uses) = save(rt.alloc(), minor, GOOD, 1)?;
+        assert_eq!(&rt; answer, (Verdict::Memory, 8192));
+        assert_eq!(&rt; (uses.made, uses.written), (1, 0));
+    }
     Ok(())
 }

@@ -188,9 +188,9 @@ fn is_headed(file: File<'_>, list: List, head: i64, count: usize) -> bool {
     }
 }
 
-// Whether the slots and the blocks that aren't in use are blank.
+// Whether the slots and the blocks that are listed and aren't in use are blank.
 fn is_rest_blank(file: File<'_>) -> bool {
-    for slot in file.size..file.capacity {
+    for slot in file.size..file.listed {
         if file.base(slot) != 0 || file.check(slot) != 0 {
             return false;
         }
@@ -198,7 +198,7 @@ fn is_rest_blank(file: File<'_>) -> bool {
             return false;
         }
     }
-    for block in file.active()..file.capacity / BLOCK {
+    for block in file.active()..file.listed / BLOCK {
         if !is_blank(file.block(block)) {
             return false;
         }

@@ -1,5 +1,5 @@
 //! What a load is to answer to a file, by the steps of the format one after another.
-use crate::fields::{File, byte, signed, size_at, unsigned};
+use crate::fields::{File, byte, listed_at, signed, size_at, unsigned};
 use crate::places::are_places_in_order;
 use crate::tree::keys_of;
 use cedarwood::CedarPersistenceError;
@@ -102,7 +102,7 @@ fn front_refusal(bytes: &[u8]) -> Option<Verdict> {
     }
     let major = unsigned(bytes, 8, 2);
     let minor = unsigned(bytes, 10, 2);
-    if major != 1 || minor != 0 {
+    if major != 1 || minor > 1 {
         return Some(Verdict::Version { major, minor });
     }
     kind_refusal(bytes)
@@ -140,11 +140,12 @@ fn header(field: &'static str, value: u64) -> Verdict {
 fn size_refusal(bytes: &[u8], slots: usize, limit: usize) -> Option<Verdict> {
     let array_len = unsigned(bytes, 32, 8);
     let capacity = size_at(bytes, 64);
-    if array_len != unsigned(bytes, 64, 8) || unsigned(bytes, 40, 8) != array_len {
+    let listed = listed_at(bytes);
+    if array_len != listed as u64 || unsigned(bytes, 40, 8) != array_len {
         return Some(header("node_vector_lengths", array_len));
     }
     if !is_doubled(capacity) || capacity > slots {
-        return Some(header("capacity", array_len));
+        return Some(header("capacity", unsigned(bytes, 64, 8)));
     }
     let size = size_at(bytes, 72);
     if size == 0 || size % 256 != 0 || size > capacity {
@@ -152,7 +153,7 @@ fn size_refusal(bytes: &[u8], slots: usize, limit: usize) -> Option<Verdict> {
     }
     let blocks_len = size_at(bytes, 48);
     let entries = size_at(bytes, 80);
-    if blocks_len != capacity / 256 || size_at(bytes, 56) != 257 || entries > size {
+    if blocks_len != listed / 256 || size_at(bytes, 56) != 257 || entries > size {
         return Some(header("state_lengths", unsigned(bytes, 48, 8)));
     }
     let requested = need(capacity, size);
@@ -188,10 +189,10 @@ fn need(capacity: usize, size: usize) -> usize {
 
 // Whether all bytes are there and no further one, and the number of trials.
 fn length_refusal(bytes: &[u8]) -> Option<Verdict> {
-    let capacity = size_at(bytes, 64);
-    let len = capacity
+    let listed = listed_at(bytes);
+    let len = listed
         .wrapping_mul(10)
-        .wrapping_add((capacity / 256).wrapping_mul(20))
+        .wrapping_add((listed / 256).wrapping_mul(20))
         .wrapping_add(602);
     if bytes.len() < len {
         return Some(Verdict::Truncated);

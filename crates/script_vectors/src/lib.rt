@@ -6,6 +6,8 @@ mod conflicts;
 #[cfg(test)]
 mod devices;
 #[cfg(test)]
+mod figures;
+#[cfg(test)]
 mod memory;
 #[cfg(test)]
 mod runs;

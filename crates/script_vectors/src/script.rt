@@ -104,7 +104,7 @@ fn lines(rt: HostRuntime) -> Result<(), Fail> {
 }
 
 // Lines that are none of the forms.
-const BAD_LINES: [&[u8]; 54] = [
+const BAD_LINES: [&[u8]; 56] = [
     // Values beyond an i32, or that are no number.
     b"+ 61 2147483648",
     b"+ 61 -2147483649",
@@ -161,6 +161,8 @@ const BAD_LINES: [&[u8]; 54] = [
     b"* ",
     b"x",
     b"# 61",
+    b"# ",
+    b"##",
     // Bytes that are no text.
     b"\xff",
     b"= \xff\xfe",

@@ -63,9 +63,9 @@ fn scripts_in_the_reduced_layout(rt: HostRuntime) -> Result<(), Fail> {
     Ok(())
 }
 
-const WALKS: &str = "+ 61 1\n+ 6162 2\n*\n< 6162\n> 61\n";
+const WALKS: &str = "+ 61 1\n+ 6162 2\n*\n< 6162\n> 61\n#\n";
 
-const WALKED: &str = "ok\nok\n61 1\n6162 2\nend\n1:0 2:1\n1:0 2:1\n";
+const WALKED: &str = "ok\nok\n61 1\n6162 2\nend\n1:0 2:1\n1:0 2:1\n2 5\n";
 
 // A write that fails in the midst of an answer is a fault of its line.
 #[test]

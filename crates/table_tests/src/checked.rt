@@ -5,8 +5,9 @@ ghost use Rattle.cedar_slots.specs.Places.{IsTable};
 ghost use Rattle.cedar_table.specs.Table.TableFields.{fields};
 ghost use Rattle.cedar_table.specs.Meaning.WellFormed.{IsWellFormed};
 
-use crate::keys::put;
-use crate::steps::take;
+use crate::keys::{erases, put};
+use crate::steps::takes;
+use cedar_check::check_tree;
 use cedar_table::{CedarError, DefaultLayout, NInfoRecord, NodeRecord, Table, Ticks};
 use std::alloc::Global;
 use std::marker::Brand;
@@ -23,7 +24,7 @@ fn fault<C: Ledger>(
 ) -> Option<(&'static str, usize, &'static str)>
     requires { IsTable 1024 (fields table.now).places }
 {
-    match table.check_tree(ticks) {
+    match check_tree(table, ticks) {
         Ok(()) => None,
         Err(fault) => Some((fault.section, fault.index, fault.reason)),
     }
@@ -49,49 +50,60 @@ fn table_of(alloc: Global, ordered: bool, keys: &[&[u8]]) -> Result<Small, Cedar
     Ok(table)
 }
 
-/// Gives a held slot other fields.
+/// Gives a slot, which has to be held, other fields.
 fn set_node<C: Ledger>(
+    rt: &impl Abort,
     table: &mut Small,
     slot: usize,
     base: i32,
-    owner: usize,
+    owner: u16,
     ticks: &mut Ticks<C>,
-) -> bool
+)
     requires { IsTable 1024 (fields table.old).places }
     ensures { IsTable 1024 (fields table.new).places }
 {
-    if slot >= table.size() || owner >= 1024 {
-        return false;
-    }
+    assert!(rt; slot < table.size());
     let held = table.is_held(slot, ticks);
-    if !held {
-        return false;
-    }
-    let check = owner as i32;
+    assert!(rt; held);
+    let check = i32::from(owner);
     table.write_node(slot, NodeRecord { base, check });
-    true
 }
 
-/// Gives a held slot other labels.
+/// Gives a slot, which has to be held, other labels.
 fn set_info<C: Ledger>(
+    rt: &impl Abort,
     table: &mut Small,
     slot: usize,
     sibling: u8,
     child: u8,
     ticks: &mut Ticks<C>,
-) -> bool
+)
     requires { IsTable 1024 (fields table.old).places }
     ensures { IsTable 1024 (fields table.new).places }
 {
-    if slot >= table.size() {
-        return false;
-    }
+    assert!(rt; slot < table.size());
     let held = table.is_held(slot, ticks);
-    if !held {
-        return false;
-    }
+    assert!(rt; held);
     table.write_info(slot, NInfoRecord { sibling, child });
-    true
+}
+
+/// The table has to have no fault.
+fn is_sound<C: Ledger>(rt: &impl Abort, table: &Small, ticks: &mut Ticks<C>)
+    requires { IsTable 1024 (fields table.now).places }
+{
+    assert_eq!(rt; fault(table, ticks), None);
+}
+
+/// The table has to have this fault.
+fn is_faulty<C: Ledger>(
+    rt: &impl Abort,
+    table: &Small,
+    wanted: (&'static str, usize, &'static str),
+    ticks: &mut Ticks<C>,
+)
+    requires { IsTable 1024 (fields table.now).places }
+{
+    assert_eq!(rt; fault(table, ticks), Some(wanted));
 }
 
 fn each_update<C: Ledger>(rt: &impl Abort, alloc: Global, blank: Blank) -> Result<(), Fail>
@@ -112,14 +124,14 @@ fn each_update<C: Ledger>(rt: &impl Abort, alloc: Global, blank: Blank) -> Resul
     ];
     for ordered in [true, false] {
         let mut table = table_of(alloc, ordered, &[])?;
-        assert_eq!(rt; fault(&table, ticks), None);
+        is_sound(rt, &table, ticks);
         for key in keys {
             put_all(&mut table, &[key])?;
-            assert_eq!(rt; fault(&table, ticks), None);
+            is_sound(rt, &table, ticks);
         }
         for key in keys {
-            assert!(rt; table.erase(key));
-            assert_eq!(rt; fault(&table, ticks), None);
+            erases(rt, &mut table, key);
+            is_sound(rt, &table, ticks);
         }
     }
     Ok(())
@@ -138,20 +150,20 @@ fn each_node<C: Ledger>(rt: &impl Abort, alloc: Global, blank: Blank) -> Result<
 {
     let ticks = &mut Ticks::<C>::new(blank);
     let mut table = table_of(alloc, true, &[b"a"])?;
-    assert!(rt; set_node(&mut table, 97, 0, 0, ticks));
+    set_node(rt, &mut table, 97, 0, 0, ticks);
     let bare = ("trie", 97, "structural node has no children");
-    assert_eq!(rt; fault(&table, ticks), Some(bare));
-    assert!(rt; set_node(&mut table, 97, 512, 0, ticks));
+    is_faulty(rt, &table, bare, ticks);
+    set_node(rt, &mut table, 97, 512, 0, ticks);
     let outside = ("trie", 97, "base is outside active nodes");
-    assert_eq!(rt; fault(&table, ticks), Some(outside));
-    assert!(rt; set_node(&mut table, 97, -2, 0, ticks));
+    is_faulty(rt, &table, outside, ticks);
+    set_node(rt, &mut table, 97, -2, 0, ticks);
     let unread = ("trie", 97, "invalid default-layout base");
-    assert_eq!(rt; fault(&table, ticks), Some(unread));
-    assert!(rt; set_node(&mut table, 97, 256, 0, ticks));
-    assert_eq!(rt; fault(&table, ticks), None);
-    assert!(rt; set_info(&mut table, 97, 0, 1, ticks));
+    is_faulty(rt, &table, unread, ticks);
+    set_node(rt, &mut table, 97, 256, 0, ticks);
+    is_sound(rt, &table, ticks);
+    set_info(rt, &mut table, 97, 0, 1, ticks);
     let value = ("trie", 256, "invalid terminal value node");
-    assert_eq!(rt; fault(&table, ticks), Some(value));
+    is_faulty(rt, &table, value, ticks);
     Ok(())
 }
 
@@ -170,13 +182,13 @@ fn each_number<C: Ledger>(rt: &impl Abort, alloc: Global, blank: Blank) -> Resul
     let mut table = table_of(alloc, true, &[b"a"])?;
     let value = ("trie", 256, "invalid terminal value node");
     for number in [-1, 2147483646, i32::MIN, i32::MAX] {
-        assert!(rt; set_node(&mut table, 256, number, 97, ticks));
-        assert_eq!(rt; fault(&table, ticks), Some(value));
+        set_node(rt, &mut table, 256, number, 97, ticks);
+        is_faulty(rt, &table, value, ticks);
     }
-    assert!(rt; set_node(&mut table, 256, 2147483645, 97, ticks));
-    assert_eq!(rt; fault(&table, ticks), None);
-    assert!(rt; set_info(&mut table, 256, 0, 1, ticks));
-    assert_eq!(rt; fault(&table, ticks), Some(value));
+    set_node(rt, &mut table, 256, 2147483645, 97, ticks);
+    is_sound(rt, &table, ticks);
+    set_info(rt, &mut table, 256, 0, 1, ticks);
+    is_faulty(rt, &table, value, ticks);
     Ok(())
 }
 
@@ -193,23 +205,21 @@ fn each_forgery<C: Ledger>(rt: &impl Abort, alloc: Global, blank: Blank) -> Resu
 {
     let ticks = &mut Ticks::<C>::new(blank);
     let mut table = table_of(alloc, true, &[])?;
-    assert!(rt; take(&mut table, 97, 98, 0, ticks));
-    assert!(rt; take(&mut table, 98, 7, 97, ticks));
-    assert!(rt; set_info(&mut table, 0, 97, 0, ticks));
-    assert_eq!(rt;
-        fault(&table, ticks),
-        Some(("trie", 97, "base lies in block zero"))
-    );
+    takes(rt, &mut table, 97, 98, 0, ticks);
+    takes(rt, &mut table, 98, 7, 97, ticks);
+    set_info(rt, &mut table, 0, 97, 0, ticks);
+    let low = ("trie", 97, "base lies in block zero");
+    is_faulty(rt, &table, low, ticks);
     // A tree with one number, and a table that says 0.
     let mut table = table_of(alloc, true, &[b"a"])?;
-    assert!(rt; table.erase(b"a"));
-    assert!(rt; take(&mut table, 97, 256, 0, ticks));
-    assert!(rt; take(&mut table, 256, 7, 97, ticks));
+    erases(rt, &mut table, b"a");
+    takes(rt, &mut table, 97, 256, 0, ticks);
+    takes(rt, &mut table, 256, 7, 97, ticks);
     let unlisted = ("trie", 0, "occupied node is unreachable");
-    assert_eq!(rt; fault(&table, ticks), Some(unlisted));
-    assert!(rt; set_info(&mut table, 0, 97, 0, ticks));
+    is_faulty(rt, &table, unlisted, ticks);
+    set_info(rt, &mut table, 0, 97, 0, ticks);
     let entries = ("entries", 0, "entry count does not match trie values");
-    assert_eq!(rt; fault(&table, ticks), Some(entries));
+    is_faulty(rt, &table, entries, ticks);
     Ok(())
 }
 
@@ -226,8 +236,9 @@ fn each_chain<C: Ledger>(rt: &impl Abort, alloc: Global, blank: Blank) -> Result
 {
     let ticks = &mut Ticks::<C>::new(blank);
     let mut table = table_of(alloc, false, &[b"b", b"a"])?;
-    assert_eq!(rt; (table.sibling(0), fault(&table, ticks)), (97, None));
-    assert!(rt; set_info(&mut table, 98, 97, 0, ticks));
+    assert_eq!(rt; table.sibling(0), 97);
+    is_sound(rt, &table, ticks);
+    set_info(rt, &mut table, 98, 97, 0, ticks);
     let (section, _, reason) = fault(&table, ticks).unwrap_or_default();
     assert_eq!(rt;
         (section, reason),
@@ -235,14 +246,14 @@ fn each_chain<C: Ledger>(rt: &impl Abort, alloc: Global, blank: Blank) -> Result
     );
     let mut table = table_of(alloc, true, &[b"b", b"a"])?;
     let unsorted = ("siblings", 0, "ordered sibling chain is not sorted");
-    assert!(rt; set_info(&mut table, 98, 97, 0, ticks));
-    assert_eq!(rt; fault(&table, ticks), Some(unsorted));
-    assert!(rt; set_info(&mut table, 97, 0, 0, ticks));
-    assert!(rt; set_info(&mut table, 0, 98, 0, ticks));
-    assert_eq!(rt; fault(&table, ticks), Some(unsorted));
-    assert!(rt; set_info(&mut table, 0, 99, 0, ticks));
+    set_info(rt, &mut table, 98, 97, 0, ticks);
+    is_faulty(rt, &table, unsorted, ticks);
+    set_info(rt, &mut table, 97, 0, 0, ticks);
+    set_info(rt, &mut table, 0, 98, 0, ticks);
+    is_faulty(rt, &table, unsorted, ticks);
+    set_info(rt, &mut table, 0, 99, 0, ticks);
     let unowned = ("siblings", 0, "child ownership link is invalid");
-    assert_eq!(rt; fault(&table, ticks), Some(unowned));
+    is_faulty(rt, &table, unowned, ticks);
     Ok(())
 }
 
@@ -259,12 +270,12 @@ fn each_ring<C: Ledger>(rt: &impl Abort, alloc: Global, blank: Blank) -> Result<
 {
     let ticks = &mut Ticks::<C>::new(blank);
     let mut table = table_of(alloc, true, &[b"a"])?;
-    assert!(rt; take(&mut table, 300, 301 ^ 1, 301, ticks));
-    assert!(rt; take(&mut table, 301, 300 ^ 1, 300, ticks));
-    assert!(rt; set_info(&mut table, 300, 0, 1, ticks));
-    assert!(rt; set_info(&mut table, 301, 0, 1, ticks));
+    takes(rt, &mut table, 300, 301 ^ 1, 301, ticks);
+    takes(rt, &mut table, 301, 300 ^ 1, 300, ticks);
+    set_info(rt, &mut table, 300, 0, 1, ticks);
+    set_info(rt, &mut table, 301, 0, 1, ticks);
     let apart = ("trie", 0, "occupied node is unreachable");
-    assert_eq!(rt; fault(&table, ticks), Some(apart));
+    is_faulty(rt, &table, apart, ticks);
     Ok(())
 }
 

@@ -1,16 +1,97 @@
 //! The table's fields, as the original crate has them.
 
-ghost use Rattle.std.specs.Prelude.{◌≡◌, ◌<◌};
+ghost use Rattle.std.specs.Prelude.{◌≡◌, ◌<◌, ◌≤◌, length};
 ghost use Rattle.cedar_slots.specs.Places.{IsTable};
 ghost use Rattle.cedar_table.specs.Table.TableFields.{fields};
 
-use crate::steps::{block, give, heads, node, take, take_one, take_some};
+use crate::steps::{block, gives, heads, node, take, take_one, take_some, takes};
 use cedar_table::{CedarError, DefaultLayout, Table, Ticks};
 use std::alloc::Global;
 use std::marker::Brand;
 use std::process::Abort;
 use std::sync::ledger::{Blank, Ledger};
 use std::test::Fail;
+
+/// The heads of the full, the closed and the open list have to be these.
+fn heads_are<const SLOTS: usize>(
+    rt: &impl Abort,
+    table: &Table<DefaultLayout, SLOTS, Global>,
+    wanted: (i32, i32, i32),
+) {
+    assert_eq!(rt; heads(table), wanted);
+}
+
+/// A block's record has to have these fields.
+fn block_is<const SLOTS: usize>(
+    rt: &impl Abort,
+    table: &Table<DefaultLayout, SLOTS, Global>,
+    number: usize,
+    wanted: (i32, i32, i16, i16, i32, i32),
+) {
+    assert_eq!(rt; block(table, number), Some(wanted));
+}
+
+/// A slot's node record has to have these fields.
+fn node_is<const SLOTS: usize, C: Ledger>(
+    rt: &impl Abort,
+    table: &Table<DefaultLayout, SLOTS, Global>,
+    slot: usize,
+    wanted: (i32, i32),
+    ticks: &mut Ticks<C>,
+) {
+    assert_eq!(rt; node(table, slot, ticks), Some(wanted));
+}
+
+/// There have to be so many slots, in use or not, and held, and so many blocks to spare.
+fn room_is<const SLOTS: usize>(
+    rt: &impl Abort,
+    table: &Table<DefaultLayout, SLOTS, Global>,
+    capacity: usize,
+    held: usize,
+    spare: usize,
+)
+    requires { IsTable SLOTS (fields table.now).places }
+{
+    let found = (
+        table.capacity(),
+        table.used_node_slots(),
+        table.spare_blocks(),
+    );
+    assert_eq!(rt; found, (capacity, held, spare));
+}
+
+/// Labels have to find their places from this base on.
+fn finds<const SLOTS: usize>(
+    rt: &impl Abort,
+    table: &mut Table<DefaultLayout, SLOTS, Global>,
+    labels: &[u8],
+    base: usize,
+)
+    requires sound { IsTable SLOTS (fields table.old).places }
+    requires some { 0 < length labels.now }
+    requires few { length labels.now ≤ 256 }
+    ensures { IsTable SLOTS (fields table.new).places }
+{
+    assert_eq!(rt; table.find_places(labels), Ok(base));
+}
+
+/// The slots and blocks of a new table with one block.
+fn slots_are_new<C: Ledger>(
+    rt: &impl Abort,
+    table: &Table<DefaultLayout, 1024, Global>,
+    ticks: &mut Ticks<C>,
+) {
+    node_is(rt, table, 0, (0, -1), ticks);
+    node_is(rt, table, 1, (-255, -2), ticks);
+    for slot in 2..255 {
+        node_is(rt, table, slot, (1 - slot as i32, -1 - slot as i32), ticks);
+    }
+    node_is(rt, table, 255, (-254, -1), ticks);
+    for slot in 0..table.capacity() {
+        assert_eq!(rt; (table.sibling(slot), table.child(slot)), (0, 0));
+    }
+    block_is(rt, table, 0, (0, 0, 256, 257, 0, 1));
+}
 
 fn new_table<C: Ledger>(rt: &impl Abort, alloc: Global, blank: Blank) -> Result<(), Fail>
     requires name { blank.name ≡ C.name }
@@ -19,26 +100,11 @@ fn new_table<C: Ledger>(rt: &impl Abort, alloc: Global, blank: Blank) -> Result<
 {
     let ticks = &mut Ticks::<C>::new(blank);
     let table = Table::<DefaultLayout, 1024, Global>::new(alloc, true, 3)?;
-    assert_eq!(rt;
-        (table.size(), table.capacity(), table.entries()),
-        (256, 256, 0)
-    );
-    assert_eq!(rt; (table.used_node_slots(), table.spare_blocks()), (1, 0));
+    assert_eq!(rt; (table.size(), table.entries()), (256, 0));
     assert_eq!(rt; (table.ordered(), table.max_trial()), (true, 3));
-    assert_eq!(rt; heads(&table), (0, 0, 0));
-    assert_eq!(rt; node(&table, 0, ticks), Some((0, -1)));
-    assert_eq!(rt; node(&table, 1, ticks), Some((-255, -2)));
-    for slot in 2..255 {
-        assert_eq!(rt;
-            node(&table, slot, ticks),
-            Some((1 - slot as i32, -1 - slot as i32))
-        );
-    }
-    assert_eq!(rt; node(&table, 255, ticks), Some((-254, -1)));
-    for slot in 0..table.capacity() {
-        assert_eq!(rt; (table.sibling(slot), table.child(slot)), (0, 0));
-    }
-    assert_eq!(rt; block(&table, 0), Some((0, 0, 256, 257, 0, 1)));
+    room_is(rt, &table, 256, 1, 0);
+    heads_are(rt, &table, (0, 0, 0));
+    slots_are_new(rt, &table, ticks);
     for free in 0..257 {
         assert_eq!(rt; table.reject(free), free as i16 + 1);
     }
@@ -58,21 +124,20 @@ fn key_of_one<C: Ledger>(rt: &impl Abort, alloc: Global, blank: Blank) -> Result
 {
     let ticks = &mut Ticks::<C>::new(blank);
     let mut table = Table::<DefaultLayout, 1024, Global>::new(alloc, true, 1)?;
-    assert!(rt; take(&mut table, 97, 256, 0, ticks));
+    takes(rt, &mut table, 97, 256, 0, ticks);
     assert_eq!(rt; table.find_place()?, 256);
-    assert!(rt; take(&mut table, 256, 7, 97, ticks));
-    assert_eq!(rt; (table.size(), table.capacity()), (512, 512));
-    assert_eq!(rt; (table.used_node_slots(), table.spare_blocks()), (3, 0));
-    assert_eq!(rt; heads(&table), (0, 0, 1));
-    assert_eq!(rt; node(&table, 0, ticks), Some((0, -1)));
-    assert_eq!(rt; node(&table, 96, ticks), Some((-95, -98)));
-    assert_eq!(rt; node(&table, 97, ticks), Some((256, 0)));
-    assert_eq!(rt; node(&table, 98, ticks), Some((-96, -99)));
-    assert_eq!(rt; node(&table, 256, ticks), Some((7, 97)));
-    assert_eq!(rt; node(&table, 257, ticks), Some((-511, -258)));
-    assert_eq!(rt; node(&table, 511, ticks), Some((-510, -257)));
-    assert_eq!(rt; block(&table, 0), Some((0, 0, 255, 257, 0, 1)));
-    assert_eq!(rt; block(&table, 1), Some((1, 1, 255, 257, 0, 257)));
+    takes(rt, &mut table, 256, 7, 97, ticks);
+    room_is(rt, &table, 512, 3, 0);
+    heads_are(rt, &table, (0, 0, 1));
+    node_is(rt, &table, 0, (0, -1), ticks);
+    node_is(rt, &table, 96, (-95, -98), ticks);
+    node_is(rt, &table, 97, (256, 0), ticks);
+    node_is(rt, &table, 98, (-96, -99), ticks);
+    node_is(rt, &table, 256, (7, 97), ticks);
+    node_is(rt, &table, 257, (-511, -258), ticks);
+    node_is(rt, &table, 511, (-510, -257), ticks);
+    block_is(rt, &table, 0, (0, 0, 255, 257, 0, 1));
+    block_is(rt, &table, 1, (1, 1, 255, 257, 0, 257));
     Ok(())
 }
 
@@ -90,34 +155,27 @@ fn each_list<C: Ledger>(rt: &impl Abort, alloc: Global, blank: Blank) -> Result<
     let ticks = &mut Ticks::<C>::new(blank);
     let mut table = Table::<DefaultLayout, 1024, Global>::new(alloc, true, 1)?;
     take_some(&mut table, 255)?;
-    assert_eq!(rt; heads(&table), (0, 1, 0));
-    assert_eq!(rt; block(&table, 1), Some((1, 1, 1, 257, 0, 511)));
+    heads_are(rt, &table, (0, 1, 0));
+    block_is(rt, &table, 1, (1, 1, 1, 257, 0, 511));
     take_one(&mut table)?;
-    assert_eq!(rt; heads(&table), (1, 0, 0));
-    assert_eq!(rt; block(&table, 0), Some((1, 1, 256, 257, 0, 1)));
+    heads_are(rt, &table, (1, 0, 0));
+    block_is(rt, &table, 0, (1, 1, 256, 257, 0, 1));
     assert_eq!(rt; take_one(&mut table)?, 512);
-    assert_eq!(rt; heads(&table), (1, 0, 2));
+    heads_are(rt, &table, (1, 0, 2));
     take_some(&mut table, 255)?;
-    assert_eq!(rt; heads(&table), (2, 0, 0));
-    assert_eq!(rt; block(&table, 0), Some((1, 2, 256, 257, 0, 1)));
-    assert!(rt; give(&mut table, 600, ticks));
-    assert_eq!(rt; heads(&table), (1, 2, 0));
-    assert!(rt; give(&mut table, 300, ticks));
-    assert_eq!(rt; heads(&table), (0, 1, 0));
-    assert_eq!(rt; node(&table, 300, ticks), Some((-300, -300)));
-    assert!(rt; give(&mut table, 400, ticks));
-    assert_eq!(rt; heads(&table), (0, 2, 1));
-    assert_eq!(rt; node(&table, 300, ticks), Some((-400, -400)));
-    assert_eq!(rt; node(&table, 400, ticks), Some((-300, -300)));
-    assert_eq!(rt; block(&table, 1), Some((1, 1, 2, 257, 0, 300)));
-    assert_eq!(rt;
-        (
-            table.capacity(),
-            table.spare_blocks(),
-            table.used_node_slots()
-        ),
-        (1024, 1, 510)
-    );
+    heads_are(rt, &table, (2, 0, 0));
+    block_is(rt, &table, 0, (1, 2, 256, 257, 0, 1));
+    gives(rt, &mut table, 600, ticks);
+    heads_are(rt, &table, (1, 2, 0));
+    gives(rt, &mut table, 300, ticks);
+    heads_are(rt, &table, (0, 1, 0));
+    node_is(rt, &table, 300, (-300, -300), ticks);
+    gives(rt, &mut table, 400, ticks);
+    heads_are(rt, &table, (0, 2, 1));
+    node_is(rt, &table, 300, (-400, -400), ticks);
+    node_is(rt, &table, 400, (-300, -300), ticks);
+    block_is(rt, &table, 1, (1, 1, 2, 257, 0, 300));
+    room_is(rt, &table, 1024, 510, 1);
     Ok(())
 }
 
@@ -152,21 +210,21 @@ fn block_of_root<C: Ledger>(rt: &impl Abort, alloc: Global, blank: Blank) -> Res
     let mut table = Table::<DefaultLayout, 256, Global>::new(alloc, true, 1)?;
     assert_eq!(rt; fill_first(&mut table, ticks), 255);
     assert_eq!(rt; table.used_node_slots(), 256);
-    assert_eq!(rt; heads(&table), (0, 0, 0));
+    heads_are(rt, &table, (0, 0, 0));
     let (prev, next, num, reject, trial, _) = block(&table, 0).unwrap_or_default();
     assert_eq!(rt; (prev, next, num, reject, trial), (0, 0, 1, 257, 0));
-    assert!(rt; give(&mut table, 7, ticks));
-    assert_eq!(rt; node(&table, 7, ticks), Some((-7, -7)));
-    assert_eq!(rt; block(&table, 0), Some((0, 0, 2, 257, 0, 7)));
-    assert!(rt; give(&mut table, 9, ticks));
-    assert!(rt; give(&mut table, 200, ticks));
-    assert_eq!(rt; node(&table, 7, ticks), Some((-9, -200)));
-    assert_eq!(rt; node(&table, 200, ticks), Some((-7, -9)));
-    assert_eq!(rt; node(&table, 9, ticks), Some((-200, -7)));
-    assert_eq!(rt; block(&table, 0), Some((0, 0, 4, 257, 0, 7)));
-    assert!(rt; take(&mut table, 7, 0, 0, ticks));
-    assert_eq!(rt; block(&table, 0), Some((0, 0, 3, 257, 0, 200)));
-    assert_eq!(rt; heads(&table), (0, 0, 0));
+    gives(rt, &mut table, 7, ticks);
+    node_is(rt, &table, 7, (-7, -7), ticks);
+    block_is(rt, &table, 0, (0, 0, 2, 257, 0, 7));
+    gives(rt, &mut table, 9, ticks);
+    gives(rt, &mut table, 200, ticks);
+    node_is(rt, &table, 7, (-9, -200), ticks);
+    node_is(rt, &table, 200, (-7, -9), ticks);
+    node_is(rt, &table, 9, (-200, -7), ticks);
+    block_is(rt, &table, 0, (0, 0, 4, 257, 0, 7));
+    takes(rt, &mut table, 7, 0, 0, ticks);
+    block_is(rt, &table, 0, (0, 0, 3, 257, 0, 200));
+    heads_are(rt, &table, (0, 0, 0));
     Ok(())
 }
 
@@ -183,18 +241,18 @@ fn places_for_several<C: Ledger>(rt: &impl Abort, alloc: Global, blank: Blank) -
 {
     let ticks = &mut Ticks::<C>::new(blank);
     let mut table = Table::<DefaultLayout, 1024, Global>::new(alloc, true, 1)?;
-    assert_eq!(rt; table.find_places(&[3, 4, 5])?, 256 ^ 3);
+    finds(rt, &mut table, &[3, 4, 5], 256 ^ 3);
     take_some(&mut table, 253)?;
-    assert_eq!(rt; block(&table, 1), Some((1, 1, 3, 257, 0, 509)));
-    assert_eq!(rt; table.find_places(&[1, 2, 255])?, 512 ^ 1);
-    assert_eq!(rt; heads(&table), (0, 1, 2));
-    assert_eq!(rt; block(&table, 1), Some((1, 1, 3, 3, 1, 509)));
+    block_is(rt, &table, 1, (1, 1, 3, 257, 0, 509));
+    finds(rt, &mut table, &[1, 2, 255], 512 ^ 1);
+    heads_are(rt, &table, (0, 1, 2));
+    block_is(rt, &table, 1, (1, 1, 3, 3, 1, 509));
     assert_eq!(rt; table.reject(3), 3);
-    assert!(rt; give(&mut table, 256, ticks));
-    assert_eq!(rt; heads(&table), (0, 0, 1));
-    assert_eq!(rt; block(&table, 1), Some((2, 2, 4, 5, 0, 509)));
-    assert_eq!(rt; table.find_places(&[0, 1])?, 510);
-    assert_eq!(rt; block(&table, 1), Some((2, 2, 4, 5, 0, 510)));
+    gives(rt, &mut table, 256, ticks);
+    heads_are(rt, &table, (0, 0, 1));
+    block_is(rt, &table, 1, (2, 2, 4, 5, 0, 509));
+    finds(rt, &mut table, &[0, 1], 510);
+    block_is(rt, &table, 1, (2, 2, 4, 5, 0, 510));
     Ok(())
 }
 

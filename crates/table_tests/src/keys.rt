@@ -3,7 +3,7 @@
 
 ghost use Rattle.std.specs.Prelude.{◌≡◌, ◌==◌, ◌<◌, IfOk, IsTrue, position};
 ghost use Rattle.cedar_tree.specs.Tree.{IsKey};
-ghost use Rattle.cedar_slots.specs.Places.{IsSlotLimit};
+ghost use Rattle.cedar_slots.specs.Places.{IsSlotLimit, IsTable};
 ghost use Rattle.cedar_table.specs.Table.TableFields.{fields};
 ghost use Rattle.cedar_table.specs.Meaning.WellFormed.{IsWellFormed};
 
@@ -40,7 +40,59 @@ pub fn put<const SLOTS: usize>(
     if !is_key(key) {
         return Err(CedarError::EmptyKey);
     }
-    table.update(key, i32::from(value))
+    table.update(key, i32::from(value))?;
+    Ok(())
+}
+
+/// Puts a number at a key, which has to succeed.
+pub fn stores<const SLOTS: usize>(
+    rt: &impl Abort,
+    table: &mut Table<DefaultLayout, SLOTS, Global>,
+    key: &[u8],
+    value: u8,
+)
+    requires { IsWellFormed SLOTS (fields table.old) }
+    ensures { IsWellFormed SLOTS (fields table.new) }
+{
+    assert_eq!(rt; put(table, key, value), Ok(()));
+}
+
+/// Erases a key, which has to be held.
+pub fn erases<const SLOTS: usize>(
+    rt: &impl Abort,
+    table: &mut Table<DefaultLayout, SLOTS, Global>,
+    key: &[u8],
+)
+    requires { IsWellFormed SLOTS (fields table.old) }
+    ensures { IsWellFormed SLOTS (fields table.new) }
+{
+    assert!(rt; table.erase(key));
+}
+
+/// How many slots have to be held, and how many keys.
+pub fn counts<const SLOTS: usize>(
+    rt: &impl Abort,
+    table: &Table<DefaultLayout, SLOTS, Global>,
+    slots: usize,
+    keys: usize,
+)
+    requires { IsTable SLOTS (fields table.now).places }
+{
+    assert_eq!(rt; (table.used_node_slots(), table.entries()), (slots, keys));
+}
+
+/// A key has to be found with this number, or with none.
+fn finds<const SLOTS: usize, C: Ledger>(
+    rt: &impl Abort,
+    table: &Table<DefaultLayout, SLOTS, Global>,
+    key: &[u8],
+    value: Option<u8>,
+    ticks: &mut Ticks<C>,
+)
+    requires { IsWellFormed SLOTS (fields table.now) }
+{
+    let wanted = value.map(|value| (i32::from(value), key.len()));
+    assert_eq!(rt; table.exact_match_search_counted(key, ticks), wanted);
 }
 
 /// Puts pairs, looks each up, compares the used slots, and erases all.
@@ -55,21 +107,32 @@ fn each_pair<const SLOTS: usize, C: Ledger>(
     ensures { IsWellFormed SLOTS (fields table.new) }
 {
     for (key, value) in pairs {
-        assert_eq!(rt; put(table, key, *value), Ok(()));
+        stores(rt, table, key, *value);
     }
-    assert_eq!(rt; table.used_node_slots(), used);
-    assert_eq!(rt; table.entries(), pairs.len());
+    counts(rt, table, used, pairs.len());
     for (key, value) in pairs {
-        let found = Some((i32::from(*value), key.len()));
-        assert_eq!(rt; table.exact_match_search_counted(key, ticks), found);
+        finds(rt, table, key, Some(*value), ticks);
     }
     for (key, _) in pairs {
-        assert!(rt; table.erase(key));
+        erases(rt, table, key);
         assert!(rt; !table.erase(key));
-        assert_eq!(rt; table.exact_match_search_counted(key, ticks), None);
+        finds(rt, table, key, None, ticks);
     }
-    assert_eq!(rt; (table.used_node_slots(), table.entries()), (1, 0));
+    counts(rt, table, 1, 0);
     Ok(())
+}
+
+/// Does so with a table of its own.
+fn new_pairs<C: Ledger>(
+    rt: &impl Abort,
+    alloc: Global,
+    ordered: bool,
+    pairs: &[(&[u8], u8)],
+    used: usize,
+    ticks: &mut Ticks<C>,
+) -> Result<(), Fail> {
+    let mut table = Table::<DefaultLayout, 1024, Global>::new(alloc, ordered, 1)?;
+    each_pair(rt, &mut table, pairs, used, ticks)
 }
 
 fn each_situation<C: Ledger>(rt: &impl Abort, alloc: Global, blank: Blank) -> Result<(), Fail>
@@ -78,14 +141,11 @@ fn each_situation<C: Ledger>(rt: &impl Abort, alloc: Global, blank: Blank) -> Re
     requires some { 0 < blank.parts }
 {
     let ticks = &mut Ticks::<C>::new(blank);
+    let pairs: [(&[u8], u8); 4] = [(b"ab", 1), (b"ac", 2), (b"ab\x05", 3), (b"ab\x03", 4)];
     for ordered in [true, false] {
-        let mut table = Table::<DefaultLayout, 1024, Global>::new(alloc, ordered, 1)?;
-        each_pair(rt, &mut table, &[(b"ab", 1), (b"ab\x01", 2)], 6, ticks)?;
-        let mut table = Table::<DefaultLayout, 1024, Global>::new(alloc, ordered, 1)?;
-        each_pair(rt, &mut table, &[(b"ab", 1), (b"ac", 2)], 6, ticks)?;
-        let mut table = Table::<DefaultLayout, 1024, Global>::new(alloc, ordered, 1)?;
-        let pairs: [(&[u8], u8); 4] = [(b"ab", 1), (b"ac", 2), (b"ab\x05", 3), (b"ab\x03", 4)];
-        each_pair(rt, &mut table, &pairs, 10, ticks)?;
+        new_pairs(rt, alloc, ordered, &[(b"ab", 1), (b"ab\x01", 2)], 6, ticks)?;
+        new_pairs(rt, alloc, ordered, &pairs[..2], 6, ticks)?;
+        new_pairs(rt, alloc, ordered, &pairs, 10, ticks)?;
     }
     Ok(())
 }
@@ -102,15 +162,15 @@ fn conflicts(rt: HostRuntime) -> Result<(), Fail> {
 fn up_to_the_limit(rt: HostRuntime) -> Result<(), Fail> {
     let mut table = Table::<DefaultLayout, 512, Global>::new(rt.alloc(), true, 1)?;
     for byte in 0..255 {
-        assert_eq!(&rt; put(&mut table, &[byte + 1], byte), Ok(()));
+        stores(&rt, &mut table, &[byte + 1], byte);
     }
     assert_eq!(&rt; (table.size(), table.used_node_slots()), (512, 511));
     assert_eq!(&rt; put(&mut table, b"ab", 1), Err(CedarError::SlotLimit));
-    assert_eq!(&rt; (table.used_node_slots(), table.entries()), (511, 255));
-    assert_eq!(&rt; put(&mut table, b"a", 2), Ok(()));
-    assert!(&rt; table.erase(b"b"));
-    assert_eq!(&rt; put(&mut table, b"a\x01", 1), Ok(()));
-    assert_eq!(&rt; (table.used_node_slots(), table.entries()), (511, 255));
+    counts(&rt, &table, 511, 255);
+    stores(&rt, &mut table, b"a", 2);
+    erases(&rt, &mut table, b"b");
+    stores(&rt, &mut table, b"a\x01", 1);
+    counts(&rt, &table, 511, 255);
     Ok(())
 }
 
@@ -120,14 +180,14 @@ fn all_labels(rt: HostRuntime) -> Result<(), Fail> {
     for ordered in [true, false] {
         let mut table = Table::<DefaultLayout, 4096, Global>::new(rt.alloc(), ordered, 1)?;
         for byte in 0..255 {
-            assert_eq!(&rt; put(&mut table, &[7, 255 - byte], byte), Ok(()));
+            stores(&rt, &mut table, &[7, 255 - byte], byte);
         }
-        assert_eq!(&rt; put(&mut table, &[7], 9), Ok(()));
-        assert_eq!(&rt; (table.used_node_slots(), table.entries()), (513, 256));
+        stores(&rt, &mut table, &[7], 9);
+        counts(&rt, &table, 513, 256);
         for byte in 0..255 {
-            assert!(&rt; table.erase(&[7, byte + 1]));
+            erases(&rt, &mut table, &[7, byte + 1]);
         }
-        assert_eq!(&rt; (table.used_node_slots(), table.entries()), (3, 1));
+        counts(&rt, &table, 3, 1);
     }
     Ok(())
 }
@@ -137,14 +197,14 @@ fn all_labels(rt: HostRuntime) -> Result<(), Fail> {
 fn long_keys(rt: HostRuntime) -> Result<(), Fail> {
     let mut table = Table::<DefaultLayout, 65536, Global>::new(rt.alloc(), true, 1)?;
     let key = vec![in rt.alloc(); 7u8; 10_000]?;
-    assert_eq!(&rt; put(&mut table, &key, 1), Ok(()));
-    assert_eq!(&rt; (table.used_node_slots(), table.entries()), (10_002, 1));
-    assert_eq!(&rt; put(&mut table, &key[..5000], 2), Ok(()));
-    assert_eq!(&rt; (table.used_node_slots(), table.entries()), (10_003, 2));
-    assert!(&rt; table.erase(&key));
-    assert_eq!(&rt; (table.used_node_slots(), table.entries()), (5_002, 1));
-    assert!(&rt; table.erase(&key[..5000]));
-    assert_eq!(&rt; (table.used_node_slots(), table.entries()), (1, 0));
+    stores(&rt, &mut table, &key, 1);
+    counts(&rt, &table, 10_002, 1);
+    stores(&rt, &mut table, &key[..5000], 2);
+    counts(&rt, &table, 10_003, 2);
+    erases(&rt, &mut table, &key);
+    counts(&rt, &table, 5_002, 1);
+    erases(&rt, &mut table, &key[..5000]);
+    counts(&rt, &table, 1, 0);
     Ok(())
 }
 
@@ -153,9 +213,9 @@ fn long_keys(rt: HostRuntime) -> Result<(), Fail> {
 fn order_of_labels(rt: HostRuntime) -> Result<(), Fail> {
     for ordered in [true, false] {
         let mut table = Table::<DefaultLayout, 1024, Global>::new(rt.alloc(), ordered, 1)?;
-        assert_eq!(&rt; put(&mut table, b"b", 1), Ok(()));
-        assert_eq!(&rt; put(&mut table, b"a", 2), Ok(()));
-        assert_eq!(&rt; put(&mut table, b"c", 3), Ok(()));
+        stores(&rt, &mut table, b"b", 1);
+        stores(&rt, &mut table, b"a", 2);
+        stores(&rt, &mut table, b"c", 3);
         let first = table.sibling(0);
         let second = table.sibling(usize::from(first));
         let third = table.sibling(usize::from(second));

@@ -13,6 +13,53 @@ use std::sync::ledger::{Blank, Ledger};
 use std::test::Fail;
 use test_devices::Refusing;
 
+type Refused<'a> = Table<DefaultLayout, 1024, &'a Refusing<Global>>;
+
+/// A block more has to be answered so.
+fn adds(rt: &impl Abort, table: &mut Refused<'_>, wanted: Result<usize, CedarError>)
+    requires { IsTable 1024 (fields table.old).places }
+    ensures { IsTable 1024 (fields table.new).places }
+{
+    assert_eq!(rt; table.add_block(), wanted);
+}
+
+/// A growth of which one request is refused leaves every field as it was.
+fn one_request<C: Ledger>(
+    rt: &impl Abort,
+    alloc: Global,
+    memory: &Refusing<Global>,
+    table: &mut Refused<'_>,
+    request: u64,
+    ticks: &mut Ticks<C>,
+) -> Result<(), Fail>
+    requires { IsTable 1024 (fields table.old).places }
+    ensures { IsTable 1024 (fields table.new).places }
+{
+    let before = all_fields(table, alloc, ticks)?;
+    memory.refuse(request, request);
+    adds(rt, table, Err(CedarError::Memory));
+    assert_eq!(rt; memory.requests(), request);
+    memory.refuse_none();
+    let after = all_fields(table, alloc, ticks)?;
+    assert!(rt; after == before);
+    Ok(())
+}
+
+/// Blocks are added up to the limit, and the last one, which is spare, without a request.
+fn up_to_the_limit(rt: &impl Abort, memory: &Refusing<Global>, table: &mut Refused<'_>)
+    requires { IsTable 1024 (fields table.old).places }
+{
+    adds(rt, table, Ok(1));
+    assert_eq!(rt; table.find_place(), Ok(256));
+    adds(rt, table, Ok(2));
+    assert_eq!(rt; (table.size(), table.capacity()), (768, 1024));
+    memory.refuse(1, u64::MAX);
+    adds(rt, table, Ok(3));
+    adds(rt, table, Err(CedarError::SlotLimit));
+    assert_eq!(rt; memory.requests(), 0);
+    memory.refuse_none();
+}
+
 fn each_request<C: Ledger>(rt: &impl Abort, alloc: Global, blank: Blank) -> Result<(), Fail>
     requires name { blank.name ≡ C.name }
     requires parts { blank.parts ≡ C.parts }
@@ -21,23 +68,10 @@ fn each_request<C: Ledger>(rt: &impl Abort, alloc: Global, blank: Blank) -> Resu
     let ticks = &mut Ticks::<C>::new(blank);
     let memory = Refusing::new(alloc);
     for request in 1..4 {
-        let mut table = Table::<DefaultLayout, 1024, &Refusing<Global>>::new(&memory, true, 1)?;
+        let mut table = Refused::new(&memory, true, 1)?;
         assert!(rt; take(&mut table, 97, 256, 0, ticks));
-        let before = all_fields(&table, alloc, ticks)?;
-        memory.refuse(request, request);
-        assert_eq!(rt; table.add_block(), Err(CedarError::Memory));
-        assert_eq!(rt; memory.requests(), request);
-        memory.refuse_none();
-        assert!(rt; all_fields(&table, alloc, ticks)? == before);
-        assert_eq!(rt; table.add_block(), Ok(1));
-        assert_eq!(rt; table.find_place(), Ok(256));
-        assert_eq!(rt; table.add_block(), Ok(2));
-        assert_eq!(rt; (table.size(), table.capacity()), (768, 1024));
-        memory.refuse(1, u64::MAX);
-        assert_eq!(rt; table.add_block(), Ok(3));
-        assert_eq!(rt; table.add_block(), Err(CedarError::SlotLimit));
-        assert_eq!(rt; memory.requests(), 0);
-        memory.refuse_none();
+        one_request(rt, alloc, &memory, &mut table, request, ticks)?;
+        up_to_the_limit(rt, &memory, &mut table);
     }
     Ok(())
 }

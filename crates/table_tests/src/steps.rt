@@ -6,6 +6,7 @@ ghost use Rattle.cedar_table.specs.Table.TableFields.{fields};
 
 use cedar_table::{CedarError, DefaultLayout, Table, Ticks};
 use std::alloc::{AllocError, Allocator, Global};
+use std::process::Abort;
 use std::sync::ledger::Ledger;
 
 /// Takes `slot` for `owner` if it is free, and tells whether it was.
@@ -48,6 +49,34 @@ pub fn give<const SLOTS: usize, A: Allocator, C: Ledger>(
         return true;
     }
     false
+}
+
+/// Takes a slot that has to be free.
+pub fn takes<const SLOTS: usize, C: Ledger>(
+    rt: &impl Abort,
+    table: &mut Table<DefaultLayout, SLOTS, Global>,
+    slot: usize,
+    base: i32,
+    owner: usize,
+    ticks: &mut Ticks<C>,
+)
+    requires { IsTable SLOTS (fields table.old).places }
+    ensures { IsTable SLOTS (fields table.new).places }
+{
+    assert!(rt; take(table, slot, base, owner, ticks));
+}
+
+/// Gives a slot back that has to be held.
+pub fn gives<const SLOTS: usize, C: Ledger>(
+    rt: &impl Abort,
+    table: &mut Table<DefaultLayout, SLOTS, Global>,
+    slot: usize,
+    ticks: &mut Ticks<C>,
+)
+    requires { IsTable SLOTS (fields table.old).places }
+    ensures { IsTable SLOTS (fields table.new).places }
+{
+    assert!(rt; give(table, slot, ticks));
 }
 
 /// Takes one free slot outside block 0.

@@ -7,14 +7,13 @@ use Rattle.cedar_tree.specs.Tree.{child, empty_tree, Forest, is_bare, none, Tree
 use Rattle.cedar_tree.specs.Queries.{node_at, prefixes_forest}
 use Rattle.cedar_tree.specs.Edits.{edit_at}
 use Rattle.cedar_table.specs.declared.layout.Stored.TheVariants.{AtBase}
-use Rattle.cedar_table.specs.declared.bulk.spans.Span.{Span}
 use Rattle.cedar_table.specs.Table.Cells.{Held}
 use Rattle.cedar_table.specs.Edit.NodeEdits.{Above, IsAt}
 use Rattle.cedar_table.specs.Meaning.Family.{Among, base_of}
 use Rattle.cedar_table.specs.Meaning.StandsFor.{HoldsTree, labels}
 use Rattle.cedar_slots.specs.Places.{IsTable}
 use Rattle.cedar_table.specs.Bulk.Sorted.{Fills, IsBareNode, leaves}
-use Rattle.cedar_table.specs.Bulk.Spans.{Covers, Distinct, Filling, IsTreeOfSpan, nodes_of, Pending, work}
+use Rattle.cedar_table.specs.Bulk.Spans.{Covers, Distinct, Filling, IsTreeOfSpan, nodes_of, Part, Pending, work}
 use Rattle.cedar_table.specs.Edit.Steps.{MakesBlocks, root_of}
 use Rattle.cedar_table.specs.Table.TableFields.{Fields, size_of}
 use Rattle.cedar_table.specs.Meaning.WellFormed.{cells_in}
@@ -31,7 +30,7 @@ use Rattle.cedar_table.proofs.MeaningLemmas.TreeOf.{in_use}
 
 -- ---- a node that was filled
 
-module _ (T T' : Fields) (f : Forest) (w : List ℕ) (a : ℕ) (t : Tree) (cs : List Span) (d : ℕ) (ps : _) (holds : HoldsTree (size_of T) (cells_in T) f) (up : IsAscending f) (at : IsAt (cells_in T) w a) (bare : node_at (root_of f) w ≡ empty_tree)
+module _ (T T' : Fields) (f : Forest) (w : List ℕ) (a : ℕ) (t : Tree) (cs : List Part) (d : ℕ) (ps : _) (holds : HoldsTree (size_of T) (cells_in T) f) (up : IsAscending f) (at : IsAt (cells_in T) w a) (bare : node_at (root_of f) w ≡ empty_tree)
     (tree : IsTreeOfSpan d ps t) (fills : Fills (size_of T) (size_of T') (cells_in T) (cells_in T') a t.number (labels t.children)) (covers : Covers (base_of (cells_in T') a) cs t.children none) where
   abbrev filled_forest : Forest
   filled_forest = edit_at w (λ _. t.number) (λ _. leaves (labels t.children)) f
@@ -53,14 +52,14 @@ module _ (T T' : Fields) (f : Forest) (w : List ℕ) (a : ℕ) (t : Tree) (cs : 
 -- ---- the span that comes next
 
 -- what is known of it
-pub record Next (T : Fields) (s : Span) : Type 0 where
+pub record Next (T : Fields) (s : Part) : Type 0 where
   pub inside : s.node < size_of T
   pub node : IsBareNode (size_of T) (cells_in T) s.node
   pub leaf : (cells_in T).stored s.node ≡ AtBase 0
-  pub tree : (t : Tree) × IsTreeOfSpan s.depth s.pairs.now t × (s.node ≡ 0 → t.number ≡ None)
+  pub tree : (t : Tree) × IsTreeOfSpan s.depth s.entries t × (s.node ≡ 0 → t.number ≡ None)
   pub not_root : s.node ≡ 0 → ⊥
 
-pub next_span : (slots : ℕ) (T : Fields) (ps : List Span) (s : Span) (g : Forest) (most : ℕ) → Filling slots T (ps ++ s ∷ []) g most → Next T s
+pub next_span : (slots : ℕ) (T : Fields) (ps : List Part) (s : Part) (g : Forest) (most : ℕ) → Filling slots T (ps ++ s ∷ []) g most → Next T s
 next_span slots T ps s g most k =
     by_split (pending_split (cells_in T) ps s k.forest g k.left k.pending)
   where
@@ -79,10 +78,10 @@ next_span slots T ps s g most k =
         by_owner (inr o) n = in_use T s.node o.0 o.1
 
 -- once its node was filled, its children wait
-pub filling_on : (slots : ℕ) (T T' : Fields) (ps : List Span) (s : Span) (new : List Span) (g : Forest) (most n : ℕ) → IsTable slots T'.places → Filling slots T (ps ++ s ∷ []) g most
-    → ((t : Tree) → IsTreeOfSpan s.depth s.pairs.now t → Fills (size_of T) (size_of T') (cells_in T) (cells_in T') s.node t.number (labels t.children))
-    → ((t : Tree) → IsTreeOfSpan s.depth s.pairs.now t → (cs : List Span) × (new ≡ ps ++ cs) × Covers (base_of (cells_in T') s.node) cs t.children none)
-    → n ≤ 1 → MakesBlocks n T T' → T'.layout ≡ T.layout → ((t : Tree) → IsTreeOfSpan s.depth s.pairs.now t → KeepsOwn T.layout (cells_in T') s.node t.number (labels t.children)) → Filling slots T' new g most × (work new < work (ps ++ s ∷ []))
+pub filling_on : (slots : ℕ) (T T' : Fields) (ps : List Part) (s : Part) (new : List Part) (g : Forest) (most n : ℕ) → IsTable slots T'.places → Filling slots T (ps ++ s ∷ []) g most
+    → ((t : Tree) → IsTreeOfSpan s.depth s.entries t → Fills (size_of T) (size_of T') (cells_in T) (cells_in T') s.node t.number (labels t.children))
+    → ((t : Tree) → IsTreeOfSpan s.depth s.entries t → (cs : List Part) × (new ≡ ps ++ cs) × Covers (base_of (cells_in T') s.node) cs t.children none)
+    → n ≤ 1 → MakesBlocks n T T' → T'.layout ≡ T.layout → ((t : Tree) → IsTreeOfSpan s.depth s.entries t → KeepsOwn T.layout (cells_in T') s.node t.number (labels t.children)) → Filling slots T' new g most × (work new < work (ps ++ s ∷ []))
 filling_on slots T T' ps s new g most n table k fills spans one made layout own =
     by_split (pending_split (cells_in T) ps s k.forest g k.left k.pending)
   where
@@ -91,8 +90,8 @@ filling_on slots T T' ps s new g most n table k fills spans one made layout own 
         let bare = bare_leaf (size_of T) (cells_in T) k.forest w s.node k.holds awaits.at awaits.not_root awaits.leaf in
         let f = fills t awaits.tree in
         let c = spans t awaits.tree in
-        let cs : List Span = c.0 in
-        let p = filled_pending T T' k.forest w s.node t cs s.depth s.pairs.now k.holds k.ascending awaits.at bare awaits.tree f c.2 in
+        let cs : List Part = c.0 in
+        let p = filled_pending T T' k.forest w s.node t cs s.depth s.entries k.holds k.ascending awaits.at bare awaits.tree f c.2 in
         let whole : edit_at w (λ _. t.number) (λ _. t.children) k.forest ≡ h = ap (edit_at w (λ _. t.number) (λ _. t.children)) rest.0 ∙ edits in
         let apart = last_apart ps s k.distinct in
         let held : (x : ℕ) → Among (nodes_of ps) x → Held (cells_in T) x = λ x among. let way = pending_at (cells_in T) ps h g j others x among in held_node (cells_in T) way.0 x way.1 in
@@ -103,8 +102,8 @@ filling_on slots T T' ps s new g most n table k fills spans one made layout own 
           record {
             table = table;
             forest = edit_at w (λ _. t.number) (λ _. leaves (labels t.children)) k.forest;
-            holds = filled_holds T T' k.forest w s.node t cs s.depth s.pairs.now k.holds k.ascending awaits.at bare awaits.tree f c.2;
-            ascending = filled_ascending T T' k.forest w s.node t cs s.depth s.pairs.now k.holds k.ascending awaits.at bare awaits.tree f c.2;
+            holds = filled_holds T T' k.forest w s.node t cs s.depth s.entries k.holds k.ascending awaits.at bare awaits.tree f c.2;
+            ascending = filled_ascending T T' k.forest w s.node t cs s.depth s.entries k.holds k.ascending awaits.at bare awaits.tree f c.2;
             own = λ reduced.
                 let was : T.layout ≡ reduced_layout = sym layout ∙ reduced in
                 last_kept T.layout (size_of T) (size_of T') (cells_in T) (cells_in T') k.forest w s.node t.number (labels t.children) was (λ e. awaits.not_root (sym (subst (λ q. IsAt (cells_in T) q s.node) e awaits.at).1)) bare awaits.at awaits.leaf f (own t awaits.tree) (k.own was);
@@ -117,7 +116,7 @@ filling_on slots T T' ps s new g most n table k fills spans one made layout own 
         )
 
 -- where no slot was left, there are as many blocks as nodes, or fewer
-pub filling_refused : (slots : ℕ) (T : Fields) (ps : List Span) (s : Span) (g : Forest) (most : ℕ) → Filling slots T (ps ++ s ∷ []) g most → 256 * T.places.blocks.active ≡ slots → slots < 256 * most
+pub filling_refused : (slots : ℕ) (T : Fields) (ps : List Part) (s : Part) (g : Forest) (most : ℕ) → Filling slots T (ps ++ s ∷ []) g most → 256 * T.places.blocks.active ≡ slots → slots < 256 * most
 filling_refused slots T ps s g most k all =
     by_split (pending_split (cells_in T) ps s k.forest g k.left k.pending)
   where
@@ -127,7 +126,7 @@ filling_refused slots T ps s g most k all =
 -- ---- the root
 
 -- the first node to be filled is the root of a new table
-pub filling_begins : (slots : ℕ) (T T' : Fields) (t : Tree) (d : ℕ) (ps : _) (cs : List Span) → IsTable slots T'.places → HoldsTree (size_of T) (cells_in T) none → IsTreeOfSpan d ps t → t.number ≡ None
+pub filling_begins : (slots : ℕ) (T T' : Fields) (t : Tree) (d : ℕ) (ps : _) (cs : List Part) → IsTable slots T'.places → HoldsTree (size_of T) (cells_in T) none → IsTreeOfSpan d ps t → t.number ≡ None
     → Fills (size_of T) (size_of T') (cells_in T) (cells_in T') 0 t.number (labels t.children) → Covers (base_of (cells_in T') 0) cs t.children none → T'.places.blocks.active ≡ 1
     → Filling slots T' cs t.children (1 + length (prefixes_forest t.children))
 filling_begins slots T T' t d ps cs table holds tree number fills covers one = record {
@@ -157,8 +156,8 @@ if_err (Ok x) p f = tt
 if_err (Err e) p f = f e p
 
 -- the root's children wait, once it was filled
-pub filling_started : (slots : ℕ) (T T' : Fields) (t : Tree) (d : ℕ) (ps : _) (old new : List Span) (n : ℕ) → IsTable slots T'.places → HoldsTree (size_of T) (cells_in T) none → IsTreeOfSpan d ps t → t.number ≡ None
-    → Fills (size_of T) (size_of T') (cells_in T) (cells_in T') 0 t.number (labels t.children) → (cs : List Span) × (new ≡ old ++ cs) × Covers (base_of (cells_in T') 0) cs t.children none → old ≡ []
+pub filling_started : (slots : ℕ) (T T' : Fields) (t : Tree) (d : ℕ) (ps : _) (old new : List Part) (n : ℕ) → IsTable slots T'.places → HoldsTree (size_of T) (cells_in T) none → IsTreeOfSpan d ps t → t.number ≡ None
+    → Fills (size_of T) (size_of T') (cells_in T) (cells_in T') 0 t.number (labels t.children) → (cs : List Part) × (new ≡ old ++ cs) × Covers (base_of (cells_in T') 0) cs t.children none → old ≡ []
     → T.places.blocks.active ≡ 1 → n ≡ 0 → MakesBlocks n T T' → Filling slots T' new t.children (1 + length (prefixes_forest t.children))
 filling_started slots T T' t d ps old new n table holds tree number fills (cs, is, covers) nothing one none_made made =
     subst (λ xs. Filling slots T' xs t.children (1 + length (prefixes_forest t.children))) (sym (is ∙ ap (λ xs. xs ++ cs) nothing))

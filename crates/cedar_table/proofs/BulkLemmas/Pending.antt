@@ -14,21 +14,27 @@ use Rattle.cedar_table.specs.Edit.NodeEdits.{IsAt}
 use Rattle.cedar_table.specs.Meaning.Family.{Among}
 use Rattle.cedar_table.specs.Meaning.StandsFor.{labels}
 use Rattle.cedar_table.specs.Bulk.Sorted.{leaves}
-use Rattle.cedar_table.specs.Bulk.Spans.{bytes_in, Covers, Distinct, IsTreeOfSpan, nodes_of, Pending, stripped, work}
+use Rattle.cedar_table.specs.Bulk.Spans.{bytes_in, Covers, Distinct, IsTreeOfSpan, nodes_of, Part, part_of, parts_of, Pending, stripped, work}
 use Rattle.cedar_table.specs.Meaning.WellFormed.{is_value}
 use Rattle.cedar_table.proofs.WalkLemmas.SearchStep.{has_among}
 use Rattle.cedar_table.proofs.EditLemmas.OneAfterAnother.{edit_below, edit_twice}
 use Rattle.cedar_table.proofs.BulkLemmas.Spans.{walk_some}
 use Rattle.cedar_table.proofs.MeaningLemmas.ExclusiveOr.{xor_injective}
 
+-- ---- spans as specs speak of them
+
+pub parts_last : {K : Type 0} (bytes : K → List ℕ) (spans : List (Span K)) (span : Span K) → parts_of bytes (spans ++ span ∷ []) ≡ parts_of bytes spans ++ part_of bytes span ∷ []
+parts_last bytes [] span = refl
+parts_last bytes (s ∷ spans) span = ap (λ ps. part_of bytes s ∷ ps) (parts_last bytes spans span)
+
 -- ---- the last ones first
 
-pub pending_join : (T : Cells) (ps cs : List Span) (f h g : Forest) (m k : ℕ) → Pending T cs f h m → Pending T ps h g k → Pending T (ps ++ cs) f g (m + k)
+pub pending_join : (T : Cells) (ps cs : List Part) (f h g : Forest) (m k : ℕ) → Pending T cs f h m → Pending T ps h g k → Pending T (ps ++ cs) f g (m + k)
 pending_join T [] cs f h g m k c p = subst (λ x. Pending T cs f x (m + k)) p.0 (subst (Pending T cs f h) (omega (arith, p.1)) c)
 pending_join T (s ∷ ps) cs f h g m k c (w, t, h₀, k₀, awaits, edits, count, rest) =
     (w, t, h₀, m + k₀, awaits, edits, omega (arith, count), pending_join T ps cs f h h₀ m k₀ c rest)
 
-pub pending_split : (T : Cells) (ps : List Span) (s : Span) (f g : Forest) (n : ℕ) → Pending T (ps ++ s ∷ []) f g n → (h : Forest) × (m : ℕ) × (k : ℕ) × (n ≡ m + k) × Pending T (s ∷ []) f h m × Pending T ps h g k
+pub pending_split : (T : Cells) (ps : List Part) (s : Part) (f g : Forest) (n : ℕ) → Pending T (ps ++ s ∷ []) f g n → (h : Forest) × (m : ℕ) × (k : ℕ) × (n ≡ m + k) × Pending T (s ∷ []) f h m × Pending T ps h g k
 pending_split T [] s f g n p = (g, n, 0, omega arith, p, (refl, refl))
 pending_split T (x ∷ ps) s f g n (w, t, h₀, k₀, awaits, edits, count, rest) =
     let r = pending_split T ps s f h₀ k₀ rest in
@@ -36,12 +42,12 @@ pending_split T (x ∷ ps) s f g n (w, t, h₀, k₀, awaits, edits, count, rest
 
 -- ---- what others wait for stays
 
-pub pending_at : (T : Cells) (ps : List Span) (f g : Forest) (n : ℕ) → Pending T ps f g n → (x : ℕ) → Among (nodes_of ps) x → (w : List ℕ) × IsAt T w x
+pub pending_at : (T : Cells) (ps : List Part) (f g : Forest) (n : ℕ) → Pending T ps f g n → (x : ℕ) → Among (nodes_of ps) x → (w : List ℕ) × IsAt T w x
 pending_at T [] f g n p x among = absurd among
 pending_at T (s ∷ ps) f g n (w, t, h₀, k₀, awaits, edits, count, rest) x (inl e) = (w, subst (IsAt T w) e awaits.at)
 pending_at T (s ∷ ps) f g n (w, t, h₀, k₀, awaits, edits, count, rest) x (inr h) = pending_at T ps f h₀ k₀ rest x h
 
-pub pending_kept : (T T' : Cells) (ps : List Span) (f g : Forest) (n : ℕ) → ((w : List ℕ) (s : ℕ) → IsAt T w s → IsAt T' w s) → ((x : ℕ) → Among (nodes_of ps) x → T.stored x ≡ AtBase 0 → T'.stored x ≡ AtBase 0)
+pub pending_kept : (T T' : Cells) (ps : List Part) (f g : Forest) (n : ℕ) → ((w : List ℕ) (s : ℕ) → IsAt T w s → IsAt T' w s) → ((x : ℕ) → Among (nodes_of ps) x → T.stored x ≡ AtBase 0 → T'.stored x ≡ AtBase 0)
     → Pending T ps f g n → Pending T' ps f g n
 pending_kept T T' [] f g n paths leaf p = p
 pending_kept T T' (s ∷ ps) f g n paths leaf (w, t, h₀, k₀, awaits, edits, count, rest) = (
@@ -99,7 +105,7 @@ module _ (T : Cells) (f : Forest) (w : List ℕ) (number : Option ℤ) (base : �
       ∙ edit_twice w (λ _. number) (λ x. x) (λ _. onto xs (child l None none rest)) (edit_at (l ∷ []) (λ _. n) (λ _. u)) f
       ∙ ap with_children (edit_onto xs l n u rest apart)
 
-  pub children_wait : (cs : List Span) (xs : List ℕ) (c : Forest) → Covers base cs c none → IsSoundBelow c → IsAscending c → AllNumbers (λ v. is_value v ≡ true) c → ((l : ℕ) → Among (labels c) l → Among xs l → ⊥)
+  pub children_wait : (cs : List Part) (xs : List ℕ) (c : Forest) → Covers base cs c none → IsSoundBelow c → IsAscending c → AllNumbers (λ v. is_value v ≡ true) c → ((l : ℕ) → Among (labels c) l → Among xs l → ⊥)
       → ((l : ℕ) → Among (labels c) l → IsAt T (w ++ l ∷ []) (bit_xor base l) × (T.stored (bit_xor base l) ≡ AtBase 0) × (bit_xor base l ≡ 0 → ⊥))
       → Pending T cs (with_children (onto xs (leaves (labels c)))) (with_children (onto xs c)) (length (prefixes_forest c))
   children_wait [] xs c covers sound ascending values apart there = by_none covers
@@ -132,13 +138,13 @@ module _ (T : Cells) (f : Forest) (w : List ℕ) (number : Option ℤ) (base : �
 
 -- ---- their slots are different
 
-covers_node : (base : ℕ) (cs : List Span) (c : Forest) → Covers base cs c none → (x : ℕ) → Among (nodes_of cs) x → (l : ℕ) × Among (labels c) l × (x ≡ bit_xor base l)
+covers_node : (base : ℕ) (cs : List Part) (c : Forest) → Covers base cs c none → (x : ℕ) → Among (nodes_of cs) x → (l : ℕ) × Among (labels c) l × (x ≡ bit_xor base l)
 covers_node base [] c covers x among = absurd among
 covers_node base (s ∷ cs) none covers x among = absurd covers
 covers_node base (s ∷ cs) (child l n u rest) covers x (inl e) = (l, inl refl, sym e ∙ covers.0)
 covers_node base (s ∷ cs) (child l n u rest) covers x (inr h) = let k = covers_node base cs rest covers.2 x h in (k.0, inr k.1, k.2)
 
-covers_distinct : (base : ℕ) (cs : List Span) (c : Forest) → Covers base cs c none → IsSoundBelow c → Distinct (nodes_of cs)
+covers_distinct : (base : ℕ) (cs : List Part) (c : Forest) → Covers base cs c none → IsSoundBelow c → Distinct (nodes_of cs)
 covers_distinct base [] c covers sound = tt
 covers_distinct base (s ∷ cs) none covers sound = absurd covers
 covers_distinct base (s ∷ cs) (child l n u rest) covers sound = (
@@ -181,23 +187,23 @@ distinct_front (x ∷ xs) y d =
     by_first (inl e) n = d.0 (subst (Among (xs ++ y ∷ [])) (sym e) (among_last xs y))
     by_first (inr h) n = n h
 
-nodes_join : (ps cs : List Span) → nodes_of (ps ++ cs) ≡ nodes_of ps ++ nodes_of cs
+nodes_join : (ps cs : List Part) → nodes_of (ps ++ cs) ≡ nodes_of ps ++ nodes_of cs
 nodes_join [] cs = refl
 nodes_join (p ∷ ps) cs = ap (λ xs. p.node ∷ xs) (nodes_join ps cs)
 
 -- the last one's slot is none of the others'
-pub last_apart : (ps : List Span) (s : Span) → Distinct (nodes_of (ps ++ s ∷ [])) → Among (nodes_of ps) s.node → ⊥
+pub last_apart : (ps : List Part) (s : Part) → Distinct (nodes_of (ps ++ s ∷ [])) → Among (nodes_of ps) s.node → ⊥
 last_apart ps s d = (distinct_front (nodes_of ps) s.node (subst Distinct (nodes_join ps (s ∷ [])) d)).1
 
 -- the slots that were free before are new ones
-pub distinct_on : (T : Cells) (ps : List Span) (s : Span) (base : ℕ) (cs : List Span) (c : Forest) → Distinct (nodes_of (ps ++ s ∷ [])) → Covers base cs c none → IsSoundBelow c → ((x : ℕ) → Among (nodes_of ps) x → Held T x) → ((l : ℕ) → Among (labels c) l → Held T (bit_xor base l) → ⊥)
+pub distinct_on : (T : Cells) (ps : List Part) (s : Part) (base : ℕ) (cs : List Part) (c : Forest) → Distinct (nodes_of (ps ++ s ∷ [])) → Covers base cs c none → IsSoundBelow c → ((x : ℕ) → Among (nodes_of ps) x → Held T x) → ((l : ℕ) → Among (labels c) l → Held T (bit_xor base l) → ⊥)
     → Distinct (nodes_of (ps ++ cs))
 distinct_on T ps s base cs c d covers sound held fresh =
     subst Distinct (sym (nodes_join ps cs))
     (distinct_join (nodes_of ps) (nodes_of cs) (distinct_front (nodes_of ps) s.node (subst Distinct (nodes_join ps (s ∷ [])) d)).0 (covers_distinct base cs c covers sound)
     (λ x old new. let k = covers_node base cs c covers x new in fresh k.0 k.1 (subst (Held T) k.2 (held x old))))
 
-pub distinct_first : (base : ℕ) (cs : List Span) (c : Forest) → Covers base cs c none → IsSoundBelow c → Distinct (nodes_of cs)
+pub distinct_first : (base : ℕ) (cs : List Part) (c : Forest) → Covers base cs c none → IsSoundBelow c → Distinct (nodes_of cs)
 distinct_first base cs c covers sound = covers_distinct base cs c covers sound
 
 -- ---- less is left to do
@@ -210,24 +216,24 @@ bytes_under : (l : ℕ) (es : List Entry) → bytes_in (map (under l) es) ≡ by
 bytes_under l [] = omega arith
 bytes_under l (e ∷ es) = omega (arith, bytes_under l es)
 
-pub work_join : (ps cs : List Span) → work (ps ++ cs) ≡ work ps + work cs
+pub work_join : (ps cs : List Part) → work (ps ++ cs) ≡ work ps + work cs
 work_join [] cs = omega arith
 work_join (p ∷ ps) cs = omega (arith, work_join ps cs)
 
-covers_work : (base : ℕ) (cs : List Span) (c : Forest) → Covers base cs c none → work cs + length (walk_forest c) ≤ bytes_in (walk_forest c)
+covers_work : (base : ℕ) (cs : List Part) (c : Forest) → Covers base cs c none → work cs + length (walk_forest c) ≤ bytes_in (walk_forest c)
 covers_work base [] c covers = let nothing : walk_forest c ≡ [] = ap walk_forest covers in let none_there : length (walk_forest c) ≡ 0 = ap length nothing in omega (arith, none_there)
 covers_work base (s ∷ cs) none covers = absurd covers
 covers_work base (s ∷ cs) (child l n u rest) covers =
     let es : List Entry = own_entry n ++ walk_forest u in
-    let here : bytes_in es ≡ bytes_in (stripped s.depth s.pairs.now) = ap bytes_in covers.1 in
+    let here : bytes_in es ≡ bytes_in (stripped s.depth s.entries) = ap bytes_in covers.1 in
     let more = covers_work base cs rest covers.2 in
     let mapped : length (map (under l) es) ≡ length es = length-map es (under l) in
     omega (arith, here, more, mapped, bytes_join (map (under l) es) (walk_forest rest), bytes_under l es, length-append (map (under l) es) (walk_forest rest))
 
 -- a node's children have less to do than the node
-pub less_work : (base : ℕ) (ps cs : List Span) (s : Span) (t : Tree) → Covers base cs t.children none → IsTreeOfSpan s.depth s.pairs.now t → work (ps ++ cs) < work (ps ++ s ∷ [])
+pub less_work : (base : ℕ) (ps cs : List Part) (s : Part) (t : Tree) → Covers base cs t.children none → IsTreeOfSpan s.depth s.entries t → work (ps ++ cs) < work (ps ++ s ∷ [])
 less_work base ps cs s t covers tree =
-    let entries : bytes_in (walk t) ≡ bytes_in (stripped s.depth s.pairs.now) = ap bytes_in tree.walks in
+    let entries : bytes_in (walk t) ≡ bytes_in (stripped s.depth s.entries) = ap bytes_in tree.walks in
     let below = covers_work base cs t.children covers in
     let parts = bytes_join (own_entry t.number) (walk_forest t.children) in
     let more : work cs < bytes_in (walk t) = by_number t.number t.children (walk_some t.number t.children tree.some tree.sound) below in

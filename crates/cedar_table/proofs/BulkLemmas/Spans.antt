@@ -1,21 +1,20 @@
 -- What sorted pairs say of a node: its number, its labels, and the pairs of each child.
 use Rattle.std.proofs.Common.{◌≡◌, ℕ, zero, suc, ◌+◌, ◌<◌, ◌≤◌, ◌∙◌, sym, ap, subst, refl, inl, inr, arith, Bool, true, false, cond, ◌==◌, Option, Some, None, List, [], ◌∷◌, ◌++◌, map, length, take, drop, get_or, append_assoc, length-append, length-drop, ◌-◌}
-use Rattle.std.proofs.lemmas.List.{take_all}
+use Rattle.std.proofs.lemmas.List.{drop-map, length-map, take_all}
 use Rattle.std.specs.Prelude.{ℤ, nat_lt, is_some, bit_xor}
 use mir.Val.{bool_byte}
 use Rattle.std.proofs.lemmas.Bool.{or_parts, true≢false}
 use Rattle.std.proofs.lemmas.Bool.Decides.{eqb_tells, nat_tests}
 use Rattle.cedar_tree.specs.Tree.{AllAbove, Forest, none, child, Tree, has_label, is_bare, IsAscending, IsSoundBelow}
 use Rattle.cedar_tree.specs.Queries.{Entry, own_entry, under, walk, walk_forest}
-use Rattle.cedar_table.specs.declared.bulk.spans.Span.{Span}
 use Rattle.cedar_table.specs.Meaning.StandsFor.{labels}
-use Rattle.cedar_table.specs.Bulk.Sorted.{label_of, Pair, run, with_number}
-use Rattle.cedar_table.specs.Bulk.Spans.{Covers, first_label, first_number, IsDeeper, IsTreeOfSpan, Lists, stripped}
+use Rattle.cedar_table.specs.Bulk.Sorted.{entries_by, label_of, run, with_number}
+use Rattle.cedar_table.specs.Bulk.Spans.{Covers, first_label, first_number, IsDeeper, IsTreeOfSpan, Lists, Part, stripped}
 use Rattle.cedar_table.specs.Edit.NodeEdits.{Above}
 
 -- ---- a key's bytes
 
-drop_label : (d : ℕ) (key : List ℕ) (l : ℕ) (q : List ℕ) → drop d key ≡ l ∷ q → (get_or key d 0 ≡ l) × (drop (suc d) key ≡ q) × (d < length key)
+pub drop_label : (d : ℕ) (key : List ℕ) (l : ℕ) (q : List ℕ) → drop d key ≡ l ∷ q → (get_or key d 0 ≡ l) × (drop (suc d) key ≡ q) × (d < length key)
 drop_label zero [] l q e = cc
 drop_label zero (b ∷ key) l q e = let first : b ≡ l = cc in let rest : key ≡ q = cc in (first, rest, omega arith)
 drop_label (suc d) [] l q e = cc
@@ -72,36 +71,36 @@ some_none x xs e = cc
 
 -- the pairs of the first child are those with its label
 module _ (d l : ℕ) (rest : List Entry) (no : NotFirst l rest) where
-  label_other : (p : Pair) (ps : List Pair) → rest ≡ stripped d (p ∷ ps) → label_of d p ≡ l → ⊥
-  label_other p ps e same = by_path (drop d p.0.now) refl (subst (NotFirst l) e no)
+  label_other : (p : Entry) (ps : List Entry) → rest ≡ stripped d (p ∷ ps) → label_of d p ≡ l → ⊥
+  label_other p ps e same = by_path (drop d p.0) refl (subst (NotFirst l) e no)
     where
-      by_path : (path : List ℕ) → drop d p.0.now ≡ path → NotFirst l ((path, p.1) ∷ stripped d ps) → ⊥
+      by_path : (path : List ℕ) → drop d p.0 ≡ path → NotFirst l ((path, p.1) ∷ stripped d ps) → ⊥
       by_path [] is n = n
-      by_path (m ∷ q) is n = n (sym (drop_label d p.0.now m q is).0 ∙ same)
+      by_path (m ∷ q) is n = n (sym (drop_label d p.0 m q is).0 ∙ same)
 
-  run_other : (p : Pair) (ps : List Pair) → (label_of d p ≡ l → ⊥) → run d l (p ∷ ps) ≡ 0
+  pub run_other : (p : Entry) (ps : List Entry) → (label_of d p ≡ l → ⊥) → run d l (p ∷ ps) ≡ 0
   run_other p ps n = elim (eqb_tells (label_of d p) l) [
     | inl t ↦ absurd (n t.1)
     | inr t ↦ ap (λ b. cond b (1 + run d l ps) 0) t.0
   ]
 
-  run_same : (p : Pair) (ps : List Pair) → label_of d p ≡ l → run d l (p ∷ ps) ≡ 1 + run d l ps
+  pub run_same : (p : Entry) (ps : List Entry) → label_of d p ≡ l → run d l (p ∷ ps) ≡ 1 + run d l ps
   run_same p ps e = elim (eqb_tells (label_of d p) l) [
     | inl t ↦ ap (λ b. cond b (1 + run d l ps) 0) t.0
     | inr t ↦ absurd (t.1 e)
   ]
 
-  run_split : (es : List Entry) (ps : List Pair) → map (under l) es ++ rest ≡ stripped d ps
+  run_split : (es : List Entry) (ps : List Entry) → map (under l) es ++ rest ≡ stripped d ps
       → (run d l ps ≡ length es) × (stripped (suc d) (take (length es) ps) ≡ es) × (stripped d (drop (length es) ps) ≡ rest) × (length es ≤ length ps)
   run_split [] [] e = (refl, refl, sym e, omega arith)
   run_split [] (p ∷ ps) e = (run_other p ps (label_other p ps e), refl, sym e, omega arith)
   run_split (w ∷ es) [] e = absurd (some_none (under l w) (map (under l) es ++ rest) e)
   run_split (w ∷ es) (p ∷ ps) e =
-      let path : drop d p.0.now ≡ l ∷ w.0 = sym (ap first_path e) in
+      let path : drop d p.0 ≡ l ∷ w.0 = sym (ap first_path e) in
       let value : p.1 ≡ w.1 = sym (ap (first_value p.1) e) in
-      let key = drop_label d p.0.now l w.0 path in
+      let key = drop_label d p.0 l w.0 path in
       let more = run_split es ps (ap later e) in
-      let entry : ◌≡◌ {A = Entry} (drop (suc d) p.0.now, p.1) w = ap (λ q. (q, p.1)) key.1 ∙ ap (λ v. (w.0, v)) value in (
+      let entry : ◌≡◌ {A = Entry} (drop (suc d) p.0, p.1) w = ap (λ q. (q, p.1)) key.1 ∙ ap (λ v. (w.0, v)) value in (
         omega (arith, run_same p ps key.0, more.0),
         ap (λ x. x ∷ stripped (suc d) (take (length es) ps)) entry ∙ ap (λ xs. w ∷ xs) more.1,
         more.2,
@@ -111,21 +110,21 @@ module _ (d l : ℕ) (rest : List Entry) (no : NotFirst l rest) where
 -- ---- what a node's pairs say
 
 -- its number
-pub number_first : (d : ℕ) (n : Option ℤ) (f : Forest) (p : Pair) (ps : List Pair) → own_entry n ++ walk_forest f ≡ stripped d (p ∷ ps) → IsSoundBelow f
+pub number_first : (d : ℕ) (n : Option ℤ) (f : Forest) (p : Entry) (ps : List Entry) → own_entry n ++ walk_forest f ≡ stripped d (p ∷ ps) → IsSoundBelow f
     → (first_number d (p ∷ ps) ≡ n) × (walk_forest f ≡ stripped d (drop (cond (is_some n) 1 0) (p ∷ ps)))
 number_first d (Some v) f p ps e s =
-    let path : drop d p.0.now ≡ [] = sym (ap first_path e) in
+    let path : drop d p.0 ≡ [] = sym (ap first_path e) in
     let value : p.1 ≡ v = sym (ap (first_value p.1) e) in
-    let short : length p.0.now ≤ d = drop_none d p.0.now path in
-    let test : nat_lt d (length p.0.now) ≡ false = grind (arith, nat_tests) in
+    let short : length p.0 ≤ d = drop_none d p.0 path in
+    let test : nat_lt d (length p.0) ≡ false = grind (arith, nat_tests) in
     (ap (λ b. cond b None (Some p.1)) test ∙ ap Some value, ap later e)
-number_first d None none p ps e s = absurd (some_none (drop d p.0.now, p.1) (stripped d ps) (sym e))
+number_first d None none p ps e s = absurd (some_none (drop d p.0, p.1) (stripped d ps) (sym e))
 number_first d None (child l n u rest) p ps e s =
     let k = walk_some n u s.3 s.4 in
     let begins : under l k.0 ∷ (map (under l) k.1 ++ walk_forest rest) ≡ stripped d (p ∷ ps) = sym (ap (λ es. map (under l) es ++ walk_forest rest) k.2) ∙ e in
-    let path : drop d p.0.now ≡ l ∷ k.0.0 = sym (ap first_path begins) in
-    let long : d < length p.0.now = (drop_label d p.0.now l k.0.0 path).2 in
-    let test : nat_lt d (length p.0.now) ≡ true = grind (arith, nat_tests) in
+    let path : drop d p.0 ≡ l ∷ k.0.0 = sym (ap first_path begins) in
+    let long : d < length p.0 = (drop_label d p.0 l k.0.0 path).2 in
+    let test : nat_lt d (length p.0) ≡ true = grind (arith, nat_tests) in
     (ap (λ b. cond b None (Some p.1)) test, e)
 
 -- no pair, no child
@@ -136,26 +135,26 @@ lists_none d (child l n u rest) k =
     absurd (some_none (under l w.0) (map (under l) w.1 ++ walk_forest rest) (sym (ap (λ es. map (under l) es ++ walk_forest rest) w.2) ∙ k.walks))
 
 -- its first child
-pub record First (d : ℕ) (p : Pair) (ps : List Pair) (f : Forest) : Type 0 where
+pub record First (d : ℕ) (p : Entry) (ps : List Entry) (f : Forest) : Type 0 where
   pub label : ℕ
   pub number : Option ℤ
   pub below : Forest
   pub rest : Forest
   pub is : f ≡ child label number below rest
   pub same_label : label_of d p ≡ label
-  pub long : d < length p.0.now
+  pub long : d < length p.0
   pub some : 0 < run d label (p ∷ ps)
   pub few : run d label (p ∷ ps) ≤ length (p ∷ ps)
   pub walks : walk (record { number = number; children = below }) ≡ stripped (suc d) (take (run d label (p ∷ ps)) (p ∷ ps))
   pub others : Lists d (drop (run d label (p ∷ ps)) (p ∷ ps)) rest
 
-pub first_of : (d : ℕ) (p : Pair) (ps : List Pair) (f : Forest) → Lists d (p ∷ ps) f → First d p ps f
-first_of d p ps none k = absurd (some_none (drop d p.0.now, p.1) (stripped d ps) (sym k.walks))
+pub first_of : (d : ℕ) (p : Entry) (ps : List Entry) (f : Forest) → Lists d (p ∷ ps) f → First d p ps f
+first_of d p ps none k = absurd (some_none (drop d p.0, p.1) (stripped d ps) (sym k.walks))
 first_of d p ps (child l n u rest) k =
     let w = walk_some n u k.sound.3 k.sound.4 in
     let es : List Entry = own_entry n ++ walk_forest u in
     let begins : under l w.0 ∷ (map (under l) w.1 ++ walk_forest rest) ≡ stripped d (p ∷ ps) = sym (ap (λ xs. map (under l) xs ++ walk_forest rest) w.2) ∙ k.walks in
-    let path : drop d p.0.now ≡ l ∷ w.0.0 = sym (ap first_path begins) in
+    let path : drop d p.0 ≡ l ∷ w.0.0 = sym (ap first_path begins) in
     let split = run_split d l (walk_forest rest) (not_first l rest k.sound.2 k.sound.5) es (p ∷ ps) k.walks in
     let count : run d l (p ∷ ps) ≡ length es = split.0 in
     let long : length es ≡ suc (length w.1) = ap length w.2 in
@@ -165,8 +164,8 @@ first_of d p ps (child l n u rest) k =
       below = u;
       rest = rest;
       is = refl;
-      same_label = (drop_label d p.0.now l w.0.0 path).0;
-      long = (drop_label d p.0.now l w.0.0 path).2;
+      same_label = (drop_label d p.0 l w.0.0 path).0;
+      long = (drop_label d p.0 l w.0.0 path).2;
       some = omega (arith, count, long);
       few = omega (arith, count, split.3);
       walks = sym (ap (λ m. stripped (suc d) (take m (p ∷ ps))) count ∙ split.1);
@@ -176,7 +175,7 @@ first_of d p ps (child l n u rest) k =
 -- ---- a scan for the labels
 
 -- the labels that were found and those of the children that are left are all; each of these is above low
-pub record Scan (d : ℕ) (ps : List Pair) (f : Forest) (number : Option ℤ) (found : List ℕ) : Type 0 where
+pub record Scan (d : ℕ) (ps : List Entry) (f : Forest) (number : Option ℤ) (found : List ℕ) : Type 0 where
   pub todo : Forest
   pub lists : Lists d ps todo
   pub low : ℕ
@@ -188,7 +187,7 @@ pub all_positive : (f : Forest) → IsSoundBelow f → AllAbove 0 f
 all_positive none s = tt
 all_positive (child l n u rest) s = (s.0, all_positive rest s.5)
 
-pub scan_begins : (d : ℕ) (ps : List Pair) (f : Forest) (number : Option ℤ) (found : List ℕ) → found ≡ with_number number [] → Lists d ps f → Scan d ps f number found
+pub scan_begins : (d : ℕ) (ps : List Entry) (f : Forest) (number : Option ℤ) (found : List ℕ) → found ≡ with_number number [] → Lists d ps f → Scan d ps f number found
 scan_begins d ps f number found e k = record {
   todo = f;
   lists = k;
@@ -206,7 +205,7 @@ scan_begins d ps f number found e k = record {
     all None = refl
     all (Some v) = refl
 
-module _ (d : ℕ) (p : Pair) (ps : List Pair) (f : Forest) (number : Option ℤ) (found : List ℕ) (k : Scan d (p ∷ ps) f number found) where
+module _ (d : ℕ) (p : Entry) (ps : List Entry) (f : Forest) (number : Option ℤ) (found : List ℕ) (k : Scan d (p ∷ ps) f number found) where
   next : First d p ps k.todo
   next = first_of d p ps k.todo k.lists
 
@@ -241,28 +240,28 @@ scan_ends d f number found k = sym (append_nothing found) ∙ ap (λ g. found ++
 
 -- ---- a scan for the spans
 
-pub record Pushed (d : ℕ) (ps : List Pair) (f : Forest) (base : ℕ) (old new : List Span) : Type 0 where
+pub record Pushed (d : ℕ) (ps : List Entry) (f : Forest) (base : ℕ) (old new : List Part) : Type 0 where
   pub todo : Forest
   pub lists : Lists d ps todo
-  pub spans : List Span
+  pub spans : List Part
   pub whole : new ≡ old ++ spans
   pub covers : Covers base spans f todo
 
-append_none : (xs : List Span) → xs ++ [] ≡ xs
+append_none : (xs : List Part) → xs ++ [] ≡ xs
 append_none [] = refl
 append_none (x ∷ xs) = ap (λ ys. x ∷ ys) (append_none xs)
 
-pub push_begins : (d : ℕ) (ps : List Pair) (f : Forest) (base : ℕ) (old : List Span) → Lists d ps f → Pushed d ps f base old old
+pub push_begins : (d : ℕ) (ps : List Entry) (f : Forest) (base : ℕ) (old : List Part) → Lists d ps f → Pushed d ps f base old old
 push_begins d ps f base old k = record { todo = f; lists = k; spans = []; whole = sym (append_none old); covers = refl }
 
-covers_more : (base : ℕ) (spans : List Span) (f : Forest) (l : ℕ) (n : Option ℤ) (u rest : Forest) (s : Span) → Covers base spans f (child l n u rest) → s.node ≡ bit_xor base l → walk (record { number = n; children = u }) ≡ stripped s.depth s.pairs.now
+covers_more : (base : ℕ) (spans : List Part) (f : Forest) (l : ℕ) (n : Option ℤ) (u rest : Forest) (s : Part) → Covers base spans f (child l n u rest) → s.node ≡ bit_xor base l → walk (record { number = n; children = u }) ≡ stripped s.depth s.entries
     → Covers base (spans ++ s ∷ []) f rest
 covers_more base [] f l n u rest s c node walks = subst (λ g. Covers base (s ∷ []) g rest) (sym c) (node, walks, refl)
 covers_more base (x ∷ spans) none l n u rest s c node walks = absurd c
 covers_more base (x ∷ spans) (child m k v more) l n u rest s c node walks = (c.0, c.1, covers_more base spans more l n u rest s c.2 node walks)
 
-pub push_on : (d : ℕ) (p : Pair) (ps : List Pair) (f : Forest) (base : ℕ) (old new new' : List Span) (s : Span) → Pushed d (p ∷ ps) f base old new → new' ≡ new ++ s ∷ []
-    → s.node ≡ bit_xor base (label_of d p) → s.depth ≡ suc d → s.pairs.now ≡ take (run d (label_of d p) (p ∷ ps)) (p ∷ ps) → Pushed d (drop (run d (label_of d p) (p ∷ ps)) (p ∷ ps)) f base old new'
+pub push_on : (d : ℕ) (p : Entry) (ps : List Entry) (f : Forest) (base : ℕ) (old new new' : List Part) (s : Part) → Pushed d (p ∷ ps) f base old new → new' ≡ new ++ s ∷ []
+    → s.node ≡ bit_xor base (label_of d p) → s.depth ≡ suc d → s.entries ≡ take (run d (label_of d p) (p ∷ ps)) (p ∷ ps) → Pushed d (drop (run d (label_of d p) (p ∷ ps)) (p ∷ ps)) f base old new'
 push_on d p ps f base old new new' s k more node depth pairs =
     let next = first_of d p ps k.todo k.lists in
     let label = next.same_label in
@@ -275,31 +274,45 @@ push_on d p ps f base old new new' s k more node depth pairs =
           (next.walks ∙ ap (λ l. stripped (suc d) (take (run d l (p ∷ ps)) (p ∷ ps))) (sym label) ∙ sym (ap (λ m. stripped m (take (run d (label_of d p) (p ∷ ps)) (p ∷ ps))) depth) ∙ ap (stripped s.depth) (sym pairs));
     }
 
-pub push_ends : (d : ℕ) (f : Forest) (base : ℕ) (old new : List Span) → Pushed d [] f base old new → (spans : List Span) × (new ≡ old ++ spans) × Covers base spans f none
+pub push_ends : (d : ℕ) (f : Forest) (base : ℕ) (old new : List Part) → Pushed d [] f base old new → (spans : List Part) × (new ≡ old ++ spans) × Covers base spans f none
 push_ends d f base old new k = (k.spans, k.whole, subst (Covers base k.spans f) (lists_none d k.todo k.lists) k.covers)
 
--- ---- the rest of some pairs, from an index on
+-- ---- pairs as entries
 
--- a part up to the end
-pub part_is : (ps : List Pair) (i : ℕ) → take (length ps - i) (drop i ps) ≡ drop i ps
-part_is ps i = take_all (length ps - i) (drop i ps) (omega (arith, length-drop i ps))
+module _ {K : Type 0} (bytes : K → List ℕ) where
+  pub as_many : (pairs : List (K × ℤ)) → length (entries_by bytes pairs) ≡ length pairs
+  as_many pairs = length-map pairs (λ (q : K × ℤ). (bytes q.0, q.1))
 
-pub part_some : (ps : List Pair) (i : ℕ) → i < length ps → 0 < length (drop i ps)
-part_some ps i h = omega (arith, length-drop i ps)
+  -- those behind the first ones
+  pub back_is : (n : ℕ) (pairs : List (K × ℤ)) → entries_by bytes (drop n pairs) ≡ drop n (entries_by bytes pairs)
+  back_is n pairs = sym (drop-map (λ (q : K × ℤ). (bytes q.0, q.1)) n pairs)
 
-pub part_none : (ps : List Pair) (i : ℕ) → length ps ≤ i → drop i ps ≡ []
-part_none ps i h = empty (drop i ps) (omega (arith, length-drop i ps))
-  where
-    empty : (xs : List Pair) → length xs ≡ 0 → xs ≡ []
-    empty [] e = refl
-    empty (x ∷ xs) e = absurd (omega (arith, e))
+  -- the first ones
+  pub front_is : (n : ℕ) (pairs : List (K × ℤ)) → entries_by bytes (take n pairs) ≡ take n (entries_by bytes pairs)
+  front_is zero pairs = refl
+  front_is (suc n) [] = refl
+  front_is (suc n) (p ∷ ps) = ap (λ (es : List Entry). (bytes p.0, p.1) ∷ es) (front_is n ps)
+
+  -- a part up to the end
+  pub part_is : (pairs : List (K × ℤ)) (i : ℕ) → entries_by bytes (take (length pairs - i) (drop i pairs)) ≡ drop i (entries_by bytes pairs)
+  part_is pairs i = ap (entries_by bytes) (take_all (length pairs - i) (drop i pairs) (omega (arith, length-drop i pairs))) ∙ back_is i pairs
+
+  pub part_some : (pairs : List (K × ℤ)) (i : ℕ) → i < length pairs → 0 < length (drop i (entries_by bytes pairs))
+  part_some pairs i h = omega (arith, length-drop i (entries_by bytes pairs), as_many pairs)
+
+  pub part_none : (pairs : List (K × ℤ)) (i : ℕ) → length pairs ≤ i → drop i (entries_by bytes pairs) ≡ []
+  part_none pairs i h = empty (drop i (entries_by bytes pairs)) (omega (arith, length-drop i (entries_by bytes pairs), as_many pairs))
+    where
+      empty : (xs : List Entry) → length xs ≡ 0 → xs ≡ []
+      empty [] e = refl
+      empty (x ∷ xs) e = absurd (omega (arith, e))
 
 module _ (d : ℕ) (f : Forest) where
-  pub scan_room_at : (number : Option ℤ) (found : List ℕ) (rest : List Pair) → 0 < length rest → Scan d rest f number found → length found < 256
+  pub scan_room_at : (number : Option ℤ) (found : List ℕ) (rest : List Entry) → 0 < length rest → Scan d rest f number found → length found < 256
   scan_room_at number found [] some k = absurd (omega (arith, some))
   scan_room_at number found (p ∷ ps) some k = scan_room d p ps f number found k
 
-  pub scan_on_at : (number : Option ℤ) (found found' : List ℕ) (rest : List Pair) (l count : ℕ) → 0 < length rest → Scan d rest f number found → l ≡ first_label d rest → count ≡ run d l rest → found' ≡ found ++ l ∷ [] → (0 < count) × Scan d (drop count rest) f number found'
+  pub scan_on_at : (number : Option ℤ) (found found' : List ℕ) (rest : List Entry) (l count : ℕ) → 0 < length rest → Scan d rest f number found → l ≡ first_label d rest → count ≡ run d l rest → found' ≡ found ++ l ∷ [] → (0 < count) × Scan d (drop count rest) f number found'
   scan_on_at number found found' [] l count some k label is more = absurd (omega (arith, some))
   scan_on_at number found found' (p ∷ ps) l count some k label is more =
       let same : count ≡ run d (label_of d p) (p ∷ ps) = is ∙ ap (λ x. run d x (p ∷ ps)) label in (
@@ -308,12 +321,12 @@ module _ (d : ℕ) (f : Forest) where
             (subst (Scan d (drop (run d (label_of d p) (p ∷ ps)) (p ∷ ps)) f number) (ap (λ x. found ++ x ∷ []) (sym label) ∙ sym more) (scan_on d p ps f number found k)),
       )
 
-  pub deeper_at : (base : ℕ) (old new : List Span) (rest : List Pair) → 0 < length rest → Pushed d rest f base old new → IsDeeper d rest
+  pub deeper_at : (base : ℕ) (old new : List Part) (rest : List Entry) → 0 < length rest → Pushed d rest f base old new → IsDeeper d rest
   deeper_at base old new [] some k = absurd (omega (arith, some))
   deeper_at base old new (p ∷ ps) some k = (first_of d p ps k.todo k.lists).long
 
-  pub push_on_at : (base : ℕ) (old new new' : List Span) (rest : List Pair) (s : Span) (l count : ℕ) → 0 < length rest → Pushed d rest f base old new → l ≡ first_label d rest → count ≡ run d l rest → new' ≡ new ++ s ∷ []
-      → s.node ≡ bit_xor base l → s.depth ≡ suc d → s.pairs.now ≡ take count rest → (0 < count) × Pushed d (drop count rest) f base old new'
+  pub push_on_at : (base : ℕ) (old new new' : List Part) (rest : List Entry) (s : Part) (l count : ℕ) → 0 < length rest → Pushed d rest f base old new → l ≡ first_label d rest → count ≡ run d l rest → new' ≡ new ++ s ∷ []
+      → s.node ≡ bit_xor base l → s.depth ≡ suc d → s.entries ≡ take count rest → (0 < count) × Pushed d (drop count rest) f base old new'
   push_on_at base old new new' [] s l count some k label is more node depth pairs = absurd (omega (arith, some))
   push_on_at base old new new' (p ∷ ps) s l count some k label is more node depth pairs =
       let same : count ≡ run d (label_of d p) (p ∷ ps) = is ∙ ap (λ x. run d x (p ∷ ps)) label in
@@ -325,7 +338,7 @@ module _ (d : ℕ) (f : Forest) where
 
 -- ---- a span's tree
 
-pub record Below (d : ℕ) (ps : List Pair) (t : Tree) (number : Option ℤ) (skipped : ℕ) : Type 0 where
+pub record Below (d : ℕ) (ps : List Entry) (t : Tree) (number : Option ℤ) (skipped : ℕ) : Type 0 where
   pub number_is : number ≡ t.number
   pub few : skipped ≤ length ps
   pub lists : Lists d (drop skipped ps) t.children
@@ -344,7 +357,7 @@ few_labels : (low : ℕ) (f : Forest) → AllAbove low f → IsAscending f → I
 few_labels low none a s b small = omega (arith, small)
 few_labels low (child l n u rest) a s b small = omega (arith, a.0, few_labels l rest s.0 s.2 b.5 b.1)
 
-pub below_is : (d : ℕ) (ps : List Pair) (t : Tree) (number : Option ℤ) (skipped : ℕ) → IsTreeOfSpan d ps t → number ≡ first_number d ps → skipped ≡ cond (is_some number) 1 0 → Below d ps t number skipped
+pub below_is : (d : ℕ) (ps : List Entry) (t : Tree) (number : Option ℤ) (skipped : ℕ) → IsTreeOfSpan d ps t → number ≡ first_number d ps → skipped ≡ cond (is_some number) 1 0 → Below d ps t number skipped
 below_is d [] t number skipped k is count =
     let w = walk_some t.number t.children k.some k.sound in
     absurd (some_none w.0 w.1 (sym w.2 ∙ k.walks))

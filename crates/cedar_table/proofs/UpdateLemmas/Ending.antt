@@ -1,6 +1,6 @@
 -- How an update ends: with the number put, or with the tree as it was.
-use Rattle.std.proofs.Common.{◌≡◌, ℕ, ◌<◌, ◌≤◌, ◌+◌, ◌*◌, ◌^◌, Bool, true, false, cond, List, [], ◌∷◌, length, sym, ◌∙◌, ap, refl, subst, inl, inr, arith, length-append, None, Some, ◌⊎◌}
-use Rattle.std.specs.Prelude.{ℤ, pos, negsuc, is_some}
+use Rattle.std.proofs.Common.{◌≡◌, ℕ, ◌<◌, ◌≤◌, ◌+◌, ◌*◌, ◌^◌, Bool, true, false, cond, List, [], ◌∷◌, length, sym, ◌∙◌, ap, refl, subst, inl, inr, arith, length-append, None, Option, Some, ◌⊎◌}
+use Rattle.std.specs.Prelude.{ℤ, pos, negsuc, is_some, not}
 use Rattle.std.specs.List.{count_by, range_with_len}
 use Rattle.std.proofs.lemmas.List.FromFn.{length-range_with_len}
 use Rattle.std.proofs.lemmas.List.Sums.{count_by-le-length}
@@ -212,9 +212,9 @@ module _ (slots : ℕ) (before mid : Fields) (key : List ℕ) (a : ℕ) (well : 
   number_is : number_at (tree_of before) key ≡ (node_at (root_of k.forest) key).number
   number_is = sym k.number ∙ number_of_node (root_of k.forest) key
 
-  -- a test of the node tells whether the key has a number
-  pub told : (b : Bool) → ((f : Forest) (w : List ℕ) → HoldsTree (size_of mid) (cells_in mid) f → IsAt (cells_in mid) w a → b ≡ is_some (node_at (root_of f) w).number) → b ≡ is_some (number_at (tree_of before) key)
-  told b tells = tells k.forest key k.holds k.at ∙ sym (ap is_some number_is)
+  -- the number of the node is the one that the key had
+  pub number_before : (n : Option ℤ) → ((f : Forest) (w : List ℕ) → HoldsTree (size_of mid) (cells_in mid) f → IsAt (cells_in mid) w a → n ≡ (node_at (root_of f) w).number) → n ≡ number_at (tree_of before) key
+  number_before n tells = tells k.forest key k.holds k.at ∙ sym number_is
 
   -- where the number of the key stands
   stands_at : is_some (number_at (tree_of before) key) ≡ true → ((cells_in mid).check (below (cells_in mid) a 0) ≡ pos a) ⊎ ((v : ℤ) × ((cells_in mid).stored a ≡ OwnNumber v))
@@ -292,15 +292,15 @@ module _ (slots : ℕ) (before mid : Fields) (key : List ℕ) (a : ℕ) (well : 
 -- ---- the count of entries
 
 -- a number where there was none counts
-pub one_more : (n : ℕ) (owned had : Bool) → owned ≡ had → owned ≡ false → n + 1 ≡ n + cond had 0 1
-one_more n true had same new = absurd (true≢false new)
-one_more n false true same new = absurd (false≢true same)
-one_more n false false same new = refl
+pub one_more : (n : ℕ) (had new : Bool) → had ≡ not new → new ≡ true → n + 1 ≡ n + cond had 0 1
+one_more n true true is new = absurd (true≢false is)
+one_more n false true is new = refl
+one_more n had false is new = absurd (false≢true new)
 
-pub no_more : (n : ℕ) (owned had : Bool) → owned ≡ had → owned ≡ true → n ≡ n + cond had 0 1
-no_more n true true same old = omega arith
-no_more n true false same old = absurd (true≢false same)
-no_more n false had same old = absurd (false≢true old)
+pub no_more : (n : ℕ) (had new : Bool) → had ≡ not new → new ≡ false → n ≡ n + cond had 0 1
+no_more n true false is old = omega arith
+no_more n false false is old = absurd (false≢true is)
+no_more n had true is old = absurd (true≢false old)
 
 pub entries_fit : (slots : ℕ) (T : Fields) → IsWellFormed slots T → T.entries < 2 ^ 30
 unfolding tree_read

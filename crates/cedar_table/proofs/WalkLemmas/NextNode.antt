@@ -127,6 +127,16 @@ module _ (slots : ℕ) (T : Fields) (k : IsWellFormed slots T) where
       links_first (cells_in T) 0 ((cells_in T).sibling 0) (tree_of T).children k.stands.stands.0.begins.2
       ∙ ap (λ v. first_of (node_at (tree_of T) v).children) (sym (at_root (cells_in T) k.stands.root w at))
 
+  -- a label that the node itself names is its first
+  pub named_first : (w : List ℕ) (s : ℕ) → IsAt (cells_in T) w s → ((cells_in T).child s ≡ 0 → ⊥) → (cells_in T).child s ≡ first_of (node_at (tree_of T) w).children
+  named_first w s at n = let st = node_stands w s at in by_head st.head (node_at (tree_of T) w).children st.family.begins
+    where
+      by_head : (h : Head) (f : Forest) → Begins (cells_in T) s h (labels f) → (cells_in T).child s ≡ first_of f
+      by_head plain f b = links_first (cells_in T) s ((cells_in T).child s) f b
+      by_head (valued v) f b = absurd (n b.0)
+      by_head (own v) f b = absurd (n b.0)
+      by_head top f b = absurd (n b.1)
+
   -- the slot of a child
   pub child_owned : (w : List ℕ) (s l : ℕ) → IsAt (cells_in T) w s → has_label (node_at (tree_of T) w).children l ≡ true → (cells_in T).check (below (cells_in T) s l) ≡ pos s
   child_owned w s l at has = let st = node_stands w s at in labels_own (cells_in T) s st.head (labels (node_at (tree_of T) w).children) st.family.begins l (among_has (node_at (tree_of T) w).children l has)

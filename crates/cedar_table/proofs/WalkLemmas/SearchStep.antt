@@ -182,3 +182,13 @@ module _ (size : ℕ) (T : Cells) (s : ℕ) (t : Tree) (k : Stands size T s t) w
 
   pub never_nothing : T.stored s ≡ Nothing → ⊥
   never_nothing e = says_something size T s k.head (labels t.children) k.family e
+
+  -- a node that names a first label has no number
+  pub number_named : (T.child s ≡ 0 → ⊥) → t.number ≡ None
+  number_named n = sym k.number ∙ by_head k.head (labels t.children) k.family
+    where
+      by_head : (h : Head) (ls : List ℕ) → Family size T s h ls → number_of h ≡ None
+      by_head plain ls f = refl
+      by_head (valued v) ls f = absurd (n f.begins.0)
+      by_head (own v) ls f = absurd (n f.begins.0)
+      by_head top ls f = refl

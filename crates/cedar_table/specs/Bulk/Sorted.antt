@@ -21,14 +21,18 @@ Pair = Bor (List ℕ) × ℤ
 abbrev pub entries_of : List Pair → List Entry
 entries_of pairs = map (λ p. (p.0.now, p.1)) pairs
 
--- the byte of a pair's key behind its first d ones, and 0 where there is none
-abbrev pub label_of : ℕ → Pair → ℕ
-label_of d pair = get_or pair.0.now d 0
+-- the entries that pairs stand for, whose keys lend these bytes
+abbrev pub entries_by : {K : Type 0} → (K → List ℕ) → List (K × ℤ) → List Entry
+entries_by bytes pairs = map (λ p. (bytes p.0, p.1)) pairs
 
--- how many of the first pairs have a label
-abbrev pub run : ℕ → ℕ → List Pair → ℕ
+-- the byte of an entry's key behind its first d ones, and 0 where there is none
+abbrev pub label_of : ℕ → Entry → ℕ
+label_of d entry = get_or entry.0 d 0
+
+-- how many of the first entries have a label
+abbrev pub run : ℕ → ℕ → List Entry → ℕ
 run d l [] = 0
-run d l (p ∷ ps) = cond (label_of d p == l) (1 + run d l ps) 0
+run d l (e ∷ es) = cond (label_of d e == l) (1 + run d l es) 0
 
 -- ---- a node's labels, one behind the other
 

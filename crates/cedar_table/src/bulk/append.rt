@@ -21,6 +21,7 @@ impl<L: Layout, const SLOTS: usize, A: Allocator> Table<L, SLOTS, A> {
 
     /// Takes the slot of `label` below `node`, and answers it. The new leaf stands behind all labels of the node, which are
     /// lower: behind the slot `before`, or first of all. The order of the table doesn't matter.
+    #[inline(always)]
     fn append_label(&mut self, node: usize, before: Option<usize>, label: u8) -> usize
         requires sound { IsTable SLOTS (fields self.old).places }
         requires node_in { node < size_of (fields self.old) }
@@ -54,6 +55,7 @@ impl<L: Layout, const SLOTS: usize, A: Allocator> Table<L, SLOTS, A> {
 
     /// Takes the slots of ascending labels below `node`, which has none yet: each stands behind the one before it, and the
     /// first one behind the slot `before`, or first of all.
+    #[inline(always)]
     pub(crate) fn append_labels(&mut self, node: usize, before: Option<usize>, labels: &[u8])
         requires sound { IsTable SLOTS (fields self.old).places }
         requires node_in { node < size_of (fields self.old) }

@@ -23,6 +23,7 @@ impl<L: Layout, const SLOTS: usize, A: Allocator> Table<L, SLOTS, A> {
 
     /// Gives a node that has neither number nor label a base from which the slots of all labels are free, 0 standing for the
     /// number. The root keeps its base. All growth of a build from sorted pairs happens here.
+    #[inline(always)]
     fn give_base(&mut self, node: usize, wanted: &[u8]) -> Result<(), CedarError>
         requires sound { IsTable SLOTS (fields self.old).places }
         requires node_in { node < size_of (fields self.old) }
@@ -47,6 +48,7 @@ impl<L: Layout, const SLOTS: usize, A: Allocator> Table<L, SLOTS, A> {
     }
 
     /// Takes the slot for the number of a node that has neither number nor label, and answers it.
+    #[inline(always)]
     fn take_number(&mut self, node: usize, value: i32) -> usize
         requires sound { IsTable SLOTS (fields self.old).places }
         requires node_in { node < size_of (fields self.old) }
@@ -67,6 +69,7 @@ impl<L: Layout, const SLOTS: usize, A: Allocator> Table<L, SLOTS, A> {
 
     /// Takes the slot for the number, if there is one, and answers the slot that the first label goes behind, unless it begins
     /// the chain.
+    #[inline(always)]
     fn begin_chain(&mut self, node: usize, number: Option<i32>) -> Option<usize>
         requires sound { IsTable SLOTS (fields self.old).places }
         requires node_in { node < size_of (fields self.old) }
@@ -89,6 +92,7 @@ impl<L: Layout, const SLOTS: usize, A: Allocator> Table<L, SLOTS, A> {
 
     /// Gives a node that has neither number nor label a slot for its number, if there is one, and ascending labels, each a leaf
     /// without number. All these slots are found at once, and taken in ascending order.
+    #[inline(always)]
     fn place_node(
         &mut self,
         node: usize,
@@ -131,6 +135,7 @@ impl<L: Layout, const SLOTS: usize, A: Allocator> Table<L, SLOTS, A> {
 
     /// Gives a node that has neither number nor label a number, if there is one, and ascending labels, each a leaf without
     /// number. A number without labels stands in the node's own base field, where the layout keeps it there.
+    #[inline(always)]
     pub(crate) fn fill_node(
         &mut self,
         node: usize,

@@ -1,63 +1,107 @@
 //! Sorted pairs that go on below one node, and what they say of its number and its labels.
 
-ghost use Rattle.std.specs.Prelude.{◌≡◌, ◌<◌, ◌≤◌, ◌+◌, ◌++◌, ℕ, List, [], length, OnOk};
+ghost use Rattle.std.specs.Prelude.{◌≡◌, ◌↔◌, ◌<◌, ◌≤◌, ◌+◌, ◌++◌, ℕ, List, [], get_or, IsTrue, length, OnOk};
 ghost use Rattle.cedar_tree.specs.Tree.{Forest, none};
 ghost use Rattle.cedar_table.specs.Meaning.StandsFor.{labels};
-ghost use Rattle.cedar_table.specs.Bulk.Sorted.{label_of, run, with_number};
-ghost use Rattle.cedar_table.specs.Bulk.Spans.{Covers, first_label, first_number, IsDeeper, Lists};
-ghost use Rattle.cedar_table.specs.declared.bulk.spans.Span.{Span};
+ghost use Rattle.cedar_table.specs.Bulk.Sorted.{entries_by, run, with_number};
+ghost use Rattle.cedar_table.specs.Bulk.Spans.{Covers, first_label, first_number, IsDeeper, Lists, Part, parts_of};
 
 use crate::table::Labels;
-use arrayvec::ArrayVec;
 use std::alloc::{AllocError, Allocator};
-
-/// A key and its number.
-pub type Pair<'a> = (&'a [u8], i32);
+use std::convert::AsSlice;
 
 /// Sorted pairs whose keys have the same first `depth` bytes, and the slot of the node to which these lead. It has neither
 /// number nor label yet.
-#[derive(Clone, Copy)]
-pub(crate) struct Span<'a> {
+#[derive(Drop)]
+pub(crate) struct Span<'a, K> {
     pub(crate) node: usize,
     pub(crate) depth: usize,
-    pub(crate) pairs: &'a [Pair<'a>],
+    pub(crate) pairs: &'a [(K, i32)],
 }
 
 /// The byte of a key behind its first `depth` ones, and 0 where there is none.
-fn label_at(pair: &Pair<'_>, depth: usize) -> u8
-    ensures { result ≡ label_of depth pair.now }
+fn label_at<K: AsSlice<u8>>(pair: &(K, i32), depth: usize) -> u8
+    ensures { result ≡ get_or (K.items pair.now.0) depth 0 }
 {
-    if depth < pair.0.len() {
-        pair.0[depth]
-    } else {
-        0
-    }
+    let key = pair.0.as_slice();
+    if depth < key.len() { key[depth] } else { 0 }
 }
 
-/// How many of the first pairs have a label.
-fn run_length(pairs: &[Pair<'_>], depth: usize, label: u8) -> usize
-    ensures count { result ≡ run depth label pairs.now }
+/// Whether the pair at an index has the label of the first pair. Those that have it come first.
+fn has_first_label<K: AsSlice<u8>>(
+    pairs: &[(K, i32)],
+    depth: usize,
+    label: u8,
+    index: usize,
+) -> bool
+    requires lists { (f : Forest) × Lists depth (entries_by K.items pairs.now) f }
+    requires first { first_label depth (entries_by K.items pairs.now) ≡ label }
+    requires inside { index < length pairs.now }
+    ensures { IsTrue result ↔ (index < run depth label (entries_by K.items pairs.now)) }
+{
+    label_at(&pairs[index], depth) == label
+}
+
+/// How many of the first pairs have the label of the first one: as many as `low` at least, and as `high` at most.
+fn run_between<K: AsSlice<u8>>(
+    pairs: &[(K, i32)],
+    depth: usize,
+    label: u8,
+    low: usize,
+    high: usize,
+) -> usize
+    requires lists { (f : Forest) × Lists depth (entries_by K.items pairs.now) f }
+    requires first { first_label depth (entries_by K.items pairs.now) ≡ label }
+    requires least { low ≤ run depth label (entries_by K.items pairs.now) }
+    requires most { run depth label (entries_by K.items pairs.now) ≤ high }
+    requires inside { high ≤ length pairs.now }
+    ensures { result ≡ run depth label (entries_by K.items pairs.now) }
+{
+    let mut low = low;
+    let mut high = high;
+    while low < high {
+        let middle = low + (high - low) / 2;
+        if has_first_label(pairs, depth, label, middle) {
+            low = middle + 1;
+        } else {
+            high = middle;
+        }
+    }
+    low
+}
+
+/// How many of the first pairs have the label of the first one. Most are few, so the end is looked for near the front: in steps
+/// that double, and then by halves.
+fn run_length<K: AsSlice<u8>>(pairs: &[(K, i32)], depth: usize, label: u8) -> usize
+    requires lists { (f : Forest) × Lists depth (entries_by K.items pairs.now) f }
+    requires first { first_label depth (entries_by K.items pairs.now) ≡ label }
+    requires some { 0 < length pairs.now }
+    ensures count { result ≡ run depth label (entries_by K.items pairs.now) }
+    ensures some { 0 < result }
     ensures within { result ≤ length pairs.now }
 {
-    let mut count = 0;
-    while count < pairs.len() && label_at(&pairs[count], depth) == label {
-        count += 1;
+    let mut low = 1;
+    while low < pairs.len() - low {
+        if !has_first_label(pairs, depth, label, low + low) {
+            return run_between(pairs, depth, label, low, low + low);
+        }
+        low += low + 1;
     }
-    count
+    run_between(pairs, depth, label, low, pairs.len())
 }
 
 /// The number of the first pair, if its key has no byte behind its first `depth` ones.
-pub(crate) fn number_at(pairs: &[Pair<'_>], depth: usize) -> Option<i32>
-    ensures { result ≡ first_number depth pairs.now }
+pub(crate) fn number_at<K: AsSlice<u8>>(pairs: &[(K, i32)], depth: usize) -> Option<i32>
+    ensures { result ≡ first_number depth (entries_by K.items pairs.now) }
 {
     match pairs.first() {
-        Some(pair) if pair.0.len() <= depth => Some(pair.1),
+        Some(pair) if pair.0.as_slice().len() <= depth => Some(pair.1),
         _ => None,
     }
 }
 
 /// One byte deeper into a key that is longer.
-fn deeper(key: &[u8], depth: usize) -> usize
+pub(crate) fn deeper(key: &[u8], depth: usize) -> usize
     requires { depth < length key.now }
     ensures { result ≡ depth + 1 }
 {
@@ -65,57 +109,60 @@ fn deeper(key: &[u8], depth: usize) -> usize
 }
 
 /// How deep the pairs with the first pair's label lead.
-fn depth_below(pairs: &[Pair<'_>], depth: usize) -> usize
-    requires { IsDeeper depth pairs.now }
+fn depth_below<K: AsSlice<u8>>(pairs: &[(K, i32)], depth: usize) -> usize
+    requires { IsDeeper depth (entries_by K.items pairs.now) }
     ensures { result ≡ depth + 1 }
 {
-    deeper(pairs[0].0, depth)
+    deeper(pairs[0].0.as_slice(), depth)
 }
 
 /// The label of the first pair.
-fn first_label_at(pairs: &[Pair<'_>], depth: usize) -> u8
+fn first_label_at<K: AsSlice<u8>>(pairs: &[(K, i32)], depth: usize) -> u8
     requires { 0 < length pairs.now }
-    ensures { result ≡ first_label depth pairs.now }
+    ensures { result ≡ first_label depth (entries_by K.items pairs.now) }
 {
     label_at(&pairs[0], depth)
 }
 
-/// The label 0 alone if there is a number, and else no label.
-fn number_label(number: Option<i32>) -> Labels
-    ensures { result.items ≡ with_number number [] }
+/// Makes a list of labels the label 0 alone if there is a number, and else no label.
+fn begin_labels(wanted: &mut Labels, number: Option<i32>)
+    ensures { wanted.new.items ≡ with_number number [] }
 {
-    let mut labels = ArrayVec::new();
+    wanted.clear();
     if number.is_some() {
-        labels.push(0);
+        wanted.push(0);
     }
-    labels
 }
 
-/// The labels of some pairs, ascending, behind the 0 of a number, if there is one. It takes no memory.
-pub(crate) fn wanted_labels(number: Option<i32>, pairs: &[Pair<'_>], depth: usize) -> Labels
-    requires { (f : Forest) × Lists depth pairs.now f }
-    ensures { (f : Forest) → Lists depth pairs.now f → result.items ≡ with_number number (labels f) }
+/// Makes a list of labels those of some pairs, ascending, behind the 0 of a number, if there is one. It takes no memory.
+pub(crate) fn list_labels<K: AsSlice<u8>>(
+    wanted: &mut Labels,
+    number: Option<i32>,
+    pairs: &[(K, i32)],
+    depth: usize,
+)
+    requires { (f : Forest) × Lists depth (entries_by K.items pairs.now) f }
+    ensures { (f : Forest) → Lists depth (entries_by K.items pairs.now) f → wanted.new.items ≡ with_number number (labels f) }
 {
-    let mut found = number_label(number);
+    begin_labels(wanted, number);
     let mut start = 0;
     while start < pairs.len() {
         let rest = &pairs[start..];
         let label = first_label_at(rest, depth);
-        found.push(label);
+        wanted.push(label);
         start += run_length(rest, depth, label);
     }
-    found
 }
 
 /// Adds a span for each label of some pairs, whose slots begin at a base.
-pub(crate) fn push_spans<'a, A: Allocator>(
-    pending: &mut Vec<Span<'a>, A>,
+pub(crate) fn push_spans<'a, K: AsSlice<u8>, A: Allocator>(
+    pending: &mut Vec<Span<'a, K>, A>,
     base: usize,
-    pairs: &'a [Pair<'a>],
+    pairs: &'a [(K, i32)],
     depth: usize,
 ) -> Result<(), AllocError>
-    requires { (f : Forest) × Lists depth pairs.now f }
-    ensures { OnOk result ((f : Forest) → Lists depth pairs.now f → (spans : List Span) × (pending.new.items ≡ pending.old.items ++ spans) × Covers base spans f none) }
+    requires { (f : Forest) × Lists depth (entries_by K.items pairs.now) f }
+    ensures { OnOk result ((f : Forest) → Lists depth (entries_by K.items pairs.now) f → (parts : List Part) × (parts_of K.items pending.new.items ≡ parts_of K.items pending.old.items ++ parts) × Covers base parts f none) }
 {
     let mut start = 0;
     while start < pairs.len() {

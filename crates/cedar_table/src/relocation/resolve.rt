@@ -23,6 +23,7 @@ impl<L: Layout, const SLOTS: usize, A: Allocator> Table<L, SLOTS, A> {
 
     /// A base from which there is room for all labels. A single label goes where the first free slot is. The move
     /// of a set makes a block here or not at all.
+    #[inline(always)]
     pub(crate) fn place_for(&mut self, labels: &[u8]) -> Result<usize, CedarError>
         requires sound { IsTable SLOTS (fields self.old).places }
         requires some { 0 < length labels.now }

@@ -60,15 +60,16 @@ impl<L: Layout, const SLOTS: usize, A: Allocator> Table<L, SLOTS, A> {
         Ok(node)
     }
 
-    /// Puts the number `value` at a key below none of whose fronts a number stands in its node's own base field. Where memory
-    /// or slots are refused, the tree is as before.
-    fn put_along(&mut self, key: &[u8], value: i32) -> Result<(), CedarError>
+    /// Puts the number `value` at a key below none of whose fronts a number stands in its node's own base field, and answers the
+    /// number there before. Where memory or slots are refused, the tree is as before.
+    fn put_along(&mut self, key: &[u8], value: i32) -> Result<Option<i32>, CedarError>
         requires well_formed { IsWellFormed SLOTS (fields self.old) }
         requires key { IsKey key.now }
         requires value { is_value value ≡ true }
         requires way { HasWay (cells self.old) 0 key.now }
         ensures well_formed { IsWellFormed SLOTS (fields self.new) }
         ensures put { OnOk result (tree_of (fields self.new) ≡ put (tree_of (fields self.old)) (fields self.old).ordered key.now value) }
+        ensures held { IfOk result (λ held. held ≡ number_at (tree_of (fields self.old)) key.now) }
         ensures taken_back { OnErr result (tree_of (fields self.new) ≡ tree_of (fields self.old)) }
         ensures refused { IfErr result (λ error. MayRefuse (fields self.new).places SLOTS error) }
         ensures blocks { (n : ℕ) × (n ≤ length key.now) × OnErr result (n < length key.now) × MakesBlocks n (fields self.old) (fields self.new) }
@@ -81,7 +82,8 @@ impl<L: Layout, const SLOTS: usize, A: Allocator> Table<L, SLOTS, A> {
         ensures modes { SameModes (fields self.old) (fields self.new) }
     {
         let end = self.walk_in(key)?;
-        let is_new = !self.has_number(end);
+        let held = self.number_of(end);
+        let is_new = held.is_none();
         if let Err(error) = self.put_number(end, value) {
             self.trim(end);
             return Err(error);
@@ -89,18 +91,19 @@ impl<L: Layout, const SLOTS: usize, A: Allocator> Table<L, SLOTS, A> {
         if is_new {
             self.entries += 1;
         }
-        Ok(())
+        Ok(held)
     }
 
-    /// Puts the number `value` at a key. Where memory or slots are refused, the tree is as before, though blocks may have
-    /// come. An update of a key of n bytes makes n blocks at most, and tries no further one; over a number none is made; and a
+    /// Puts the number `value` at a key, and answers the number there before, if the key was held. Where memory or slots are
+    /// refused, the tree is as before, though blocks may have come. An update of a key of n bytes makes n blocks at most, and tries no further one; over a number none is made; and a
     /// new first byte alone makes one only where no slot outside block 0 is free.
-    pub fn update(&mut self, key: &[u8], value: i32) -> Result<(), CedarError>
+    pub fn update(&mut self, key: &[u8], value: i32) -> Result<Option<i32>, CedarError>
         requires well_formed { IsWellFormed SLOTS (fields self.old) }
         requires key { IsKey key.now }
         requires value { is_value value ≡ true }
         ensures well_formed { IsWellFormed SLOTS (fields self.new) }
         ensures put { OnOk result (tree_of (fields self.new) ≡ put (tree_of (fields self.old)) (fields self.old).ordered key.now value) }
+        ensures held { IfOk result (λ held. held ≡ number_at (tree_of (fields self.old)) key.now) }
         ensures taken_back { OnErr result (tree_of (fields self.new) ≡ tree_of (fields self.old)) }
         ensures refused { IfErr result (λ error. MayRefuse (fields self.new).places SLOTS error) }
         ensures blocks { (n : ℕ) × (n ≤ length key.now) × OnErr result (n < length key.now) × MakesBlocks n (fields self.old) (fields self.new) }
@@ -114,10 +117,12 @@ impl<L: Layout, const SLOTS: usize, A: Allocator> Table<L, SLOTS, A> {
         ensures modes { SameModes (fields self.old) (fields self.new) }
     {
         let moved = self.make_way(key)?;
-        if let Err(error) = self.put_along(key, value) {
-            self.close_way(key, moved);
-            return Err(error);
+        match self.put_along(key, value) {
+            Ok(held) => Ok(held),
+            Err(error) => {
+                self.close_way(key, moved);
+                Err(error)
+            }
         }
-        Ok(())
     }
 }

@@ -29,12 +29,17 @@ impl<L: Layout, const SLOTS: usize, A: Allocator> Table<L, SLOTS, A> {
     ghost use Rattle.cedar_table.specs.Walk.Visits.{ComesTo, first_of, IsBelow, left_after, left_at, path_to};
     ghost use Rattle.cedar_table.specs.Meaning.WellFormed.{IsWellFormed, tree_of};
 
-    /// The number of a node. The read isn't counted.
-    fn number_of(&self, node: usize) -> Option<i32>
+    /// The number of a node. The read isn't counted. A node that names a first label has none, so the slot that its number would
+    /// have, which mostly lies far off, is seldom read.
+    #[inline(always)]
+    pub(crate) fn number_of(&self, node: usize) -> Option<i32>
         requires node_in { node < size_of (fields self.now) }
         requires node { (t : Tree) × Stands (size_of (fields self.now)) (cells self.now) node t }
         ensures { (t : Tree) → Stands (size_of (fields self.now)) (cells self.now) node t → result ≡ t.number }
     {
+        if self.child(node) != 0 {
+            return None;
+        }
         match self.stored_at_node(node) {
             Stored::OwnNumber(value) => Some(value),
             Stored::AtBase(base) => {
@@ -49,11 +54,17 @@ impl<L: Layout, const SLOTS: usize, A: Allocator> Table<L, SLOTS, A> {
     }
 
     /// The label of a node's first child, or 0.
+    #[inline(always)]
     pub fn first_child(&self, node: usize) -> u8
         requires well_formed { IsWellFormed SLOTS (fields self.now) }
         requires at { (w : List ℕ) × IsAt (cells self.now) w node }
         ensures { (w : List ℕ) → IsAt (cells self.now) w node → result ≡ first_of (node_at (tree_of (fields self.now)) w).children }
     {
+        // Most nodes name their first label, and neither the root nor one with a number does.
+        let label = self.child(node);
+        if label != 0 {
+            return label;
+        }
         if node == 0 {
             return self.sibling(node);
         }
@@ -61,6 +72,7 @@ impl<L: Layout, const SLOTS: usize, A: Allocator> Table<L, SLOTS, A> {
     }
 
     /// The label of the sibling after a node, or 0.
+    #[inline(always)]
     pub fn next_sibling(&self, node: usize) -> u8
         requires well_formed { IsWellFormed SLOTS (fields self.now) }
         requires at { (w : List ℕ) × (l : ℕ) × IsAt (cells self.now) (w ++ l ∷ []) node }
@@ -70,6 +82,7 @@ impl<L: Layout, const SLOTS: usize, A: Allocator> Table<L, SLOTS, A> {
     }
 
     /// The node above a node.
+    #[inline(always)]
     pub fn parent(&self, node: usize) -> usize
         requires well_formed { IsWellFormed SLOTS (fields self.now) }
         requires at { (w : List ℕ) × (l : ℕ) × IsAt (cells self.now) (w ++ l ∷ []) node }
@@ -80,6 +93,7 @@ impl<L: Layout, const SLOTS: usize, A: Allocator> Table<L, SLOTS, A> {
     }
 
     /// The child of a node under a label that it has.
+    #[inline(always)]
     fn child_under(&self, node: usize, label: u8, depth: usize) -> Visited
         requires well_formed { IsWellFormed SLOTS (fields self.now) }
         requires at { (w : List ℕ) × IsAt (cells self.now) w node × (has_label (node_at (tree_of (fields self.now)) w).children label ≡ true) }
@@ -88,7 +102,7 @@ impl<L: Layout, const SLOTS: usize, A: Allocator> Table<L, SLOTS, A> {
         ensures label { result.label ≡ label }
         ensures number { (w : List ℕ) → IsAt (cells self.now) w node → has_label (node_at (tree_of (fields self.now)) w).children label ≡ true → result.number ≡ (subtree (node_at (tree_of (fields self.now)) w).children label).number }
     {
-        let slot = self.child_slot(node, label);
+        let slot = self.slot_below(node, label);
         let number = self.number_of(slot);
         Visited {
             slot,
@@ -100,6 +114,7 @@ impl<L: Layout, const SLOTS: usize, A: Allocator> Table<L, SLOTS, A> {
 
     /// The next node of a walk that is through with all below a node: the sibling after it, or the one after the nearest node above
     /// it that has one, short of the node `depth` labels above, where the walk began.
+    #[inline(always)]
     fn next_after(&self, node: usize, depth: usize) -> Option<Visited>
         requires well_formed { IsWellFormed SLOTS (fields self.now) }
         requires below { (start : List ℕ) × IsBelow (cells self.now) start depth node }
@@ -121,6 +136,7 @@ impl<L: Layout, const SLOTS: usize, A: Allocator> Table<L, SLOTS, A> {
 
     /// The next node of a walk that has been at a node, `depth` labels below the one where it began, and not yet below it: its first
     /// child, or else the sibling after it, or else the one after the nearest node above it that has one. It takes no memory.
+    #[inline(always)]
     pub fn node_after(&self, node: usize, depth: usize) -> Option<Visited>
         requires well_formed { IsWellFormed SLOTS (fields self.now) }
         requires below { (start : List ℕ) × IsBelow (cells self.now) start depth node }

@@ -1,12 +1,12 @@
 //! How a dictionary is loaded.
 
-ghost use Rattle.std.specs.Prelude.{◌≡◌, ◌+◌, ◌*◌, false, true, IfErr, IfOk, IfSome};
+ghost use Rattle.std.specs.Prelude.{◌≡◌, ℕ, ◌+◌, ◌*◌, false, true, IfErr, IfOk, IfSome};
 ghost use Rattle.std.specs.Io.KnownBytes.{Consumes};
 ghost use Rattle.cedar_table.specs.Table.Layouts.{layout_byte};
 ghost use Rattle.cedar_slots.specs.Places.{IsSlotLimit};
 ghost use Rattle.cedar_table.specs.Table.TableFields.{fields};
 ghost use Rattle.cedar_table.specs.Meaning.WellFormed.{IsWellFormed};
-ghost use Rattle.cedar_format.specs.Format.{need, trial_refusal, CountsWithin, Passes};
+ghost use Rattle.cedar_format.specs.Format.{need, trial_refusal, CountsWithin, IsVersion, Passes};
 ghost use Rattle.cedar_format.specs.Reading.{IsIo, IsLack, LacksNoMore};
 ghost use Rattle.cedar_format.specs.Refusal.{refusal, refusal_of, CorruptData};
 ghost use Rattle.cedar_format.specs.Tables.{table_bytes};
@@ -15,6 +15,7 @@ ghost use Rattle.cedarwood.specs.Loading.{LoadAnswers};
 
 use crate::persistence::uncounted::uncounted;
 use crate::{CedarPersistenceError, DEFAULT_LOAD_MEMORY_LIMIT, Layout, Ticks, Trie, Watched};
+use cedar_check::check_well_formed;
 use cedar_format::{Header, decode_counted, table_of};
 use cedar_table::Corrupt;
 use std::alloc::Allocator;
@@ -40,7 +41,7 @@ impl<L: Layout, const SLOTS: usize, A: Allocator + Copy> Trie<L, SLOTS, A> {
         requires limit { IsSlotLimit SLOTS }
 
         // Whatever the reader does, a dictionary comes only with just the bytes of its table, which is well-formed.
-        ensures bytes { IfOk result (λ trie. Consumes (R.remaining (device_of reader.old)) (R.remaining (device_of reader.new)) (table_bytes trie.table)) }
+        ensures bytes { IfOk result (λ trie. (version : ℕ) × IsVersion version × Consumes (R.remaining (device_of reader.old)) (R.remaining (device_of reader.new)) (table_bytes version trie.table)) }
         ensures formed { IfOk result (λ trie. IsWellFormed SLOTS trie.table) }
 
         // A reader that tells its bytes and does not fail gets the answer that they decide.
@@ -55,7 +56,7 @@ impl<L: Layout, const SLOTS: usize, A: Allocator + Copy> Trie<L, SLOTS, A> {
         let decoded = decode_counted(alloc, reader, L::file_byte(), SLOTS, memory_limit, asked)?;
         check_trials(&decoded.header)?;
         let table = table_of(decoded, memory_limit);
-        match table.check_well_formed(reads) {
+        match check_well_formed(&table, reads) {
             Ok(()) => Ok(Trie { table }),
             Err(corrupt) => Err(refused(corrupt)),
         }
@@ -71,7 +72,7 @@ impl<L: Layout, const SLOTS: usize, A: Allocator + Copy> Trie<L, SLOTS, A> {
         memory_limit: usize,
     ) -> Result<Self, CedarPersistenceError>
         requires limit { IsSlotLimit SLOTS }
-        ensures bytes { IfOk result (λ trie. Consumes (R.remaining (device_of reader.old)) (R.remaining (device_of reader.new)) (table_bytes trie.table)) }
+        ensures bytes { IfOk result (λ trie. (version : ℕ) × IsVersion version × Consumes (R.remaining (device_of reader.old)) (R.remaining (device_of reader.new)) (table_bytes version trie.table)) }
         ensures formed { IfOk result (λ trie. IsWellFormed SLOTS trie.table) }
         ensures answer { IfSome (R.remaining (device_of reader.old)) (λ bytes. has_failed reader.new ≡ false → LoadAnswers (λ trie. trie.table) L.kind SLOTS memory_limit bytes result) }
         ensures io { IfErr result (λ e. IsIo e → has_failed reader.new ≡ true) }
@@ -95,7 +96,7 @@ impl<L: Layout, const SLOTS: usize, A: Allocator + Copy> Trie<L, SLOTS, A> {
         reader: &mut Watched<R>,
     ) -> Result<Self, CedarPersistenceError>
         requires limit { IsSlotLimit SLOTS }
-        ensures bytes { IfOk result (λ trie. Consumes (R.remaining (device_of reader.old)) (R.remaining (device_of reader.new)) (table_bytes trie.table)) }
+        ensures bytes { IfOk result (λ trie. (version : ℕ) × IsVersion version × Consumes (R.remaining (device_of reader.old)) (R.remaining (device_of reader.new)) (table_bytes version trie.table)) }
         ensures formed { IfOk result (λ trie. IsWellFormed SLOTS trie.table) }
         ensures answer { IfSome (R.remaining (device_of reader.old)) (λ bytes. has_failed reader.new ≡ false → LoadAnswers (λ trie. trie.table) L.kind SLOTS 536870912 bytes result) }
         ensures io { IfErr result (λ e. IsIo e → has_failed reader.new ≡ true) }

@@ -6,7 +6,7 @@ mod save;
 mod uncounted;
 
 pub mod v1 {
-    //! Version 1.0 of the file format: its numbers, headers and fields.
+    //! Version 1 of the file format, minor 0 and 1: its numbers, headers and fields.
 
     pub use cedar_format::{
         BlockRecord, CedarPersistenceError, Decoded, FLAG_ORDERED, HEADER_LEN, Header, LAYOUT,

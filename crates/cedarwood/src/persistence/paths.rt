@@ -21,7 +21,8 @@ use std::rt::Files;
 const BUFFER_LEN: usize = 8192;
 
 impl<L: Layout, const SLOTS: usize, A: Allocator + Copy> Trie<L, SLOTS, A> {
-    /// Makes the file or cuts it, and writes the dictionary's table to it through a buffer of 8192 bytes, which is flushed.
+    /// Makes the file or cuts it, and writes the dictionary's table to it as `save_to_writer` does, through a buffer of 8192 bytes,
+    /// which is flushed.
     ///
     /// # Errors
     /// `Io` where a call on the file failed, which may then be empty or have a part of the table; `AllocationFailed` with 8192
@@ -31,13 +32,30 @@ impl<L: Layout, const SLOTS: usize, A: Allocator + Copy> Trie<L, SLOTS, A> {
 
         // The bytes that are written are the file of a well-formed table, which passes all steps of a load but those on
         // memory. What a device has kept of them no clause can say.
-        ensures file { OnOk result (IsTableFile SLOTS self.now.table (table_bytes self.now.table)) }
-        ensures passes { OnOk result ((limit : ℕ) → need (header_of self.now.table) ≤ limit → header_answer (layout_byte L.kind) SLOTS limit (table_bytes self.now.table) ≡ None) }
+        ensures file { OnOk result (IsTableFile 1 SLOTS self.now.table (table_bytes 1 self.now.table)) }
+        ensures passes { OnOk result ((limit : ℕ) → need (header_of 1 self.now.table) ≤ limit → header_answer (layout_byte L.kind) SLOTS limit (table_bytes 1 self.now.table) ≡ None) }
     {
-        let file = File::create(files, path)?;
-        let buffered = BufWriter::new(self.table.allocator(), file).map_err(no_buffer)?;
-        let mut writer = Watched::new(buffered);
+        let mut writer = created(self.table.allocator(), files, path)?;
         self.save_to_writer(&mut writer)?;
+        writer.flush()?;
+        Ok(())
+    }
+
+    /// `save_to_path` in format 1.0.
+    ///
+    /// # Errors
+    /// As `save_to_path`.
+    pub fn save_v1_0_to_path<F: Files>(
+        &self,
+        files: &F,
+        path: &str,
+    ) -> Result<(), CedarPersistenceError>
+        ensures err { IfErr result (λ e. IsIo e ⊎ (e ≡ AllocationFailed 8192)) }
+        ensures file { OnOk result (IsTableFile 0 SLOTS self.now.table (table_bytes 0 self.now.table)) }
+        ensures passes { OnOk result ((limit : ℕ) → need (header_of 0 self.now.table) ≤ limit → header_answer (layout_byte L.kind) SLOTS limit (table_bytes 0 self.now.table) ≡ None) }
+    {
+        let mut writer = created(self.table.allocator(), files, path)?;
+        self.save_v1_0_to_writer(&mut writer)?;
         writer.flush()?;
         Ok(())
     }
@@ -63,6 +81,19 @@ impl<L: Layout, const SLOTS: usize, A: Allocator + Copy> Trie<L, SLOTS, A> {
         let mut reader = Watched::new(buffered);
         Self::load_from_reader(alloc, &mut reader)
     }
+}
+
+/// A file that is made or cut, behind a buffer.
+fn created<F: Files, A: Allocator>(
+    alloc: A,
+    files: &F,
+    path: &str,
+) -> Result<Watched<BufWriter<F::File, A>>, CedarPersistenceError>
+    ensures err { IfErr result (λ e. IsIo e ⊎ (e ≡ AllocationFailed 8192)) }
+{
+    let file = File::create(files, path)?;
+    let buffered = BufWriter::new(alloc, file).map_err(no_buffer)?;
+    Ok(Watched::new(buffered))
 }
 
 /// A buffer is refused for want of memory alone.

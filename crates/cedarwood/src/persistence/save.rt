@@ -9,12 +9,13 @@ ghost use Rattle.cedar_table.specs.Table.Layouts.{layout_byte};
 ghost use Rattle.cedar_format.specs.WatchedDevice.{device_of, has_failed};
 
 use crate::{CedarPersistenceError, Layout, Trie, Watched};
-use cedar_format::write_table;
+use cedar_format::{FULL_MINOR, MINOR, write_table};
 use std::alloc::Allocator;
 use std::io::Write;
 
 impl<L: Layout, const SLOTS: usize, A: Allocator + Copy> Trie<L, SLOTS, A> {
-    /// Writes the dictionary's table in format 1.0, in pieces of some thousand bytes. It takes no memory and flushes nothing.
+    /// Writes the dictionary's table in format 1.1, which lists the slots and blocks that are in use, in pieces of some
+    /// thousand bytes. It takes no memory and flushes nothing.
     ///
     /// # Errors
     /// `Io` where the writer failed. What went out before that isn't told.
@@ -22,14 +23,34 @@ impl<L: Layout, const SLOTS: usize, A: Allocator + Copy> Trie<L, SLOTS, A> {
         &self,
         writer: &mut Watched<W>,
     ) -> Result<(), CedarPersistenceError>
-        ensures bytes { OnOk result (Appends (W.contents (device_of writer.old)) (W.contents (device_of writer.new)) (table_bytes self.now.table)) }
+        ensures bytes { OnOk result (Appends (W.contents (device_of writer.old)) (W.contents (device_of writer.new)) (table_bytes 1 self.now.table)) }
 
         // They are the file of a well-formed table, which passes all steps of a load but those on memory.
-        ensures file { OnOk result (IsTableFile SLOTS self.now.table (table_bytes self.now.table)) }
-        ensures passes { OnOk result ((limit : ℕ) → need (header_of self.now.table) ≤ limit → header_answer (layout_byte L.kind) SLOTS limit (table_bytes self.now.table) ≡ None) }
+        ensures file { OnOk result (IsTableFile 1 SLOTS self.now.table (table_bytes 1 self.now.table)) }
+        ensures passes { OnOk result ((limit : ℕ) → need (header_of 1 self.now.table) ≤ limit → header_answer (layout_byte L.kind) SLOTS limit (table_bytes 1 self.now.table) ≡ None) }
         ensures err { IfErr result (λ e. IsIo e × (has_failed writer.new ≡ true)) }
         ensures failed { has_failed writer.old ≡ true → has_failed writer.new ≡ true }
     {
-        write_table(&self.table, writer)
+        write_table(&self.table, MINOR, writer)
+    }
+
+    /// Writes the dictionary's table in format 1.0, which lists all slots and blocks, in pieces of some thousand bytes. It
+    /// takes no memory and flushes nothing.
+    ///
+    /// # Errors
+    /// `Io` where the writer failed. What went out before that isn't told.
+    pub fn save_v1_0_to_writer<W: Write>(
+        &self,
+        writer: &mut Watched<W>,
+    ) -> Result<(), CedarPersistenceError>
+        ensures bytes { OnOk result (Appends (W.contents (device_of writer.old)) (W.contents (device_of writer.new)) (table_bytes 0 self.now.table)) }
+
+        // They are the file of a well-formed table, which passes all steps of a load but those on memory.
+        ensures file { OnOk result (IsTableFile 0 SLOTS self.now.table (table_bytes 0 self.now.table)) }
+        ensures passes { OnOk result ((limit : ℕ) → need (header_of 0 self.now.table) ≤ limit → header_answer (layout_byte L.kind) SLOTS limit (table_bytes 0 self.now.table) ≡ None) }
+        ensures err { IfErr result (λ e. IsIo e × (has_failed writer.new ≡ true)) }
+        ensures failed { has_failed writer.old ≡ true → has_failed writer.new ≡ true }
+    {
+        write_table(&self.table, FULL_MINOR, writer)
     }
 }

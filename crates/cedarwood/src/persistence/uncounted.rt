@@ -1,11 +1,11 @@
 //! Loads without counts.
 
-ghost use Rattle.std.specs.Prelude.{◌≡◌, ◌<◌, false, true, IfErr, IfOk, IfSome};
+ghost use Rattle.std.specs.Prelude.{◌≡◌, ◌<◌, ℕ, false, true, IfErr, IfOk, IfSome};
 ghost use Rattle.std.specs.Io.KnownBytes.{Consumes};
 ghost use Rattle.cedar_slots.specs.Places.{IsSlotLimit};
 ghost use Rattle.cedar_table.specs.Meaning.WellFormed.{IsWellFormed};
 ghost use Rattle.cedar_table.specs.Table.Layouts.{layout_byte};
-ghost use Rattle.cedar_format.specs.Format.{Passes};
+ghost use Rattle.cedar_format.specs.Format.{IsVersion, Passes};
 ghost use Rattle.cedar_format.specs.Reading.{IsIo, LacksNoMore};
 ghost use Rattle.cedar_format.specs.Tables.{table_bytes};
 ghost use Rattle.cedar_format.specs.WatchedDevice.{device_of, has_failed};
@@ -24,7 +24,7 @@ pub(crate) trait Loaded<A: Allocator + Copy> {
     ghost use Rattle.cedar_slots.specs.Places.{IsSlotLimit};
     ghost use Rattle.cedar_table.specs.Table.TableFields.{Fields};
     ghost use Rattle.cedar_table.specs.Meaning.WellFormed.{IsWellFormed};
-    ghost use Rattle.cedar_format.specs.Format.{Passes};
+    ghost use Rattle.cedar_format.specs.Format.{IsVersion, Passes};
     ghost use Rattle.cedar_format.specs.Reading.{IsIo, LacksNoMore};
     ghost use Rattle.cedar_format.specs.Tables.{table_bytes};
     ghost use Rattle.cedar_format.specs.WatchedDevice.{device_of, has_failed};
@@ -45,7 +45,7 @@ pub(crate) trait Loaded<A: Allocator + Copy> {
         reads: &mut Ticks<D>,
     ) -> Result<Self, CedarPersistenceError>
         requires { IsSlotLimit slots }
-        ensures bytes { IfOk result (λ x. Consumes (R.remaining (device_of reader.old)) (R.remaining (device_of reader.new)) (table_bytes (table x))) }
+        ensures bytes { IfOk result (λ x. (version : ℕ) × IsVersion version × Consumes (R.remaining (device_of reader.old)) (R.remaining (device_of reader.new)) (table_bytes version (table x))) }
         ensures formed { IfOk result (λ x. IsWellFormed slots (table x)) }
         ensures answer { IfSome (R.remaining (device_of reader.old)) (λ bytes. has_failed reader.new ≡ false → LoadAnswers table kind slots memory_limit bytes result) }
         ensures io { IfErr result (λ e. IsIo e → has_failed reader.new ≡ true) }
@@ -86,7 +86,7 @@ pub(crate) fn uncounted<C: Ledger, D: Ledger, T: Loaded<A>, A: Allocator + Copy,
     requires reads_name { reads_blank.name ≡ D.name }
     requires reads_parts { reads_blank.parts ≡ D.parts }
     requires reads_some { 0 < reads_blank.parts }
-    ensures bytes { IfOk result (λ x. Consumes (R.remaining (device_of reader.old)) (R.remaining (device_of reader.new)) (table_bytes (T.table x))) }
+    ensures bytes { IfOk result (λ x. (version : ℕ) × IsVersion version × Consumes (R.remaining (device_of reader.old)) (R.remaining (device_of reader.new)) (table_bytes version (T.table x))) }
     ensures formed { IfOk result (λ x. IsWellFormed T.slots (T.table x)) }
     ensures answer { IfSome (R.remaining (device_of reader.old)) (λ bytes. has_failed reader.new ≡ false → LoadAnswers T.table T.kind T.slots memory_limit bytes result) }
     ensures io { IfErr result (λ e. IsIo e → has_failed reader.new ≡ true) }

@@ -65,6 +65,7 @@ impl<'a, T: Walked> PrefixPredictIter<'a, T> {
 }
 
 /// The node that a walk comes to next.
+#[inline(always)]
 fn visited_next<T: Walked>(trie: &T, query: &[u8], place: PredictPlace) -> Option<Visited>
     requires well_formed { IsWellFormed T.slots (T.shown trie.now) }
     requires place { IsPredictPlace (T.shown trie.now) query.now place }
@@ -98,15 +99,20 @@ impl<'a, T: Walked> Iterator for PrefixPredictIter<'a, T> {
 
     ghost remaining = { item_count (λ (rest : List (ℤ × ℕ)). rest) };
 
+    #[inline]
     fn next(&mut self) -> Option<(i32, usize)> {
-        while let Some(next) = visited_next(self.trie, self.query, self.place) {
-            self.place = PredictPlace::Node {
+        let mut found = visited_next(self.trie, self.query, self.place);
+        while let Some(next) = found {
+            let place = PredictPlace::Node {
                 slot: next.slot,
                 depth: next.depth,
             };
+            self.place = place;
             if let Some(number) = next.number {
                 return Some((number, next.depth));
             }
+            // The place is known to be a node's: within the loop nothing tests what it is.
+            found = visited_next(self.trie, self.query, place);
         }
         self.place = PredictPlace::End;
         None

@@ -65,10 +65,12 @@ impl<L: Layout, const SLOTS: usize, A: Allocator + Copy> Walked for Trie<L, SLOT
         self.table.next_held_front(query, place, node, ticks)
     }
 
+    #[inline(always)]
     fn start(&self, query: &[u8]) -> Option<Visited> {
         self.table.walk_start(query)
     }
 
+    #[inline(always)]
     fn next_node(&self, node: usize, depth: usize) -> Option<Visited> {
         self.table.node_after(node, depth)
     }

@@ -2,7 +2,8 @@ use Rattle.std.proofs.Common.{arith, length, rules, refl, ◌≡◌, Option, Som
 use Rattle.std.specs.Prelude.{codes}
 use Rattle.cedarwood.specs.WatchedDevice.{device_of}
 use Rattle.cedar_cli.specs.Command.{Order, order_of}
-use Rattle.cedar_cli.specs.declared.command.Verb.TheVariants.{Put, Erase, Exact, Segment, Prefixes, Predict, Entries}
+use Rattle.cedar_cli.specs.declared.command.Verb.TheVariants.{Put, Erase, Exact, Segment, Prefixes, Predict, Entries, Figures}
+use Rattle.cedar_cli.specs.Seen.{seen}
 use Rattle.cedar_cli.proofs.BlockCounts.{no_blocks, key_blocks}
 use Rattle.cedar_cli.proofs.Bytes.{Leaves-on_err}
 use Rattle.cedar_cli.proofs.answers.answer_line.Goals as goal
@@ -10,8 +11,8 @@ use Rattle.cedar_cli.proofs.answers.answer_line.Goals as goal
 pub returns-in-None-clause-err : goal.returns-in-None-clause-err
 returns-in-None-clause-err g c =
     let e : ◌≡◌ {A = Option Order} None (order_of c.args.line.now) = search rules in
-    let s = c.args.trie.now.state in
-    rw (← e) (Leaves-on_err c.write_whole.result None s s (g.W.Write.contents (device_of c.args.writer.now)) (g.W.Write.contents (device_of c.write_whole.new.writer)) (codes "bad line\n") refl refl c.write_whole.ensures.err)
+    let s = seen g.L.Layout.kind c.args.trie.now in
+    rw (← e) (Leaves-on_err c.write_whole.result None s s.state (g.W.Write.contents (device_of c.args.writer.now)) (g.W.Write.contents (device_of c.write_whole.new.writer)) (codes "bad line\n") refl refl c.write_whole.ensures.err)
 
 pub returns-in-Put-clause-ok : goal.returns-in-Put-clause-ok
 returns-in-Put-clause-ok g c =
@@ -98,3 +99,14 @@ returns-in-Entries-clause-err g c =
 
 pub returns-in-Entries-clause-blocks : goal.returns-in-Entries-clause-blocks
 returns-in-Entries-clause-blocks g c = no_blocks (length c.args.line.now) c.args.trie.now
+
+pub returns-in-Figures-clause-ok : goal.returns-in-Figures-clause-ok
+returns-in-Figures-clause-ok g c =
+    let e : Some (Figures, c.deref-in-Figures.result.now) ≡ order_of c.args.line.now = search rules in rw (← e) c.answer_figures.ensures.ok
+
+pub returns-in-Figures-clause-err : goal.returns-in-Figures-clause-err
+returns-in-Figures-clause-err g c =
+    let e : Some (Figures, c.deref-in-Figures.result.now) ≡ order_of c.args.line.now = search rules in rw (← e) c.answer_figures.ensures.err
+
+pub returns-in-Figures-clause-blocks : goal.returns-in-Figures-clause-blocks
+returns-in-Figures-clause-blocks g c = no_blocks (length c.args.line.now) c.args.trie.now

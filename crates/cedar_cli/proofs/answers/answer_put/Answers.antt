@@ -2,6 +2,7 @@ use Rattle.std.proofs.Common.{arith, length, sym, Some, ap, subst, ◌∙◌, �
 use Rattle.std.proofs.lemmas.Int.{to_z-of_z}
 use Rattle.cedar_tree.specs.State.{stored}
 use Rattle.cedar_cli.specs.Script.{refusal}
+use Rattle.cedar_cli.specs.Seen.{seen}
 use Rattle.std.specs.Prelude.{Result}
 use Rattle.cedar_slots.specs.declared.error.CedarError.{CedarError}
 use Rattle.cedar_slots.specs.declared.error.CedarError.TheVariants.{Memory, SlotLimit}
@@ -11,19 +12,22 @@ use Rattle.cedar_cli.specs.declared.command.Verb.TheVariants.{Put}
 use Rattle.cedarwood.specs.WatchedDevice.{device_of}
 use Rattle.cedar_cli.proofs.BlockCounts.{within_further, back_blocks, held_after}
 use Rattle.cedar_cli.proofs.Bytes.{Leaves-on_err, Obeys-on_ok}
-use Rattle.cedar_cli.proofs.Orders.{no_fault, pair_kind, refused_by, taken_back, Leaves-if_err, Leaves-unanswered, no_shortage, put_obeyed, put_refused, on_not_ok, on_not_err, write_failed, write_alone, never_memory}
+use Rattle.cedar_cli.proofs.Orders.{no_fault, pair_kind, refused_by, taken_back, Leaves-if_err, Leaves-unanswered, no_shortage, on_not_ok, on_not_err, write_failed, write_alone, never_memory}
+use Rattle.cedar_cli.proofs.SlotsSeen.{put_obeyed, put_refused, seen_same}
 use Rattle.cedar_cli.proofs.answers.answer_put.Goals as goal
 
 pub returns-then-is_err-clause-err : goal.returns-then-is_err-clause-err
 returns-then-is_err-clause-err g c =
     let key = c.args.key.now in
-    let old = c.args.trie.now.state in
+    let before = c.args.trie.now in
+    let old = before.state in
+    let u = c.in-Ok.ensures.updated in
     let same = to_z-of_z w32 c.args.value c.ranges.value in
-    let clean : fault key c.args.value ≡ None = subst (λ (v : ℤ). fault key v ≡ None) same (no_fault (fault key (to_z w32 (of_z w32 c.args.value))) c.in-Ok.field-0 c.in-Ok.ensures.faulty) in
-    Leaves-if_err c.write_whole-written.result (Some (Put c.args.value, key)) old c.take_back.new.trie.state (g.W.Write.contents (device_of c.args.writer.now)) (g.W.Write.contents (device_of c.write_whole-written.new.writer)) (111 ∷ 107 ∷ 10 ∷ [])
-    (λ _. taken_back c.exact_match_search_bytes-before.result old c.update_bytes.new.self.state c.take_back.new.trie.state key c.args.value
-    c.exact_match_search_bytes-before.ensures.answer c.exact_match_search_bytes-before.ensures.sound c.exact_match_search_bytes-before.ensures.in_range clean
-    (c.in-Ok.ensures.ok ∙ ap (λ v. stored old key v) same) c.take_back.ensures.state)
+    let clean : fault key c.args.value ≡ None = subst (λ (v : ℤ). fault key v ≡ None) same (no_fault (fault key (to_z w32 (of_z w32 c.args.value))) tt u.faulty) in
+    Leaves-if_err c.write_whole-written.result (Some (Put c.args.value, key)) (seen g.L.Layout.kind before) c.take_back.new.trie.state (g.W.Write.contents (device_of c.args.writer.now)) (g.W.Write.contents (device_of c.write_whole-written.new.writer)) (111 ∷ 107 ∷ 10 ∷ [])
+    (λ _. taken_back c.in-Ok.before old c.insert_bytes.new.self.state c.take_back.new.trie.state key c.args.value
+    c.in-Ok.ensures.held c.in-Ok.ensures.sound c.in-Ok.ensures.in_range clean
+    (u.ok ∙ ap (λ v. stored old key v) same) c.take_back.ensures.state)
     (ap (λ f. refusal f ++ 10 ∷ []) (sym clean)) c.write_whole-written.ensures.err
 
 pub returns-then-is_err-clause-ok : goal.returns-then-is_err-clause-ok
@@ -35,28 +39,34 @@ returns-else-is_err-clause-err g c = on_not_err _ c.write_whole-written.result (
 pub returns-else-is_err-clause-ok : goal.returns-else-is_err-clause-ok
 returns-else-is_err-clause-ok g c =
     let key = c.args.key.now in
-    let old = c.args.trie.now.state in
+    let before = c.args.trie.now in
+    let after = c.insert_bytes.new.self in
+    let u = c.in-Ok.ensures.updated in
     let same = to_z-of_z w32 c.args.value c.ranges.value in
-    let clean : fault key c.args.value ≡ None = subst (λ (v : ℤ). fault key v ≡ None) same (no_fault (fault key (to_z w32 (of_z w32 c.args.value))) c.in-Ok.field-0 c.in-Ok.ensures.faulty) in
-    Obeys-on_ok c.write_whole-written.result (Some (Put c.args.value, key)) old c.update_bytes.new.self.state (g.W.Write.contents (device_of c.args.writer.now)) (g.W.Write.contents (device_of c.write_whole-written.new.writer)) (111 ∷ 107 ∷ 10 ∷ [])
-    (c.in-Ok.ensures.ok ∙ ap (λ v. stored old key v) same ∙ put_obeyed old key c.args.value clean)
+    let clean : fault key c.args.value ≡ None = subst (λ (v : ℤ). fault key v ≡ None) same (no_fault (fault key (to_z w32 (of_z w32 c.args.value))) tt u.faulty) in
+    let layout = g.L.Layout.kind in
+    Obeys-on_ok c.write_whole-written.result (Some (Put c.args.value, key)) (seen layout before) (seen layout after) (g.W.Write.contents (device_of c.args.writer.now)) (g.W.Write.contents (device_of c.write_whole-written.new.writer)) (111 ∷ 107 ∷ 10 ∷ [])
+    (put_obeyed layout before after key c.args.value clean c.in-Ok.ensures.sound (u.ok ∙ ap (λ v. stored before.state key v) same) u.marked u.marks)
     (ap (λ f. refusal f ++ 10 ∷ []) (sym clean)) c.write_whole-written.ensures.ok
 
 pub returns-in_default : goal.returns-in_default
 returns-in_default g c =
     let key = c.args.key.now in
-    let old = c.args.trie.now.state in
+    let before = c.args.trie.now in
+    let after = c.insert_bytes.new.self in
+    let layout = g.L.Layout.kind in
+    let u = c.in-Err.ensures.updated in
     let same = to_z-of_z w32 c.args.value c.ranges.value in
     let never : IsShortage c.in-Err.error → ⊥ = no_shortage c.in-Err.error c.in_default.not-Memory c.in_default.not-SlotLimit in
-    let why : fault key c.args.value ≡ Some c.in-Err.error = subst (λ (v : ℤ). fault key v ≡ Some c.in-Err.error) same (refused_by _ (fault key (to_z w32 (of_z w32 c.args.value))) _ c.in-Err.error c.in-Err.ensures.faulty c.in-Err.ensures.refused never) in
+    let why : fault key c.args.value ≡ Some c.in-Err.error = subst (λ (v : ℤ). fault key v ≡ Some c.in-Err.error) same (refused_by _ (fault key (to_z w32 (of_z w32 c.args.value))) _ c.in-Err.error u.faulty u.refused never) in
     let held = g.W.Write.contents (device_of c.args.writer.now) in
     let holds = g.W.Write.contents (device_of c.write_refusal.new.writer) in
     let alone = write_alone _ c.write_refusal.result c.write_refusal.ensures.cause in
     record {
-      ok = Obeys-on_ok c.write_refusal.result (Some (Put c.args.value, key)) old c.update_bytes.new.self.state held holds (refusal (Some c.in-Err.error) ++ 10 ∷ [])
-          (c.in-Err.ensures.err ∙ put_refused old key c.args.value c.in-Err.error why) (ap (λ f. refusal f ++ 10 ∷ []) (sym why)) c.write_refusal.ensures.ok;
-      err = Leaves-on_err c.write_refusal.result (Some (Put c.args.value, key)) old c.update_bytes.new.self.state held holds (refusal (Some c.in-Err.error) ++ 10 ∷ [])
-          c.in-Err.ensures.err (ap (λ f. refusal f ++ 10 ∷ []) (sym why)) c.write_refusal.ensures.err;
+      ok = Obeys-on_ok c.write_refusal.result (Some (Put c.args.value, key)) (seen layout before) (seen layout after) held holds (refusal (Some c.in-Err.error) ++ 10 ∷ [])
+          (seen_same layout before after u.err u.marks_stay ∙ put_refused (seen layout before) key c.args.value c.in-Err.error why) (ap (λ f. refusal f ++ 10 ∷ []) (sym why)) c.write_refusal.ensures.ok;
+      err = Leaves-on_err c.write_refusal.result (Some (Put c.args.value, key)) (seen layout before) after.state held holds (refusal (Some c.in-Err.error) ++ 10 ∷ [])
+          u.err (ap (λ f. refusal f ++ 10 ∷ []) (sym why)) c.write_refusal.ensures.err;
       cause = λ failed. write_failed _ c.write_refusal.result Write c.write_refusal.ensures.cause failed;
       unfailed = c.write_refusal.ensures.unfailed;
       never_read = alone.0;
@@ -64,50 +74,64 @@ returns-in_default g c =
       limit = λ full. absurd (alone.1 full);
       starved = λ m. absurd (never_memory _ c.write_refusal.result c.write_refusal.ensures.cause m);
       full = λ full. absurd (alone.1 full);
-      blocks = (let blocks = c.update_bytes.ensures.blocks in (blocks.0, blocks.1, blocks.3));
-      max_trial = c.update_bytes.ensures.max_trial;
+      blocks = (let blocks = u.blocks in (blocks.0, blocks.1, blocks.3));
+      max_trial = u.max_trial;
     }
 
 pub write_refusal-requires : goal.write_refusal-requires
 write_refusal-requires g c =
+    let u = c.in-Err.ensures.updated in
     let never : IsShortage c.in-Err.error → ⊥ = no_shortage c.in-Err.error c.in_default.not-Memory c.in_default.not-SlotLimit in
     pair_kind c.args.key.now (to_z w32 (of_z w32 c.args.value)) c.in-Err.error
-    (refused_by _ (fault c.args.key.now (to_z w32 (of_z w32 c.args.value))) _ c.in-Err.error c.in-Err.ensures.faulty c.in-Err.ensures.refused never)
+    (refused_by _ (fault c.args.key.now (to_z w32 (of_z w32 c.args.value))) _ c.in-Err.error u.faulty u.refused never)
 
 pub returns-in-Memory-clause-err : goal.returns-in-Memory-clause-err
 returns-in-Memory-clause-err g c =
-    Leaves-unanswered (Some (Put c.args.value, c.args.key.now)) c.args.trie.now.state c.update_bytes.new.self.state (g.W.Write.contents (device_of c.args.writer.now)) c.in-Err.ensures.err
+    Leaves-unanswered (Some (Put c.args.value, c.args.key.now)) (seen g.L.Layout.kind c.args.trie.now) c.insert_bytes.new.self.state (g.W.Write.contents (device_of c.args.writer.now)) c.in-Err.ensures.updated.err
 
 pub returns-in-SlotLimit-clause-err : goal.returns-in-SlotLimit-clause-err
 returns-in-SlotLimit-clause-err g c =
-    Leaves-unanswered (Some (Put c.args.value, c.args.key.now)) c.args.trie.now.state c.update_bytes.new.self.state (g.W.Write.contents (device_of c.args.writer.now)) c.in-Err.ensures.err
+    Leaves-unanswered (Some (Put c.args.value, c.args.key.now)) (seen g.L.Layout.kind c.args.trie.now) c.insert_bytes.new.self.state (g.W.Write.contents (device_of c.args.writer.now)) c.in-Err.ensures.updated.err
 
 pub returns-in-SlotLimit-clause-limit : goal.returns-in-SlotLimit-clause-limit
 returns-in-SlotLimit-clause-limit g c =
     let full : ◌≡◌ {A = Result (Unit {0}) CedarError} (Err c.in-Err.error) (Err SlotLimit) = ap Err c.in-SlotLimit.is in
-    λ _. c.in-Err.ensures.limit full
+    λ _. c.in-Err.ensures.updated.limit full
 
 pub returns-then-is_err-clause-blocks : goal.returns-then-is_err-clause-blocks
 returns-then-is_err-clause-blocks g c =
     let key = c.args.key.now in
-    let blocks = c.update_bytes.ensures.blocks in
-    let held = held_after c.args.trie.now.state c.update_bytes.new.self.state key (to_z w32 (of_z w32 c.args.value)) c.in-Ok.ensures.ok in
-    let back = back_blocks c.exact_match_search_bytes-before.result _ c.update_bytes.new.self c.take_back.new.trie c.take_back.ensures.blocks held in
-    within_further (length key) 0 (length key) c.args.trie.now c.update_bytes.new.self c.take_back.new.trie (omega arith) (blocks.0, blocks.1, blocks.3) (0, omega arith, back)
+    let u = c.in-Ok.ensures.updated in
+    let blocks = u.blocks in
+    let held = held_after c.args.trie.now.state c.insert_bytes.new.self.state key (to_z w32 (of_z w32 c.args.value)) u.ok in
+    let back = back_blocks c.in-Ok.before _ c.insert_bytes.new.self c.take_back.new.trie c.take_back.ensures.blocks held in
+    within_further (length key) 0 (length key) c.args.trie.now c.insert_bytes.new.self c.take_back.new.trie (omega arith) (blocks.0, blocks.1, blocks.3) (0, omega arith, back)
+
+pub returns-then-is_err-clause-max_trial : goal.returns-then-is_err-clause-max_trial
+returns-then-is_err-clause-max_trial g c = c.take_back.ensures.max_trial ∙ c.in-Ok.ensures.updated.max_trial
+
+pub returns-else-is_err-clause-max_trial : goal.returns-else-is_err-clause-max_trial
+returns-else-is_err-clause-max_trial g c = c.in-Ok.ensures.updated.max_trial
+
+pub returns-in-Memory-clause-max_trial : goal.returns-in-Memory-clause-max_trial
+returns-in-Memory-clause-max_trial g c = c.in-Err.ensures.updated.max_trial
+
+pub returns-in-SlotLimit-clause-max_trial : goal.returns-in-SlotLimit-clause-max_trial
+returns-in-SlotLimit-clause-max_trial g c = c.in-Err.ensures.updated.max_trial
 
 pub returns-else-is_err-clause-blocks : goal.returns-else-is_err-clause-blocks
-returns-else-is_err-clause-blocks g c = let blocks = c.update_bytes.ensures.blocks in (blocks.0, blocks.1, blocks.3)
+returns-else-is_err-clause-blocks g c = let blocks = c.in-Ok.ensures.updated.blocks in (blocks.0, blocks.1, blocks.3)
 
 pub returns-in-Memory-clause-blocks : goal.returns-in-Memory-clause-blocks
-returns-in-Memory-clause-blocks g c = let blocks = c.update_bytes.ensures.blocks in (blocks.0, blocks.1, blocks.3)
+returns-in-Memory-clause-blocks g c = let blocks = c.in-Err.ensures.updated.blocks in (blocks.0, blocks.1, blocks.3)
 
 pub returns-in-SlotLimit-clause-blocks : goal.returns-in-SlotLimit-clause-blocks
-returns-in-SlotLimit-clause-blocks g c = let blocks = c.update_bytes.ensures.blocks in (blocks.0, blocks.1, blocks.3)
+returns-in-SlotLimit-clause-blocks g c = let blocks = c.in-Err.ensures.updated.blocks in (blocks.0, blocks.1, blocks.3)
 
 pub returns-in-Memory-clause-memory : goal.returns-in-Memory-clause-memory
 returns-in-Memory-clause-memory g c =
     let starved : ◌≡◌ {A = Result (Unit {0}) CedarError} (Err c.in-Err.error) (Err Memory) = ap Err c.in-Memory.is in
-    λ _. c.in-Err.ensures.memory starved
+    λ _. c.in-Err.ensures.updated.memory starved
 
 pub returns-then-is_err-clause-memory : goal.returns-then-is_err-clause-memory
 returns-then-is_err-clause-memory g c = λ m. absurd (never_memory _ c.write_whole-written.result c.write_whole-written.ensures.cause m)

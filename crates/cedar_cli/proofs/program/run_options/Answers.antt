@@ -1,21 +1,22 @@
 use Rattle.cedarwood.specs.WatchedDevice.{device_of}
-use Rattle.cedar_cli.specs.Options.{empty_state, shown}
+use Rattle.cedar_cli.specs.Options.{empty, shown}
+use Rattle.cedar_cli.specs.Seen.{seen}
 use Rattle.cedar_cli.proofs.Begun.{begins_empty, on_ok}
 use Rattle.cedar_cli.proofs.Runs.{none_front}
 use Rattle.cedar_cli.proofs.program.run_options.Goals as goal
 
 pub returns-then-not-fits-clause-begun : goal.returns-then-not-fits-clause-begun
 returns-then-not-fits-clause-begun g c =
-    let s = empty_state c.args.options.ordered in
-    (s, begins_empty (shown c.args.options), none_front s (g.W.Write.contents (device_of c.args.writer.now)) (g.R.Read.remaining (device_of c.args.reader.now)))
+    let s = empty g.L.Layout.kind c.args.options.ordered in
+    (s, begins_empty g.L.Layout.kind (shown c.args.options), none_front s (g.W.Write.contents (device_of c.args.writer.now)) (g.R.Read.remaining (device_of c.args.reader.now)))
 
 pub returns-in_err-trie-clause-begun : goal.returns-in_err-trie-clause-begun
 returns-in_err-trie-clause-begun g c =
-    let s = empty_state c.args.options.ordered in
-    (s, begins_empty (shown c.args.options), none_front s (g.W.Write.contents (device_of c.args.writer.now)) (g.R.Read.remaining (device_of c.args.reader.now)))
+    let s = empty g.L.Layout.kind c.args.options.ordered in
+    (s, begins_empty g.L.Layout.kind (shown c.args.options), none_front s (g.W.Write.contents (device_of c.args.writer.now)) (g.R.Read.remaining (device_of c.args.reader.now)))
 
 pub returns-in-Ok-clause-ok : goal.returns-in-Ok-clause-ok
-returns-in-Ok-clause-ok g c = on_ok c.save.result (c.in_ok-trie.trie.state, c.in_ok-trie.ensures, c.in-Ok.ensures.ok)
+returns-in-Ok-clause-ok g c = on_ok c.save.result (seen g.L.Layout.kind c.in_ok-trie.trie, c.in_ok-trie.ensures, c.in-Ok.ensures.ok)
 
 pub returns-in-Ok-clause-unfailed : goal.returns-in-Ok-clause-unfailed
 returns-in-Ok-clause-unfailed g c = on_ok c.save.result c.in-Ok.ensures.unfailed

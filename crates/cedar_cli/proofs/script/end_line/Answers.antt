@@ -2,6 +2,7 @@ use Rattle.std.proofs.Common.{ap, length-append, ◌+◌, ◌≡◌, arith, leng
 use Rattle.cedarwood.specs.WatchedDevice.{device_of}
 use Rattle.cedar_cli.specs.Command.{order_of}
 use Rattle.cedar_cli.specs.Script.{Obeys, Leaves, Advances, Stops}
+use Rattle.cedar_cli.specs.Seen.{seen}
 use Rattle.cedar_cli.proofs.BlockCounts.{no_blocks, within_more}
 use Rattle.cedar_cli.proofs.Bytes.{line_done, line_left, not_begun, on_err}
 use Rattle.cedar_cli.proofs.Runs.{short_line}
@@ -12,23 +13,23 @@ pub returns-then-is_empty-clause-ok : goal.returns-then-is_empty-clause-ok
 returns-then-is_empty-clause-ok g c =
     let len : length c.args.line.now.items ≡ c.args.line.now.len = omega (arith, c.args.line.now.ok.0) in
     let none : c.args.line.now.items ≡ [] = short_line c.args.line.now.items c.args.line.now.len len (sym c.is_empty.ensures ∙ c.if-is_empty.true) in
-    rw none (taken_on_ok c.answer_line.result c.args.trie.now.state c.answer_line.new.trie.state (g.W.Write.contents (device_of c.args.writer.now)) (g.W.Write.contents (device_of c.answer_line.new.writer)) c.args.piece.now
+    rw none (taken_on_ok c.answer_line.result (seen g.L.Layout.kind c.args.trie.now) (seen g.L.Layout.kind c.answer_line.new.trie) (g.W.Write.contents (device_of c.args.writer.now)) (g.W.Write.contents (device_of c.answer_line.new.writer)) c.args.piece.now
     c.requires.open_piece c.answer_line.ensures.ok)
 
 pub returns-then-is_empty-clause-err : goal.returns-then-is_empty-clause-err
 returns-then-is_empty-clause-err g c =
     let len : length c.args.line.now.items ≡ c.args.line.now.len = omega (arith, c.args.line.now.ok.0) in
     let none : c.args.line.now.items ≡ [] = short_line c.args.line.now.items c.args.line.now.len len (sym c.is_empty.ensures ∙ c.if-is_empty.true) in
-    rw none (stopped_on_err c.answer_line.result c.args.trie.now.state c.answer_line.new.trie.state (g.W.Write.contents (device_of c.args.writer.now)) (g.W.Write.contents (device_of c.answer_line.new.writer)) c.args.piece.now
+    rw none (stopped_on_err c.answer_line.result (seen g.L.Layout.kind c.args.trie.now) c.answer_line.new.trie.state (g.W.Write.contents (device_of c.args.writer.now)) (g.W.Write.contents (device_of c.answer_line.new.writer)) c.args.piece.now
     c.requires.open_piece c.answer_line.ensures.err)
 
 pub returns-in_default-clause-err : goal.returns-in_default-clause-err
 returns-in_default-clause-err g c =
-    not_begun c.args.trie.now.state (g.W.Write.contents (device_of c.args.writer.now)) (c.args.line.now.items ++ (c.args.piece.now ++ 10 ∷ []))
+    not_begun (seen g.L.Layout.kind c.args.trie.now) (g.W.Write.contents (device_of c.args.writer.now)) (c.args.line.now.items ++ (c.args.piece.now ++ 10 ∷ []))
 
 pub returns-in_err-answer_line-clause-err : goal.returns-in_err-answer_line-clause-err
 returns-in_err-answer_line-clause-err g c =
-    let old = c.args.trie.now.state in
+    let old = seen g.L.Layout.kind c.args.trie.now in
     let new = c.answer_line-2.new.trie.state in
     let held = g.W.Write.contents (device_of c.args.writer.now) in
     let holds = g.W.Write.contents (device_of c.answer_line-2.new.writer) in
@@ -41,8 +42,8 @@ returns-in_err-answer_line-clause-err g c =
 
 pub returns-clause-ok : goal.returns-clause-ok
 returns-clause-ok g c =
-    let old = c.args.trie.now.state in
-    let new = c.answer_line-2.new.trie.state in
+    let old = seen g.L.Layout.kind c.args.trie.now in
+    let new = seen g.L.Layout.kind c.answer_line-2.new.trie in
     let held = g.W.Write.contents (device_of c.args.writer.now) in
     let holds = g.W.Write.contents (device_of c.answer_line-2.new.writer) in
     let line = c.args.line.now.items in

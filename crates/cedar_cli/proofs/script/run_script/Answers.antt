@@ -9,6 +9,7 @@ use Rattle.cedar_cli.specs.Command.{order_of}
 use Rattle.cedar_cli.specs.Lines.{lines_of, IsOpen}
 use Rattle.cedar_cli.specs.Script.{Obeys, Leaves, Finishes, Advances, Stops, EndsEarly}
 use Rattle.cedarwood.proofs.GrowthLemmas.{grows_none}
+use Rattle.cedar_cli.specs.Seen.{seen}
 use Rattle.cedar_cli.proofs.BlockCounts.{chunk_taken, chunk_left, last_blocks, so_far_blocks, came_blocks}
 use Rattle.cedar_cli.proofs.Bytes.{unfailed_call, failed_call, bytes_on, Advances-append, Advances-kept, Stops-append, on_err}
 use Rattle.cedar_cli.proofs.Runs.{Consumes-append, Consumes-none, Consumes-kept, end_found, whole_came, of_script, ended_early, Stops-from_advances, all_finished, last_finished, last_left, of_known, long_line, short_line}
@@ -23,7 +24,7 @@ loop-turn-init g c =
       Consumes-none (g.R.Read.remaining (device_of c.args.reader.now)),
       omega arith,
       tt,
-      bytes_on c.args.trie.now.state (g.W.Write.contents (device_of c.args.writer.now)) [],
+      bytes_on (seen g.L.Layout.kind c.args.trie.now) (g.W.Write.contents (device_of c.args.writer.now)) [],
       refl,
       refl,
       refl,
@@ -33,9 +34,9 @@ loop-turn-init g c =
 pub loop-turn-preserved : goal.loop-turn-preserved
 loop-turn-preserved g c =
     let before = c.loop-turn.invariant in
-    let old = c.args.trie.now.state in
-    let mid = c.loop-turn.trie.state in
-    let new = c.take_bytes.new.trie.state in
+    let old = seen g.L.Layout.kind c.args.trie.now in
+    let mid = seen g.L.Layout.kind c.loop-turn.trie in
+    let new = seen g.L.Layout.kind c.take_bytes.new.trie in
     let first = g.W.Write.contents (device_of c.args.writer.now) in
     let held = g.W.Write.contents (device_of c.flush.new.self) in
     let holds = g.W.Write.contents (device_of c.take_bytes.new.writer) in
@@ -57,22 +58,22 @@ loop-turn-preserved g c =
 pub returns-in_default-clause-err : goal.returns-in_default-clause-err
 returns-in_default-clause-err g c =
     let before = c.loop-turn.invariant in
-    let old = c.args.trie.now.state in
-    let new = c.loop-turn.trie.state in
+    let old = seen g.L.Layout.kind c.args.trie.now in
+    let new = seen g.L.Layout.kind c.loop-turn.trie in
     let first = g.W.Write.contents (device_of c.args.writer.now) in
     let held = g.W.Write.contents (device_of c.flush.new.self) in
-    ended_early old new first held (g.R.Read.remaining (device_of c.args.reader.now)) (g.R.Read.remaining (device_of c.loop-turn.reader)) before.0 before.1
+    ended_early old new.state first held (g.R.Read.remaining (device_of c.args.reader.now)) (g.R.Read.remaining (device_of c.loop-turn.reader)) before.0 before.1
     (Stops-from_advances old new first held before.0 c.loop-turn.line.items
     (Advances-kept old new first (g.W.Write.contents (device_of c.loop-turn.writer)) held before.0 c.loop-turn.line.items before.4 c.flush.ensures.bytes))
 
 pub returns-in_default-read-clause-err : goal.returns-in_default-read-clause-err
 returns-in_default-read-clause-err g c =
     let before = c.loop-turn.invariant in
-    let old = c.args.trie.now.state in
-    let new = c.loop-turn.trie.state in
+    let old = seen g.L.Layout.kind c.args.trie.now in
+    let new = seen g.L.Layout.kind c.loop-turn.trie in
     let first = g.W.Write.contents (device_of c.args.writer.now) in
     let held = g.W.Write.contents (device_of c.flush.new.self) in
-    ended_early old new first held (g.R.Read.remaining (device_of c.args.reader.now)) (g.R.Read.remaining (device_of c.loop-turn.reader)) before.0 before.1
+    ended_early old new.state first held (g.R.Read.remaining (device_of c.args.reader.now)) (g.R.Read.remaining (device_of c.loop-turn.reader)) before.0 before.1
     (Stops-from_advances old new first held before.0 c.loop-turn.line.items
     (Advances-kept old new first (g.W.Write.contents (device_of c.loop-turn.writer)) held before.0 c.loop-turn.line.items before.4 c.flush.ensures.bytes))
 
@@ -80,8 +81,8 @@ pub returns-in_default-read-clause-read : goal.returns-in_default-read-clause-re
 returns-in_default-read-clause-read g c = λ _.
     let before = c.loop-turn.invariant in
     let start = g.R.Read.remaining (device_of c.args.reader.now) in
-    let old = c.args.trie.now.state in
-    let new = c.loop-turn.trie.state in
+    let old = seen g.L.Layout.kind c.args.trie.now in
+    let new = seen g.L.Layout.kind c.loop-turn.trie in
     let first = g.W.Write.contents (device_of c.args.writer.now) in
     let held = g.W.Write.contents (device_of c.flush.new.self) in
     let P : List ℕ → Type 0 = λ input. (came : List ℕ) × (line : List ℕ) × Consumes start (g.R.Read.remaining (device_of c.read.new.self)) came × IsOpen line
@@ -97,8 +98,8 @@ returns-in_default-read-clause-read g c = λ _.
 pub returns-in_err-take_bytes-clause-err : goal.returns-in_err-take_bytes-clause-err
 returns-in_err-take_bytes-clause-err g c =
     let before = c.loop-turn.invariant in
-    let old = c.args.trie.now.state in
-    let mid = c.loop-turn.trie.state in
+    let old = seen g.L.Layout.kind c.args.trie.now in
+    let mid = seen g.L.Layout.kind c.loop-turn.trie in
     let new = c.take_bytes.new.trie.state in
     let first = g.W.Write.contents (device_of c.args.writer.now) in
     let held = g.W.Write.contents (device_of c.flush.new.self) in
@@ -115,8 +116,8 @@ returns-in_err-take_bytes-clause-err g c =
 pub returns-in_err-answer_line-clause-err : goal.returns-in_err-answer_line-clause-err
 returns-in_err-answer_line-clause-err g c =
     let before = c.loop-turn.invariant in
-    let old = c.args.trie.now.state in
-    let mid = c.loop-turn.trie.state in
+    let old = seen g.L.Layout.kind c.args.trie.now in
+    let mid = seen g.L.Layout.kind c.loop-turn.trie in
     let new = c.answer_line.new.trie.state in
     let first = g.W.Write.contents (device_of c.args.writer.now) in
     let held = g.W.Write.contents (device_of c.loop-turn-test.writer) in
@@ -147,15 +148,15 @@ returns-in_err-answer_line-clause-err g c =
 pub returns-clause-ok : goal.returns-clause-ok
 returns-clause-ok g c =
     let before = c.loop-turn.invariant in
-    let old = c.args.trie.now.state in
-    let mid = c.loop-turn.trie.state in
+    let old = seen g.L.Layout.kind c.args.trie.now in
+    let mid = seen g.L.Layout.kind c.loop-turn.trie in
     let first = g.W.Write.contents (device_of c.args.writer.now) in
     let held = g.W.Write.contents (device_of c.loop-turn-test.writer) in
     let line = c.loop-turn.line.items in
     let len : length line ≡ c.loop-turn.line.len = omega (arith, c.loop-turn.line.ok.0) in
     let start = g.R.Read.remaining (device_of c.args.reader.now) in
     let rest = g.R.Read.remaining (device_of c.loop-turn.reader) in
-    let new = c.if-not-is_empty.trie.state in
+    let new = seen g.L.Layout.kind c.if-not-is_empty.trie in
     let holds = g.W.Write.contents (device_of c.if-not-is_empty.writer) in
     let over : IsAtEnd rest ⊎ (9223372036854775808 ≤ length before.0) =
     elim c.loop-turn-test.branch [
@@ -170,17 +171,17 @@ returns-clause-ok g c =
       | else-loop-turn-test w ↦ rw w.writer-is before.4
       | then-loop-turn-test+in-Ok+in-Ok-read+then-count-eq0 w ↦ rw w.writer-is (Advances-kept old mid first (g.W.Write.contents (device_of c.loop-turn.writer)) (g.W.Write.contents (device_of w.flush.new.self)) before.0 line before.4 w.flush.ensures.bytes)
     ] in
-    let all : Finishes old new first holds (lines_of before.0) [] =
+    let all : Finishes old new first holds (lines_of before.0) =
     elim c.if-not-is_empty.branch [
       | then-not-is_empty+in_ok-answer_line w ↦ let long : 0 < length line = long_line line c.loop-turn.line.len len (sym c.is_empty.ensures ∙ w.if-not-is_empty.true) in
-          let obeyed : Obeys (order_of line) mid w.answer_line.new.trie.state held (g.W.Write.contents (device_of w.answer_line.new.writer)) =
-          subst (λ (l : List ℕ). Obeys (order_of l) mid w.answer_line.new.trie.state held (g.W.Write.contents (device_of w.answer_line.new.writer))) w.as_slice.ensures.value w.in_ok-answer_line.ensures.ok in
-          rw (w.trie-is, w.writer-is) (last_finished old mid w.answer_line.new.trie.state first held (g.W.Write.contents (device_of w.answer_line.new.writer)) before.0 line before.3 long so_far obeyed)
+          let obeyed : Obeys (order_of line) mid (seen g.L.Layout.kind w.answer_line.new.trie) held (g.W.Write.contents (device_of w.answer_line.new.writer)) =
+          subst (λ (l : List ℕ). Obeys (order_of l) mid (seen g.L.Layout.kind w.answer_line.new.trie) held (g.W.Write.contents (device_of w.answer_line.new.writer))) w.as_slice.ensures.value w.in_ok-answer_line.ensures.ok in
+          rw (w.trie-is, w.writer-is) (last_finished old mid (seen g.L.Layout.kind w.answer_line.new.trie) first held (g.W.Write.contents (device_of w.answer_line.new.writer)) before.0 line before.3 long so_far obeyed)
       | else-not-is_empty w ↦ let short : line ≡ [] = short_line line c.loop-turn.line.len len (sym c.is_empty.ensures ∙ w.if-not-is_empty.false) in
           rw (w.trie-is, w.writer-is) (all_finished old mid first held before.0 line so_far short)
     ] in
     of_script start (whole_came start rest before.0 before.1 over)
-    (λ input same few. subst (λ (script : List ℕ). Finishes old new first holds (lines_of script) []) (sym (same few)) all)
+    (λ input same few. subst (λ (script : List ℕ). Finishes old new first holds (lines_of script)) (sym (same few)) all)
 
 pub returns-clause-unfailed : goal.returns-clause-unfailed
 returns-clause-unfailed g c =

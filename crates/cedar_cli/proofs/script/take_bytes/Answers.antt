@@ -1,5 +1,6 @@
 use Rattle.std.proofs.Common.{rules, refl, ◌∙◌, sym, ◌++◌, ◌∷◌, [], take, drop, length, ◌-◌, ◌+◌}
 use Rattle.cedarwood.specs.WatchedDevice.{device_of}
+use Rattle.cedar_cli.specs.Seen.{seen}
 use Rattle.cedar_cli.proofs.BlockCounts.{none_before, further_line, stopped_line, rest_begun, rest_lost}
 use Rattle.cedar_cli.proofs.Bytes.{on_err}
 use Rattle.cedar_cli.proofs.Newlines.{open_append, open_none, open_at, gone_further, line_taken, line_stopped, none_taken, rest_left, rest_taken}
@@ -13,7 +14,7 @@ loop-at-init g c = (
   [],
   refl,
   c.requires.«open»,
-  none_taken c.args.trie.now.state (g.W.Write.contents (device_of c.args.writer.now)) c.args.line.now.items,
+  none_taken (seen g.L.Layout.kind c.args.trie.now) (g.W.Write.contents (device_of c.args.writer.now)) c.args.line.now.items,
   refl,
   refl,
   none_before c.args.line.now.items c.args.trie.now,
@@ -23,7 +24,7 @@ pub returns-in-Ok-clause-ok : goal.returns-in-Ok-clause-ok
 returns-in-Ok-clause-ok g c =
     let before = c.loop-at.invariant in
     rw c.in-Ok.ensures.items
-    (rest_taken c.args.trie.now.state c.loop-at.trie.state (g.W.Write.contents (device_of c.args.writer.now)) (g.W.Write.contents (device_of c.loop-at.writer))
+    (rest_taken (seen g.L.Layout.kind c.args.trie.now) (seen g.L.Layout.kind c.loop-at.trie) (g.W.Write.contents (device_of c.args.writer.now)) (g.W.Write.contents (device_of c.loop-at.writer))
     c.args.line.now.items before.0 c.loop-at.line.items c.loop-at.rest.now c.args.bytes.now before.3 before.1)
 
 pub loop-at-preserved : goal.loop-at-preserved
@@ -34,7 +35,7 @@ loop-at-preserved g c =
       before.0 ++ (take at rest ++ 10 ∷ []),
       gone_further c.args.bytes.now before.0 rest at before.1 (sym c.in-Some.ensures.first),
       rw c.in_ok-end_line.ensures.empty tt,
-      line_taken c.args.trie.now.state c.loop-at.trie.state c.end_line.new.trie.state (g.W.Write.contents (device_of c.args.writer.now)) (g.W.Write.contents (device_of c.loop-at.writer)) (g.W.Write.contents (device_of c.end_line.new.writer))
+      line_taken (seen g.L.Layout.kind c.args.trie.now) (seen g.L.Layout.kind c.loop-at.trie) (seen g.L.Layout.kind c.end_line.new.trie) (g.W.Write.contents (device_of c.args.writer.now)) (g.W.Write.contents (device_of c.loop-at.writer)) (g.W.Write.contents (device_of c.end_line.new.writer))
           c.args.line.now.items before.0 c.loop-at.line.items (take at rest) c.end_line.new.line.items before.3 c.in_ok-end_line.ensures.ok c.in_ok-end_line.ensures.empty,
       c.in_ok-end_line.ensures.unfailed ∙ before.4,
       c.end_line.ensures.max_trial ∙ before.5,
@@ -47,7 +48,7 @@ returns-in_err-end_line-clause-err g c =
     let rest = c.loop-at.rest.now in
     let at = c.in-Some.at in
     on_err c.from_residual.result
-    (line_stopped c.args.trie.now.state c.loop-at.trie.state c.end_line.new.trie.state (g.W.Write.contents (device_of c.args.writer.now)) (g.W.Write.contents (device_of c.loop-at.writer)) (g.W.Write.contents (device_of c.end_line.new.writer))
+    (line_stopped (seen g.L.Layout.kind c.args.trie.now) (seen g.L.Layout.kind c.loop-at.trie) c.end_line.new.trie.state (g.W.Write.contents (device_of c.args.writer.now)) (g.W.Write.contents (device_of c.loop-at.writer)) (g.W.Write.contents (device_of c.end_line.new.writer))
     c.args.line.now.items before.0 c.loop-at.line.items (take at rest) (take (length rest - (at + 1)) (drop (at + 1) rest)) c.args.bytes.now before.3 c.in_err-end_line.ensures.err
     (gone_further c.args.bytes.now before.0 rest at before.1 (sym c.in-Some.ensures.first)))
 
@@ -60,7 +61,7 @@ returns-in-Ok-clause-still_open g c =
 pub returns-in-Err-clause-err : goal.returns-in-Err-clause-err
 returns-in-Err-clause-err g c =
     let before = c.loop-at.invariant in
-    rest_left c.args.trie.now.state c.loop-at.trie.state (g.W.Write.contents (device_of c.args.writer.now)) (g.W.Write.contents (device_of c.loop-at.writer))
+    rest_left (seen g.L.Layout.kind c.args.trie.now) (seen g.L.Layout.kind c.loop-at.trie) (g.W.Write.contents (device_of c.args.writer.now)) (g.W.Write.contents (device_of c.loop-at.writer))
     c.args.line.now.items before.0 c.loop-at.line.items c.loop-at.rest.now c.args.bytes.now before.3 before.1
 
 pub returns-in_err-end_line-clause-blocks_left : goal.returns-in_err-end_line-clause-blocks_left

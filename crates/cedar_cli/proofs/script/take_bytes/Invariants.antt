@@ -3,13 +3,14 @@ use Rattle.cedarwood.specs.WatchedDevice.{device_of, has_failed}
 use Rattle.cedar_cli.specs.Blocks.{GrowsBefore}
 use Rattle.cedar_cli.specs.Lines.{IsOpen}
 use Rattle.cedar_cli.specs.Script.{Advances}
+use Rattle.cedar_cli.specs.Seen.{seen}
 use Rattle.cedar_cli.proofs.script.take_bytes.Given as goal
 
 -- the bytes before the rest were taken
 abbrev pub invariant-loop-at : goal.invariant-loop-at
 invariant-loop-at g l =
     (gone : List ℕ) × (l.bytes ≡ gone ++ l.rest) × IsOpen l.line.items
-    × Advances l.fn.trie.state l.trie.state
+    × Advances (seen g.L.Layout.kind l.fn.trie) (seen g.L.Layout.kind l.trie)
     (g.W.Write.contents (device_of l.fn.writer)) (g.W.Write.contents (device_of l.writer)) (l.fn.line.items ++ gone) l.line.items
     × (has_failed l.writer ≡ has_failed l.fn.writer)
     × (l.trie.max_trial ≡ l.fn.trie.max_trial)

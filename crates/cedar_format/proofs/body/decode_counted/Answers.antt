@@ -1,8 +1,12 @@
-use Rattle.std.proofs.Common.{sym, ◌≡◌, ◌∙◌, append-nil, ap, subst}
+use Rattle.std.proofs.Common.{sym, ◌/◌, ◌≡◌, ◌∙◌, append-nil, ap, subst}
 use Rattle.std.proofs.lemmas.Result.{err_from_is_err_and}
 use Rattle.std.proofs.KnownBytes.{Consumes-trans}
 use Rattle.std.specs.Io.KnownBytes.{Consumes}
-use Rattle.cedar_format.specs.Format.{body_len, IsHeader, Passes}
+use Rattle.cedar_format.specs.Format.{body_len, filled, listed_bytes, listed_in, IsFile, IsHeader, Passes}
+use Rattle.cedar_format.specs.Records.{body_bytes}
+use Rattle.cedar_slots.specs.Blocks.{blank_block}
+use Rattle.cedar_slots.specs.Slots.{blank_info, blank_node}
+use Rattle.cedar_format.proofs.FilledFile.{filled_file, listed_again}
 use Rattle.cedar_format.proofs.Asking.{asks_within, passes}
 use Rattle.cedar_format.proofs.Decoding.{wrong_sizes, no_memory, short_body, long_file, whole_file}
 use Rattle.cedar_format.proofs.Lacking.{missed, no_lack, table_lacks, trailed}
@@ -20,37 +24,69 @@ returns-in_err-empty-clause-answer g c =
     let p = err_from_is_err_and c.from_residual-in_err-empty.result c.from_residual-in_err-empty.ensures.1 in
     rw (p.1, p.2) (no_memory c.args.layout c.args.slots c.args.memory_limit read.0 _ read.2 _ _ _ _ read.1 (sym c.in_ok-check_sizes.ensures.refusal) c.in_err-empty.ensures.err)
 
-pub returns-in_err-tables-clause-answer : goal.returns-in_err-tables-clause-answer
-returns-in_err-tables-clause-answer g c =
+pub returns-in_err-lists-clause-answer : goal.returns-in_err-lists-clause-answer
+returns-in_err-lists-clause-answer g c =
     let read = c.in_ok-header.ensures.bytes in
-    let p = err_from_is_err_and c.from_residual-in_err-tables.result c.from_residual-in_err-tables.ensures.1 in
-    rw (p.1, p.2) (short_body c.args.layout c.args.slots c.args.memory_limit read.0 _ read.2 _ _ _ _ c.in_ok-empty.empty.header c.in_ok-empty.ensures.header read.1 (sym c.in_ok-check_sizes.ensures.refusal) c.in_err-tables.ensures.misses)
+    let p = err_from_is_err_and c.from_residual-in_err-lists.result c.from_residual-in_err-lists.ensures.1 in
+    rw (p.1, p.2) (short_body c.args.layout c.args.slots c.args.memory_limit read.0 _ read.2 _ _ _ _ c.in_ok-empty.empty.header c.in_ok-empty.ensures.header read.1 (sym c.in_ok-check_sizes.ensures.refusal) c.in_err-lists.ensures.misses)
 
 pub returns-in_err-read_end-clause-answer : goal.returns-in_err-read_end-clause-answer
 returns-in_err-read_end-clause-answer g c =
     let read = c.in_ok-header.ensures.bytes in
     let p = err_from_is_err_and c.from_residual-in_err-read_end.result c.from_residual-in_err-read_end.ensures.1 in
-    rw (p.1, p.2) (long_file c.args.layout c.args.slots c.args.memory_limit read.0 _ read.2 _ _ _ _ _ _ read.1 c.in_ok-tables.ensures.bytes (c.in_ok-tables.ensures.len ∙ ap body_len c.in_ok-empty.ensures.header) (sym c.in_ok-check_sizes.ensures.refusal) c.in_err-read_end.ensures.trailing)
+    rw (p.1, p.2) (long_file c.args.layout c.args.slots c.args.memory_limit read.0 _ read.2 _ _ _ _ _ _ read.1 c.in_ok-lists.ensures.bytes (c.in_ok-lists.ensures.len ∙ ap body_len c.in_ok-empty.ensures.header) (sym c.in_ok-check_sizes.ensures.refusal) c.in_err-read_end.ensures.trailing)
 
 pub returns-clause-answer : goal.returns-clause-answer
 returns-clause-answer g c =
     let read = c.in_ok-header.ensures.bytes in
-    whole_file c.args.layout c.args.slots c.args.memory_limit read.0 _ read.2 _ _ _ _ _ read.1 c.in_ok-tables.ensures.bytes (c.in_ok-tables.ensures.len ∙ ap body_len c.in_ok-empty.ensures.header) (sym c.in_ok-check_sizes.ensures.refusal) c.in_ok-read_end.ensures.ended
+    whole_file c.args.layout c.args.slots c.args.memory_limit read.0 _ read.2 _ _ _ _ _ read.1 c.in_ok-lists.ensures.bytes (c.in_ok-lists.ensures.len ∙ ap body_len c.in_ok-empty.ensures.header) (sym c.in_ok-check_sizes.ensures.refusal) c.in_ok-read_end.ensures.ended
 
 pub returns-clause-bytes : goal.returns-clause-bytes
 returns-clause-bytes g c =
     let read = c.in_ok-header.ensures.bytes in
-    let same : c.in_ok-tables.tables.header ≡ c.in_ok-header.header = c.in_ok-tables.ensures.header ∙ c.in_ok-empty.ensures.header in
-    let body = Consumes-trans _ _ _ _ _ c.in_ok-tables.ensures.bytes c.in_ok-read_end.ensures.bytes in
-    (read.0, subst (λ h. IsHeader c.args.layout read.0 h) (sym same) read.2, Consumes-trans _ _ _ _ _ read.1 (subst (Consumes _ _) (append-nil _) body))
+    let lists = c.in_ok-lists.lists in
+    let tables = c.fill_tables.result in
+    let read_lists = c.in_ok-lists.ensures in
+    let filled_lists = c.fill_tables.ensures in
+    let of_empty : c.in_ok-empty.empty.header ≡ c.in_ok-header.header = c.in_ok-empty.ensures.header in
+    let of_lists : lists.header ≡ c.in_ok-header.header = read_lists.header ∙ of_empty in
+    let of_tables : tables.header ≡ c.in_ok-header.header = filled_lists.header ∙ of_lists in
+    let body = Consumes-trans _ _ _ _ _ read_lists.bytes c.in_ok-read_end.ensures.bytes in
+    let again = listed_again c.args.slots c.args.memory_limit c.in_ok-header.header (sym c.in_ok-check_sizes.ensures.refusal)
+    lists.nodes.items lists.n_infos.items lists.blocks.items lists.reject.items
+    (read_lists.nodes.0 ∙ ap (λ h. h.array_len) of_empty) (read_lists.n_infos.0 ∙ ap (λ h. h.n_infos_len) of_empty) (read_lists.blocks.0 ∙ ap (λ h. h.blocks_len) of_empty) (read_lists.reject ∙ ap (λ h. h.reject_len) of_empty)
+    tables.nodes.items tables.n_infos.items tables.blocks.items tables.reject.items
+    (filled_lists.nodes ∙ ap (λ h. filled blank_node h.capacity lists.nodes.items) of_lists) (filled_lists.n_infos ∙ ap (λ h. filled blank_info h.capacity lists.n_infos.items) of_lists)
+    (filled_lists.blocks ∙ ap (λ h. filled blank_block (h.capacity / 256) lists.blocks.items) of_lists) filled_lists.reject in
+    let spelled : body_bytes lists.nodes.items lists.n_infos.items lists.blocks.items lists.reject.items ≡ listed_bytes (listed_in tables.header) tables.nodes.items tables.n_infos.items tables.blocks.items tables.reject.items =
+    again ∙ ap (λ h. listed_bytes (listed_in h) tables.nodes.items tables.n_infos.items tables.blocks.items tables.reject.items) (sym of_tables) in
+    (read.0, subst (λ h. IsHeader c.args.layout read.0 h) (sym of_tables) read.2, Consumes-trans _ _ _ _ _ read.1 (subst (Consumes _ _) (append-nil _ ∙ spelled) body))
+
+pub returns-clause-file : goal.returns-clause-file
+returns-clause-file g c =
+    let lists = c.in_ok-lists.lists in
+    let tables = c.fill_tables.result in
+    let read_lists = c.in_ok-lists.ensures in
+    let filled_lists = c.fill_tables.ensures in
+    let of_empty : c.in_ok-empty.empty.header ≡ c.in_ok-header.header = c.in_ok-empty.ensures.header in
+    let of_lists : lists.header ≡ c.in_ok-header.header = read_lists.header ∙ of_empty in
+    let of_tables : tables.header ≡ c.in_ok-header.header = filled_lists.header ∙ of_lists in
+    subst (λ h. IsFile c.args.slots c.args.memory_limit h tables.nodes.items tables.n_infos.items tables.blocks.items tables.reject.items) (sym of_tables)
+    (filled_file c.args.slots c.args.memory_limit c.in_ok-header.header (sym c.in_ok-check_sizes.ensures.refusal)
+    lists.nodes.items lists.n_infos.items lists.blocks.items lists.reject.items
+    (read_lists.nodes.0 ∙ ap (λ h. h.array_len) of_empty) (read_lists.n_infos.0 ∙ ap (λ h. h.n_infos_len) of_empty) (read_lists.blocks.0 ∙ ap (λ h. h.blocks_len) of_empty) (read_lists.reject ∙ ap (λ h. h.reject_len) of_empty)
+    tables.nodes.items tables.n_infos.items tables.blocks.items tables.reject.items
+    (filled_lists.nodes ∙ ap (λ h. filled blank_node h.capacity lists.nodes.items) of_lists) (filled_lists.n_infos ∙ ap (λ h. filled blank_info h.capacity lists.n_infos.items) of_lists)
+    (filled_lists.blocks ∙ ap (λ h. filled blank_block (h.capacity / 256) lists.blocks.items) of_lists) filled_lists.reject
+    read_lists.fits)
 
 pub returns-in_err-empty-clause-asked : goal.returns-in_err-empty-clause-asked
 returns-in_err-empty-clause-asked g c =
     let read = c.in_ok-header.ensures.bytes in
     asks_within c.args.layout c.args.slots c.args.memory_limit read.0 c.in_ok-header.header _ _ _ _ read.2 (sym c.in_ok-check_sizes.ensures.refusal) read.1 c.reserve_tables.ensures.asked
 
-pub returns-in_err-tables-clause-asked : goal.returns-in_err-tables-clause-asked
-returns-in_err-tables-clause-asked g c =
+pub returns-in_err-lists-clause-asked : goal.returns-in_err-lists-clause-asked
+returns-in_err-lists-clause-asked g c =
     let read = c.in_ok-header.ensures.bytes in
     asks_within c.args.layout c.args.slots c.args.memory_limit read.0 c.in_ok-header.header _ _ _ _ read.2 (sym c.in_ok-check_sizes.ensures.refusal) read.1 c.reserve_tables.ensures.asked
 
@@ -67,7 +103,7 @@ returns-clause-asked g c =
 pub returns-clause-passes : goal.returns-clause-passes
 returns-clause-passes g c =
     let read = c.in_ok-header.ensures.bytes in
-    let same : c.in_ok-tables.tables.header ≡ c.in_ok-header.header = c.in_ok-tables.ensures.header ∙ c.in_ok-empty.ensures.header in
+    let same : c.fill_tables.result.header ≡ c.in_ok-header.header = c.fill_tables.ensures.header ∙ c.in_ok-lists.ensures.header ∙ c.in_ok-empty.ensures.header in
     subst (Passes c.args.layout c.args.slots c.args.memory_limit _) (sym same) (passes c.args.layout c.args.slots c.args.memory_limit read.0 _ _ _ read.2 (sym c.in_ok-check_sizes.ensures.refusal) read.1)
 
 pub returns-in_err-header-clause-lacks : goal.returns-in_err-header-clause-lacks
@@ -86,10 +122,10 @@ returns-in_err-empty-clause-lacks g c =
     let p = err_from_is_err_and c.from_residual-in_err-empty.result c.from_residual-in_err-empty.ensures.1 in
     rw (p.1, p.2) (table_lacks _ c.in_ok-header.header _ (passes c.args.layout c.args.slots c.args.memory_limit read.0 _ _ _ read.2 (sym c.in_ok-check_sizes.ensures.refusal) read.1) c.in_err-empty.ensures.err)
 
-pub returns-in_err-tables-clause-lacks : goal.returns-in_err-tables-clause-lacks
-returns-in_err-tables-clause-lacks g c =
-    let p = err_from_is_err_and c.from_residual-in_err-tables.result c.from_residual-in_err-tables.ensures.1 in
-    rw (p.1, p.2) (missed _ _ _ _ _ c.in_err-tables.ensures.misses)
+pub returns-in_err-lists-clause-lacks : goal.returns-in_err-lists-clause-lacks
+returns-in_err-lists-clause-lacks g c =
+    let p = err_from_is_err_and c.from_residual-in_err-lists.result c.from_residual-in_err-lists.ensures.1 in
+    rw (p.1, p.2) (missed _ _ _ _ _ c.in_err-lists.ensures.misses)
 
 pub returns-in_err-read_end-clause-lacks : goal.returns-in_err-read_end-clause-lacks
 returns-in_err-read_end-clause-lacks g c =

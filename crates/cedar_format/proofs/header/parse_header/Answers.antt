@@ -7,4 +7,4 @@ returns-clause-spelled c =
     let version = c.in_ok-check_version.ensures in
     let kind = c.in_ok-check_kind.ensures in
     rw c.header_at.ensures
-    (header_spelled c.args.bytes.now (search rules) (λ i. omega (arith, c.type_inv.bytes i)) c.args.layout version.begins version.major version.minor kind.order kind.found kind.flags)
+    (header_spelled c.args.bytes.now (search rules) (λ i. omega (arith, c.type_inv.bytes i)) c.args.layout version.begins version.major kind.order kind.found kind.flags)

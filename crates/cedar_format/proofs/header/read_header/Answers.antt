@@ -7,7 +7,7 @@ pub returns-clause-bytes : goal.returns-clause-bytes
 returns-clause-bytes g c =
     let read = c.read_available-count in
     let parsed = c.parse_header.ensures in
-    accepted_header _ _ (take read.result.0 read.new.buf) c.args.layout c.parse_header.result c.with_fault.result c.with_fault.ensures.ok parsed.header parsed.whole parsed.spelled parsed.fits parsed.refusal read.ensures.bytes (search rules)
+    accepted_header _ _ (take read.result.0 read.new.buf) c.args.layout c.parse_header.result c.with_fault.result c.with_fault.ensures.ok parsed.header parsed.whole parsed.spelled parsed.fits parsed.known parsed.refusal read.ensures.bytes (search rules)
 
 pub returns-clause-refusal : goal.returns-clause-refusal
 returns-clause-refusal g c =

@@ -4,14 +4,15 @@ use Rattle.std.specs.List.{flat_map}
 use Rattle.std.specs.Io.KnownBytes.{Consumes}
 use Rattle.cedar_format.proofs.listing.read_records.Given as goal
 
-abbrev pub invariant-loop-records : goal.invariant-loop-records
-invariant-loop-records g l = record {
+abbrev pub invariant-loop-buffer : goal.invariant-loop-buffer
+invariant-loop-buffer g l = record {
   count : vec_len l.records ≤ l.count;
   room : l.count ≤ vec_capacity l.records;
+  capacity : vec_capacity l.records ≡ vec_capacity l.initial.records;
   bytes : Consumes (g.R.Read.remaining l.initial.reader.device) (g.R.Read.remaining l.reader.device) (flat_map g.T.Record.bytes_of l.records.items);
   fits : All g.T.Record.Fits l.records.items;
   failed : l.initial.reader.failed ≡ true → l.reader.failed ≡ true;
 }
 
-abbrev pub decreases-loop-records : goal.decreases-loop-records
-decreases-loop-records g l = l.count - vec_len l.records
+abbrev pub decreases-loop-buffer : goal.decreases-loop-buffer
+decreases-loop-buffer g l = l.count - vec_len l.records

@@ -2,8 +2,9 @@ use Rattle.std.proofs.Common.{◌≡◌, ◌<◌, ◌+◌, ◌∙◌, ℕ, List,
 use Rattle.std.proofs.lemmas.Result.{err_from_is_err_and}
 use Rattle.cedar_slots.specs.declared.error.CedarError.{CedarError}
 use Rattle.cedar_tree.specs.Queries.{Entry}
+use Rattle.cedar_table.specs.Bulk.Sorted.{entries_by}
 use Rattle.cedarwood.specs.Fault.{or_else}
-use Rattle.cedarwood.specs.SortedInput.{entries_by, fault_behind, fault_from, key_at}
+use Rattle.cedarwood.specs.SortedInput.{fault_behind, fault_from, key_at}
 use Rattle.cedarwood.proofs.FaultLemmas.{key_part, no_fault}
 use Rattle.cedarwood.proofs.SortedInputLemmas.{after_sound, as_many, bytes_more, entry_there, fault_step, first_fault}
 use Rattle.cedarwood.proofs.UpdateLemmas.{has_fault}

@@ -1,5 +1,6 @@
 use Rattle.std.proofs.Common.{◌≡◌, [], drop, take}
-use Rattle.cedarwood.specs.SortedInput.{AreBytes, entries_by, fault_from, key_at}
+use Rattle.cedar_table.specs.Bulk.Sorted.{entries_by}
+use Rattle.cedarwood.specs.SortedInput.{AreBytes, fault_from, key_at}
 use Rattle.cedarwood.proofs.sorted.check_sorted.Given as goal
 
 -- the first fault is one from here on

@@ -1,10 +1,10 @@
-use Rattle.std.proofs.Common.{length, ◌-◌, ◌≡◌, ◌≤◌, ◌+◌, drop}
-use Rattle.cedar_table.specs.Bulk.Sorted.{run}
+use Rattle.std.proofs.Common.{length, ◌-◌, ◌≤◌, ◌<◌}
+use Rattle.cedar_table.specs.Bulk.Sorted.{entries_by, run}
 use Rattle.cedar_table.proofs.bulk.spans.run_length.Given as goal
 
--- as many as were counted, and those that follow
-abbrev pub invariant-loop-count : goal.invariant-loop-count
-invariant-loop-count l = (l.count ≤ length l.pairs) × (run l.depth l.label l.pairs ≡ l.count + run l.depth l.label (drop l.count l.pairs))
+-- so many have the label
+abbrev pub invariant-loop-low : goal.invariant-loop-low
+invariant-loop-low g l = (0 < l.low) × (l.low ≤ run l.depth l.label (entries_by g.K.AsSlice.items l.pairs)) × (l.low ≤ length l.pairs)
 
-abbrev pub decreases-loop-count : goal.decreases-loop-count
-decreases-loop-count l = length l.pairs - l.count
+abbrev pub decreases-loop-low : goal.decreases-loop-low
+decreases-loop-low g l = length l.pairs - l.low

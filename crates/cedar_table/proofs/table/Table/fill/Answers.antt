@@ -1,6 +1,8 @@
-use Rattle.std.proofs.Common.{◌+◌, ◌<◌, arith, rules, refl, inl, inr, length, []}
+use Rattle.std.proofs.Common.{◌+◌, ◌<◌, arith, rules, ap, refl, inl, inr, length, []}
 use Rattle.cedar_tree.specs.Tree.{none}
 use Rattle.cedar_tree.specs.Queries.{prefixes_forest}
+use Rattle.cedar_table.specs.Bulk.Sorted.{entries_by}
+use Rattle.cedar_table.specs.Bulk.Spans.{parts_of}
 use Rattle.cedar_table.specs.Table.TableFields.{fields, size_of}
 use Rattle.cedar_table.proofs.UpdateLemmas.BlocksMade.{made_then}
 use Rattle.cedar_table.proofs.BulkLemmas.NodeByNode.{filling_started, if_err, on_ok, some_prefix}
@@ -29,8 +31,8 @@ fill_pending-requires g c =
       (
         t.0.children,
         1 + length (prefixes_forest t.0.children),
-        filling_started g.row.SLOTS (fields c.args.self.now) (fields c.fill_span.new.self) t.0 0 c.args.pairs.now c.new-pending.result.items c.fill_span.new.pending.items e.blocks.0 e.sound c.requires.empty t.1 t.2
-            (e.fills t.0 t.1) (e.spans t.0 t.1) c.new-pending.ensures.items c.requires.one (e.blocks.2 refl) e.blocks.3,
+        filling_started g.row.SLOTS (fields c.args.self.now) (fields c.fill_span.new.self) t.0 0 (entries_by g.K.AsSlice.items c.args.pairs.now) (parts_of g.K.AsSlice.items c.new-pending.result.items) (parts_of g.K.AsSlice.items c.fill_span.new.pending.items) e.blocks.0 e.sound c.requires.empty t.1 t.2
+            (e.fills t.0 t.1) (e.spans t.0 t.1) (ap (parts_of g.K.AsSlice.items) c.new-pending.ensures.items) c.requires.one (e.blocks.2 refl) e.blocks.3,
       ),
     )
 
@@ -39,8 +41,8 @@ returns-clause-filled g c =
     let e = c.in_ok-fill_span.ensures in
     on_ok c.fill_pending.result c.fill_pending.ensures.filled
     (λ later t tree number. later t.children (1 + length (prefixes_forest t.children))
-    (filling_started g.row.SLOTS (fields c.args.self.now) (fields c.fill_span.new.self) t 0 c.args.pairs.now c.new-pending.result.items c.fill_span.new.pending.items e.blocks.0 e.sound c.requires.empty tree number
-    (e.fills t tree) (e.spans t tree) c.new-pending.ensures.items c.requires.one (e.blocks.2 refl) e.blocks.3))
+    (filling_started g.row.SLOTS (fields c.args.self.now) (fields c.fill_span.new.self) t 0 (entries_by g.K.AsSlice.items c.args.pairs.now) (parts_of g.K.AsSlice.items c.new-pending.result.items) (parts_of g.K.AsSlice.items c.fill_span.new.pending.items) e.blocks.0 e.sound c.requires.empty tree number
+    (e.fills t tree) (e.spans t tree) (ap (parts_of g.K.AsSlice.items) c.new-pending.ensures.items) c.requires.one (e.blocks.2 refl) e.blocks.3))
 
 pub returns-clause-refused : goal.returns-clause-refused
 returns-clause-refused g c =
@@ -53,8 +55,8 @@ returns-clause-refused g c =
         s.0,
         λ t tree number.
             let less = s.1 t.children (1 + length (prefixes_forest t.children))
-            (filling_started g.row.SLOTS (fields c.args.self.now) (fields c.fill_span.new.self) t 0 c.args.pairs.now c.new-pending.result.items c.fill_span.new.pending.items e.blocks.0 e.sound c.requires.empty tree number
-            (e.fills t tree) (e.spans t tree) c.new-pending.ensures.items c.requires.one (e.blocks.2 refl) e.blocks.3) in
+            (filling_started g.row.SLOTS (fields c.args.self.now) (fields c.fill_span.new.self) t 0 (entries_by g.K.AsSlice.items c.args.pairs.now) (parts_of g.K.AsSlice.items c.new-pending.result.items) (parts_of g.K.AsSlice.items c.fill_span.new.pending.items) e.blocks.0 e.sound c.requires.empty tree number
+            (e.fills t tree) (e.spans t tree) (ap (parts_of g.K.AsSlice.items) c.new-pending.ensures.items) c.requires.one (e.blocks.2 refl) e.blocks.3) in
             omega (arith, less, whole.1),
       )
     ])

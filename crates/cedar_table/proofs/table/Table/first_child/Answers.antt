@@ -4,8 +4,18 @@ use Rattle.cedar_table.specs.Edit.NodeEdits.{IsAt}
 use Rattle.cedar_table.specs.Meaning.StandsFor.{labels}
 use Rattle.cedar_table.specs.Table.TableFields.{cells, fields, size_of}
 use Rattle.cedar_table.specs.Meaning.WellFormed.{tree_of}
-use Rattle.cedar_table.proofs.WalkLemmas.NextNode.{links_first, node_inside, node_stands, root_first}
+use Rattle.cedar_table.proofs.WalkLemmas.NextNode.{links_first, named_first, node_inside, node_stands, root_first}
 use Rattle.cedar_table.proofs.table.Table.first_child.Goals as goal
+
+pub child-label-requires : goal.child-label-requires
+child-label-requires g c =
+    let inside : c.args.node < size_of (fields c.args.self.now) = node_inside _ (fields c.args.self.now) c.requires.well_formed c.requires.at.0 c.args.node c.requires.at.1 in
+    (search rules, omega (arith, inside, c.args.self.now.shaped.blocks.active_in))
+
+pub returns-then-label-ne0 : goal.returns-then-label-ne0
+returns-then-label-ne0 g c = λ w at.
+    c.child-label.ensures
+    ∙ named_first _ (fields c.args.self.now) c.requires.well_formed w c.args.node at (λ e. c.if-label-ne0.true (c.child-label.ensures ∙ e))
 
 pub sibling-requires : goal.sibling-requires
 sibling-requires g c =

@@ -2,8 +2,13 @@ use Rattle.std.proofs.Common.{◌<◌, ap, sym, ◌∙◌, arith, rules, Some, w
 use lib.Bits.{xor_zero_r}
 use Rattle.std.proofs.lemmas.Int.{to_z-of_z}
 use Rattle.cedar_table.specs.Table.TableFields.{cells, fields, size_of}
-use Rattle.cedar_table.proofs.WalkLemmas.SearchStep.{slot_in, number_found, number_missing, number_own, never_nothing}
+use Rattle.cedar_table.proofs.WalkLemmas.SearchStep.{slot_in, number_found, number_missing, number_named, number_own, never_nothing}
 use Rattle.cedar_table.proofs.table.Table.number_of.Goals as goal
+
+pub returns-then-child-ne0 : goal.returns-then-child-ne0
+returns-then-child-ne0 g c = λ t k.
+    let T = c.args.self.now in
+    sym (number_named (size_of (fields T)) (cells T) c.args.node t k (λ e. c.if-child-ne0.true (c.child.ensures ∙ e)))
 
 pub stored_at_node-requires : goal.stored_at_node-requires
 stored_at_node-requires g c =

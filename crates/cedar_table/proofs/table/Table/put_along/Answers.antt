@@ -1,24 +1,26 @@
-use Rattle.std.proofs.Common.{FitsSigned, inl, inr, of_z, refl, rules, to_z, w32, subst, ap, ◌∙◌, ◌+◌, arith, ◌≡◌}
+use Rattle.std.proofs.Common.{FitsSigned, inl, inr, of_z, refl, rules, to_z, w32, subst, sym, ap, ◌∙◌, ◌+◌, arith, ◌≡◌}
 use Rattle.std.proofs.lemmas.Int.{to_z-of_z}
-use Rattle.std.specs.Prelude.{Some}
+use Rattle.std.specs.Prelude.{is_some, Some}
+use Rattle.cedar_tree.specs.Tree.{number_at}
 use Rattle.cedar_tree.specs.Edits.{edit_at}
 use Rattle.cedar_table.specs.Edit.KeyWalk.{TakenBack}
 use Rattle.cedar_table.specs.Meaning.StandsFor.{HoldsTree}
-use Rattle.cedar_table.specs.Meaning.WellFormed.{cells_in, is_value}
+use Rattle.cedar_table.specs.Meaning.WellFormed.{cells_in, is_value, tree_of}
 use Rattle.cedar_table.specs.Table.TableFields.{fields, size_of}
+use Rattle.cedar_table.proofs.MeaningLemmas.NodeAtPath.{at_node}
 use Rattle.cedar_table.proofs.UpdateLemmas.MarksAfterUpdate.{new_mark, put_keeps}
 use Rattle.cedar_table.proofs.UpdateLemmas.StepAnswers.{on_refusal}
-use Rattle.cedar_table.proofs.UpdateLemmas.Ending.{entries_fit, is_put, IsPut, no_more, not_root, one_more, put_refused, told}
+use Rattle.cedar_table.proofs.UpdateLemmas.Ending.{entries_fit, is_put, IsPut, no_more, not_root, number_before, one_more, put_refused}
 use Rattle.cedar_table.proofs.UpdateLemmas.AlongKey.{node_walked, walked_same}
 use Rattle.cedar_table.proofs.table.Table.put_along.Goals as goal
 
 pub returns-in_err-end-clause-one_byte : goal.returns-in_err-end-clause-one_byte
 returns-in_err-end-clause-one_byte g c = λ b e new. inr (c.in_err-end.ensures.refused.one_byte b e new)
 
-pub has_number-is_new-requires : goal.has_number-is_new-requires
-has_number-is_new-requires g c =
+pub number_of-held-requires : goal.number_of-held-requires
+number_of-held-requires g c =
     let k = c.in_ok-end.ensures.walked in
-    (search rules, (k.table, (k.inside, node_walked _ _ _ _ _ _ _ k)))
+    (search rules, (k.inside, (_, at_node _ _ k.forest c.args.key.now c.in_ok-end.end k.holds k.at)))
 
 pub put_number-requires : goal.put_number-requires
 put_number-requires g c =
@@ -82,9 +84,11 @@ put_new g c =
     let well = c.requires.well_formed in let key = c.args.key.now in
     let fits : FitsSigned w32 c.args.value = search rules in
     let same : to_z w32 (of_z w32 c.args.value) ≡ c.args.value = to_z-of_z w32 c.args.value fits in
+    let had : c.number_of-held.result ≡ number_at (tree_of old) key = number_before g.row.SLOTS old mid key c.in_ok-end.end well c.requires.key k c.number_of-held.result
+    (λ f w h at. c.number_of-held.ensures _ (at_node _ _ f w c.in_ok-end.end h at)) in
     is_put g.row.SLOTS old mid key c.in_ok-end.end well c.requires.key k new c.args.value (c.put_number.new.self.entries + 1) c.requires.value
     (record { table = e.sound; set = λ f w h at. subst (λ v. HoldsTree (size_of new) (cells_in new) (edit_at w (λ _. Some v) (λ u. u) f)) same (e.set f w h at); blocks = e.growth.blocks; owned = λ own. (e.owned own).1; own = λ v own. (e.own v own).1; leaf = λ is. elim (e.leaf is) [ inl none ↦ inl none.1 | inr full ↦ inr full ]; root_check = e.growth.root_check; settings = e.growth.settings })
-    (one_more _ _ _ (told g.row.SLOTS old mid key c.in_ok-end.end well c.requires.key k c.has_number-is_new.result c.has_number-is_new.ensures) c.if-is_new.true)
+    (one_more _ _ _ (sym (ap is_some had) ∙ c.is_none-is_new.ensures) c.if-is_new.true)
 
 pub returns-then-is_new-clause-well_formed : goal.returns-then-is_new-clause-well_formed
 returns-then-is_new-clause-well_formed g c = (put_new g c).well_formed
@@ -110,9 +114,11 @@ put_over g c =
     let well = c.requires.well_formed in let key = c.args.key.now in
     let fits : FitsSigned w32 c.args.value = search rules in
     let same : to_z w32 (of_z w32 c.args.value) ≡ c.args.value = to_z-of_z w32 c.args.value fits in
+    let had : c.number_of-held.result ≡ number_at (tree_of old) key = number_before g.row.SLOTS old mid key c.in_ok-end.end well c.requires.key k c.number_of-held.result
+    (λ f w h at. c.number_of-held.ensures _ (at_node _ _ f w c.in_ok-end.end h at)) in
     is_put g.row.SLOTS old mid key c.in_ok-end.end well c.requires.key k new c.args.value c.put_number.new.self.entries c.requires.value
     (record { table = e.sound; set = λ f w h at. subst (λ v. HoldsTree (size_of new) (cells_in new) (edit_at w (λ _. Some v) (λ u. u) f)) same (e.set f w h at); blocks = e.growth.blocks; owned = λ own. (e.owned own).1; own = λ v own. (e.own v own).1; leaf = λ is. elim (e.leaf is) [ inl none ↦ inl none.1 | inr full ↦ inr full ]; root_check = e.growth.root_check; settings = e.growth.settings })
-    (no_more _ _ _ (told g.row.SLOTS old mid key c.in_ok-end.end well c.requires.key k c.has_number-is_new.result c.has_number-is_new.ensures) c.if-is_new.false)
+    (no_more _ _ _ (sym (ap is_some had) ∙ c.is_none-is_new.ensures) c.if-is_new.false)
 
 pub returns-else-is_new-clause-well_formed : goal.returns-else-is_new-clause-well_formed
 returns-else-is_new-clause-well_formed g c = (put_over g c).well_formed
@@ -162,3 +168,13 @@ returns-else-is_new-clause-marks g c = put_keeps g.row.SLOTS (fields c.args.self
 
 pub returns-else-is_new-clause-new_mark : goal.returns-else-is_new-clause-new_mark
 returns-else-is_new-clause-new_mark g c = new_mark g.row.SLOTS (fields c.args.self.now) (fields c.walk_in.new.self) (fields c.put_number.new.self) c.args.key.now c.in_ok-end.end c.requires.well_formed c.requires.key c.in_ok-end.ensures.walked refl (λ o. c.in_default.ensures.marks o) (λ r z. c.in_default.ensures.marks_own r z)
+
+pub returns-then-is_new-clause-held : goal.returns-then-is_new-clause-held
+returns-then-is_new-clause-held g c =
+    number_before g.row.SLOTS (fields c.args.self.now) (fields c.walk_in.new.self) c.args.key.now c.in_ok-end.end c.requires.well_formed c.requires.key c.in_ok-end.ensures.walked c.number_of-held.result
+    (λ f w h at. c.number_of-held.ensures _ (at_node _ _ f w c.in_ok-end.end h at))
+
+pub returns-else-is_new-clause-held : goal.returns-else-is_new-clause-held
+returns-else-is_new-clause-held g c =
+    number_before g.row.SLOTS (fields c.args.self.now) (fields c.walk_in.new.self) c.args.key.now c.in_ok-end.end c.requires.well_formed c.requires.key c.in_ok-end.ensures.walked c.number_of-held.result
+    (λ f w h at. c.number_of-held.ensures _ (at_node _ _ f w c.in_ok-end.end h at))

@@ -61,33 +61,36 @@ returns-in-Err-clause-one_byte g c = λ b is new.
       | inr full ↦ inr (full.0, subst (λ (T : Fields). NoPlace (size_of T) (cells_in T)) same full.1)
     ]
 
-pub returns-clause-put : goal.returns-clause-put
-returns-clause-put g c =
+pub returns-in-Ok-clause-put : goal.returns-in-Ok-clause-put
+returns-in-Ok-clause-put g c =
     let fits : FitsSigned w32 c.args.value = search rules in
     let same : to_z w32 (of_z w32 c.args.value) ≡ c.args.value = to_z-of_z w32 c.args.value fits in
-    c.in_default.ensures.put ∙ ap (λ v. put (tree_of (fields c.make_way.new.self)) (fields c.make_way.new.self).ordered c.args.key.now v) same
+    c.in-Ok.ensures.put ∙ ap (λ v. put (tree_of (fields c.make_way.new.self)) (fields c.make_way.new.self).ordered c.args.key.now v) same
     ∙ ap (λ (t : Tree). put t (fields c.make_way.new.self).ordered c.args.key.now c.args.value) c.make_way.ensures.tree
     ∙ ap (λ o. put (tree_of (fields c.args.self.now)) o c.args.key.now c.args.value) c.make_way.ensures.modes.ordered
 
-pub returns-clause-blocks : goal.returns-clause-blocks
-returns-clause-blocks g c =
+pub returns-in-Ok-clause-held : goal.returns-in-Ok-clause-held
+returns-in-Ok-clause-held g c = c.in-Ok.ensures.held ∙ ap (λ (t : Tree). number_at t c.args.key.now) c.make_way.ensures.tree
+
+pub returns-in-Ok-clause-blocks : goal.returns-in-Ok-clause-blocks
+returns-in-Ok-clause-blocks g c =
     let first = c.make_way.ensures.blocks in
-    let next = c.in_default.ensures.blocks in
+    let next = c.in-Ok.ensures.blocks in
     let made = all_made (fields c.args.self.now) (fields c.make_way.new.self) (fields c.put_along.new.self) (length c.args.key.now) c.in_ok-moved.moved c.in_ok-moved.ensures.none (first.0, first.1, first.3) (next.0, next.1, next.3)
-    (λ n is. let k = c.in_ok-moved.ensures.moved n is in let rest = c.in_default.ensures.lacking k.1 k.2 in (rest.0, rest.1, rest.3)) in
+    (λ n is. let k = c.in_ok-moved.ensures.moved n is in let rest = c.in-Ok.ensures.lacking k.1 k.2 in (rest.0, rest.1, rest.3)) in
     (made.0, made.1, tt, made.2)
 
-pub returns-clause-over : goal.returns-clause-over
-returns-clause-over g c = λ held.
+pub returns-in-Ok-clause-over : goal.returns-in-Ok-clause-over
+returns-in-Ok-clause-over g c = λ held.
     let none_moved : c.in_ok-moved.moved ≡ None = (c.in_ok-moved.ensures.over held).0 in
     let same : fields c.make_way.new.self ≡ fields c.args.self.now = c.in_ok-moved.ensures.none none_moved in
-    (tt, subst (λ (T : Fields). MakesBlocks 0 T (fields c.put_along.new.self)) same (c.in_default.ensures.over (ap (λ (t : Tree). is_some (number_at t c.args.key.now)) c.make_way.ensures.tree ∙ held)).1)
+    (tt, subst (λ (T : Fields). MakesBlocks 0 T (fields c.put_along.new.self)) same (c.in-Ok.ensures.over (ap (λ (t : Tree). is_some (number_at t c.args.key.now)) c.make_way.ensures.tree ∙ held)).1)
 
-pub returns-clause-one_byte : goal.returns-clause-one_byte
-returns-clause-one_byte g c = λ b is new.
+pub returns-in-Ok-clause-one_byte : goal.returns-in-Ok-clause-one_byte
+returns-in-Ok-clause-one_byte g c = λ b is new.
     let none_moved : c.in_ok-moved.moved ≡ None = (c.in_ok-moved.ensures.one_byte (ap length is)).0 in
     let same : fields c.make_way.new.self ≡ fields c.args.self.now = c.in_ok-moved.ensures.none none_moved in
-    elim (c.in_default.ensures.one_byte b is (ap (λ (t : Tree). has_label t.children b) c.make_way.ensures.tree ∙ new)) [
+    elim (c.in-Ok.ensures.one_byte b is (ap (λ (t : Tree). has_label t.children b) c.make_way.ensures.tree ∙ new)) [
       | inl made ↦ inl (tt, subst (λ (T : Fields). MakesBlocks 0 T (fields c.put_along.new.self)) same made.1)
       | inr full ↦ inr (full.0, subst (λ (T : Fields). NoPlace (size_of T) (cells_in T)) same full.1)
     ]
@@ -118,8 +121,8 @@ returns-in-Err-clause-marks g c =
           (λ s at. c.close_way.ensures.others some.0 s some.1 at)
     ]
 
-pub returns-clause-new_marks : goal.returns-clause-new_marks
-returns-clause-new_marks g c =
+pub returns-in-Ok-clause-new_marks : goal.returns-in-Ok-clause-new_marks
+returns-in-Ok-clause-new_marks g c =
     let T = fields c.args.self.now in
     let mid = fields c.make_way.new.self in
     let way = c.in_ok-moved.ensures in
@@ -127,12 +130,12 @@ returns-clause-new_marks g c =
       | inl none_moved ↦ inl (way.none none_moved)
       | inr some ↦ inr (some.0, (way.moved some.0 some.1).0, way.moves some.0 some.1)
     ] in
-    puts_marks g.row.SLOTS T mid (fields c.put_along.new.self) c.args.key.now c.requires.well_formed c.make_way.ensures.well_formed c.make_way.ensures.tree refl way.way (λ held. way.none (way.over held).0) moved c.in_default.ensures.marks c.in_default.ensures.new_mark
+    puts_marks g.row.SLOTS T mid (fields c.put_along.new.self) c.args.key.now c.requires.well_formed c.make_way.ensures.well_formed c.make_way.ensures.tree refl way.way (λ held. way.none (way.over held).0) moved c.in-Ok.ensures.marks c.in-Ok.ensures.new_mark
 
-pub returns-clause-marks_put : goal.returns-clause-marks_put
-returns-clause-marks_put g c = λ reduced.
-    marks_put g.row.SLOTS (fields c.args.self.now) (fields c.put_along.new.self) c.args.key.now c.args.value c.requires.well_formed c.in_default.ensures.well_formed (key_some c.args.key.now c.requires.key) reduced
-    (returns-clause-put g c) (returns-clause-new_marks g c)
+pub returns-in-Ok-clause-marks_put : goal.returns-in-Ok-clause-marks_put
+returns-in-Ok-clause-marks_put g c = λ reduced.
+    marks_put g.row.SLOTS (fields c.args.self.now) (fields c.put_along.new.self) c.args.key.now c.args.value c.requires.well_formed c.in-Ok.ensures.well_formed (key_some c.args.key.now c.requires.key) reduced
+    (returns-in-Ok-clause-put g c) (returns-in-Ok-clause-new_marks g c)
 
 pub returns-in_err-moved-clause-marks_stay : goal.returns-in_err-moved-clause-marks_stay
 returns-in_err-moved-clause-marks_stay g c =

@@ -1,4 +1,4 @@
-use Rattle.std.proofs.Common.{refl, rules}
+use Rattle.std.proofs.Common.{arith, refl, rules}
 use Rattle.std.proofs.lemmas.Result.{err_from_is_err_and}
 use Rattle.cedar_table.specs.Table.TableFields.{fields}
 use Rattle.cedarwood.proofs.GrowthLemmas.{dictionary_of}
@@ -66,7 +66,7 @@ returns-in-Err-clause-answer g c =
     let read = rw c.file_byte.ensures at told.bytes in
     let T = fields c.table_of-table.result in
     refused_table g.L.Layout.kind g.row.SLOTS c.args.memory_limit d.header d.nodes.items d.n_infos.items d.blocks.items d.reject.items told.file read.0 read.1 T c.table_of-table.ensures _ _ _ c.refused.result read.2 told.at_end
-    (rw c.file_byte.ensures at told.answer) c.in_ok-check_trials.ensures.refusal c.refused.ensures.refusal c.in-Err.ensures.answer
+    (rw c.file_byte.ensures at told.answer) c.in_ok-check_trials.ensures.refusal c.refused.ensures.refusal c.in-Err.ensures.answer (search (rules, arith))
 
 pub returns-in_err-decoded-clause-asked : goal.returns-in_err-decoded-clause-asked
 returns-in_err-decoded-clause-asked g c = rw c.file_byte.ensures at c.decode_counted.ensures.asked

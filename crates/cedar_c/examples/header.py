@@ -1,0 +1,69 @@
+"""Compares the declarations of the header with the exports of the sources, and both with what the shared object has.
+
+An export's C form: each `&mut T` and `*mut T` is a pointer, `&[T]` a pointer to constant T and a length, `&mut [T]` a pointer and a
+length, and a `Global` takes no room, so that C doesn't pass it.
+"""
+
+import re
+import subprocess
+import sys
+from pathlib import Path
+
+TYPES = {
+    "u8": "uint8_t",
+    "u32": "uint32_t",
+    "i32": "int32_t",
+    "usize": "size_t",
+    "bool": "bool",
+    "Handle": "cedar",
+    "Match": "cedar_match",
+}
+
+
+def parameter(kind):
+    """The C types of a parameter."""
+    if kind == "Global":
+        return []
+    if found := re.fullmatch(r"&\[(\w+)\]", kind):
+        return [f"const {TYPES[found[1]]} *", "size_t"]
+    if found := re.fullmatch(r"&mut \[(\w+)\]", kind):
+        return [f"{TYPES[found[1]]} *", "size_t"]
+    if found := re.fullmatch(r"&mut (\w+)", kind):
+        return [f"{TYPES[found[1]]} *"]
+    return [TYPES[kind]]
+
+
+def exported(sources):
+    """Name and C types of each export: what it answers, and its parameters."""
+    found = {}
+    for source in sorted(Path(sources).glob("**/*.rt")):
+        text = source.read_text()
+        for name, inside, answer in re.findall(r'extern "C" fn (\w+)\(([^)]*)\)(?: -> (\w+))?', text):
+            kinds = [kind.split(":", 1)[1].strip() for kind in inside.split(",") if kind.strip()]
+            found[name] = [TYPES[answer] if answer else "void"] + [c for kind in kinds for c in parameter(kind)]
+    return found
+
+
+def declared(header):
+    """The same of the header, whose parameters have names."""
+    text = re.sub(r"/\*.*?\*/", "", Path(header).read_text(), flags=re.S)
+    found = {}
+    for answer, name, inside in re.findall(r"^(\w+) (cedar_\w+)\(([^)]*)\);", text, flags=re.M | re.S):
+        kinds = [re.fullmatch(r"((?:const )?\w+ \*?)\w+", " ".join(one.split()))[1].strip() for one in inside.split(",")]
+        found[name] = [answer] + kinds
+    return found
+
+
+def main(header, sources, library):
+    wanted, has = exported(sources), declared(header)
+    names = {line.split()[-1] for line in subprocess.check_output(["nm", "-D", "--defined-only", library], text=True).splitlines()}
+    faults = [f"{name}: the export is {wanted.get(name)}, the header has {has.get(name)}" for name in wanted.keys() | has.keys() if wanted.get(name) != has.get(name)]
+    faults += [f"{name} isn't in {library}" for name in wanted if name not in names]
+    for fault in sorted(faults):
+        print("header.py:", fault, file=sys.stderr)
+    if not wanted:
+        print("header.py: no export was found", file=sys.stderr)
+    sys.exit(bool(faults) or not wanted)
+
+
+main(*sys.argv[1:])

@@ -1,0 +1,69 @@
+/* Each request for memory refused in turn. Linked with -Wl,--wrap=malloc,--wrap=realloc. */
+#include "cedar.h"
+#include "check.h"
+
+enum { KEYS = 3000 };
+
+/* How many requests are still met; below 0 all are. */
+static long left = -1;
+
+void *__real_malloc(size_t size);
+void *__real_realloc(void *block, size_t size);
+
+static bool is_met(void) {
+    if (left == 0) return false;
+    if (left > 0) left--;
+    return true;
+}
+
+void *__wrap_malloc(size_t size) { return is_met() ? __real_malloc(size) : NULL; }
+void *__wrap_realloc(void *block, size_t size) { return is_met() ? __real_realloc(block, size) : NULL; }
+
+static void nth_key(int32_t n, uint8_t *key) {
+    key[0] = (uint8_t)(1 + n % 250);
+    key[1] = (uint8_t)(1 + n / 7 % 250);
+    key[2] = (uint8_t)(1 + n / 250);
+}
+
+/* Stores keys until a request is refused, and answers how many it stored. */
+static int32_t fill(cedar *d) {
+    uint8_t key[3];
+    size_t position = 0;
+    int32_t value, stored = 0;
+    for (; stored < KEYS; stored++) {
+        size_t keys = cedar_len(d), slots = cedar_used_slots(d);
+        nth_key(stored, key);
+        uint32_t status = cedar_update(d, key, 3, stored, &position);
+        if (status == CEDAR_OK) continue;
+        CHECK(status == CEDAR_MEMORY && cedar_len(d) == keys && cedar_used_slots(d) == slots);
+        CHECK(!cedar_get(d, key, 3, &value));
+        return stored;
+    }
+    return stored;
+}
+
+int main(void) {
+    int refused_new = 0, refused_update = 0;
+    for (long budget = 0; budget < 60; budget++) {
+        cedar d = CEDAR_CLOSED;
+        left = budget;
+        if (cedar_new(&d) == CEDAR_OK) {
+            int32_t stored = fill(&d), value;
+            uint8_t key[3];
+            refused_update += stored < KEYS;
+            left = 0;
+            CHECK(cedar_new(&d) == CEDAR_MEMORY && cedar_len(&d) == (size_t)stored);
+            for (int32_t i = 0; i < stored; i++) {
+                nth_key(i, key);
+                CHECK(cedar_get(&d, key, 3, &value) && value == i);
+            }
+        } else {
+            refused_new++;
+        }
+        left = -1;
+        cedar_free(&d);
+    }
+    CHECK(refused_new > 0 && refused_update > 0);
+    printf("refused: %d new, %d updates\nok\n", refused_new, refused_update);
+    return 0;
+}

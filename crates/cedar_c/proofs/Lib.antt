@@ -1,0 +1,5 @@
+pub mod ClosedLemmas
+pub mod FileLemmas
+pub mod MatchLemmas
+pub mod HeldValues
+pub mod LooseValues

@@ -1,0 +1,70 @@
+-- A buffer that is filled a place at a time.
+use Rattle.std.proofs.Common.{◌≡◌, ℕ, ◌+◌, ◌-◌, ◌<◌, ◌≤◌, ◌^◌, List, [], ◌∷◌, ◌++◌, length, take, drop, set, add-one, None, Option, Some, Bool, refl, sym, ap, subst, ◌∙◌, arith}
+use Rattle.std.specs.Prelude.{ℤ, nat_eq}
+use Rattle.std.specs.List.{Contains, filter, starts_with}
+use Rattle.std.proofs.lemmas.List.{append_assoc, drop-set-lt, drop_all, drop_more, take-append-drop, take_all}
+use Rattle.std.proofs.Math.Seq.{take-suc-set}
+use Rattle.std.proofs.lemmas.List.Sums.{count_by-le-length, length-filter}
+use Rattle.std.proofs.lemmas.List.{length-map}
+use Rattle.cedar_tree.specs.Tree.{empty_tree, Tree}
+use Rattle.cedar_tree.specs.Queries.{Entry, front, predict, walk}
+use Rattle.cedar_tree.proofs.FrontLemmas.{held_from_front}
+use Rattle.cedar_tree.proofs.TreeLemmas.{number_at-empty}
+use Rattle.cedar_tree.proofs.FrontFromLemmas.{front_begins, front_short}
+use Rattle.cedar_c.specs.declared.walks.Match.{Match}
+use Rattle.cedar_c.specs.Matches.{filled, match_of}
+
+-- the next place is written
+pub written : (ms : List Match) (p : ℕ) (d : Match) (x : ℤ × ℕ) (rest : List (ℤ × ℕ)) → p < length ms
+    → take (p + 1) (set ms p (match_of x)) ++ filled (drop (p + 1) (set ms p (match_of x))) rest ≡ take p ms ++ filled (drop p ms) (x ∷ rest)
+written ms p d x rest h =
+    let now = set ms p (match_of x) in
+    let front_of : take (p + 1) now ≡ take p ms ++ match_of x ∷ [] = rw add-one (take-suc-set ms p (match_of x) h) in
+    let below : p < p + 1 = omega arith in
+    ap (λ t. t ++ filled (drop (p + 1) now) rest) front_of
+    ∙ ap (λ u. (take p ms ++ match_of x ∷ []) ++ filled u rest) (drop-set-lt (p + 1) ms p (match_of x) below)
+    ∙ append_assoc (take p ms) (match_of x ∷ []) (filled (drop (p + 1) ms) rest)
+    ∙ ap (λ u. take p ms ++ filled u (x ∷ rest)) (sym (drop_more ms p d h))
+
+-- there is no next place
+pub no_place : (ms : List Match) (p : ℕ) (x : ℤ × ℕ) (rest : List (ℤ × ℕ)) → length ms ≤ p
+    → take (p + 1) ms ++ filled (drop (p + 1) ms) rest ≡ take p ms ++ filled (drop p ms) (x ∷ rest)
+no_place ms p x rest h =
+    let above : length ms ≤ p + 1 = omega arith in
+    ap (λ t. t ++ filled (drop (p + 1) ms) rest) (take_all (p + 1) ms above) ∙ ap (λ u. ms ++ filled u rest) (drop_all (p + 1) ms above)
+    ∙ sym (ap (λ t. t ++ filled (drop p ms) (x ∷ rest)) (take_all p ms h) ∙ ap (λ u. ms ++ filled u (x ∷ rest)) (drop_all p ms h))
+
+pub nothing_filled : (ms : List Match) → filled ms [] ≡ ms
+nothing_filled [] = refl
+nothing_filled (m ∷ ms) = refl
+
+-- nothing is left
+pub all_written : (ms : List Match) (p : ℕ) (left : List (ℤ × ℕ)) → left ≡ [] → take p ms ++ filled (drop p ms) left ≡ ms
+all_written ms p left none =
+    ap (λ l. take p ms ++ filled (drop p ms) l) none ∙ ap (λ u. take p ms ++ u) (nothing_filled (drop p ms)) ∙ take-append-drop p ms
+
+-- a text has no more fronts than bytes
+pub fronts_fit : (t : Tree) (q : List ℕ) → length q < 2 ^ 64 → length (front t q) < 2 ^ 64
+fronts_fit t q h =
+    let few : length (front t q) ≤ length q = omega (arith, front_short t q 0, ap length (front_begins t q)) in omega arith
+
+-- nor are more keys predicted than held
+pub predictions_fit : (t : Tree) (q : List ℕ) → length (walk t) < 2 ^ 64 → length (predict t q) < 2 ^ 64
+predictions_fit t q h =
+    let test : Entry → Bool = λ e. starts_with nat_eq e.0 q in
+    let kept : length (predict t q) ≡ length (filter test (walk t)) = length-map (filter test (walk t)) (λ (e : Entry). (e.1, length e.0 - length q)) in
+    omega (arith, length-filter test (walk t), count_by-le-length test (walk t))
+
+some_none : (v : ℤ) → ◌≡◌ {A = Option ℤ} None (Some v) → ⊥
+some_none v h = cc
+
+-- where nothing is held, no text has a front
+pub no_fronts : (q : List ℕ) → front empty_tree q ≡ []
+no_fronts q =
+    (elim (front empty_tree q) as (λ l. front empty_tree q ≡ l → l ≡ []) [
+      | [] ↦ λ is. refl
+      | x ∷ xs ↦ λ is.
+          let first : Contains (front empty_tree q) x = subst (λ l. Contains l x) (sym is) (0, omega arith, refl) in
+          let held = held_from_front empty_tree q x.0 x.1 first in
+          absurd (some_none x.0 (sym (number_at-empty (take (x.1 + 1) q)) ∙ held.1))
+    ]) refl

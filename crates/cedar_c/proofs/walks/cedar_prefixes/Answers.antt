@@ -1,0 +1,24 @@
+use Rattle.std.proofs.Common.{rules, ◌≡◌, ◌∙◌, ◌<◌, ◌^◌, None, ap, sym, subst, length}
+use Rattle.cedarwood.specs.Queries.{front}
+use Rattle.cedar_c.specs.Content.{content}
+use Rattle.cedar_c.specs.Matches.{filled}
+use Rattle.cedar_c.proofs.ClosedLemmas.{closed_is_empty}
+use Rattle.cedar_c.proofs.MatchLemmas.{fronts_fit, no_fronts, nothing_filled}
+use Rattle.cedar_c.proofs.walks.cedar_prefixes.Goals as goal
+
+pub returns-in_default-clause-count : goal.returns-in_default-clause-count
+returns-in_default-clause-count c =
+    let closed : content c.args.handle.now ≡ None = search rules in
+    sym (ap (λ t. length (front t c.args.text.now)) (closed_is_empty c.args.handle.now closed) ∙ ap length (no_fronts c.args.text.now))
+
+pub returns-in_default-clause-filled : goal.returns-in_default-clause-filled
+returns-in_default-clause-filled c =
+    let closed : content c.args.handle.now ≡ None = search rules in
+    let matches = c.args.matches.now in
+    sym (ap (λ t. filled matches (front t c.args.text.now)) (closed_is_empty c.args.handle.now closed) ∙ ap (filled matches) (no_fronts c.args.text.now) ∙ nothing_filled matches)
+
+pub fill-count-requires : goal.fill-count-requires
+fill-count-requires c =
+    let t = c.deref.result.now.state.tree in
+    let short : length c.args.text.now < 2 ^ 64 = search rules in
+    subst (λ xs. length xs < 2 ^ 64) (sym c.common_prefix_iter_bytes.ensures.rest) (fronts_fit t c.args.text.now short)

@@ -1,0 +1,41 @@
+-- What a handle has.
+use Rattle.std.specs.Prelude.{ℕ, ℤ, Option, None, Some, option_map}
+use Rattle.cedarwood.specs.Dictionary.{Dictionary}
+use Rattle.cedarwood.specs.State.{State}
+use Rattle.cedarwood.specs.Tree.{Tree, empty_tree}
+use Rattle.cedar_c.specs.declared.handle.Handle.{Handle}
+
+-- its dictionary, or none where it is closed
+abbrev pub content : Handle → Option Dictionary
+content h = h.held.value
+
+-- the dictionary's state
+abbrev pub state_in : Handle → Option State
+state_in h = option_map (λ d. d.state) (content h)
+
+-- how many failed searches close a block of it
+abbrev pub trials_in : Handle → Option ℤ
+trials_in h = option_map (λ d. d.max_trial) (content h)
+
+abbrev pub tree_of : Option Dictionary → Tree
+tree_of None = empty_tree
+tree_of (Some d) = d.state.tree
+
+-- the tree that answers come from. A closed handle answers as one that holds no key
+abbrev pub tree_in : Handle → Tree
+tree_in h = tree_of (content h)
+
+abbrev figure : (Dictionary → ℕ) → Option Dictionary → ℕ
+figure f None = 0
+figure f (Some d) = f d
+
+-- a figure, which is 0 of a closed handle
+abbrev pub figure_of : (Dictionary → ℕ) → Handle → ℕ
+figure_of f h = figure f (content h)
+
+-- how many slots are in use, and how many there are
+abbrev pub size_in : Handle → ℕ
+size_in = figure_of (λ d. d.size)
+
+abbrev pub capacity_in : Handle → ℕ
+capacity_in = figure_of (λ d. d.capacity)

@@ -1,0 +1,22 @@
+-- What a file's bytes are of, and the numbers that a refused one is answered by.
+use Rattle.std.specs.Prelude.{ℕ, List}
+use Rattle.cedar_table.specs.Table.TableFields.{Fields}
+use Rattle.cedar_format.specs.Tables.{IsTableFile}
+use Rattle.cedar_format.specs.Refusal.{Refusal, Truncated, InvalidMagic, UnsupportedVersion, UnsupportedByteOrder, LayoutMismatch, InvalidHeader, AllocationLimitExceeded, AllocationFailed, CorruptData, TrailingData, Failed}
+
+-- the bytes are those of this well-formed table, in a version that is read
+abbrev pub IsFileOf : Fields → List ℕ → Type 0
+IsFileOf T bytes = (version : ℕ) × IsTableFile version 1073741824 T bytes
+
+abbrev pub file_status : Refusal → ℕ
+file_status Truncated = 20
+file_status InvalidMagic = 21
+file_status (UnsupportedVersion major minor) = 22
+file_status (UnsupportedByteOrder order) = 23
+file_status (LayoutMismatch expected found) = 24
+file_status (InvalidHeader field value) = 25
+file_status (AllocationLimitExceeded requested limit) = 26
+file_status (AllocationFailed requested) = 2
+file_status CorruptData = 27
+file_status TrailingData = 28
+file_status Failed = 29

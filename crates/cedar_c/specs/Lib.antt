@@ -1,0 +1,5 @@
+pub mod Content
+pub mod Files
+pub mod Matches
+pub mod Ownership
+pub mod Status

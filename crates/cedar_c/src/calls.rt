@@ -1,0 +1,194 @@
+//! The calls that make, change and ask a dictionary.
+
+ghost use Rattle.std.specs.Prelude.{◌≡◌, ◌⊎◌, ◌-◌, ◌*◌, ◌^◌, ◌<◌, ◌≤◌, ◌<ℤ◌, pos, length, None, Some, IsSome, IfSome, IsTrue, ◌↔◌, option_map, true};
+ghost use Rattle.cedarwood.specs.Fault.{fault};
+ghost use Rattle.cedarwood.specs.State.{stored, erased};
+ghost use Rattle.cedarwood.specs.Tree.{empty_tree, number_at};
+ghost use Rattle.cedar_c.specs.Content.{content, state_in, tree_in, trials_in, size_in, capacity_in};
+ghost use Rattle.cedar_c.specs.Status.{status_of, position_of};
+
+use crate::handle::Handle;
+use crate::status::{CLOSED, INVALID_MAX_TRIAL, MEMORY, OK, tell};
+use cedarwood::{Cedar, CedarBuilder};
+use std::alloc::Global;
+
+/// An empty dictionary with these settings on the heap.
+fn make(alloc: Global, settings: CedarBuilder) -> Option<Box<Cedar<Global>, Global>>
+    ensures state { IfSome result (λ b. b.value.state ≡ record { tree = empty_tree; ordered = settings.ordered }) }
+    ensures max_trial { IfSome result (λ b. b.value.max_trial ≡ settings.max_trial) }
+    ensures size { IfSome result (λ b. (b.value.size ≡ 256) × (b.value.capacity ≡ 256)) }
+{
+    let cedar = settings.build(alloc).ok()?;
+    Box::new(alloc, cedar).ok()
+}
+
+/// Opens a handle with an empty dictionary of these settings.
+fn renew(handle: &mut Handle, alloc: Global, settings: CedarBuilder) -> u32
+    ensures made { result ≡ 0 → state_in handle.new ≡ Some (record { tree = empty_tree; ordered = settings.ordered }) }
+    ensures max_trial { result ≡ 0 → trials_in handle.new ≡ Some settings.max_trial }
+    ensures size { result ≡ 0 → (size_in handle.new ≡ 256) × (capacity_in handle.new ≡ 256) }
+    ensures refused { (result ≡ 0) ⊎ ((result ≡ 2) × (content handle.new ≡ content handle.old)) }
+{
+    match make(alloc, settings) {
+        Some(cedar) => {
+            let _ = handle.take(alloc);
+            *handle = Handle::of(cedar);
+            OK
+        }
+        None => MEMORY,
+    }
+}
+
+/// Opens a handle with an empty dictionary, in the place of the one that it has, if it is open.
+///
+/// # Errors
+/// 2 where a request for memory was refused. Then the handle is as it was.
+#[unsafe(no_mangle)]
+pub extern "C" fn cedar_new(handle: &mut Handle, alloc: Global) -> u32
+    ensures made { result ≡ 0 → state_in handle.new ≡ Some (record { tree = empty_tree; ordered = true }) }
+    ensures max_trial { result ≡ 0 → trials_in handle.new ≡ Some (pos 1) }
+    ensures size { result ≡ 0 → (size_in handle.new ≡ 256) × (capacity_in handle.new ≡ 256) }
+    ensures refused { (result ≡ 0) ⊎ ((result ≡ 2) × (content handle.new ≡ content handle.old)) }
+{
+    renew(handle, alloc, CedarBuilder::new())
+}
+
+/// As `cedar_new`, with settings: whether the labels of each node ascend, and how many failed searches for a place close a block.
+///
+/// # Errors
+/// 7 where `max_trial` is 0 or less, and else 2 where a request for memory was refused. Then the handle is as it was.
+#[unsafe(no_mangle)]
+pub extern "C" fn cedar_new_with(
+    handle: &mut Handle,
+    alloc: Global,
+    ordered: bool,
+    max_trial: i32,
+) -> u32
+    ensures made { result ≡ 0 → state_in handle.new ≡ Some (record { tree = empty_tree; ordered = ordered }) }
+    ensures max_trial { result ≡ 0 → trials_in handle.new ≡ Some max_trial }
+    ensures size { result ≡ 0 → (size_in handle.new ≡ 256) × (capacity_in handle.new ≡ 256) }
+    ensures invalid { (result ≡ 7) ↔ (max_trial <ℤ pos 1) }
+    ensures refused { (result ≡ 0) ⊎ (((result ≡ 7) ⊎ (result ≡ 2)) × (content handle.new ≡ content handle.old)) }
+{
+    match CedarBuilder::new().ordered(ordered).max_trial(max_trial) {
+        Ok(settings) => renew(handle, alloc, settings),
+        Err(_) => INVALID_MAX_TRIAL,
+    }
+}
+
+/// Closes a handle, and gives its memory back.
+#[unsafe(no_mangle)]
+pub extern "C" fn cedar_free(handle: &mut Handle, alloc: Global)
+    ensures { content handle.new ≡ None }
+{
+    drop(handle.take(alloc));
+}
+
+/// Stores a value at a key, in place of the value that the key holds, if it holds one.
+///
+/// # Errors
+/// 1 where the handle is closed, and else the number of the error. Then the dictionary holds what it held.
+#[unsafe(no_mangle)]
+pub extern "C" fn cedar_update(
+    handle: &mut Handle,
+    alloc: Global,
+    key: &[u8],
+    value: i32,
+    position: &mut usize,
+) -> u32
+    ensures closed { (result ≡ 1) ↔ (content handle.old ≡ None) }
+    ensures ok { result ≡ 0 → state_in handle.new ≡ option_map (λ s. stored s key.now value) (state_in handle.old) }
+    ensures err { (result ≡ 0) ⊎ (state_in handle.new ≡ state_in handle.old) }
+    ensures faulty { IsSome (content handle.old) → IfSome (fault key.now value) (λ e. (result ≡ status_of e) × (position.new ≡ position_of position.old e)) }
+    ensures memory { result ≡ 2 → (size_in handle.new ≡ capacity_in handle.new) × (capacity_in handle.new < 2 ^ 30) }
+    ensures limit { result ≡ 3 → size_in handle.new ≡ 2 ^ 30 }
+    ensures spare { IsSome (content handle.old) → fault key.now value ≡ None
+        → 256 * length key.now ≤ capacity_in handle.old - size_in handle.old → result ≡ 0 }
+    ensures refused { IsSome (content handle.old) → fault key.now value ≡ None →
+        (result ≡ 0) ⊎ (((result ≡ 2) ⊎ (result ≡ 3)) × (number_at (tree_in handle.old) key.now ≡ None)) }
+{
+    let Some(mut cedar) = handle.take(alloc) else {
+        return CLOSED;
+    };
+    let answer = cedar.update_bytes(key, value);
+    *handle = Handle::of(cedar);
+    match answer {
+        Ok(()) => OK,
+        Err(error) => tell(error, position),
+    }
+}
+
+/// As `cedar_update`, and tells whether the key was held before, and with which value.
+///
+/// # Errors
+/// As `cedar_update`; then nothing is told.
+#[unsafe(no_mangle)]
+pub extern "C" fn cedar_insert(
+    handle: &mut Handle,
+    alloc: Global,
+    key: &[u8],
+    value: i32,
+    held: &mut bool,
+    before: &mut i32,
+    position: &mut usize,
+) -> u32
+    ensures closed { (result ≡ 1) ↔ (content handle.old ≡ None) }
+    ensures ok { result ≡ 0 → state_in handle.new ≡ option_map (λ s. stored s key.now value) (state_in handle.old) }
+    ensures err { (result ≡ 0) ⊎ (state_in handle.new ≡ state_in handle.old) }
+    ensures held { result ≡ 0 → IsTrue held.new ↔ IsSome (number_at (tree_in handle.old) key.now) }
+    ensures before { result ≡ 0 → IfSome (number_at (tree_in handle.old) key.now) (λ v. before.new ≡ v) }
+    ensures faulty { IsSome (content handle.old) → IfSome (fault key.now value) (λ e. (result ≡ status_of e) × (position.new ≡ position_of position.old e)) }
+{
+    let Some(mut cedar) = handle.take(alloc) else {
+        return CLOSED;
+    };
+    let answer = cedar.insert_bytes(key, value);
+    *handle = Handle::of(cedar);
+    match answer {
+        Ok(number) => {
+            *held = number.is_some();
+            if let Some(number) = number {
+                *before = number;
+            }
+            OK
+        }
+        Err(error) => tell(error, position),
+    }
+}
+
+/// Removes a key, and says whether it was held.
+#[unsafe(no_mangle)]
+pub extern "C" fn cedar_erase(handle: &mut Handle, alloc: Global, key: &[u8]) -> bool
+    ensures answer { IsTrue result ↔ IsSome (number_at (tree_in handle.old) key.now) }
+    ensures after { state_in handle.new ≡ option_map (λ s. erased s key.now) (state_in handle.old) }
+    ensures size { (size_in handle.new ≡ size_in handle.old) × (capacity_in handle.new ≡ capacity_in handle.old) }
+{
+    let Some(mut cedar) = handle.take(alloc) else {
+        return false;
+    };
+    let held = cedar.erase_bytes(key);
+    *handle = Handle::of(cedar);
+    held
+}
+
+/// Tells the value at a key, and says whether the key is held.
+#[unsafe(no_mangle)]
+pub extern "C" fn cedar_get(handle: &mut Handle, alloc: Global, key: &[u8], value: &mut i32) -> bool
+    ensures answer { IsTrue result ↔ IsSome (number_at (tree_in handle.old) key.now) }
+    ensures value { IfSome (number_at (tree_in handle.old) key.now) (λ v. value.new ≡ v) }
+    ensures absent { number_at (tree_in handle.old) key.now ≡ None → value.new ≡ value.old }
+    ensures kept { content handle.new ≡ content handle.old }
+{
+    let Some(cedar) = handle.take(alloc) else {
+        return false;
+    };
+    let found = cedar.exact_match_search_bytes(key);
+    *handle = Handle::of(cedar);
+    match found {
+        Some((number, _)) => {
+            *value = number;
+            true
+        }
+        None => false,
+    }
+}

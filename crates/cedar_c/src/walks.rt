@@ -1,0 +1,116 @@
+//! Walks of a dictionary, written into a buffer of the caller's.
+
+ghost use Rattle.std.specs.Prelude.{◌≡◌, ℕ, ℤ, List, ◌∷◌, ◌++◌, ◌+◌, ◌<◌, ◌^◌, length, take, drop};
+ghost use Rattle.cedarwood.specs.Queries.{front, predict};
+ghost use Rattle.cedar_c.specs.Content.{content, tree_in};
+ghost use Rattle.cedar_c.specs.Matches.{filled};
+
+use crate::handle::Handle;
+use cedarwood::{PrefixIter, PrefixPredictIter, Walked};
+use std::alloc::Global;
+
+/// A key that a walk found: its value, and the number of bytes that the walk tells of it.
+#[repr(C)]
+#[derive(Clone, Copy)]
+pub struct Match {
+    pub value: i32,
+    pub length: usize,
+}
+
+/// What finds keys, one after another.
+trait Finds {
+    ghost use Rattle.std.specs.Prelude.{◌≡◌, ℕ, ℤ, List, [], ◌∷◌, MatchOption};
+
+    /// Those that are still to come.
+    ghost left: { Self → List (ℤ × ℕ) };
+
+    /// The next one.
+    fn next_found(&mut self) -> Option<(i32, usize)>
+        ensures { MatchOption result (left self.old ≡ []) (λ found. left self.old ≡ found ∷ left self.new) };
+}
+
+impl<'a, T: Walked> Finds for PrefixIter<'a, T> {
+    ghost left = { λ walk. walk.rest };
+
+    fn next_found(&mut self) -> Option<(i32, usize)> {
+        self.next()
+    }
+}
+
+impl<'a, T: Walked> Finds for PrefixPredictIter<'a, T> {
+    ghost left = { λ rest. rest };
+
+    fn next_found(&mut self) -> Option<(i32, usize)> {
+        self.next()
+    }
+}
+
+/// Writes what a walk finds into the first places, as far as there are any, and says how many it found.
+fn fill<F: Finds>(walk: &mut F, matches: &mut [Match]) -> usize
+    requires { length (F.left walk.old) < 2 ^ 64 }
+    ensures count { result ≡ length (F.left walk.old) }
+    ensures filled { matches.new ≡ filled matches.old (F.left walk.old) }
+{
+    let mut count = 0;
+    while let Some(found) = walk.next_found() {
+        put_at(matches, count, found);
+        count += 1;
+    }
+    count
+}
+
+/// Writes what was found at a place, if there is this place.
+fn put_at(matches: &mut [Match], place: usize, found: (i32, usize))
+    ensures { (rest : List (ℤ × ℕ)) → take (place + 1) matches.new ++ filled (drop (place + 1) matches.new) rest ≡ take place matches.old ++ filled (drop place matches.old) (found ∷ rest) }
+{
+    if place < matches.len() {
+        matches[place] = Match {
+            value: found.0,
+            length: found.1,
+        };
+    }
+}
+
+/// Writes the held fronts of a text into the first places of a buffer, shortest first, as many as there is room for, and says
+/// how many the text has: for each the value, and one less than its bytes. It is one walk.
+#[unsafe(no_mangle)]
+pub extern "C" fn cedar_prefixes(
+    handle: &mut Handle,
+    alloc: Global,
+    text: &[u8],
+    matches: &mut [Match],
+) -> usize
+    ensures count { result ≡ length (front (tree_in handle.old) text.now) }
+    ensures filled { matches.new ≡ filled matches.old (front (tree_in handle.old) text.now) }
+    ensures kept { content handle.new ≡ content handle.old }
+{
+    let Some(cedar) = handle.take(alloc) else {
+        return 0;
+    };
+    let count = fill(&mut cedar.common_prefix_iter_bytes(text), matches);
+    *handle = Handle::of(cedar);
+    count
+}
+
+/// Writes the keys that begin with a text into the first places of a buffer, in the order of the walk, as many as there is room
+/// for, and says how many there are: for each the value, and how many bytes follow the text. It is one walk.
+#[unsafe(no_mangle)]
+pub extern "C" fn cedar_predictions(
+    handle: &mut Handle,
+    alloc: Global,
+    text: &[u8],
+    matches: &mut [Match],
+) -> usize
+    ensures count { result ≡ length (predict (tree_in handle.old) text.now) }
+    ensures filled { matches.new ≡ filled matches.old (predict (tree_in handle.old) text.now) }
+    ensures kept { content handle.new ≡ content handle.old }
+{
+    let Some(cedar) = handle.take(alloc) else {
+        return 0;
+    };
+    // There are no more of them than keys.
+    let _ = cedar.len();
+    let count = fill(&mut cedar.common_prefix_predict_iter_bytes(text), matches);
+    *handle = Handle::of(cedar);
+    count
+}

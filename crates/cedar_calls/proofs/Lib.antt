@@ -1,0 +1,7 @@
+mod TextLemmas
+mod MakingLemmas
+mod PlaceLemmas
+mod RunLemmas
+mod PlainLemmas
+mod PlainRunLemmas
+mod KeyLemmas

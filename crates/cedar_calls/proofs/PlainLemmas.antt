@@ -1,0 +1,108 @@
+-- What a change and a reply say as far as trees go.
+use Rattle.std.proofs.Common.{◌≡◌, Bool, true, false, ℕ, ℤ, List, [], ◌∷◌, Option, Some, None, is_some, Ok, Err, IfSome, IfOk, IsSome, OnErr, ◌↔◌, refl, ap, sym, subst, ◌∙◌}
+use Rattle.std.specs.declared.result.Result.{Result}
+use Rattle.cedar_tree.specs.Tree.{Tree, empty_tree, number_at}
+use Rattle.cedar_tree.specs.Queries.{Entry, walk}
+use Rattle.cedar_tree.specs.State.{State, stored}
+use Rattle.cedar_slots.specs.declared.error.CedarError.{CedarError}
+use Rattle.cedar_slots.specs.declared.error.CedarError.TheVariants.{Memory}
+use Rattle.cedar_table.specs.Bulk.Sorted.{entries_of}
+use Rattle.cedar_table.specs.Table.Layouts.{LayoutKind}
+use Rattle.cedarwood.specs.Builds.{all_stored, first_fault, outcome}
+use Rattle.cedarwood.specs.Dictionary.{Dictionary}
+use Rattle.cedarwood.specs.Fault.{fault, IsShortage}
+use Rattle.cedarwood.specs.Updates.{IsUpdate}
+use Rattle.cedar_calls.specs.Changes.{IsChange, IsWholeBuild}
+use Rattle.cedar_calls.specs.Replies.{IsReply}
+use Rattle.cedar_calls.specs.Plain.{counted, done, found, held, listed, walked, was, change_says, changed_state, is_none_left, IsMet, kept_at_fault, reply_says, said_change, said_reply, said_result, unless_fault}
+use Rattle.cedar_calls.specs.declared.call.Change.{Change}
+use Rattle.cedar_calls.specs.declared.call.Change.TheVariants as change
+use Rattle.cedar_calls.specs.declared.call.Question.{Question}
+use Rattle.cedar_calls.specs.declared.call.Question.TheVariants as question
+use Rattle.cedar_calls.specs.declared.answer.Changed.{Changed}
+use Rattle.cedar_calls.specs.declared.answer.Changed.TheVariants as changed
+use Rattle.cedar_calls.specs.declared.answer.Reply.{Reply}
+use Rattle.cedar_calls.specs.declared.answer.Reply.TheVariants as reply
+
+pub bool_same : (b c : Bool) → ((b ≡ true) ↔ (c ≡ true)) → b ≡ c
+bool_same true true h = refl
+bool_same true false h = sym (h.0 refl)
+bool_same false true h = h.1 refl
+bool_same false false h = refl
+
+pub none_same : (b : Bool) (es : List Entry) → ((b ≡ true) ↔ (es ≡ [])) → b ≡ is_none_left es
+none_same true [] h = refl
+none_same true (e ∷ es) h = sym (ap is_none_left (h.0 refl))
+none_same false [] h = h.1 refl
+none_same false (e ∷ es) h = refl
+
+made_state : Tree → Bool → State
+made_state t o = record { tree = t; ordered = o }
+
+pub state_is : (s : State) (t : Tree) (o : Bool) → s.tree ≡ t → s.ordered ≡ o → s ≡ record { tree = t; ordered = o }
+unfolding made_state
+state_is s t o p q = ap (λ x. made_state x s.ordered) p ∙ ap (λ x. made_state t x) q
+
+none_ok : (e : CedarError) → ◌≡◌ {A = Result (Unit {0}) CedarError} (Ok tt) (Err e) → ⊥
+none_ok e h = cc
+
+-- an update without shortage
+module _ (layout : LayoutKind) (slots : ℕ) (d d' : Dictionary) (key : List ℕ) (v : ℤ) where
+  update_goes : (f : Option CedarError) → fault key v ≡ f → (r : Result (Unit {0}) CedarError) → IsUpdate layout slots d d' key v r → IsMet (said_result (λ _. done) r)
+      → (said_result (λ _. done) r ≡ unless_fault f done) × (d'.state ≡ kept_at_fault f d.state (stored d.state key v))
+  update_goes (Some e) same r h met =
+      let err : r ≡ Err e = subst (λ f. IfSome f (λ e. r ≡ Err e)) same h.faulty in
+      (ap (said_result (λ _. done)) err, subst (λ r. OnErr r (d'.state ≡ d.state)) err h.err)
+  update_goes None same (Ok x) h met = (refl, h.ok)
+  update_goes None same (Err e) h met = absurd (met (h.refused same).0)
+
+  insert_goes : (f : Option CedarError) → fault key v ≡ f → (r : Result (Option ℤ) CedarError) → IsUpdate layout slots d d' key v (outcome r)
+      → IfOk r (λ x. x ≡ number_at d.state.tree key) → IsMet (said_result was r)
+      → (said_result was r ≡ unless_fault f (was (number_at d.state.tree key))) × (d'.state ≡ kept_at_fault f d.state (stored d.state key v))
+  insert_goes (Some e) same (Ok x) h was_held met = absurd (none_ok e (subst (λ f. IfSome f (λ e. Ok tt ≡ Err e)) same h.faulty))
+  insert_goes (Some e) same (Err e') h was_held met =
+      let err : Err e' ≡ Err e = subst (λ f. IfSome f (λ e. outcome {X = Option ℤ} (Err e') ≡ Err e)) same h.faulty in
+      (ap (said_result (λ (x : Unit {0}). done)) err, h.err)
+  insert_goes None same (Ok x) h was_held met = (ap was was_held, h.ok)
+  insert_goes None same (Err e) h was_held met = absurd (met (h.refused same).0)
+
+build_goes : (layout : LayoutKind) (slots : ℕ) (d d' : Dictionary) (es : List Entry) (f : Option CedarError) → first_fault es ≡ f → (r : Result (Unit {0}) CedarError)
+    → IsWholeBuild layout slots d d' es r → IsMet (said_result (λ _. done) r)
+    → (said_result (λ _. done) r ≡ unless_fault f done) × (d'.state ≡ kept_at_fault f d.state (all_stored d.state es))
+build_goes layout slots d d' es (Some e) same r h met =
+    let err : r ≡ Err e = subst (λ f. IfSome f (λ e. r ≡ Err e)) same h.faulty in
+    let faulty : IsSome (first_fault es) = subst (λ f. IsSome f) (sym same) refl in
+    (ap (said_result (λ _. done)) err, ap (λ x. x.state) (h.unchanged faulty))
+build_goes layout slots d d' es None same (Ok x) h met = (refl, h.stored)
+build_goes layout slots d d' es None same (Err e) h met = absurd (met (h.refused same).shortage)
+
+pub change_goes : (layout : LayoutKind) (slots : ℕ) (d d' : Dictionary) (c : Change) (a : Changed) → IsChange layout slots d c a d' → IsMet (said_change a)
+    → (said_change a ≡ change_says d.state c) × (d'.state ≡ changed_state d.state c)
+change_goes layout slots d d' (change.Update key v) (changed.Updated r) h met = update_goes layout slots d d' key.now v (fault key.now v) refl r h met
+change_goes layout slots d d' (change.Insert key v) (changed.Inserted r) h met = insert_goes layout slots d d' key.now v (fault key.now v) refl r h.0 h.1 met
+change_goes layout slots d d' (change.Erase key) (changed.Erased b) h met = (ap held (bool_same b (is_some (number_at d.state.tree key.now)) h.0), h.1.state)
+change_goes layout slots d d' (change.Renew settings) (changed.Renewed (Ok x)) h met = (refl, state_is d'.state empty_tree settings.ordered h.tree h.ordered)
+change_goes layout slots d d' (change.Renew settings) (changed.Renewed (Err e)) h met = absurd (met (subst IsShortage (sym h.0) tt))
+change_goes layout slots d d' (change.Build pairs) (changed.Built r) h met = build_goes layout slots d d' (entries_of pairs.now) (first_fault (entries_of pairs.now)) refl r h met
+change_goes layout slots d d' c a h met = absurd h
+
+pub short : (e : CedarError) → e ≡ Memory → IsShortage e
+short e h = subst IsShortage (sym h) tt
+
+pub reply_goes : {A : Type 0} (layout : LayoutKind) (slots : ℕ) (d : Dictionary) (q : Question) (a : Reply A) → IsReply layout slots d q a → IsMet (said_reply a)
+    → said_reply a ≡ reply_says d.state q
+reply_goes layout slots d (question.Exact key) (reply.Exact x) h met = ap found h
+reply_goes layout slots d (question.Prefixes query) (reply.Prefixes (Ok v)) h met = ap listed h
+reply_goes layout slots d (question.Prefixes query) (reply.Prefixes (Err e)) h met = absurd (met (short e h))
+reply_goes layout slots d (question.Predictions query) (reply.Predictions (Ok v)) h met = ap listed h
+reply_goes layout slots d (question.Predictions query) (reply.Predictions (Err e)) h met = absurd (met (short e h))
+reply_goes layout slots d question.Entries (reply.Entries (Ok v)) h met = ap walked h
+reply_goes layout slots d question.Entries (reply.Entries (Err e)) h met = absurd (met (short e h))
+reply_goes layout slots d question.TextEntries (reply.TextEntries r) h met = refl
+reply_goes layout slots d question.Len (reply.Len n) h met = ap counted h
+reply_goes layout slots d (question.Figure which) (reply.Figure n) h met = refl
+reply_goes layout slots d question.IsEmpty (reply.IsEmpty b) h met = ap held (none_same b (walk d.state.tree) h)
+reply_goes layout slots d question.Stats (reply.Stats stats) h met = ap counted h.entries
+reply_goes layout slots d question.Save (reply.Saved r) h met = refl
+reply_goes layout slots d question.SaveV1_0 (reply.Saved r) h met = refl
+reply_goes layout slots d q a h met = absurd h

@@ -1,0 +1,116 @@
+-- What calls and runs say as far as trees go.
+use Rattle.std.proofs.Common.{◌≡◌, ◌⊎◌, inl, inr, ◌*◌, ◌≤◌, ℕ, List, [], ◌∷◌, ◌++◌, length, map, Option, option_map, Some, None, Ok, Err, IfSome, refl, ap, sym, subst, ◌∙◌, slice_set}
+use Rattle.std.specs.List.{slice_get, AllByRecursion}
+use Rattle.std.specs.declared.result.Result.{Result}
+use Rattle.std.proofs.lemmas.List.{map-append, map-set}
+use Rattle.std.proofs.lemmas.Option.{slice_get-map}
+use Rattle.cedar_tree.specs.Tree.{empty_tree}
+use Rattle.cedar_tree.specs.Queries.{asc, prefixes}
+use Rattle.cedar_tree.specs.State.{State}
+use Rattle.cedar_slots.specs.declared.error.CedarError.{CedarError}
+use Rattle.cedar_slots.specs.declared.error.CedarError.TheVariants.{Memory, SlotLimit}
+use Rattle.cedar_table.specs.Bulk.Sorted.{Pair, entries_of}
+use Rattle.cedar_table.specs.Table.Layouts.{LayoutKind}
+use Rattle.cedarwood.specs.declared.builder.CedarBuilder.{CedarBuilder}
+use Rattle.cedarwood.specs.Dictionary.{Dictionary}
+use Rattle.cedarwood.specs.Fault.{IsShortage}
+use Rattle.cedarwood.specs.SortedInput.{sorted_fault}
+use Rattle.cedar_calls.specs.Making.{IsCopy, IsNew, IsSortedBuild, Joins}
+use Rattle.cedar_calls.specs.Plain.{at_state, call_says, change_says, changed_state, done, IsLoadless, IsMet, kept_at_fault, missing, reply_says, run_says, said, said_result, states_after, states_left, states_of, unless_fault}
+use Rattle.cedar_calls.specs.Runs.{IsRun, IsStep}
+use Rattle.cedar_calls.specs.declared.call.Call.{Call}
+use Rattle.cedar_calls.specs.declared.call.Call.TheVariants as call
+use Rattle.cedar_calls.specs.declared.answer.Answer.{Answer}
+use Rattle.cedar_calls.specs.declared.answer.Answer.TheVariants as answer
+use Rattle.cedar_calls.proofs.PlainLemmas.{change_goes, reply_goes, short, state_is}
+
+short_of : (e : CedarError) (P : Type 0) → (e ≡ Memory) ⊎ ((e ≡ SlotLimit) × P) → IsShortage e
+short_of e P (inl h) = short e h
+short_of e P (inr h) = subst IsShortage (sym h.0) tt
+
+-- a further dictionary's state behind the others
+joined : (before after : List Dictionary) (d : Dictionary) (s : State) → after ≡ before ++ d ∷ [] → d.state ≡ s → states_of after ≡ states_of before ++ s ∷ []
+joined before after d s e same = ap states_of e ∙ map-append (λ x. x.state) before (d ∷ []) ∙ ap (λ x. states_of before ++ x ∷ []) same
+
+-- what a making says
+module _ (before after : List Dictionary) (r : Result (Unit {0}) CedarError) where
+  met_at : (e : CedarError) → r ≡ Err e → IsMet (said_result (λ _. done) r) → IsShortage e → ⊥
+  met_at e h met = subst (λ x. IsMet (said_result (λ _. done) x)) h met
+
+  new_goes : (settings : CedarBuilder) (made : Result Dictionary CedarError) → IsNew settings made → Joins before made r after → IsMet (said_result (λ _. done) r)
+      → (said_result (λ _. done) r ≡ done) × (states_of after ≡ states_of before ++ record { tree = empty_tree; ordered = settings.ordered } ∷ [])
+  new_goes settings (Ok d) p j met = (ap (said_result (λ _. done)) j.0, joined before after d _ j.1 (state_is d.state empty_tree settings.ordered p.tree p.ordered))
+  new_goes settings (Err e) p j met = absurd (met_at e j.0 met (short e p))
+
+  copy_goes : (d : Dictionary) (made : Result Dictionary CedarError) → IsCopy d made → Joins before made r after → IsMet (said_result (λ _. done) r)
+      → (said_result (λ _. done) r ≡ done) × (states_of after ≡ states_of before ++ d.state ∷ [])
+  copy_goes d (Ok copy) p j met = (ap (said_result (λ _. done)) j.0, joined before after copy d.state j.1 (ap (λ x. x.state) p))
+  copy_goes d (Err e) p j met = absurd (met_at e j.0 met (short e p))
+
+  sorted_goes : (layout : LayoutKind) (slots : ℕ) (settings : CedarBuilder) (pairs : List Pair) (f : Option CedarError) → sorted_fault pairs ≡ f → (made : Result Dictionary CedarError)
+      → IsSortedBuild layout slots settings pairs made → Joins before made r after → IsMet (said_result (λ _. done) r)
+      → (said_result (λ _. done) r ≡ unless_fault f done)
+      × (states_of after ≡ kept_at_fault f (states_of before) (states_of before ++ record { tree = asc (entries_of pairs); ordered = settings.ordered } ∷ []))
+  sorted_goes layout slots settings pairs (Some e) same made p j met =
+      let faulty : made ≡ Err e = subst (λ f. IfSome f (λ e. made ≡ Err e)) same p.faulty in
+      let none_made : Joins before (Err e) r after = subst (λ m. Joins before m r after) faulty j in (ap (said_result (λ _. done)) none_made.0, ap states_of none_made.1)
+  sorted_goes layout slots settings pairs None same (Ok d) p j met =
+      (ap (said_result (λ _. done)) j.0, joined before after d _ j.1 (state_is d.state (asc (entries_of pairs)) settings.ordered p.sorted.tree p.sorted.ordered))
+  sorted_goes layout slots settings pairs None same (Err e) p j met = absurd (met_at e j.0 met (short_of e (slots ≤ 256 * length (prefixes (asc (entries_of pairs)))) (p.refused same)))
+
+found_state : (ds : List Dictionary) (i : ℕ) (d : Dictionary) → slice_get ds i ≡ Some d → slice_get (states_of ds) i ≡ Some d.state
+found_state ds i d h = slice_get-map (λ x. x.state) ds i ∙ ap (option_map (λ x. x.state)) h
+
+missed_state : (ds : List Dictionary) (i : ℕ) → slice_get ds i ≡ None → slice_get (states_of ds) i ≡ None
+missed_state ds i h = slice_get-map (λ x. x.state) ds i ∙ ap (option_map (λ x. x.state)) h
+
+-- a step
+Goes : {A : Type 0} → List Dictionary → Call → Answer A → List Dictionary → Type 0
+Goes before c a after = (said a ≡ call_says (states_of before) c) × (states_of after ≡ states_after (states_of before) c)
+
+step_goes : {A : Type 0} (layout : LayoutKind) (slots : ℕ) (before : List Dictionary) (c : Call) (a : Answer A) (after : List Dictionary) → IsStep layout slots before c a after → IsLoadless c
+    → IsMet (said a) → Goes before c a after
+unfolding Goes
+step_goes layout slots before (call.New settings) (answer.Made r) after h loadless met = new_goes before after r settings h.0 h.1 h.2 met
+step_goes layout slots before (call.Sorted settings pairs) (answer.Made r) after h loadless met =
+    sorted_goes before after r layout slots settings pairs.now (sorted_fault pairs.now) refl h.0 h.1 h.2 met
+step_goes layout slots before (call.Clone i) (answer.Made r) after h loadless met =
+    let s = found_state before i h.0 h.1 in
+    let g = copy_goes before after r h.0 h.2.0 h.2.1 h.2.2 met in
+    (g.0 ∙ ap (λ o. at_state o missing (λ _. done)) (sym s), g.1 ∙ ap (λ o. at_state o (states_of before) (λ x. states_of before ++ x ∷ [])) (sym s))
+step_goes layout slots before (call.Clone i) answer.Missing after h loadless met =
+    let s = missed_state before i h.0 in
+    (ap (λ o. at_state o missing (λ _. done)) (sym s), ap states_of h.1 ∙ ap (λ o. at_state o (states_of before) (λ x. states_of before ++ x ∷ [])) (sym s))
+step_goes layout slots before (call.Change i c) (answer.Changed a) after h loadless met =
+    let s = found_state before i h.0 h.2 in
+    let g = change_goes layout slots h.0 h.1 c a h.3 met in (
+      g.0 ∙ ap (λ o. at_state o missing (λ x. change_says x c)) (sym s),
+      ap states_of h.4 ∙ map-set (λ x. x.state) before i h.1 ∙ ap (λ x. slice_set (states_of before) i x) g.1
+          ∙ ap (λ o. at_state o (states_of before) (λ x. slice_set (states_of before) i (changed_state x c))) (sym s),
+    )
+step_goes layout slots before (call.Change i c) answer.Missing after h loadless met =
+    let s = missed_state before i h.0 in (
+      ap (λ o. at_state o missing (λ x. change_says x c)) (sym s),
+      ap states_of h.1 ∙ ap (λ o. at_state o (states_of before) (λ x. slice_set (states_of before) i (changed_state x c))) (sym s),
+    )
+step_goes layout slots before (call.Ask i q) (answer.Replied a) after h loadless met =
+    let s = found_state before i h.0 h.1 in (reply_goes layout slots h.0 q a h.2 met ∙ ap (λ o. at_state o missing (λ x. reply_says x q)) (sym s), ap states_of h.3)
+step_goes layout slots before (call.Ask i q) answer.Missing after h loadless met =
+    let s = missed_state before i h.0 in (ap (λ o. at_state o missing (λ x. reply_says x q)) (sym s), ap states_of h.1)
+step_goes layout slots before (call.Load bytes limit) a after h loadless met = absurd loadless
+step_goes layout slots before c a after h loadless met = absurd h
+
+-- a run
+pub run_goes : {A : Type 0} (layout : LayoutKind) (slots : ℕ) (before : List Dictionary) (calls : List Call) (answers : List (Answer A)) (after : List Dictionary)
+    → IsRun layout slots before calls answers after → AllByRecursion IsLoadless calls → AllByRecursion (λ a. IsMet (said a)) answers
+    → (map said answers ≡ run_says (states_of before) calls) × (states_of after ≡ states_left (states_of before) calls)
+unfolding Goes
+run_goes layout slots before [] [] after h loadless met = (refl, ap states_of h)
+run_goes layout slots before [] (a ∷ answers) after h loadless met = absurd h
+run_goes layout slots before (c ∷ calls) [] after h loadless met = absurd h
+run_goes layout slots before (c ∷ calls) (a ∷ answers) after h loadless met =
+    let g = step_goes layout slots before c a h.0 h.1 loadless.0 met.0 in
+    let r = run_goes layout slots h.0 calls answers after h.2 loadless.1 met.1 in (
+      ap (λ x. x ∷ map said answers) g.0 ∙ ap (λ xs. call_says (states_of before) c ∷ xs) (r.0 ∙ ap (λ ss. run_says ss calls) g.1),
+      r.1 ∙ ap (λ ss. states_left ss calls) g.1,
+    )

@@ -1,0 +1,44 @@
+-- What a change of a dictionary answers, and the dictionary after it.
+use Rattle.std.specs.Prelude.{◌≡◌, ℕ, List, IfErr, IfOk, IfSome, IsSome, IsTrue, ◌↔◌, None, MatchResult, OnOk, Result, Err}
+use Rattle.cedar_tree.specs.Tree.{number_at}
+use Rattle.cedar_tree.specs.Queries.{Entry}
+use Rattle.cedar_tree.specs.State.{erased}
+use Rattle.cedar_slots.specs.declared.error.CedarError.{CedarError}
+use Rattle.cedar_slots.specs.declared.error.CedarError.TheVariants.{Memory}
+use Rattle.cedar_table.specs.Bulk.Sorted.{entries_of}
+use Rattle.cedar_table.specs.Meaning.Marks.{MarksCut}
+use Rattle.cedar_table.specs.Table.Layouts.{LayoutKind}
+use Rattle.cedarwood.specs.Builds.{all_stored, first_fault, outcome, IsBuild, IsRefusedBuild}
+use Rattle.cedarwood.specs.Dictionary.{Dictionary}
+use Rattle.cedarwood.specs.Updates.{IsUpdate}
+use Rattle.cedar_calls.specs.Making.{IsEmpty}
+use Rattle.cedar_calls.specs.declared.call.Change.{Change}
+use Rattle.cedar_calls.specs.declared.call.Change.TheVariants as change
+use Rattle.cedar_calls.specs.declared.answer.Changed.{Changed}
+use Rattle.cedar_calls.specs.declared.answer.Changed.TheVariants as changed
+
+-- the key is no longer held, and all else is as it was
+pub record IsErased (before after : Dictionary) (key : List ℕ) : Type 0 where
+  pub state : after.state ≡ erased before.state key
+  pub marks : MarksCut before.marked after.marked key
+  pub size : (after.size ≡ before.size) × (after.capacity ≡ before.capacity)
+  pub max_trial : after.max_trial ≡ before.max_trial
+
+-- some pairs were to be stored: nothing is where one has a fault. Else they are, by updates one after another; or there was no memory or
+-- no slot for one whose key wasn't held then, and those before it are
+pub record IsWholeBuild (layout : LayoutKind) (slots : ℕ) (before after : Dictionary) (pairs : List Entry) (result : Result (Unit {0}) CedarError) : Type 0 where
+  pub faulty : IfSome (first_fault pairs) (λ e. result ≡ Err e)
+  pub unchanged : IsSome (first_fault pairs) → after ≡ before
+  pub updates : first_fault pairs ≡ None → IsBuild layout slots before pairs result after
+  pub stored : OnOk result (after.state ≡ all_stored before.state pairs)
+  pub refused : first_fault pairs ≡ None → IfErr result (IsRefusedBuild slots before after pairs)
+
+-- what a change may answer of a dictionary of this layout that may have so many slots, and the dictionary after it
+abbrev pub IsChange : LayoutKind → ℕ → Dictionary → Change → Changed → Dictionary → Type 0
+IsChange layout slots before (change.Update key v) (changed.Updated result) after = IsUpdate layout slots before after key.now v result
+IsChange layout slots before (change.Insert key v) (changed.Inserted result) after =
+    IsUpdate layout slots before after key.now v (outcome result) × IfOk result (λ held. held ≡ number_at before.state.tree key.now)
+IsChange layout slots before (change.Erase key) (changed.Erased held) after = (IsTrue held ↔ IsSome (number_at before.state.tree key.now)) × IsErased before after key.now
+IsChange layout slots before (change.Renew settings) (changed.Renewed result) after = MatchResult result (λ _. IsEmpty settings after) (λ e. (e ≡ Memory) × (after ≡ before))
+IsChange layout slots before (change.Build pairs) (changed.Built result) after = IsWholeBuild layout slots before after (entries_of pairs.now) result
+IsChange layout slots before c answer after = ⊥

@@ -1,0 +1,6 @@
+pub mod Making
+pub mod Changes
+pub mod Replies
+pub mod Runs
+pub mod Plain
+pub mod Keys

@@ -1,0 +1,159 @@
+-- What runs answer as far as trees go: neither slots nor bytes nor settings but the order have a part in it.
+use Rattle.std.specs.Prelude.{◌≡◌, Bool, true, false, ℕ, ℤ, List, [], ◌∷◌, ◌++◌, length, map, slice_get, slice_set, Option, Some, None, is_some, Result, Ok, Err}
+use Rattle.std.specs.List.{AllByRecursion}
+use Rattle.cedar_tree.specs.Tree.{empty_tree, number_at}
+use Rattle.cedar_tree.specs.Queries.{Entry, asc, exact, front, predict, walk}
+use Rattle.cedar_tree.specs.State.{State, erased, stored}
+use Rattle.cedar_slots.specs.declared.error.CedarError.{CedarError}
+use Rattle.cedar_table.specs.Bulk.Sorted.{entries_of}
+use Rattle.cedar_table.specs.Table.Layouts.{LayoutKind}
+use Rattle.cedarwood.specs.Builds.{all_stored, first_fault}
+use Rattle.cedarwood.specs.Dictionary.{Dictionary}
+use Rattle.cedarwood.specs.Fault.{fault, IsShortage}
+use Rattle.cedarwood.specs.SortedInput.{sorted_fault}
+use Rattle.cedar_calls.specs.Runs.{IsRun}
+use Rattle.cedar_calls.specs.declared.call.Call.{Call}
+use Rattle.cedar_calls.specs.declared.call.Call.TheVariants as call
+use Rattle.cedar_calls.specs.declared.call.Change.{Change}
+use Rattle.cedar_calls.specs.declared.call.Change.TheVariants as change
+use Rattle.cedar_calls.specs.declared.call.Question.{Question}
+use Rattle.cedar_calls.specs.declared.call.Question.TheVariants as question
+use Rattle.cedar_calls.specs.declared.answer.Answer.{Answer}
+use Rattle.cedar_calls.specs.declared.answer.Answer.TheVariants as answer
+use Rattle.cedar_calls.specs.declared.answer.Changed.{Changed}
+use Rattle.cedar_calls.specs.declared.answer.Changed.TheVariants as changed
+use Rattle.cedar_calls.specs.declared.answer.Reply.{Reply}
+use Rattle.cedar_calls.specs.declared.answer.Reply.TheVariants as reply
+
+-- an answer as far as it speaks of trees
+pub data Said : Type 0 where
+  missing : Said
+  done : Said
+  refused : CedarError → Said
+  was : Option ℤ → Said
+  held : Bool → Said
+  found : Option (ℤ × ℕ) → Said
+  listed : List (ℤ × ℕ) → Said
+  walked : List Entry → Said
+  counted : ℕ → Said
+  unsaid : Said
+
+abbrev pub said_result : {X : Type 0} → (X → Said) → Result X CedarError → Said
+said_result say (Ok x) = say x
+said_result say (Err e) = refused e
+
+abbrev pub said_change : Changed → Said
+said_change (changed.Updated result) = said_result (λ _. done) result
+said_change (changed.Inserted result) = said_result was result
+said_change (changed.Erased result) = held result
+said_change (changed.Renewed result) = said_result (λ _. done) result
+said_change (changed.Built result) = said_result (λ _. done) result
+
+abbrev pub said_reply : {A : Type 0} → Reply A → Said
+said_reply (reply.Exact result) = found result
+said_reply (reply.Prefixes result) = said_result (λ v. listed v.items) result
+said_reply (reply.Predictions result) = said_result (λ v. listed v.items) result
+said_reply (reply.Entries result) = said_result (λ v. walked (map (λ e. (e.0.items, e.1)) v.items)) result
+said_reply (reply.Len n) = counted n
+said_reply (reply.IsEmpty result) = held result
+said_reply (reply.Stats stats) = counted stats.entries
+said_reply _ = unsaid
+
+abbrev pub said : {A : Type 0} → Answer A → Said
+said answer.Missing = missing
+said (answer.Made result) = said_result (λ _. done) result
+said (answer.Changed result) = said_change result
+said (answer.Replied result) = said_reply result
+said _ = unsaid
+
+-- nothing was refused for memory or slots
+abbrev pub IsMet : Said → Type 0
+IsMet (refused e) = IsShortage e → ⊥
+IsMet _ = Unit {0}
+
+-- what is said without a fault, else the fault
+abbrev pub unless_fault : Option CedarError → Said → Said
+unless_fault None without = without
+unless_fault (Some e) without = refused e
+
+-- what is so without a fault, else what was so
+abbrev pub kept_at_fault : {X : Type 0} → Option CedarError → X → X → X
+kept_at_fault None before after = after
+kept_at_fault (Some e) before after = before
+
+abbrev pub is_none_left : List Entry → Bool
+is_none_left [] = true
+is_none_left (e ∷ es) = false
+
+-- what a change says of a tree, and the tree after it
+abbrev pub change_says : State → Change → Said
+change_says s (change.Update key v) = unless_fault (fault key.now v) done
+change_says s (change.Insert key v) = unless_fault (fault key.now v) (was (number_at s.tree key.now))
+change_says s (change.Erase key) = held (is_some (number_at s.tree key.now))
+change_says s (change.Renew settings) = done
+change_says s (change.Build pairs) = unless_fault (first_fault (entries_of pairs.now)) done
+
+abbrev pub changed_state : State → Change → State
+changed_state s (change.Update key v) = kept_at_fault (fault key.now v) s (stored s key.now v)
+changed_state s (change.Insert key v) = kept_at_fault (fault key.now v) s (stored s key.now v)
+changed_state s (change.Erase key) = erased s key.now
+changed_state s (change.Renew settings) = record { tree = empty_tree; ordered = settings.ordered }
+changed_state s (change.Build pairs) = kept_at_fault (first_fault (entries_of pairs.now)) s (all_stored s (entries_of pairs.now))
+
+-- what a question is answered
+abbrev pub reply_says : State → Question → Said
+reply_says s (question.Exact key) = found (exact s.tree key.now)
+reply_says s (question.Prefixes query) = listed (front s.tree query.now)
+reply_says s (question.Predictions query) = listed (predict s.tree query.now)
+reply_says s question.Entries = walked (walk s.tree)
+reply_says s question.Len = counted (length (walk s.tree))
+reply_says s question.IsEmpty = held (is_none_left (walk s.tree))
+reply_says s question.Stats = counted (length (walk s.tree))
+reply_says s _ = unsaid
+
+-- what is said of the state at an index, if there is one
+abbrev pub at_state : {X : Type 0} → Option State → X → (State → X) → X
+at_state None without with_one = without
+at_state (Some s) without with_one = with_one s
+
+-- what a call says, and the states after it
+abbrev pub call_says : List State → Call → Said
+call_says states (call.New settings) = done
+call_says states (call.Sorted settings pairs) = unless_fault (sorted_fault pairs.now) done
+call_says states (call.Load bytes limit) = unsaid
+call_says states (call.Clone index) = at_state (slice_get states index) missing (λ _. done)
+call_says states (call.Change index change) = at_state (slice_get states index) missing (λ s. change_says s change)
+call_says states (call.Ask index question) = at_state (slice_get states index) missing (λ s. reply_says s question)
+
+abbrev pub states_after : List State → Call → List State
+states_after states (call.New settings) = states ++ record { tree = empty_tree; ordered = settings.ordered } ∷ []
+states_after states (call.Sorted settings pairs) =
+    kept_at_fault (sorted_fault pairs.now) states (states ++ record { tree = asc (entries_of pairs.now); ordered = settings.ordered } ∷ [])
+states_after states (call.Load bytes limit) = states
+states_after states (call.Clone index) = at_state (slice_get states index) states (λ s. states ++ s ∷ [])
+states_after states (call.Change index change) = at_state (slice_get states index) states (λ s. slice_set states index (changed_state s change))
+states_after states (call.Ask index question) = states
+
+-- what some calls say one after another, and the states that they leave
+abbrev pub run_says : List State → List Call → List Said
+run_says states [] = []
+run_says states (c ∷ calls) = call_says states c ∷ run_says (states_after states c) calls
+
+abbrev pub states_left : List State → List Call → List State
+states_left states [] = states
+states_left states (c ∷ calls) = states_left (states_after states c) calls
+
+-- no load is among the calls, and none of them was refused for memory or slots
+abbrev pub IsLoadless : Call → Type 0
+IsLoadless (call.Load bytes limit) = ⊥
+IsLoadless _ = Unit {0}
+
+abbrev pub states_of : List Dictionary → List State
+states_of ds = map (λ d. d.state) ds
+
+-- Trees alone decide: whatever the layout, the limit of slots, the settings but the order, the marks and the tables, a run of calls without a
+-- load, of which none was refused for memory or slots, says what its trees say, and leaves what they leave
+abbrev pub TreesDecide : {A : Type 0} → List Call → List (Answer A) → Type 0
+TreesDecide calls answers = (layout : LayoutKind) (slots : ℕ) (before after : List Dictionary) → IsRun layout slots before calls answers after
+    → AllByRecursion IsLoadless calls → AllByRecursion (λ a. IsMet (said a)) answers
+    → (map said answers ≡ run_says (states_of before) calls) × (states_of after ≡ states_left (states_of before) calls)

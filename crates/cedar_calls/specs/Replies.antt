@@ -1,0 +1,64 @@
+-- What a question to a dictionary is answered.
+use Rattle.std.specs.Prelude.{◌≡◌, ℕ, ℤ, ◌+◌, ◌-◌, ◌*◌, ◌/◌, List, [], ◌∷◌, length, map, Option, option_map, Some, None, IsTrue, ◌↔◌, MatchResult, Result, string_bytes}
+use Rattle.std.specs.Str.{IsUtf8}
+use Rattle.cedar_tree.specs.Queries.{Entry, exact, front, predict, prefixes, used, walk}
+use Rattle.cedar_slots.specs.declared.error.CedarError.{CedarError}
+use Rattle.cedar_slots.specs.declared.error.CedarError.TheVariants.{Memory}
+use Rattle.cedar_table.specs.Table.Layouts.{LayoutKind, default_layout}
+use Rattle.cedar_format.specs.Tables.{IsTableFile}
+use Rattle.cedarwood.specs.Dictionary.{Dictionary}
+use Rattle.cedarwood.specs.declared.figures.MemoryStats.{MemoryStats}
+use Rattle.cedar_calls.specs.declared.call.Figure.{Figure}
+use Rattle.cedar_calls.specs.declared.call.Figure.TheVariants.{AllocatedBytes, Capacity, SpareBlocks, UsedSlots}
+use Rattle.cedar_calls.specs.declared.call.Question.{Question}
+use Rattle.cedar_calls.specs.declared.call.Question.TheVariants as question
+use Rattle.cedar_calls.specs.declared.answer.Reply.{Reply}
+use Rattle.cedar_calls.specs.declared.answer.Reply.TheVariants as reply
+
+-- what was asked for, or there was no memory to collect it
+abbrev pub Collects : {X : Type 0} → Result X CedarError → (X → Type 0) → Type 0
+Collects result P = MatchResult result P (λ e. e ≡ Memory)
+
+-- each entry in its turn as a text and its number, and nothing in the place of one whose key isn't UTF-8
+abbrev pub AreTexts : List (Option (List ℕ × ℤ)) → List Entry → Type 0
+AreTexts [] [] = Unit {0}
+AreTexts (Some text ∷ texts) (e ∷ es) = (text ≡ e) × AreTexts texts es
+AreTexts (None ∷ texts) (e ∷ es) = (IsUtf8 e.0 → ⊥) × AreTexts texts es
+AreTexts texts es = ⊥
+
+-- the slots that are held: one for the root, one for each prefix, and one for each number that has a slot of its own
+abbrev pub held_slots : Dictionary → ℕ
+held_slots d = 1 + length (prefixes d.state.tree) + length (walk d.marked)
+
+-- the bytes that so many slots take, with their blocks and the reject values
+abbrev pub bytes_of : ℕ → ℕ
+bytes_of capacity = 10 * capacity + 20 * (capacity / 256) + 514
+
+-- a figure. By default each number has a slot of its own, so that the tree alone says how many slots are held
+abbrev pub IsFigure : LayoutKind → Dictionary → Figure → ℕ → Type 0
+IsFigure layout d UsedSlots n = (n ≡ held_slots d) × (layout ≡ default_layout → n ≡ used d.state.tree)
+IsFigure layout d Capacity n = n ≡ d.capacity
+IsFigure layout d AllocatedBytes n = n ≡ bytes_of d.capacity
+IsFigure layout d SpareBlocks n = n ≡ (d.capacity - d.size) / 256
+
+-- the figures, all from one moment
+pub record AreStats (layout : LayoutKind) (d : Dictionary) (stats : MemoryStats) : Type 0 where
+  pub entries : stats.entries ≡ length (walk d.state.tree)
+  pub used : IsFigure layout d UsedSlots stats.used_node_slots
+  pub capacity : IsFigure layout d Capacity stats.node_capacity
+  pub bytes : IsFigure layout d AllocatedBytes stats.allocated_bytes
+
+-- what a dictionary of this layout that may have so many slots replies
+abbrev pub IsReply : {A : Type 0} → LayoutKind → ℕ → Dictionary → Question → Reply A → Type 0
+IsReply layout slots d (question.Exact key) (reply.Exact found) = found ≡ exact d.state.tree key.now
+IsReply layout slots d (question.Prefixes query) (reply.Prefixes result) = Collects result (λ found. found.items ≡ front d.state.tree query.now)
+IsReply layout slots d (question.Predictions query) (reply.Predictions result) = Collects result (λ found. found.items ≡ predict d.state.tree query.now)
+IsReply layout slots d question.Entries (reply.Entries result) = Collects result (λ found. map (λ e. (e.0.items, e.1)) found.items ≡ walk d.state.tree)
+IsReply layout slots d question.TextEntries (reply.TextEntries result) = Collects result (λ found. AreTexts (map (option_map (λ e. (string_bytes e.0, e.1))) found.items) (walk d.state.tree))
+IsReply layout slots d question.Len (reply.Len n) = n ≡ length (walk d.state.tree)
+IsReply layout slots d (question.Figure which) (reply.Figure n) = IsFigure layout d which n
+IsReply layout slots d question.IsEmpty (reply.IsEmpty result) = IsTrue result ↔ (walk d.state.tree ≡ [])
+IsReply layout slots d question.Stats (reply.Stats stats) = AreStats layout d stats
+IsReply layout slots d question.Save (reply.Saved result) = Collects result (λ bytes. IsTableFile 1 slots d.table bytes.items)
+IsReply layout slots d question.SaveV1_0 (reply.Saved result) = Collects result (λ bytes. IsTableFile 0 slots d.table bytes.items)
+IsReply layout slots d q r = ⊥

@@ -1,0 +1,61 @@
+//! Answers as values.
+
+use cedarwood::{CedarError, CedarPersistenceError, MemoryStats};
+use std::alloc::Allocator;
+
+/// What a call answered.
+#[derive(Drop)]
+pub enum Answer<A: Allocator> {
+    /// There is no dictionary at the index.
+    Missing,
+    /// Whether a further dictionary was made. If so, it stands behind the others.
+    Made(Result<(), CedarError>),
+    /// Whether a further dictionary was loaded. If so, it stands behind the others.
+    Loaded(Result<(), CedarPersistenceError>),
+    /// A read of a load's bytes failed, which none of bytes in memory does: so no dictionary was made.
+    Unread,
+    /// What a change answered.
+    Changed(Changed),
+    /// What a dictionary replied.
+    Replied(Reply<A>),
+}
+
+/// What a change answered.
+#[derive(Debug, PartialEq, Eq, Drop)]
+pub enum Changed {
+    /// Whether the value was stored.
+    Updated(Result<(), CedarError>),
+    /// The same, with what the key held before.
+    Inserted(Result<Option<i32>, CedarError>),
+    /// Whether the key was held.
+    Erased(bool),
+    /// Whether it is empty now. If not, it holds what it held.
+    Renewed(Result<(), CedarError>),
+    /// Whether all pairs were stored.
+    Built(Result<(), CedarError>),
+}
+
+/// What a dictionary replied. Where there was no memory to collect an answer, it is `Memory`.
+#[derive(Drop)]
+pub enum Reply<A: Allocator> {
+    /// The key's value and its length.
+    Exact(Option<(i32, usize)>),
+    /// The fronts of the query that are held.
+    Prefixes(Result<Vec<(i32, usize), A>, CedarError>),
+    /// The keys that begin with the query.
+    Predictions(Result<Vec<(i32, usize), A>, CedarError>),
+    /// All keys with their values.
+    Entries(Result<Vec<(Vec<u8, A>, i32), A>, CedarError>),
+    /// The same with keys as texts, and `None` in the place of each key that isn't UTF-8.
+    TextEntries(Result<Vec<Option<(String<A>, i32)>, A>, CedarError>),
+    /// The keys that are held.
+    Len(usize),
+    /// The figure.
+    Figure(usize),
+    /// Whether no key is held.
+    IsEmpty(bool),
+    /// The four figures.
+    Stats(MemoryStats),
+    /// The bytes of its file.
+    Saved(Result<Vec<u8, A>, CedarError>),
+}

@@ -1,0 +1,102 @@
+//! Calls as values.
+
+use cedarwood::CedarBuilder;
+
+/// A call. A dictionary is named by its index: those that a run begins with come first, and each further one stands behind all
+/// others.
+#[derive(Clone, Copy, Debug)]
+pub enum Call<'a> {
+    /// Make an empty dictionary with these settings: a further one.
+    New {
+        /// Whether its labels ascend, and how many failed searches close a block.
+        settings: CedarBuilder,
+    },
+    /// Make a further dictionary, of pairs whose keys ascend by bytes.
+    Sorted {
+        /// As of `New`.
+        settings: CedarBuilder,
+        /// Keys and their values.
+        pairs: &'a [(&'a [u8], i32)],
+    },
+    /// Load a further dictionary.
+    Load {
+        /// What was saved, or any other bytes.
+        bytes: &'a [u8],
+        /// How many bytes of memory the load may ask for at most.
+        limit: usize,
+    },
+    /// Copy a dictionary: a further one.
+    Clone {
+        /// Which one is copied.
+        index: usize,
+    },
+    /// Change a dictionary.
+    Change {
+        /// Which one is changed.
+        index: usize,
+        /// How it is changed.
+        change: Change<'a>,
+    },
+    /// Ask a dictionary.
+    Ask {
+        /// Which one is asked.
+        index: usize,
+        /// What it is asked.
+        question: Question<'a>,
+    },
+}
+
+/// A change of a dictionary.
+#[derive(Clone, Copy, Debug)]
+pub enum Change<'a> {
+    /// Store a value at a key.
+    Update { key: &'a [u8], value: i32 },
+    /// The same, and answer what the key held.
+    Insert { key: &'a [u8], value: i32 },
+    /// Remove a key.
+    Erase { key: &'a [u8] },
+    /// Begin anew, with these settings.
+    Renew { settings: CedarBuilder },
+    /// Store some pairs.
+    Build { pairs: &'a [(&'a [u8], i32)] },
+}
+
+/// A question to a dictionary.
+#[derive(Clone, Copy, Debug)]
+pub enum Question<'a> {
+    /// Which value does the key hold?
+    Exact { key: &'a [u8] },
+    /// Which fronts of the query are held?
+    Prefixes { query: &'a [u8] },
+    /// Which keys begin with the query?
+    Predictions { query: &'a [u8] },
+    /// Which keys are held, with which values?
+    Entries,
+    /// The same, with keys as texts.
+    TextEntries,
+    /// How many keys are held?
+    Len,
+    /// How many slots, blocks or bytes?
+    Figure { figure: Figure },
+    /// Is no key held?
+    IsEmpty,
+    /// Four figures at once.
+    Stats,
+    /// The bytes of its file, in format 1.1.
+    Save,
+    /// The same in format 1.0.
+    SaveV1_0,
+}
+
+/// A figure of a dictionary.
+#[derive(Clone, Copy, Debug)]
+pub enum Figure {
+    /// The slots that are held, the root's among them.
+    UsedSlots,
+    /// The slots that there are, in use or not.
+    Capacity,
+    /// The bytes that the table takes.
+    AllocatedBytes,
+    /// The blocks of 256 slots that can come into use before memory is asked for.
+    SpareBlocks,
+}

@@ -1,0 +1,24 @@
+//! Changes of a dictionary.
+
+ghost use Rattle.cedar_calls.specs.Changes.{IsChange};
+
+use crate::{Change, Changed};
+use cedarwood::{Layout, Trie};
+use std::alloc::Allocator;
+
+/// Makes a change. An empty dictionary takes its memory from `alloc`.
+pub(crate) fn make_change<L: Layout, const SLOTS: usize, A: Allocator + Copy>(
+    trie: &mut Trie<L, SLOTS, A>,
+    alloc: A,
+    change: &Change<'_>,
+) -> Changed
+    ensures { IsChange L.kind SLOTS trie.old change.now result trie.new }
+{
+    match change {
+        Change::Update { key, value } => Changed::Updated(trie.update_bytes(key, *value)),
+        Change::Insert { key, value } => Changed::Inserted(trie.insert_bytes(key, *value)),
+        Change::Erase { key } => Changed::Erased(trie.erase_bytes(key)),
+        Change::Renew { settings } => Changed::Renewed(trie.renew(alloc, *settings)),
+        Change::Build { pairs } => Changed::Built(trie.build_bytes(pairs)),
+    }
+}

@@ -1,0 +1,19 @@
+//! Any list of public calls, on any number of dictionaries, as one theorem.
+//!
+//! [`run_calls`] makes the calls of a list one after another, and its contract says what they answer and what they leave: whatever the
+//! calls are, each answer is that of a labelled tree for each dictionary, which the calls carry on. The words of that contract stand in
+//! `specs/`; docs/THEOREM.md reads it aloud.
+#![tactic(auto)]
+
+mod answer;
+mod call;
+mod change;
+mod laws;
+mod make;
+mod reply;
+mod run;
+
+pub use answer::{Answer, Changed, Reply};
+pub use call::{Call, Change, Figure, Question};
+pub use laws::{keys_stand_alone, trees_decide};
+pub use run::run_calls;

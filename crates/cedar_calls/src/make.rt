@@ -1,0 +1,59 @@
+//! Further dictionaries.
+
+ghost use Rattle.std.specs.Prelude.{◌≡◌, ◌+◌, ◌<◌, ◌≤◌, slice_get, Some, vec_len};
+ghost use Rattle.std.specs.Vec.{vec_capacity};
+ghost use Rattle.cedar_slots.specs.Places.{IsSlotLimit};
+ghost use Rattle.cedar_calls.specs.Making.{IsCopy, Joins};
+ghost use Rattle.cedar_calls.specs.Runs.{IsStep};
+ghost use Rattle.cedar_calls.specs.declared.call.Call.TheVariants as call;
+
+use crate::Answer;
+use cedarwood::{CedarError, Layout, Trie, Watched};
+use std::alloc::Allocator;
+
+/// Puts what was made behind the other dictionaries, for which there is room.
+pub(crate) fn join<L: Layout, const SLOTS: usize, A: Allocator + Copy, E: Drop>(
+    tries: &mut Vec<Trie<L, SLOTS, A>, A>,
+    made: Result<Trie<L, SLOTS, A>, E>,
+) -> Result<(), E>
+    requires room { vec_len tries.old < vec_capacity tries.old }
+    ensures joins { Joins tries.old.items made result tries.new.items }
+    ensures len { vec_len tries.new ≤ vec_len tries.old + 1 }
+    ensures capacity { vec_capacity tries.new ≡ vec_capacity tries.old }
+{
+    tries.push_reserved(made?);
+    Ok(())
+}
+
+/// Loads a further dictionary.
+pub(crate) fn load<L: Layout, const SLOTS: usize, A: Allocator + Copy>(
+    tries: &mut Vec<Trie<L, SLOTS, A>, A>,
+    alloc: A,
+    bytes: &[u8],
+    limit: usize,
+) -> Answer<A>
+    requires limit { IsSlotLimit SLOTS }
+    requires room { vec_len tries.old < vec_capacity tries.old }
+    ensures step { IsStep L.kind SLOTS tries.old.items (call.Load bytes.entry limit) result tries.new.items }
+    ensures len { vec_len tries.new ≤ vec_len tries.old + 1 }
+    ensures capacity { vec_capacity tries.new ≡ vec_capacity tries.old }
+{
+    let mut reader = Watched::new(bytes);
+    let loaded = Trie::load_from_reader_with_limit(alloc, &mut reader, limit);
+    if reader.failed() {
+        return Answer::Unread;
+    }
+    if let Ok(trie) = &loaded {
+        trie.stands_on_its_table();
+    }
+    Answer::Loaded(join(tries, loaded))
+}
+
+/// A copy of a dictionary.
+pub(crate) fn copy<L: Layout, const SLOTS: usize, A: Allocator + Copy>(
+    trie: &Trie<L, SLOTS, A>,
+) -> Result<Trie<L, SLOTS, A>, CedarError>
+    ensures { IsCopy trie.now result }
+{
+    Ok(trie.clone()?)
+}

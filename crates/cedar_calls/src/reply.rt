@@ -1,0 +1,111 @@
+//! Replies of a dictionary.
+
+ghost use Rattle.std.specs.Prelude.{◌≡◌, map, option_map, string_bytes};
+ghost use Rattle.cedar_tree.specs.Queries.{walk};
+ghost use Rattle.cedar_format.specs.Tables.{IsTableFile};
+ghost use Rattle.cedar_calls.specs.Replies.{AreTexts, Collects, IsFigure, IsReply};
+
+use crate::{Figure, Question, Reply};
+use cedarwood::{CedarError, EntryError, Layout, Trie, Watched};
+use std::alloc::Allocator;
+
+/// Asks a dictionary. What is collected takes its memory from `alloc`.
+pub(crate) fn reply<L: Layout, const SLOTS: usize, A: Allocator + Copy>(
+    trie: &Trie<L, SLOTS, A>,
+    alloc: A,
+    question: &Question<'_>,
+) -> Reply<A>
+    ensures { IsReply L.kind SLOTS trie.now question.now result }
+{
+    match question {
+        Question::Exact { key } => Reply::Exact(trie.exact_match_search_bytes(key)),
+        Question::Prefixes { query } => Reply::Prefixes(trie.common_prefix_search_bytes(query)),
+        Question::Predictions { query } => {
+            Reply::Predictions(trie.common_prefix_predict_bytes(query))
+        }
+        Question::Entries => Reply::Entries(entries(trie, alloc)),
+        Question::TextEntries => Reply::TextEntries(text_entries(trie, alloc)),
+        Question::Len => Reply::Len(trie.len()),
+        Question::Figure { figure } => Reply::Figure(figure_of(trie, *figure)),
+        Question::IsEmpty => Reply::IsEmpty(trie.is_empty()),
+        Question::Stats => Reply::Stats(trie.memory_stats()),
+        Question::Save => Reply::Saved(saved(trie, alloc)),
+        Question::SaveV1_0 => Reply::Saved(saved_v1_0(trie, alloc)),
+    }
+}
+
+/// A figure.
+fn figure_of<L: Layout, const SLOTS: usize, A: Allocator + Copy>(
+    trie: &Trie<L, SLOTS, A>,
+    which: Figure,
+) -> usize
+    ensures { IsFigure L.kind trie.now which result }
+{
+    match which {
+        Figure::UsedSlots => trie.used_node_slots(),
+        Figure::Capacity => trie.node_capacity(),
+        Figure::AllocatedBytes => trie.allocated_bytes(),
+        Figure::SpareBlocks => trie.spare_blocks(),
+    }
+}
+
+/// All keys with their values.
+fn entries<L: Layout, const SLOTS: usize, A: Allocator + Copy>(
+    trie: &Trie<L, SLOTS, A>,
+    alloc: A,
+) -> Result<Vec<(Vec<u8, A>, i32), A>, CedarError>
+    ensures { Collects result (λ found. map (λ e. (e.0.items, e.1)) found.items ≡ walk trie.now.state.tree) }
+{
+    let mut found = Vec::with_capacity(alloc, trie.len())?;
+    for entry in trie.entries()? {
+        found.push_reserved(entry?);
+    }
+    Ok(found)
+}
+
+/// All keys as texts with their values, and `None` in the place of each that isn't UTF-8.
+fn text_entries<L: Layout, const SLOTS: usize, A: Allocator + Copy>(
+    trie: &Trie<L, SLOTS, A>,
+    alloc: A,
+) -> Result<Vec<Option<(String<A>, i32)>, A>, CedarError>
+    ensures { Collects result (λ found. AreTexts (map (option_map (λ e. (string_bytes e.0, e.1))) found.items) (walk trie.now.state.tree)) }
+{
+    let mut found = Vec::with_capacity(alloc, trie.len())?;
+    for entry in trie.entries_str()? {
+        let text = match entry {
+            Ok(text) => Some(text),
+            Err(EntryError::Utf8) => None,
+            Err(EntryError::Memory) => return Err(CedarError::Memory),
+        };
+        found.push_reserved(text);
+    }
+    Ok(found)
+}
+
+/// The bytes of a dictionary's file. A write to them fails for want of memory alone.
+fn saved<L: Layout, const SLOTS: usize, A: Allocator + Copy>(
+    trie: &Trie<L, SLOTS, A>,
+    alloc: A,
+) -> Result<Vec<u8, A>, CedarError>
+    ensures { Collects result (λ bytes. IsTableFile 1 SLOTS trie.now.table bytes.items) }
+{
+    let mut writer = Watched::new(Vec::new(alloc));
+    match trie.save_to_writer(&mut writer) {
+        Ok(()) => Ok(writer.into_inner()),
+        Err(_) => Err(CedarError::Memory),
+    }
+}
+
+/// The same in format 1.0.
+fn saved_v1_0<L: Layout, const SLOTS: usize, A: Allocator + Copy>(
+    trie: &Trie<L, SLOTS, A>,
+    alloc: A,
+) -> Result<Vec<u8, A>, CedarError>
+    ensures { Collects result (λ bytes. IsTableFile 0 SLOTS trie.now.table bytes.items) }
+{
+    let mut writer = Watched::new(Vec::new(alloc));
+    match trie.save_v1_0_to_writer(&mut writer) {
+        Ok(()) => Ok(writer.into_inner()),
+        Err(_) => Err(CedarError::Memory),
+    }
+}

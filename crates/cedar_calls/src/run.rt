@@ -1,0 +1,72 @@
+//! Runs of calls, one after another.
+
+ghost use Rattle.std.specs.Prelude.{◌≡◌, ◌+◌, ◌<◌, ◌≤◌, IfOk, OnErr, vec_len};
+ghost use Rattle.std.specs.Vec.{vec_capacity};
+ghost use Rattle.cedar_slots.specs.Places.{IsSlotLimit};
+ghost use Rattle.cedar_calls.specs.Runs.{IsRun, IsStep};
+
+use crate::change::make_change;
+use crate::make::{copy, join, load};
+use crate::reply::reply;
+use crate::{Answer, Call};
+use cedarwood::{Layout, Trie};
+use std::alloc::{AllocError, Allocator};
+
+/// Makes some calls one after another, and collects their answers.
+///
+/// # Errors
+/// `AllocError` where there is no memory for the answers, or for as many further dictionaries as there are calls. Then no call was
+/// made.
+pub fn run_calls<L: Layout, const SLOTS: usize, A: Allocator + Copy>(
+    tries: &mut Vec<Trie<L, SLOTS, A>, A>,
+    alloc: A,
+    calls: &[Call<'_>],
+) -> Result<Vec<Answer<A>, A>, AllocError>
+    requires limit { IsSlotLimit SLOTS }
+    ensures run { IfOk result (λ answers. IsRun L.kind SLOTS tries.old.items calls.now answers.items tries.new.items) }
+    ensures refused { OnErr result (tries.new.items ≡ tries.old.items) }
+{
+    let mut answers = Vec::with_capacity(alloc, calls.len())?;
+    tries.reserve(calls.len())?;
+    for call in calls {
+        answers.push_reserved(make_call(tries, alloc, call));
+    }
+    Ok(answers)
+}
+
+/// Makes a call.
+fn make_call<L: Layout, const SLOTS: usize, A: Allocator + Copy>(
+    tries: &mut Vec<Trie<L, SLOTS, A>, A>,
+    alloc: A,
+    call: &Call<'_>,
+) -> Answer<A>
+    requires limit { IsSlotLimit SLOTS }
+    requires room { vec_len tries.old < vec_capacity tries.old }
+    ensures step { IsStep L.kind SLOTS tries.old.items call.now result tries.new.items }
+    ensures len { vec_len tries.new ≤ vec_len tries.old + 1 }
+    ensures capacity { vec_capacity tries.new ≡ vec_capacity tries.old }
+{
+    match call {
+        Call::New { settings } => Answer::Made(join(tries, Trie::with(alloc, *settings))),
+        Call::Sorted { settings, pairs } => {
+            let made = Trie::from_sorted_bytes_with(alloc, *settings, pairs);
+            Answer::Made(join(tries, made))
+        }
+        Call::Load { bytes, limit } => load(tries, alloc, bytes, *limit),
+        Call::Clone { index } => match tries.get(*index) {
+            Some(trie) => {
+                let copied = copy(trie);
+                Answer::Made(join(tries, copied))
+            }
+            None => Answer::Missing,
+        },
+        Call::Change { index, change } => match tries.get_mut(*index) {
+            Some(trie) => Answer::Changed(make_change(trie, alloc, change)),
+            None => Answer::Missing,
+        },
+        Call::Ask { index, question } => match tries.get(*index) {
+            Some(trie) => Answer::Replied(reply(trie, alloc, question)),
+            None => Answer::Missing,
+        },
+    }
+}

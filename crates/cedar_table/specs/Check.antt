@@ -1,2 +1,0 @@
--- The test of a table that nobody has vouched for.
-pub mod TreeWalk

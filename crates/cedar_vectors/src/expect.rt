@@ -1,0 +1,48 @@
+//! What tests compare again and again. Each comparison in a test makes its proof longer with all that the test holds, a call
+//! of these hardly.
+use cedarwood::{Layout, Trie};
+use std::alloc::Global;
+use std::process::Abort;
+
+/// A key has to be found with a number and its length, or not at all.
+pub(crate) fn expect_found<L: Layout, const SLOTS: usize>(
+    rt: &impl Abort,
+    trie: &Trie<L, SLOTS, Global>,
+    key: &[u8],
+    wanted: Option<(i32, usize)>,
+) {
+    assert_eq!(rt; trie.exact_match_search_bytes(key), wanted, "at {key:?}");
+}
+
+/// So many keys have to be held, and so many slots used.
+pub(crate) fn expect_counts<L: Layout, const SLOTS: usize>(
+    rt: &impl Abort,
+    trie: &Trie<L, SLOTS, Global>,
+    keys: usize,
+    slots: usize,
+) {
+    assert_eq!(rt; (trie.len(), trie.used_node_slots()), (keys, slots));
+}
+
+/// So many slots have to be there, and so many blocks to spare.
+pub(crate) fn expect_room<L: Layout, const SLOTS: usize>(
+    rt: &impl Abort,
+    trie: &Trie<L, SLOTS, Global>,
+    capacity: usize,
+    spare: usize,
+) {
+    assert_eq!(rt;
+        (trie.node_capacity(), trie.spare_blocks()),
+        (capacity, spare)
+    );
+}
+
+/// A key is erased, and has to have been held or not.
+pub(crate) fn expect_erased<L: Layout, const SLOTS: usize>(
+    rt: &impl Abort,
+    trie: &mut Trie<L, SLOTS, Global>,
+    key: &[u8],
+    was_held: bool,
+) {
+    assert_eq!(rt; trie.erase_bytes(key), was_held, "at {key:?}");
+}

@@ -1,0 +1,15 @@
+-- That what a caller sees of a dictionary is what its table says.
+use Rattle.std.specs.Prelude.{◌≡◌, ℕ}
+use Rattle.cedar_table.specs.Meaning.Marks.{marks}
+use Rattle.cedar_table.specs.Meaning.WellFormed.{IsWellFormed, tree_of}
+use Rattle.cedar_table.specs.Table.TableFields.{capacity_of, size_of}
+use Rattle.cedarwood.specs.Dictionary.{Dictionary}
+
+-- its table is well-formed for `slots` slots, and state, marks, settings and sizes are those of this table
+pub record IsOnTable (slots : ℕ) (d : Dictionary) : Type 0 where
+  pub formed : IsWellFormed slots d.table
+  pub state : d.state ≡ record { tree = tree_of d.table; ordered = d.table.ordered }
+  pub marked : d.marked ≡ marks d.table
+  pub max_trial : d.max_trial ≡ d.table.places.blocks.max_trial
+  pub size : d.size ≡ size_of d.table
+  pub capacity : d.capacity ≡ capacity_of d.table

@@ -1,0 +1,117 @@
+//! Calls of which no other test makes use, at values made by hand.
+ghost use Rattle.std.specs.Prelude.{◌≡◌, ◌<◌};
+
+use crate::state::saved;
+use cedar_words::LongestPrefix;
+use cedarwood::persistence::v1;
+use cedarwood::{
+    Cedar, CedarError, CedarPersistenceError, DEFAULT_LOAD_MEMORY_LIMIT, Ticks, Watched,
+};
+use std::alloc::Global;
+use std::marker::Brand;
+use std::process::Abort;
+use std::sync::ledger::{Blank, Ledger};
+use std::test::Fail;
+
+fn chain(alloc: Global) -> Result<Cedar<Global>, CedarError> {
+    let mut cedar = Cedar::new(alloc)?;
+    cedar.update("a", 1)?;
+    cedar.update("ab", 2)?;
+    cedar.update("abc", 3)?;
+    Ok(cedar)
+}
+
+#[test]
+fn walks_and_longest(rt: HostRuntime) -> Result<(), Fail> {
+    let cedar = chain(rt.alloc())?;
+    let fronts: Vec<(i32, usize)> = cedar.common_prefix_iter_bytes(b"abx").collect(rt.alloc())?;
+    assert_eq!(rt; fronts.as_slice(), [(1, 0), (2, 1)].as_slice());
+    let below: Vec<(i32, usize)> = cedar
+        .common_prefix_predict_iter_bytes(b"ab")
+        .collect(rt.alloc())?;
+    assert_eq!(rt; below.as_slice(), [(2, 0), (3, 1)].as_slice());
+    assert_eq!(rt; cedar.longest_prefix(b"abx"), Some((2, 1)));
+    assert_eq!(rt; cedar.longest_prefix(b"x"), None);
+    Ok(())
+}
+
+fn expect_counted<C: Ledger, D: Ledger>(
+    rt: &impl Abort,
+    alloc: Global,
+    blank: Blank,
+    other: Blank,
+) -> Result<(), Fail>
+    requires name { blank.name ≡ C.name }
+    requires parts { blank.parts ≡ C.parts }
+    requires some { 0 < blank.parts }
+    requires other_name { other.name ≡ D.name }
+    requires other_parts { other.parts ≡ D.parts }
+    requires other_some { 0 < other.parts }
+{
+    let asked = &mut Ticks::<C>::new(blank);
+    let reads = &mut Ticks::<D>::new(other);
+    let file = saved(alloc, &chain(alloc)?)?;
+    let mut reader = Watched::new(file.as_slice());
+    let cedar = Cedar::load_counted(alloc, &mut reader, DEFAULT_LOAD_MEMORY_LIMIT, asked, reads)?;
+    let mut walk = cedar.common_prefix_iter_bytes(b"abx");
+    assert_eq!(rt; walk.next_counted(reads), Some((1, 0)));
+    assert_eq!(rt; walk.next_counted(reads), Some((2, 1)));
+    assert_eq!(rt; walk.next_counted(reads), None);
+    Ok(())
+}
+
+#[test]
+fn counted(rt: HostRuntime) -> Result<(), Fail> {
+    expect_counted::<Brand, Brand>(&rt, rt.alloc(), Blank::new(1), Blank::new(1))
+}
+
+// Numbers go out and come back, and none is left after the last.
+#[test]
+fn numbers_of_a_file(rt: HostRuntime) -> Result<(), Fail> {
+    let mut writer = Watched::new(Vec::new(rt.alloc()));
+    v1::write_i16(&mut writer, -2)?;
+    v1::write_i32(&mut writer, -3)?;
+    v1::write_usize(&mut writer, 4)?;
+    let bytes = writer.into_inner();
+    let mut reader = Watched::new(bytes.as_slice());
+    assert_eq!(rt; v1::read_i16(&mut reader)?, -2);
+    assert_eq!(rt; v1::read_i32(&mut reader)?, -3);
+    assert_eq!(rt; v1::read_usize(&mut reader, "size")?, 4);
+    assert!(rt;
+        matches!(
+            v1::read_u8(&mut reader),
+            Err(CedarPersistenceError::Truncated)
+        )
+    );
+    let mut reader = Watched::new(b"\x01\x02\x03\x04\0\0\0\0\0\0\x80".as_slice());
+    assert_eq!(rt; v1::read_u8(&mut reader)?, 1);
+    assert_eq!(rt; v1::read_u16(&mut reader)?, 0x0302);
+    assert_eq!(rt; v1::read_u64(&mut reader)?, 0x8000_0000_0000_0004);
+    Ok(())
+}
+
+// A header goes out as it came in, and the lists of a file are as long as it says.
+#[tactic(auto, using(cedarwood::proofs::DictionaryLemmas::default_limit))]
+#[test]
+fn fields_of_a_file(rt: HostRuntime) -> Result<(), Fail> {
+    let file = saved(rt.alloc(), &chain(rt.alloc())?)?;
+    let header = v1::read_header(&mut Watched::new(file.as_slice()), v1::LAYOUT)?;
+    let mut writer = Watched::new(Vec::new(rt.alloc()));
+    v1::write_header(&mut writer, v1::LAYOUT, header)?;
+    assert!(rt; file.starts_with(&writer.into_inner()));
+    let mut reader = Watched::new(file.as_slice());
+    let decoded = v1::decode(
+        rt.alloc(),
+        &mut reader,
+        v1::LAYOUT,
+        1073741824,
+        DEFAULT_LOAD_MEMORY_LIMIT,
+    )?;
+    assert_eq!(rt; decoded.header, header);
+    assert_eq!(rt; decoded.nodes.len(), header.capacity);
+    assert_eq!(rt; decoded.reject.len(), 257);
+    let mut room: Vec<u8> = Vec::new(rt.alloc());
+    v1::reserve_exact(&mut room, 5)?;
+    assert!(rt; room.capacity() >= 5);
+    Ok(())
+}

@@ -1,0 +1,26 @@
+//! Hostile use: memory that is refused at each request, devices that end early, tables with no slot left, and keys of a
+//! million bytes. Each answer is the one that is named, what was held stays, and the same call then succeeds.
+#![tactic(auto)]
+
+#[cfg(test)]
+mod attempts;
+#[cfg(test)]
+mod calls;
+#[cfg(test)]
+mod full;
+#[cfg(test)]
+mod limits;
+#[cfg(test)]
+mod loads;
+#[cfg(test)]
+mod long;
+#[cfg(test)]
+mod making;
+#[cfg(test)]
+mod runs;
+#[cfg(test)]
+mod scripts;
+#[cfg(test)]
+mod state;
+#[cfg(test)]
+mod walks;

@@ -1,0 +1,7 @@
+use Rattle.std.proofs.Common.{◌≡◌, ◌<◌, ℕ, [], drop}
+use Rattle.cedar_tree.specs.Queries.{front}
+use Rattle.uses.proofs.filter.has_keyword.Given as goal
+
+-- no key begins at a place before this one
+abbrev pub invariant-loop-place : goal.invariant-loop-place
+invariant-loop-place g l = (k : ℕ) → k < l.place → front l.keywords.state.tree (drop k l.text) ≡ []

@@ -1,0 +1,26 @@
+//! A search whose comparisons are counted.
+
+ghost use Rattle.std.specs.Prelude.{◌≡◌, ◌<◌};
+ghost use Rattle.cedarwood.specs.Queries.{exact};
+
+use cedarwood::{Cedar, Ticks};
+use std::alloc::Global;
+use std::marker::Brand;
+use std::sync::ledger::{Blank, Ledger};
+
+/// What a key holds.
+pub fn search(cedar: &Cedar<Global>, key: &[u8]) -> Option<(i32, usize)>
+    ensures { result ≡ exact cedar.now.state.tree key.now }
+{
+    search_in::<Brand>(cedar, key, Blank::new(1))
+}
+
+fn search_in<C: Ledger>(cedar: &Cedar<Global>, key: &[u8], blank: Blank) -> Option<(i32, usize)>
+    requires name { blank.name ≡ C.name }
+    requires parts { blank.parts ≡ C.parts }
+    requires some { 0 < blank.parts }
+    ensures { result ≡ exact cedar.now.state.tree key.now }
+{
+    let mut ticks = Ticks::<C>::new(blank);
+    cedar.exact_match_search_counted(key, &mut ticks)
+}

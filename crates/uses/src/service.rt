@@ -1,0 +1,26 @@
+//! A dictionary that a service answers from.
+
+ghost use Rattle.std.specs.Prelude.{◌≡◌, OnOk, OnErr};
+ghost use Rattle.cedar_table.specs.Bulk.Sorted.{entries_of};
+ghost use Rattle.cedarwood.specs.Builds.{all_stored};
+
+use cedarwood::{CedarError, Layout, Trie};
+use std::alloc::Allocator;
+
+/// Stores some pairs in a dictionary, one after another: all of them, or none. So a service goes on with what it had where memory
+/// runs out in between, or where a pair has a fault.
+///
+/// # Errors
+/// Those of a build; also `Memory` where there is none for the copy that is made first.
+pub fn publish<L: Layout, const SLOTS: usize, A: Allocator + Copy>(
+    live: &mut Trie<L, SLOTS, A>,
+    pairs: &[(&str, i32)],
+) -> Result<(), CedarError>
+    ensures all { OnOk result (live.new.state ≡ all_stored live.old.state (entries_of pairs.now)) }
+    ensures none { OnErr result (live.new ≡ live.old) }
+{
+    let mut next = live.clone()?;
+    next.build(pairs)?;
+    *live = next;
+    Ok(())
+}

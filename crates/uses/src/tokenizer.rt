@@ -1,0 +1,50 @@
+//! Texts cut into words by a dictionary that was saved.
+
+ghost use Rattle.std.specs.Prelude.{◌≡◌, ℕ, IfOk};
+ghost use Rattle.std.specs.Io.KnownBytes.{Consumes};
+ghost use Rattle.cedar_format.specs.Format.{IsVersion};
+ghost use Rattle.cedar_format.specs.Tables.{table_bytes};
+ghost use Rattle.cedarwood.specs.WatchedDevice.{device_of};
+ghost use Rattle.cedar_words.specs.Words.{segments};
+
+use cedar_words::segment;
+use cedarwood::{Cedar, CedarPersistenceError, Watched};
+use std::alloc::{AllocError, Global};
+use std::io::Read;
+
+/// Cuts texts into words.
+#[derive(Drop)]
+pub struct Tokenizer {
+    pub words: Cedar<Global>,
+}
+
+impl Tokenizer {
+    /// Loads its dictionary.
+    ///
+    /// # Errors
+    /// Those of a load.
+    #[tactic(auto, using(cedarwood::proofs::DictionaryLemmas::default_limit))]
+    pub fn load<R: Read>(
+        alloc: Global,
+        file: &mut Watched<R>,
+    ) -> Result<Tokenizer, CedarPersistenceError>
+        ensures { IfOk result (λ it. (version : ℕ) × IsVersion version × Consumes (R.remaining (device_of file.old)) (R.remaining (device_of file.new)) (table_bytes version it.words.table)) }
+    {
+        let words = Cedar::load_from_reader(alloc, file)?;
+        Ok(Tokenizer { words })
+    }
+
+    /// The words of a text in their order: for each its place, its length, and its value if the dictionary has it.
+    ///
+    /// # Errors
+    /// No memory for the answer.
+    pub fn cut(
+        &self,
+        alloc: Global,
+        text: &str,
+    ) -> Result<Vec<(usize, usize, Option<i32>), Global>, AllocError>
+        ensures { IfOk result (λ tokens. tokens.items ≡ segments self.now.words.state.tree text.now) }
+    {
+        segment(&self.words, text.as_bytes()).collect(alloc)
+    }
+}

@@ -1,0 +1,129 @@
+/* A mutable dictionary from byte strings to whole numbers, for C and C++.
+ *
+ * A key is a nonempty byte string without byte 0, a value a whole number from 0 to 2147483645. The library is
+ * proved: for every caller that keeps the rules below, each call does what stands beside it, touches no memory but what
+ * is named here, and returns.
+ *
+ * What the caller owes. Nothing checks it, and breaking it is undefined, as with any C library:
+ *
+ * - No pointer is null, key, value and matches included; a key of length 0 has one too, and a buffer of room 0. Each points to
+ *   what its type says: a key to `length` bytes that can be read, matches to `room` places that are set, at most PTRDIFF_MAX bytes each. What two parameters point to doesn't overlap, but for
+ *   what is only read. During the call nobody else writes it, nor reads what the call may write.
+ * - A `cedar` begins as CEDAR_CLOSED and is changed by these calls alone. It may be moved; of two copies only one is used
+ *   from then on. Its fields aren't read or written.
+ * - One call at a time works on a dictionary, cedar_get and the figures too, since they write to the variable while they
+ *   run. It may go from thread to thread where a lock, a thread's start or join, or a sequentially consistent atomic
+ *   orders the calls. Different dictionaries share nothing.
+ * - Calls aren't made from a signal handler, or from the forked child of a process with threads.
+ * - malloc, realloc and free are one allocator's, and align a block as C asks.
+ *
+ * What a call finds by itself, and answers: a closed dictionary (also one that was freed, once or twice, by this very
+ * variable), a bad key or value, want of memory. What it can't find: a null or wild pointer, a wrong length, a second copy of
+ * a variable after the first was freed.
+ */
+#ifndef CEDAR_H
+#define CEDAR_H
+
+#include <stdbool.h>
+#include <stddef.h>
+#include <stdint.h>
+
+#ifdef __cplusplus
+extern "C" {
+#endif
+
+typedef struct cedar {
+    void *held;
+    bool is_open;
+} cedar;
+
+#define CEDAR_CLOSED { NULL, false }
+
+#define CEDAR_MIN_VALUE 0
+#define CEDAR_MAX_VALUE 2147483645
+#define CEDAR_LOAD_LIMIT 536870912
+
+/* What a call answers. */
+enum {
+    CEDAR_OK = 0,
+    CEDAR_IS_CLOSED = 1,
+    CEDAR_MEMORY = 2,        /* a request for memory was refused */
+    CEDAR_SLOT_LIMIT = 3,    /* all 2^30 slots are in use */
+    CEDAR_EMPTY_KEY = 4,
+    CEDAR_NUL_BYTE = 5,      /* the key has a byte 0: see *position */
+    CEDAR_INVALID_VALUE = 6, /* below 0 or above 2147483645 */
+    CEDAR_INVALID_MAX_TRIAL = 7,
+    CEDAR_DUPLICATE_KEY = 8,
+    CEDAR_KEYS_NOT_SORTED = 9,
+    /* of a file: the first thing that is wrong with it */
+    CEDAR_FILE_TRUNCATED = 20,
+    CEDAR_FILE_MAGIC = 21,         /* not a file of this format */
+    CEDAR_FILE_VERSION = 22,       /* another version than 1.0 and 1.1 */
+    CEDAR_FILE_BYTE_ORDER = 23,
+    CEDAR_FILE_LAYOUT = 24,        /* a table of the reduced layout */
+    CEDAR_FILE_HEADER = 25,        /* a number of the header is out of its rule */
+    CEDAR_FILE_MEMORY_LIMIT = 26,  /* it asks for more than the limit that was given */
+    CEDAR_FILE_CORRUPT = 27,       /* the table is not well-formed */
+    CEDAR_FILE_TRAILING = 28,      /* something follows the table */
+    CEDAR_FILE_UNREAD = 29         /* the reading itself failed */
+};
+
+/* Opens *d with an empty dictionary, in the place of the one that it has, if it is open. CEDAR_OK or CEDAR_MEMORY; then *d
+ * is as it was. */
+uint32_t cedar_new(cedar *d);
+
+/* As cedar_new, with settings: whether the labels of each node ascend (else a new one goes before the others), and how many failed
+ * searches for a place close a block of slots, 1 or more. Also CEDAR_INVALID_MAX_TRIAL. */
+uint32_t cedar_new_with(cedar *d, bool ordered, int32_t max_trial);
+
+/* Opens *d with the dictionary of a file's bytes, as `save_to_writer` and the programs write them, in the place of the one that it
+ * has. It asks for memory_limit bytes at most, say CEDAR_LOAD_LIMIT. CEDAR_OK exactly takes the bytes of a well-formed table; else
+ * the number of the first refusal, or CEDAR_MEMORY; then *d is as it was. */
+uint32_t cedar_load(cedar *d, const uint8_t *bytes, size_t length, size_t memory_limit);
+
+/* Gives the memory of *d back. *d is closed then. On a closed one it does nothing. */
+void cedar_free(cedar *d);
+
+/* Stores a value at a key, in place of the value that the key holds, if it holds one. CEDAR_IS_CLOSED, the pair's first
+ * fault of CEDAR_EMPTY_KEY, CEDAR_NUL_BYTE (*position is then the first byte 0, counted from 0; else *position stays) and
+ * CEDAR_INVALID_VALUE, or, only where the key isn't held, CEDAR_MEMORY or CEDAR_SLOT_LIMIT. After an error the dictionary
+ * holds what it held. */
+uint32_t cedar_update(cedar *d, const uint8_t *key, size_t length, int32_t value, size_t *position);
+
+/* As cedar_update; after CEDAR_OK *held says whether the key was held before, and if so *before is the value that it had. */
+uint32_t cedar_insert(cedar *d, const uint8_t *key, size_t length, int32_t value, bool *held, int32_t *before, size_t *position);
+
+/* Removes a key, and says whether it was held. It takes no memory. */
+bool cedar_erase(cedar *d, const uint8_t *key, size_t length);
+
+/* Says whether a key is held, and writes its value to *value if it is. It takes no memory. */
+bool cedar_get(cedar *d, const uint8_t *key, size_t length, int32_t *value);
+
+/* How many keys are held; how many slots are (one for the root, one for each distinct nonempty prefix of keys, one for each
+ * key); how many slots there are; how many blocks of 256 slots can come into use before memory is asked for. 0 if closed. */
+size_t cedar_len(cedar *d);
+size_t cedar_used_slots(cedar *d);
+size_t cedar_capacity(cedar *d);
+size_t cedar_spare_blocks(cedar *d);
+
+/* A key that a walk found. */
+typedef struct cedar_match {
+    int32_t value;
+    size_t length;
+} cedar_match;
+
+/* The keys that a text begins with, shortest first: for each its value, and in length one less than its bytes. The first `room` of
+ * them, or all if there are fewer, are written to matches[0] and on; the other places stay. It answers how many there are, never more
+ * than the text has bytes: an answer above room asks for a second call with more room. It is one walk, and takes no memory. 0 if
+ * closed. */
+size_t cedar_prefixes(cedar *d, const uint8_t *text, size_t length, cedar_match *matches, size_t room);
+
+/* The keys that begin with a text, in the order of the walk: for each its value, and in length how many bytes of it follow the
+ * text. Else as cedar_prefixes: there are never more than keys. */
+size_t cedar_predictions(cedar *d, const uint8_t *text, size_t length, cedar_match *matches, size_t room);
+
+#ifdef __cplusplus
+}
+#endif
+
+#endif
