@@ -7,8 +7,9 @@
  * What the caller owes. Nothing checks it, and breaking it is undefined, as with any C library:
  *
  * - No pointer is null, key, value and matches included; a key of length 0 has one too, and a buffer of room 0. Each points to
- *   what its type says: a key to `length` bytes that can be read, matches to `room` places that are set, at most PTRDIFF_MAX bytes each. What two parameters point to doesn't overlap, but for
- *   what is only read. During the call nobody else writes it, nor reads what the call may write.
+ *   what its type says: a key to `length` bytes that can be read, matches, found and buffers to `room` places that are set, pairs to
+ *   `count` pairs whose keys are such, at most PTRDIFF_MAX bytes each. What two parameters point to doesn't overlap, but for what is
+ *   only read. During the call nobody else writes it, nor reads what the call may write.
  * - A `cedar` begins as CEDAR_CLOSED and is changed by these calls alone. It may be moved; of two copies only one is used
  *   from then on. Its fields aren't read or written.
  * - One call at a time works on a dictionary, cedar_get and the figures too, since they write to the variable while they
@@ -53,8 +54,9 @@ enum {
     CEDAR_NUL_BYTE = 5,      /* the key has a byte 0: see *position */
     CEDAR_INVALID_VALUE = 6, /* below 0 or above 2147483645 */
     CEDAR_INVALID_MAX_TRIAL = 7,
-    CEDAR_DUPLICATE_KEY = 8,
-    CEDAR_KEYS_NOT_SORTED = 9,
+    CEDAR_DUPLICATE_KEY = 8,   /* of sorted pairs: see *position */
+    CEDAR_KEYS_NOT_SORTED = 9, /* of sorted pairs: see *position */
+    CEDAR_NO_ROOM = 11,      /* the buffer is too short */
     /* of a file: the first thing that is wrong with it */
     CEDAR_FILE_TRUNCATED = 20,
     CEDAR_FILE_MAGIC = 21,         /* not a file of this format */
@@ -81,6 +83,16 @@ uint32_t cedar_new_with(cedar *d, bool ordered, int32_t max_trial);
  * the number of the first refusal, or CEDAR_MEMORY; then *d is as it was. */
 uint32_t cedar_load(cedar *d, const uint8_t *bytes, size_t length, size_t memory_limit);
 
+/* Writes the file of *d to the first places of a buffer, and to *needed how many bytes it has; the other places stay. The file
+ * lists the slots and blocks that are in use, or, where is_full, all of them, as format 1.0 does. CEDAR_OK, CEDAR_IS_CLOSED,
+ * CEDAR_NO_ROOM where the file has more than room bytes (a call with room 0 asks how many), or CEDAR_MEMORY: it asks for memory
+ * for a copy of the file. After an error the buffer is as it was. */
+uint32_t cedar_save(cedar *d, bool is_full, uint8_t *buffer, size_t room, size_t *needed);
+
+/* Writes the text of a status to the first places of a buffer, as far as there is room, and answers how many bytes the text has. No
+ * byte 0 is written behind it. */
+size_t cedar_status_text(uint32_t status, uint8_t *text, size_t room);
+
 /* Gives the memory of *d back. *d is closed then. On a closed one it does nothing. */
 void cedar_free(cedar *d);
 
@@ -92,6 +104,26 @@ uint32_t cedar_update(cedar *d, const uint8_t *key, size_t length, int32_t value
 
 /* As cedar_update; after CEDAR_OK *held says whether the key was held before, and if so *before is the value that it had. */
 uint32_t cedar_insert(cedar *d, const uint8_t *key, size_t length, int32_t value, bool *held, int32_t *before, size_t *position);
+
+/* A key to store and its value. */
+typedef struct cedar_pair {
+    const uint8_t *key;
+    size_t length;
+    int32_t value;
+} cedar_pair;
+
+/* Stores some pairs, one after another: a key's last value stands. All are tested first: with the first fault of a pair, which is
+ * told as by cedar_update, nothing has changed. CEDAR_MEMORY or CEDAR_SLOT_LIMIT otherwise: then the first of the pairs, as many as
+ * found room, are stored. It asks for memory for a list of the pairs besides. */
+uint32_t cedar_update_all(cedar *d, const cedar_pair *pairs, size_t count, size_t *position);
+
+/* Opens *d with a dictionary of just these pairs, whose keys ascend by bytes, as unsigned numbers, in the place of the one that it
+ * has, if it is open; settings as of cedar_new_with. All pairs are tested first. CEDAR_OK; CEDAR_INVALID_MAX_TRIAL; the number of the
+ * first fault of the input: each pair's own, as of cedar_update, and then CEDAR_DUPLICATE_KEY or CEDAR_KEYS_NOT_SORTED where its key
+ * repeats the one before it or is below it (*position is then its index, counted from 0); CEDAR_MEMORY, also before a fault is found,
+ * since it asks for memory for a list of the pairs; or CEDAR_SLOT_LIMIT. After an error *d is as it was. Only an error that tells a
+ * position writes *position. */
+uint32_t cedar_build(cedar *d, bool ordered, int32_t max_trial, const cedar_pair *pairs, size_t count, size_t *position);
 
 /* Removes a key, and says whether it was held. It takes no memory. */
 bool cedar_erase(cedar *d, const uint8_t *key, size_t length);
@@ -121,6 +153,38 @@ size_t cedar_prefixes(cedar *d, const uint8_t *text, size_t length, cedar_match 
 /* The keys that begin with a text, in the order of the walk: for each its value, and in length how many bytes of it follow the
  * text. Else as cedar_prefixes: there are never more than keys. */
 size_t cedar_predictions(cedar *d, const uint8_t *text, size_t length, cedar_match *matches, size_t room);
+
+/* The same without the first *next of them, in pieces: as many as are left, and there is room for, are written to matches[0] and on;
+ * the other places stay. They answer how many were written, and add it to *next, so that the same call goes on. Begin with *next 0;
+ * an answer below room tells that nothing is left. The dictionary isn't changed between two pieces of a walk, else they may not belong
+ * together. Each call walks past the first *next again; it takes no memory. 0 if closed. */
+size_t cedar_prefixes_from(cedar *d, const uint8_t *text, size_t length, size_t *next, cedar_match *matches, size_t room);
+size_t cedar_predictions_from(cedar *d, const uint8_t *text, size_t length, size_t *next, cedar_match *matches, size_t room);
+
+/* Writes the bytes of all keys to the first places of a buffer, one key after another in the order of the walk, and to *needed how many
+ * bytes they are; the other places stay. cedar_predictions of the empty text tells each key's value and length in the same order.
+ * CEDAR_OK, CEDAR_IS_CLOSED, CEDAR_NO_ROOM where the keys have more than room bytes, or CEDAR_MEMORY: it asks for memory for a copy of
+ * them. After an error the buffer is as it was. */
+uint32_t cedar_keys(cedar *d, uint8_t *buffer, size_t room, size_t *needed);
+
+/* What stands at a place of a text: where it begins, how many bytes it has, and its value. */
+typedef struct cedar_found {
+    size_t place;
+    size_t length;
+    int32_t value;
+} cedar_found;
+
+/* All keys that stand in a text, from the place *next on: place after place, and at each the shortest first. It writes them to
+ * found[0] and on, and answers how many it wrote; the other places may be written to as well. The keys of a place are told as a
+ * whole: where there is no room left for them, the call ends and *next is this place, so that the same call with this *next goes on;
+ * if it answers 0 then, the place has more keys than room, and never more than the longest key has bytes. Once all is told, *next is
+ * the text's length. It takes no memory. A closed dictionary tells nothing. Begin with *next 0, and go on
+ * while *next is below length. */
+size_t cedar_scan(cedar *d, const uint8_t *text, size_t length, size_t *next, cedar_found *found, size_t room);
+
+/* The tokens of a text from the place *next on, where one begins: at each place the longest key that stands there, or else one byte,
+ * with the value -1. Else as cedar_scan: with room 1 or more each call goes on. */
+size_t cedar_segment(cedar *d, const uint8_t *text, size_t length, size_t *next, cedar_found *found, size_t room);
 
 #ifdef __cplusplus
 }

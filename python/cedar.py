@@ -4,11 +4,20 @@
     d[b"net"] = 7
     d["net"], "net" in d, len(d)
     del d["net"]
+    d.update({"net": 7, "nets": 8})
+    list(d.scan(b"a net, nets")) == [(2, 3, 7), (7, 3, 7), (7, 4, 8)]
+    list(d.segment(b"nets!")) == [(0, 4, 8), (4, 1, None)]
+    Cedar.loaded(d.save())
+    Cedar.from_sorted([(b"net", 7), (b"nets", 8)])
 """
 
 import ctypes
 import os
+import struct
+from bisect import bisect_right
+from collections.abc import Sequence
 from ctypes import POINTER, byref, c_bool, c_char_p, c_int32, c_size_t, c_uint32, c_void_p
+from itertools import accumulate, chain
 from pathlib import Path
 
 
@@ -20,6 +29,14 @@ class _Match(ctypes.Structure):
     _fields_ = [("value", c_int32), ("length", c_size_t)]
 
 
+class _Found(ctypes.Structure):
+    _fields_ = [("place", c_size_t), ("length", c_size_t), ("value", c_int32)]
+
+
+class _Pair(ctypes.Structure):
+    _fields_ = [("key", c_char_p), ("length", c_size_t), ("value", c_int32)]
+
+
 def _library(path=os.environ.get("CEDAR_LIBRARY", Path(__file__).parent / "libcedar.so")):
     # PyDLL keeps the interpreter's lock during a call, so that one call at a time works on a dictionary.
     library = ctypes.PyDLL(str(path))
@@ -28,12 +45,21 @@ def _library(path=os.environ.get("CEDAR_LIBRARY", Path(__file__).parent / "libce
         ("cedar_new", c_uint32, [handle]),
         ("cedar_new_with", c_uint32, [handle, c_bool, c_int32]),
         ("cedar_load", c_uint32, [handle, c_char_p, c_size_t, c_size_t]),
+        ("cedar_save", c_uint32, [handle, c_bool, c_char_p, c_size_t, POINTER(c_size_t)]),
+        ("cedar_status_text", c_size_t, [c_uint32, c_char_p, c_size_t]),
         ("cedar_free", None, [handle]),
         ("cedar_update", c_uint32, [handle, c_char_p, c_size_t, c_int32, POINTER(c_size_t)]),
+        ("cedar_update_all", c_uint32, [handle, POINTER(_Pair), c_size_t, POINTER(c_size_t)]),
+        ("cedar_build", c_uint32, [handle, c_bool, c_int32, POINTER(_Pair), c_size_t, POINTER(c_size_t)]),
         ("cedar_erase", c_bool, [handle, c_char_p, c_size_t]),
         ("cedar_get", c_bool, [handle, c_char_p, c_size_t, POINTER(c_int32)]),
         ("cedar_prefixes", c_size_t, [handle, c_char_p, c_size_t, POINTER(_Match), c_size_t]),
         ("cedar_predictions", c_size_t, [handle, c_char_p, c_size_t, POINTER(_Match), c_size_t]),
+        ("cedar_prefixes_from", c_size_t, [handle, c_char_p, c_size_t, POINTER(c_size_t), POINTER(_Match), c_size_t]),
+        ("cedar_predictions_from", c_size_t, [handle, c_char_p, c_size_t, POINTER(c_size_t), POINTER(_Match), c_size_t]),
+        ("cedar_scan", c_size_t, [handle, c_char_p, c_size_t, POINTER(c_size_t), POINTER(_Found), c_size_t]),
+        ("cedar_segment", c_size_t, [handle, c_char_p, c_size_t, POINTER(c_size_t), POINTER(_Found), c_size_t]),
+        ("cedar_keys", c_uint32, [handle, c_char_p, c_size_t, POINTER(c_size_t)]),
         ("cedar_len", c_size_t, [handle]),
         ("cedar_used_slots", c_size_t, [handle]),
         ("cedar_capacity", c_size_t, [handle]),
@@ -56,43 +82,135 @@ def _bytes(key):
     raise TypeError(f"a key is bytes or str, and not {type(key).__name__}")
 
 
-_REFUSALS = {
-    20: "the file is truncated",
-    21: "it isn't a file of this format",
-    22: "another version than 1.0 and 1.1",
-    23: "another byte order",
-    24: "another layout",
-    25: "a number of the header is out of its rule",
-    26: "it asks for more memory than the limit",
-    27: "the table isn't well-formed",
-    28: "something follows the table",
-    29: "the reading failed",
-}
+class CedarError(ValueError):
+    """A call that was refused: its status, a number of cedar.h, and the library's text of it."""
+
+    def __init__(self, status, text):
+        super().__init__(text)
+        self.status = status
+
+
+_NUL_BYTE = 5
+_UNSORTED = (8, 9)
+_NO_ROOM = 11
+_SHORTAGES = (2, 3)
+_MAX_VALUE = 2147483645
+_MAX_SIZE = 2**63 - 1
+
+
+def _text_of(status):
+    text = ctypes.create_string_buffer(128)
+    length = _CEDAR.cedar_status_text(status, text, len(text))
+    return text.raw[:length].decode()
+
+
+def _check(status, position=None):
+    """Raises what a status says: MemoryError for want of memory or slots, and CedarError for all else."""
+    if status == 0:
+        return
+    text = _text_of(status)
+    if status in _SHORTAGES:
+        raise MemoryError(text)
+    if status == _NUL_BYTE:
+        text += f" (at byte {position.value})"
+    elif status in _UNSORTED:
+        text += f" (at pair {position.value})"
+    raise CedarError(status, text)
+
+
+def _trials(max_trial):
+    """A setting as C takes it. One that C would cut off is refused as 0 is."""
+    return max_trial if 0 < max_trial < 2**31 else 0
+
+
+def _pairs(pairs):
+    """The pairs of a mapping or of a sequence as C takes them."""
+    pairs = [(_bytes(key), value) for key, value in (pairs.items() if hasattr(pairs, "items") else pairs)]
+    return (_Pair * len(pairs))(*[(key, len(key), _value(value)) for key, value in pairs])
+
+
+def _value(value):
+    """A value as C takes it, which would cut off what is too long."""
+    if not 0 <= value <= _MAX_VALUE:
+        raise CedarError(6, _text_of(6))
+    return value
+
+
+class Matches(Sequence):
+    """What stands in a text, in the order of places: for each where it begins, how many bytes it has, and its value, which is None
+    for a token that is no key. They are read from C's numbers as they are asked for."""
+
+    _ENTRY = struct.Struct("NNi0N")
+
+    def __init__(self, parts):
+        """`parts` has the numbers that each call wrote."""
+        self._parts = parts
+        self._ends = list(accumulate(len(part) // self._ENTRY.size for part in parts))
+
+    def __len__(self):
+        return self._ends[-1] if self._ends else 0
+
+    def __getitem__(self, at):
+        if isinstance(at, slice):
+            return [self[i] for i in range(*at.indices(len(self)))]
+        at = range(len(self))[at]
+        part = bisect_right(self._ends, at)
+        at -= self._ends[part - 1] if part else 0
+        place, length, value = self._ENTRY.unpack_from(self._parts[part], at * self._ENTRY.size)
+        return place, length, None if value < 0 else value
+
+    def __iter__(self):
+        for place, length, value in chain.from_iterable(map(self._ENTRY.iter_unpack, self._parts)):
+            yield place, length, None if value < 0 else value
 
 
 class Cedar:
     """A mapping from nonempty byte strings without byte 0 to whole numbers from 0 to 2147483645."""
 
     def __init__(self, pairs=(), ordered=True, max_trial=1):
-        if max_trial < 1:
-            raise ValueError(f"max_trial is {max_trial}, and not 1 or more")
         self._handle = _Handle()
         self._this = byref(self._handle)
         self._value = c_int32()
         self._position = c_size_t()
         self._room = 64
-        if _CEDAR.cedar_new_with(self._this, ordered, max_trial):
-            raise MemoryError
-        for key, value in dict(pairs).items():
-            self[key] = value
+        _check(_CEDAR.cedar_new_with(self._this, ordered, _trials(max_trial)))
+        self.update(pairs)
+
+    def update(self, pairs):
+        """Stores the pairs of a mapping or of a sequence in one call: a key's last value stands. Where a pair is refused for itself,
+        nothing is stored; where memory is wanted, the pairs before it are."""
+        array = _pairs(pairs)
+        _check(_CEDAR.cedar_update_all(self._this, array, len(array), byref(self._position)), self._position)
+
+    @classmethod
+    def from_sorted(cls, pairs, ordered=True, max_trial=1):
+        """The dictionary of the pairs of a mapping or of a sequence, whose keys ascend by bytes, made at once. A key that isn't above the
+        one before it is refused, and its index is told."""
+        cedar, array = cls(), _pairs(pairs)
+        _check(_CEDAR.cedar_build(cedar._this, ordered, _trials(max_trial), array, len(array), byref(cedar._position)), cedar._position)
+        return cedar
+
+    def save(self, is_full=False):
+        """The bytes of its file: format 1.1, or 1.0, which lists all slots."""
+        needed = c_size_t(1 << 16)
+        while True:
+            buffer = ctypes.create_string_buffer(needed.value)
+            status = _CEDAR.cedar_save(self._this, is_full, buffer, len(buffer), byref(needed))
+            if status != _NO_ROOM:
+                _check(status)
+                return ctypes.string_at(buffer, needed.value)
 
     def load(self, data, memory_limit=2**29):
         """Becomes the dictionary that a file's bytes are of. Where they are refused, it stays as it was."""
-        status = _CEDAR.cedar_load(self._this, data, len(data), memory_limit)
-        if status == 2:
-            raise MemoryError
-        if status:
-            raise ValueError(_REFUSALS.get(status, f"status {status}"))
+        data = bytes(data)
+        _check(_CEDAR.cedar_load(self._this, data, len(data), memory_limit))
+
+    @classmethod
+    def loaded(cls, data, memory_limit=2**29):
+        """The dictionary that a file's bytes are of."""
+        cedar = cls()
+        cedar.load(data, memory_limit)
+        return cedar
 
     def close(self):
         _CEDAR.cedar_free(self._this)
@@ -109,16 +227,7 @@ class Cedar:
 
     def __setitem__(self, key, value):
         key = _bytes(key)
-        if not 0 <= value <= 2147483645:
-            raise ValueError(f"{value} isn't from 0 to 2147483645")
-        status = _CEDAR.cedar_update(self._this, key, len(key), value, byref(self._position))
-        if status == 0:
-            return
-        if status in (2, 3):
-            raise MemoryError
-        raise ValueError(
-            {1: "it is closed", 4: "an empty key", 5: f"byte 0 at {self._position.value}"}.get(status, f"status {status}")
-        )
+        _check(_CEDAR.cedar_update(self._this, key, len(key), _value(value), byref(self._position)), self._position)
 
     def get(self, key, default=None):
         key = _bytes(key)
@@ -143,6 +252,19 @@ class Cedar:
     def __len__(self):
         return _CEDAR.cedar_len(self._this)
 
+    def items(self):
+        """All keys with their values, in the order of the walk: in that of bytes, if labels ascend."""
+        matches = self._walk(_CEDAR.cedar_predictions, b"")
+        keys = ctypes.create_string_buffer(sum(length for _, length in matches) or 1)
+        _check(_CEDAR.cedar_keys(self._this, keys, len(keys), byref(c_size_t())))
+        place, keys = 0, keys.raw
+        for value, length in matches:
+            yield keys[place : place + length], value
+            place += length
+
+    def __iter__(self):
+        return (key for key, _ in self.items())
+
     def _walk(self, walk, text):
         text = _bytes(text)
         while True:
@@ -159,6 +281,40 @@ class Cedar:
     def predictions(self, text):
         """The keys that begin with a text: for each its value, and how many bytes of it follow the text."""
         return self._walk(_CEDAR.cedar_predictions, text)
+
+    def _piece(self, walk, text, start, most):
+        if start < 0:
+            raise ValueError("the first ones to leave out are 0 or more")
+        text, matches = _bytes(text), (_Match * most)()
+        count = walk(self._this, text, len(text), byref(c_size_t(min(start, _MAX_SIZE))), matches, most)
+        return [(match.value, match.length) for match in matches[:count]]
+
+    def prefixes_from(self, text, start, most):
+        """Those of `prefixes` without the first `start` of them, and no more than `most`."""
+        return [(value, last + 1) for value, last in self._piece(_CEDAR.cedar_prefixes_from, text, start, most)]
+
+    def predictions_from(self, text, start, most):
+        """Those of `predictions` without the first `start` of them, and no more than `most`."""
+        return self._piece(_CEDAR.cedar_predictions_from, text, start, most)
+
+    def _everything(self, call, text):
+        text, place, parts, room = _bytes(text), c_size_t(0), [], 1 << 14
+        found = (_Found * room)()
+        while place.value < len(text):
+            count = call(self._this, text, len(text), byref(place), found, room)
+            parts.append(ctypes.string_at(found, count * ctypes.sizeof(_Found)))
+            if count == 0:
+                room *= 4
+                found = (_Found * room)()
+        return Matches(parts)
+
+    def scan(self, text):
+        """All keys that stand in a text: place after place, and at each the shortest first."""
+        return self._everything(_CEDAR.cedar_scan, text)
+
+    def segment(self, text):
+        """The tokens of a text: at each place the longest key that stands there, or else one byte without a value."""
+        return self._everything(_CEDAR.cedar_segment, text)
 
     def used_slots(self):
         return _CEDAR.cedar_used_slots(self._this)

@@ -3,9 +3,8 @@
 import random
 import sys
 import time
-from pathlib import Path
 
-from cedar import Cedar
+from cedar import Cedar, CedarError
 
 
 def random_key():
@@ -45,33 +44,98 @@ def check():
     for _ in range(300):
         text = random_key() + random_key()
         assert cedar.prefixes(text) == [(plain[text[:n]], n) for n in range(1, len(text) + 1) if text[:n] in plain]
+    assert list(cedar.items()) == sorted(plain.items()) and list(cedar) == sorted(plain) and list(Cedar()) == []
     for text in [b"", b"a", b"ab", b"zz"]:
         assert cedar.predictions(text) == [(plain[key], len(key) - len(text)) for key in sorted(plain) if key.startswith(text)]
-    assert refuses(ValueError, lambda: cedar.__setitem__(b"a\0b", 1)) == "byte 0 at 1"
-    assert refuses(ValueError, lambda: cedar.__setitem__(b"", 1)) == "an empty key"
-    refuses(ValueError, lambda: cedar.__setitem__(b"a", -1))
-    refuses(ValueError, lambda: cedar.__setitem__(b"a", 2**40))
-    refuses(TypeError, lambda: cedar.get(7))
+    pieces(cedar)
+    refusals(cedar)
     cedar["käse"] = 3
     assert cedar["käse".encode()] == 3
-    # A file that the program `cedar` wrote, if there is one, and its damaged forms.
-    if len(sys.argv) > 2:
-        loads(Path(sys.argv[2]).read_bytes())
-    assert refuses(ValueError, lambda: cedar.load(b"")) == "the file is truncated"
+    loads(Cedar({b"net": 1, b"ten": 2, b"nets": 3}).save())
+    loads(Cedar({b"net": 1, b"ten": 2, b"nets": 3}).save(is_full=True))
+    assert Cedar.loaded(cedar.save()).predictions(b"") == cedar.predictions(b"")
+    many()
+    from_sorted(plain)
+    whole_texts(cedar, {**plain, "käse".encode(): 3})
     cedar.close()
-    assert len(cedar) == 0 and refuses(ValueError, lambda: cedar.__setitem__(b"a", 1)) == "it is closed"
+    assert len(cedar) == 0 and refuses(CedarError, lambda: cedar.__setitem__(b"a", 1)) == "the dictionary is closed"
+    assert len(cedar.scan(b"abc")) == len(cedar.segment(b"abc")) == 0
+    refuses(CedarError, cedar.save)
     cedar.close()
+
+
+def many():
+    """Many pairs in one call: a faulty one keeps all from being stored."""
+    cedar = Cedar()
+    cedar.update([("a", 1), ("b", 2), ("a", 3)])
+    assert cedar.get("a") == 3 and len(cedar) == 2
+    for faulty in [("", 1), ("c\0", 1), ("c", -1)]:
+        refuses(CedarError, lambda: cedar.update([("d", 4), faulty]))
+    assert len(cedar) == 2
+    cedar.update({str(i): i for i in range(10_000)})
+    assert len(cedar) == 10_002 and cedar["9999"] == 9999
+
+
+def refusals(cedar):
+    """What is refused, and by which text."""
+    assert refuses(CedarError, lambda: cedar.__setitem__(b"a\0b", 1)) == "cedar keys must not contain the terminal byte 0x00 (at byte 1)"
+    assert refuses(CedarError, lambda: cedar.__setitem__(b"", 1)) == "cedar keys must not be empty"
+    assert "outside the supported range" in refuses(CedarError, lambda: cedar.__setitem__(b"a", -1))
+    refuses(CedarError, lambda: cedar.__setitem__(b"a", 2**40))
+    assert refuses(CedarError, lambda: Cedar(max_trial=0)) == "max_trial must be greater than zero"
+    refuses(TypeError, lambda: cedar.get(7))
+
+
+def pieces(cedar):
+    """Some of what a walk gives."""
+    for start, most in [(0, 0), (0, 3), (2, 2), (5, 10**4), (10**30, 1)]:
+        assert cedar.predictions_from(b"a", start, most) == cedar.predictions(b"a")[start : start + most]
+        assert cedar.prefixes_from(b"abcabc", start, most) == cedar.prefixes(b"abcabc")[start : start + most]
+    refuses(ValueError, lambda: cedar.predictions_from(b"a", -1, 1))
+
+
+def from_sorted(plain):
+    """A dictionary of sorted pairs, made at once, beside one made by updates."""
+    pairs = sorted(plain.items())
+    cedar = Cedar.from_sorted(pairs)
+    assert list(cedar.items()) == pairs and cedar.used_slots() == Cedar(pairs).used_slots()
+    assert len(Cedar.from_sorted([])) == 0 and len(Cedar.from_sorted({"a": 1}, ordered=False, max_trial=3)) == 1
+    assert refuses(CedarError, lambda: Cedar.from_sorted([("a", 1), ("b", 2), ("b", 3)])) == "duplicate key in sorted input (at pair 2)"
+    assert refuses(CedarError, lambda: Cedar.from_sorted([("b", 1), ("a", 2)])) == "key in sorted input is smaller than its predecessor (at pair 1)"
+    assert refuses(CedarError, lambda: Cedar.from_sorted([("a\0", 1)])) == "cedar keys must not contain the terminal byte 0x00 (at byte 1)"
+    assert refuses(CedarError, lambda: Cedar.from_sorted([("a", 1)], max_trial=0)) == "max_trial must be greater than zero"
+    cedar[b"new"] = 5
+    assert cedar["new"] == 5
+
+
+def whole_texts(cedar, plain):
+    """Scans and tokens of texts beside those found by tries, texts long enough for several calls to C among them."""
+    longest = max(map(len, plain))
+    for size in [0, 1, 50, 200_000]:
+        text = bytes(random.choices(b"abcd", k=size))
+        found, tokens, end = [], [], 0
+        for place in range(size):
+            fronts = [text[place : place + n] for n in range(1, min(longest, size - place) + 1)]
+            here = [(place, len(key), plain[key]) for key in fronts if key in plain]
+            found += here
+            if place == end:
+                tokens.append(here[-1] if here else (place, 1, None))
+                end += tokens[-1][1]
+        scanned, cut = cedar.scan(text), cedar.segment(text)
+        assert list(scanned) == found and len(scanned) == len(found)
+        assert list(cut) == tokens and sum(length for _, length, _ in cut) == size
+    assert scanned[0] == found[0] and scanned[-1] == found[-1] and scanned[2:4] == found[2:4]
 
 
 def loads(data):
     """Loads a file that has net, ten and nets with 1, 2 and 3."""
     cedar = Cedar({b"old": 5})
     for damaged, why in [
-        (data[:-1], "the file is truncated"),
-        (b"X" + data[1:], "it isn't a file of this format"),
-        (data + b"X", "something follows the table"),
+        (data[:-1], "serialized cedar trie is truncated"),
+        (b"X" + data[1:], "input is not a cedarwood serialized trie"),
+        (data + b"X", "serialized trie has trailing data"),
     ]:
-        assert refuses(ValueError, lambda: cedar.load(damaged)) == why and cedar["old"] == 5
+        assert refuses(CedarError, lambda: cedar.load(damaged)) == why and cedar["old"] == 5
     cedar.load(data)
     assert cedar.predictions(b"") == [(1, 3), (3, 4), (2, 3)] and cedar.get("old") is None
 
@@ -92,7 +156,25 @@ def times(count):
     print(f"{count} keys: update {(updated - start) / count * 1e9:.0f} ns, get {(found - updated) / count * 1e9:.0f} ns, erase {(erased - found) / count * 1e9:.0f} ns a call")
 
 
+def text_times(size):
+    """MiB of text a second, for the lines that the C program prints of the same text."""
+    cedar = Cedar()
+    cedar.update({b"the": 1, b"there": 2, b"here": 3, b"net": 4, b"network": 5, b"work": 6})
+    word = b"the network here is at work there; a net of nets works on. "
+    text = word * (size // len(word))
+    for name, call in [("scan", cedar.scan), ("segment", cedar.segment)]:
+        best = min(timed(lambda: call(text)) for _ in range(5))
+        print(f"{name}: {len(text) / best / 2**20:.1f} MiB of text a second in one call, {len(call(text))} found")
+
+
+def timed(call):
+    start = time.process_time()
+    call()
+    return time.process_time() - start
+
+
 check()
 if len(sys.argv) > 1:
     times(int(sys.argv[1]))
+    text_times(1 << 24)
 print("ok")

@@ -81,6 +81,139 @@ static void refused_files(void) {
     cedar_free(&d);
 }
 
+static const uint8_t *bytes_of(const char *text) { return (const uint8_t *)text; }
+
+static void files_and_texts(void) {
+    cedar d = CEDAR_CLOSED, other = CEDAR_CLOSED;
+    static uint8_t file[1 << 14];
+    size_t needed = 77, full = 77, position = 77, length;
+    int32_t value;
+    uint8_t text[64];
+    CHECK(cedar_save(&d, false, file, sizeof file, &needed) == CEDAR_IS_CLOSED && needed == 77);
+    CHECK(cedar_new(&d) == CEDAR_OK && cedar_update(&d, bytes_of("net"), 3, 7, &position) == CEDAR_OK);
+    CHECK(cedar_save(&d, false, file, 0, &needed) == CEDAR_NO_ROOM && needed > 88 && file[0] == 0);
+    CHECK(cedar_save(&d, true, file, 0, &full) == CEDAR_NO_ROOM && full > 88);
+    CHECK(cedar_save(&d, false, file, needed - 1, &length) == CEDAR_NO_ROOM && length == needed && file[0] == 0);
+    CHECK(cedar_save(&d, false, file, sizeof file, &length) == CEDAR_OK && length == needed && file[needed] == 0);
+    CHECK(cedar_load(&other, file, needed, CEDAR_LOAD_LIMIT) == CEDAR_OK);
+    CHECK(cedar_get(&other, bytes_of("net"), 3, &value) && value == 7 && cedar_len(&other) == 1);
+    CHECK(cedar_save(&other, true, file, full, &length) == CEDAR_OK && length == full);
+    CHECK(cedar_load(&other, file, full, CEDAR_LOAD_LIMIT) == CEDAR_OK && cedar_get(&other, bytes_of("net"), 3, &value));
+    CHECK(cedar_load(&other, file, full - 1, CEDAR_LOAD_LIMIT) == CEDAR_FILE_TRUNCATED && cedar_len(&other) == 1);
+    length = cedar_status_text(CEDAR_FILE_TRUNCATED, text, sizeof text);
+    CHECK(length == 34 && memcmp(text, "serialized cedar trie is truncated", 34) == 0);
+    CHECK(cedar_status_text(CEDAR_MEMORY, text, 3) == 13 && memcmp(text, "outialized", 10) == 0);
+    CHECK(cedar_status_text(1000, text, 0) > 0);
+    cedar_free(&d);
+    cedar_free(&other);
+}
+
+static void many_pairs(void) {
+    cedar d = CEDAR_CLOSED;
+    const cedar_pair pairs[] = {{bytes_of("a"), 1, 1}, {bytes_of("ab"), 2, 2}, {bytes_of("a"), 1, 3}, {bytes_of("b\0"), 2, 4}};
+    size_t position = 77;
+    int32_t value;
+    CHECK(cedar_update_all(&d, pairs, 3, &position) == CEDAR_IS_CLOSED);
+    CHECK(cedar_new(&d) == CEDAR_OK);
+    CHECK(cedar_update_all(&d, pairs, 4, &position) == CEDAR_NUL_BYTE && position == 1 && cedar_len(&d) == 0);
+    CHECK(cedar_update_all(&d, pairs, 3, &position) == CEDAR_OK && cedar_len(&d) == 2);
+    CHECK(cedar_get(&d, bytes_of("a"), 1, &value) && value == 3 && cedar_get(&d, bytes_of("ab"), 2, &value) && value == 2);
+    CHECK(cedar_update_all(&d, pairs, 0, &position) == CEDAR_OK && cedar_len(&d) == 2);
+    uint8_t keys[8] = {'?', '?', '?', '?', '?', '?', '?', '?'};
+    CHECK(cedar_keys(&d, keys, 2, &position) == CEDAR_NO_ROOM && position == 3 && keys[0] == '?');
+    CHECK(cedar_keys(&d, keys, 8, &position) == CEDAR_OK && position == 3 && memcmp(keys, "aab?????", 8) == 0);
+    cedar_free(&d);
+    CHECK(cedar_keys(&d, keys, 8, &position) == CEDAR_IS_CLOSED);
+}
+
+static void sorted_pairs(void) {
+    cedar d = CEDAR_CLOSED, other = CEDAR_CLOSED;
+    const cedar_pair pairs[] = {{bytes_of("a"), 1, 1}, {bytes_of("ab"), 2, 2}, {bytes_of("b\xff"), 2, 3}, {bytes_of("b\xff"), 2, 4}, {bytes_of("a"), 1, 5}};
+    const cedar_pair faulty[] = {{bytes_of("a"), 1, 1}, {bytes_of("b\0"), 2, 2}, {bytes_of("a"), 0, 3}, {bytes_of("a"), 1, -1}};
+    cedar_match matches[3];
+    size_t position = 77;
+    int32_t value;
+    CHECK(cedar_build(&d, true, 0, pairs, 3, &position) == CEDAR_INVALID_MAX_TRIAL && cedar_len(&d) == 0);
+    CHECK(cedar_build(&d, true, 1, pairs, 3, &position) == CEDAR_OK && position == 77 && cedar_len(&d) == 3 && cedar_used_slots(&d) == 8);
+    CHECK(cedar_predictions(&d, bytes_of(""), 0, matches, 3) == 3 && matches[0].value == 1 && matches[1].value == 2 && matches[2].value == 3);
+    CHECK(cedar_build(&d, true, 1, pairs, 4, &position) == CEDAR_DUPLICATE_KEY && position == 3 && cedar_len(&d) == 3);
+    CHECK(cedar_build(&d, true, 1, pairs + 3, 2, &position) == CEDAR_KEYS_NOT_SORTED && position == 1 && cedar_len(&d) == 3);
+    CHECK(cedar_build(&d, true, 1, faulty, 2, &position) == CEDAR_NUL_BYTE && position == 1 && cedar_len(&d) == 3);
+    CHECK(cedar_build(&d, true, 1, faulty + 2, 2, &position) == CEDAR_EMPTY_KEY && cedar_build(&d, true, 1, faulty + 3, 1, &position) == CEDAR_INVALID_VALUE);
+    CHECK(cedar_get(&d, bytes_of("ab"), 2, &value) && value == 2);
+    CHECK(cedar_build(&d, false, 3, pairs + 1, 2, &position) == CEDAR_OK && cedar_len(&d) == 2 && !cedar_get(&d, bytes_of("a"), 1, &value));
+    CHECK(cedar_update(&d, bytes_of("a"), 1, 6, &position) == CEDAR_OK && cedar_get(&d, bytes_of("a"), 1, &value) && value == 6);
+    CHECK(cedar_build(&other, true, 1, pairs, 0, &position) == CEDAR_OK && cedar_len(&other) == 0 && cedar_capacity(&other) == 256);
+    cedar_free(&d);
+    cedar_free(&other);
+}
+
+static void walks_in_pieces(void) {
+    cedar d = CEDAR_CLOSED;
+    const cedar_pair pairs[] = {{bytes_of("a"), 1, 1}, {bytes_of("ab"), 2, 2}, {bytes_of("abcd"), 4, 3}, {bytes_of("abd"), 3, 4}, {bytes_of("b"), 1, 5}};
+    cedar_match all[8], some[8];
+    size_t position, next = 3;
+    CHECK(cedar_prefixes_from(&d, bytes_of("abcd"), 4, &next, some, 8) == 0 && cedar_predictions_from(&d, bytes_of("a"), 1, &next, some, 8) == 0 && next == 3);
+    CHECK(cedar_build(&d, true, 1, pairs, 5, &position) == CEDAR_OK);
+    for (int call = 0; call < 2; call++) {
+        const char *text = call ? "a" : "abcde";
+        size_t whole = (call ? cedar_predictions : cedar_prefixes)(&d, bytes_of(text), strlen(text), all, 8), more;
+        CHECK(whole == (call ? 4u : 3u));
+        for (size_t room = 1; room < 8; room++) {
+            next = 0;
+            do {
+                size_t before = next;
+                memset(some, '?', sizeof some);
+                more = (call ? cedar_predictions_from : cedar_prefixes_from)(&d, bytes_of(text), strlen(text), &next, some, room);
+                CHECK(next == before + more && more <= room && (more == room || next == whole));
+                for (size_t i = 0; i < more; i++) CHECK(some[i].value == all[before + i].value && some[i].length == all[before + i].length);
+                CHECK(some[more].value == 0x3f3f3f3f);
+            } while (more == room);
+            CHECK(next == whole);
+        }
+        next = SIZE_MAX;
+        CHECK((call ? cedar_predictions_from : cedar_prefixes_from)(&d, bytes_of(text), strlen(text), &next, some, 8) == 0 && next == SIZE_MAX);
+    }
+    cedar_free(&d);
+}
+
+/* Tells a whole text by calls with this much room, and answers how many were told. */
+static size_t told(size_t (*call)(cedar *, const uint8_t *, size_t, size_t *, cedar_found *, size_t), cedar *d, const char *text, cedar_found *all, size_t room) {
+    size_t next = 0, count = 0, length = strlen(text);
+    while (next < length) {
+        size_t before = next, more = call(d, bytes_of(text), length, &next, all + count, room);
+        CHECK(more > 0 || next > before);
+        count += more;
+    }
+    return count;
+}
+
+static void whole_texts(void) {
+    cedar d = CEDAR_CLOSED;
+    cedar_found all[32];
+    const cedar_pair pairs[] = {{bytes_of("a"), 1, 1}, {bytes_of("abc"), 3, 2}, {bytes_of("bc"), 2, 3}};
+    size_t position, next = 0;
+    CHECK(cedar_scan(&d, bytes_of("abc"), 3, &next, all, 32) == 0 && next == 3);
+    next = 1;
+    CHECK(cedar_segment(&d, bytes_of("abc"), 3, &next, all, 32) == 0 && next == 3);
+    CHECK(cedar_new(&d) == CEDAR_OK && cedar_update_all(&d, pairs, 3, &position) == CEDAR_OK);
+    for (size_t room = 2; room < 8; room++) {
+        CHECK(told(cedar_scan, &d, "xabca", all, room) == 4);
+        CHECK(all[0].place == 1 && all[0].length == 1 && all[0].value == 1 && all[1].place == 1 && all[1].length == 3 && all[1].value == 2);
+        CHECK(all[2].place == 2 && all[2].length == 2 && all[2].value == 3 && all[3].place == 4 && all[3].length == 1 && all[3].value == 1);
+    }
+    next = 0;
+    CHECK(cedar_scan(&d, bytes_of("xabca"), 5, &next, all, 1) == 0 && next == 1); /* two keys begin there */
+    for (size_t room = 1; room < 8; room++) {
+        CHECK(told(cedar_segment, &d, "xabca", all, room) == 3);
+        CHECK(all[0].place == 0 && all[0].length == 1 && all[0].value == -1 && all[1].place == 1 && all[1].length == 3 && all[1].value == 2);
+        CHECK(all[2].place == 4 && all[2].length == 1 && all[2].value == 1);
+    }
+    next = 9;
+    CHECK(cedar_scan(&d, bytes_of("xabca"), 5, &next, all, 8) == 0 && next == 9);
+    cedar_free(&d);
+}
+
 static void random_calls(void) {
     static int32_t plain[PLACES]; /* a value and 1, or 0 */
     size_t held = 0, position;
@@ -138,12 +271,45 @@ static void times(uint32_t keys) {
     free(all);
 }
 
+/* MiB of text a second, by calls with room for 16384. */
+static void text_times(void) {
+    static const char words[] = "the network here is at work there; a net of nets works on. ";
+    static cedar_found found[1 << 14];
+    const cedar_pair pairs[] = {{bytes_of("the"), 3, 1}, {bytes_of("there"), 5, 2}, {bytes_of("here"), 4, 3}, {bytes_of("net"), 3, 4}, {bytes_of("network"), 7, 5}, {bytes_of("work"), 4, 6}};
+    size_t length = (1 << 24) / (sizeof words - 1) * (sizeof words - 1), position;
+    uint8_t *text = malloc(length);
+    cedar d = CEDAR_CLOSED;
+    CHECK(text != NULL && cedar_new(&d) == CEDAR_OK && cedar_update_all(&d, pairs, 6, &position) == CEDAR_OK);
+    for (size_t i = 0; i < length; i++) text[i] = (uint8_t)words[i % (sizeof words - 1)];
+    for (int call = 0; call < 2; call++) {
+        double best = 1e9;
+        size_t count = 0;
+        for (int turn = 0; turn < 5; turn++) {
+            double start = seconds();
+            count = 0;
+            for (size_t next = 0; next < length;) count += (call ? cedar_segment : cedar_scan)(&d, text, length, &next, found, 1 << 14);
+            if (seconds() - start < best) best = seconds() - start;
+        }
+        printf("%s: %.1f MiB of text a second, %zu found\n", call ? "segment" : "scan", (double)length / best / (1 << 20), count);
+    }
+    cedar_free(&d);
+    free(text);
+}
+
 int main(int count, char **arguments) {
     each_function();
     settings_and_walks();
     refused_files();
+    files_and_texts();
+    many_pairs();
+    sorted_pairs();
+    walks_in_pieces();
+    whole_texts();
     random_calls();
-    if (count > 1) times((uint32_t)atol(arguments[1]));
+    if (count > 1) {
+        times((uint32_t)atol(arguments[1]));
+        text_times();
+    }
     puts("ok");
     return 0;
 }

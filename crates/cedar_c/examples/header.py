@@ -17,6 +17,8 @@ TYPES = {
     "bool": "bool",
     "Handle": "cedar",
     "Match": "cedar_match",
+    "Found": "cedar_found",
+    "Pair": "cedar_pair",
 }
 
 
@@ -24,7 +26,7 @@ def parameter(kind):
     """The C types of a parameter."""
     if kind == "Global":
         return []
-    if found := re.fullmatch(r"&\[(\w+)\]", kind):
+    if found := re.fullmatch(r"&\[(\w+)(?:<'_>)?\]", kind):
         return [f"const {TYPES[found[1]]} *", "size_t"]
     if found := re.fullmatch(r"&mut \[(\w+)\]", kind):
         return [f"{TYPES[found[1]]} *", "size_t"]

@@ -42,6 +42,32 @@ static int32_t fill(cedar *d) {
     return stored;
 }
 
+/* Builds of sorted pairs with each request refused in turn: the dictionary stays till one is met. Answers how many were refused. */
+static int builds(void) {
+    static uint8_t keys[KEYS][2];
+    static cedar_pair pairs[KEYS];
+    cedar d = CEDAR_CLOSED;
+    size_t position = 77;
+    int32_t value;
+    for (int32_t i = 0; i < KEYS; i++) {
+        keys[i][0] = (uint8_t)(1 + i / 250);
+        keys[i][1] = (uint8_t)(1 + i % 250);
+        pairs[i] = (cedar_pair){keys[i], 2, i};
+    }
+    CHECK(cedar_new(&d) == CEDAR_OK && cedar_update(&d, keys[7], 2, 70, &position) == CEDAR_OK);
+    for (int refused = 0;; refused++) {
+        left = refused;
+        uint32_t status = cedar_build(&d, true, 1, pairs, KEYS, &position);
+        left = -1;
+        if (status == CEDAR_OK) {
+            CHECK(cedar_len(&d) == KEYS && cedar_get(&d, keys[7], 2, &value) && value == 7);
+            cedar_free(&d);
+            return refused;
+        }
+        CHECK(status == CEDAR_MEMORY && position == 77 && cedar_len(&d) == 1 && cedar_get(&d, keys[7], 2, &value) && value == 70);
+    }
+}
+
 int main(void) {
     int refused_new = 0, refused_update = 0;
     for (long budget = 0; budget < 60; budget++) {
@@ -63,7 +89,8 @@ int main(void) {
         left = -1;
         cedar_free(&d);
     }
-    CHECK(refused_new > 0 && refused_update > 0);
-    printf("refused: %d new, %d updates\nok\n", refused_new, refused_update);
+    int refused_builds = builds();
+    CHECK(refused_new > 0 && refused_update > 0 && refused_builds > 10);
+    printf("refused: %d new, %d updates, %d builds\nok\n", refused_new, refused_update, refused_builds);
     return 0;
 }

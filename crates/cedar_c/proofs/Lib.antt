@@ -3,3 +3,5 @@ pub mod FileLemmas
 pub mod MatchLemmas
 pub mod HeldValues
 pub mod LooseValues
+pub mod PairLemmas
+pub mod ScanLemmas

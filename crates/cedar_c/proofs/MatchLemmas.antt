@@ -2,7 +2,7 @@
 use Rattle.std.proofs.Common.{◌≡◌, ℕ, ◌+◌, ◌-◌, ◌<◌, ◌≤◌, ◌^◌, List, [], ◌∷◌, ◌++◌, length, take, drop, set, add-one, None, Option, Some, Bool, refl, sym, ap, subst, ◌∙◌, arith}
 use Rattle.std.specs.Prelude.{ℤ, nat_eq}
 use Rattle.std.specs.List.{Contains, filter, starts_with}
-use Rattle.std.proofs.lemmas.List.{append_assoc, drop-set-lt, drop_all, drop_more, take-append-drop, take_all}
+use Rattle.std.proofs.lemmas.List.{append_assoc, drop-set-lt, drop-drop, drop_all, drop_more, take-append-drop, take_all}
 use Rattle.std.proofs.Math.Seq.{take-suc-set}
 use Rattle.std.proofs.lemmas.List.Sums.{count_by-le-length, length-filter}
 use Rattle.std.proofs.lemmas.List.{length-map}
@@ -68,3 +68,23 @@ no_fronts q =
           let held = held_from_front empty_tree q x.0 x.1 first in
           absurd (some_none x.0 (sym (number_at-empty (take (x.1 + 1) q)) ∙ held.1))
     ]) refl
+
+-- one more is passed
+pub one_passed : (count passed : ℕ) (left : List (ℤ × ℕ)) (x : ℤ × ℕ) (later : List (ℤ × ℕ)) → passed < count → left ≡ x ∷ later
+    → drop (count - (passed + 1)) later ≡ drop (count - passed) left
+one_passed count passed left x later h is =
+    let less = count - (passed + 1) in
+    let more : 1 + less ≡ count - passed = omega (arith, h) in
+    drop-drop less 1 (x ∷ later) ∙ ap (λ n. drop n (x ∷ later)) more ∙ ap (drop (count - passed)) (sym is)
+
+-- of nothing, nothing is left
+pub nothing_left : (n : ℕ) (all : List (ℤ × ℕ)) → all ≡ [] → drop n all ≡ []
+nothing_left n all none = let short : length all ≤ n = omega (arith, ap length none) in drop_all n all short
+
+-- and nothing is told
+pub nothing_told : (ms : List Match) (n : ℕ) (all : List (ℤ × ℕ)) → all ≡ []
+    → (◌≡◌ {A = ℕ} 0 (length (take (length ms) (drop n all)))) × (ms ≡ filled ms (drop n all))
+nothing_told ms n all none =
+    let left = nothing_left n all none in
+    let within : length {A = ℤ × ℕ} [] ≤ length ms = omega arith in
+    (sym (ap (λ l. length (take (length ms) l)) left ∙ ap length (take_all (length ms) [] within)), sym (ap (filled ms) left ∙ nothing_filled ms))

@@ -2,4 +2,6 @@ pub mod Content
 pub mod Files
 pub mod Matches
 pub mod Ownership
+pub mod Pairs
+pub mod Scans
 pub mod Status

@@ -14,7 +14,9 @@ status_of (InvalidMaxTrial n) = 7
 status_of (DuplicateKey i) = 8
 status_of (KeysNotSorted i) = 9
 
--- the position that an error tells, or what stood there
+-- the position that an error tells, which is a pair's index where keys don't ascend; or what stood there
 abbrev pub position_of : ℕ → CedarError → ℕ
 position_of before (NulByte p) = p
+position_of before (DuplicateKey i) = i
+position_of before (KeysNotSorted i) = i
 position_of before e = before

@@ -138,6 +138,12 @@ pub extern "C" fn cedar_insert(
     ensures held { result ≡ 0 → IsTrue held.new ↔ IsSome (number_at (tree_in handle.old) key.now) }
     ensures before { result ≡ 0 → IfSome (number_at (tree_in handle.old) key.now) (λ v. before.new ≡ v) }
     ensures faulty { IsSome (content handle.old) → IfSome (fault key.now value) (λ e. (result ≡ status_of e) × (position.new ≡ position_of position.old e)) }
+    ensures memory { result ≡ 2 → (size_in handle.new ≡ capacity_in handle.new) × (capacity_in handle.new < 2 ^ 30) }
+    ensures limit { result ≡ 3 → size_in handle.new ≡ 2 ^ 30 }
+    ensures spare { IsSome (content handle.old) → fault key.now value ≡ None
+        → 256 * length key.now ≤ capacity_in handle.old - size_in handle.old → result ≡ 0 }
+    ensures refused { IsSome (content handle.old) → fault key.now value ≡ None →
+        (result ≡ 0) ⊎ (((result ≡ 2) ⊎ (result ≡ 3)) × (number_at (tree_in handle.old) key.now ≡ None)) }
 {
     let Some(mut cedar) = handle.take(alloc) else {
         return CLOSED;

@@ -32,7 +32,11 @@ const KEYS_NOT_SORTED: u32 = 9;
 /// An error that has no number yet.
 pub(crate) const OTHER: u32 = 10;
 
-/// The number of an error. Where a byte 0 was refused, it tells its position.
+/// The buffer has too few places.
+pub(crate) const NO_ROOM: u32 = 11;
+
+/// The number of an error. Where a byte 0 was refused, it tells its position, and where a key isn't above the one before it, the index
+/// of its pair.
 pub(crate) fn tell(error: CedarError, position: &mut usize) -> u32
     ensures status { result ≡ status_of error }
     ensures position { position.new ≡ position_of position.old error }
@@ -47,8 +51,14 @@ pub(crate) fn tell(error: CedarError, position: &mut usize) -> u32
         }
         CedarError::InvalidValue { .. } => INVALID_VALUE,
         CedarError::InvalidMaxTrial { .. } => INVALID_MAX_TRIAL,
-        CedarError::DuplicateKey { .. } => DUPLICATE_KEY,
-        CedarError::KeysNotSorted { .. } => KEYS_NOT_SORTED,
+        CedarError::DuplicateKey { index } => {
+            *position = index;
+            DUPLICATE_KEY
+        }
+        CedarError::KeysNotSorted { index } => {
+            *position = index;
+            KEYS_NOT_SORTED
+        }
         _ => OTHER,
     }
 }

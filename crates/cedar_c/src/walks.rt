@@ -18,7 +18,7 @@ pub struct Match {
 }
 
 /// What finds keys, one after another.
-trait Finds {
+pub(crate) trait Finds {
     ghost use Rattle.std.specs.Prelude.{◌≡◌, ℕ, ℤ, List, [], ◌∷◌, MatchOption};
 
     /// Those that are still to come.
@@ -60,7 +60,7 @@ fn fill<F: Finds>(walk: &mut F, matches: &mut [Match]) -> usize
 }
 
 /// Writes what was found at a place, if there is this place.
-fn put_at(matches: &mut [Match], place: usize, found: (i32, usize))
+pub(crate) fn put_at(matches: &mut [Match], place: usize, found: (i32, usize))
     ensures { (rest : List (ℤ × ℕ)) → take (place + 1) matches.new ++ filled (drop (place + 1) matches.new) rest ≡ take place matches.old ++ filled (drop place matches.old) (found ∷ rest) }
 {
     if place < matches.len() {

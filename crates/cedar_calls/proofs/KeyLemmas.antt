@@ -6,7 +6,7 @@ use Rattle.cedar_tree.specs.State.{State, stored}
 use Rattle.cedar_tree.proofs.BuildLemmas.{is_path_itself, same_path}
 use Rattle.cedar_tree.proofs.TreeLemmas.{number_at-cut_other, number_at-cut_same, number_at-empty, number_at-put_other, number_at-put_same}
 use Rattle.cedar_slots.specs.declared.error.CedarError.{CedarError}
-use Rattle.cedar_table.specs.Bulk.Sorted.{entries_of}
+use Rattle.cedar_bulk.specs.Sorted.{entries_of}
 use Rattle.cedarwood.specs.Builds.{all_stored, first_fault}
 use Rattle.cedarwood.specs.Fault.{fault}
 use Rattle.cedar_calls.specs.Keys.{held_after, AreSoundAlong}
@@ -17,15 +17,15 @@ use Rattle.cedar_calls.specs.declared.call.Change.TheVariants as change
 apart : (q k : List ℕ) → is_path q k ≡ false → q ≡ k → ⊥
 apart q k e same = true≢false (sym (is_path_itself q) ∙ ap (is_path q) same ∙ e)
 
-put_goes : (t : Tree) (ordered : Bool) (k : List ℕ) (v : ℤ) (q : List ℕ) (b : Bool) → is_path q k ≡ b → number_at (put t ordered k v) q ≡ cond b (Some v) (number_at t q)
+pub put_goes : (t : Tree) (ordered : Bool) (k : List ℕ) (v : ℤ) (q : List ℕ) (b : Bool) → is_path q k ≡ b → number_at (put t ordered k v) q ≡ cond b (Some v) (number_at t q)
 put_goes t ordered k v q true e = ap (number_at (put t ordered k v)) (same_path q k e) ∙ number_at-put_same t ordered k v
 put_goes t ordered k v q false e = number_at-put_other t ordered k v q (apart q k e)
 
-cut_goes : (t : Tree) (k q : List ℕ) → IsSoundBelow t.children → (b : Bool) → is_path q k ≡ b → number_at (cut t k) q ≡ cond b None (number_at t q)
+pub cut_goes : (t : Tree) (k q : List ℕ) → IsSoundBelow t.children → (b : Bool) → is_path q k ≡ b → number_at (cut t k) q ≡ cond b None (number_at t q)
 cut_goes t k q sound true e = ap (number_at (cut t k)) (same_path q k e) ∙ number_at-cut_same t k sound
 cut_goes t k q sound false e = number_at-cut_other t k q sound (apart q k e)
 
-all_go : (s : State) (es : List Entry) (q : List ℕ) → number_at (all_stored s es).tree q ≡ last_at q (number_at s.tree q) es
+pub all_go : (s : State) (es : List Entry) (q : List ℕ) → number_at (all_stored s es).tree q ≡ last_at q (number_at s.tree q) es
 all_go s [] q = refl
 all_go s (e ∷ es) q =
     all_go (record { tree = put s.tree s.ordered e.0 e.1; ordered = s.ordered }) es q ∙ ap (λ n. last_at q n es) (put_goes s.tree s.ordered e.0 e.1 q (is_path q e.0) refl)

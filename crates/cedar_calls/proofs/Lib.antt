@@ -5,3 +5,5 @@ mod RunLemmas
 mod PlainLemmas
 mod PlainRunLemmas
 mod KeyLemmas
+mod AgreeLemmas
+mod KeyRunLemmas

@@ -3,7 +3,7 @@ use Rattle.std.proofs.Common.{◌≡◌, ℕ, ◌+◌, ◌*◌, ◌≤◌, List,
 use Rattle.std.specs.declared.result.Result.{Result}
 use Rattle.cedar_tree.specs.Queries.{Entry, asc, prefixes}
 use Rattle.cedar_slots.specs.declared.error.CedarError.{CedarError}
-use Rattle.cedar_table.specs.Bulk.SortedMarks.{SortedMarks}
+use Rattle.cedar_bulk.specs.SortedMarks.{SortedMarks}
 use Rattle.cedar_table.specs.Table.Layouts.{LayoutKind}
 use Rattle.cedarwood.specs.declared.builder.CedarBuilder.{CedarBuilder}
 use Rattle.cedarwood.specs.Dictionary.{capacity_after, Dictionary}

@@ -1,28 +1,30 @@
 -- What a change and a reply say as far as trees go.
-use Rattle.std.proofs.Common.{◌≡◌, Bool, true, false, ℕ, ℤ, List, [], ◌∷◌, Option, Some, None, is_some, Ok, Err, IfSome, IfOk, IsSome, OnErr, ◌↔◌, refl, ap, sym, subst, ◌∙◌}
+use Rattle.std.proofs.Common.{◌≡◌, Bool, true, false, ℕ, ℤ, List, [], ◌∷◌, length, Option, Some, None, is_some, Ok, Err, IfSome, IfOk, IsSome, OnErr, ◌↔◌, refl, ap, sym, subst, ◌∙◌}
 use Rattle.std.specs.declared.result.Result.{Result}
 use Rattle.cedar_tree.specs.Tree.{Tree, empty_tree, number_at}
-use Rattle.cedar_tree.specs.Queries.{Entry, walk}
+use Rattle.cedar_tree.specs.Queries.{Entry, used, walk}
 use Rattle.cedar_tree.specs.State.{State, stored}
 use Rattle.cedar_slots.specs.declared.error.CedarError.{CedarError}
 use Rattle.cedar_slots.specs.declared.error.CedarError.TheVariants.{Memory}
-use Rattle.cedar_table.specs.Bulk.Sorted.{entries_of}
-use Rattle.cedar_table.specs.Table.Layouts.{LayoutKind}
+use Rattle.cedar_bulk.specs.Sorted.{entries_of}
+use Rattle.cedar_table.specs.Table.Layouts.{LayoutKind, default_layout}
 use Rattle.cedarwood.specs.Builds.{all_stored, first_fault, outcome}
 use Rattle.cedarwood.specs.Dictionary.{Dictionary}
 use Rattle.cedarwood.specs.Fault.{fault, IsShortage}
 use Rattle.cedarwood.specs.Updates.{IsUpdate}
 use Rattle.cedar_calls.specs.Changes.{IsChange, IsWholeBuild}
 use Rattle.cedar_calls.specs.Replies.{IsReply}
-use Rattle.cedar_calls.specs.Plain.{counted, done, found, held, listed, walked, was, change_says, changed_state, is_none_left, IsMet, kept_at_fault, reply_says, said_change, said_reply, said_result, unless_fault}
+use Rattle.cedar_calls.specs.Plain.{compared, counted, done, found, held, in_use, listed, measured, walked, was, worded, change_says, changed_state, is_none_left, IsMet, kept_at_fault, reply_says, said_change, said_reply, said_result, unless_fault}
 use Rattle.cedar_calls.specs.declared.call.Change.{Change}
 use Rattle.cedar_calls.specs.declared.call.Change.TheVariants as change
+use Rattle.cedar_calls.specs.declared.call.Figure.TheVariants.{AllocatedBytes, Capacity, SpareBlocks, UsedSlots}
 use Rattle.cedar_calls.specs.declared.call.Question.{Question}
 use Rattle.cedar_calls.specs.declared.call.Question.TheVariants as question
 use Rattle.cedar_calls.specs.declared.answer.Changed.{Changed}
 use Rattle.cedar_calls.specs.declared.answer.Changed.TheVariants as changed
 use Rattle.cedar_calls.specs.declared.answer.Reply.{Reply}
 use Rattle.cedar_calls.specs.declared.answer.Reply.TheVariants as reply
+use Rattle.cedar_calls.proofs.TextLemmas.{texts_are}
 
 pub bool_same : (b c : Bool) → ((b ≡ true) ↔ (c ≡ true)) → b ≡ c
 bool_same true true h = refl
@@ -89,20 +91,30 @@ change_goes layout slots d d' c a h met = absurd h
 pub short : (e : CedarError) → e ≡ Memory → IsShortage e
 short e h = subst IsShortage (sym h) tt
 
-pub reply_goes : {A : Type 0} (layout : LayoutKind) (slots : ℕ) (d : Dictionary) (q : Question) (a : Reply A) → IsReply layout slots d q a → IsMet (said_reply a)
-    → said_reply a ≡ reply_says d.state q
-reply_goes layout slots d (question.Exact key) (reply.Exact x) h met = ap found h
-reply_goes layout slots d (question.Prefixes query) (reply.Prefixes (Ok v)) h met = ap listed h
-reply_goes layout slots d (question.Prefixes query) (reply.Prefixes (Err e)) h met = absurd (met (short e h))
-reply_goes layout slots d (question.Predictions query) (reply.Predictions (Ok v)) h met = ap listed h
-reply_goes layout slots d (question.Predictions query) (reply.Predictions (Err e)) h met = absurd (met (short e h))
-reply_goes layout slots d question.Entries (reply.Entries (Ok v)) h met = ap walked h
-reply_goes layout slots d question.Entries (reply.Entries (Err e)) h met = absurd (met (short e h))
-reply_goes layout slots d question.TextEntries (reply.TextEntries r) h met = refl
-reply_goes layout slots d question.Len (reply.Len n) h met = ap counted h
-reply_goes layout slots d (question.Figure which) (reply.Figure n) h met = refl
-reply_goes layout slots d question.IsEmpty (reply.IsEmpty b) h met = ap held (none_same b (walk d.state.tree) h)
-reply_goes layout slots d question.Stats (reply.Stats stats) h met = ap counted h.entries
-reply_goes layout slots d question.Save (reply.Saved r) h met = refl
-reply_goes layout slots d question.SaveV1_0 (reply.Saved r) h met = refl
-reply_goes layout slots d q a h met = absurd h
+same_use : (by_default : Bool) (layout : LayoutKind) (n m : ℕ) → (by_default ≡ true → layout ≡ default_layout) → (layout ≡ default_layout → n ≡ m) → compared by_default n ≡ compared by_default m
+same_use true layout n m h same = ap Some (same (h refl))
+same_use false layout n m h same = refl
+
+pub reply_goes : {A : Type 0} (by_default : Bool) (layout : LayoutKind) (slots : ℕ) (d : Dictionary) (q : Question) (a : Reply A) → (by_default ≡ true → layout ≡ default_layout)
+    → IsReply layout slots d q a → IsMet (said_reply by_default q a) → said_reply by_default q a ≡ reply_says by_default d.state q
+reply_goes b layout slots d (question.Exact key) (reply.Exact x) k h met = ap found h
+reply_goes b layout slots d (question.Prefixes query) (reply.Prefixes (Ok v)) k h met = ap listed h
+reply_goes b layout slots d (question.Prefixes query) (reply.Prefixes (Err e)) k h met = absurd (met (short e h))
+reply_goes b layout slots d (question.Predictions query) (reply.Predictions (Ok v)) k h met = ap listed h
+reply_goes b layout slots d (question.Predictions query) (reply.Predictions (Err e)) k h met = absurd (met (short e h))
+reply_goes b layout slots d question.Entries (reply.Entries (Ok v)) k h met = ap walked h
+reply_goes b layout slots d question.Entries (reply.Entries (Err e)) k h met = absurd (met (short e h))
+reply_goes b layout slots d question.TextEntries (reply.TextEntries (Ok v)) k h met = ap worded (texts_are v.items (walk d.state.tree) h)
+reply_goes b layout slots d question.TextEntries (reply.TextEntries (Err e)) k h met = absurd (met (short e h))
+reply_goes b layout slots d question.Len (reply.Len n) k h met = ap counted h
+reply_goes b layout slots d (question.Figure UsedSlots) (reply.Figure n) k h met = ap in_use (same_use b layout n (used d.state.tree) k h.1)
+reply_goes b layout slots d (question.Figure Capacity) (reply.Figure n) k h met = refl
+reply_goes b layout slots d (question.Figure AllocatedBytes) (reply.Figure n) k h met = refl
+reply_goes b layout slots d (question.Figure SpareBlocks) (reply.Figure n) k h met = refl
+reply_goes b layout slots d question.IsEmpty (reply.IsEmpty x) k h met = ap held (none_same x (walk d.state.tree) h)
+reply_goes b layout slots d question.Stats (reply.Stats stats) k h met =
+    ap (λ n. measured n (compared b stats.used_node_slots)) h.entries
+    ∙ ap (measured (length (walk d.state.tree))) (same_use b layout stats.used_node_slots (used d.state.tree) k h.used.1)
+reply_goes b layout slots d question.Save (reply.Saved r) k h met = refl
+reply_goes b layout slots d question.SaveV1_0 (reply.Saved r) k h met = refl
+reply_goes b layout slots d q a k h met = absurd h

@@ -1,5 +1,5 @@
 -- What calls and runs say as far as trees go.
-use Rattle.std.proofs.Common.{◌≡◌, ◌⊎◌, inl, inr, ◌*◌, ◌≤◌, ℕ, List, [], ◌∷◌, ◌++◌, length, map, Option, option_map, Some, None, Ok, Err, IfSome, refl, ap, sym, subst, ◌∙◌, slice_set}
+use Rattle.std.proofs.Common.{◌≡◌, Bool, true, ◌⊎◌, inl, inr, ◌*◌, ◌≤◌, ℕ, List, [], ◌∷◌, ◌++◌, length, Option, option_map, Some, None, Ok, Err, IfSome, refl, ap, sym, subst, ◌∙◌, slice_set}
 use Rattle.std.specs.List.{slice_get, AllByRecursion}
 use Rattle.std.specs.declared.result.Result.{Result}
 use Rattle.std.proofs.lemmas.List.{map-append, map-set}
@@ -9,14 +9,14 @@ use Rattle.cedar_tree.specs.Queries.{asc, prefixes}
 use Rattle.cedar_tree.specs.State.{State}
 use Rattle.cedar_slots.specs.declared.error.CedarError.{CedarError}
 use Rattle.cedar_slots.specs.declared.error.CedarError.TheVariants.{Memory, SlotLimit}
-use Rattle.cedar_table.specs.Bulk.Sorted.{Pair, entries_of}
-use Rattle.cedar_table.specs.Table.Layouts.{LayoutKind}
+use Rattle.cedar_bulk.specs.Sorted.{Pair, entries_of}
+use Rattle.cedar_table.specs.Table.Layouts.{LayoutKind, default_layout}
 use Rattle.cedarwood.specs.declared.builder.CedarBuilder.{CedarBuilder}
 use Rattle.cedarwood.specs.Dictionary.{Dictionary}
 use Rattle.cedarwood.specs.Fault.{IsShortage}
 use Rattle.cedarwood.specs.SortedInput.{sorted_fault}
 use Rattle.cedar_calls.specs.Making.{IsCopy, IsNew, IsSortedBuild, Joins}
-use Rattle.cedar_calls.specs.Plain.{at_state, call_says, change_says, changed_state, done, IsLoadless, IsMet, kept_at_fault, missing, reply_says, run_says, said, said_result, states_after, states_left, states_of, unless_fault}
+use Rattle.cedar_calls.specs.Plain.{all_said, at_state, call_says, change_says, changed_state, done, IsLoadless, IsMet, kept_at_fault, missing, reply_says, run_says, said, said_result, states_after, states_left, states_of, unless_fault}
 use Rattle.cedar_calls.specs.Runs.{IsRun, IsStep}
 use Rattle.cedar_calls.specs.declared.call.Call.{Call}
 use Rattle.cedar_calls.specs.declared.call.Call.TheVariants as call
@@ -29,7 +29,7 @@ short_of e P (inl h) = short e h
 short_of e P (inr h) = subst IsShortage (sym h.0) tt
 
 -- a further dictionary's state behind the others
-joined : (before after : List Dictionary) (d : Dictionary) (s : State) → after ≡ before ++ d ∷ [] → d.state ≡ s → states_of after ≡ states_of before ++ s ∷ []
+pub joined : (before after : List Dictionary) (d : Dictionary) (s : State) → after ≡ before ++ d ∷ [] → d.state ≡ s → states_of after ≡ states_of before ++ s ∷ []
 joined before after d s e same = ap states_of e ∙ map-append (λ x. x.state) before (d ∷ []) ∙ ap (λ x. states_of before ++ x ∷ []) same
 
 -- what a making says
@@ -58,59 +58,54 @@ module _ (before after : List Dictionary) (r : Result (Unit {0}) CedarError) whe
       (ap (said_result (λ _. done)) j.0, joined before after d _ j.1 (state_is d.state (asc (entries_of pairs)) settings.ordered p.sorted.tree p.sorted.ordered))
   sorted_goes layout slots settings pairs None same (Err e) p j met = absurd (met_at e j.0 met (short_of e (slots ≤ 256 * length (prefixes (asc (entries_of pairs)))) (p.refused same)))
 
-found_state : (ds : List Dictionary) (i : ℕ) (d : Dictionary) → slice_get ds i ≡ Some d → slice_get (states_of ds) i ≡ Some d.state
+pub found_state : (ds : List Dictionary) (i : ℕ) (d : Dictionary) → slice_get ds i ≡ Some d → slice_get (states_of ds) i ≡ Some d.state
 found_state ds i d h = slice_get-map (λ x. x.state) ds i ∙ ap (option_map (λ x. x.state)) h
 
 missed_state : (ds : List Dictionary) (i : ℕ) → slice_get ds i ≡ None → slice_get (states_of ds) i ≡ None
 missed_state ds i h = slice_get-map (λ x. x.state) ds i ∙ ap (option_map (λ x. x.state)) h
 
 -- a step
-Goes : {A : Type 0} → List Dictionary → Call → Answer A → List Dictionary → Type 0
-Goes before c a after = (said a ≡ call_says (states_of before) c) × (states_of after ≡ states_after (states_of before) c)
-
-step_goes : {A : Type 0} (layout : LayoutKind) (slots : ℕ) (before : List Dictionary) (c : Call) (a : Answer A) (after : List Dictionary) → IsStep layout slots before c a after → IsLoadless c
-    → IsMet (said a) → Goes before c a after
-unfolding Goes
-step_goes layout slots before (call.New settings) (answer.Made r) after h loadless met = new_goes before after r settings h.0 h.1 h.2 met
-step_goes layout slots before (call.Sorted settings pairs) (answer.Made r) after h loadless met =
+pub step_goes : {A : Type 0} (b : Bool) (layout : LayoutKind) (slots : ℕ) (before : List Dictionary) (c : Call) (a : Answer A) (after : List Dictionary) → (b ≡ true → layout ≡ default_layout)
+    → IsStep layout slots before c a after → IsLoadless c → IsMet (said b c a) → (said b c a ≡ call_says b (states_of before) c) × (states_of after ≡ states_after (states_of before) c)
+step_goes b layout slots before (call.New settings) (answer.Made r) after k h loadless met = new_goes before after r settings h.0 h.1 h.2 met
+step_goes b layout slots before (call.Sorted settings pairs) (answer.Made r) after k h loadless met =
     sorted_goes before after r layout slots settings pairs.now (sorted_fault pairs.now) refl h.0 h.1 h.2 met
-step_goes layout slots before (call.Clone i) (answer.Made r) after h loadless met =
+step_goes b layout slots before (call.Clone i) (answer.Made r) after k h loadless met =
     let s = found_state before i h.0 h.1 in
     let g = copy_goes before after r h.0 h.2.0 h.2.1 h.2.2 met in
     (g.0 ∙ ap (λ o. at_state o missing (λ _. done)) (sym s), g.1 ∙ ap (λ o. at_state o (states_of before) (λ x. states_of before ++ x ∷ [])) (sym s))
-step_goes layout slots before (call.Clone i) answer.Missing after h loadless met =
+step_goes b layout slots before (call.Clone i) answer.Missing after k h loadless met =
     let s = missed_state before i h.0 in
     (ap (λ o. at_state o missing (λ _. done)) (sym s), ap states_of h.1 ∙ ap (λ o. at_state o (states_of before) (λ x. states_of before ++ x ∷ [])) (sym s))
-step_goes layout slots before (call.Change i c) (answer.Changed a) after h loadless met =
+step_goes b layout slots before (call.Change i c) (answer.Changed a) after k h loadless met =
     let s = found_state before i h.0 h.2 in
-    let g = change_goes layout slots h.0 h.1 c a h.3 met in (
+    let g = change_goes layout slots h.0 h.1 c a h.3.1 met in (
       g.0 ∙ ap (λ o. at_state o missing (λ x. change_says x c)) (sym s),
       ap states_of h.4 ∙ map-set (λ x. x.state) before i h.1 ∙ ap (λ x. slice_set (states_of before) i x) g.1
           ∙ ap (λ o. at_state o (states_of before) (λ x. slice_set (states_of before) i (changed_state x c))) (sym s),
     )
-step_goes layout slots before (call.Change i c) answer.Missing after h loadless met =
+step_goes b layout slots before (call.Change i c) answer.Missing after k h loadless met =
     let s = missed_state before i h.0 in (
       ap (λ o. at_state o missing (λ x. change_says x c)) (sym s),
       ap states_of h.1 ∙ ap (λ o. at_state o (states_of before) (λ x. slice_set (states_of before) i (changed_state x c))) (sym s),
     )
-step_goes layout slots before (call.Ask i q) (answer.Replied a) after h loadless met =
-    let s = found_state before i h.0 h.1 in (reply_goes layout slots h.0 q a h.2 met ∙ ap (λ o. at_state o missing (λ x. reply_says x q)) (sym s), ap states_of h.3)
-step_goes layout slots before (call.Ask i q) answer.Missing after h loadless met =
-    let s = missed_state before i h.0 in (ap (λ o. at_state o missing (λ x. reply_says x q)) (sym s), ap states_of h.1)
-step_goes layout slots before (call.Load bytes limit) a after h loadless met = absurd loadless
-step_goes layout slots before c a after h loadless met = absurd h
+step_goes b layout slots before (call.Ask i q) (answer.Replied a) after k h loadless met =
+    let s = found_state before i h.0 h.1 in (reply_goes b layout slots h.0 q a k h.2 met ∙ ap (λ o. at_state o missing (λ x. reply_says b x q)) (sym s), ap states_of h.3)
+step_goes b layout slots before (call.Ask i q) answer.Missing after k h loadless met =
+    let s = missed_state before i h.0 in (ap (λ o. at_state o missing (λ x. reply_says b x q)) (sym s), ap states_of h.1)
+step_goes b layout slots before (call.Load bytes limit) a after k h loadless met = absurd loadless
+step_goes b layout slots before c a after k h loadless met = absurd h
 
 -- a run
-pub run_goes : {A : Type 0} (layout : LayoutKind) (slots : ℕ) (before : List Dictionary) (calls : List Call) (answers : List (Answer A)) (after : List Dictionary)
-    → IsRun layout slots before calls answers after → AllByRecursion IsLoadless calls → AllByRecursion (λ a. IsMet (said a)) answers
-    → (map said answers ≡ run_says (states_of before) calls) × (states_of after ≡ states_left (states_of before) calls)
-unfolding Goes
-run_goes layout slots before [] [] after h loadless met = (refl, ap states_of h)
-run_goes layout slots before [] (a ∷ answers) after h loadless met = absurd h
-run_goes layout slots before (c ∷ calls) [] after h loadless met = absurd h
-run_goes layout slots before (c ∷ calls) (a ∷ answers) after h loadless met =
-    let g = step_goes layout slots before c a h.0 h.1 loadless.0 met.0 in
-    let r = run_goes layout slots h.0 calls answers after h.2 loadless.1 met.1 in (
-      ap (λ x. x ∷ map said answers) g.0 ∙ ap (λ xs. call_says (states_of before) c ∷ xs) (r.0 ∙ ap (λ ss. run_says ss calls) g.1),
+pub run_goes : {A : Type 0} (b : Bool) (layout : LayoutKind) (slots : ℕ) (before : List Dictionary) (calls : List Call) (answers : List (Answer A)) (after : List Dictionary)
+    → IsRun layout slots before calls answers after → (b ≡ true → layout ≡ default_layout) → AllByRecursion IsLoadless calls → AllByRecursion IsMet (all_said b calls answers)
+    → (all_said b calls answers ≡ run_says b (states_of before) calls) × (states_of after ≡ states_left (states_of before) calls)
+run_goes b layout slots before [] [] after h k loadless met = (refl, ap states_of h)
+run_goes b layout slots before [] (a ∷ answers) after h k loadless met = absurd h
+run_goes b layout slots before (c ∷ calls) [] after h k loadless met = absurd h
+run_goes b layout slots before (c ∷ calls) (a ∷ answers) after h k loadless met =
+    let g = step_goes b layout slots before c a h.0 k h.1 loadless.0 met.0 in
+    let r = run_goes b layout slots h.0 calls answers after h.2 k loadless.1 met.1 in (
+      ap (λ x. x ∷ all_said b calls answers) g.0 ∙ ap (λ xs. call_says b (states_of before) c ∷ xs) (r.0 ∙ ap (λ ss. run_says b ss calls) g.1),
       r.1 ∙ ap (λ ss. states_left ss calls) g.1,
     )

@@ -5,7 +5,7 @@ use Rattle.cedar_tree.specs.Queries.{Entry}
 use Rattle.cedar_tree.specs.State.{erased}
 use Rattle.cedar_slots.specs.declared.error.CedarError.{CedarError}
 use Rattle.cedar_slots.specs.declared.error.CedarError.TheVariants.{Memory}
-use Rattle.cedar_table.specs.Bulk.Sorted.{entries_of}
+use Rattle.cedar_bulk.specs.Sorted.{entries_of}
 use Rattle.cedar_table.specs.Meaning.Marks.{MarksCut}
 use Rattle.cedar_table.specs.Table.Layouts.{LayoutKind}
 use Rattle.cedarwood.specs.Builds.{all_stored, first_fault, outcome, IsBuild, IsRefusedBuild}

@@ -1,14 +1,26 @@
 -- What a key holds after some changes of a dictionary: only changes of that key have a part in it, the last of them decides.
-use Rattle.std.specs.Prelude.{◌≡◌, ℕ, ℤ, List, [], ◌∷◌, Option, Some, None, fold, if◌then◌else◌}
+use Rattle.std.specs.Prelude.{◌≡◌, ℕ, ℤ, List, [], ◌∷◌, ◌++◌, take, map, slice_get, slice_set, Option, Some, None, IsSome, fold, if◌then◌else◌, Result, Ok, Err, OnOk, MatchResult}
 use Rattle.cedar_tree.specs.Tree.{number_at, IsSoundBelow}
 use Rattle.cedar_tree.specs.Queries.{is_path, last_at}
 use Rattle.cedar_tree.specs.State.{State}
-use Rattle.cedar_table.specs.Bulk.Sorted.{entries_of}
+use Rattle.cedar_bulk.specs.Sorted.{entries_of}
+use Rattle.cedar_table.specs.Meaning.WellFormed.{tree_of}
+use Rattle.cedar_table.specs.Table.Layouts.{LayoutKind}
+use Rattle.cedar_table.specs.Table.TableFields.{Fields}
+use Rattle.cedar_format.specs.Tables.{IsTableFile}
 use Rattle.cedarwood.specs.Builds.{first_fault}
+use Rattle.cedarwood.specs.Dictionary.{Dictionary}
 use Rattle.cedarwood.specs.Fault.{fault}
 use Rattle.cedar_calls.specs.Plain.{changed_state, kept_at_fault}
+use Rattle.cedar_calls.specs.Runs.{IsRun}
+use Rattle.cedar_calls.specs.declared.call.Call.{Call}
+use Rattle.cedar_calls.specs.declared.call.Call.TheVariants as call
 use Rattle.cedar_calls.specs.declared.call.Change.{Change}
 use Rattle.cedar_calls.specs.declared.call.Change.TheVariants as change
+use Rattle.cedar_calls.specs.declared.answer.Answer.{Answer}
+use Rattle.cedar_calls.specs.declared.answer.Answer.TheVariants as answer
+use Rattle.cedar_calls.specs.declared.answer.Changed.{Changed}
+use Rattle.cedar_calls.specs.declared.answer.Changed.TheVariants as changed
 
 -- what a key holds after a change, of what it held before
 abbrev pub held_after : List ℕ → Option ℤ → Change → Option ℤ
@@ -28,3 +40,54 @@ AreSoundAlong s (c ∷ changes) = IsSoundBelow s.tree.children × AreSoundAlong 
 abbrev pub KeysStandAlone : Type 0
 KeysStandAlone = (s : State) (changes : List Change) (key : List ℕ) → AreSoundAlong s changes
     → number_at (fold changed_state s changes).tree key ≡ fold (held_after key) (number_at s.tree key) changes
+
+-- ---- in runs of any calls
+
+-- what some dictionaries hold at a key
+abbrev pub numbers_at : List ℕ → List Dictionary → List (Option ℤ)
+numbers_at key ds = map (λ d. number_at d.state.tree key) ds
+
+-- what a call gave that succeeded, else what was so
+abbrev pub if_made : {E X Y : Type 0} → Result X E → Y → Y → Y
+if_made (Ok x) made before = made
+if_made (Err e) made before = before
+
+-- what a key holds after a change that was answered so: nothing of it but of this key is read. Of a build that was refused for memory or slots
+-- some first pairs count, and of one with a fault none
+abbrev pub IsHeldAfter : List ℕ → Option ℤ → Change → Changed → Option ℤ → Type 0
+IsHeldAfter key now (change.Update k v) (changed.Updated result) after = after ≡ if_made result (if is_path key k.now then Some v else now) now
+IsHeldAfter key now (change.Insert k v) (changed.Inserted result) after = after ≡ if_made result (if is_path key k.now then Some v else now) now
+IsHeldAfter key now (change.Erase k) (changed.Erased held) after = after ≡ (if is_path key k.now then None else now)
+IsHeldAfter key now (change.Renew settings) (changed.Renewed result) after = after ≡ if_made result None now
+IsHeldAfter key now (change.Build pairs) (changed.Built result) after =
+    MatchResult result (λ _. after ≡ last_at key now (entries_of pairs.now))
+    (λ _. (n : ℕ) × (IsSome (first_fault (entries_of pairs.now)) → n ≡ 0) × (after ≡ last_at key now (take n (entries_of pairs.now))))
+IsHeldAfter key now c result after = ⊥
+
+-- a well-formed table whose bytes these are holds this number at the key
+abbrev pub IsNumberInFile : ℕ → List ℕ → List ℕ → Option ℤ → Type 0
+IsNumberInFile slots bytes key number = (version : ℕ) × (T : Fields) × IsTableFile version slots T bytes × (number ≡ number_at (tree_of T) key)
+
+-- what all dictionaries hold at a key after a call, of what they held before: a further one begins with what it was made of, or with none
+abbrev pub IsKeyStep : {A : Type 0} → ℕ → List ℕ → List (Option ℤ) → Call → Answer A → List (Option ℤ) → Type 0
+IsKeyStep slots key before (call.New settings) (answer.Made result) after = after ≡ if_made result (before ++ None ∷ []) before
+IsKeyStep slots key before (call.Sorted settings pairs) (answer.Made result) after = after ≡ if_made result (before ++ last_at key None (entries_of pairs.now) ∷ []) before
+IsKeyStep slots key before (call.Load bytes limit) (answer.Loaded result) after =
+    (number : Option ℤ) × OnOk result (IsNumberInFile slots bytes.now key number) × (after ≡ if_made result (before ++ number ∷ []) before)
+IsKeyStep slots key before (call.Clone i) (answer.Made result) after = (number : Option ℤ) × (slice_get before i ≡ Some number) × (after ≡ if_made result (before ++ number ∷ []) before)
+IsKeyStep slots key before (call.Change i c) (answer.Changed result) after =
+    (number : Option ℤ) × (changed : Option ℤ) × (slice_get before i ≡ Some number) × IsHeldAfter key number c result changed × (after ≡ slice_set before i changed)
+IsKeyStep slots key before c a after = after ≡ before
+
+-- what all dictionaries hold at a key after some calls
+abbrev pub IsKeyRun : {A : Type 0} → ℕ → List ℕ → List (Option ℤ) → List Call → List (Answer A) → List (Option ℤ) → Type 0
+IsKeyRun slots key before [] [] after = after ≡ before
+IsKeyRun slots key before (c ∷ calls) (a ∷ answers) after = (between : List (Option ℤ)) × IsKeyStep slots key before c a between × IsKeyRun slots key between calls answers after
+IsKeyRun slots key before calls answers after = ⊥
+
+-- keys stand alone in any run: what the dictionaries hold at a key after some calls follows from what they held at it before, call by call, and
+-- nothing is read of any other key
+abbrev pub KeysStandAloneInRuns : {A : Type 0} → List Call → List (Answer A) → Type 0
+KeysStandAloneInRuns calls answers =
+    (layout : LayoutKind) (slots : ℕ) (before after : List Dictionary) (key : List ℕ) → IsRun layout slots before calls answers after
+    → IsKeyRun slots key (numbers_at key before) calls answers (numbers_at key after)

@@ -3,4 +3,5 @@ pub mod Changes
 pub mod Replies
 pub mod Runs
 pub mod Plain
+pub mod Agreement
 pub mod Keys

@@ -1,12 +1,15 @@
--- What runs answer as far as trees go: neither slots nor bytes nor settings but the order have a part in it.
-use Rattle.std.specs.Prelude.{◌≡◌, Bool, true, false, ℕ, ℤ, List, [], ◌∷◌, ◌++◌, length, map, slice_get, slice_set, Option, Some, None, is_some, Result, Ok, Err}
+-- What runs answer as far as trees go: neither places nor bytes nor settings but the order have a part in it.
+use Rattle.std.specs.Prelude.{◌≡◌, Bool, true, false, ℕ, ℤ, List, [], ◌∷◌, ◌++◌, length, map, slice_get, slice_set, Option, option_map, Some, None, is_some, string_bytes, if◌then◌else◌, Result, Ok, Err}
 use Rattle.std.specs.List.{AllByRecursion}
+use Rattle.std.specs.Str.{is_utf8}
 use Rattle.cedar_tree.specs.Tree.{empty_tree, number_at}
-use Rattle.cedar_tree.specs.Queries.{Entry, asc, exact, front, predict, walk}
+use Rattle.cedar_tree.specs.Queries.{Entry, asc, exact, front, predict, used, walk}
 use Rattle.cedar_tree.specs.State.{State, erased, stored}
 use Rattle.cedar_slots.specs.declared.error.CedarError.{CedarError}
-use Rattle.cedar_table.specs.Bulk.Sorted.{entries_of}
-use Rattle.cedar_table.specs.Table.Layouts.{LayoutKind}
+use Rattle.cedar_bulk.specs.Sorted.{entries_of}
+use Rattle.cedar_table.specs.Table.Layouts.{LayoutKind, default_layout}
+use Rattle.cedar_format.specs.declared.error.CedarPersistenceError.{CedarPersistenceError}
+use Rattle.cedar_format.specs.Refusal.{Refusal, AllocationFailed, refusal_of}
 use Rattle.cedarwood.specs.Builds.{all_stored, first_fault}
 use Rattle.cedarwood.specs.Dictionary.{Dictionary}
 use Rattle.cedarwood.specs.Fault.{fault, IsShortage}
@@ -16,6 +19,7 @@ use Rattle.cedar_calls.specs.declared.call.Call.{Call}
 use Rattle.cedar_calls.specs.declared.call.Call.TheVariants as call
 use Rattle.cedar_calls.specs.declared.call.Change.{Change}
 use Rattle.cedar_calls.specs.declared.call.Change.TheVariants as change
+use Rattle.cedar_calls.specs.declared.call.Figure.TheVariants.{UsedSlots}
 use Rattle.cedar_calls.specs.declared.call.Question.{Question}
 use Rattle.cedar_calls.specs.declared.call.Question.TheVariants as question
 use Rattle.cedar_calls.specs.declared.answer.Answer.{Answer}
@@ -30,12 +34,17 @@ pub data Said : Type 0 where
   missing : Said
   done : Said
   refused : CedarError → Said
+  unloaded : Refusal → Said
+  unread : Said
   was : Option ℤ → Said
   held : Bool → Said
   found : Option (ℤ × ℕ) → Said
   listed : List (ℤ × ℕ) → Said
   walked : List Entry → Said
+  worded : List (Option Entry) → Said
   counted : ℕ → Said
+  in_use : Option ℕ → Said
+  measured : ℕ → Option ℕ → Said
   unsaid : Said
 
 abbrev pub said_result : {X : Type 0} → (X → Said) → Result X CedarError → Said
@@ -49,26 +58,62 @@ said_change (changed.Erased result) = held result
 said_change (changed.Renewed result) = said_result (λ _. done) result
 said_change (changed.Built result) = said_result (λ _. done) result
 
-abbrev pub said_reply : {A : Type 0} → Reply A → Said
-said_reply (reply.Exact result) = found result
-said_reply (reply.Prefixes result) = said_result (λ v. listed v.items) result
-said_reply (reply.Predictions result) = said_result (λ v. listed v.items) result
-said_reply (reply.Entries result) = said_result (λ v. walked (map (λ e. (e.0.items, e.1)) v.items)) result
-said_reply (reply.Len n) = counted n
-said_reply (reply.IsEmpty result) = held result
-said_reply (reply.Stats stats) = counted stats.entries
-said_reply _ = unsaid
+-- how many slots are in use, where that is compared: trees alone say it in the default layout
+abbrev pub compared : Bool → ℕ → Option ℕ
+compared true n = Some n
+compared false n = None
 
-abbrev pub said : {A : Type 0} → Answer A → Said
-said answer.Missing = missing
-said (answer.Made result) = said_result (λ _. done) result
-said (answer.Changed result) = said_change result
-said (answer.Replied result) = said_reply result
-said _ = unsaid
+-- the other figures tell of places
+abbrev pub said_figure : Bool → Question → ℕ → Said
+said_figure by_default (question.Figure UsedSlots) n = in_use (compared by_default n)
+said_figure by_default q n = unsaid
 
--- nothing was refused for memory or slots
+-- what a question was answered. The bytes of a file tell of places.
+abbrev pub said_reply : {A : Type 0} → Bool → Question → Reply A → Said
+said_reply by_default q (reply.Exact result) = found result
+said_reply by_default q (reply.Prefixes result) = said_result (λ v. listed v.items) result
+said_reply by_default q (reply.Predictions result) = said_result (λ v. listed v.items) result
+said_reply by_default q (reply.Entries result) = said_result (λ v. walked (map (λ e. (e.0.items, e.1)) v.items)) result
+said_reply by_default q (reply.TextEntries result) = said_result (λ v. worded (map (option_map (λ e. (string_bytes e.0, e.1))) v.items)) result
+said_reply by_default q (reply.Len n) = counted n
+said_reply by_default q (reply.Figure n) = said_figure by_default q n
+said_reply by_default q (reply.IsEmpty result) = held result
+said_reply by_default q (reply.Stats stats) = measured stats.entries (compared by_default stats.used_node_slots)
+said_reply by_default q (reply.Saved result) = unsaid
+
+abbrev pub said_asked : {A : Type 0} → Bool → Call → Reply A → Said
+said_asked by_default (call.Ask index question) result = said_reply by_default question result
+said_asked by_default c result = unsaid
+
+abbrev pub said_load : {X : Type 0} → Result X CedarPersistenceError → Said
+said_load (Ok x) = done
+said_load (Err e) = unloaded (refusal_of e)
+
+-- what a call was answered
+abbrev pub said : {A : Type 0} → Bool → Call → Answer A → Said
+said by_default c answer.Missing = missing
+said by_default c (answer.Made result) = said_result (λ _. done) result
+said by_default c (answer.Loaded result) = said_load result
+said by_default c answer.Unread = unread
+said by_default c (answer.Changed result) = said_change result
+said by_default c (answer.Replied result) = said_asked by_default c result
+
+-- what some calls were answered
+abbrev pub all_said : {A : Type 0} → Bool → List Call → List (Answer A) → List Said
+all_said by_default [] answers = []
+all_said by_default (c ∷ calls) [] = []
+all_said by_default (c ∷ calls) (a ∷ answers) = said by_default c a ∷ all_said by_default calls answers
+
+-- a load was refused memory
+abbrev pub IsLacking : Refusal → Type 0
+IsLacking (AllocationFailed n) = Unit {0}
+IsLacking _ = ⊥
+
+-- nothing was refused for memory or slots, and each load was read
 abbrev pub IsMet : Said → Type 0
 IsMet (refused e) = IsShortage e → ⊥
+IsMet (unloaded r) = IsLacking r → ⊥
+IsMet unread = ⊥
 IsMet _ = Unit {0}
 
 -- what is said without a fault, else the fault
@@ -100,16 +145,22 @@ changed_state s (change.Erase key) = erased s key.now
 changed_state s (change.Renew settings) = record { tree = empty_tree; ordered = settings.ordered }
 changed_state s (change.Build pairs) = kept_at_fault (first_fault (entries_of pairs.now)) s (all_stored s (entries_of pairs.now))
 
+-- entries as texts, and nothing in the place of each whose key isn't UTF-8
+abbrev pub texts_of : List Entry → List (Option Entry)
+texts_of es = map (λ e. if is_utf8 e.0 then Some e else None) es
+
 -- what a question is answered
-abbrev pub reply_says : State → Question → Said
-reply_says s (question.Exact key) = found (exact s.tree key.now)
-reply_says s (question.Prefixes query) = listed (front s.tree query.now)
-reply_says s (question.Predictions query) = listed (predict s.tree query.now)
-reply_says s question.Entries = walked (walk s.tree)
-reply_says s question.Len = counted (length (walk s.tree))
-reply_says s question.IsEmpty = held (is_none_left (walk s.tree))
-reply_says s question.Stats = counted (length (walk s.tree))
-reply_says s _ = unsaid
+abbrev pub reply_says : Bool → State → Question → Said
+reply_says by_default s (question.Exact key) = found (exact s.tree key.now)
+reply_says by_default s (question.Prefixes query) = listed (front s.tree query.now)
+reply_says by_default s (question.Predictions query) = listed (predict s.tree query.now)
+reply_says by_default s question.Entries = walked (walk s.tree)
+reply_says by_default s question.TextEntries = worded (texts_of (walk s.tree))
+reply_says by_default s question.Len = counted (length (walk s.tree))
+reply_says by_default s (question.Figure UsedSlots) = in_use (compared by_default (used s.tree))
+reply_says by_default s question.IsEmpty = held (is_none_left (walk s.tree))
+reply_says by_default s question.Stats = measured (length (walk s.tree)) (compared by_default (used s.tree))
+reply_says by_default s _ = unsaid
 
 -- what is said of the state at an index, if there is one
 abbrev pub at_state : {X : Type 0} → Option State → X → (State → X) → X
@@ -117,13 +168,13 @@ at_state None without with_one = without
 at_state (Some s) without with_one = with_one s
 
 -- what a call says, and the states after it
-abbrev pub call_says : List State → Call → Said
-call_says states (call.New settings) = done
-call_says states (call.Sorted settings pairs) = unless_fault (sorted_fault pairs.now) done
-call_says states (call.Load bytes limit) = unsaid
-call_says states (call.Clone index) = at_state (slice_get states index) missing (λ _. done)
-call_says states (call.Change index change) = at_state (slice_get states index) missing (λ s. change_says s change)
-call_says states (call.Ask index question) = at_state (slice_get states index) missing (λ s. reply_says s question)
+abbrev pub call_says : Bool → List State → Call → Said
+call_says by_default states (call.New settings) = done
+call_says by_default states (call.Sorted settings pairs) = unless_fault (sorted_fault pairs.now) done
+call_says by_default states (call.Load bytes limit) = unsaid
+call_says by_default states (call.Clone index) = at_state (slice_get states index) missing (λ _. done)
+call_says by_default states (call.Change index change) = at_state (slice_get states index) missing (λ s. change_says s change)
+call_says by_default states (call.Ask index question) = at_state (slice_get states index) missing (λ s. reply_says by_default s question)
 
 abbrev pub states_after : List State → Call → List State
 states_after states (call.New settings) = states ++ record { tree = empty_tree; ordered = settings.ordered } ∷ []
@@ -135,15 +186,15 @@ states_after states (call.Change index change) = at_state (slice_get states inde
 states_after states (call.Ask index question) = states
 
 -- what some calls say one after another, and the states that they leave
-abbrev pub run_says : List State → List Call → List Said
-run_says states [] = []
-run_says states (c ∷ calls) = call_says states c ∷ run_says (states_after states c) calls
+abbrev pub run_says : Bool → List State → List Call → List Said
+run_says by_default states [] = []
+run_says by_default states (c ∷ calls) = call_says by_default states c ∷ run_says by_default (states_after states c) calls
 
 abbrev pub states_left : List State → List Call → List State
 states_left states [] = states
 states_left states (c ∷ calls) = states_left (states_after states c) calls
 
--- no load is among the calls, and none of them was refused for memory or slots
+-- the call is no load
 abbrev pub IsLoadless : Call → Type 0
 IsLoadless (call.Load bytes limit) = ⊥
 IsLoadless _ = Unit {0}
@@ -152,8 +203,10 @@ abbrev pub states_of : List Dictionary → List State
 states_of ds = map (λ d. d.state) ds
 
 -- Trees alone decide: whatever the layout, the limit of slots, the settings but the order, the marks and the tables, a run of calls without a
--- load, of which none was refused for memory or slots, says what its trees say, and leaves what they leave
+-- load, of which none was refused for memory or slots, says what its trees say, and leaves what they leave. How many slots are in use is
+-- compared where this is asked for, which the default layout allows
 abbrev pub TreesDecide : {A : Type 0} → List Call → List (Answer A) → Type 0
-TreesDecide calls answers = (layout : LayoutKind) (slots : ℕ) (before after : List Dictionary) → IsRun layout slots before calls answers after
-    → AllByRecursion IsLoadless calls → AllByRecursion (λ a. IsMet (said a)) answers
-    → (map said answers ≡ run_says (states_of before) calls) × (states_of after ≡ states_left (states_of before) calls)
+TreesDecide calls answers =
+    (by_default : Bool) (layout : LayoutKind) (slots : ℕ) (before after : List Dictionary) → IsRun layout slots before calls answers after
+    → (by_default ≡ true → layout ≡ default_layout) → AllByRecursion IsLoadless calls → AllByRecursion IsMet (all_said by_default calls answers)
+    → (all_said by_default calls answers ≡ run_says by_default (states_of before) calls) × (states_of after ≡ states_left (states_of before) calls)

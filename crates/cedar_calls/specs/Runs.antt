@@ -1,7 +1,7 @@
 -- Calls one after another on any number of dictionaries: what each answers, and the dictionaries after it.
 use Rattle.std.specs.Prelude.{◌≡◌, ℕ, List, [], ◌∷◌, slice_get, slice_set, Some, None}
 use Rattle.cedar_table.specs.Table.Layouts.{LayoutKind}
-use Rattle.cedarwood.specs.Dictionary.{Dictionary}
+use Rattle.cedarwood.specs.Dictionary.{Dictionary, IsValid}
 use Rattle.cedar_calls.specs.Making.{IsCopy, IsLoad, IsNew, IsSortedBuild, Makes}
 use Rattle.cedar_calls.specs.Changes.{IsChange}
 use Rattle.cedar_calls.specs.Replies.{IsReply}
@@ -32,7 +32,7 @@ IsStep layout slots before (call.Load bytes limit) (answer.Loaded result) after 
 IsStep layout slots before (call.Load bytes limit) answer.Unread after = after ≡ before
 IsStep layout slots before (call.Clone index) (answer.Made result) after = (d : Dictionary) × (slice_get before index ≡ Some d) × Makes (IsCopy d) before result after
 IsStep layout slots before (call.Clone index) answer.Missing after = MissesAt before index after
-IsStep layout slots before (call.Change index change) (answer.Changed result) after = ChangesAt before index (λ d changed. IsChange layout slots d change result changed) after
+IsStep layout slots before (call.Change index change) (answer.Changed result) after = ChangesAt before index (λ d changed. IsValid slots d × IsChange layout slots d change result changed) after
 IsStep layout slots before (call.Change index change) answer.Missing after = MissesAt before index after
 IsStep layout slots before (call.Ask index question) (answer.Replied reply) after = AsksAt before index (λ d. IsReply layout slots d question reply) after
 IsStep layout slots before (call.Ask index question) answer.Missing after = MissesAt before index after

@@ -1,10 +1,18 @@
 //! Changes of a dictionary.
 
+ghost use Rattle.cedarwood.specs.Dictionary.{IsValid};
 ghost use Rattle.cedar_calls.specs.Changes.{IsChange};
 
 use crate::{Change, Changed};
 use cedarwood::{Layout, Trie};
 use std::alloc::Allocator;
+
+/// Says that a dictionary is valid. Its tree is sound, on which it rests what a removal does to other keys.
+pub(crate) fn is_valid<L: Layout, const SLOTS: usize, A: Allocator + Copy>(trie: &Trie<L, SLOTS, A>)
+    ensures { IsValid SLOTS trie.now }
+{
+    let _ = trie.len();
+}
 
 /// Makes a change. An empty dictionary takes its memory from `alloc`.
 pub(crate) fn make_change<L: Layout, const SLOTS: usize, A: Allocator + Copy>(

@@ -1,20 +1,41 @@
 //! What follows from a run's steps alone.
 
-ghost use Rattle.cedar_calls.specs.Keys.{KeysStandAlone};
+ghost use Rattle.cedar_calls.specs.Agreement.{RunsAgree};
+ghost use Rattle.cedar_calls.specs.Keys.{KeysStandAlone, KeysStandAloneInRuns};
 ghost use Rattle.cedar_calls.specs.Plain.{TreesDecide};
 
 use crate::{Answer, Call};
 use std::alloc::Allocator;
 
 /// Trees alone decide what a run says: whatever the layout, the limit of slots, `max_trial`, the marks and the tables, calls without a load, none of
-/// which is refused for memory or slots, answer what one function of the trees gives, and leave the trees that another one gives. So two runs of the
-/// same calls from the same trees say the same.
+/// which is refused for memory or slots, answer what one function of the trees gives, and leave the trees that another one gives. Texts are among
+/// these answers, and in the default layout how many slots are in use. Answers that tell of places (how many slots there are, how many bytes and
+/// blocks, a file's bytes) may be asked for, and are not compared.
 pub fn trees_decide<A: Allocator>(calls: &[Call<'_>], answers: &[Answer<A>])
     ensures { TreesDecide calls.now answers.now }
+{}
+
+/// Two runs of the same calls agree, loads among them: from the same trees they answer the same and leave the same trees, as long as nothing is
+/// refused for memory or slots. Calls are the same if they differ in `max_trial` alone, and what is compared is as of `trees_decide`. With a load, both
+/// runs have one layout and one limit of slots: then its refusals, and the tree that it makes, follow from its bytes and its limit alone.
+pub fn runs_agree<A: Allocator, B: Allocator>(
+    calls: &[Call<'_>],
+    answers: &[Answer<A>],
+    others: &[Call<'_>],
+    replies: &[Answer<B>],
+)
+    ensures { RunsAgree calls.now answers.now others.now replies.now }
 {}
 
 /// Keys stand alone: what a key holds after some changes of a dictionary follows from what it held before, change by change, and of a change that isn't
 /// of this key nothing is read. So the last stored value or removal of it decides.
 pub fn keys_stand_alone()
     ensures { KeysStandAlone }
+{}
+
+/// Keys stand alone in any run: what the dictionaries hold at a key follows call by call from what they held at it before, and nothing is read of any
+/// other key. A further dictionary begins with no number at the key, with that of its pairs, of its file's table or of the dictionary that it
+/// copies; from then on the last accepted change of this key in this dictionary decides.
+pub fn keys_stand_alone_in_runs<A: Allocator>(calls: &[Call<'_>], answers: &[Answer<A>])
+    ensures { KeysStandAloneInRuns calls.now answers.now }
 {}

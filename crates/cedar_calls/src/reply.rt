@@ -1,6 +1,6 @@
 //! Replies of a dictionary.
 
-ghost use Rattle.std.specs.Prelude.{◌≡◌, map, option_map, string_bytes};
+ghost use Rattle.std.specs.Prelude.{◌≡◌, cond, map, option_map, string_bytes};
 ghost use Rattle.cedar_tree.specs.Queries.{walk};
 ghost use Rattle.cedar_format.specs.Tables.{IsTableFile};
 ghost use Rattle.cedar_calls.specs.Replies.{AreTexts, Collects, IsFigure, IsReply};
@@ -29,8 +29,8 @@ pub(crate) fn reply<L: Layout, const SLOTS: usize, A: Allocator + Copy>(
         Question::Figure { figure } => Reply::Figure(figure_of(trie, *figure)),
         Question::IsEmpty => Reply::IsEmpty(trie.is_empty()),
         Question::Stats => Reply::Stats(trie.memory_stats()),
-        Question::Save => Reply::Saved(saved(trie, alloc)),
-        Question::SaveV1_0 => Reply::Saved(saved_v1_0(trie, alloc)),
+        Question::Save => Reply::Saved(saved(trie, alloc, false)),
+        Question::SaveV1_0 => Reply::Saved(saved(trie, alloc, true)),
     }
 }
 
@@ -82,29 +82,21 @@ fn text_entries<L: Layout, const SLOTS: usize, A: Allocator + Copy>(
     Ok(found)
 }
 
-/// The bytes of a dictionary's file. A write to them fails for want of memory alone.
+/// The bytes of a dictionary's file, in format 1.0 or 1.1. A write to them fails for want of memory alone.
 fn saved<L: Layout, const SLOTS: usize, A: Allocator + Copy>(
     trie: &Trie<L, SLOTS, A>,
     alloc: A,
+    in_1_0: bool,
 ) -> Result<Vec<u8, A>, CedarError>
-    ensures { Collects result (λ bytes. IsTableFile 1 SLOTS trie.now.table bytes.items) }
+    ensures { Collects result (λ bytes. IsTableFile (cond in_1_0 0 1) SLOTS trie.now.table bytes.items) }
 {
     let mut writer = Watched::new(Vec::new(alloc));
-    match trie.save_to_writer(&mut writer) {
-        Ok(()) => Ok(writer.into_inner()),
-        Err(_) => Err(CedarError::Memory),
-    }
-}
-
-/// The same in format 1.0.
-fn saved_v1_0<L: Layout, const SLOTS: usize, A: Allocator + Copy>(
-    trie: &Trie<L, SLOTS, A>,
-    alloc: A,
-) -> Result<Vec<u8, A>, CedarError>
-    ensures { Collects result (λ bytes. IsTableFile 0 SLOTS trie.now.table bytes.items) }
-{
-    let mut writer = Watched::new(Vec::new(alloc));
-    match trie.save_v1_0_to_writer(&mut writer) {
+    let written = if in_1_0 {
+        trie.save_v1_0_to_writer(&mut writer)
+    } else {
+        trie.save_to_writer(&mut writer)
+    };
+    match written {
         Ok(()) => Ok(writer.into_inner()),
         Err(_) => Err(CedarError::Memory),
     }

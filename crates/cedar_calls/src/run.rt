@@ -5,7 +5,7 @@ ghost use Rattle.std.specs.Vec.{vec_capacity};
 ghost use Rattle.cedar_slots.specs.Places.{IsSlotLimit};
 ghost use Rattle.cedar_calls.specs.Runs.{IsRun, IsStep};
 
-use crate::change::make_change;
+use crate::change::{is_valid, make_change};
 use crate::make::{copy, join, load};
 use crate::reply::reply;
 use crate::{Answer, Call};
@@ -61,7 +61,10 @@ fn make_call<L: Layout, const SLOTS: usize, A: Allocator + Copy>(
             None => Answer::Missing,
         },
         Call::Change { index, change } => match tries.get_mut(*index) {
-            Some(trie) => Answer::Changed(make_change(trie, alloc, change)),
+            Some(trie) => {
+                is_valid(trie);
+                Answer::Changed(make_change(trie, alloc, change))
+            }
             None => Answer::Missing,
         },
         Call::Ask { index, question } => match tries.get(*index) {

@@ -1,40 +1,30 @@
--- Records on their way through a buffer.
-use Rattle.std.proofs.Common.{◌≡◌, ℕ, ◌+◌, ◌<◌, List, [], ◌∷◌, ◌++◌, length, take, get_or, Option, arith, refl, sym, ap, ◌∙◌, append_assoc, append-nil, subst}
-use Rattle.std.proofs.lemmas.Grind.{common_steps}
-use Rattle.std.proofs.lemmas.List.Elements.{All-push}
+-- Records that are written piece by piece.
+use Rattle.std.proofs.Common.{◌≡◌, ℕ, ◌+◌, ◌-◌, List, ◌++◌, take, drop, slice_range, Option, arith, sym, ap, ◌∙◌, subst}
+use Rattle.std.proofs.lemmas.Grind.{flat_map-append}
+use Rattle.std.proofs.lemmas.List.Elements.{All-append}
+use Rattle.std.proofs.Math.Seq.{take-add}
 use Rattle.std.specs.Prelude.{All}
 use Rattle.std.specs.List.{flat_map}
 use Rattle.std.specs.Io.KnownBytes.{Appends}
-use Rattle.std.proofs.KnownBytes.{Appends-nil, Appends-trans}
-use Rattle.cedar_format.specs.Reading.{Holds}
+use Rattle.std.proofs.KnownBytes.{Appends-trans}
 
--- nothing was written
-pub waits : (a : Option (List ℕ)) (waiting : List ℕ) → Holds a a waiting waiting
-waits a waiting = ([], Appends-nil a, refl)
+-- a front, and the piece behind it
+take_piece : {X : Type 0} (xs : List X) (done count : ℕ) → take (done + count) xs ≡ take done xs ++ slice_range xs done (done + count)
+take_piece xs done count =
+    let same : count ≡ (done + count) - done = omega arith in
+    take-add done count xs ∙ ap (λ n. take done xs ++ take n (drop done xs)) same
 
--- the buffer made room
-pub goes_on : (a b c : Option (List ℕ)) (waiting left bytes : List ℕ) → Holds a b waiting bytes → Holds b c left waiting → Holds a c left bytes
-goes_on a b c waiting left bytes (front, before, e) (piece, now, d) =
-    (front ++ piece, Appends-trans a b c front piece before now, append_assoc front piece left ∙ ap (λ l. front ++ l) d ∙ e)
+-- a piece more was written
+pub written_more : {X : Type 0} (f : X → List ℕ) (xs : List X) (done count : ℕ) (a b c : Option (List ℕ)) → Appends a b (flat_map f (take done xs)) → Appends b c (flat_map f (slice_range xs done (done + count)))
+    → Appends a c (flat_map f (take (done + count) xs))
+written_more f xs done count a b c before now =
+    let whole = ap (flat_map f) (take_piece xs done count) ∙ flat_map-append f (take done xs) (slice_range xs done (done + count)) in
+    subst (Appends a c) (sym whole) (Appends-trans a b c _ _ before now)
 
--- the buffer was written
-pub sent : (a b : Option (List ℕ)) (waiting all : List ℕ) → Appends a b all → all ≡ waiting → Holds a b [] waiting
-sent a b waiting all now e = (all, now, append-nil all ∙ e)
+pub fits_more : {X : Type 0} (Fits : X → Type 0) (xs : List X) (done count : ℕ) → All Fits (take done xs) → All Fits (slice_range xs done (done + count)) → All Fits (take (done + count) xs)
+fits_more Fits xs done count before here =
+    subst (All Fits) (sym (take_piece xs done count)) (All-append Fits (take done xs) (slice_range xs done (done + count)) before here)
 
--- a piece was put behind
-pub put_behind : (a b : Option (List ℕ)) (waiting piece more bytes all : List ℕ) → Holds a b waiting bytes → more ≡ waiting ++ piece → all ≡ bytes ++ piece → Holds a b more all
-put_behind a b waiting piece more bytes all (front, before, e) grown whole =
-    (front, before, ap (λ l. front ++ l) grown ∙ sym (append_assoc front waiting piece) ∙ ap (λ l. l ++ piece) e ∙ sym whole)
-
--- all was written
-pub sent_all : (a b c : Option (List ℕ)) (waiting bytes : List ℕ) → Holds a b waiting bytes → Appends b c waiting → Appends a c bytes
-sent_all a b c waiting bytes (front, before, e) now = subst (Appends a c) e (Appends-trans a b c front waiting before now)
-
--- one record more
-pub flat_map_take : {X : Type 0} (f : X → List ℕ) (xs : List X) (i : ℕ) (x : X) → i < length xs → x ≡ get_or xs i x → flat_map f (take (i + 1) xs) ≡ flat_map f (take i xs) ++ f x
-flat_map_take f xs i x below is = grind (arith, common_steps)
-
-pub fits_take : {X : Type 0} (Fits : X → Type 0) (xs : List X) (i : ℕ) (x : X) → i < length xs → x ≡ get_or xs i x → All Fits (take i xs) → Fits x → All Fits (take (i + 1) xs)
-fits_take Fits xs i x below is before here =
-    let more : take (i + 1) xs ≡ take i xs ++ x ∷ [] = grind (arith, common_steps) in
-    subst (All Fits) (sym more) (All-push Fits (take i xs) x before here)
+-- where a front ends, in another spelling
+pub ends_at : (m n : ℕ) (bytes front : List ℕ) → take n bytes ≡ front → n ≡ m → take m bytes ≡ front
+ends_at m n bytes front is same = subst (λ k. take k bytes ≡ front) same is

@@ -1,8 +1,7 @@
 -- What reads and writes tell of the bytes that a reader has left and a writer holds, where those are known.
-use Rattle.std.specs.Prelude.{ℕ, ◌≡◌, ◌<◌, ◌/◌, ◌⊎◌, Bool, true, false, List, ◌++◌, length, take, Option, Some, None, ⊤}
+use Rattle.std.specs.Prelude.{ℕ, ◌≡◌, ◌<◌, ◌/◌, ◌⊎◌, Bool, true, false, List, length, take, Option, Some, None, ⊤}
 use Rattle.cedar_format.specs.declared.error.CedarPersistenceError.{CedarPersistenceError}
 use Rattle.cedar_format.specs.declared.error.CedarPersistenceError.TheVariants.{Io, Truncated, AllocationFailed, TrailingData}
-use Rattle.std.specs.Io.KnownBytes.{Appends}
 use Rattle.cedar_format.specs.declared.header.Header.{Header}
 
 -- fewer than n bytes are left
@@ -47,7 +46,3 @@ LacksNoMore passed _ = ⊤
 abbrev pub Begins : Option (List ℕ) → List ℕ → Type 0
 Begins None front = ⊤
 Begins (Some bytes) front = take (length front) bytes ≡ front
-
--- what was written, and then what waits in a buffer, are these bytes
-abbrev pub Holds : Option (List ℕ) → Option (List ℕ) → List ℕ → List ℕ → Type 0
-Holds old new waiting bytes = (front : List ℕ) × Appends old new front × (front ++ waiting ≡ bytes)

@@ -1,53 +1,33 @@
-//! Numbers at the front of some bytes, and behind those in a buffer.
+//! Numbers at the front of some bytes, at a place among them, and behind those in a buffer.
 
-ghost use Rattle.std.specs.Prelude.{◌≡◌, ◌<◌, ◌≤◌, ◌+◌, length, [], ◌∷◌, ◌++◌};
+ghost use Rattle.std.specs.Prelude.{◌≡◌, ◌<◌, ◌≤◌, ◌+◌, length, take, ◌∷◌, ◌++◌};
 ghost use Rattle.arrayvec.specs.ArrayVec.{array_vec_len};
 ghost use Rattle.cedar_format.specs.Numbers.{u16_bytes, u64_bytes, i16_bytes, i32_bytes, IsI16, IsI32};
 
+use crate::header::HEADER_LEN;
 use arrayvec::ArrayVec;
 
-/// How many bytes are read or written at once.
+/// How many bytes of a list are read or written at once, at most.
 pub(crate) const BUFFER_LEN: usize = 16384;
 
-/// Bytes on their way to a writer.
-pub(crate) type Buffer = ArrayVec<u8, BUFFER_LEN>;
+/// The bytes of a header on their way to a writer.
+pub(crate) type Buffer = ArrayVec<u8, HEADER_LEN>;
 
 /// Puts bytes behind those in a buffer.
 pub(crate) fn put_bytes(buffer: &mut Buffer, bytes: &[u8])
-    requires { array_vec_len buffer.old + length bytes.now ≤ 16384 }
+    requires { array_vec_len buffer.old + length bytes.now ≤ 88 }
     ensures bytes { buffer.new.items ≡ buffer.old.items ++ bytes.now }
     ensures len { array_vec_len buffer.new ≡ array_vec_len buffer.old + length bytes.now }
 {
     buffer.try_extend_from_slice(bytes).unwrap();
 }
 
-/// Puts two bytes behind those in a buffer.
-pub(crate) fn put_u8_pair(buffer: &mut Buffer, first: u8, second: u8)
-    requires { array_vec_len buffer.old + 2 ≤ 16384 }
-    ensures bytes { buffer.new.items ≡ buffer.old.items ++ (first ∷ second ∷ []) }
-    ensures len { array_vec_len buffer.new ≡ array_vec_len buffer.old + 2 }
-    ensures fits { (first < 256) × (second < 256) }
-{
-    put_bytes(buffer, &[first, second]);
-}
-
 /// Puts a number of 2 bytes behind those in a buffer.
 #[tactic(auto, unfolding(crate::specs::Numbers::u16_bytes))]
 pub(crate) fn put_u16(buffer: &mut Buffer, value: u16)
-    requires { array_vec_len buffer.old + 2 ≤ 16384 }
+    requires { array_vec_len buffer.old + 2 ≤ 88 }
     ensures bytes { buffer.new.items ≡ buffer.old.items ++ u16_bytes value }
     ensures len { array_vec_len buffer.new ≡ array_vec_len buffer.old + 2 }
-{
-    put_bytes(buffer, &value.to_le_bytes());
-}
-
-/// Puts a signed number of 2 bytes behind those in a buffer.
-#[tactic(auto, unfolding(crate::specs::Numbers::i16_bytes))]
-pub(crate) fn put_i16(buffer: &mut Buffer, value: i16)
-    requires { array_vec_len buffer.old + 2 ≤ 16384 }
-    ensures bytes { buffer.new.items ≡ buffer.old.items ++ i16_bytes value }
-    ensures len { array_vec_len buffer.new ≡ array_vec_len buffer.old + 2 }
-    ensures fits { IsI16 value }
 {
     put_bytes(buffer, &value.to_le_bytes());
 }
@@ -55,7 +35,7 @@ pub(crate) fn put_i16(buffer: &mut Buffer, value: i16)
 /// Puts a signed number of 4 bytes behind those in a buffer.
 #[tactic(auto, unfolding(crate::specs::Numbers::i32_bytes))]
 pub(crate) fn put_i32(buffer: &mut Buffer, value: i32)
-    requires { array_vec_len buffer.old + 4 ≤ 16384 }
+    requires { array_vec_len buffer.old + 4 ≤ 88 }
     ensures bytes { buffer.new.items ≡ buffer.old.items ++ i32_bytes value }
     ensures len { array_vec_len buffer.new ≡ array_vec_len buffer.old + 4 }
     ensures fits { IsI32 value }
@@ -66,24 +46,35 @@ pub(crate) fn put_i32(buffer: &mut Buffer, value: i32)
 /// Puts a number of 8 bytes behind those in a buffer.
 #[tactic(auto, unfolding(crate::specs::Numbers::u64_bytes))]
 pub(crate) fn put_usize(buffer: &mut Buffer, value: usize)
-    requires { array_vec_len buffer.old + 8 ≤ 16384 }
+    requires { array_vec_len buffer.old + 8 ≤ 88 }
     ensures bytes { buffer.new.items ≡ buffer.old.items ++ u64_bytes value }
     ensures len { array_vec_len buffer.new ≡ array_vec_len buffer.old + 8 }
 {
     put_bytes(buffer, &(value as u64).to_le_bytes());
 }
 
-/// Puts two signed numbers of 4 bytes behind those in a buffer, at once.
-#[tactic(auto, unfolding(crate::specs::Numbers::i32_bytes))]
-pub(crate) fn put_i32_pair(buffer: &mut Buffer, first: i32, second: i32)
-    requires { array_vec_len buffer.old + 8 ≤ 16384 }
-    ensures bytes { buffer.new.items ≡ buffer.old.items ++ (i32_bytes first ++ i32_bytes second) }
-    ensures len { array_vec_len buffer.new ≡ array_vec_len buffer.old + 8 }
-    ensures fits { IsI32 first × IsI32 second }
+/// Writes a signed number as 2 bytes at a place.
+#[tactic(auto, unfolding(crate::specs::Numbers::i16_bytes))]
+#[inline(always)]
+pub(crate) fn write_i16_at(bytes: &mut [u8], at: usize, value: i16)
+    requires { at + 2 ≤ length bytes.old }
+    ensures front { take (at + 2) bytes.new ≡ take at bytes.old ++ i16_bytes value }
+    ensures len { length bytes.new ≡ length bytes.old }
+    ensures fits { IsI16 value }
 {
-    let [a, b, c, d] = first.to_le_bytes();
-    let [e, f, g, h] = second.to_le_bytes();
-    put_bytes(buffer, &[a, b, c, d, e, f, g, h]);
+    bytes[at..at + 2].copy_from_slice(&value.to_le_bytes());
+}
+
+/// Writes a signed number as 4 bytes at a place.
+#[tactic(auto, unfolding(crate::specs::Numbers::i32_bytes))]
+#[inline(always)]
+pub(crate) fn write_i32_at(bytes: &mut [u8], at: usize, value: i32)
+    requires { at + 4 ≤ length bytes.old }
+    ensures front { take (at + 4) bytes.new ≡ take at bytes.old ++ i32_bytes value }
+    ensures len { length bytes.new ≡ length bytes.old }
+    ensures fits { IsI32 value }
+{
+    bytes[at..at + 4].copy_from_slice(&value.to_le_bytes());
 }
 
 pub(crate) fn u16_of(bytes: [u8; 2]) -> u16

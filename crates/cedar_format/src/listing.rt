@@ -3,12 +3,11 @@
 ghost use Rattle.std.specs.Prelude.{◌≡◌, ◌+◌, ◌*◌, ◌≤◌, true, All, List, ℕ, [], ◌++◌, length, IfErr, OnOk, vec_len, vec_capacity};
 ghost use Rattle.std.specs.List.{flat_map};
 ghost use Rattle.std.specs.Io.KnownBytes.{Appends, Consumes};
-ghost use Rattle.arrayvec.specs.ArrayVec.{array_vec_len};
 ghost use Rattle.cedar_format.specs.Format.{filled};
-ghost use Rattle.cedar_format.specs.Reading.{Holds, IsIo, Misses};
+ghost use Rattle.cedar_format.specs.Reading.{IsIo, Misses};
 ghost use Rattle.cedar_format.specs.WatchedDevice.{device_of, has_failed};
 
-use crate::buffer::{BUFFER_LEN, Buffer};
+use crate::buffer::BUFFER_LEN;
 use crate::error::CedarPersistenceError;
 use crate::numbers::{read_bytes, write_bytes};
 use crate::record::Record;
@@ -90,9 +89,10 @@ pub(crate) fn fill_up<T: Record, A: Allocator>(records: &mut Vec<T, A>, len: usi
     }
 }
 
-/// Writes a list of records.
+/// Writes a list of records, as many at once as fit in the buffer, whatever that held.
 pub(crate) fn write_records<W: Write, T: Record>(
     writer: &mut Watched<W>,
+    buffer: &mut [u8; BUFFER_LEN],
     records: &[T],
 ) -> Result<(), CedarPersistenceError>
     ensures bytes { OnOk result (Appends (W.contents (device_of writer.old)) (W.contents (device_of writer.new)) (flat_map T.bytes_of records.now)) }
@@ -100,30 +100,42 @@ pub(crate) fn write_records<W: Write, T: Record>(
     ensures err { IfErr result (λ e. IsIo e × (has_failed writer.new ≡ true)) }
     ensures failed { has_failed writer.old ≡ true → has_failed writer.new ≡ true }
 {
-    let mut buffer = Buffer::new();
-    for item in records {
-        make_room(writer, &mut buffer, T::LEN)?;
-        item.put_in(&mut buffer);
+    let most = BUFFER_LEN / T::LEN;
+    let mut done = 0;
+    while done < records.len() {
+        let count = (records.len() - done).min(most);
+        write_piece(writer, buffer, &records[done..done + count])?;
+        done += count;
     }
-    write_bytes(writer, buffer.as_slice())
+    Ok(())
 }
 
-/// Makes room for so many bytes in the buffer: where there is too little, its bytes are written.
-fn make_room<W: Write>(
+/// Writes records that fit in the buffer together.
+fn write_piece<W: Write, T: Record>(
     writer: &mut Watched<W>,
-    buffer: &mut Buffer,
-    len: usize,
+    buffer: &mut [u8; BUFFER_LEN],
+    records: &[T],
 ) -> Result<(), CedarPersistenceError>
-    requires { len ≤ 16384 }
-    ensures room { OnOk result (array_vec_len buffer.new + len ≤ 16384) }
-    ensures bytes { OnOk result (Holds (W.contents (device_of writer.old)) (W.contents (device_of writer.new)) buffer.new.items buffer.old.items) }
+    requires piece { length records.now * T.LEN ≤ 16384 }
+    ensures bytes { OnOk result (Appends (W.contents (device_of writer.old)) (W.contents (device_of writer.new)) (flat_map T.bytes_of records.now)) }
+    ensures fits { OnOk result (All T.Fits records.now) }
     ensures err { IfErr result (λ e. IsIo e × (has_failed writer.new ≡ true)) }
     ensures failed { has_failed writer.old ≡ true → has_failed writer.new ≡ true }
 {
-    if BUFFER_LEN - buffer.len() >= len {
-        return Ok(());
+    let bytes = &mut buffer[..records.len() * T::LEN];
+    put_records(records, bytes);
+    write_bytes(writer, bytes)
+}
+
+/// Makes some bytes those of records. No room is tested for a single record.
+fn put_records<T: Record>(records: &[T], bytes: &mut [u8])
+    requires len { length bytes.old ≡ length records.now * T.LEN }
+    ensures bytes { bytes.new ≡ flat_map T.bytes_of records.now }
+    ensures fits { All T.Fits records.now }
+{
+    let mut at = 0;
+    for record in records {
+        record.write_at(bytes, at);
+        at += T::LEN;
     }
-    write_bytes(writer, buffer.as_slice())?;
-    buffer.clear();
-    Ok(())
 }

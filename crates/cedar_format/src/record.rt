@@ -1,14 +1,11 @@
 //! What a file holds lists of: the records of a table, and single numbers.
 
-ghost use Rattle.std.specs.Prelude.{◌≡◌, ℕ, ◌+◌, ◌<◌, ◌≤◌, List, ◌++◌, length};
+ghost use Rattle.std.specs.Prelude.{◌≡◌, ℕ, ◌+◌, ◌<◌, ◌≤◌, List, ◌++◌, length, take};
 ghost use Rattle.std.proofs.Common.{rules, length-append};
-ghost use Rattle.arrayvec.specs.ArrayVec.{array_vec_len};
 ghost use Rattle.cedar_format.specs.Numbers.{i16_bytes, length-i16_bytes, length-i32_bytes, IsI16};
 ghost use Rattle.cedar_format.specs.Records.{node_bytes, info_bytes, block_bytes, FitsNode, FitsInfo, FitsBlock};
 
-use crate::buffer::{
-    Buffer, put_i16, put_i32, put_i32_pair, put_u8_pair, take_i16, take_i32, take_u8,
-};
+use crate::buffer::{take_i16, take_i32, take_u8, write_i16_at, write_i32_at};
 use cedar_table::{BlockRecord, NInfoRecord, NodeRecord};
 
 /// What a file holds a list of.
@@ -31,10 +28,11 @@ pub(crate) trait Record: Copy + Drop {
         ensures len { length bytes.old.now ≡ LEN + length bytes.new.now }
         ensures fits { Fits result };
 
-    /// Puts its bytes behind those in a buffer.
-    fn put_in(&self, buffer: &mut Buffer)
-        requires { array_vec_len buffer.old + LEN ≤ 16384 }
-        ensures bytes { buffer.new.items ≡ buffer.old.items ++ bytes_of self.now }
+    /// Writes its bytes at a place. Those before it stay.
+    fn write_at(&self, bytes: &mut [u8], at: usize)
+        requires { at + LEN ≤ length bytes.old }
+        ensures front { take (at + LEN) bytes.new ≡ take at bytes.old ++ bytes_of self.now }
+        ensures len { length bytes.new ≡ length bytes.old }
         ensures fits { Fits self.now };
 
     ghost same_len: { (item : Self) → length (bytes_of item) ≡ LEN };
@@ -59,8 +57,10 @@ impl Record for NodeRecord {
         NodeRecord { base, check }
     }
 
-    fn put_in(&self, buffer: &mut Buffer) {
-        put_i32_pair(buffer, self.base, self.check);
+    #[inline(always)]
+    fn write_at(&self, bytes: &mut [u8], at: usize) {
+        write_i32_at(bytes, at, self.base);
+        write_i32_at(bytes, at + 4, self.check);
     }
 
     ghost same_len = { λ node. Prim.search (rules, length-append, length-i32_bytes) };
@@ -85,8 +85,10 @@ impl Record for NInfoRecord {
         NInfoRecord { sibling, child }
     }
 
-    fn put_in(&self, buffer: &mut Buffer) {
-        put_u8_pair(buffer, self.sibling, self.child);
+    #[inline(always)]
+    fn write_at(&self, bytes: &mut [u8], at: usize) {
+        bytes[at] = self.sibling;
+        bytes[at + 1] = self.child;
     }
 
     ghost same_len = { λ info. Prim.search rules };
@@ -122,13 +124,14 @@ impl Record for BlockRecord {
         }
     }
 
-    fn put_in(&self, buffer: &mut Buffer) {
-        put_i32(buffer, self.prev);
-        put_i32(buffer, self.next);
-        put_i16(buffer, self.num);
-        put_i16(buffer, self.reject);
-        put_i32(buffer, self.trial);
-        put_i32(buffer, self.e_head);
+    #[inline(always)]
+    fn write_at(&self, bytes: &mut [u8], at: usize) {
+        write_i32_at(bytes, at, self.prev);
+        write_i32_at(bytes, at + 4, self.next);
+        write_i16_at(bytes, at + 8, self.num);
+        write_i16_at(bytes, at + 10, self.reject);
+        write_i32_at(bytes, at + 12, self.trial);
+        write_i32_at(bytes, at + 16, self.e_head);
     }
 
     ghost same_len = { λ block. Prim.search (rules, length-append, length-i16_bytes, length-i32_bytes) };
@@ -151,8 +154,9 @@ impl Record for i16 {
         take_i16(bytes)
     }
 
-    fn put_in(&self, buffer: &mut Buffer) {
-        put_i16(buffer, *self);
+    #[inline(always)]
+    fn write_at(&self, bytes: &mut [u8], at: usize) {
+        write_i16_at(bytes, at, *self);
     }
 
     ghost same_len = { length-i16_bytes };

@@ -10,6 +10,7 @@ ghost use Rattle.cedar_format.specs.Tables.{file_fields, header_of, table_bytes,
 ghost use Rattle.cedar_format.specs.WatchedDevice.{device_of, has_failed};
 
 use crate::body::Decoded;
+use crate::buffer::BUFFER_LEN;
 use crate::error::CedarPersistenceError;
 use crate::header::{Header, listed, write_header};
 use crate::listing::write_records;
@@ -103,8 +104,9 @@ fn write_lists<W: Write>(
     ensures err { IfErr result (λ e. IsIo e × (has_failed writer.new ≡ true)) }
     ensures failed { has_failed writer.old ≡ true → has_failed writer.new ≡ true }
 {
-    write_records(writer, nodes)?;
-    write_records(writer, n_infos)?;
-    write_records(writer, blocks)?;
-    write_records(writer, reject)
+    let mut buffer = [0u8; BUFFER_LEN];
+    write_records(writer, &mut buffer, nodes)?;
+    write_records(writer, &mut buffer, n_infos)?;
+    write_records(writer, &mut buffer, blocks)?;
+    write_records(writer, &mut buffer, reject)
 }

@@ -15,7 +15,6 @@ pub mod Number
 pub mod NumberMovesIn
 pub mod NumberMovesOut
 pub mod NumberWritten
-pub mod OneAfterAnother
 pub mod OwnNumber
 pub mod Room
 pub mod SlotForLabel

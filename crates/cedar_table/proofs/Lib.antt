@@ -1,4 +1,3 @@
-pub mod BulkLemmas
 pub mod CellsLemmas
 pub mod EditLemmas
 pub mod MeaningLemmas

@@ -1,5 +1,4 @@
 -- What the slots of a table stand for.
-pub mod BareNode
 pub mod BareSlot
 pub mod Chain
 pub mod ChainWalk

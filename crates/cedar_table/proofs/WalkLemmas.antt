@@ -1,4 +1,6 @@
 -- Searches and walks.
+pub mod Batch
+pub mod Lanes
 pub mod NextFront
 pub mod NextNode
 pub mod SearchStep

@@ -1,4 +1,5 @@
 -- Changes of a node, and of a key.
+pub mod Asked
 pub mod KeyWalk
 pub mod NodeEdits
 pub mod Own

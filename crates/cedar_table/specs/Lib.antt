@@ -1,4 +1,3 @@
-pub mod Bulk
 pub mod Edit
 pub mod Meaning
 pub mod Relocation

@@ -1,4 +1,5 @@
 -- Sets of slots that move.
+pub mod Asked
 pub mod Renaming
 pub mod Reserved
 pub mod Wanted

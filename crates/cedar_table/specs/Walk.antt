@@ -1,3 +1,4 @@
 -- Where walks that are under way stand in a table.
+pub mod Batch
 pub mod Fronts
 pub mod Visits

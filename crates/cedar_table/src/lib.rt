@@ -1,8 +1,7 @@
 //! The table of slots of a double-array trie: the labelled tree that its held slots stand for; look-ups and walks, updates
-//! and erasures, and builds from sorted pairs.
+//! and erasures.
 #![tactic(auto)]
 
-mod bulk;
 mod clone;
 mod edit;
 mod laws;

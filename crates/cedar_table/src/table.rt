@@ -28,13 +28,14 @@ pub struct Table<L: Layout, const SLOTS: usize, A: Allocator> {
 }
 
 impl<L: Layout, const SLOTS: usize, A: Allocator> Table<L, SLOTS, A> {
-    ghost use Rattle.std.specs.Prelude.{ℕ, ◌≢◌, ◌<◌, ◌^◌, ◌⊎◌, ◌+◌, ◌-◌, ◌/◌, ◌↔◌, count_by, IfErr, IfOk, IsTrue, negsuc, OnErr};
+    ghost use Rattle.std.specs.Prelude.{ℕ, ◌<◌, ◌^◌, ◌⊎◌, ◌+◌, ◌-◌, ◌/◌, ◌↔◌, count_by, IfErr, IfOk, IsTrue, negsuc, OnErr};
     ghost use Rattle.std.specs.List.{range_with_len};
     ghost use Rattle.cedar_slots.specs.declared.error.CedarError.TheVariants.{Memory};
     ghost use Rattle.cedar_slots.specs.Blocks.{block_at};
     ghost use Rattle.cedar_table.specs.Table.Cells.{Gives, HasPlaces, Held, InfoWritten, is_held, IsPlace, NodeWritten, NoPlace, SameHeld, Takes};
     ghost use Rattle.cedar_table.specs.Table.Layouts.{reading};
     ghost use Rattle.cedar_slots.specs.Places.{AddsBlock, IsNew, MayRefuse, reject_at, SameSlots};
+    ghost use Rattle.cedar_table.specs.Edit.Asked.{MayClaim};
     ghost use Rattle.cedar_table.specs.Relocation.Reserved.{freed};
     ghost use Rattle.cedar_slots.specs.Slots.{check_at};
     ghost use Rattle.cedar_table.specs.Table.TableFields.{capacity_of, cells, fields, SameFrame, SameSettings, size_of};
@@ -99,11 +100,7 @@ impl<L: Layout, const SLOTS: usize, A: Allocator> Table<L, SLOTS, A> {
 
     /// Takes the held slot `slot`, which is no part of the tree, for `owner`, with `base` in its base field and no labels.
     pub(crate) fn claim(&mut self, slot: usize, base: i32, owner: usize)
-        requires sound { IsTable SLOTS (fields self.old).places }
-        requires slot_in { slot < size_of (fields self.old) }
-        requires slot_held { Held (cells self.old) slot }
-        requires not_root { slot ≢ 0 }
-        requires owner_in { owner < 2 ^ 31 }
+        requires { MayClaim SLOTS (fields self.old) slot owner }
         ensures sound { IsTable SLOTS (fields self.new).places }
         ensures takes { Takes (freed (cells self.old) slot) (cells self.new) slot owner }
         ensures base { (cells self.new).base slot ≡ base }
@@ -236,6 +233,13 @@ impl<L: Layout, const SLOTS: usize, A: Allocator> Table<L, SLOTS, A> {
         ensures { result ≡ (fields self.now).entries }
     {
         self.entries
+    }
+
+    /// Sets how many keys the table is said to have, as whoever puts keys into it by its slots has to. No slot changes.
+    pub fn set_entries(&mut self, entries: usize)
+        ensures { fields self.new ≡ record { layout = (fields self.old).layout; ordered = (fields self.old).ordered; entries = entries; places = (fields self.old).places } }
+    {
+        self.entries = entries;
     }
 
     /// Whether the labels of each node ascend.

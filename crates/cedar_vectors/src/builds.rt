@@ -1,4 +1,5 @@
 //! Builds, inserts, copies and figures, at values made by hand.
+use crate::expect::{expect_counts, expect_erased, expect_found};
 use cedarwood::{
     Cedar, CedarError, MemoryStats, PrefixIter, PrefixPredictIter, ReducedLayout, Trie,
 };
@@ -37,32 +38,47 @@ fn expect_stats(
 #[test]
 fn figures_and_text(rt: HostRuntime) -> Result<(), Fail> {
     let mut cedar = Cedar::new(rt.alloc())?;
-    let text = format!(in rt.alloc(); "{cedar:?}")?;
-    assert_eq!(rt;
-        text.as_str(),
-        "Cedar(entries=0, node_slots=256, ordered=true)"
-    );
+    let text = "Cedar(entries=0, node_slots=256, ordered=true)";
+    expect_text(&rt, rt.alloc(), &cedar, text)?;
     expect_stats(&cedar, 0, 1, 256, 3094, &rt);
-    assert_eq!(rt; cedar.insert("a", 7), Ok(None));
-    let text = format!(in rt.alloc(); "{cedar:?}")?;
-    assert_eq!(rt;
-        text.as_str(),
-        "Cedar(entries=1, node_slots=512, ordered=true)"
-    );
+    cedar.update("a", 7)?;
+    let text = "Cedar(entries=1, node_slots=512, ordered=true)";
+    expect_text(&rt, rt.alloc(), &cedar, text)?;
     expect_stats(&cedar, 1, 3, 512, 5674, &rt);
     Ok(())
+}
+
+fn expect_text(
+    rt: &impl Abort,
+    alloc: Global,
+    cedar: &Cedar<Global>,
+    wanted: &str,
+) -> Result<(), Fail> {
+    let text = format!(in alloc; "{cedar:?}")?;
+    assert_eq!(rt; text.as_str(), wanted);
+    Ok(())
+}
+
+fn expect_inserted(
+    rt: &impl Abort,
+    cedar: &mut Cedar<Global>,
+    key: &[u8],
+    value: i32,
+    answer: Result<Option<i32>, CedarError>,
+) {
+    assert_eq!(rt; cedar.insert_bytes(key, value), answer);
 }
 
 // An insert answers the value before.
 #[test]
 fn inserts(rt: HostRuntime) -> Result<(), Fail> {
     let mut cedar = Cedar::new(rt.alloc())?;
-    assert_eq!(rt; cedar.insert_bytes(b"ab", 1), Ok(None));
-    assert_eq!(rt; cedar.insert_bytes(b"ab", 2), Ok(Some(1)));
+    expect_inserted(&rt, &mut cedar, b"ab", 1, Ok(None));
+    expect_inserted(&rt, &mut cedar, b"ab", 2, Ok(Some(1)));
+    expect_inserted(&rt, &mut cedar, b"", 3, Err(CedarError::EmptyKey));
     assert_eq!(rt; cedar.insert("a", 3), Ok(None));
-    assert_eq!(rt; cedar.insert_bytes(b"", 3), Err(CedarError::EmptyKey));
-    assert_eq!(rt; cedar.exact_match_search("ab"), Some((2, 2)));
-    assert_eq!(rt; cedar.len(), 2);
+    expect_found(&rt, &cedar, b"ab", Some((2, 2)));
+    expect_counts(&rt, &cedar, 2, 5);
     Ok(())
 }
 
@@ -77,7 +93,7 @@ fn builds_in_order(rt: HostRuntime) -> Result<(), Fail> {
         cedar.common_prefix_predict_iter(""),
     );
     assert_eq!(rt; first, (Some((1, 2)), Some((4, 1))));
-    assert_eq!(rt; cedar.exact_match_search("a"), Some((4, 1)));
+    expect_found(&rt, &cedar, b"a", Some((4, 1)));
     let pairs: [(&[u8], i32); 1] = [(b"\xff", 5)];
     cedar.build_bytes(&pairs)?;
     assert_eq!(rt; cedar.len(), 4);
@@ -90,22 +106,20 @@ fn builds_none_of_a_faulty_list(rt: HostRuntime) -> Result<(), Fail> {
     let mut cedar = Cedar::new(rt.alloc())?;
     let pairs = [("valid", 1), ("", 2)];
     assert_eq!(rt; cedar.build(&pairs), Err(CedarError::EmptyKey));
-    assert_eq!(rt; cedar.exact_match_search("valid"), None);
-    assert_eq!(rt; cedar.len(), 0);
+    expect_counts(&rt, &cedar, 0, 1);
     Ok(())
 }
 
 // At the limit of slots the pairs before the refused one are stored.
+#[tactic(auto, using(crate::proofs::Limits::limit_256))]
 #[test]
 fn builds_up_to_the_limit(rt: HostRuntime) -> Result<(), Fail> {
-    let mut trie = Trie::<ReducedLayout, 256, Global>::with(
-        rt.alloc(),
-        Cedar::<Global>::builder(),
-    )?;
+    let builder = Cedar::<Global>::builder();
+    let mut trie = Trie::<ReducedLayout, 256, Global>::with(rt.alloc(), builder)?;
     let pairs = [("a", 1), ("b", 2), ("ab", 3)];
-    assert_eq!(&rt; trie.build(&pairs), Err(CedarError::SlotLimit));
-    assert_eq!(&rt; (trie.len(), trie.used_node_slots()), (2, 3));
-    assert_eq!(&rt; trie.exact_match_search("b"), Some((2, 1)));
+    assert_eq!(rt; trie.build(&pairs), Err(CedarError::SlotLimit));
+    expect_counts(&rt, &trie, 2, 3);
+    expect_found(&rt, &trie, b"b", Some((2, 1)));
     Ok(())
 }
 
@@ -116,9 +130,9 @@ fn a_copy(rt: HostRuntime) -> Result<(), Fail> {
     let pairs = [("a", 1), ("ab", 2), ("abc", 3)];
     cedar.build(&pairs)?;
     let mut copy = cedar.clone()?;
-    assert!(rt; copy.erase("abc"));
-    assert_eq!(rt; copy.used_node_slots(), 5);
-    assert_eq!(rt; cedar.used_node_slots(), 7);
-    assert_eq!(rt; cedar.exact_match_search("abc"), Some((3, 3)));
+    expect_erased(&rt, &mut copy, b"abc", true);
+    expect_counts(&rt, &copy, 2, 5);
+    expect_counts(&rt, &cedar, 3, 7);
+    expect_found(&rt, &cedar, b"abc", Some((3, 3)));
     Ok(())
 }

@@ -1,16 +1,11 @@
 //! The calls of the dictionary in both layouts, at values made by hand.
-ghost use Rattle.std.specs.Prelude.{◌≡◌, ◌<◌};
-
 use crate::expect::{expect_erased, expect_found};
 use crate::layouts::{Full, empty};
 use cedarwood::{
     Cedar, CedarBuilder, CedarError, DefaultLayout, Layout, MAX_VALUE, MIN_VALUE, ReducedLayout,
-    Ticks,
 };
 use std::alloc::Global;
-use std::marker::Brand;
 use std::process::Abort;
-use std::sync::ledger::{Blank, Ledger};
 use std::test::Fail;
 use test_devices::Refusing;
 
@@ -118,29 +113,6 @@ fn expect_first_fault<L: Layout>(rt: &impl Abort, alloc: Global) -> Result<(), F
 fn names_the_first_fault(rt: HostRuntime) -> Result<(), Fail> {
     expect_first_fault::<DefaultLayout>(&rt, rt.alloc())?;
     expect_first_fault::<ReducedLayout>(&rt, rt.alloc())
-}
-
-// A key that is held, a longer one, and a front of it that holds nothing.
-fn expect_counted<C: Ledger>(cedar: &Cedar<Global>, blank: Blank, rt: &impl Abort)
-    requires name { blank.name ≡ C.name }
-    requires parts { blank.parts ≡ C.parts }
-    requires some { 0 < blank.parts }
-{
-    let ticks = &mut Ticks::<C>::new(blank);
-    assert_eq!(rt;
-        cedar.exact_match_search_counted(b"abc", ticks),
-        Some((3, 3))
-    );
-    assert_eq!(rt; cedar.exact_match_search_counted(b"abcd", ticks), None);
-    assert_eq!(rt; cedar.exact_match_search_counted(b"ab", ticks), None);
-}
-
-#[test]
-fn a_counted_search(rt: HostRuntime) -> Result<(), Fail> {
-    let mut cedar = Cedar::new(rt.alloc())?;
-    cedar.update("abc", 3)?;
-    expect_counted::<Brand>(&cedar, Blank::new(1), &rt);
-    Ok(())
 }
 
 // An empty dictionary of other settings takes the place of one, unless its memory is refused.

@@ -18,3 +18,28 @@ pub(crate) fn built<L: Layout>(
 pub(crate) fn empty<L: Layout>(alloc: Global) -> Result<Full<L>, CedarError> {
     built(alloc, CedarBuilder::new())
 }
+
+/// Texts, some of which begin others.
+const WORDS: [&str; 10] = [
+    "a",
+    "ab",
+    "abc",
+    "网",
+    "网球",
+    "网球拍",
+    "中",
+    "中华",
+    "中华人民",
+    "中华人民共和国",
+];
+
+/// A dictionary of these texts, each with its place as its value.
+pub(crate) fn words<L: Layout>(alloc: Global) -> Result<Full<L>, CedarError> {
+    let mut cedar = empty(alloc)?;
+    let mut value = 0;
+    for word in WORDS {
+        cedar.update(word, value)?;
+        value = value.wrapping_add(1);
+    }
+    Ok(cedar)
+}

@@ -2,6 +2,8 @@
 #![tactic(auto)]
 
 #[cfg(test)]
+mod batch;
+#[cfg(test)]
 mod beside;
 #[cfg(test)]
 mod builds;
@@ -9,8 +11,6 @@ mod builds;
 mod dictionary;
 #[cfg(test)]
 mod expect;
-#[cfg(test)]
-mod growth;
 #[cfg(test)]
 mod layouts;
 #[cfg(test)]

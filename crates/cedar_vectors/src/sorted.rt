@@ -1,19 +1,51 @@
 //! Dictionaries made of sorted pairs at once.
-use crate::layouts::Full;
+ghost use Rattle.cedar_slots.specs.Places.{IsSlotLimit};
+
+use crate::expect::{expect_counts, expect_erased, expect_found};
 use cedarwood::{Cedar, CedarBuilder, CedarError, DefaultLayout, Layout, ReducedLayout, Trie};
 use std::alloc::{AllocError, Allocator, Global};
 use std::process::Abort;
 use std::test::Fail;
 use test_devices::Refusing;
 
-type Small<const SLOTS: usize> = Trie<DefaultLayout, SLOTS, Global>;
+// How many keys, used slots, slots and spare blocks a dictionary has that is made of pairs.
+type Slots = (usize, usize, usize, usize);
 
-type Reduced<const SLOTS: usize> = Trie<ReducedLayout, SLOTS, Global>;
+// Makes a dictionary of pairs, each of which is found in it.
+fn sorted_slots<L: Layout, const SLOTS: usize>(
+    alloc: Global,
+    pairs: &[(&[u8], i32)],
+) -> Result<Slots, CedarError>
+    requires { IsSlotLimit SLOTS }
+{
+    let trie = Trie::<L, SLOTS, Global>::from_sorted_bytes_with(alloc, CedarBuilder::new(), pairs)?;
+    for (key, value) in pairs {
+        if trie.exact_match_search_bytes(key) != Some((*value, key.len())) {
+            return Ok((0, 0, 0, 0));
+        }
+    }
+    Ok((
+        trie.len(),
+        trie.used_node_slots(),
+        trie.node_capacity(),
+        trie.spare_blocks(),
+    ))
+}
+
+fn expect_slots<L: Layout, const SLOTS: usize>(
+    rt: &impl Abort,
+    alloc: Global,
+    pairs: &[(&[u8], i32)],
+    wanted: Result<Slots, CedarError>,
+)
+    requires { IsSlotLimit SLOTS }
+{
+    assert_eq!(rt; sorted_slots::<L, SLOTS>(alloc, pairs), wanted);
+}
 
 // The first fault is answered, wherever it comes, and no pair makes an empty dictionary.
 #[tactic(auto, using(cedarwood::proofs::DictionaryLemmas::default_limit))]
 fn expect_first_fault<L: Layout>(rt: &impl Abort, alloc: Global) -> Result<(), Fail> {
-    let builder = CedarBuilder::new();
     let refused: [(&[(&[u8], i32)], CedarError); 7] = [
         (
             &[(b"b", 1), (b"a", -1)],
@@ -39,14 +71,10 @@ fn expect_first_fault<L: Layout>(rt: &impl Abort, alloc: Global) -> Result<(), F
         (&[(b"", 1)], CedarError::EmptyKey),
     ];
     for (pairs, error) in refused {
-        let outcome = Full::<L>::from_sorted_bytes_with(alloc, builder, pairs).map(|_| ());
-        assert_eq!(rt; outcome, Err(error));
+        assert_eq!(rt; sorted_slots::<L, 1073741824>(alloc, pairs), Err(error));
     }
-    let empty = Full::<L>::from_sorted_bytes_with(alloc, builder, &[])?;
-    assert_eq!(rt;
-        (empty.len(), empty.used_node_slots(), empty.node_capacity()),
-        (0, 1, 256)
-    );
+    let empty = sorted_slots::<L, 1073741824>(alloc, &[]);
+    assert_eq!(rt; empty, Ok((0, 1, 256, 0)));
     Ok(())
 }
 
@@ -88,77 +116,51 @@ fn all_labels(rt: HostRuntime) -> Result<(), Fail> {
     let keys = extensions(rt.alloc(), b"a")?;
     let pairs = numbered(rt.alloc(), &keys)?;
     let mut cedar = Cedar::from_sorted_bytes(rt.alloc(), &pairs)?;
-    assert_eq!(&rt; (cedar.len(), cedar.used_node_slots()), (256, 513));
-    for (key, value) in &pairs {
-        assert_eq!(&rt;
-            cedar.exact_match_search_bytes(key),
-            Some((*value, key.len()))
-        );
-    }
+    expect_counts(&rt, &cedar, 256, 513);
     for (key, _) in pairs.iter().rev() {
-        assert!(&rt; cedar.erase_bytes(key));
+        expect_erased(&rt, &mut cedar, key, true);
     }
-    assert_eq!(&rt; (cedar.len(), cedar.used_node_slots()), (0, 1));
+    expect_counts(&rt, &cedar, 0, 1);
     cedar.update_bytes(b"after", 7)?;
-    assert_eq!(&rt; cedar.exact_match_search_bytes(b"after"), Some((7, 5)));
+    expect_found(&rt, &cedar, b"after", Some((7, 5)));
     Ok(())
 }
 
-// Two such nodes; and then an update without memory, since blocks are spare.
+// With each request refused while blocks are spare, calls succeed, and ask for nothing.
+fn expect_calls(rt: &impl Abort, cedar: &mut Cedar<&Refusing<Global>>) {
+    assert_eq!(rt; cedar.update_bytes(b"z", 1), Ok(()));
+    assert_eq!(rt; (cedar.len(), cedar.used_node_slots()), (513, 1027));
+    assert_eq!(rt; cedar.update_bytes(b"z", 2), Ok(()));
+    assert_eq!(rt; cedar.exact_match_search_bytes(b"z"), Some((2, 1)));
+    assert!(rt; cedar.erase_bytes(b"z"));
+}
+
+// Two such nodes; and then calls without memory, since blocks are spare.
 #[test]
 fn spare_blocks(rt: HostRuntime) -> Result<(), Fail> {
     let keys = extensions(rt.alloc(), b"ab")?;
     let pairs = numbered(rt.alloc(), &keys)?;
     let memory = Refusing::new(rt.alloc());
     let mut cedar = Cedar::from_sorted_bytes(&memory, &pairs)?;
-    assert_eq!(&rt; (cedar.len(), cedar.used_node_slots()), (512, 1025));
-    assert_eq!(&rt; (cedar.node_capacity(), cedar.spare_blocks()), (2048, 3));
+    assert_eq!(rt; (cedar.node_capacity(), cedar.spare_blocks()), (2048, 3));
     memory.refuse(1, u64::MAX);
-    assert_eq!(&rt; cedar.update_bytes(b"z", 1), Ok(()));
-    assert_eq!(&rt; (cedar.len(), cedar.used_node_slots()), (513, 1027));
+    expect_calls(&rt, &mut cedar);
+    assert_eq!(rt; memory.requests(), 0);
     Ok(())
 }
 
+// By default each number takes a slot. In the reduced layout only one above labels does: so half the slots are enough.
+#[tactic(auto, using(crate::proofs::Limits::limit_256, crate::proofs::Limits::limit_512, crate::proofs::Limits::limit_1024))]
 #[test]
-fn slots_256(rt: HostRuntime) -> Result<(), Fail> {
-    let none = Small::<256>::from_sorted_bytes_with(rt.alloc(), CedarBuilder::new(), &[])?;
-    assert_eq!(&rt; none.len(), 0);
-    let one = Small::<256>::from_sorted_bytes_with(rt.alloc(), CedarBuilder::new(), &[(b"a", 1)]);
-    assert_eq!(&rt; one.map(|_| ()), Err(CedarError::SlotLimit));
-    Ok(())
-}
-
-#[tactic(auto, using(crate::proofs::Limits::limit_512, crate::proofs::Limits::limit_1024))]
-#[test]
-fn slots_512_and_1024(rt: HostRuntime) -> Result<(), Fail> {
+fn slots(rt: HostRuntime) -> Result<(), Fail> {
     let keys = extensions(rt.alloc(), b"a")?;
     let pairs = numbered(rt.alloc(), &keys)?;
-    let trie = Small::<1024>::from_sorted_bytes_with(rt.alloc(), CedarBuilder::new(), &pairs)?;
-    assert_eq!(&rt; (trie.used_node_slots(), trie.node_capacity()), (513, 1024));
-    let small = Small::<512>::from_sorted_bytes_with(rt.alloc(), CedarBuilder::new(), &pairs);
-    assert_eq!(&rt; small.map(|_| ()), Err(CedarError::SlotLimit));
-    Ok(())
-}
-
-// In the reduced layout only a number above labels takes a slot: so half the slots are enough.
-#[test]
-fn reduced_numbers(rt: HostRuntime) -> Result<(), Fail> {
-    let keys = extensions(rt.alloc(), b"b")?;
-    let pairs = numbered(rt.alloc(), &keys)?;
-    let trie = Reduced::<512>::from_sorted_bytes_with(rt.alloc(), CedarBuilder::new(), &pairs)?;
-    assert_eq!(&rt; (trie.len(), trie.used_node_slots()), (256, 258));
-    assert_eq!(&rt; (trie.node_capacity(), trie.spare_blocks()), (512, 0));
-    for (key, value) in &pairs {
-        assert_eq!(&rt;
-            trie.exact_match_search_bytes(key),
-            Some((*value, key.len()))
-        );
-    }
-    let one = Reduced::<256>::from_sorted_bytes_with(
-        rt.alloc(),
-        CedarBuilder::new(),
-        &[(b"a", 1)],
-    )?;
-    assert_eq!(&rt; (one.len(), one.used_node_slots()), (1, 2));
+    let one: [(&[u8], i32); 1] = [(b"a", 1)];
+    expect_slots::<DefaultLayout, 256>(&rt, rt.alloc(), &[], Ok((0, 1, 256, 0)));
+    expect_slots::<DefaultLayout, 256>(&rt, rt.alloc(), &one, Err(CedarError::SlotLimit));
+    expect_slots::<DefaultLayout, 1024>(&rt, rt.alloc(), &pairs, Ok((256, 513, 1024, 1)));
+    expect_slots::<DefaultLayout, 512>(&rt, rt.alloc(), &pairs, Err(CedarError::SlotLimit));
+    expect_slots::<ReducedLayout, 512>(&rt, rt.alloc(), &pairs, Ok((256, 258, 512, 0)));
+    expect_slots::<ReducedLayout, 256>(&rt, rt.alloc(), &one, Ok((1, 2, 256, 0)));
     Ok(())
 }

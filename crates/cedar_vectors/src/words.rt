@@ -1,22 +1,11 @@
 //! Texts cut into tokens, in both layouts.
 
-use crate::layouts::{Full, empty};
+use crate::layouts::{Full, empty, words};
 use cedar_words::segment;
 use cedarwood::{DefaultLayout, Layout, ReducedLayout};
 use std::alloc::Global;
 use std::process::Abort;
 use std::test::Fail;
-
-// A dictionary of these keys, each with its place as its value.
-fn numbered<L: Layout>(alloc: Global, keys: &[&str]) -> Result<Full<L>, Fail> {
-    let mut cedar = empty(alloc)?;
-    let mut value = 0;
-    for key in keys {
-        cedar.update(key, value)?;
-        value = value.wrapping_add(1);
-    }
-    Ok(cedar)
-}
 
 fn expect_tokens<L: Layout>(
     cedar: &Full<L>,
@@ -33,19 +22,7 @@ fn expect_tokens<L: Layout>(
 // The longest key at each place, where shorter ones begin there too; bytes that no key begins with are tokens of their own, a byte 0
 // among them.
 fn expect_words<L: Layout>(rt: &impl Abort, alloc: Global) -> Result<(), Fail> {
-    let keys = [
-        "a",
-        "ab",
-        "abc",
-        "网",
-        "网球",
-        "网球拍",
-        "中",
-        "中华",
-        "中华人民",
-        "中华人民共和国",
-    ];
-    let cedar = numbered::<L>(alloc, &keys)?;
+    let cedar = words::<L>(alloc)?;
     let wanted = [
         (0, 9, Some(5)),
         (9, 1, None),

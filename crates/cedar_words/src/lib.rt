@@ -3,10 +3,10 @@
 //!
 //! ```
 //! let mut cedar = Cedar::new(rt.alloc())?;
-//! cedar.update("a", 1)?;
-//! cedar.update("abc", 3)?;
-//! let tokens = segment(&cedar, b"ababc");
-//! // gives (0, 1, Some(1)), (1, 1, None), (2, 3, Some(3))
+//! cedar.build(&[("a", 1), ("abc", 3)])?;
+//! let tokens: Vec<(usize, usize, Option<i32>)> = segment(&cedar, b"ababc").collect(rt.alloc())?;
+//! let wanted = [(0, 1, Some(1)), (1, 1, None), (2, 3, Some(3))];
+//! assert_eq!(rt; tokens.as_slice(), wanted.as_slice());
 //! ```
 #![tactic(auto)]
 

@@ -13,6 +13,12 @@ pub trait LongestPrefix {
     ghost tree: { Self → Tree };
 
     /// The value of the longest key that the text begins with, and one less than the key's bytes. It takes no memory.
+    ///
+    /// ```
+    /// cedar.build(&[("ne", 1), ("net", 7)])?;
+    /// assert_eq!(rt; cedar.longest_prefix(b"nets"), Some((7, 2)));
+    /// assert_eq!(rt; cedar.longest_prefix(b"ten"), None);
+    /// ```
     fn longest_prefix(&self, text: &[u8]) -> Option<(i32, usize)>
         ensures answer { result ≡ longest (tree self.now) text.now }
         ensures within { IfSome result (λ found. found.1 < length text.now) };

@@ -36,6 +36,13 @@ impl<'a, T: LongestPrefix> Model for Segments<'a, T> {
 
 /// Cuts a text into tokens: at each place the longest key that begins there, with its value, or else one byte without a value. The
 /// tokens cover the text in order. They borrow the dictionary and the text, and take no memory.
+///
+/// ```
+/// cedar.build(&[("a", 1), ("abc", 3)])?;
+/// let mut tokens = segment(&cedar, b"abab");
+/// assert_eq!(rt; tokens.next(), Some((0, 1, Some(1))));
+/// assert_eq!(rt; tokens.next(), Some((1, 1, None)));
+/// ```
 pub fn segment<'a, L: Layout, const SLOTS: usize, A: Allocator + Copy>(
     trie: &'a Trie<L, SLOTS, A>,
     text: &'a [u8],

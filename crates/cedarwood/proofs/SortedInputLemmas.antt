@@ -14,7 +14,7 @@ use Rattle.cedar_tree.specs.Laws.{ArePathsAscending, ArePathsKeys}
 use Rattle.cedar_slots.specs.declared.error.CedarError.{CedarError}
 use Rattle.cedar_slots.specs.declared.error.CedarError.TheVariants.{DuplicateKey, KeysNotSorted}
 use Rattle.cedar_table.specs.Meaning.WellFormed.{is_value}
-use Rattle.cedar_table.specs.Bulk.Sorted.{entries_by}
+use Rattle.cedar_bulk.specs.Sorted.{entries_by}
 use Rattle.cedarwood.specs.Fault.{fault, or_else}
 use Rattle.cedarwood.specs.SortedInput.{AreBytes, fault_behind, fault_from, fault_of_order, key_at}
 use Rattle.cedarwood.proofs.DictionaryLemmas.{is_value_of}

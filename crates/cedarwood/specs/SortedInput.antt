@@ -7,7 +7,7 @@ use Rattle.std.specs.declared.cmp.Ordering.TheVariants.{Equal, Greater, Less}
 use Rattle.cedar_slots.specs.declared.error.CedarError.{CedarError}
 use Rattle.cedar_slots.specs.declared.error.CedarError.TheVariants.{DuplicateKey, KeysNotSorted}
 use Rattle.cedar_tree.specs.Queries.{Entry}
-use Rattle.cedar_table.specs.Bulk.Sorted.{Pair, entries_of}
+use Rattle.cedar_bulk.specs.Sorted.{Pair, entries_of}
 use Rattle.cedarwood.specs.Fault.{fault, or_else}
 
 -- a key that isn't above the one before it is at fault: it repeats that one, or it is smaller

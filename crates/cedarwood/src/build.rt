@@ -1,7 +1,7 @@
 //! Many pairs stored at once.
 
 ghost use Rattle.std.specs.Prelude.{◌≡◌, map, IfErr, IfSome, IsOk, IsSome, None, OnOk};
-ghost use Rattle.cedar_table.specs.Bulk.Sorted.{entries_by, entries_of};
+ghost use Rattle.cedar_bulk.specs.Sorted.{entries_by, entries_of};
 ghost use Rattle.cedarwood.specs.Builds.{all_stored, first_fault, IsBuild, IsRefusedBuild};
 
 use crate::pair::check_pair;
@@ -11,6 +11,12 @@ use std::convert::AsSlice;
 
 impl<L: Layout, const SLOTS: usize, A: Allocator + Copy> Trie<L, SLOTS, A> {
     /// Stores some pairs, one after another: a key's last value stands. All are tested first.
+    ///
+    /// ```
+    /// let pairs: [(&[u8], i32); 2] = [(b"ten", 2), (b"net", 7)];
+    /// cedar.build_bytes(&pairs)?;
+    /// assert_eq!(rt; cedar.len(), 2);
+    /// ```
     ///
     /// # Errors
     /// The fault of the first pair that has one, as of [`Trie::update_bytes`]; then nothing has changed. Without one, `Memory`
@@ -32,6 +38,11 @@ impl<L: Layout, const SLOTS: usize, A: Allocator + Copy> Trie<L, SLOTS, A> {
     }
 
     /// `build_bytes` for text keys.
+    ///
+    /// ```
+    /// cedar.build(&[("net", 7), ("net", 8)])?;
+    /// assert_eq!(rt; cedar.exact_match_search("net"), Some((8, 3)));
+    /// ```
     ///
     /// # Errors
     /// As [`Trie::build_bytes`].

@@ -1,7 +1,7 @@
 //! The settings of a dictionary.
 
 ghost use Rattle.std.specs.Prelude.{◌≡◌, ◌≤ℤ◌, ◌↔◌, ◌⊎◌, ◌+◌, ◌*◌, ◌≤◌, ℕ, Err, IfErr, IfOk, IfSome, IsOk, length, None, pos, true};
-ghost use Rattle.cedar_table.specs.Bulk.Sorted.{entries_of};
+ghost use Rattle.cedar_bulk.specs.Sorted.{entries_of};
 ghost use Rattle.cedar_tree.specs.Tree.{empty_tree};
 ghost use Rattle.cedar_tree.specs.Queries.{asc, prefixes};
 ghost use Rattle.cedarwood.specs.Dictionary.{capacity_after};
@@ -32,6 +32,10 @@ impl CedarBuilder {
     ghost use Rattle.cedarwood.specs.Memory.{CedarFitsInMemory};
 
     /// Labels ascend, and one failed search closes a block.
+    ///
+    /// ```
+    /// let cedar = CedarBuilder::new().build(rt.alloc())?;
+    /// ```
     pub fn new() -> Self
         ensures ordered { result.ordered ≡ true }
         ensures max_trial { result.max_trial ≡ pos 1 }
@@ -43,6 +47,11 @@ impl CedarBuilder {
     }
 
     /// Sets whether the labels of each node ascend. If they don't, a new label goes before the other ones.
+    ///
+    /// ```
+    /// let builder = CedarBuilder::new().ordered(false);
+    /// let cedar = builder.build(rt.alloc())?;
+    /// ```
     pub fn ordered(self, ordered: bool) -> Self
         ensures ordered { result.ordered ≡ ordered }
         ensures max_trial { result.max_trial ≡ self.max_trial }
@@ -55,6 +64,11 @@ impl CedarBuilder {
 
     /// Sets how many failed searches close a block. More of them may pack the slots closer, for more time; no
     /// answer depends on it, as long as nothing is refused for memory or slots.
+    ///
+    /// ```
+    /// assert!(rt; CedarBuilder::new().max_trial(0).is_err());
+    /// let builder = CedarBuilder::new().max_trial(3)?;
+    /// ```
     ///
     /// # Errors
     /// `InvalidMaxTrial` where the number is 0 or less.
@@ -74,6 +88,12 @@ impl CedarBuilder {
     }
 
     /// An empty dictionary with these settings. It takes its memory from `alloc`.
+    ///
+    /// ```
+    /// let builder = CedarBuilder::new().max_trial(3)?;
+    /// let cedar = builder.build(rt.alloc())?;
+    /// assert!(rt; cedar.is_empty());
+    /// ```
     ///
     /// # Errors
     /// `Memory` where a request was refused.
@@ -98,6 +118,12 @@ impl CedarBuilder {
     }
 
     /// A dictionary of some pairs, whose keys ascend by bytes, with these settings. It takes its memory from `alloc`.
+    ///
+    /// ```
+    /// let pairs: [(&[u8], i32); 2] = [(b"net", 7), (b"ten", 2)];
+    /// let cedar = CedarBuilder::new().from_sorted_bytes(rt.alloc(), &pairs)?;
+    /// assert_eq!(rt; cedar.len(), 2);
+    /// ```
     ///
     /// # Errors
     /// The first fault of the input: each pair's own of `EmptyKey`, `NulByte` and `InvalidValue`, in this order, and then
@@ -131,6 +157,11 @@ impl CedarBuilder {
     }
 
     /// `from_sorted_bytes` for text keys.
+    ///
+    /// ```
+    /// let refused = CedarBuilder::new().from_sorted(rt.alloc(), &[("ten", 2), ("net", 7)]);
+    /// assert!(rt; refused.is_err());
+    /// ```
     ///
     /// # Errors
     /// As [`CedarBuilder::from_sorted_bytes`].

@@ -5,6 +5,12 @@ use std::alloc::{AllocError, Allocator};
 
 /// A copy has an equal table, field by field, with the same settings: so it answers as the original does, and saves the same bytes.
 /// A change of the one doesn't show in the other.
+///
+/// ```
+/// let copy = cedar.clone()?;
+/// cedar.update("net", 7)?;
+/// assert_eq!(rt; (copy.len(), cedar.len()), (0, 1));
+/// ```
 impl<L: Layout, const SLOTS: usize, A: Allocator + Copy> Clone for Trie<L, SLOTS, A> {
     ghost use Rattle.std.specs.Prelude.{◌≡◌};
 

@@ -24,6 +24,10 @@ pub struct MemoryStats {
 impl<L: Layout, const SLOTS: usize, A: Allocator + Copy> Trie<L, SLOTS, A> {
     /// How many bytes the table takes: 10 for each slot, in use or not, 20 for each block of 256 slots, and 514 for the reject
     /// values. What the allocator keeps beside these isn't counted.
+    ///
+    /// ```
+    /// assert_eq!(rt; cedar.allocated_bytes(), 3094);
+    /// ```
     pub fn allocated_bytes(&self) -> usize
         ensures { result ≡ 10 * self.now.capacity + 20 * (self.now.capacity / 256) + 514 }
     {
@@ -32,6 +36,12 @@ impl<L: Layout, const SLOTS: usize, A: Allocator + Copy> Trie<L, SLOTS, A> {
     }
 
     /// The figures, at once: `len`, `used_node_slots`, `node_capacity` and `allocated_bytes`.
+    ///
+    /// ```
+    /// cedar.update("net", 7)?;
+    /// let figures = cedar.memory_stats();
+    /// assert_eq!(rt; (figures.entries, figures.used_node_slots), (1, 5));
+    /// ```
     pub fn memory_stats(&self) -> MemoryStats
         ensures entries { result.entries ≡ length (walk self.now.state.tree) }
         ensures used { result.used_node_slots ≡ 1 + length (prefixes self.now.state.tree) + length (walk self.now.marked) }
@@ -50,6 +60,12 @@ impl<L: Layout, const SLOTS: usize, A: Allocator + Copy> Trie<L, SLOTS, A> {
 
 /// Prints how many keys are held, how many slots are in use, and whether the labels of each node ascend:
 /// `Cedar(entries=1, node_slots=512, ordered=true)`, whatever the layout.
+///
+/// ```
+/// cedar.update("net", 7)?;
+/// let text = format!(in rt.alloc(); "{cedar:?}")?;
+/// assert_eq!(rt; text.as_str(), "Cedar(entries=1, node_slots=512, ordered=true)");
+/// ```
 impl<L: Layout, const SLOTS: usize, A: Allocator> fmt::Debug for Trie<L, SLOTS, A> {
     fn fmt<W: fmt::Write>(&self, f: &mut fmt::Formatter<W>) -> fmt::Result {
         let entries = self.table.entries();

@@ -13,6 +13,11 @@ use std::alloc::Allocator;
 impl<L: Layout, const SLOTS: usize, A: Allocator + Copy> Trie<L, SLOTS, A> {
     /// Stores a value at a key, and answers the value that the key held before, if it held one. It goes along the key once.
     ///
+    /// ```
+    /// assert_eq!(rt; cedar.insert_bytes(b"net", 7)?, None);
+    /// assert_eq!(rt; cedar.insert_bytes(b"net", 8)?, Some(7));
+    /// ```
+    ///
     /// # Errors
     /// As [`Trie::update_bytes`]: after an error the dictionary holds what it held.
     pub fn insert_bytes(&mut self, key: &[u8], value: i32) -> Result<Option<i32>, CedarError>
@@ -26,6 +31,11 @@ impl<L: Layout, const SLOTS: usize, A: Allocator + Copy> Trie<L, SLOTS, A> {
     }
 
     /// `insert_bytes` for a text key.
+    ///
+    /// ```
+    /// assert_eq!(rt; cedar.insert("ten", 7)?, None);
+    /// assert_eq!(rt; cedar.insert("ten", 8)?, Some(7));
+    /// ```
     ///
     /// # Errors
     /// As [`Trie::update_bytes`].

@@ -10,6 +10,10 @@
 //! assert_eq!(rt; cedar.exact_match_search_bytes(b"net"), Some((7, 3)));
 //! assert!(rt; cedar.erase_bytes(b"net"));
 //! ```
+//!
+//! In the examples `rt` is the program's runtime, `cedar` a new [`Cedar`] if it isn't made there, `saved` the bytes that a save of it
+//! wrote, and `files` where such a file lies by the name `words.cedar`. `blank`, `ticks`, `asked` and `reads` are for counts, whose
+//! ledgers are `C` and `D`. The tests of `uses` have the lines of each example, and run them.
 #![tactic(auto)]
 
 mod build;

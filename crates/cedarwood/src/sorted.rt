@@ -3,14 +3,14 @@
 ghost use Rattle.std.specs.Prelude.{◌≡◌, ◌<◌, ◌≤◌, ℕ, [], get_or, length, None, IsOk, IfSome, OnOk};
 ghost use Rattle.std.specs.Cmp.Lexicographic.{slice_cmp};
 ghost use Rattle.std.specs.Ordering.{nat_cmp};
-ghost use Rattle.cedar_table.specs.Bulk.Sorted.{entries_by};
+ghost use Rattle.cedar_bulk.specs.Sorted.{entries_by};
 ghost use Rattle.cedarwood.specs.SortedInput.{AreBytes, fault_behind, fault_from, fault_of_order, key_at};
 
 use crate::builder::CedarBuilder;
 use crate::pair::check_pair;
 use crate::trie::Trie;
 use crate::{CedarError, Layout};
-use cedar_table::Table;
+use cedar_bulk::build_sorted;
 use std::alloc::Allocator;
 use std::cmp::Ordering;
 use std::convert::AsSlice;
@@ -71,7 +71,7 @@ impl<L: Layout, const SLOTS: usize, A: Allocator + Copy> Trie<L, SLOTS, A> {
     ghost use Rattle.std.specs.Prelude.{◌≡◌, ◌⊎◌, ◌+◌, ◌*◌, ◌≤◌, ℕ, [], Err, IfErr, IfOk, IfSome, length, None};
     ghost use Rattle.cedar_slots.specs.Places.{IsSlotLimit};
     ghost use Rattle.cedar_tree.specs.Queries.{asc, prefixes};
-    ghost use Rattle.cedar_table.specs.Bulk.SortedMarks.{SortedMarks};
+    ghost use Rattle.cedar_bulk.specs.SortedMarks.{SortedMarks};
     ghost use Rattle.cedarwood.specs.Dictionary.{capacity_after};
 
     /// A dictionary of some pairs, whose keys ascend by bytes, with the settings of a builder. Keys are bytes or texts. It takes no
@@ -93,7 +93,7 @@ impl<L: Layout, const SLOTS: usize, A: Allocator + Copy> Trie<L, SLOTS, A> {
     {
         check_sorted(pairs)?;
         Ok(Trie {
-            table: Table::build_sorted(alloc, builder.ordered, builder.max_trial, pairs)?,
+            table: build_sorted(alloc, builder.ordered, builder.max_trial, pairs)?,
         })
     }
 }

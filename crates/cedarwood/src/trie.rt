@@ -4,8 +4,8 @@ ghost use Rattle.std.specs.Prelude.{◌≡◌, ◌⊎◌, ℕ, ◌+◌, ◌-◌,
 ghost use Rattle.cedar_table.specs.Table.Layouts.{default_layout, reduced_layout};
 ghost use Rattle.cedar_table.specs.Meaning.Marks.{MarksCut, MarksPut};
 ghost use Rattle.cedar_slots.specs.Places.{IsSlotLimit};
-ghost use Rattle.cedar_table.specs.Bulk.Sorted.{entries_of};
-ghost use Rattle.cedar_table.specs.Bulk.SortedMarks.{SortedMarks};
+ghost use Rattle.cedar_bulk.specs.Sorted.{entries_of};
+ghost use Rattle.cedar_bulk.specs.SortedMarks.{SortedMarks};
 ghost use Rattle.cedar_tree.specs.Tree.{empty_tree, has_label, number_at, IsSound};
 ghost use Rattle.cedar_tree.specs.Queries.{asc, exact, prefixes, used, walk};
 ghost use Rattle.cedar_tree.specs.State.{stored, erased};
@@ -68,6 +68,11 @@ impl<A: Allocator + Copy> Trie<DefaultLayout, 1073741824, A> {
 
     /// An empty dictionary, whose labels ascend. It takes its memory from `alloc`.
     ///
+    /// ```
+    /// let cedar = Cedar::new(rt.alloc())?;
+    /// assert!(rt; cedar.is_empty());
+    /// ```
+    ///
     /// # Errors
     /// `Memory` where a request was refused.
     pub fn new(alloc: A) -> Result<Self, CedarError>
@@ -83,6 +88,12 @@ impl<A: Allocator + Copy> Trie<DefaultLayout, 1073741824, A> {
     }
 
     /// A dictionary of some pairs, whose keys ascend by bytes, with the settings by default. It takes its memory from `alloc`.
+    ///
+    /// ```
+    /// let pairs: [(&[u8], i32); 2] = [(b"net", 7), (b"ten", 2)];
+    /// let cedar = Cedar::from_sorted_bytes(rt.alloc(), &pairs)?;
+    /// assert_eq!(rt; cedar.exact_match_search("ten"), Some((2, 3)));
+    /// ```
     ///
     /// # Errors
     /// As [`CedarBuilder::from_sorted_bytes`].
@@ -102,6 +113,11 @@ impl<A: Allocator + Copy> Trie<DefaultLayout, 1073741824, A> {
 
     /// `from_sorted_bytes` for text keys.
     ///
+    /// ```
+    /// let words = Cedar::from_sorted(rt.alloc(), &[("net", 7), ("ten", 2)])?;
+    /// assert_eq!(rt; words.exact_match_search("ten"), Some((2, 3)));
+    /// ```
+    ///
     /// # Errors
     /// As [`CedarBuilder::from_sorted`].
     pub fn from_sorted(alloc: A, pairs: &[(&str, i32)]) -> Result<Self, CedarError>
@@ -119,6 +135,10 @@ impl<A: Allocator + Copy> Trie<DefaultLayout, 1073741824, A> {
     }
 
     /// The settings by default.
+    ///
+    /// ```
+    /// let cedar = Cedar::<Global>::builder().build(rt.alloc())?;
+    /// ```
     pub fn builder() -> CedarBuilder
         ensures ordered { result.ordered ≡ true }
         ensures max_trial { result.max_trial ≡ pos 1 }
@@ -129,6 +149,11 @@ impl<A: Allocator + Copy> Trie<DefaultLayout, 1073741824, A> {
 
 impl<L: Layout, const SLOTS: usize, A: Allocator + Copy> Trie<L, SLOTS, A> {
     /// An empty dictionary with the settings of a builder, of any layout and limit of slots.
+    ///
+    /// ```
+    /// let small = Trie::<DefaultLayout, 512, Global>::with(rt.alloc(), CedarBuilder::new())?;
+    /// assert_eq!(rt; small.len(), 0);
+    /// ```
     ///
     /// # Errors
     /// `Memory` where a request was refused.
@@ -148,6 +173,13 @@ impl<L: Layout, const SLOTS: usize, A: Allocator + Copy> Trie<L, SLOTS, A> {
 
     /// A dictionary of some pairs, whose keys ascend by bytes, with the settings of a builder, of any layout and limit of
     /// slots. Each node gets all of its slots at once. Its labels ascend at first, whatever the settings.
+    ///
+    /// ```
+    /// let builder = CedarBuilder::new();
+    /// let pairs: [(&[u8], i32); 2] = [(b"net", 7), (b"ten", 2)];
+    /// let cedar = ReducedCedar::from_sorted_bytes_with(rt.alloc(), builder, &pairs)?;
+    /// assert_eq!(rt; cedar.len(), 2);
+    /// ```
     ///
     /// # Errors
     /// The first fault of the input: each pair's own of `EmptyKey`, `NulByte` and `InvalidValue`, in this order, and then
@@ -178,6 +210,12 @@ impl<L: Layout, const SLOTS: usize, A: Allocator + Copy> Trie<L, SLOTS, A> {
 
     /// `from_sorted_bytes_with` for text keys.
     ///
+    /// ```
+    /// let builder = CedarBuilder::new();
+    /// let words = ReducedCedar::from_sorted_with(rt.alloc(), builder, &[("net", 7), ("ten", 2)])?;
+    /// assert_eq!(rt; words.len(), 2);
+    /// ```
+    ///
     /// # Errors
     /// As [`Trie::from_sorted_bytes_with`].
     pub fn from_sorted_with(
@@ -200,6 +238,12 @@ impl<L: Layout, const SLOTS: usize, A: Allocator + Copy> Trie<L, SLOTS, A> {
 
     /// Puts an empty dictionary with the settings of a builder in the place of this one.
     ///
+    /// ```
+    /// cedar.update("net", 7)?;
+    /// cedar.renew(rt.alloc(), CedarBuilder::new())?;
+    /// assert!(rt; cedar.is_empty());
+    /// ```
+    ///
     /// # Errors
     /// `Memory` where a request was refused. Then this one stays.
     pub fn renew(&mut self, alloc: A, builder: CedarBuilder) -> Result<(), CedarError>
@@ -218,6 +262,11 @@ impl<L: Layout, const SLOTS: usize, A: Allocator + Copy> Trie<L, SLOTS, A> {
     }
 
     /// Stores a value at a key, in place of the value that the key holds, if it holds one.
+    ///
+    /// ```
+    /// cedar.update_bytes(b"net", 7)?;
+    /// assert_eq!(rt; cedar.update_bytes(b"", 7), Err(CedarError::EmptyKey));
+    /// ```
     ///
     /// # Errors
     /// The pair's first fault of `EmptyKey`, `NulByte` and `InvalidValue`, in this order; `Memory` where the
@@ -264,6 +313,12 @@ impl<L: Layout, const SLOTS: usize, A: Allocator + Copy> Trie<L, SLOTS, A> {
     }
 
     /// `update_bytes` for a text key.
+    ///
+    /// ```
+    /// cedar.update("net", 7)?;
+    /// cedar.update("net", 8)?;
+    /// assert_eq!(rt; cedar.exact_match_search("net"), Some((8, 3)));
+    /// ```
     pub fn update(&mut self, key: &str, value: i32) -> Result<(), CedarError>
         ensures { IsUpdate L.kind SLOTS self.old self.new key.now value result }
     {
@@ -271,6 +326,12 @@ impl<L: Layout, const SLOTS: usize, A: Allocator + Copy> Trie<L, SLOTS, A> {
     }
 
     /// Removes a key, and says whether it was held. It takes no memory.
+    ///
+    /// ```
+    /// cedar.update_bytes(b"net", 7)?;
+    /// assert!(rt; cedar.erase_bytes(b"net"));
+    /// assert!(rt; !cedar.erase_bytes(b"net"));
+    /// ```
     pub fn erase_bytes(&mut self, key: &[u8]) -> bool
         ensures answer { IsTrue result ↔ IsSome (number_at self.old.state.tree key.now) }
         ensures after { self.new.state ≡ erased self.old.state key.now }
@@ -283,6 +344,12 @@ impl<L: Layout, const SLOTS: usize, A: Allocator + Copy> Trie<L, SLOTS, A> {
     }
 
     /// `erase_bytes` for a text key.
+    ///
+    /// ```
+    /// cedar.update("net", 7)?;
+    /// assert!(rt; !cedar.erase("ne"));
+    /// assert!(rt; cedar.erase("net"));
+    /// ```
     pub fn erase(&mut self, key: &str) -> bool
         ensures answer { IsTrue result ↔ IsSome (number_at self.old.state.tree key.now) }
         ensures after { self.new.state ≡ erased self.old.state key.now }
@@ -296,6 +363,12 @@ impl<L: Layout, const SLOTS: usize, A: Allocator + Copy> Trie<L, SLOTS, A> {
 
     /// The value at a key and the key's length in bytes, or None where the key isn't held. It takes no memory. Each
     /// comparison of a check field is counted: one more than the key has bytes, at most.
+    ///
+    /// ```
+    /// cedar.update("net", 7)?;
+    /// let mut ticks = Ticks::<C>::new(blank);
+    /// assert_eq!(rt; cedar.exact_match_search_counted(b"net", &mut ticks), Some((7, 3)));
+    /// ```
     pub fn exact_match_search_counted<C: Ledger>(
         &self,
         key: &[u8],
@@ -311,6 +384,12 @@ impl<L: Layout, const SLOTS: usize, A: Allocator + Copy> Trie<L, SLOTS, A> {
 
     /// The value at a key and the key's length in bytes, or None where the key isn't held: so `is_some()` of the answer says whether
     /// it is. It takes no memory.
+    ///
+    /// ```
+    /// cedar.update_bytes(b"net", 7)?;
+    /// assert_eq!(rt; cedar.exact_match_search_bytes(b"net"), Some((7, 3)));
+    /// assert_eq!(rt; cedar.exact_match_search_bytes(b"ne"), None);
+    /// ```
     pub fn exact_match_search_bytes(&self, key: &[u8]) -> Option<(i32, usize)>
         ensures answer { result ≡ exact self.now.state.tree key.now }
         ensures sound { IsSound self.now.state.tree }
@@ -320,6 +399,11 @@ impl<L: Layout, const SLOTS: usize, A: Allocator + Copy> Trie<L, SLOTS, A> {
     }
 
     /// `exact_match_search_bytes` for a text key.
+    ///
+    /// ```
+    /// cedar.update("net", 7)?;
+    /// assert!(rt; cedar.exact_match_search("net").is_some());
+    /// ```
     pub fn exact_match_search(&self, key: &str) -> Option<(i32, usize)>
         ensures answer { result ≡ exact self.now.state.tree key.now }
         ensures sound { IsSound self.now.state.tree }
@@ -329,6 +413,11 @@ impl<L: Layout, const SLOTS: usize, A: Allocator + Copy> Trie<L, SLOTS, A> {
     }
 
     /// How many keys are held.
+    ///
+    /// ```
+    /// cedar.update("net", 7)?;
+    /// assert_eq!(rt; cedar.len(), 1);
+    /// ```
     pub fn len(&self) -> usize
         ensures count { result ≡ length (walk self.now.state.tree) }
         ensures valid { IsValid SLOTS self.now }
@@ -337,6 +426,11 @@ impl<L: Layout, const SLOTS: usize, A: Allocator + Copy> Trie<L, SLOTS, A> {
     }
 
     /// Whether no key is held.
+    ///
+    /// ```
+    /// cedar.update("net", 7)?;
+    /// assert!(rt; !cedar.is_empty());
+    /// ```
     pub fn is_empty(&self) -> bool
         ensures { IsTrue result ↔ (walk self.now.state.tree ≡ []) }
     {
@@ -345,6 +439,11 @@ impl<L: Layout, const SLOTS: usize, A: Allocator + Copy> Trie<L, SLOTS, A> {
 
     /// How many slots are held: one for the root, one for each distinct nonempty prefix of keys, and one for each key whose
     /// number has a slot of its own, which by default is each.
+    ///
+    /// ```
+    /// cedar.update("net", 7)?;
+    /// assert_eq!(rt; cedar.used_node_slots(), 5);
+    /// ```
     pub fn used_node_slots(&self) -> usize
         ensures marked { result ≡ 1 + length (prefixes self.now.state.tree) + length (walk self.now.marked) }
         ensures by_default { L.kind ≡ default_layout → result ≡ used self.now.state.tree }
@@ -354,6 +453,10 @@ impl<L: Layout, const SLOTS: usize, A: Allocator + Copy> Trie<L, SLOTS, A> {
     }
 
     /// How many slots there are, in use or not.
+    ///
+    /// ```
+    /// assert_eq!(rt; cedar.node_capacity(), 256);
+    /// ```
     pub fn node_capacity(&self) -> usize
         ensures { result ≡ self.now.capacity }
     {
@@ -361,6 +464,10 @@ impl<L: Layout, const SLOTS: usize, A: Allocator + Copy> Trie<L, SLOTS, A> {
     }
 
     /// How many blocks of 256 slots can come into use before memory is asked for.
+    ///
+    /// ```
+    /// assert_eq!(rt; cedar.spare_blocks(), 0);
+    /// ```
     pub fn spare_blocks(&self) -> usize
         ensures { result ≡ (self.now.capacity - self.now.size) / 256 }
     {
@@ -369,6 +476,10 @@ impl<L: Layout, const SLOTS: usize, A: Allocator + Copy> Trie<L, SLOTS, A> {
 
     /// Says that its table is well-formed, and that the state, the marks, the settings and the sizes that a contract sees of it are
     /// those of this table.
+    ///
+    /// ```
+    /// cedar.stands_on_its_table();
+    /// ```
     pub fn stands_on_its_table(&self)
         ensures { IsOnTable SLOTS self.now }
     {

@@ -1,6 +1,7 @@
 //! Saved files byte by byte, and dictionaries that are saved and loaded.
 use cedarwood::{Cedar, CedarBuilder, CedarPersistenceError, DefaultLayout, Layout, Trie, Watched};
 use std::alloc::{AllocError, Global};
+use std::process::Abort;
 use std::test::Fail;
 
 /// A dictionary of a layout.
@@ -138,38 +139,57 @@ pub fn one_key_file(alloc: Global) -> Result<Vec<u8>, AllocError> {
     Ok(bytes)
 }
 
+/// A dictionary whose slots are all in use has to save as this file of format 1.0, and in format 1.1 as the same but for the version.
+pub fn expect_saved<L: Layout>(
+    rt: &impl Abort,
+    alloc: Global,
+    trie: &Full<L>,
+    file: &[u8],
+) -> Result<(), Fail> {
+    let mut wanted = Vec::from_slice(alloc, file)?;
+    assert!(rt; saved_v1_0(alloc, trie)? == wanted);
+    set(&mut wanted, 10, 1);
+    assert!(rt; saved(alloc, trie)? == wanted);
+    Ok(())
+}
+
+/// A file whose slots are all in use has to load in either version, to so many used slots and this at `a`.
+pub fn expect_loaded<L: Layout>(
+    rt: &impl Abort,
+    alloc: Global,
+    file: &[u8],
+    used: usize,
+    found: Option<(i32, usize)>,
+) -> Result<(), Fail> {
+    let mut bytes = Vec::from_slice(alloc, file)?;
+    for minor in [0, 1] {
+        set(&mut bytes, 10, minor);
+        let trie = loaded_as::<L>(alloc, &bytes)?;
+        assert_eq!(rt;
+            (trie.used_node_slots(), trie.exact_match_search("a")),
+            (used, found)
+        );
+    }
+    Ok(())
+}
+
 #[test]
 fn a_new_dictionary(rt: HostRuntime) -> Result<(), Fail> {
     let cedar = Cedar::new(rt.alloc())?;
-    let mut bytes = empty_file(rt.alloc())?;
-    assert!(&rt; saved_v1_0(rt.alloc(), &cedar)? == bytes);
-    let old = loaded(rt.alloc(), &bytes)?;
-    assert_eq!(&rt; (old.len(), old.used_node_slots()), (0, 1));
-    set(&mut bytes, 10, 1);
-    assert_eq!(&rt; bytes.len(), 3182);
-    assert!(&rt; saved(rt.alloc(), &cedar)? == bytes);
-    let again = loaded(rt.alloc(), &bytes)?;
-    assert_eq!(&rt; (again.len(), again.used_node_slots()), (0, 1));
-    Ok(())
+    let file = empty_file(rt.alloc())?;
+    assert_eq!(rt; file.len(), 3182);
+    expect_saved(&rt, rt.alloc(), &cedar, &file)?;
+    expect_loaded::<DefaultLayout>(&rt, rt.alloc(), &file, 1, None)
 }
 
 #[test]
 fn one_key(rt: HostRuntime) -> Result<(), Fail> {
     let mut cedar = Cedar::new(rt.alloc())?;
     cedar.update("a", 7)?;
-    let mut bytes = one_key_file(rt.alloc())?;
-    assert!(&rt; saved_v1_0(rt.alloc(), &cedar)? == bytes);
-    set(&mut bytes, 10, 1);
-    assert_eq!(&rt; bytes.len(), 5762);
-    assert!(&rt; saved(rt.alloc(), &cedar)? == bytes);
-    let mut again = loaded(rt.alloc(), &bytes)?;
-    assert_eq!(&rt; again.exact_match_search("a"), Some((7, 1)));
-    assert_eq!(&rt; (again.len(), again.used_node_slots()), (1, 3));
-    again.update("ab", 8)?;
-    assert_eq!(&rt; again.exact_match_search("ab"), Some((8, 2)));
-    assert!(&rt; again.erase("a"));
-    assert_eq!(&rt; (again.len(), again.used_node_slots()), (1, 4));
-    Ok(())
+    let file = one_key_file(rt.alloc())?;
+    assert_eq!(rt; file.len(), 5762);
+    expect_saved(&rt, rt.alloc(), &cedar, &file)?;
+    expect_loaded::<DefaultLayout>(&rt, rt.alloc(), &file, 3, Some((7, 1)))
 }
 
 // The settings come from the file, and it saves as the same bytes.
@@ -214,6 +234,25 @@ fn many_keys(rt: HostRuntime) -> Result<(), Fail> {
     Ok(())
 }
 
+// A file has to load to the table of which these are the files of both versions, with a block to spare, and further keys then fit.
+fn expect_spare(
+    rt: &impl Abort,
+    alloc: Global,
+    file: &[u8],
+    short: &[u8],
+    long: &[u8],
+) -> Result<(), Fail> {
+    let mut again = loaded(alloc, file)?;
+    assert_eq!(rt; (again.node_capacity(), again.spare_blocks()), (1024, 1));
+    assert!(rt; saved(alloc, &again)?.as_slice() == short);
+    assert!(rt; saved_v1_0(alloc, &again)?.as_slice() == long);
+    for label in 1..=255u8 {
+        again.update_bytes(&[97, label, 97], 2)?;
+        assert_eq!(rt; again.exact_match_search_bytes(&[97, label]), Some((1, 2)));
+    }
+    Ok(())
+}
+
 // A block that isn't in use is left out, and comes back blank: both files load to the same table.
 #[test]
 fn spare_blocks_are_left_out(rt: HostRuntime) -> Result<(), Fail> {
@@ -221,19 +260,9 @@ fn spare_blocks_are_left_out(rt: HostRuntime) -> Result<(), Fail> {
     for label in 1..=255u8 {
         cedar.update_bytes(&[97, label], 1)?;
     }
-    assert_eq!(&rt; (cedar.node_capacity(), cedar.spare_blocks()), (1024, 1));
     let short = saved(rt.alloc(), &cedar)?;
     let long = saved_v1_0(rt.alloc(), &cedar)?;
-    assert_eq!(&rt; (short.len(), long.len()), (8342, 10922));
-    for bytes in [&short, &long] {
-        let mut again = loaded(rt.alloc(), bytes)?;
-        assert_eq!(&rt; (again.node_capacity(), again.spare_blocks()), (1024, 1));
-        assert!(&rt; saved(rt.alloc(), &again)? == short);
-        assert!(&rt; saved_v1_0(rt.alloc(), &again)? == long);
-        for label in 1..=255u8 {
-            again.update_bytes(&[97, label, 97], 2)?;
-            assert_eq!(&rt; again.exact_match_search_bytes(&[97, label]), Some((1, 2)));
-        }
-    }
-    Ok(())
+    assert_eq!(rt; (short.len(), long.len()), (8342, 10922));
+    expect_spare(&rt, rt.alloc(), &short, &short, &long)?;
+    expect_spare(&rt, rt.alloc(), &long, &short, &long)
 }

@@ -1,5 +1,5 @@
 //! Files of the reduced layout.
-use crate::bytes::{Full, empty_file, loaded, loaded_as, saved, saved_v1_0, set};
+use crate::bytes::{Full, empty_file, expect_loaded, expect_saved, loaded, loaded_as, saved, set};
 use cedarwood::{Cedar, CedarBuilder, CedarError, CedarPersistenceError, ReducedLayout, Trie};
 use std::alloc::{AllocError, Global};
 use std::test::Fail;
@@ -35,18 +35,10 @@ fn one_key_file(alloc: Global) -> Result<Vec<u8>, AllocError> {
 fn one_key(rt: HostRuntime) -> Result<(), Fail> {
     let mut trie = empty(rt.alloc())?;
     trie.update("a", 7)?;
-    let mut bytes = one_key_file(rt.alloc())?;
-    assert!(&rt; saved_v1_0(rt.alloc(), &trie)? == bytes);
-    set(&mut bytes, 10, 1);
-    assert_eq!(&rt; bytes.len(), 3182);
-    assert!(&rt; saved(rt.alloc(), &trie)? == bytes);
-    for minor in [0, 1] {
-        set(&mut bytes, 10, minor);
-        let again = loaded_as::<ReducedLayout>(rt.alloc(), &bytes)?;
-        assert_eq!(&rt; again.exact_match_search("a"), Some((7, 1)));
-        assert_eq!(&rt; (again.len(), again.used_node_slots()), (1, 2));
-    }
-    Ok(())
+    let file = one_key_file(rt.alloc())?;
+    assert_eq!(rt; file.len(), 3182);
+    expect_saved(&rt, rt.alloc(), &trie, &file)?;
+    expect_loaded::<ReducedLayout>(&rt, rt.alloc(), &file, 2, Some((7, 1)))
 }
 
 // A file of one layout is none of the other.

@@ -1,11 +1,8 @@
 //! Files with a fault of their own.
 use crate::calls::{judged_by_default, loaded, saved};
 use crate::vectors::{new_file, set, set_all, set_u64};
-use crate::verdict::{Verdict, answered, judged};
-use cedarwood::{
-    Cedar, CedarBuilder, CedarError, CedarPersistenceError, DEFAULT_LOAD_MEMORY_LIMIT,
-    DefaultLayout, Trie, Watched,
-};
+use crate::verdict::{Verdict, answered};
+use cedarwood::{Cedar, CedarBuilder};
 use std::alloc::{AllocError, Global};
 use std::process::Abort;
 use std::test::Fail;
@@ -116,40 +113,6 @@ fn labels_out_of_order(rt: HostRuntime) -> Result<(), Fail> {
     expect_verdict(&rt, rt.alloc(), &file, Verdict::Loads)?;
     set(&mut file, 14, 1);
     expect_verdict(&rt, rt.alloc(), &file, Verdict::Corrupt)
-}
-
-// The file of a dictionary of 1024 slots, and what a type with 512 slots answers to it.
-fn load_small(alloc: Global, file: &[u8]) -> Verdict {
-    let answer: Result<Trie<DefaultLayout, 512, Global>, CedarPersistenceError> =
-        Trie::load_from_reader(alloc, &mut Watched::new(file));
-    answered(&answer)
-}
-
-// Three first bytes, each followed by one of ninety.
-fn many_keys(alloc: Global) -> Result<Cedar<Global>, CedarError> {
-    let mut trie = Cedar::new(alloc)?;
-    for first in 1..4u8 {
-        for second in 1..91u8 {
-            trie.update_bytes(&[first, second], 1)?;
-        }
-    }
-    Ok(trie)
-}
-
-#[test]
-fn more_slots_than_the_type_allows(rt: HostRuntime) -> Result<(), Fail> {
-    let trie = many_keys(rt.alloc())?;
-    assert_eq!(&rt; trie.node_capacity(), 1024);
-    let file = saved(rt.alloc(), &trie, 1)?;
-    expect_verdict(&rt, rt.alloc(), &file, Verdict::Loads)?;
-    let refusal = Verdict::Header {
-        field: "capacity",
-        value: 1024,
-    };
-    let judged = judged(rt.alloc(), &file, 512, DEFAULT_LOAD_MEMORY_LIMIT)?;
-    assert_eq!(&rt; judged, refusal);
-    assert_eq!(&rt; load_small(rt.alloc(), &file), refusal);
-    Ok(())
 }
 
 // The greatest table, of which only the header is there: it is refused before the body is missed.

@@ -126,22 +126,19 @@ fn is_refused<L: Layout>(
     let is_met = memory.requests() >= refused.0;
     memory.refuse_none();
     let wanted = Ok(answer(what));
-    if outcome == Err(CedarError::Memory) {
-        assert!(rt;
-            is_met && is_left(alloc, &trie, ordered, what)?,
-            "{what:?} at {refused:?}"
-        );
-        assert!(rt; loads_again(alloc, &trie)?, "{what:?} at {refused:?}");
+    let is_right = if outcome == Err(CedarError::Memory) {
+        is_met && is_left(alloc, &trie, ordered, what)? && loads_again(alloc, &trie)?
     } else {
-        assert_eq!(rt; outcome, wanted, "{what:?} at {refused:?}");
-    }
-    assert_eq!(rt;
-        make_attempt(&mut trie, what),
-        wanted,
-        "{what:?} at {refused:?}"
-    );
-    assert!(rt; loads_again(alloc, &trie)?, "{what:?} at {refused:?}");
+        outcome == wanted
+    };
+    let succeeds = make_attempt(&mut trie, what) == wanted && loads_again(alloc, &trie)?;
+    expect(rt, (is_right, succeeds), what, refused);
     Ok(outcome.is_err())
+}
+
+// A call with some requests refused, and the next one, have to answer as they should.
+fn expect(rt: &impl Abort, holds: (bool, bool), what: Attempt, refused: (u64, u64)) {
+    assert_eq!(rt; holds, (true, true), "{what:?} at {refused:?}");
 }
 
 // How many requests of a call there are: each is refused alone, and with all that come after it.

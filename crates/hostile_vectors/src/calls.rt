@@ -21,17 +21,21 @@ fn chain(alloc: Global) -> Result<Cedar<Global>, CedarError> {
     Ok(cedar)
 }
 
+fn expect_pairs(rt: &impl Abort, found: &[(i32, usize)], wanted: [(i32, usize); 2]) {
+    assert_eq!(rt; found, wanted.as_slice());
+}
+
 #[test]
 fn walks_and_longest(rt: HostRuntime) -> Result<(), Fail> {
     let cedar = chain(rt.alloc())?;
     let fronts: Vec<(i32, usize)> = cedar.common_prefix_iter_bytes(b"abx").collect(rt.alloc())?;
-    assert_eq!(rt; fronts.as_slice(), [(1, 0), (2, 1)].as_slice());
+    expect_pairs(&rt, &fronts, [(1, 0), (2, 1)]);
     let below: Vec<(i32, usize)> = cedar
         .common_prefix_predict_iter_bytes(b"ab")
         .collect(rt.alloc())?;
-    assert_eq!(rt; below.as_slice(), [(2, 0), (3, 1)].as_slice());
-    assert_eq!(rt; cedar.longest_prefix(b"abx"), Some((2, 1)));
-    assert_eq!(rt; cedar.longest_prefix(b"x"), None);
+    expect_pairs(&rt, &below, [(2, 0), (3, 1)]);
+    let longest = (cedar.longest_prefix(b"abx"), cedar.longest_prefix(b"x"));
+    assert_eq!(rt; longest, (Some((2, 1)), None));
     Ok(())
 }
 
@@ -65,28 +69,44 @@ fn counted(rt: HostRuntime) -> Result<(), Fail> {
     expect_counted::<Brand, Brand>(&rt, rt.alloc(), Blank::new(1), Blank::new(1))
 }
 
-// Numbers go out and come back, and none is left after the last.
-#[test]
-fn numbers_of_a_file(rt: HostRuntime) -> Result<(), Fail> {
-    let mut writer = Watched::new(Vec::new(rt.alloc()));
+// Three numbers as they go out.
+fn numbers(alloc: Global) -> Result<Vec<u8>, CedarPersistenceError> {
+    let mut writer = Watched::new(Vec::new(alloc));
     v1::write_i16(&mut writer, -2)?;
     v1::write_i32(&mut writer, -3)?;
     v1::write_usize(&mut writer, 4)?;
-    let bytes = writer.into_inner();
+    Ok(writer.into_inner())
+}
+
+// Numbers go out and come back, and none is left after the last.
+#[test]
+fn numbers_of_a_file(rt: HostRuntime) -> Result<(), Fail> {
+    let bytes = numbers(rt.alloc())?;
     let mut reader = Watched::new(bytes.as_slice());
-    assert_eq!(rt; v1::read_i16(&mut reader)?, -2);
-    assert_eq!(rt; v1::read_i32(&mut reader)?, -3);
-    assert_eq!(rt; v1::read_usize(&mut reader, "size")?, 4);
+    let read = (
+        v1::read_i16(&mut reader)?,
+        v1::read_i32(&mut reader)?,
+        v1::read_usize(&mut reader, "size")?,
+    );
+    assert_eq!(rt; read, (-2, -3, 4));
     assert!(rt;
         matches!(
             v1::read_u8(&mut reader),
             Err(CedarPersistenceError::Truncated)
         )
     );
+    Ok(())
+}
+
+#[test]
+fn unsigned_numbers_of_a_file(rt: HostRuntime) -> Result<(), Fail> {
     let mut reader = Watched::new(b"\x01\x02\x03\x04\0\0\0\0\0\0\x80".as_slice());
-    assert_eq!(rt; v1::read_u8(&mut reader)?, 1);
-    assert_eq!(rt; v1::read_u16(&mut reader)?, 0x0302);
-    assert_eq!(rt; v1::read_u64(&mut reader)?, 0x8000_0000_0000_0004);
+    let read = (
+        v1::read_u8(&mut reader)?,
+        v1::read_u16(&mut reader)?,
+        v1::read_u64(&mut reader)?,
+    );
+    assert_eq!(rt; read, (1, 0x0302, 0x8000_0000_0000_0004));
     Ok(())
 }
 

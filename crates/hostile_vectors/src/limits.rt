@@ -158,10 +158,10 @@ fn run<L: Layout, const SLOTS: usize>(
         refused: 0,
     };
     for turn in 0..CALLS {
-        assert!(rt; call(alloc, &mut both, turn)?, "call {turn} of {SLOTS}");
-        assert!(rt; agree(alloc, &both)?, "after call {turn} of {SLOTS}");
+        let holds = call(alloc, &mut both, turn)? && agree(alloc, &both)?;
+        assert!(rt; holds, "call {turn} of {SLOTS}");
     }
-    assert!(rt; both.refused > 200, "{SLOTS}");
+    assert!(rt; both.refused > 200);
     Ok(())
 }
 

@@ -36,6 +36,34 @@ fn begun<L: Layout>(alloc: Global, key: &[u8]) -> Result<Full<L, Global>, CedarE
     Full::<L, Global>::from_sorted_bytes_with(alloc, CedarBuilder::new(), &pairs)
 }
 
+type Pairs = Result<Vec<(i32, usize)>, CedarError>;
+
+fn expect_pairs(rt: &impl Abort, found: Pairs, wanted: [(i32, usize); 2]) -> Result<(), Fail> {
+    let found = found?;
+    assert_eq!(rt; found.as_slice(), wanted.as_slice());
+    Ok(())
+}
+
+fn expect_entries<L: Layout>(
+    rt: &impl Abort,
+    trie: &Full<L, Global>,
+    key: &[u8],
+) -> Result<(), Fail> {
+    let mut entries = trie.entries()?;
+    let (first, _) = entries.next().ok_or("an entry")??;
+    let (second, _) = entries.next().ok_or("an entry")??;
+    assert!(rt; first.as_slice() == half(key) && second.as_slice() == key);
+    assert!(rt; entries.next().is_none());
+    Ok(())
+}
+
+fn expect_text<L: Layout>(rt: &impl Abort, trie: &Full<L, Global>) -> Result<(), Fail> {
+    let mut texts = trie.entries_str()?;
+    let (text, _) = texts.next().ok_or("an entry")??;
+    assert_eq!(rt; text.len(), HALF);
+    Ok(())
+}
+
 fn expect_found<L: Layout>(
     rt: &impl Abort,
     alloc: Global,
@@ -44,21 +72,14 @@ fn expect_found<L: Layout>(
 ) -> Result<(), Fail> {
     assert_eq!(rt; trie.exact_match_search_bytes(key), Some((2, LEN)));
     assert_eq!(rt; trie.longest_prefix(half(key)), Some((1, HALF - 1)));
-    let fronts = trie.common_prefix_search_bytes(key)?;
-    assert_eq!(rt; fronts.as_slice(), [(1, HALF - 1), (2, LEN - 1)].as_slice());
-    let below = trie.common_prefix_predict_bytes(half(key))?;
-    assert_eq!(rt; below.as_slice(), [(1, 0), (2, HALF)].as_slice());
+    let fronts = trie.common_prefix_search_bytes(key);
+    expect_pairs(rt, fronts, [(1, HALF - 1), (2, LEN - 1)])?;
+    let below = trie.common_prefix_predict_bytes(half(key));
+    expect_pairs(rt, below, [(1, 0), (2, HALF)])?;
     let tokens: Vec<(usize, usize, Option<i32>)> = segment(trie, key).collect(alloc)?;
     assert_eq!(rt; tokens.as_slice(), [(0, LEN, Some(2))].as_slice());
-    let mut entries = trie.entries()?;
-    let (first, _) = entries.next().ok_or("an entry")??;
-    let (second, _) = entries.next().ok_or("an entry")??;
-    assert!(rt; first.as_slice() == half(key) && second.as_slice() == key);
-    assert!(rt; entries.next().is_none());
-    let mut texts = trie.entries_str()?;
-    let (text, _) = texts.next().ok_or("an entry")??;
-    assert_eq!(rt; text.len(), HALF);
-    Ok(())
+    expect_entries(rt, trie, key)?;
+    expect_text(rt, trie)
 }
 
 // The two keys erased, stored again one by one and in a list.

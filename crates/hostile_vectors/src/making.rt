@@ -33,6 +33,15 @@ fn made<'a, L: Layout>(
     }
 }
 
+// How many keys a dictionary has that is made so.
+fn count_made<L: Layout>(
+    memory: &Refusing<Global>,
+    what: Making,
+    ordered: bool,
+) -> Result<usize, CedarError> {
+    Ok(made::<L>(memory, what, ordered)?.len())
+}
+
 // Makes a dictionary with one request refused, and says whether it asked so often. The same call then succeeds.
 #[tactic(auto, using(cedarwood::proofs::DictionaryLemmas::default_limit))]
 fn is_refused<L: Layout>(
@@ -44,7 +53,7 @@ fn is_refused<L: Layout>(
 ) -> Result<bool, Fail> {
     let memory = Refusing::new(alloc);
     memory.refuse(request, request);
-    let outcome = made::<L>(&memory, what, ordered).map(|trie| trie.len());
+    let outcome = count_made::<L>(&memory, what, ordered);
     let is_refused = memory.requests() >= request;
     memory.refuse_none();
     let trie = made::<L>(&memory, what, ordered)?;
@@ -53,9 +62,14 @@ fn is_refused<L: Layout>(
     } else {
         Ok(trie.len())
     };
-    assert_eq!(rt; outcome, wanted, "{what:?} at {request}");
-    assert!(rt; loads_again(alloc, &trie)?, "{what:?}");
+    let holds = (outcome == wanted, loads_again(alloc, &trie)?);
+    expect(rt, holds, what, request);
     Ok(is_refused)
+}
+
+// A call with a request refused has to answer as it should, and what the next one makes to load.
+fn expect(rt: &impl Abort, holds: (bool, bool), what: Making, request: u64) {
+    assert_eq!(rt; holds, (true, true), "{what:?} at {request}");
 }
 
 // How many requests it makes, each of which was refused.
@@ -73,12 +87,14 @@ fn requests_of<L: Layout>(
     Ok(40)
 }
 
+// Texts ask as often as the same keys as bytes.
 fn refuse_each<L: Layout>(rt: &impl Abort, alloc: Global) -> Result<(), Fail> {
     for ordered in [true, false] {
-        for what in [Making::New, Making::Bytes, Making::Texts] {
-            let requests = requests_of::<L>(rt, alloc, what, ordered)?;
-            assert!(rt; 3 < requests && requests < 40, "{what:?}");
-        }
+        let new = requests_of::<L>(rt, alloc, Making::New, ordered)?;
+        let bytes = requests_of::<L>(rt, alloc, Making::Bytes, ordered)?;
+        let texts = requests_of::<L>(rt, alloc, Making::Texts, ordered)?;
+        assert!(rt; 3 < new && new < bytes && bytes < 40);
+        assert_eq!(rt; texts, bytes);
     }
     Ok(())
 }

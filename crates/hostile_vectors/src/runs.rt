@@ -120,15 +120,13 @@ fn is_refused<L: Layout>(rt: &impl Abort, alloc: Global, request: u64) -> Result
     let answers = run(&memory, &mut tries, &calls());
     let is_refused = memory.requests() >= request;
     memory.refuse_none();
-    match answers {
-        Ok(answers) => {
-            let refused = replay(alloc, &mut model, &answers)?;
-            assert_eq!(rt; refused > 0, is_refused, "at {request}");
-            assert!(rt; refused < 2, "at {request}");
-        }
-        Err(_) => assert!(rt; is_refused, "at {request}"),
-    }
-    assert!(rt; are_alike(alloc, &tries, &model)?, "at {request}");
+    let refused = match answers {
+        Ok(answers) => replay(alloc, &mut model, &answers)?,
+        Err(_) => 1,
+    };
+    let is_alike = are_alike(alloc, &tries, &model)?;
+    let wanted = if is_refused { 1 } else { 0 };
+    assert_eq!(rt; (refused, is_alike), (wanted, true), "at {request}");
     Ok(is_refused)
 }
 

@@ -23,7 +23,11 @@ fn begun<'a, L: Layout>(memory: &'a Refusing<Global>) -> Result<Tested<'a, L>, C
 fn walk_bytes<L: Layout>(rt: &impl Abort, trie: &Tested<'_, L>) -> Result<usize, CedarError> {
     let mut entries = trie.entries()?;
     for (given, wanted) in KEYS.iter().enumerate() {
-        assert_eq!(rt; entries.len(), 3usize.wrapping_sub(given));
+        let left = 3usize.wrapping_sub(given);
+        assert_eq!(rt;
+            (entries.len(), entries.size_hint()),
+            (left, (0, Some(left)))
+        );
         match entries.next() {
             Some(Ok((key, _))) => assert_eq!(rt; key.as_slice(), wanted.as_bytes()),
             other => {
@@ -34,7 +38,7 @@ fn walk_bytes<L: Layout>(rt: &impl Abort, trie: &Tested<'_, L>) -> Result<usize,
             }
         }
     }
-    assert!(rt; entries.next().is_none());
+    assert!(rt; entries.is_empty() && entries.next().is_none());
     Ok(3)
 }
 

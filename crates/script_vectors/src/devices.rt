@@ -1,8 +1,16 @@
 //! What a script leaves where a device gives little at a time, or fails.
-use crate::runs::{ALL, Limits, ROWS, answers, held_after, run_alone, script, whole_lines};
+use crate::runs::{
+    ALL, Ended, Limits, ROWS, answers, expect_ended, held_after, run_alone, script, whole_lines,
+};
 use cedar_cli::ScriptError;
+use std::process::Abort;
 use std::test::Fail;
 use test_devices::Ending;
+
+// What the first rows leave has to be held, and these of the reader and the writer to have failed.
+fn expect_left(rt: &impl Abort, ended: &Ended, rows: usize, failed: (bool, bool)) {
+    assert_eq!(rt; (ended.held, ended.failed), (held_after(rows), failed));
+}
 
 // The dictionary and the answers don't depend on how many bytes a call moves.
 #[test]
@@ -12,14 +20,8 @@ fn answers_all(rt: HostRuntime) -> Result<(), Fail> {
     let answers = answers(alloc, ROWS.len())?;
     for most in [1, 2, 7, 4096] {
         let ended = run_alone(alloc, &script, Limits { most, ..ALL })?;
-        assert_eq!(rt; ended.outcome, Ok(()), "{most} at a time");
-        assert_eq!(rt;
-            ended.written.as_slice(),
-            answers.as_slice(),
-            "{most} at a time"
-        );
-        assert_eq!(rt; ended.held, held_after(ROWS.len()), "{most} at a time");
-        assert_eq!(rt; ended.failed, (false, false), "{most} at a time");
+        expect_ended(&rt, &ended, Ok(()), &answers);
+        expect_left(&rt, &ended, ROWS.len(), (false, false));
     }
     Ok(())
 }
@@ -53,10 +55,8 @@ fn a_write_fault_leaves_the_finished_lines(rt: HostRuntime) -> Result<(), Fail> 
             let written = &answers[..room];
             let limits = Limits { room, ..*fault };
             let ended = run_alone(alloc, &script, limits)?;
-            assert_eq!(rt; ended.outcome, Err(ScriptError::Write), "at {room}");
-            assert_eq!(rt; ended.written.as_slice(), written, "at {room}");
-            assert_eq!(rt; ended.held, held_after(whole_lines(written)), "at {room}");
-            assert_eq!(rt; ended.failed, (false, true), "at {room}");
+            expect_ended(&rt, &ended, Err(ScriptError::Write), written);
+            expect_left(&rt, &ended, whole_lines(written), (false, true));
         }
     }
     Ok(())
@@ -90,10 +90,8 @@ fn a_read_fault_leaves_the_lines_that_came(rt: HostRuntime) -> Result<(), Fail> 
             let limits = Limits { comes, ..*fault };
             let ended = run_alone(alloc, &script, limits)?;
             let answers = answers(alloc, finished)?;
-            assert_eq!(rt; ended.outcome, Err(ScriptError::Read), "at {comes}");
-            assert_eq!(rt; ended.written.as_slice(), answers.as_slice(), "at {comes}");
-            assert_eq!(rt; ended.held, held_after(finished), "at {comes}");
-            assert_eq!(rt; ended.failed, (true, false), "at {comes}");
+            expect_ended(&rt, &ended, Err(ScriptError::Read), &answers);
+            expect_left(&rt, &ended, finished, (true, false));
         }
     }
     Ok(())

@@ -1,29 +1,13 @@
 //! What is left where memory is refused, and what needs none.
-use crate::runs::{ALL, Ended, ROWS, answers, held, held_after, run, script, whole_lines};
+use crate::runs::{
+    ALL, Ended, ROWS, answers, expect_ended, held, held_after, run, script, whole_lines,
+};
 use cedar_cli::ScriptError;
 use cedarwood::{Cedar, CedarError};
 use std::alloc::Global;
+use std::process::Abort;
 use std::test::Fail;
 use test_devices::Refusing;
-
-// With every request refused: an overwrite, searches and an erasure succeed.
-#[test]
-fn what_needs_no_memory(rt: HostRuntime) -> Result<(), Fail> {
-    let alloc = Refusing::new(rt.alloc());
-    let mut cedar = Cedar::new(&alloc)?;
-    cedar.update_bytes(b"ab", 1)?;
-    cedar.update_bytes(b"abc", 2)?;
-    alloc.refuse(1, u64::MAX);
-    assert_eq!(rt; cedar.update_bytes(b"ab", 3), Ok(()));
-    assert_eq!(rt; cedar.exact_match_search_bytes(b"ab"), Some((3, 2)));
-    assert_eq!(rt; cedar.exact_match_search_bytes(b"a"), None);
-    assert_eq!(rt; cedar.update_bytes(b"", 3), Err(CedarError::EmptyKey));
-    assert!(rt; cedar.erase_bytes(b"ab"));
-    assert!(rt; !cedar.erase_bytes(b"ab"));
-    assert_eq!(rt; cedar.exact_match_search_bytes(b"ab"), None);
-    assert_eq!(rt; cedar.exact_match_search_bytes(b"abc"), Some((2, 3)));
-    Ok(())
-}
 
 // A run with one request refused: the lines that were answered are finished, the next one did nothing, and a
 // second run from that line on ends as if nothing had been refused.
@@ -82,36 +66,29 @@ fn lines_from(script: &[u8], count: usize) -> &[u8] {
     rest
 }
 
+// With one request refused: the first run ends there, and both together give all answers.
+fn expect_resumed(rt: &impl Abort, alloc: Global, request: u64) -> Result<(), Fail> {
+    let left = run_refused(alloc, request)?;
+    let mut written = answers(alloc, left.finished)?;
+    expect_ended(rt, &left.first, Err(ScriptError::Memory), &written);
+    assert!(rt; left.is_left_as_finished, "at request {request}");
+    written.extend_from_slice(&left.second.written)?;
+    assert_eq!(rt; left.second.outcome, Ok(()), "at request {request}");
+    assert!(rt;
+        written == answers(alloc, ROWS.len())?,
+        "at request {request}"
+    );
+    assert!(rt; left.is_left_whole, "at request {request}");
+    Ok(())
+}
+
 #[test]
 fn a_script(rt: HostRuntime) -> Result<(), Fail> {
-    let alloc = rt.alloc();
-    let whole = run_refused(alloc, 0)?;
-    let answers_of_all = answers(alloc, ROWS.len())?;
+    let whole = run_refused(rt.alloc(), 0)?;
     assert!(rt; whole.requests > 0);
     assert_eq!(rt; whole.first.outcome, Ok(()));
     for earlier in 0..whole.requests {
-        let request = earlier + 1;
-        let left = run_refused(alloc, request)?;
-        let mut written = answers(alloc, left.finished)?;
-        assert_eq!(rt;
-            left.first.outcome,
-            Err(ScriptError::Memory),
-            "at request {request}"
-        );
-        assert_eq!(rt;
-            left.first.written.as_slice(),
-            written.as_slice(),
-            "at request {request}"
-        );
-        assert!(rt; left.is_left_as_finished, "at request {request}");
-        assert_eq!(rt; left.second.outcome, Ok(()), "at request {request}");
-        written.extend_from_slice(&left.second.written)?;
-        assert_eq!(rt;
-            written.as_slice(),
-            answers_of_all.as_slice(),
-            "at request {request}"
-        );
-        assert!(rt; left.is_left_whole, "at request {request}");
+        expect_resumed(&rt, rt.alloc(), earlier + 1)?;
     }
     Ok(())
 }

@@ -2,6 +2,8 @@
 use cedar_cli::{ScriptError, run_script};
 use cedarwood::{CedarBuilder, CedarError, DefaultLayout, Layout, Trie, Watched};
 use std::alloc::{AllocError, Allocator, Global};
+use std::process::Abort;
+use std::test::Fail;
 use test_devices::{Ending, FailingReader, FailingWriter};
 
 /// What the keys `a`, `ab` and `b` hold.
@@ -155,4 +157,44 @@ pub(crate) fn run_new<L: Layout>(
 /// Runs a script within limits on a new dictionary.
 pub(crate) fn run_alone(alloc: Global, script: &[u8], limits: Limits) -> Result<Ended, CedarError> {
     run_new::<DefaultLayout>(alloc, CedarBuilder::new(), script, limits)
+}
+
+/// A script with its answers.
+pub(crate) type Script = (&'static str, &'static str);
+
+/// A script on a new dictionary with these settings has to end well, and with these answers.
+pub(crate) fn expect_answers<L: Layout>(
+    rt: &impl Abort,
+    alloc: Global,
+    builder: CedarBuilder,
+    script: &[u8],
+    answers: &[u8],
+) -> Result<(), Fail> {
+    let ended = run_new::<L>(alloc, builder, script, ALL)?;
+    expect_ended(rt, &ended, Ok(()), answers);
+    Ok(())
+}
+
+/// A run has to end so, and to have written this.
+pub(crate) fn expect_ended(
+    rt: &impl Abort,
+    ended: &Ended,
+    outcome: Result<(), ScriptError>,
+    written: &[u8],
+) {
+    assert_eq!(rt; ended.outcome, outcome);
+    assert_eq!(rt; ended.written.as_slice(), written);
+}
+
+/// Each script has to end well, and with its answers.
+pub(crate) fn expect_each<L: Layout>(
+    rt: &impl Abort,
+    alloc: Global,
+    builder: CedarBuilder,
+    scripts: &[Script],
+) -> Result<(), Fail> {
+    for (script, answers) in scripts {
+        expect_answers::<L>(rt, alloc, builder, script.as_bytes(), answers.as_bytes())?;
+    }
+    Ok(())
 }

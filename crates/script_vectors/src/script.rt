@@ -1,12 +1,12 @@
 //! The script language: each form of a line, and its answer.
-use crate::runs::{ALL, run_alone, run_new};
-use cedarwood::{CedarBuilder, DefaultLayout, Layout, ReducedLayout};
+use crate::runs::{Script, expect_answers, expect_each};
+use cedarwood::{CedarBuilder, DefaultLayout, ReducedLayout};
 use std::alloc::Global;
 use std::process::Abort;
 use std::test::Fail;
 
 // Scripts of several lines, with their answers.
-const SCRIPTS: [(&str, &str); 11] = [
+const SCRIPTS: [Script; 11] = [
     ("", ""),
     (
         "+ 61 1\n= 61\n- 61\n= 61\n- 61\n",
@@ -43,27 +43,15 @@ const SCRIPTS: [(&str, &str); 11] = [
     ("+ 61 2147483645\n= 61", "ok\n2147483645 1\n"),
 ];
 
-fn expect_answers<L: Layout>(rt: &impl Abort, alloc: Global) -> Result<(), Fail> {
-    for (script, answers) in SCRIPTS {
-        let ended = run_new::<L>(alloc, CedarBuilder::new(), script.as_bytes(), ALL)?;
-        assert_eq!(rt; ended.outcome, Ok(()), "after {script}");
-        assert_eq!(rt;
-            ended.written.as_slice(),
-            answers.as_bytes(),
-            "after {script}"
-        );
-    }
-    Ok(())
-}
-
 #[test]
 fn scripts(rt: HostRuntime) -> Result<(), Fail> {
-    expect_answers::<DefaultLayout>(&rt, rt.alloc())?;
-    expect_answers::<ReducedLayout>(&rt, rt.alloc())
+    let builder = CedarBuilder::new();
+    expect_each::<DefaultLayout>(&rt, rt.alloc(), builder, &SCRIPTS)?;
+    expect_each::<ReducedLayout>(&rt, rt.alloc(), builder, &SCRIPTS)
 }
 
 // One line alone, with its answer.
-const LINES: [(&str, &str); 24] = [
+const LINES: [Script; 24] = [
     // Faults in their order: the key's before the value's.
     ("+ . -1", "refused EmptyKey\n"),
     ("+ 6100 -1", "refused NulByte 1\n"),
@@ -95,12 +83,7 @@ const LINES: [(&str, &str); 24] = [
 
 #[test]
 fn lines(rt: HostRuntime) -> Result<(), Fail> {
-    for (line, answer) in LINES {
-        let ended = run_alone(rt.alloc(), line.as_bytes(), ALL)?;
-        assert_eq!(rt; ended.outcome, Ok(()), "after {line}");
-        assert_eq!(rt; ended.written.as_slice(), answer.as_bytes(), "after {line}");
-    }
-    Ok(())
+    expect_each::<DefaultLayout>(&rt, rt.alloc(), CedarBuilder::new(), &LINES)
 }
 
 // Lines that are none of the forms.
@@ -170,47 +153,18 @@ const BAD_LINES: [&[u8]; 56] = [
 ];
 
 // Each is answered as bad, whether it ends in a newline or not, and the next line is read as if alone.
+fn expect_bad(rt: &impl Abort, alloc: Global, line: &[u8]) -> Result<(), Fail> {
+    let builder = CedarBuilder::new();
+    expect_answers::<DefaultLayout>(rt, alloc, builder, line, b"bad line\n")?;
+    let mut script = Vec::from_slice(alloc, line)?;
+    script.extend_from_slice(b"\n= 61\n")?;
+    expect_answers::<DefaultLayout>(rt, alloc, builder, &script, b"bad line\nnone\n")
+}
+
 #[test]
 fn bad_lines(rt: HostRuntime) -> Result<(), Fail> {
     for line in BAD_LINES {
-        let mut script = Vec::from_slice(rt.alloc(), line)?;
-        let ended = run_alone(rt.alloc(), &script, ALL)?;
-        assert_eq!(rt; ended.outcome, Ok(()), "after {line:?}");
-        assert_eq!(rt;
-            ended.written.as_slice(),
-            b"bad line\n".as_slice(),
-            "after {line:?}"
-        );
-        script.extend_from_slice(b"\n= 61\n")?;
-        let ended = run_alone(rt.alloc(), &script, ALL)?;
-        assert_eq!(rt; ended.outcome, Ok(()), "after {line:?}");
-        assert_eq!(rt;
-            ended.written.as_slice(),
-            b"bad line\nnone\n".as_slice(),
-            "after {line:?}"
-        );
+        expect_bad(&rt, rt.alloc(), line)?;
     }
-    Ok(())
-}
-
-// A key of 5,000 bytes, whose lines come in several reads.
-#[test]
-fn a_line_longer_than_a_read(rt: HostRuntime) -> Result<(), Fail> {
-    let mut key = Vec::new(rt.alloc());
-    for _ in 0..5000 {
-        key.extend_from_slice(b"7A")?;
-    }
-    let mut script = Vec::from_slice(rt.alloc(), b"+ ")?;
-    script.extend_from_slice(&key)?;
-    script.extend_from_slice(b" 8\n= 7a\n= ")?;
-    script.extend_from_slice(&key)?;
-    script.extend_from_slice(b"\n- ")?;
-    script.extend_from_slice(&key)?;
-    let ended = run_alone(rt.alloc(), &script, ALL)?;
-    assert_eq!(rt; ended.outcome, Ok(()));
-    assert_eq!(rt;
-        ended.written.as_slice(),
-        b"ok\nnone\n8 5000\nerased\n".as_slice()
-    );
     Ok(())
 }

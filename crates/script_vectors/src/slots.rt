@@ -1,5 +1,7 @@
 //! Scripts on dictionaries of few slots, where a line finds none.
-use crate::runs::{ALL, Holdings, run};
+ghost use Rattle.cedar_slots.specs.Places.{IsSlotLimit};
+
+use crate::runs::{ALL, Holdings, expect_ended, run};
 use cedar_cli::ScriptError;
 use cedarwood::{CedarBuilder, DefaultLayout, Layout, ReducedLayout, Trie};
 use std::alloc::{AllocError, Global};
@@ -15,27 +17,31 @@ struct Left {
     held: Holdings,
 }
 
-// Runs a script, a line of which finds no slot.
+// Runs a script on a new dictionary, a line of which finds no slot.
 fn expect_left<L: Layout, const SLOTS: usize>(
+    rt: &impl Abort,
     alloc: Global,
-    trie: &mut Trie<L, SLOTS, Global>,
     script: &[u8],
     left: Left,
-    rt: &impl Abort,
-) -> Result<(), Fail> {
-    let ended = run(alloc, alloc, trie, script, ALL)?;
-    assert_eq!(rt; ended.outcome, Err(ScriptError::SlotLimit));
-    assert_eq!(rt; ended.written.as_slice(), left.written.as_bytes());
-    assert_eq!(rt; ended.held, left.held);
-    assert_eq!(rt; ended.failed, (false, false));
+) -> Result<(), Fail>
+    requires { IsSlotLimit SLOTS }
+{
+    let mut trie = Trie::<L, SLOTS, Global>::with(alloc, CedarBuilder::new())?;
+    let ended = run(alloc, alloc, &mut trie, script, ALL)?;
+    expect_ended(
+        rt,
+        &ended,
+        Err(ScriptError::SlotLimit),
+        left.written.as_bytes(),
+    );
+    assert_eq!(rt; (ended.held, ended.failed), (left.held, (false, false)));
     assert_eq!(rt; (trie.len(), trie.used_node_slots()), left.figures);
     Ok(())
 }
 
-// Some lines, one that stores a key of 300 bytes, and a look-up of `a`.
-fn before_a_long_key(alloc: Global, lines: &str) -> Result<Vec<u8>, AllocError> {
-    let mut script = Vec::from_slice(alloc, lines.as_bytes())?;
-    script.extend_from_slice(b"+ ")?;
+// Two lines, one that stores a key of 300 bytes, and a look-up of `a`.
+fn before_a_long_key(alloc: Global) -> Result<Vec<u8>, AllocError> {
+    let mut script = Vec::from_slice(alloc, b"+ 61 1\n+ 6162 2\n+ ")?;
     for _ in 0..300 {
         script.extend_from_slice(b"7a")?;
     }
@@ -43,57 +49,38 @@ fn before_a_long_key(alloc: Global, lines: &str) -> Result<Vec<u8>, AllocError> 
     Ok(script)
 }
 
-// The first key's number has no place outside block 0.
+// By default the first key's number has no place outside block 0. In the reduced layout it stands in its node's own slot, and stays there
+// where no label comes below the node.
 #[tactic(auto, using(crate::proofs::Limits::limit_256))]
 #[test]
 fn one_block(rt: HostRuntime) -> Result<(), Fail> {
-    let mut trie = Trie::<DefaultLayout, 256, Global>::with(rt.alloc(), CedarBuilder::new())?;
     let left = Left {
         written: "none\nrefused EmptyKey\n",
         figures: (0, 1),
         held: [None; 3],
     };
     let script = b"= 61\n+ . 1\n+ 61 1\n= 61\n";
-    expect_left(rt.alloc(), &mut trie, script, left, &rt)
-}
-
-// The long key's first slots are taken and given back.
-#[tactic(auto, using(crate::proofs::Limits::limit_512))]
-#[test]
-fn two_blocks(rt: HostRuntime) -> Result<(), Fail> {
-    let mut trie = Trie::<DefaultLayout, 512, Global>::with(rt.alloc(), CedarBuilder::new())?;
-    let left = Left {
-        written: "ok\nok\n",
-        figures: (2, 5),
-        held: [Some((1, 1)), Some((2, 2)), None],
-    };
-    let script = before_a_long_key(rt.alloc(), "+ 61 1\n+ 6162 2\n")?;
-    expect_left(rt.alloc(), &mut trie, &script, left, &rt)
-}
-
-// A number in its node's own slot stays there where no label comes below the node.
-#[tactic(auto, using(crate::proofs::Limits::limit_256))]
-#[test]
-fn one_block_reduced(rt: HostRuntime) -> Result<(), Fail> {
-    let mut trie = Trie::<ReducedLayout, 256, Global>::with(rt.alloc(), CedarBuilder::new())?;
+    expect_left::<DefaultLayout, 256>(&rt, rt.alloc(), script, left)?;
     let left = Left {
         written: "ok\nok\n",
         figures: (2, 3),
         held: [Some((1, 1)), None, Some((5, 1))],
     };
     let script = b"+ 61 1\n+ 62 5\n+ 6162 2\n= 61\n";
-    expect_left(rt.alloc(), &mut trie, script, left, &rt)
+    expect_left::<ReducedLayout, 256>(&rt, rt.alloc(), script, left)
 }
 
+// The long key's first slots are taken and given back.
 #[tactic(auto, using(crate::proofs::Limits::limit_512))]
 #[test]
-fn two_blocks_reduced(rt: HostRuntime) -> Result<(), Fail> {
-    let mut trie = Trie::<ReducedLayout, 512, Global>::with(rt.alloc(), CedarBuilder::new())?;
+fn two_blocks(rt: HostRuntime) -> Result<(), Fail> {
+    let script = before_a_long_key(rt.alloc())?;
     let left = Left {
         written: "ok\nok\n",
-        figures: (2, 4),
+        figures: (2, 5),
         held: [Some((1, 1)), Some((2, 2)), None],
     };
-    let script = before_a_long_key(rt.alloc(), "+ 61 1\n+ 6162 2\n")?;
-    expect_left(rt.alloc(), &mut trie, &script, left, &rt)
+    expect_left::<DefaultLayout, 512>(&rt, rt.alloc(), &script, left)?;
+    let figures = (2, 4);
+    expect_left::<ReducedLayout, 512>(&rt, rt.alloc(), &script, Left { figures, ..left })
 }

@@ -1,13 +1,14 @@
 //! The lines that walk: the fronts of a query, the keys that begin with it, and all entries.
-use crate::runs::{ALL, Limits, run, run_alone};
+use crate::runs::{ALL, Script, expect_each, run};
 use cedar_cli::ScriptError;
-use cedarwood::{Cedar, CedarBuilder, CedarError, ReducedCedar, Trie};
+use cedarwood::{Cedar, CedarBuilder, CedarError, DefaultLayout, ReducedLayout};
 use std::alloc::{AllocError, Global};
+use std::process::Abort;
 use std::test::Fail;
 use test_devices::Refusing;
 
 // Scripts of several lines, with their answers.
-const SCRIPTS: [(&str, &str); 6] = [
+const SCRIPTS: [Script; 6] = [
     // Nothing is held.
     ("< 61\n> .\n*\n< .\n> 00\n", "none\nnone\nend\nnone\nnone\n"),
     // The count of `<` is one less than the front's bytes, that of `>` the bytes behind the query.
@@ -33,54 +34,14 @@ const SCRIPTS: [(&str, &str); 6] = [
 
 #[test]
 fn scripts(rt: HostRuntime) -> Result<(), Fail> {
-    for (script, answers) in SCRIPTS {
-        let ended = run_alone(rt.alloc(), script.as_bytes(), ALL)?;
-        assert_eq!(rt; ended.outcome, Ok(()), "after {script}");
-        assert_eq!(rt;
-            ended.written.as_slice(),
-            answers.as_bytes(),
-            "after {script}"
-        );
-    }
-    Ok(())
-}
-
-// What a script writes on a new dictionary of the reduced layout.
-fn written_reduced(alloc: Global, script: &str) -> Result<Vec<u8>, CedarError> {
-    let mut cedar: ReducedCedar<Global> = Trie::with(alloc, CedarBuilder::new())?;
-    match run(alloc, alloc, &mut cedar, script.as_bytes(), ALL) {
-        Ok(ended) => Ok(ended.written),
-        Err(AllocError) => Err(CedarError::Memory),
-    }
-}
-
-#[test]
-fn scripts_in_the_reduced_layout(rt: HostRuntime) -> Result<(), Fail> {
-    for (script, answers) in SCRIPTS {
-        let written = written_reduced(rt.alloc(), script)?;
-        assert_eq!(rt; written.as_slice(), answers.as_bytes(), "after {script}");
-    }
-    Ok(())
+    let builder = CedarBuilder::new();
+    expect_each::<DefaultLayout>(&rt, rt.alloc(), builder, &SCRIPTS)?;
+    expect_each::<ReducedLayout>(&rt, rt.alloc(), builder, &SCRIPTS)
 }
 
 const WALKS: &str = "+ 61 1\n+ 6162 2\n*\n< 6162\n> 61\n#\n";
 
 const WALKED: &str = "ok\nok\n61 1\n6162 2\nend\n1:0 2:1\n1:0 2:1\n2 5\n";
-
-// A write that fails in the midst of an answer is a fault of its line.
-#[test]
-fn a_writer_that_fails(rt: HostRuntime) -> Result<(), Fail> {
-    for room in 0..WALKED.len() {
-        let ended = run_alone(rt.alloc(), WALKS.as_bytes(), Limits { room, ..ALL })?;
-        assert_eq!(rt; ended.outcome, Err(ScriptError::Write), "at {room}");
-        assert_eq!(rt;
-            ended.written.as_slice(),
-            &WALKED.as_bytes()[..room],
-            "at {room}"
-        );
-    }
-    Ok(())
-}
 
 // Runs the walks, and tells how many requests for memory were made, of which one is refused, and what was written.
 fn run_refusing(
@@ -94,26 +55,22 @@ fn run_refusing(
     }
 }
 
+// A run has to end well where no request was refused, and else with a front of the answers.
+fn expect_front(rt: &impl Abort, outcome: Result<(), ScriptError>, written: &[u8], is_whole: bool) {
+    assert_eq!(rt; outcome.is_ok(), is_whole);
+    assert!(rt; WALKED.as_bytes().starts_with(written));
+    assert_eq!(rt; written.len() == WALKED.len(), is_whole);
+}
+
 // Each request in turn is refused: the run ends there, and what was written begins the answers.
 #[test]
 fn memory_that_is_refused(rt: HostRuntime) -> Result<(), Fail> {
     for request in 8..64 {
         let refusing = Refusing::new(rt.alloc());
         refusing.refuse(request, request);
-        let Ok((outcome, written)) = run_refusing(rt.alloc(), &refusing) else {
-            continue;
-        };
-        let is_whole = refusing.requests() < request;
-        assert_eq!(rt; outcome.is_ok(), is_whole, "request {request}");
-        assert!(rt;
-            WALKED.as_bytes().starts_with(&written),
-            "request {request}"
-        );
-        assert_eq!(rt;
-            written.len() == WALKED.len(),
-            is_whole,
-            "request {request}"
-        );
+        if let Ok((outcome, written)) = run_refusing(rt.alloc(), &refusing) {
+            expect_front(&rt, outcome, &written, refusing.requests() < request);
+        }
     }
     Ok(())
 }

@@ -4,46 +4,70 @@ use cedar_cli::{ScriptError, run_script};
 use cedarwood::{Cedar, CedarError, Watched};
 use std::alloc::Global;
 use std::io::{Read, Write};
+use std::process::Abort;
 use std::test::Fail;
 use test_devices::{Ending, FailingReader, FailingWriter, FlushCounter};
+
+// A read has to give so many bytes, or none where it fails, and the reader to have failed or not.
+fn expect_read<R: Read>(
+    rt: &impl Abort,
+    reader: &mut Watched<R>,
+    wanted: Option<usize>,
+    failed: bool,
+) {
+    let mut buf = [0u8; 4];
+    assert_eq!(rt; reader.read(&mut buf).ok(), wanted);
+    assert_eq!(rt; reader.failed(), failed);
+}
 
 // A reader is remembered as failed from its first fault on; the end of the input is none.
 #[test]
 fn a_reader(rt: HostRuntime) {
-    let mut buf = [0u8; 4];
     let mut ends = Watched::new(FailingReader::new(b"abc", 3, 2, Ending::Quiet));
     assert!(rt; !ends.failed());
-    assert!(rt; matches!(ends.read(&mut buf), Ok(2)));
-    assert!(rt; matches!(ends.read(&mut buf), Ok(1)));
-    assert!(rt; matches!(ends.read(&mut buf), Ok(0)));
-    assert!(rt; !ends.failed());
+    for wanted in [2, 1, 0] {
+        expect_read(&rt, &mut ends, Some(wanted), false);
+    }
     let mut fails = Watched::new(FailingReader::new(b"abc", 2, 2, Ending::Fault));
-    assert!(rt; matches!(fails.read(&mut buf), Ok(2)));
-    assert!(rt; !fails.failed());
-    assert!(rt; fails.read(&mut buf).is_err());
-    assert!(rt; fails.failed());
+    expect_read(&rt, &mut fails, Some(2), false);
+    expect_read(&rt, &mut fails, None, true);
     let mut inside = fails.into_inner();
-    assert!(rt; inside.read(&mut buf).is_err());
+    assert!(rt; inside.read(&mut [0u8; 4]).is_err());
+}
+
+// A write has to take so many bytes, or none where it fails, and the writer to have failed or not.
+fn expect_write<W: Write>(
+    rt: &impl Abort,
+    writer: &mut Watched<W>,
+    bytes: &[u8],
+    wanted: Option<usize>,
+    failed: bool,
+) {
+    assert_eq!(rt; writer.write(bytes).ok(), wanted);
+    assert_eq!(rt; writer.failed(), failed);
 }
 
 // A write of no bytes is no fault, and one that takes none of some bytes is.
 #[test]
 fn a_writer(rt: HostRuntime) {
-    for ending in [Ending::Quiet, Ending::Fault] {
+    for (ending, last) in [(Ending::Quiet, Some(0)), (Ending::Fault, None)] {
         let mut kept = [0u8; 3];
         let mut writer = Watched::new(FailingWriter::new(&mut kept, 2, ending));
         assert!(rt; !writer.failed());
-        assert!(rt; matches!(writer.write(b"abcd"), Ok(2)));
-        assert!(rt; matches!(writer.write(b"cd"), Ok(1)));
-        assert!(rt; matches!(writer.write(b""), Ok(0)));
-        assert!(rt; !writer.failed());
-        assert!(rt; matches!(writer.write(b"d"), Ok(0) | Err(_)));
-        assert!(rt; writer.failed());
-        assert!(rt; matches!(writer.write(b""), Ok(0)));
-        assert!(rt; writer.failed());
+        expect_write(&rt, &mut writer, b"abcd", Some(2), false);
+        expect_write(&rt, &mut writer, b"cd", Some(1), false);
+        expect_write(&rt, &mut writer, b"", Some(0), false);
+        expect_write(&rt, &mut writer, b"d", last, true);
+        expect_write(&rt, &mut writer, b"", Some(0), true);
         assert_eq!(rt; writer.into_inner().len(), 3);
         assert_eq!(rt; kept, *b"abc");
     }
+}
+
+// A flush has to succeed or not, and the writer to have failed or not.
+fn expect_flush<W: Write>(rt: &impl Abort, writer: &mut Watched<W>, is_ok: bool, failed: bool) {
+    assert_eq!(rt; writer.flush().is_ok(), is_ok);
+    assert_eq!(rt; writer.failed(), failed);
 }
 
 // A flush is passed on, and its fault remembered.
@@ -52,12 +76,9 @@ fn a_flush(rt: HostRuntime) {
     let mut kept = [0u8; 3];
     let inside = FlushCounter::new(FailingWriter::new(&mut kept, 3, Ending::Fault), 2);
     let mut writer = Watched::new(inside);
-    assert!(rt; writer.flush().is_ok());
-    assert!(rt; !writer.failed());
-    assert!(rt; writer.flush().is_err());
-    assert!(rt; writer.failed());
-    assert!(rt; writer.flush().is_ok());
-    assert!(rt; writer.failed());
+    expect_flush(&rt, &mut writer, true, false);
+    expect_flush(&rt, &mut writer, false, true);
+    expect_flush(&rt, &mut writer, true, true);
     assert_eq!(rt; writer.into_inner().flushes(), 3);
 }
 
@@ -96,6 +117,14 @@ fn run_unflushed(alloc: Global, script: &[u8], flush: u64) -> Result<Unflushed, 
     })
 }
 
+// A run has to have ended at the failed flush, after so many, and to have written this, with more to read or not.
+fn expect_left(rt: &impl Abort, left: &Unflushed, flushes: u64, written: &[u8], has_more: bool) {
+    let devices = (left.failed, left.flushes, left.has_more_to_read);
+    assert_eq!(rt; left.outcome, Err(ScriptError::Write));
+    assert_eq!(rt; devices, ((false, true), flushes, has_more));
+    assert_eq!(rt; left.written.as_slice(), written);
+}
+
 // A script flushes before each read: the bytes of the reads before the failed flush have come, and no more.
 #[test]
 fn a_script_flushes_before_each_read(rt: HostRuntime) -> Result<(), Fail> {
@@ -104,11 +133,7 @@ fn a_script_flushes_before_each_read(rt: HostRuntime) -> Result<(), Fail> {
         let flush = come as u64 + 1;
         let left = run_unflushed(rt.alloc(), &script, flush)?;
         let expected = answers(rt.alloc(), whole_lines(&script[..come]))?;
-        assert_eq!(rt; left.outcome, Err(ScriptError::Write), "at {come}");
-        assert_eq!(rt; left.failed, (false, true), "at {come}");
-        assert_eq!(rt; left.flushes, flush, "at {come}");
-        assert_eq!(rt; left.written.as_slice(), expected.as_slice(), "at {come}");
-        assert_eq!(rt; left.has_more_to_read, come < script.len(), "at {come}");
+        expect_left(&rt, &left, flush, &expected, come < script.len());
     }
     Ok(())
 }

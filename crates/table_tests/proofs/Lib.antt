@@ -1,3 +1,2 @@
 mod KeyLemmas
 pub mod Limits
-mod OneKeyLemmas

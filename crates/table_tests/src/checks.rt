@@ -7,7 +7,7 @@ ghost use Rattle.cedar_table.specs.Table.Parts.{parts_fields};
 ghost use Rattle.cedar_table.specs.Table.TableFields.{fields};
 ghost use Rattle.table_tests.specs.Fitting.{IsFitting};
 
-use crate::steps::{give, take, take_some};
+use crate::steps::{gives, take_some, takes};
 use cedar_table::{Corrupt, DefaultLayout, Parts, Table, Ticks};
 use std::alloc::{AllocError, Global};
 use std::marker::Brand;
@@ -146,11 +146,14 @@ fn set_block(parts: &mut Parts<Global>, field: Field, index: usize, value: i32) 
     }
 }
 
+/// A field, the slot, block or reject value that it is of, what it is set to, and what a check answers then.
+type Row = (Field, usize, i32, &'static str);
+
 /// Each row sets one field of the table's records, and says what a check answers then.
 fn each_change<C: Ledger>(
     rt: &impl Abort,
     table: &Small,
-    rows: &[(Field, usize, i32, &'static str)],
+    rows: &[Row],
     alloc: Global,
     ticks: &mut Ticks<C>,
 ) -> Result<(), Fail> {
@@ -163,6 +166,40 @@ fn each_change<C: Ledger>(
     Ok(())
 }
 
+// One field of a new table each.
+const NEW: [Row; 30] = [
+    (Field::EHead, 0, 255, "ok"),
+    (Field::EHead, 0, 0, "free-list"),
+    (Field::EHead, 0, 256, "blocks"),
+    (Field::EHead, 0, -1, "blocks"),
+    (Field::EHead, 0, i32::MIN, "blocks"),
+    (Field::Num, 0, 255, "blocks"),
+    (Field::Num, 0, -1, "blocks"),
+    (Field::Reject, 0, 1, "ok"),
+    (Field::Reject, 0, 0, "blocks"),
+    (Field::Reject, 0, 258, "blocks"),
+    (Field::Trial, 0, 1, "blocks"),
+    (Field::Prev, 0, 1, "block-lists"),
+    (Field::Next, 0, -1, "block-lists"),
+    (Field::FullHead, 0, 1, "block-lists"),
+    (Field::OpenHead, 0, i32::MAX, "block-lists"),
+    (Field::ClosedHead, 0, i32::MIN, "block-lists"),
+    (Field::RejectValue, 256, 1, "ok"),
+    (Field::RejectValue, 0, 2, "reject"),
+    (Field::RejectValue, 7, 0, "reject"),
+    (Field::Check, 7, -7, "free-list"),
+    (Field::Check, 7, -9, "free-list"),
+    (Field::Check, 255, -256, "free-list"),
+    (Field::Check, 7, i32::MIN, "free-list"),
+    (Field::Check, 7, 0, "blocks"),
+    (Field::Base, 7, -7, "free-list"),
+    (Field::Base, 7, 6, "free-list"),
+    (Field::Base, 7, i32::MIN, "free-list"),
+    (Field::Sibling, 7, 1, "n_infos"),
+    (Field::Child, 255, 255, "n_infos"),
+    (Field::Child, 0, 1, "ok"),
+];
+
 fn changed_new_table<C: Ledger>(rt: &impl Abort, alloc: Global, blank: Blank) -> Result<(), Fail>
     requires name { blank.name ≡ C.name }
     requires parts { blank.parts ≡ C.parts }
@@ -170,39 +207,7 @@ fn changed_new_table<C: Ledger>(rt: &impl Abort, alloc: Global, blank: Blank) ->
 {
     let ticks = &mut Ticks::<C>::new(blank);
     let table = Small::new(alloc, true, 3)?;
-    let rows = [
-        (Field::EHead, 0, 255, "ok"),
-        (Field::EHead, 0, 0, "free-list"),
-        (Field::EHead, 0, 256, "blocks"),
-        (Field::EHead, 0, -1, "blocks"),
-        (Field::EHead, 0, i32::MIN, "blocks"),
-        (Field::Num, 0, 255, "blocks"),
-        (Field::Num, 0, -1, "blocks"),
-        (Field::Reject, 0, 1, "ok"),
-        (Field::Reject, 0, 0, "blocks"),
-        (Field::Reject, 0, 258, "blocks"),
-        (Field::Trial, 0, 1, "blocks"),
-        (Field::Prev, 0, 1, "block-lists"),
-        (Field::Next, 0, -1, "block-lists"),
-        (Field::FullHead, 0, 1, "block-lists"),
-        (Field::OpenHead, 0, i32::MAX, "block-lists"),
-        (Field::ClosedHead, 0, i32::MIN, "block-lists"),
-        (Field::RejectValue, 256, 1, "ok"),
-        (Field::RejectValue, 0, 2, "reject"),
-        (Field::RejectValue, 7, 0, "reject"),
-        (Field::Check, 7, -7, "free-list"),
-        (Field::Check, 7, -9, "free-list"),
-        (Field::Check, 255, -256, "free-list"),
-        (Field::Check, 7, i32::MIN, "free-list"),
-        (Field::Check, 7, 0, "blocks"),
-        (Field::Base, 7, -7, "free-list"),
-        (Field::Base, 7, 6, "free-list"),
-        (Field::Base, 7, i32::MIN, "free-list"),
-        (Field::Sibling, 7, 1, "n_infos"),
-        (Field::Child, 255, 255, "n_infos"),
-        (Field::Child, 0, 1, "ok"),
-    ];
-    each_change(rt, &table, &rows, alloc, ticks)
+    each_change(rt, &table, &NEW, alloc, ticks)
 }
 
 /// One field of a new table changed, to what a table may have and to what none has.
@@ -210,6 +215,31 @@ fn changed_new_table<C: Ledger>(rt: &impl Abort, alloc: Global, blank: Blank) ->
 fn a_new_table(rt: HostRuntime) -> Result<(), Fail> {
     changed_new_table::<Brand>(&rt, rt.alloc(), Blank::new(1))
 }
+
+// One field each, where two blocks are full and one is open.
+const LISTS: [Row; 21] = [
+    (Field::FullHead, 0, 1, "block-lists"),
+    (Field::FullHead, 0, 0, "block-lists"),
+    (Field::OpenHead, 0, 0, "block-lists"),
+    (Field::OpenHead, 0, 2, "block-lists"),
+    (Field::ClosedHead, 0, 3, "block-lists"),
+    (Field::Next, 2, 2, "block-lists"),
+    (Field::Next, 1, 3, "block-lists"),
+    (Field::Prev, 1, 0, "block-lists"),
+    (Field::Prev, 3, -3, "block-lists"),
+    (Field::Trial, 3, 1, "block-lists"),
+    (Field::Trial, 3, 2, "blocks"),
+    (Field::Trial, 2, 1, "ok"),
+    (Field::EHead, 1, i32::MAX, "ok"),
+    (Field::EHead, 2, -7, "ok"),
+    (Field::EHead, 3, 1000, "ok"),
+    (Field::EHead, 3, 800, "free-list"),
+    (Field::EHead, 3, 255, "blocks"),
+    (Field::Num, 1, 1, "blocks"),
+    (Field::Reject, 1, 1, "ok"),
+    (Field::Check, 1000, -5, "free-list"),
+    (Field::Check, 300, -300, "blocks"),
+];
 
 fn changed_lists<C: Ledger>(rt: &impl Abort, alloc: Global, blank: Blank) -> Result<(), Fail>
     requires name { blank.name ≡ C.name }
@@ -219,30 +249,7 @@ fn changed_lists<C: Ledger>(rt: &impl Abort, alloc: Global, blank: Blank) -> Res
     let ticks = &mut Ticks::<C>::new(blank);
     let mut table = Small::new(alloc, true, 1)?;
     take_some(&mut table, 600)?;
-    let rows = [
-        (Field::FullHead, 0, 1, "block-lists"),
-        (Field::FullHead, 0, 0, "block-lists"),
-        (Field::OpenHead, 0, 0, "block-lists"),
-        (Field::OpenHead, 0, 2, "block-lists"),
-        (Field::ClosedHead, 0, 3, "block-lists"),
-        (Field::Next, 2, 2, "block-lists"),
-        (Field::Next, 1, 3, "block-lists"),
-        (Field::Prev, 1, 0, "block-lists"),
-        (Field::Prev, 3, -3, "block-lists"),
-        (Field::Trial, 3, 1, "block-lists"),
-        (Field::Trial, 3, 2, "blocks"),
-        (Field::Trial, 2, 1, "ok"),
-        (Field::EHead, 1, i32::MAX, "ok"),
-        (Field::EHead, 2, -7, "ok"),
-        (Field::EHead, 3, 1000, "ok"),
-        (Field::EHead, 3, 800, "free-list"),
-        (Field::EHead, 3, 255, "blocks"),
-        (Field::Num, 1, 1, "blocks"),
-        (Field::Reject, 1, 1, "ok"),
-        (Field::Check, 1000, -5, "free-list"),
-        (Field::Check, 300, -300, "blocks"),
-    ];
-    each_change(rt, &table, &rows, alloc, ticks)
+    each_change(rt, &table, &LISTS, alloc, ticks)
 }
 
 /// One field changed where two blocks are full and one is open.
@@ -250,6 +257,22 @@ fn changed_lists<C: Ledger>(rt: &impl Abort, alloc: Global, blank: Blank) -> Res
 fn lists_of_blocks(rt: HostRuntime) -> Result<(), Fail> {
     changed_lists::<Brand>(&rt, rt.alloc(), Blank::new(1))
 }
+
+// One field each, where a block has two free slots.
+const TWO_FREE: [Row; 4] = [
+    (Field::EHead, 1, 400, "ok"),
+    (Field::Check, 300, -300, "free-list"),
+    (Field::Base, 400, -256, "free-list"),
+    (Field::Next, 1, 2, "block-lists"),
+];
+
+// One field each, where a block has one free slot.
+const ONE_LEFT: [Row; 4] = [
+    (Field::ClosedHead, 0, 0, "block-lists"),
+    (Field::OpenHead, 0, 1, "block-lists"),
+    (Field::Check, 511, -510, "free-list"),
+    (Field::Trial, 1, 1, "ok"),
+];
 
 fn closed_lists<C: Ledger>(rt: &impl Abort, alloc: Global, blank: Blank) -> Result<(), Fail>
     requires name { blank.name ≡ C.name }
@@ -259,24 +282,12 @@ fn closed_lists<C: Ledger>(rt: &impl Abort, alloc: Global, blank: Blank) -> Resu
     let ticks = &mut Ticks::<C>::new(blank);
     let mut table = Small::new(alloc, true, 1)?;
     take_some(&mut table, 255)?;
-    let one_left = [
-        (Field::ClosedHead, 0, 0, "block-lists"),
-        (Field::OpenHead, 0, 1, "block-lists"),
-        (Field::Check, 511, -510, "free-list"),
-        (Field::Trial, 1, 1, "ok"),
-    ];
-    each_change(rt, &table, &one_left, alloc, ticks)?;
+    each_change(rt, &table, &ONE_LEFT, alloc, ticks)?;
     take_some(&mut table, 300)?;
-    assert!(rt; give(&mut table, 600, ticks));
-    assert!(rt; give(&mut table, 300, ticks));
-    assert!(rt; give(&mut table, 400, ticks));
-    let two_free = [
-        (Field::EHead, 1, 400, "ok"),
-        (Field::Check, 300, -300, "free-list"),
-        (Field::Base, 400, -256, "free-list"),
-        (Field::Next, 1, 2, "block-lists"),
-    ];
-    each_change(rt, &table, &two_free, alloc, ticks)
+    gives(rt, &mut table, 600, ticks);
+    gives(rt, &mut table, 300, ticks);
+    gives(rt, &mut table, 400, ticks);
+    each_change(rt, &table, &TWO_FREE, alloc, ticks)
 }
 
 /// A closed block with one free slot, and rings after slots were given back.
@@ -284,6 +295,15 @@ fn closed_lists<C: Ledger>(rt: &impl Abort, alloc: Global, blank: Blank) -> Resu
 fn closed_blocks(rt: HostRuntime) -> Result<(), Fail> {
     closed_lists::<Brand>(&rt, rt.alloc(), Blank::new(1))
 }
+
+// One field each, where block 0 has no free slot.
+const FULL_FIRST: [Row; 5] = [
+    (Field::EHead, 0, 0, "ok"),
+    (Field::EHead, 0, i32::MIN, "ok"),
+    (Field::Num, 0, 0, "blocks"),
+    (Field::Num, 0, 2, "blocks"),
+    (Field::Check, 200, -200, "blocks"),
+];
 
 fn full_first_block<C: Ledger>(rt: &impl Abort, alloc: Global, blank: Blank) -> Result<(), Fail>
     requires name { blank.name ≡ C.name }
@@ -293,87 +313,13 @@ fn full_first_block<C: Ledger>(rt: &impl Abort, alloc: Global, blank: Blank) -> 
     let ticks = &mut Ticks::<C>::new(blank);
     let mut table = Small::new(alloc, true, 1)?;
     for slot in 1..256 {
-        assert!(rt; take(&mut table, slot, 0, 0, ticks));
+        takes(rt, &mut table, slot, 0, 0, ticks);
     }
-    let rows = [
-        (Field::EHead, 0, 0, "ok"),
-        (Field::EHead, 0, i32::MIN, "ok"),
-        (Field::Num, 0, 0, "blocks"),
-        (Field::Num, 0, 2, "blocks"),
-        (Field::Check, 200, -200, "blocks"),
-    ];
-    each_change(rt, &table, &rows, alloc, ticks)
+    each_change(rt, &table, &FULL_FIRST, alloc, ticks)
 }
 
 /// Block 0 with no slot free: its head may be anything.
 #[test]
 fn a_full_first_block(rt: HostRuntime) -> Result<(), Fail> {
     full_first_block::<Brand>(&rt, rt.alloc(), Blank::new(1))
-}
-
-/// The number whose byte `place` is another one by its lowest bit.
-fn flipped(value: i32, place: usize) -> i32 {
-    value ^ [1, 256, 65536, 16777216][place % 4]
-}
-
-/// Changes the byte `place` of a new table's records as they stand in a file: slots, labels, the block, reject values.
-fn flip(parts: &mut Parts<Global>, place: usize) {
-    let (node, info) = (
-        parts.nodes.get_mut(place / 8),
-        parts.n_infos.get_mut(place.saturating_sub(2048) / 2),
-    );
-    match (place, node, info) {
-        (0..2048, Some(node), _) if place % 8 < 4 => node.base = flipped(node.base, place),
-        (0..2048, Some(node), _) => node.check = flipped(node.check, place),
-        (2048..2560, _, Some(info)) if place % 2 == 0 => info.sibling ^= 1,
-        (2048..2560, _, Some(info)) => info.child ^= 1,
-        _ => flip_rest(parts, place.saturating_sub(2560)),
-    }
-}
-
-/// The same of the bytes behind the slots and labels.
-fn flip_rest(parts: &mut Parts<Global>, place: usize) {
-    if place >= 20 {
-        if let Some(value) = parts.reject.get_mut((place - 20) / 2) {
-            *value ^= [1, 256][place % 2];
-        }
-        return;
-    }
-    if let Some(block) = parts.blocks.get_mut(0) {
-        match place {
-            0..4 => block.prev = flipped(block.prev, place),
-            4..8 => block.next = flipped(block.next, place),
-            8..10 => block.num ^= [1, 256][place % 2],
-            10..12 => block.reject ^= [1, 256][place % 2],
-            12..16 => block.trial = flipped(block.trial, place),
-            _ => block.e_head = flipped(block.e_head, place),
-        }
-    }
-}
-
-fn flipped_bytes<C: Ledger>(rt: &impl Abort, alloc: Global, blank: Blank) -> Result<(), Fail>
-    requires name { blank.name ≡ C.name }
-    requires parts { blank.parts ≡ C.parts }
-    requires some { 0 < blank.parts }
-{
-    let ticks = &mut Ticks::<C>::new(blank);
-    let table = Small::new(alloc, true, 1)?;
-    let mut passed: usize = 0;
-    for place in 0..3094 {
-        let mut parts = parts_of(&table, alloc)?;
-        flip(&mut parts, place);
-        if section(parts, ticks) == "ok" {
-            passed = passed.saturating_add(1);
-        }
-    }
-    assert_eq!(rt; passed, 141);
-    Ok(())
-}
-
-/// Each byte of a new table's records changed by its lowest bit. A table has 131 of the changed ones: another `reject`
-/// of the block (2), or a smaller reject value (129). The ten bytes of the root's slot, which this check leaves to that of the tree,
-/// may be anything.
-#[test]
-fn each_byte(rt: HostRuntime) -> Result<(), Fail> {
-    flipped_bytes::<Brand>(&rt, rt.alloc(), Blank::new(1))
 }

@@ -5,7 +5,7 @@ ghost use Rattle.cedar_slots.specs.Places.{IsTable};
 ghost use Rattle.cedar_table.specs.Table.TableFields.{fields};
 
 use crate::steps::{block, gives, heads, node, take, take_one, take_some, takes};
-use cedar_table::{CedarError, DefaultLayout, Table, Ticks};
+use cedar_table::{DefaultLayout, Table, Ticks};
 use std::alloc::Global;
 use std::marker::Brand;
 use std::process::Abort;
@@ -75,78 +75,6 @@ fn finds<const SLOTS: usize>(
     assert_eq!(rt; table.find_places(labels), Ok(base));
 }
 
-/// The slots and blocks of a new table with one block.
-fn slots_are_new<C: Ledger>(
-    rt: &impl Abort,
-    table: &Table<DefaultLayout, 1024, Global>,
-    ticks: &mut Ticks<C>,
-) {
-    node_is(rt, table, 0, (0, -1), ticks);
-    node_is(rt, table, 1, (-255, -2), ticks);
-    for slot in 2..255 {
-        node_is(rt, table, slot, (1 - slot as i32, -1 - slot as i32), ticks);
-    }
-    node_is(rt, table, 255, (-254, -1), ticks);
-    for slot in 0..table.capacity() {
-        assert_eq!(rt; (table.sibling(slot), table.child(slot)), (0, 0));
-    }
-    block_is(rt, table, 0, (0, 0, 256, 257, 0, 1));
-}
-
-fn new_table<C: Ledger>(rt: &impl Abort, alloc: Global, blank: Blank) -> Result<(), Fail>
-    requires name { blank.name ≡ C.name }
-    requires parts { blank.parts ≡ C.parts }
-    requires some { 0 < blank.parts }
-{
-    let ticks = &mut Ticks::<C>::new(blank);
-    let table = Table::<DefaultLayout, 1024, Global>::new(alloc, true, 3)?;
-    assert_eq!(rt; (table.size(), table.entries()), (256, 0));
-    assert_eq!(rt; (table.ordered(), table.max_trial()), (true, 3));
-    room_is(rt, &table, 256, 1, 0);
-    heads_are(rt, &table, (0, 0, 0));
-    slots_are_new(rt, &table, ticks);
-    for free in 0..257 {
-        assert_eq!(rt; table.reject(free), free as i16 + 1);
-    }
-    Ok(())
-}
-
-/// Each field of a new table.
-#[test]
-fn a_new_table(rt: HostRuntime) -> Result<(), Fail> {
-    new_table::<Brand>(&rt, rt.alloc(), Blank::new(1))
-}
-
-fn key_of_one<C: Ledger>(rt: &impl Abort, alloc: Global, blank: Blank) -> Result<(), Fail>
-    requires name { blank.name ≡ C.name }
-    requires parts { blank.parts ≡ C.parts }
-    requires some { 0 < blank.parts }
-{
-    let ticks = &mut Ticks::<C>::new(blank);
-    let mut table = Table::<DefaultLayout, 1024, Global>::new(alloc, true, 1)?;
-    takes(rt, &mut table, 97, 256, 0, ticks);
-    assert_eq!(rt; table.find_place()?, 256);
-    takes(rt, &mut table, 256, 7, 97, ticks);
-    room_is(rt, &table, 512, 3, 0);
-    heads_are(rt, &table, (0, 0, 1));
-    node_is(rt, &table, 0, (0, -1), ticks);
-    node_is(rt, &table, 96, (-95, -98), ticks);
-    node_is(rt, &table, 97, (256, 0), ticks);
-    node_is(rt, &table, 98, (-96, -99), ticks);
-    node_is(rt, &table, 256, (7, 97), ticks);
-    node_is(rt, &table, 257, (-511, -258), ticks);
-    node_is(rt, &table, 511, (-510, -257), ticks);
-    block_is(rt, &table, 0, (0, 0, 255, 257, 0, 1));
-    block_is(rt, &table, 1, (1, 1, 255, 257, 0, 257));
-    Ok(())
-}
-
-/// The slots of the dictionary of a=7.
-#[test]
-fn one_key(rt: HostRuntime) -> Result<(), Fail> {
-    key_of_one::<Brand>(&rt, rt.alloc(), Blank::new(1))
-}
-
 fn each_list<C: Ledger>(rt: &impl Abort, alloc: Global, blank: Blank) -> Result<(), Fail>
     requires name { blank.name ≡ C.name }
     requires parts { blank.parts ≡ C.parts }
@@ -186,11 +114,11 @@ fn all_lists(rt: HostRuntime) -> Result<(), Fail> {
 }
 
 fn fill_first<C: Ledger>(
-    table: &mut Table<DefaultLayout, 256, Global>,
+    table: &mut Table<DefaultLayout, 1024, Global>,
     ticks: &mut Ticks<C>,
 ) -> usize
-    requires { IsTable 256 (fields table.old).places }
-    ensures { IsTable 256 (fields table.new).places }
+    requires { IsTable 1024 (fields table.old).places }
+    ensures { IsTable 1024 (fields table.new).places }
 {
     let mut taken: usize = 0;
     for slot in 1..256 {
@@ -207,7 +135,7 @@ fn block_of_root<C: Ledger>(rt: &impl Abort, alloc: Global, blank: Blank) -> Res
     requires some { 0 < blank.parts }
 {
     let ticks = &mut Ticks::<C>::new(blank);
-    let mut table = Table::<DefaultLayout, 256, Global>::new(alloc, true, 1)?;
+    let mut table = Table::<DefaultLayout, 1024, Global>::new(alloc, true, 1)?;
     assert_eq!(rt; fill_first(&mut table, ticks), 255);
     assert_eq!(rt; table.used_node_slots(), 256);
     heads_are(rt, &table, (0, 0, 0));
@@ -260,20 +188,4 @@ fn places_for_several<C: Ledger>(rt: &impl Abort, alloc: Global, blank: Blank) -
 #[test]
 fn several_labels(rt: HostRuntime) -> Result<(), Fail> {
     places_for_several::<Brand>(&rt, rt.alloc(), Blank::new(1))
-}
-
-/// The smallest limit, and the next one.
-#[test]
-fn the_slot_limit(rt: HostRuntime) -> Result<(), Fail> {
-    let mut least = Table::<DefaultLayout, 256, Global>::new(rt.alloc(), true, 1)?;
-    assert_eq!(rt; least.add_block(), Err(CedarError::SlotLimit));
-    assert_eq!(rt; least.find_place(), Err(CedarError::SlotLimit));
-    assert_eq!(rt; least.find_places(&[1, 2]), Err(CedarError::SlotLimit));
-    assert_eq!(rt; (least.size(), least.capacity()), (256, 256));
-    let mut table = Table::<DefaultLayout, 512, Global>::new(rt.alloc(), true, 1)?;
-    assert_eq!(rt; table.add_block(), Ok(1));
-    assert_eq!(rt; table.add_block(), Err(CedarError::SlotLimit));
-    assert_eq!(rt; table.find_place(), Ok(256));
-    assert_eq!(rt; (table.size(), table.capacity()), (512, 512));
-    Ok(())
 }

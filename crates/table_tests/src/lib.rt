@@ -1,5 +1,5 @@
 //! Tests of the slot table.
-#![tactic(auto, using(crate::proofs::Limits::limit_256, crate::proofs::Limits::limit_512, crate::proofs::Limits::limit_1024, crate::proofs::Limits::limit_4096, crate::proofs::Limits::limit_65536))]
+#![tactic(auto, using(crate::proofs::Limits::limit_1024, crate::proofs::Limits::limit_4096))]
 
 #[cfg(test)]
 mod checked;
@@ -9,10 +9,6 @@ mod checks;
 mod figures;
 #[cfg(test)]
 mod keys;
-#[cfg(test)]
-mod lookup;
-#[cfg(test)]
-mod reduced;
 #[cfg(test)]
 mod refused;
 #[cfg(test)]

@@ -1,7 +1,7 @@
 //! A dictionary that a service answers from.
 
 ghost use Rattle.std.specs.Prelude.{◌≡◌, OnOk, OnErr};
-ghost use Rattle.cedar_table.specs.Bulk.Sorted.{entries_of};
+ghost use Rattle.cedar_bulk.specs.Sorted.{entries_of};
 ghost use Rattle.cedarwood.specs.Builds.{all_stored};
 
 use cedarwood::{CedarError, Layout, Trie};

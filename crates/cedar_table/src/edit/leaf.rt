@@ -6,12 +6,13 @@ use cedar_slots::{BLOCK_SIZE, NInfoRecord};
 use std::alloc::Allocator;
 
 impl<L: Layout, const SLOTS: usize, A: Allocator> Table<L, SLOTS, A> {
-    ghost use Rattle.std.specs.Prelude.{◌≡◌, ◌≢◌, ℕ, List, ◌++◌, [], ◌∷◌, ◌<◌, MatchOption, length, None, pos, true};
+    ghost use Rattle.std.specs.Prelude.{◌≡◌, ◌≢◌, ℕ, List, ◌++◌, [], ◌∷◌, ◌<◌, MatchOption, None, pos, true};
     ghost use Rattle.cedar_tree.specs.Tree.{Forest, IsAscending, without};
     ghost use Rattle.cedar_tree.specs.Edits.{add_leaf, edit_at};
     ghost use Rattle.cedar_table.specs.Table.Cells.{Held};
-    ghost use Rattle.cedar_table.specs.Edit.NodeEdits.{AddsLabel, GoesBehind, GoesFirst, HasChain, IsAt, IsBehind, IsNodeOf, LeadsTo, LinkedBehind, LinkedChild, Removes, SetsChild, SetsSibling};
-    ghost use Rattle.cedar_table.specs.Meaning.Family.{base_of, below, InRange, Links, Node};
+    ghost use Rattle.cedar_table.specs.Edit.Asked.{SeeksBehind, SeeksPlace};
+    ghost use Rattle.cedar_table.specs.Edit.NodeEdits.{AddsLabel, GoesBehind, GoesFirst, HasChain, IsAt, IsNodeOf, LeadsTo, LinkedBehind, LinkedChild, Removes, SetsChild, SetsSibling};
+    ghost use Rattle.cedar_table.specs.Meaning.Family.{base_of, below, InRange, Node};
     ghost use Rattle.cedar_table.specs.Meaning.StandsFor.{HoldsTree};
     ghost use Rattle.cedar_slots.specs.Places.{IsTable};
     ghost use Rattle.cedar_table.specs.Relocation.Reserved.{freed};
@@ -87,12 +88,7 @@ impl<L: Layout, const SLOTS: usize, A: Allocator> Table<L, SLOTS, A> {
 
     /// The last slot of the chain from `start` on before `label` comes.
     fn last_before(&self, node: usize, start: usize, label: u8) -> usize
-        requires node_in { node < size_of (fields self.now) }
-        requires based { base_of (cells self.now) node < size_of (fields self.now) }
-        requires start_in { start < size_of (fields self.now) }
-        requires behind { IsBehind (cells self.now) (fields self.now).ordered node label start }
-        requires absent { (cells self.now).check (below (cells self.now) node label) ≢ pos node }
-        requires rest { (ls : List ℕ) × Links (cells self.now) node ((cells self.now).sibling start) ls × (length ls < 256) }
+        requires { SeeksBehind (fields self.now) node start label }
         ensures { GoesBehind (size_of (fields self.now)) (cells self.now) (fields self.now).ordered node label result }
     {
         let mut before = start;
@@ -110,10 +106,7 @@ impl<L: Layout, const SLOTS: usize, A: Allocator> Table<L, SLOTS, A> {
     /// whose next label is greater, or else what stands before all labels.
     #[inline(always)]
     fn slot_before(&self, node: usize, label: u8) -> Option<usize>
-        requires node_in { node < size_of (fields self.now) }
-        requires based { base_of (cells self.now) node < size_of (fields self.now) }
-        requires chain { HasChain (size_of (fields self.now)) (cells self.now) (fields self.now).ordered node }
-        requires absent { (cells self.now).check (below (cells self.now) node label) ≢ pos node }
+        requires { SeeksPlace (fields self.now) node label }
         ensures { MatchOption result (GoesFirst (cells self.now) (fields self.now).ordered node label) (λ slot. GoesBehind (size_of (fields self.now)) (cells self.now) (fields self.now).ordered node label slot) }
     {
         if node == 0 || self.has_number_slot(node) {
@@ -129,7 +122,7 @@ impl<L: Layout, const SLOTS: usize, A: Allocator> Table<L, SLOTS, A> {
     }
 
     /// Puts `slot`, which has `label`, into the chain of `node`: behind the slot `before`, or first of all.
-    pub(crate) fn link(&mut self, before: Option<usize>, node: usize, slot: usize, label: u8)
+    pub fn link(&mut self, before: Option<usize>, node: usize, slot: usize, label: u8)
         requires sound { IsTable SLOTS (fields self.old).places }
         requires before { MatchOption before (Unit {0}) (λ b. (b < size_of (fields self.old)) × Held (cells self.old) b × (b ≢ slot)) }
         requires node_in { node < size_of (fields self.old) }

@@ -45,7 +45,7 @@ impl<L: Layout, const SLOTS: usize, A: Allocator> Table<L, SLOTS, A> {
     }
 
     /// Sets the number of a node that owns no slot, in its own base field.
-    pub(crate) fn set_own_number(&mut self, node: usize, value: i32)
+    pub fn set_own_number(&mut self, node: usize, value: i32)
         requires sound { IsTable SLOTS (fields self.old).places }
         requires node_in { node < size_of (fields self.old) }
         requires not_root { node ≢ 0 }

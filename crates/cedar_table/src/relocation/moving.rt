@@ -6,16 +6,17 @@ use cedar_slots::{NInfoRecord, NodeRecord};
 use std::alloc::Allocator;
 
 impl<L: Layout, const SLOTS: usize, A: Allocator> Table<L, SLOTS, A> {
-    ghost use Rattle.std.specs.Prelude.{bit_xor, ◌≡◌, ◌≢◌, ℕ, List, ◌<◌, ◌^◌, ◌↔◌, false, IsTrue, pos, true};
+    ghost use Rattle.std.specs.Prelude.{bit_xor, ◌≡◌, ◌≢◌, ℕ, List, ◌<◌, ◌^◌, ◌↔◌, IsTrue, pos, true};
     ghost use Rattle.cedar_table.specs.Table.Cells.{Held, IsPlace, SameHeld};
     ghost use Rattle.cedar_table.specs.Meaning.Family.{Among, base_of, below, Family, Head, Links};
     ghost use Rattle.cedar_slots.specs.Places.{IsTable};
-    ghost use Rattle.cedar_table.specs.Relocation.Renaming.{Always, ChecksAt, IsNode, IsNumber, Movable, OwnsNothing, Rebased, Relocated, Renames, Repointed, single};
+    ghost use Rattle.cedar_table.specs.Relocation.Asked.{MayReserve, MovesSlot, Repoints, RepointsUnder};
+    ghost use Rattle.cedar_table.specs.Relocation.Renaming.{Always, ChecksAt, IsNode, IsNumber, Movable, Rebased, Relocated, Renames, Repointed, single};
     ghost use Rattle.cedar_table.specs.Relocation.Reserved.{freed, seen};
     ghost use Rattle.cedar_table.specs.Table.TableFields.{cells, fields, SameFrame, size_of};
 
     /// Where a node's slots begin, and 0 if its base field says nothing of that.
-    pub(crate) fn base_of(&self, node: usize) -> usize
+    pub fn base_of(&self, node: usize) -> usize
         requires { node < size_of (fields self.now) }
         ensures { result ≡ base_of (cells self.now) node }
     {
@@ -27,7 +28,7 @@ impl<L: Layout, const SLOTS: usize, A: Allocator> Table<L, SLOTS, A> {
     }
 
     /// The slot for a label below a node.
-    pub(crate) fn child_slot(&self, node: usize, label: u8) -> usize
+    pub fn child_slot(&self, node: usize, label: u8) -> usize
         requires { node < size_of (fields self.now) }
         ensures { result ≡ below (cells self.now) node label }
     {
@@ -120,11 +121,7 @@ impl<L: Layout, const SLOTS: usize, A: Allocator> Table<L, SLOTS, A> {
 
     /// Makes `to` the owner of all that the node `from` owns: the slot of its number first, then along its chain.
     fn repoint(&mut self, from: usize, to: usize)
-        requires sound { IsTable SLOTS (fields self.old).places }
-        requires from_in { from < size_of (fields self.old) }
-        requires not_root { from ≢ 0 }
-        requires to_in { to < 2 ^ 31 }
-        requires node { IsNode (size_of (fields self.old)) (cells self.old) from }
+        requires { Repoints SLOTS (fields self.old) from to }
         ensures sound { IsTable SLOTS (fields self.new).places }
         ensures repointed { Repointed (cells self.old) (cells self.new) from to Always }
         ensures frame { SameFrame (fields self.old) (fields self.new) }
@@ -136,12 +133,7 @@ impl<L: Layout, const SLOTS: usize, A: Allocator> Table<L, SLOTS, A> {
     /// Makes `to` the owner of all that `from` owns, the slot of its owner's label `label`. Nothing belongs to the
     /// slot of a number.
     fn repoint_under(&mut self, from: usize, to: usize, label: u8)
-        requires sound { IsTable SLOTS (fields self.old).places }
-        requires from_in { from < size_of (fields self.old) }
-        requires not_root { from ≢ 0 }
-        requires to_in { to < 2 ^ 31 }
-        requires node { (label ≡ 0 → ⊥) → IsNode (size_of (fields self.old)) (cells self.old) from }
-        requires alone { label ≡ 0 → OwnsNothing (cells self.old) from }
+        requires { RepointsUnder SLOTS (fields self.old) from to label }
         ensures sound { IsTable SLOTS (fields self.new).places }
         ensures repointed { Repointed (cells self.old) (cells self.new) from to Always }
         ensures frame { SameFrame (fields self.old) (fields self.new) }
@@ -154,16 +146,7 @@ impl<L: Layout, const SLOTS: usize, A: Allocator> Table<L, SLOTS, A> {
     /// Copies what the slot `from` has, which `owner` owns under `label`, to the free slot `to`. The slot `from` is held
     /// as before, but no part of the tree any more.
     fn copy_slot(&mut self, from: usize, to: usize, owner: usize, label: u8)
-        requires sound { IsTable SLOTS (fields self.old).places }
-        requires from_in { from < size_of (fields self.old) }
-        requires to_in { to < size_of (fields self.old) }
-        requires owner_in { owner < size_of (fields self.old) }
-        requires mine { (cells self.old).check from ≡ pos owner }
-        requires not_own { owner ≢ from }
-        requires free { Held (cells self.old) to → ⊥ }
-        requires root { (c : ℕ) → (cells self.old).check 0 ≡ pos c → ⊥ }
-        requires node { (label ≡ 0 → ⊥) → IsNode (size_of (fields self.old)) (cells self.old) from }
-        requires alone { label ≡ 0 → OwnsNothing (cells self.old) from }
+        requires { MovesSlot SLOTS (fields self.old) from to owner label }
         ensures sound { IsTable SLOTS (fields self.new).places }
         ensures still { (cells self.new).check from ≡ pos owner }
         ensures renamed { Renames (cells self.old) (freed (cells self.new) from) (single from to) }
@@ -181,16 +164,7 @@ impl<L: Layout, const SLOTS: usize, A: Allocator> Table<L, SLOTS, A> {
 
     /// Moves what the slot `from` has, which `owner` owns under `label`, to the free slot `to`.
     fn move_slot(&mut self, from: usize, to: usize, owner: usize, label: u8)
-        requires sound { IsTable SLOTS (fields self.old).places }
-        requires from_in { from < size_of (fields self.old) }
-        requires to_in { to < size_of (fields self.old) }
-        requires owner_in { owner < size_of (fields self.old) }
-        requires mine { (cells self.old).check from ≡ pos owner }
-        requires not_own { owner ≢ from }
-        requires free { Held (cells self.old) to → ⊥ }
-        requires root { (c : ℕ) → (cells self.old).check 0 ≡ pos c → ⊥ }
-        requires node { (label ≡ 0 → ⊥) → IsNode (size_of (fields self.old)) (cells self.old) from }
-        requires alone { label ≡ 0 → OwnsNothing (cells self.old) from }
+        requires { MovesSlot SLOTS (fields self.old) from to owner label }
         ensures sound { IsTable SLOTS (fields self.new).places }
         ensures renamed { Renames (cells self.old) (cells self.new) (single from to) }
         ensures frame { SameFrame (fields self.old) (fields self.new) }
@@ -201,16 +175,7 @@ impl<L: Layout, const SLOTS: usize, A: Allocator> Table<L, SLOTS, A> {
 
     /// Moves what the slot `from` has to the free slot `to`. The slot `wanted` isn't given back, but reserved.
     fn pass_slot(&mut self, from: usize, to: usize, owner: usize, label: u8, wanted: usize)
-        requires sound { IsTable SLOTS (fields self.old).places }
-        requires from_in { from < size_of (fields self.old) }
-        requires to_in { to < size_of (fields self.old) }
-        requires owner_in { owner < size_of (fields self.old) }
-        requires mine { (cells self.old).check from ≡ pos owner }
-        requires not_own { owner ≢ from }
-        requires free { Held (cells self.old) to → ⊥ }
-        requires root { (c : ℕ) → (cells self.old).check 0 ≡ pos c → ⊥ }
-        requires node { (label ≡ 0 → ⊥) → IsNode (size_of (fields self.old)) (cells self.old) from }
-        requires alone { label ≡ 0 → OwnsNothing (cells self.old) from }
+        requires { MovesSlot SLOTS (fields self.old) from to owner label }
         ensures sound { IsTable SLOTS (fields self.new).places }
         ensures kept { from ≢ wanted → Renames (cells self.old) (cells self.new) (single from to) }
         ensures passed { from ≡ wanted → Renames (cells self.old) (freed (cells self.new) wanted) (single from to) × ((cells self.new).check wanted ≡ pos 0) }
@@ -226,11 +191,7 @@ impl<L: Layout, const SLOTS: usize, A: Allocator> Table<L, SLOTS, A> {
 
     /// Takes a free slot to be reserved, once it is time and if it isn't reserved yet. It is held in the root's name.
     fn reserve(&mut self, slot: usize, reserved: bool, now: bool) -> bool
-        requires sound { IsTable SLOTS (fields self.old).places }
-        requires slot_in { slot < size_of (fields self.old) }
-        requires not_root { slot ≢ 0 }
-        requires slot_free { reserved ≡ false → Held (cells self.old) slot → ⊥ }
-        requires marked { reserved ≡ true → (cells self.old).check slot ≡ pos 0 }
+        requires { MayReserve SLOTS (fields self.old) slot reserved }
         ensures sound { IsTable SLOTS (fields self.new).places }
         ensures marked { result ≡ true → (cells self.new).check slot ≡ pos 0 }
         ensures seen { SameHeld (seen reserved (cells self.old) slot) (seen result (cells self.new) slot) }
@@ -245,7 +206,7 @@ impl<L: Layout, const SLOTS: usize, A: Allocator> Table<L, SLOTS, A> {
     }
 
     /// Sets where the slots of `node` begin.
-    pub(crate) fn set_base(&mut self, node: usize, base: usize)
+    pub fn set_base(&mut self, node: usize, base: usize)
         requires sound { IsTable SLOTS (fields self.old).places }
         requires node_in { node < size_of (fields self.old) }
         requires base_in { base < size_of (fields self.old) }

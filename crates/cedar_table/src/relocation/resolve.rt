@@ -9,22 +9,20 @@ use std::alloc::Allocator;
 
 impl<L: Layout, const SLOTS: usize, A: Allocator> Table<L, SLOTS, A> {
     ghost use Rattle.std.specs.Prelude.{bit_xor, ◌≡◌, ◌≢◌, ℕ, List, ◌<◌, ◌≤◌, ◌↔◌, IfErr, IfOk, IsTrue, length, OnErr, OnOk, pos};
-    ghost use Rattle.cedar_tree.specs.Tree.{Forest};
-    ghost use Rattle.cedar_table.specs.Table.Cells.{HasPlaces, Held, SameHeld};
-    ghost use Rattle.cedar_table.specs.Meaning.Family.{Among, base_of, below, Family, Head, Links, owned};
-    ghost use Rattle.cedar_table.specs.Meaning.StandsFor.{OnPath, slot_at};
+    ghost use Rattle.cedar_table.specs.Table.Cells.{HasPlaces, SameHeld};
+    ghost use Rattle.cedar_table.specs.Meaning.Family.{Among, below, Family, Head, Links, owned};
     ghost use Rattle.cedar_slots.specs.Places.{IsTable, MayRefuse, SameSlots};
+    ghost use Rattle.cedar_table.specs.Relocation.Asked.{StandsBelow, WantsSlot};
     ghost use Rattle.cedar_table.specs.Relocation.Renaming.{IsNode, OwnsLabels};
     ghost use Rattle.cedar_table.specs.Relocation.Reserved.{Reserves, SetReserved};
-    ghost use Rattle.cedar_table.specs.Edit.Steps.{HasNode, MakesBlocks, MayAddBlock};
+    ghost use Rattle.cedar_table.specs.Edit.Steps.{MakesBlocks, MayAddBlock};
     ghost use Rattle.cedar_table.specs.Table.TableFields.{cells, fields, SameSettings, size_of};
     ghost use Rattle.cedar_table.specs.Relocation.Wanted.{goes_before, rest_of, with_label};
-    ghost use Rattle.cedar_table.specs.Meaning.WellFormed.{TableHolds};
 
     /// A base from which there is room for all labels. A single label goes where the first free slot is. The move
     /// of a set makes a block here or not at all.
     #[inline(always)]
-    pub(crate) fn place_for(&mut self, labels: &[u8]) -> Result<usize, CedarError>
+    pub fn place_for(&mut self, labels: &[u8]) -> Result<usize, CedarError>
         requires sound { IsTable SLOTS (fields self.old).places }
         requires some { 0 < length labels.now }
         requires few { length labels.now ≤ 256 }
@@ -52,12 +50,7 @@ impl<L: Layout, const SLOTS: usize, A: Allocator> Table<L, SLOTS, A> {
         wanted: &[u8],
         label: u8,
     ) -> Result<usize, CedarError>
-        requires sound { IsTable SLOTS (fields self.old).places }
-        requires node_in { node < size_of (fields self.old) }
-        requires not_root { node ≢ 0 }
-        requires based { 256 ≤ base_of (cells self.old) node }
-        requires on_path { (p : List ℕ) × OnPath (cells self.old) p × (slot_at (cells self.old) p ≡ node) }
-        requires holds { (f : Forest) × TableHolds (fields self.old) f }
+        requires node { StandsBelow SLOTS (fields self.old) node }
         requires owned { OwnsLabels (size_of (fields self.old)) (cells self.old) node labels.now }
         requires all { (l : ℕ) → Among labels.now l → Among wanted.now l }
         requires some { 0 < length wanted.now }
@@ -83,12 +76,7 @@ impl<L: Layout, const SLOTS: usize, A: Allocator> Table<L, SLOTS, A> {
         labels: &[u8],
         slot: usize,
     ) -> Result<usize, CedarError>
-        requires sound { IsTable SLOTS (fields self.old).places }
-        requires node_in { node < size_of (fields self.old) }
-        requires not_root { node ≢ 0 }
-        requires based { 256 ≤ base_of (cells self.old) node }
-        requires on_path { (p : List ℕ) × OnPath (cells self.old) p × (slot_at (cells self.old) p ≡ node) }
-        requires holds { (f : Forest) × TableHolds (fields self.old) f }
+        requires node { StandsBelow SLOTS (fields self.old) node }
         requires owned { OwnsLabels (size_of (fields self.old)) (cells self.old) node labels.now }
         requires mine { (cells self.old).check slot ≡ pos node }
         requires some { 0 < length labels.now }
@@ -179,12 +167,7 @@ impl<L: Layout, const SLOTS: usize, A: Allocator> Table<L, SLOTS, A> {
 
     /// Moves the slots that `node` owns to a base from which there is room for a new label too, and keeps that one back.
     fn move_with(&mut self, node: usize, label: u8) -> Result<(), CedarError>
-        requires sound { IsTable SLOTS (fields self.old).places }
-        requires node_in { node < size_of (fields self.old) }
-        requires not_root { node ≢ 0 }
-        requires based { 256 ≤ base_of (cells self.old) node }
-        requires on_path { (p : List ℕ) × OnPath (cells self.old) p × (slot_at (cells self.old) p ≡ node) }
-        requires holds { (f : Forest) × TableHolds (fields self.old) f }
+        requires node { StandsBelow SLOTS (fields self.old) node }
         requires absent { (cells self.old).check (below (cells self.old) node label) ≢ pos node }
         ensures sound { IsTable SLOTS (fields self.new).places }
         ensures moved { OnOk result ((base : ℕ) × (ls : List ℕ) × (ws : List ℕ) × (256 ≤ bit_xor base label) × (bit_xor base label < size_of (fields self.new))
@@ -201,12 +184,7 @@ impl<L: Layout, const SLOTS: usize, A: Allocator> Table<L, SLOTS, A> {
 
     /// Moves the slots that `node` owns, of which `slot` is one, to another base, and answers that. The slot is kept back.
     fn move_away(&mut self, node: usize, slot: usize) -> Result<usize, CedarError>
-        requires sound { IsTable SLOTS (fields self.old).places }
-        requires node_in { node < size_of (fields self.old) }
-        requires not_root { node ≢ 0 }
-        requires based { 256 ≤ base_of (cells self.old) node }
-        requires on_path { (p : List ℕ) × OnPath (cells self.old) p × (slot_at (cells self.old) p ≡ node) }
-        requires holds { (f : Forest) × TableHolds (fields self.old) f }
+        requires node { StandsBelow SLOTS (fields self.old) node }
         requires mine { (cells self.old).check slot ≡ pos node }
         ensures sound { IsTable SLOTS (fields self.new).places }
         ensures moved { IfOk result (λ base. (ls : List ℕ) × SetReserved (fields self.old) (fields self.new) node base slot ls ls) }
@@ -222,13 +200,7 @@ impl<L: Layout, const SLOTS: usize, A: Allocator> Table<L, SLOTS, A> {
     /// is then. That owner's set of slots is moved, or the node's own set where the owner's is longer. Where no room is
     /// found, all slots are as before.
     pub(crate) fn resolve(&mut self, node: usize, label: u8) -> Result<usize, CedarError>
-        requires sound { IsTable SLOTS (fields self.old).places }
-        requires node_in { node < size_of (fields self.old) }
-        requires not_root { node ≢ 0 }
-        requires based { 256 ≤ base_of (cells self.old) node }
-        requires node { (f : Forest) × HasNode (fields self.old) f node }
-        requires taken { Held (cells self.old) (below (cells self.old) node label) }
-        requires absent { (cells self.old).check (below (cells self.old) node label) ≢ pos node }
+        requires { WantsSlot SLOTS (fields self.old) node label }
         ensures sound { IsTable SLOTS (fields self.new).places }
         ensures reserved { IfOk result (Reserves (fields self.old) (fields self.new) node label) }
         ensures refused { IfErr result (λ error. MayRefuse (fields self.new).places SLOTS error) }

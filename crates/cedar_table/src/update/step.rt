@@ -6,12 +6,13 @@ use cedar_slots::CedarError;
 use std::alloc::Allocator;
 
 impl<L: Layout, const SLOTS: usize, A: Allocator> Table<L, SLOTS, A> {
-    ghost use Rattle.std.specs.Prelude.{◌≡◌, ◌≢◌, ◌⊎◌, ℕ, ℤ, List, ◌<◌, ◌≤◌, false, IfErr, IfOk, IsTrue, OnErr, OnOk, pos, Some, true};
+    ghost use Rattle.std.specs.Prelude.{◌≡◌, ◌≢◌, ◌⊎◌, ℕ, ℤ, List, ◌<◌, false, IfErr, IfOk, IsTrue, OnErr, OnOk, pos, Some, true};
     ghost use Rattle.cedar_tree.specs.Tree.{Forest};
     ghost use Rattle.cedar_tree.specs.Edits.{edit_at};
     ghost use Rattle.cedar_table.specs.declared.layout.Stored.TheVariants.{AtBase, OwnNumber};
     ghost use Rattle.cedar_table.specs.Table.Cells.{Held, NoPlace};
     ghost use Rattle.cedar_table.specs.Edit.NodeEdits.{IsAt};
+    ghost use Rattle.cedar_table.specs.Relocation.Asked.{WantsRoom, WantsSlot};
     ghost use Rattle.cedar_table.specs.Meaning.Family.{base_of, below};
     ghost use Rattle.cedar_table.specs.Table.Layouts.{default_layout, reduced_layout};
     ghost use Rattle.cedar_table.specs.Meaning.Marks.{PutsMark};
@@ -59,13 +60,7 @@ impl<L: Layout, const SLOTS: usize, A: Allocator> Table<L, SLOTS, A> {
     /// free. That slot isn't held where it has a base. A block is made only for a first
     /// base.
     fn room_for(&mut self, node: usize, label: u8) -> Result<(), CedarError>
-        requires sound { IsTable SLOTS (fields self.old).places }
-        requires node_in { node < size_of (fields self.old) }
-        requires node { (f : Forest) × HasNode (fields self.old) f node }
-        requires positive_at_root { node ≡ 0 → 0 < label }
-        requires no_own_number { (v : ℤ) → (cells self.old).stored node ≢ OwnNumber v }
-        requires absent { (cells self.old).check (below (cells self.old) node label) ≢ pos node }
-        requires slot_free { base_of (cells self.old) node ≢ 0 → Held (cells self.old) (below (cells self.old) node label) → ⊥ }
+        requires { WantsRoom SLOTS (fields self.old) node label }
         ensures sound { IsTable SLOTS (fields self.new).places }
         ensures placed { OnOk result (Placed (fields self.old) (fields self.new) node label node) }
         ensures tree { (f : Forest) → TableHolds (fields self.old) f → TableHolds (fields self.new) f }
@@ -85,14 +80,8 @@ impl<L: Layout, const SLOTS: usize, A: Allocator> Table<L, SLOTS, A> {
 
     /// Adds a child under a label whose slot another node owns, and answers the child's slot.
     fn add_over(&mut self, node: usize, label: u8) -> Result<usize, CedarError>
-        requires sound { IsTable SLOTS (fields self.old).places }
-        requires node_in { node < size_of (fields self.old) }
-        requires not_root { node ≢ 0 }
-        requires based { 256 ≤ base_of (cells self.old) node }
-        requires node { (f : Forest) × HasNode (fields self.old) f node }
+        requires wants { WantsSlot SLOTS (fields self.old) node label }
         requires positive { 0 < label }
-        requires taken { Held (cells self.old) (below (cells self.old) node label) }
-        requires absent { (cells self.old).check (below (cells self.old) node label) ≢ pos node }
         ensures sound { IsTable SLOTS (fields self.new).places }
         ensures stepped { IfOk result (StepsTo (fields self.old) (fields self.new) node label) }
         ensures refused { IfErr result (λ error. MayRefuse (fields self.new).places SLOTS error) }
@@ -105,13 +94,7 @@ impl<L: Layout, const SLOTS: usize, A: Allocator> Table<L, SLOTS, A> {
 
     /// Sets the number of a node where another node owns the slot for it.
     fn put_over(&mut self, node: usize, value: i32) -> Result<(), CedarError>
-        requires sound { IsTable SLOTS (fields self.old).places }
-        requires node_in { node < size_of (fields self.old) }
-        requires not_root { node ≢ 0 }
-        requires based { 256 ≤ base_of (cells self.old) node }
-        requires node { (f : Forest) × HasNode (fields self.old) f node }
-        requires taken { Held (cells self.old) (below (cells self.old) node 0) }
-        requires absent { (cells self.old).check (below (cells self.old) node 0) ≢ pos node }
+        requires { WantsSlot SLOTS (fields self.old) node 0 }
         ensures sound { IsTable SLOTS (fields self.new).places }
         ensures set { OnOk result ((f : Forest) (w : List ℕ) → TableHolds (fields self.old) f → IsAt (cells self.old) w node
             → TableHolds (fields self.new) (edit_at w (λ _. Some value) (λ u. u) f)) }

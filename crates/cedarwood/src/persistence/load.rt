@@ -27,6 +27,11 @@ impl<L: Layout, const SLOTS: usize, A: Allocator + Copy> Trie<L, SLOTS, A> {
     /// Loads the dictionary that was saved. The bytes that are asked of memory are counted, and the records that are read
     /// to test the table.
     ///
+    /// ```
+    /// let mut file = Watched::new(saved);
+    /// let again = Cedar::load_counted(rt.alloc(), &mut file, 1048576, &mut asked, &mut reads)?;
+    /// ```
+    ///
     /// # Errors
     /// The first refusal of the header and of the input's length, if there is one; `CorruptData` where the bytes are of no
     /// well-formed table; `AllocationFailed` with the number of elements where a request was refused, once the header has
@@ -64,6 +69,12 @@ impl<L: Layout, const SLOTS: usize, A: Allocator + Copy> Trie<L, SLOTS, A> {
 
     /// Loads the dictionary that was saved, if that asks for `memory_limit` bytes at most.
     ///
+    /// ```
+    /// let mut file = Watched::new(saved);
+    /// let again = Cedar::load_from_reader_with_limit(rt.alloc(), &mut file, 1048576)?;
+    /// assert_eq!(rt; again.len(), cedar.len());
+    /// ```
+    ///
     /// # Errors
     /// As `load_counted`.
     pub fn load_from_reader_with_limit<R: Read>(
@@ -88,6 +99,12 @@ impl<L: Layout, const SLOTS: usize, A: Allocator + Copy> Trie<L, SLOTS, A> {
     }
 
     /// `load_from_reader_with_limit` with the limit by default, 2^29 bytes.
+    ///
+    /// ```
+    /// let mut file = Watched::new(saved);
+    /// let again = Cedar::load_from_reader(rt.alloc(), &mut file)?;
+    /// assert_eq!(rt; again.len(), cedar.len());
+    /// ```
     ///
     /// # Errors
     /// As `load_counted`.

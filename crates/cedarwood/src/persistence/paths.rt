@@ -24,6 +24,10 @@ impl<L: Layout, const SLOTS: usize, A: Allocator + Copy> Trie<L, SLOTS, A> {
     /// Makes the file or cuts it, and writes the dictionary's table to it as `save_to_writer` does, through a buffer of 8192 bytes,
     /// which is flushed.
     ///
+    /// ```
+    /// cedar.save_to_path(files, "words.cedar")?;
+    /// ```
+    ///
     /// # Errors
     /// `Io` where a call on the file failed, which may then be empty or have a part of the table; `AllocationFailed` with 8192
     /// where there is no memory for the buffer, which is asked for once the file is made.
@@ -43,6 +47,10 @@ impl<L: Layout, const SLOTS: usize, A: Allocator + Copy> Trie<L, SLOTS, A> {
 
     /// `save_to_path` in format 1.0.
     ///
+    /// ```
+    /// cedar.save_v1_0_to_path(files, "words.cedar")?;
+    /// ```
+    ///
     /// # Errors
     /// As `save_to_path`.
     pub fn save_v1_0_to_path<F: Files>(
@@ -61,6 +69,11 @@ impl<L: Layout, const SLOTS: usize, A: Allocator + Copy> Trie<L, SLOTS, A> {
     }
 
     /// Loads the dictionary that was saved in a file, through a buffer of 8192 bytes and with the limit by default.
+    ///
+    /// ```
+    /// let again = Cedar::load_from_path(rt.alloc(), files, "words.cedar")?;
+    /// assert_eq!(rt; again.len(), cedar.len());
+    /// ```
     ///
     /// # Errors
     /// As `load_from_reader`; also `Io` where the file can't be opened, and then `AllocationFailed` with 8192 where there is

@@ -17,6 +17,12 @@ impl<L: Layout, const SLOTS: usize, A: Allocator + Copy> Trie<L, SLOTS, A> {
     /// Writes the dictionary's table in format 1.1, which lists the slots and blocks that are in use, in pieces of some
     /// thousand bytes. It takes no memory and flushes nothing.
     ///
+    /// ```
+    /// let mut file = Watched::new(Vec::new(rt.alloc()));
+    /// cedar.save_to_writer(&mut file)?;
+    /// let saved = file.into_inner();
+    /// ```
+    ///
     /// # Errors
     /// `Io` where the writer failed. What went out before that isn't told.
     pub fn save_to_writer<W: Write>(
@@ -36,6 +42,12 @@ impl<L: Layout, const SLOTS: usize, A: Allocator + Copy> Trie<L, SLOTS, A> {
 
     /// Writes the dictionary's table in format 1.0, which lists all slots and blocks, in pieces of some thousand bytes. It
     /// takes no memory and flushes nothing.
+    ///
+    /// ```
+    /// let mut file = Watched::new(Vec::new(rt.alloc()));
+    /// cedar.save_v1_0_to_writer(&mut file)?;
+    /// let saved = file.into_inner();
+    /// ```
     ///
     /// # Errors
     /// `Io` where the writer failed. What went out before that isn't told.

@@ -14,6 +14,13 @@ use std::sync::ledger::{Blank, Ledger};
 impl<L: Layout, const SLOTS: usize, A: Allocator + Copy> Trie<L, SLOTS, A> {
     /// The fronts of a query that are held, shortest first: for each the value, and one less than the bytes of the front. The walk
     /// borrows the dictionary and the query, and takes no memory.
+    ///
+    /// ```
+    /// cedar.build(&[("ne", 1), ("net", 7)])?;
+    /// let mut fronts = cedar.common_prefix_iter_bytes(b"nest");
+    /// assert_eq!(rt; fronts.next(), Some((1, 1)));
+    /// assert_eq!(rt; fronts.next(), None);
+    /// ```
     pub fn common_prefix_iter_bytes<'a>(&'a self, query: &'a [u8]) -> PrefixIter<'a, Self>
         ensures rest { result.rest ≡ front self.now.state.tree query.now }
         ensures left { result.left ≡ length query.now }
@@ -25,6 +32,11 @@ impl<L: Layout, const SLOTS: usize, A: Allocator + Copy> Trie<L, SLOTS, A> {
     }
 
     /// `common_prefix_iter_bytes` for a text query.
+    ///
+    /// ```
+    /// cedar.build(&[("ne", 1), ("net", 7)])?;
+    /// assert_eq!(rt; cedar.common_prefix_iter("nets").last(), Some((7, 2)));
+    /// ```
     pub fn common_prefix_iter<'a>(&'a self, query: &'a str) -> PrefixIter<'a, Self>
         ensures rest { result.rest ≡ front self.now.state.tree query.now }
         ensures left { result.left ≡ length query.now }
@@ -35,6 +47,12 @@ impl<L: Layout, const SLOTS: usize, A: Allocator + Copy> Trie<L, SLOTS, A> {
 
     /// `common_prefix_iter_bytes`, with a count of the comparisons of a check field that the walk makes: never more than twice as
     /// many as the query has bytes.
+    ///
+    /// ```
+    /// cedar.update("net", 7)?;
+    /// let mut fronts = cedar.common_prefix_iter_counted::<C>(b"nets", blank);
+    /// assert_eq!(rt; fronts.next(), Some((7, 2)));
+    /// ```
     pub fn common_prefix_iter_counted<'a, C: Ledger>(
         &'a self,
         query: &'a [u8],
@@ -51,6 +69,12 @@ impl<L: Layout, const SLOTS: usize, A: Allocator + Copy> Trie<L, SLOTS, A> {
     }
 
     /// What `common_prefix_iter_bytes` gives, in a vector.
+    ///
+    /// ```
+    /// cedar.build(&[("ne", 1), ("net", 7)])?;
+    /// let found = cedar.common_prefix_search_bytes(b"nets")?;
+    /// assert_eq!(rt; found.as_slice(), [(1, 1), (7, 2)].as_slice());
+    /// ```
     ///
     /// # Errors
     /// `Memory` where a request was refused.
@@ -69,6 +93,12 @@ impl<L: Layout, const SLOTS: usize, A: Allocator + Copy> Trie<L, SLOTS, A> {
 
     /// `common_prefix_search_bytes` for a text query.
     ///
+    /// ```
+    /// cedar.build(&[("ne", 1), ("net", 7)])?;
+    /// let fronts = cedar.common_prefix_search("nest")?;
+    /// assert_eq!(rt; fronts.as_slice(), [(1, 1)].as_slice());
+    /// ```
+    ///
     /// # Errors
     /// `Memory` where a request was refused.
     pub fn common_prefix_search(&self, query: &str) -> Result<Vec<(i32, usize), A>, CedarError>
@@ -80,6 +110,13 @@ impl<L: Layout, const SLOTS: usize, A: Allocator + Copy> Trie<L, SLOTS, A> {
 
     /// The keys that begin with a query, each before its extensions and in the order of the walk: for each the value, and how many
     /// bytes follow the query. The walk borrows the dictionary and the query, and takes no memory.
+    ///
+    /// ```
+    /// cedar.build(&[("ne", 1), ("net", 7)])?;
+    /// let mut below = cedar.common_prefix_predict_iter_bytes(b"n");
+    /// assert_eq!(rt; below.next(), Some((1, 1)));
+    /// assert_eq!(rt; below.next(), Some((7, 2)));
+    /// ```
     pub fn common_prefix_predict_iter_bytes<'a>(
         &'a self,
         query: &'a [u8],
@@ -92,6 +129,11 @@ impl<L: Layout, const SLOTS: usize, A: Allocator + Copy> Trie<L, SLOTS, A> {
     }
 
     /// `common_prefix_predict_iter_bytes` for a text query.
+    ///
+    /// ```
+    /// cedar.build(&[("ne", 1), ("net", 7)])?;
+    /// assert_eq!(rt; cedar.common_prefix_predict_iter("net").next(), Some((7, 0)));
+    /// ```
     pub fn common_prefix_predict_iter<'a>(&'a self, query: &'a str) -> PrefixPredictIter<'a, Self>
         ensures { result ≡ predict self.now.state.tree query.now }
     {
@@ -99,6 +141,12 @@ impl<L: Layout, const SLOTS: usize, A: Allocator + Copy> Trie<L, SLOTS, A> {
     }
 
     /// What `common_prefix_predict_iter_bytes` gives, in a vector.
+    ///
+    /// ```
+    /// cedar.build(&[("ne", 1), ("net", 7)])?;
+    /// let found = cedar.common_prefix_predict_bytes(b"n")?;
+    /// assert_eq!(rt; found.as_slice(), [(1, 1), (7, 2)].as_slice());
+    /// ```
     ///
     /// # Errors
     /// `Memory` where a request was refused.
@@ -117,6 +165,12 @@ impl<L: Layout, const SLOTS: usize, A: Allocator + Copy> Trie<L, SLOTS, A> {
 
     /// `common_prefix_predict_bytes` for a text query.
     ///
+    /// ```
+    /// cedar.build(&[("ne", 1), ("net", 7)])?;
+    /// let below = cedar.common_prefix_predict("net")?;
+    /// assert_eq!(rt; below.as_slice(), [(7, 0)].as_slice());
+    /// ```
+    ///
     /// # Errors
     /// `Memory` where a request was refused.
     pub fn common_prefix_predict(&self, query: &str) -> Result<Vec<(i32, usize), A>, CedarError>
@@ -128,6 +182,13 @@ impl<L: Layout, const SLOTS: usize, A: Allocator + Copy> Trie<L, SLOTS, A> {
 
     /// All keys with their values, in the order of the walk. Each key is copied for its item.
     ///
+    /// ```
+    /// cedar.build(&[("net", 7), ("ten", 2)])?;
+    /// let mut entries = cedar.entries()?;
+    /// let (key, value) = entries.next().ok_or("an entry")??;
+    /// assert_eq!(rt; (key.as_slice(), value), (b"net".as_slice(), 7));
+    /// ```
+    ///
     /// # Errors
     /// `Memory` where a request was refused.
     pub fn entries(&self) -> Result<Entries<'_, Self, A>, CedarError>
@@ -138,6 +199,13 @@ impl<L: Layout, const SLOTS: usize, A: Allocator + Copy> Trie<L, SLOTS, A> {
     }
 
     /// `entries` with keys as text.
+    ///
+    /// ```
+    /// cedar.build(&[("net", 7), ("ten", 2)])?;
+    /// let mut entries = cedar.entries_str()?;
+    /// let (key, value) = entries.next().ok_or("an entry")??;
+    /// assert_eq!(rt; (key.as_str(), value), ("net", 7));
+    /// ```
     ///
     /// # Errors
     /// `Memory` where a request was refused.

@@ -50,6 +50,13 @@ impl<'a, T: Walked, C: Ledger> CountedPrefixIter<'a, T, C> {
     }
 
     /// Says that at any time there were at most twice as many comparisons as the query has bytes.
+    ///
+    /// ```
+    /// cedar.update("net", 7)?;
+    /// let mut fronts = cedar.common_prefix_iter_counted::<C>(b"nets", blank);
+    /// assert_eq!(rt; fronts.next(), Some((7, 2)));
+    /// fronts.comparisons_are_few();
+    /// ```
     pub fn comparisons_are_few(&self)
         ensures { self.now.ticks ≤ 2 * self.now.query }
     {

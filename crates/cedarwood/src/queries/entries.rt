@@ -86,6 +86,11 @@ impl<'a, T: Walked, A: Allocator + Copy> Entries<'a, T, A> {
     }
 
     /// How many entries are still to come: none after an error.
+    ///
+    /// ```
+    /// cedar.update("net", 7)?;
+    /// assert_eq!(rt; cedar.entries()?.len(), 1);
+    /// ```
     pub fn len(&self) -> usize
         ensures { result ≡ length self.now }
     {
@@ -93,6 +98,11 @@ impl<'a, T: Walked, A: Allocator + Copy> Entries<'a, T, A> {
     }
 
     /// Whether no entry is still to come.
+    ///
+    /// ```
+    /// cedar.update("net", 7)?;
+    /// assert!(rt; !cedar.entries()?.is_empty());
+    /// ```
     pub fn is_empty(&self) -> bool
         ensures { IsTrue result ↔ (self.now ≡ []) }
     {

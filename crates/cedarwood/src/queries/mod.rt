@@ -1,5 +1,6 @@
 //! What a dictionary answers: exact searches, prefix walks, predictions and entries.
 
+mod batch;
 mod calls;
 pub(crate) mod counted;
 pub(crate) mod entries;

@@ -66,6 +66,12 @@ impl<'a, T: Walked> PrefixIter<'a, T> {
 
     /// The next item. Each comparison of a check field is counted, two for a byte of the query at most: so a whole walk makes at most
     /// twice as many as the query has bytes.
+    ///
+    /// ```
+    /// cedar.update("net", 7)?;
+    /// let mut fronts = cedar.common_prefix_iter_bytes(b"nets");
+    /// assert_eq!(rt; fronts.next_counted(&mut ticks), Some((7, 2)));
+    /// ```
     pub fn next_counted<C: Ledger>(&mut self, ticks: &mut Ticks<C>) -> Option<(i32, usize)>
         ensures gives { YieldsFirst (λ (walk : PrefixWalk). walk.rest) self.old result self.new }
         ensures query { self.new.query ≡ self.old.query }

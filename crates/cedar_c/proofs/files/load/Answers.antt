@@ -1,4 +1,4 @@
-use Rattle.std.proofs.Common.{◌≡◌, ◌∙◌, inr, List, ℕ, Bor, Ok, Err, refl, subst, sym}
+use Rattle.std.proofs.Common.{◌∙◌, inr, List, ℕ, Bor, Ok, Err, refl, subst, sym}
 use Rattle.cedar_table.specs.Table.Layouts.{default_layout}
 use Rattle.cedar_format.specs.Format.{header_answer}
 use Rattle.cedarwood.specs.Dictionary.{Dictionary}

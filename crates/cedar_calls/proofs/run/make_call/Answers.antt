@@ -1,6 +1,6 @@
 use Rattle.std.proofs.Common.{rules, ◌≡◌, ◌<◌, ◌≤◌, length, sym, subst, slice_set, refl, Some, None}
 use Rattle.std.specs.List.{slice_get}
-use Rattle.cedar_table.specs.Bulk.Sorted.{entries_of}
+use Rattle.cedar_bulk.specs.Sorted.{entries_of}
 use Rattle.cedar_calls.specs.declared.answer.Answer.TheVariants as answer
 use Rattle.cedar_calls.specs.Runs.{IsStep}
 use Rattle.cedar_calls.proofs.MakingLemmas.{sorted_made}
@@ -43,7 +43,7 @@ returns-in-Some-get_mut-clause-step g c =
     let i = c.in-Change.index in
     let within : i < length c.args.tries.now.items = search rules in
     subst (λ call. IsStep {A = g.row.A.Denot} g.L.Layout.kind g.row.SLOTS c.args.tries.now.items call (answer.Changed c.make_change.result) (slice_set c.args.tries.now.items i c.make_change.new.trie)) (sym c.in-Change.is)
-    (c.in-Some-get_mut.trie.now, c.make_change.new.trie, stands_at c.args.tries.now.items i c.in-Some-get_mut.trie.now within found.value, c.make_change.ensures, refl)
+    (c.in-Some-get_mut.trie.now, c.make_change.new.trie, stands_at c.args.tries.now.items i c.in-Some-get_mut.trie.now within found.value, (c.is_valid.ensures, c.make_change.ensures), refl)
 
 pub returns-in-None-get_mut-clause-step : goal.returns-in-None-get_mut-clause-step
 returns-in-None-get_mut-clause-step g c =

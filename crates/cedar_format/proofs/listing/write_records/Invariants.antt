@@ -1,12 +1,16 @@
-use Rattle.std.proofs.Common.{◌≡◌, true, take}
-use Rattle.std.specs.List.{flat_map}
+use Rattle.std.proofs.Common.{◌≡◌, ◌≤◌, ◌-◌, true, length, take}
 use Rattle.std.specs.Prelude.{All}
-use Rattle.cedar_format.specs.Reading.{Holds}
+use Rattle.std.specs.List.{flat_map}
+use Rattle.std.specs.Io.KnownBytes.{Appends}
 use Rattle.cedar_format.proofs.listing.write_records.Given as goal
 
-abbrev pub invariant-loop-item : goal.invariant-loop-item
-invariant-loop-item g l = record {
-  bytes : Holds (g.W.Write.contents l.initial.writer.device) (g.W.Write.contents l.writer.device) l.buffer.items (flat_map g.T.Record.bytes_of (take l.item-index l.records));
-  fits : All g.T.Record.Fits (take l.item-index l.records);
+abbrev pub invariant-loop-done : goal.invariant-loop-done
+invariant-loop-done g l = record {
+  within : l.done ≤ length l.records;
+  bytes : Appends (g.W.Write.contents l.initial.writer.device) (g.W.Write.contents l.writer.device) (flat_map g.T.Record.bytes_of (take l.done l.records));
+  fits : All g.T.Record.Fits (take l.done l.records);
   failed : l.initial.writer.failed ≡ true → l.writer.failed ≡ true;
 }
+
+abbrev pub decreases-loop-done : goal.decreases-loop-done
+decreases-loop-done g l = length l.records - l.done

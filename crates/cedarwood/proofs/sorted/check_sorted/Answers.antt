@@ -2,7 +2,7 @@ use Rattle.std.proofs.Common.{◌≡◌, ◌<◌, ◌+◌, ◌∙◌, ℕ, List,
 use Rattle.std.proofs.lemmas.Result.{err_from_is_err_and}
 use Rattle.cedar_slots.specs.declared.error.CedarError.{CedarError}
 use Rattle.cedar_tree.specs.Queries.{Entry}
-use Rattle.cedar_table.specs.Bulk.Sorted.{entries_by}
+use Rattle.cedar_bulk.specs.Sorted.{entries_by}
 use Rattle.cedarwood.specs.Fault.{or_else}
 use Rattle.cedarwood.specs.SortedInput.{fault_behind, fault_from, key_at}
 use Rattle.cedarwood.proofs.FaultLemmas.{key_part, no_fault}

@@ -1,5 +1,5 @@
 use Rattle.std.proofs.Common.{◌≡◌, [], drop, take}
-use Rattle.cedar_table.specs.Bulk.Sorted.{entries_by}
+use Rattle.cedar_bulk.specs.Sorted.{entries_by}
 use Rattle.cedarwood.specs.SortedInput.{AreBytes, fault_from, key_at}
 use Rattle.cedarwood.proofs.sorted.check_sorted.Given as goal
 

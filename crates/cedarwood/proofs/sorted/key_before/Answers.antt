@@ -1,6 +1,6 @@
 use Rattle.std.proofs.Common.{◌<◌, ◌≤◌, ◌-◌, ◌∙◌, [], List, ap, arith, length, subst, sym}
 use Rattle.cedar_tree.specs.Queries.{Entry}
-use Rattle.cedar_table.specs.Bulk.Sorted.{entries_by}
+use Rattle.cedar_bulk.specs.Sorted.{entries_by}
 use Rattle.cedarwood.proofs.SortedInputLemmas.{as_many, entry_there, key_at_index}
 use Rattle.cedarwood.proofs.sorted.key_before.Goals as goal
 

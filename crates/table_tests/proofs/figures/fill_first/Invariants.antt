@@ -3,4 +3,4 @@ use Rattle.cedar_table.specs.Table.TableFields.{fields}
 use Rattle.table_tests.proofs.figures.fill_first.Given as goal
 
 abbrev pub invariant-loop-slot : goal.invariant-loop-slot
-invariant-loop-slot g l = IsTable 256 (fields l.table).places
+invariant-loop-slot g l = IsTable 1024 (fields l.table).places

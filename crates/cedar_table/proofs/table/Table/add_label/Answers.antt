@@ -29,13 +29,12 @@ slot_before-before-requires g c =
     let n = c.requires.node in
     let k : CanAdd size T c.args.node c.args.label = can_add_at size T ordered n.0 c.args.node c.args.label n.1 c.requires.positive (omega (arith, c.ranges.label.fits)) c.requires.based c.requires.free in (
       search rules,
-      (
-        c.requires.node_in,
-        (
-          base_inside size T c.args.node c.args.label (omega (arith, c.requires.node_in)) k,
-          (chain_of_node size T ordered n.0 c.args.node n.1, λ o. c.requires.free (inr (c.args.node, o))),
-        ),
-      ),
+      record {
+        node_in = c.requires.node_in;
+        based = base_inside size T c.args.node c.args.label (omega (arith, c.requires.node_in)) k;
+        chain = chain_of_node size T ordered n.0 c.args.node n.1;
+        absent = λ o. c.requires.free (inr (c.args.node, o));
+      },
     )
 
 pub pop_e_node-requires : goal.pop_e_node-requires

@@ -9,7 +9,7 @@ use Rattle.cedar_table.proofs.table.Table.add_over.Goals as goal
 
 pub add_reserved-requires : goal.add_reserved-requires
 add_reserved-requires g c =
-    let n = c.requires.node in
+    let n = c.requires.wants.node in
     let k = c.in_ok-node.ensures.reserved in
     let R = cells c.resolve.new.self in
     let node : IsNodeOf (size_of (fields c.resolve.new.self)) (freed R (below R c.in_ok-node.node c.args.label)) (fields c.resolve.new.self).ordered n.0 c.in_ok-node.node = record {
@@ -23,8 +23,8 @@ add_reserved-requires g c =
 pub returns-clause-stepped : goal.returns-clause-stepped
 returns-clause-stepped g c =
     let add = c.add_reserved.ensures in
-    child_added_over (fields c.args.self.now) (fields c.resolve.new.self) (fields c.add_reserved.new.self) c.args.node c.args.label c.in_ok-node.node c.add_reserved.result c.requires.node.0 c.requires.node.1.path c.requires.node.1.holds c.requires.node.1.at
-    c.in_ok-node.ensures.reserved c.in_ok-node.ensures.growth.settings.ordered c.requires.absent add.added add.slot (add.sound.sound.shaped.blocks.some) add.tree add.leaf c.requires.not_root
+    child_added_over (fields c.args.self.now) (fields c.resolve.new.self) (fields c.add_reserved.new.self) c.args.node c.args.label c.in_ok-node.node c.add_reserved.result c.requires.wants.node.0 c.requires.wants.node.1.path c.requires.wants.node.1.holds c.requires.wants.node.1.at
+    c.in_ok-node.ensures.reserved c.in_ok-node.ensures.growth.settings.ordered c.requires.wants.absent add.added add.slot (add.sound.sound.shaped.blocks.some) add.tree add.leaf c.requires.wants.not_root
 
 pub returns-clause-growth : goal.returns-clause-growth
 returns-clause-growth g c = growth_framed _ _ _ c.in_ok-node.ensures.growth c.add_reserved.ensures.frame c.add_reserved.ensures.root_check

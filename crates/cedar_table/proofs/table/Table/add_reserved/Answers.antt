@@ -29,7 +29,7 @@ slot_before-before-requires g c =
     let k : CanAdd size T c.args.node c.args.label = can_add_at size T ordered n.0 c.args.node c.args.label n.1 c.requires.positive small (λ _. c.requires.based) (freed_free R x far) in
     let e : c.child_slot-slot.result ≡ x = c.child_slot-slot.ensures in
     let off = (node_apart size R ordered n.0 c.args.node x far n.1).0 in
-    (search rules, (c.requires.node_in, (base_inside size T c.args.node c.args.label (omega (arith, c.requires.node_in)) k, (chain_there size R ordered c.args.node x c.requires.not_root off c.requires.reserved n.0 n.1, λ o. c.requires.not_root (pos_injective c.args.node 0 (sym o ∙ c.requires.reserved))))))
+    (search rules, record { node_in = c.requires.node_in; based = base_inside size T c.args.node c.args.label (omega (arith, c.requires.node_in)) k; chain = chain_there size R ordered c.args.node x c.requires.not_root off c.requires.reserved n.0 n.1; absent = λ o. c.requires.not_root (pos_injective c.args.node 0 (sym o ∙ c.requires.reserved)) })
 
 pub claim-requires : goal.claim-requires
 claim-requires g c =
@@ -44,7 +44,7 @@ claim-requires g c =
     let k : CanAdd size T c.args.node c.args.label = can_add_at size T ordered n.0 c.args.node c.args.label n.1 c.requires.positive small (λ _. c.requires.based) (freed_free R x far) in
     let e : c.child_slot-slot.result ≡ x = c.child_slot-slot.ensures in
     let shaped = c.args.self.now.shaped in
-    (search rules, (c.requires.sound, (subst (λ s. s < size) (sym e) (slot_inside size T c.args.node c.args.label (omega (arith, c.requires.node_in)) (omega arith) k), (inr (0, ap R.check e ∙ c.requires.reserved), ((λ z. far (sym e ∙ z)), omega (arith, c.requires.node_in, shaped.blocks.active_in, shaped.blocks.fits))))))
+    (search rules, record { sound = c.requires.sound; slot_in = subst (λ s. s < size) (sym e) (slot_inside size T c.args.node c.args.label (omega (arith, c.requires.node_in)) (omega arith) k); slot_held = inr (0, ap R.check e ∙ c.requires.reserved); not_root = λ z. far (sym e ∙ z); owner_in = omega (arith, c.requires.node_in, shaped.blocks.active_in, shaped.blocks.fits) })
 
 pub link-requires : goal.link-requires
 link-requires g c =

@@ -13,7 +13,7 @@ use Rattle.cedar_table.proofs.table.Table.copy_slot.Goals as goal
 pub repoint_under-requires : goal.repoint_under-requires
 repoint_under-requires g c =
     let shaped = c.args.self.now.shaped in
-    (search rules, (c.requires.sound, (c.requires.from_in, ((λ e. c.requires.root c.args.owner (subst (λ x. (cells c.args.self.now).check x ≡ pos c.args.owner) e c.requires.mine)), (omega (arith, c.requires.to_in, shaped.blocks.active_in, shaped.blocks.fits), (c.requires.node, c.requires.alone))))))
+    (search rules, record { sound = c.requires.sound; from_in = c.requires.from_in; not_root = λ e. c.requires.root c.args.owner (subst (λ x. (cells c.args.self.now).check x ≡ pos c.args.owner) e c.requires.mine); to_in = omega (arith, c.requires.to_in, shaped.blocks.active_in, shaped.blocks.fits); node = c.requires.node; alone = c.requires.alone })
 
 pub pop_e_node-requires : goal.pop_e_node-requires
 pop_e_node-requires g c =

@@ -9,44 +9,29 @@ use Rattle.cedar_table.proofs.table.Table.move_away.Goals as goal
 
 pub labels_of-labels-requires : goal.labels_of-labels-requires
 labels_of-labels-requires g c =
-    let p = c.requires.on_path in
-    let w = c.requires.holds in
-    (search rules, (c.requires.node_in, (c.requires.not_root, node_at_end _ (cells c.args.self.now) w.0 c.args.node p.0 w.1 p.1 p.2 c.requires.not_root)))
+    let p = c.requires.node.on_path in
+    let w = c.requires.node.holds in
+    (search rules, (c.requires.node.node_in, (c.requires.node.not_root, node_at_end _ (cells c.args.self.now) w.0 c.args.node p.0 w.1 p.1 p.2 c.requires.node.not_root)))
 
 pub move_set_around-requires : goal.move_set_around-requires
 move_set_around-requires g c =
     let T = cells c.args.self.now in
     let size : ℕ = size_of (fields c.args.self.now) in
-    let p = c.requires.on_path in
-    let w = c.requires.holds in
-    let n : IsNode size T c.args.node = node_at_end size T w.0 c.args.node p.0 w.1 p.1 p.2 c.requires.not_root in
+    let p = c.requires.node.on_path in
+    let w = c.requires.node.holds in
+    let n : IsNode size T c.args.node = node_at_end size T w.0 c.args.node p.0 w.1 p.1 p.2 c.requires.node.not_root in
     let listed : c.labels_of-labels.result.items ≡ owned n.head n.labels = c.labels_of-labels.ensures n.head n.labels n.family in
     let labels : c.deref.result.now ≡ owned n.head n.labels = c.deref.ensures.0 ∙ listed in (
       search rules,
       (
-        c.requires.sound,
+        c.requires.node,
         (
-          c.requires.node_in,
+          record { head = n.head; labels = n.labels; family = n.family; owns = labels },
           (
-            c.requires.not_root,
+            c.requires.mine,
             (
-              c.requires.based,
-              (
-                p,
-                (
-                  w,
-                  (
-                    record { head = n.head; labels = n.labels; family = n.family; owns = labels },
-                    (
-                      c.requires.mine,
-                      (
-                        subst (λ v. 0 < length v) (sym labels) (owned_some size T c.args.node c.args.slot n.head n.labels c.requires.mine n.family),
-                        subst (λ v. length v ≤ 256) (sym labels) (owned_at_most size T c.args.node n.head n.labels n.family),
-                      ),
-                    ),
-                  ),
-                ),
-              ),
+              subst (λ v. 0 < length v) (sym labels) (owned_some size T c.args.node c.args.slot n.head n.labels c.requires.mine n.family),
+              subst (λ v. length v ≤ 256) (sym labels) (owned_at_most size T c.args.node n.head n.labels n.family),
             ),
           ),
         ),

@@ -17,11 +17,11 @@ relocate_around-requires g c =
     let blocks = c.place_for.ensures.blocks in
     let more : size_of (fields c.args.self.now) ≤ size_of (fields c.place_for.new.self) = made_larger blocks.0 (fields c.args.self.now) (fields c.place_for.new.self) blocks.2 in
     let n = c.requires.owned in
-    let p = c.requires.on_path in
+    let p = c.requires.node.on_path in
     let b = c.in_ok-base.base in
     let all : (l : ℕ) → Among (owned n.head n.labels) l → Among c.args.labels.now l = λ l a. subst (λ xs. Among xs l) (sym n.owns) a in
-    let m = can_relocate _ _ T T₁ c.requires.holds.0 c.args.node b p.0 n.head n.labels c.args.labels.now more (omega arith) c.place_for.ensures.held c.requires.holds.1 p.1 p.2 c.requires.not_root n.family c.requires.based all (λ i. omega (arith, c.type_inv.labels i)) c.requires.some c.in_ok-base.ensures.found in
-    (search rules, (c.place_for.ensures.sound, (omega (arith, c.requires.node_in, more), (subst (λ xs. Movable (size_of (fields c.place_for.new.self)) T₁ c.args.node b xs) (sym n.owns) m, (c.place_for.ensures.held.other c.args.slot (inr (c.args.node, c.requires.mine))).check ∙ c.requires.mine))))
+    let m = can_relocate _ _ T T₁ c.requires.node.holds.0 c.args.node b p.0 n.head n.labels c.args.labels.now more (omega arith) c.place_for.ensures.held c.requires.node.holds.1 p.1 p.2 c.requires.node.not_root n.family c.requires.node.based all (λ i. omega (arith, c.type_inv.labels i)) c.requires.some c.in_ok-base.ensures.found in
+    (search rules, (c.place_for.ensures.sound, (omega (arith, c.requires.node.node_in, more), (subst (λ xs. Movable (size_of (fields c.place_for.new.self)) T₁ c.args.node b xs) (sym n.owns) m, (c.place_for.ensures.held.other c.args.slot (inr (c.args.node, c.requires.mine))).check ∙ c.requires.mine))))
 
 pub returns-clause-moved : goal.returns-clause-moved
 returns-clause-moved g c =
@@ -30,12 +30,12 @@ returns-clause-moved g c =
     let blocks = c.place_for.ensures.blocks in
     let more : size_of (fields c.args.self.now) ≤ size_of (fields c.place_for.new.self) = made_larger blocks.0 (fields c.args.self.now) (fields c.place_for.new.self) blocks.2 in
     let n = c.requires.owned in
-    let p = c.requires.on_path in
+    let p = c.requires.node.on_path in
     let b = c.in_ok-base.base in
     let all : (l : ℕ) → Among (owned n.head n.labels) l → Among c.args.labels.now l = λ l a. subst (λ xs. Among xs l) (sym n.owns) a in
     let T' = cells c.relocate_around.new.self in
     let k : ℕ = c.args.slot in
-    let moved = set_moved _ _ T T₁ c.requires.holds.0 c.args.node b p.0 n.head n.labels c.args.labels.now more (omega arith) c.place_for.ensures.held c.requires.holds.1 p.1 p.2 c.requires.not_root n.family c.requires.based all (λ i. omega (arith, c.type_inv.labels i)) c.requires.some c.in_ok-base.ensures.found (freed T' k) c.relocate_around.ensures.relocated in
+    let moved = set_moved _ _ T T₁ c.requires.node.holds.0 c.args.node b p.0 n.head n.labels c.args.labels.now more (omega arith) c.place_for.ensures.held c.requires.node.holds.1 p.1 p.2 c.requires.node.not_root n.family c.requires.node.based all (λ i. omega (arith, c.type_inv.labels i)) c.requires.some c.in_ok-base.ensures.found (freed T' k) c.relocate_around.ensures.relocated in
     record {
       set = subst (λ s. SetMoved (size_of (fields c.args.self.now)) s T (freed T' k) c.args.node b c.args.labels.now c.args.labels.now) (sym c.relocate_around.ensures.frame.size)
           (subst (λ xs. SetMoved (size_of (fields c.args.self.now)) (size_of (fields c.place_for.new.self)) T (freed T' k) c.args.node b xs c.args.labels.now) (sym n.owns) moved);

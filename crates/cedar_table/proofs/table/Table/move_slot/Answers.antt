@@ -5,9 +5,6 @@ use Rattle.cedar_table.proofs.UpdateLemmas.Frame.{frame_then}
 use Rattle.cedar_table.proofs.RelocationLemmas.KeptSlot.{given_same, renames_same}
 use Rattle.cedar_table.proofs.table.Table.move_slot.Goals as goal
 
-pub copy_slot-requires : goal.copy_slot-requires
-copy_slot-requires g c = (search rules, (c.requires.sound, (c.requires.from_in, (c.requires.to_in, (c.requires.owner_in, (c.requires.mine, (c.requires.not_own, (c.requires.free, (c.requires.root, (c.requires.node, c.requires.alone))))))))))
-
 pub push_e_node-requires : goal.push_e_node-requires
 push_e_node-requires g c =
     let copy = c.copy_slot.ensures in

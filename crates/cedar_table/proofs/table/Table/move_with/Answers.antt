@@ -10,17 +10,17 @@ use Rattle.cedar_table.proofs.table.Table.move_with.Goals as goal
 
 pub labels_of-labels-requires : goal.labels_of-labels-requires
 labels_of-labels-requires g c =
-    let p = c.requires.on_path in
-    let w = c.requires.holds in
-    (search rules, (c.requires.node_in, (c.requires.not_root, node_at_end _ (cells c.args.self.now) w.0 c.args.node p.0 w.1 p.1 p.2 c.requires.not_root)))
+    let p = c.requires.node.on_path in
+    let w = c.requires.node.holds in
+    (search rules, (c.requires.node.node_in, (c.requires.node.not_root, node_at_end _ (cells c.args.self.now) w.0 c.args.node p.0 w.1 p.1 p.2 c.requires.node.not_root)))
 
 pub labels_with-wanted-requires : goal.labels_with-wanted-requires
 labels_with-wanted-requires g c =
     let T = cells c.args.self.now in
     let size : ℕ = size_of (fields c.args.self.now) in
-    let p = c.requires.on_path in
-    let w = c.requires.holds in
-    let n : IsNode size T c.args.node = node_at_end size T w.0 c.args.node p.0 w.1 p.1 p.2 c.requires.not_root in
+    let p = c.requires.node.on_path in
+    let w = c.requires.node.holds in
+    let n : IsNode size T c.args.node = node_at_end size T w.0 c.args.node p.0 w.1 p.1 p.2 c.requires.node.not_root in
     let labels : c.deref.result.now ≡ owned n.head n.labels = c.deref.ensures.0 ∙ c.labels_of-labels.ensures n.head n.labels n.family in
     (search rules, subst (λ v. length v < 256) (sym labels) (owned_short size T c.args.node c.args.label n.head n.labels (omega (arith, c.ranges.label)) c.requires.absent n.family))
 
@@ -28,9 +28,9 @@ pub move_set_with-requires : goal.move_set_with-requires
 move_set_with-requires g c =
     let T = cells c.args.self.now in
     let size : ℕ = size_of (fields c.args.self.now) in
-    let p = c.requires.on_path in
-    let w = c.requires.holds in
-    let n : IsNode size T c.args.node = node_at_end size T w.0 c.args.node p.0 w.1 p.1 p.2 c.requires.not_root in
+    let p = c.requires.node.on_path in
+    let w = c.requires.node.holds in
+    let n : IsNode size T c.args.node = node_at_end size T w.0 c.args.node p.0 w.1 p.1 p.2 c.requires.node.not_root in
     let ls : List ℕ = owned n.head n.labels in
     let listed : c.labels_of-labels.result.items ≡ ls = c.labels_of-labels.ensures n.head n.labels n.family in
     let labels : c.deref-2.result.now ≡ ls = c.deref-2.ensures.0 ∙ listed in
@@ -39,33 +39,18 @@ move_set_with-requires g c =
     let long : length (with_label (fields c.args.self.now).ordered c.args.label ls) ≡ length ls + 1 = with_length (fields c.args.self.now).ordered c.args.label ls in (
       search rules,
       (
-        c.requires.sound,
+        c.requires.node,
         (
-          c.requires.node_in,
+          record { head = n.head; labels = n.labels; family = n.family; owns = labels },
           (
-            c.requires.not_root,
+            λ l a. subst (λ v. Among v l) (sym wanted) (with_old (fields c.args.self.now).ordered c.args.label ls l (subst (λ v. Among v l) labels a)),
             (
-              c.requires.based,
+              omega (arith, ap length wanted, long),
               (
-                p,
+                omega (arith, ap length wanted, long, short),
                 (
-                  w,
-                  (
-                    record { head = n.head; labels = n.labels; family = n.family; owns = labels },
-                    (
-                      λ l a. subst (λ v. Among v l) (sym wanted) (with_old (fields c.args.self.now).ordered c.args.label ls l (subst (λ v. Among v l) labels a)),
-                      (
-                        omega (arith, ap length wanted, long),
-                        (
-                          omega (arith, ap length wanted, long, short),
-                          (
-                            subst (λ v. Among v c.args.label) (sym wanted) (with_new (fields c.args.self.now).ordered c.args.label ls),
-                            λ a. not_owned size T c.args.node c.args.label n.head n.labels c.requires.absent n.family (subst (λ v. Among v c.args.label) labels a),
-                          ),
-                        ),
-                      ),
-                    ),
-                  ),
+                  subst (λ v. Among v c.args.label) (sym wanted) (with_new (fields c.args.self.now).ordered c.args.label ls),
+                  λ a. not_owned size T c.args.node c.args.label n.head n.labels c.requires.absent n.family (subst (λ v. Among v c.args.label) labels a),
                 ),
               ),
             ),
@@ -78,9 +63,9 @@ pub returns-clause-moved : goal.returns-clause-moved
 returns-clause-moved g c =
     let T = cells c.args.self.now in
     let size : ℕ = size_of (fields c.args.self.now) in
-    let p = c.requires.on_path in
-    let w = c.requires.holds in
-    let n : IsNode size T c.args.node = node_at_end size T w.0 c.args.node p.0 w.1 p.1 p.2 c.requires.not_root in
+    let p = c.requires.node.on_path in
+    let w = c.requires.node.holds in
+    let n : IsNode size T c.args.node = node_at_end size T w.0 c.args.node p.0 w.1 p.1 p.2 c.requires.node.not_root in
     let ls : List ℕ = owned n.head n.labels in
     let listed : c.labels_of-labels.result.items ≡ ls = c.labels_of-labels.ensures n.head n.labels n.family in
     let labels : c.deref-2.result.now ≡ ls = c.deref-2.ensures.0 ∙ listed in

@@ -82,7 +82,7 @@ put_over-requires g c =
     let is_mine = c.is_owned_by.ensures.1 (ap T.check c.slot_below-slot.ensures ∙ o) in
     let not_mine = c.if-is_owned_by.false in
     cc in
-    (search rules, (c.requires.sound, (c.requires.node_in, (based.0, (based.1.0, (n, (taken, absent)))))))
+    (search rules, record { sound = c.requires.sound; node_in = c.requires.node_in; not_root = based.0; based = based.1.0; node = n; taken = taken; absent = absent })
 
 pub returns-then-is_taken-clause-set : goal.returns-then-is_taken-clause-set
 returns-then-is_taken-clause-set g c =
@@ -109,7 +109,7 @@ room_for-requires g c =
     let not_mine = c.if-is_owned_by.false in
     cc in
     let open_slot : (base_of T c.args.node ≢ 0) → Held T (below T c.args.node 0) → ⊥ = λ b. subst (λ s. Held T s → ⊥) c.slot_below-slot.ensures (c.is_taken.ensures.«open» (λ t. let f = c.if-is_taken.false in cc) b) in
-    (search rules, (c.requires.sound, (c.requires.node_in, (c.requires.node, ((λ z. absurd (c.requires.not_root z)), (c.requires.no_own_number, (absent, open_slot)))))))
+    (search rules, record { sound = c.requires.sound; node_in = c.requires.node_in; node = c.requires.node; positive_at_root = λ z. absurd (c.requires.not_root z); no_own_number = c.requires.no_own_number; absent = absent; slot_free = open_slot })
 
 pub returns-in_err-room_for-clause-leaf : goal.returns-in_err-room_for-clause-leaf
 returns-in_err-room_for-clause-leaf g c = λ bare. elim (c.in_err-room_for.ensures.leaf c.requires.not_root bare) [ inl never ↦ absurd never.0 | inr full ↦ inr full ]

@@ -29,34 +29,18 @@ pass_slot-requires g c =
     let label₂ : c.from-in-loop-label.result ≡ get_or ls i 0 = search rules in
     let e : bit_xor c.base_of-old_base.result c.from.result ≡ below T p (get_or ls i 0) = ap (λ x. bit_xor x c.from.result) c.base_of-old_base.ensures ∙ ap (below T p) label in (
       search rules,
-      (
-        c.loop-label.invariant.sound,
-        (
-          subst (λ x. x < size_of (fields c.loop-label.self)) (sym e) (subst (λ x. below T p (get_or ls i 0) < x) (sym size) (m.old_within _ (among_get ls i 0 h))),
-          (
-            subst (λ x. bit_xor b x < size_of (fields c.loop-label.self)) (sym label₂) (subst (λ x. bit_xor b (get_or ls i 0) < x) (sym size) (m.new_within _ (among_get ls i 0 h))),
-            (
-              subst (λ x. p < x) (sym size) c.requires.parent_in,
-              (
-                ap T₁.check e ∙ y.mine,
-                (
-                  λ o. y.not_own (o ∙ e),
-                  (
-                    λ o. y.free (subst (λ x. Held T₁ (bit_xor b x)) label₂ o),
-                    (
-                      y.root,
-                      (
-                        λ z. subst (λ x. IsNode (size_of (fields c.loop-label.self)) T₁ x) (sym e) (subst (λ x. IsNode x T₁ (below T p (get_or ls i 0))) (sym size) (y.node z)),
-                        λ z. subst (λ x. OwnsNothing T₁ x) (sym e) (y.alone z),
-                      ),
-                    ),
-                  ),
-                ),
-              ),
-            ),
-          ),
-        ),
-      ),
+      record {
+        sound = c.loop-label.invariant.sound;
+        from_in = subst (λ x. x < size_of (fields c.loop-label.self)) (sym e) (subst (λ x. below T p (get_or ls i 0) < x) (sym size) (m.old_within _ (among_get ls i 0 h)));
+        to_in = subst (λ x. bit_xor b x < size_of (fields c.loop-label.self)) (sym label₂) (subst (λ x. bit_xor b (get_or ls i 0) < x) (sym size) (m.new_within _ (among_get ls i 0 h)));
+        owner_in = subst (λ x. p < x) (sym size) c.requires.parent_in;
+        mine = ap T₁.check e ∙ y.mine;
+        not_own = λ o. y.not_own (o ∙ e);
+        free = λ o. y.free (subst (λ x. Held T₁ (bit_xor b x)) label₂ o);
+        root = y.root;
+        node = λ z. subst (λ x. IsNode (size_of (fields c.loop-label.self)) T₁ x) (sym e) (subst (λ x. IsNode x T₁ (below T p (get_or ls i 0))) (sym size) (y.node z));
+        alone = λ z. subst (λ x. OwnsNothing T₁ x) (sym e) (y.alone z);
+      },
     )
 
 pub loop-label-preserved : goal.loop-label-preserved

@@ -27,19 +27,13 @@ reserve-reserved-requires g c =
     let slot : bit_xor b c.from.result ≡ k = ap (bit_xor b) c.from.ensures in
     let size : size_of (fields c.loop-other.self) ≡ n = c.loop-other.invariant.frame.size in (
       search rules,
-      (
-        c.loop-other.invariant.sound,
-        (
-          subst (λ s. s < size_of (fields c.loop-other.self)) (sym slot) (subst (λ m. k < m) (sym size) place.in_use),
-          (
-            λ z. omega (arith, place.not_first, slot, z),
-            (
-              λ e. subst (λ s. Held T₁ s → ⊥) (sym slot) (new_free T T₁ p b c.args.label _ ls i c.requires.new place.free r e),
-              λ e. ap T₁.check slot ∙ r.marked e,
-            ),
-          ),
-        ),
-      ),
+      record {
+        sound = c.loop-other.invariant.sound;
+        slot_in = subst (λ s. s < size_of (fields c.loop-other.self)) (sym slot) (subst (λ m. k < m) (sym size) place.in_use);
+        not_root = λ z. omega (arith, place.not_first, slot, z);
+        slot_free = λ e. subst (λ s. Held T₁ s → ⊥) (sym slot) (new_free T T₁ p b c.args.label _ ls i c.requires.new place.free r e);
+        marked = λ e. ap T₁.check slot ∙ r.marked e;
+      },
     )
 
 pub move_slot-requires : goal.move_slot-requires
@@ -66,34 +60,18 @@ move_slot-requires g c =
     let e : bit_xor c.base_of-old_base.result c.from-in-loop-other.result ≡ below T p (get_or ls i 0) = ap (λ x. bit_xor x c.from-in-loop-other.result) c.base_of-old_base.ensures ∙ ap (below T p) label in
     let y : Ready n T₂ (below T p (get_or ls i 0)) (bit_xor b (get_or ls i 0)) p (get_or ls i 0) = ready n T T₂ p b k ls i is m h r₂ not_root apart in (
       search rules,
-      (
-        c.reserve-reserved.ensures.sound,
-        (
-          subst (λ x. x < size_of (fields c.reserve-reserved.new.self)) (sym e) (subst (λ x. below T p (get_or ls i 0) < x) (sym size₂) (m.old_within _ (among_get ls i 0 h))),
-          (
-            subst (λ x. bit_xor b x < size_of (fields c.reserve-reserved.new.self)) (sym label₂) (subst (λ x. bit_xor b (get_or ls i 0) < x) (sym size₂) (m.new_within _ (among_get ls i 0 h))),
-            (
-              subst (λ x. p < x) (sym size₂) c.requires.parent_in,
-              (
-                ap T₂.check e ∙ y.mine,
-                (
-                  λ o. y.not_own (o ∙ e),
-                  (
-                    λ o. y.free (subst (λ x. Held T₂ (bit_xor b x)) label₂ o),
-                    (
-                      y.root,
-                      (
-                        λ z. subst (λ x. IsNode (size_of (fields c.reserve-reserved.new.self)) T₂ x) (sym e) (subst (λ x. IsNode x T₂ (below T p (get_or ls i 0))) (sym size₂) (y.node z)),
-                        λ z. subst (λ x. OwnsNothing T₂ x) (sym e) (y.alone z),
-                      ),
-                    ),
-                  ),
-                ),
-              ),
-            ),
-          ),
-        ),
-      ),
+      record {
+        sound = c.reserve-reserved.ensures.sound;
+        from_in = subst (λ x. x < size_of (fields c.reserve-reserved.new.self)) (sym e) (subst (λ x. below T p (get_or ls i 0) < x) (sym size₂) (m.old_within _ (among_get ls i 0 h)));
+        to_in = subst (λ x. bit_xor b x < size_of (fields c.reserve-reserved.new.self)) (sym label₂) (subst (λ x. bit_xor b (get_or ls i 0) < x) (sym size₂) (m.new_within _ (among_get ls i 0 h)));
+        owner_in = subst (λ x. p < x) (sym size₂) c.requires.parent_in;
+        mine = ap T₂.check e ∙ y.mine;
+        not_own = λ o. y.not_own (o ∙ e);
+        free = λ o. y.free (subst (λ x. Held T₂ (bit_xor b x)) label₂ o);
+        root = y.root;
+        node = λ z. subst (λ x. IsNode (size_of (fields c.reserve-reserved.new.self)) T₂ x) (sym e) (subst (λ x. IsNode x T₂ (below T p (get_or ls i 0))) (sym size₂) (y.node z));
+        alone = λ z. subst (λ x. OwnsNothing T₂ x) (sym e) (y.alone z);
+      },
     )
 
 pub loop-other-preserved : goal.loop-other-preserved
@@ -139,19 +117,13 @@ reserve-requires g c =
     let slot : bit_xor b c.from.result ≡ k = ap (bit_xor b) c.from.ensures in
     let size : size_of (fields c.loop-other.self) ≡ n = c.loop-other.invariant.frame.size in (
       search rules,
-      (
-        c.loop-other.invariant.sound,
-        (
-          subst (λ s. s < size_of (fields c.loop-other.self)) (sym slot) (subst (λ m. k < m) (sym size) place.in_use),
-          (
-            λ z. omega (arith, place.not_first, slot, z),
-            (
-              λ e. subst (λ s. Held T₁ s → ⊥) (sym slot) (new_free T T₁ p b c.args.label _ ls i c.requires.new place.free r e),
-              λ e. ap T₁.check slot ∙ r.marked e,
-            ),
-          ),
-        ),
-      ),
+      record {
+        sound = c.loop-other.invariant.sound;
+        slot_in = subst (λ s. s < size_of (fields c.loop-other.self)) (sym slot) (subst (λ m. k < m) (sym size) place.in_use);
+        not_root = λ z. omega (arith, place.not_first, slot, z);
+        slot_free = λ e. subst (λ s. Held T₁ s → ⊥) (sym slot) (new_free T T₁ p b c.args.label _ ls i c.requires.new place.free r e);
+        marked = λ e. ap T₁.check slot ∙ r.marked e;
+      },
     )
 
 pub set_base-requires : goal.set_base-requires

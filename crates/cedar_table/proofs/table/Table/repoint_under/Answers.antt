@@ -7,7 +7,7 @@ use Rattle.cedar_table.proofs.table.Table.repoint_under.Goals as goal
 
 pub repoint-requires : goal.repoint-requires
 repoint-requires g c =
-    (search rules, (c.requires.sound, (c.requires.from_in, (c.requires.not_root, (c.requires.to_in, c.requires.node (λ e. c.if-label-ne0.true e))))))
+    (search rules, record { sound = c.requires.sound; from_in = c.requires.from_in; not_root = c.requires.not_root; to_in = c.requires.to_in; node = c.requires.node (λ e. c.if-label-ne0.true e) })
 
 pub returns-else-label-ne0-clause-repointed : goal.returns-else-label-ne0-clause-repointed
 returns-else-label-ne0-clause-repointed g c = repointed_nothing (cells c.args.self.now) c.args.from c.args.to Always (c.requires.alone (search rules))

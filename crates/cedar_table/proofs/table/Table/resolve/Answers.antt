@@ -26,7 +26,7 @@ is_longer-requires g c =
 pub move_with-requires : goal.move_with-requires
 move_with-requires g c =
     let n = c.requires.node in
-    (search rules, (c.requires.sound, (c.requires.node_in, (c.requires.not_root, (c.requires.based, ((follow_on n.1.path [], n.1.at.0, n.1.at.1), ((n.0, n.1.holds), c.requires.absent)))))))
+    (search rules, (record { sound = c.requires.sound; node_in = c.requires.node_in; not_root = c.requires.not_root; based = c.requires.based; on_path = (follow_on n.1.path [], n.1.at.0, n.1.at.1); holds = (n.0, n.1.holds) }, c.requires.absent))
 
 pub is_owned_by-moves-requires : goal.is_owned_by-moves-requires
 is_owned_by-moves-requires g c =
@@ -44,7 +44,7 @@ pub move_away-requires : goal.move_away-requires
 move_away-requires g c =
     let n = c.requires.node in
     let k = conflict (fields c.args.self.now) n.0 c.args.node c.args.label (follow_on n.1.path []) n.1.holds n.1.at.0 n.1.at.1 c.requires.not_root c.requires.based (omega (arith, c.ranges.label)) c.child_slot-slot.result c.owner-owner.result c.child_slot-slot.ensures c.owner-owner.ensures in
-    (search rules, (c.requires.sound, (k.owner_in, (k.owner_not_root, (k.owner_based, (k.owner_path, ((n.0, n.1.holds), c.owner-owner.ensures)))))))
+    (search rules, (record { sound = c.requires.sound; node_in = k.owner_in; not_root = k.owner_not_root; based = k.owner_based; on_path = k.owner_path; holds = (n.0, n.1.holds) }, c.owner-owner.ensures))
 
 pub returns-then-is_longer-clause-reserved : goal.returns-then-is_longer-clause-reserved
 returns-then-is_longer-clause-reserved g c =

@@ -1,9 +1,16 @@
-use Rattle.std.proofs.Common.{◌≡◌, ◌∙◌, ◌<◌, ap, arith, rules, sym, bit_xor, ℕ}
+use Rattle.std.proofs.Common.{◌≡◌, ◌∙◌, ◌<◌, ap, arith, rules, subst, sym, bit_xor, ℕ}
 use lib.Bits.{xor_zero_r}
 use Rattle.cedar_table.specs.Meaning.Family.{below}
 use Rattle.cedar_table.specs.Table.TableFields.{cells, fields, size_of}
+use Rattle.cedar_table.proofs.RelocationLemmas.Repointed.{base_within}
 use Rattle.cedar_table.proofs.RelocationLemmas.LongerChain.{label_inside, second_after, second_none, second_valued}
 use Rattle.cedar_table.proofs.table.Table.second_label.Goals as goal
+
+pub sibling-requires : goal.sibling-requires
+sibling-requires g c =
+    let n = c.requires.node in
+    let inside : c.base_of-base.result < size_of (fields c.args.self.now) = subst (λ s. s < size_of (fields c.args.self.now)) (sym c.base_of-base.ensures) (base_within _ _ _ n.head n.labels (omega (arith, c.args.self.now.shaped.blocks.some)) n.family) in
+    (search rules, omega (arith, inside, c.args.self.now.shaped.blocks.active_in))
 
 pub returns-then-has_number_slot : goal.returns-then-has_number_slot
 returns-then-has_number_slot g c = λ h ls f.

@@ -1,5 +1,5 @@
 use Rattle.std.proofs.Common.{◌≡◌, ◌∙◌, arith, ap, inl, inr, refl, of_z, rules, subst, sym, to_z, w32, FitsSigned, Some}
-use Rattle.std.proofs.lemmas.Int.{ints, to_z-of_z}
+use Rattle.std.proofs.lemmas.Int.{to_z-of_z}
 use Rattle.std.proofs.lemmas.List.{get_or_read}
 use Rattle.cedar_tree.specs.Edits.{edit_at}
 use Rattle.cedar_table.specs.declared.layout.Stored.TheVariants.{OwnNumber}
@@ -19,7 +19,8 @@ write_node-requires g c =
     let shaped = c.args.self.now.shaped in
     let n = c.requires.node.1 in
     let held = held_node (cells c.args.self.now) n.path c.args.node n.at in
-    let same : to_z w32 (of_z w32 c.index.result.now.check) ≡ c.index.result.now.check = omega (arith, ints) in
+    let stays : FitsSigned w32 c.index.result.now.check = search rules in
+    let same : to_z w32 (of_z w32 c.index.result.now.check) ≡ c.index.result.now.check = to_z-of_z w32 c.index.result.now.check stays in
     let read : c.index.result.now.check ≡ check_at c.args.self.now.places.slots.nodes.items c.args.node = ap (λ (n : NodeRecord). n.check) (get_or_read c.args.self.now.places.slots.nodes.items c.args.node c.index.result.now (omega (arith, c.requires.node_in, shaped.nodes, shaped.blocks.active_in)) c.index.ensures blank_node) in
     let cell : to_z w32 (of_z w32 c.index.result.now.check) ≡ (cells c.args.self.now).check c.args.node = same ∙ read ∙ sym (active_is g.L.Layout.kind (places_of c.args.self.now.places) c.args.node c.requires.node_in) in
     (search rules, (c.requires.sound, (c.requires.node_in, (held, inr (held_natural (cells c.args.self.now) c.args.node _ c.requires.not_root cell held)))))
@@ -27,7 +28,8 @@ write_node-requires g c =
 pub returns-clause-set : goal.returns-clause-set
 returns-clause-set g c =
     let shaped = c.args.self.now.shaped in
-    let same : to_z w32 (of_z w32 c.index.result.now.check) ≡ c.index.result.now.check = omega (arith, ints) in
+    let stays : FitsSigned w32 c.index.result.now.check = search rules in
+    let same : to_z w32 (of_z w32 c.index.result.now.check) ≡ c.index.result.now.check = to_z-of_z w32 c.index.result.now.check stays in
     let read : c.index.result.now.check ≡ check_at c.args.self.now.places.slots.nodes.items c.args.node = ap (λ (n : NodeRecord). n.check) (get_or_read c.args.self.now.places.slots.nodes.items c.args.node c.index.result.now (omega (arith, c.requires.node_in, shaped.nodes, shaped.blocks.active_in)) c.index.ensures blank_node) in
     let cell : to_z w32 (of_z w32 c.index.result.now.check) ≡ (cells c.args.self.now).check c.args.node = same ∙ read ∙ sym (active_is g.L.Layout.kind (places_of c.args.self.now.places) c.args.node c.requires.node_in) in
     let fits : FitsSigned w32 c.args.value = search rules in

@@ -25,7 +25,7 @@ claim-requires g c =
     let far : x ≡ 0 → ⊥ = slot_far _ 0 c.requires.based.0 (omega arith) in
     let e : c.child_slot-slot.result ≡ x = c.child_slot-slot.ensures in
     let shaped = c.args.self.now.shaped in
-    (search rules, (c.requires.sound, (subst (λ s. s < size) (sym e) (lead_inside size R c.args.node c.requires.based.1), (inr (0, ap R.check e ∙ c.requires.reserved), ((λ z. far (sym e ∙ z)), omega (arith, c.requires.node_in, shaped.blocks.active_in, shaped.blocks.fits))))))
+    (search rules, record { sound = c.requires.sound; slot_in = subst (λ s. s < size) (sym e) (lead_inside size R c.args.node c.requires.based.1); slot_held = inr (0, ap R.check e ∙ c.requires.reserved); not_root = λ z. far (sym e ∙ z); owner_in = omega (arith, c.requires.node_in, shaped.blocks.active_in, shaped.blocks.fits) })
 
 pub set_sibling-requires : goal.set_sibling-requires
 set_sibling-requires g c =

@@ -27,16 +27,14 @@ last_before-requires g c =
     ] in
     let links : Links T c.args.node (T.sibling s) k.listed = lead_links size T ordered c.args.node s k lead in (
       search rules,
-      (
-        c.requires.node_in,
-        (
-          c.requires.based,
-          (
-            subst (λ x. x < size) (sym e) (lead_inside size T c.args.node c.requires.based),
-            (inl lead, (c.requires.absent, (k.listed, links, links_few T c.args.node (T.sibling s) k.listed links))),
-          ),
-        ),
-      ),
+      record {
+        node_in = c.requires.node_in;
+        based = c.requires.based;
+        start_in = subst (λ x. x < size) (sym e) (lead_inside size T c.args.node c.requires.based);
+        behind = inl lead;
+        absent = c.requires.absent;
+        rest = (k.listed, links, links_few T c.args.node (T.sibling s) k.listed links);
+      },
     )
 
 pub returns-then-not-self : goal.returns-then-not-self
@@ -70,17 +68,12 @@ last_before-requires-2 g c =
     let few = links_few T a r k.listed links in
     let inside : s < size = subst (λ x. x < size) (sym e) (xor_within size (base_of T a) r (omega arith) c.requires.based n.label.small) in (
       search rules,
-      (
-        c.requires.node_in,
-        (
-          c.requires.based,
-          (
-            inside,
-            (
-              inr (c.if-not-self.false, r, less, subst (IsLabelOf T a r) (sym e) n.label),
-              (c.requires.absent, (n.rest, subst (λ x. Links T a (T.sibling x) n.rest) (sym e) n.links, omega (arith, n.shorter, few))),
-            ),
-          ),
-        ),
-      ),
+      record {
+        node_in = c.requires.node_in;
+        based = c.requires.based;
+        start_in = inside;
+        behind = inr (c.if-not-self.false, r, less, subst (IsLabelOf T a r) (sym e) n.label);
+        absent = c.requires.absent;
+        rest = (n.rest, subst (λ x. Links T a (T.sibling x) n.rest) (sym e) n.links, omega (arith, n.shorter, few));
+      },
     )

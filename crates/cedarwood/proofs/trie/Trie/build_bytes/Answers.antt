@@ -1,4 +1,4 @@
-use Rattle.cedar_table.specs.Bulk.Sorted.{entries_of}
+use Rattle.cedar_bulk.specs.Sorted.{entries_of}
 use Rattle.cedarwood.proofs.BuildLemmas.{all_are_stored, front_is_stored, trial_is_kept}
 use Rattle.cedarwood.proofs.trie.Trie.build_bytes.Goals as goal
 

@@ -1,6 +1,6 @@
 use Rattle.std.proofs.Common.{◌≡◌, ◌∙◌, ap, sym, rules, None, Err, []}
 use Rattle.std.proofs.lemmas.Result.{err_from_is_err_and}
-use Rattle.cedar_table.specs.Bulk.Sorted.{entries_by}
+use Rattle.cedar_bulk.specs.Sorted.{entries_by}
 use Rattle.cedarwood.specs.SortedInput.{fault_from}
 use Rattle.cedarwood.proofs.FaultLemmas.{no_fault}
 use Rattle.cedarwood.proofs.GrowthLemmas.{capacity_by_blocks}

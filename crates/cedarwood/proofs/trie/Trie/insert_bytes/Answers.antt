@@ -5,8 +5,8 @@ use Rattle.cedar_tree.specs.Tree.{IsSound, number_at}
 use Rattle.cedar_table.specs.Table.TableFields.{fields}
 use Rattle.cedar_slots.specs.declared.error.CedarError.{CedarError}
 use Rattle.cedar_slots.specs.declared.error.CedarError.TheVariants.{Memory, SlotLimit}
-use Rattle.cedar_table.proofs.BulkLemmas.InnerKeys.{always_on_ok}
-use Rattle.cedar_table.proofs.BulkLemmas.SlotsOfNumbers.{all_marked}
+use Rattle.cedar_bulk.proofs.BulkLemmas.InnerKeys.{always_on_ok}
+use Rattle.cedar_bulk.proofs.BulkLemmas.SlotsOfNumbers.{all_marked}
 use Rattle.cedarwood.specs.Builds.{outcome}
 use Rattle.cedarwood.specs.Dictionary.{Dictionary}
 use Rattle.cedarwood.specs.Fault.{fault, value_fault}

@@ -1,0 +1,78 @@
+-- What the steps of a build ask of a table, each as one fact: a caller's check is dear for each part of a clause list.
+use Rattle.std.specs.Prelude.{◌≡◌, ◌≢◌, ◌<◌, ◌≤◌, ℕ, ℤ, List, length, Option, Some, None, true}
+use Rattle.cedar_tree.specs.Tree.{Forest}
+use Rattle.cedar_slots.specs.Places.{IsTable}
+use Rattle.cedar_table.specs.declared.layout.Stored.TheVariants.{AtBase}
+use Rattle.cedar_table.specs.Table.Cells.{Held}
+use Rattle.cedar_table.specs.Table.TableFields.{Fields, size_of}
+use Rattle.cedar_table.specs.Edit.NodeEdits.{Above, IsNodeOf}
+use Rattle.cedar_table.specs.Meaning.Family.{Among, below, InRange}
+use Rattle.cedar_table.specs.Meaning.WellFormed.{cells_in}
+use Rattle.cedar_bulk.specs.Sorted.{Ends, IsBareNode, IsChildless, with_number}
+
+-- the node s has neither number nor label, nor a base
+pub record IsUnfilled (slots : ℕ) (T : Fields) (s : ℕ) : Type 0 where
+  pub sound : IsTable slots T.places
+  pub node_in : s < size_of T
+  pub node : IsBareNode (size_of T) (cells_in T) s
+  pub leaf : (cells_in T).stored s ≡ AtBase 0
+
+-- the node s is to have a base for these labels, 0 standing for the number
+pub record WantsBase (slots : ℕ) (T : Fields) (s : ℕ) (wanted : List ℕ) : Type 0 where
+  pub sound : IsTable slots T.places
+  pub node_in : s < size_of T
+  pub node : IsBareNode (size_of T) (cells_in T) s
+  pub leaf : (cells_in T).stored s ≡ AtBase 0
+  pub some : 0 < length wanted
+  pub few : length wanted ≤ 256
+  pub positive_at_root : s ≡ 0 → (l : ℕ) → Among wanted l → 0 < l
+
+-- the node s below the root has a base, and neither number nor label; its number's slot is free
+pub record WantsNumber (slots : ℕ) (T : Fields) (s : ℕ) : Type 0 where
+  pub sound : IsTable slots T.places
+  pub node_in : s < size_of T
+  pub not_root : s ≢ 0
+  pub node : IsBareNode (size_of T) (cells_in T) s
+  pub based : InRange (size_of T) ((cells_in T).stored s)
+  pub free : Held (cells_in T) (below (cells_in T) s 0) → ⊥
+
+-- the node s has a base, and neither number nor label; its number's slot is free, if it is to have a number
+pub record WantsChain (slots : ℕ) (T : Fields) (s : ℕ) (number : Option ℤ) : Type 0 where
+  pub sound : IsTable slots T.places
+  pub node_in : s < size_of T
+  pub not_root : s ≡ 0 → number ≡ None
+  pub node : IsBareNode (size_of T) (cells_in T) s
+  pub based : (s ≡ 0 → ⊥) → InRange (size_of T) ((cells_in T).stored s)
+  pub free : (v : ℤ) → number ≡ Some v → Held (cells_in T) (below (cells_in T) s 0) → ⊥
+
+-- the node s has a base, and the slot of the label, which goes behind all that it has, is free
+pub record WantsLabel (slots : ℕ) (T : Fields) (s : ℕ) (before : Option ℕ) (label : ℕ) : Type 0 where
+  pub sound : IsTable slots T.places
+  pub node_in : s < size_of T
+  pub node : (f : Forest) × IsNodeOf (size_of T) (cells_in T) true f s
+  pub positive : 0 < label
+  pub based : (s ≡ 0 → ⊥) → InRange (size_of T) ((cells_in T).stored s)
+  pub free : Held (cells_in T) (below (cells_in T) s label) → ⊥
+  pub ends : Ends (size_of T) (cells_in T) s label before
+
+-- the node s has a base and no label, and the slots of these ascending labels are free
+pub record WantsLabels (slots : ℕ) (T : Fields) (s : ℕ) (before : Option ℕ) (labels : List ℕ) : Type 0 where
+  pub sound : IsTable slots T.places
+  pub node_in : s < size_of T
+  pub node : IsChildless (size_of T) (cells_in T) s
+  pub based : (s ≡ 0 → ⊥) → InRange (size_of T) ((cells_in T).stored s)
+  pub ascends : Above 0 labels
+  pub free : (l : ℕ) → Among labels l → Held (cells_in T) (below (cells_in T) s l) → ⊥
+  pub ends : (l : ℕ) → Ends (size_of T) (cells_in T) s l before
+
+-- the node s has neither number nor label, nor a base; it is to have this number and these ascending labels, listed with 0 for the number
+pub record WantsSlots (slots : ℕ) (T : Fields) (s : ℕ) (number : Option ℤ) (listed labels : List ℕ) : Type 0 where
+  pub sound : IsTable slots T.places
+  pub node_in : s < size_of T
+  pub not_root : s ≡ 0 → number ≡ None
+  pub node : IsBareNode (size_of T) (cells_in T) s
+  pub leaf : (cells_in T).stored s ≡ AtBase 0
+  pub wanted : listed ≡ with_number number labels
+  pub some : 0 < length listed
+  pub few : length listed ≤ 256
+  pub ascends : Above 0 labels

@@ -1,0 +1,5 @@
+-- Tables made of sorted pairs.
+pub mod Asked
+pub mod Sorted
+pub mod SortedMarks
+pub mod Spans

@@ -1,0 +1,233 @@
+//! A table made of sorted pairs: each node gets all of its slots at once, the last child's subtree first.
+
+ghost use Rattle.std.specs.Prelude.{◌≡◌, ◌⊎◌, ℕ, List, [], ◌++◌, ◌+◌, ◌*◌, ◌<◌, ◌≤◌, ◌≤ℤ◌, ◌≢◌, IfErr, IfOk, length, None, OnErr, OnOk, option_to_list, pos, true};
+ghost use Rattle.std.specs.List.{AllByRecursion};
+ghost use Rattle.cedar_tree.specs.Tree.{empty_tree, Forest, none, Tree};
+ghost use Rattle.cedar_tree.specs.Laws.{ArePathsAscending, ArePathsKeys};
+ghost use Rattle.cedar_tree.specs.Queries.{asc, prefixes, prefixes_forest};
+ghost use Rattle.cedar_slots.specs.declared.error.CedarError.TheVariants.{Memory, SlotLimit};
+ghost use Rattle.cedar_table.specs.declared.layout.Stored.TheVariants.{AtBase};
+ghost use Rattle.cedar_table.specs.Meaning.Family.{base_of};
+ghost use Rattle.cedar_table.specs.Meaning.StandsFor.{HoldsTree, labels};
+ghost use Rattle.cedar_slots.specs.Places.{IsSlotLimit, IsTable, MayRefuse};
+ghost use Rattle.cedar_bulk.specs.Sorted.{entries_by, Fills};
+ghost use Rattle.cedar_bulk.specs.SortedMarks.{KeepsOwn, SortedMarks};
+ghost use Rattle.cedar_table.specs.Meaning.Marks.{marks};
+ghost use Rattle.cedar_bulk.specs.Spans.{Covers, Filling, IsTreeOfSpan, Part, parts_of};
+ghost use Rattle.cedar_table.specs.Edit.Steps.{blocks_after, MakesBlocks, SameModes};
+ghost use Rattle.cedar_table.specs.Table.TableFields.{capacity_of, cells, fields, SameSettings, size_of};
+ghost use Rattle.cedar_table.specs.Meaning.WellFormed.{is_value, IsWellFormed, tree_of};
+ghost use Rattle.cedar_bulk.specs.Asked.{IsUnfilled};
+
+use crate::fill::fill_node;
+use crate::spans::{Labels, Span, deeper, list_spans, move_spans, number_at};
+use arrayvec::ArrayVec;
+use cedar_slots::CedarError;
+use cedar_table::{Layout, Table};
+use std::alloc::Allocator;
+use std::convert::AsSlice;
+
+/// Gives the node of a span its number and its labels, and adds a span for each of these. The labels are listed in `wanted`.
+fn fill_span<'a, L: Layout, const SLOTS: usize, A: Allocator, K: AsSlice<u8>>(
+    table: &mut Table<L, SLOTS, A>,
+    span: Span<'a, K>,
+    wanted: &mut Labels,
+    pending: &mut Vec<Span<'a, K>, A>,
+) -> Result<(), CedarError>
+    requires bare { IsUnfilled SLOTS (fields table.old) span.node }
+    requires tree { (t : Tree) × IsTreeOfSpan span.depth (entries_by K.items span.pairs.now) t × (span.node ≡ 0 → t.number ≡ None) }
+    ensures sound { IsTable SLOTS (fields table.new).places }
+    ensures fills { OnOk result ((t : Tree) → IsTreeOfSpan span.entry.depth (entries_by K.items span.entry.pairs.now) t → Fills (size_of (fields table.old)) (size_of (fields table.new)) (cells table.old) (cells table.new) span.entry.node t.number (labels t.children)) }
+    ensures own { OnOk result ((t : Tree) → IsTreeOfSpan span.entry.depth (entries_by K.items span.entry.pairs.now) t → KeepsOwn L.kind (cells table.new) span.entry.node t.number (labels t.children)) }
+    ensures spans { OnOk result ((t : Tree) → IsTreeOfSpan span.entry.depth (entries_by K.items span.entry.pairs.now) t → (parts : List Part) × (parts_of K.items pending.new.items ≡ parts_of K.items pending.old.items ++ parts) × Covers (base_of (cells table.new) span.entry.node) parts t.children none) }
+    ensures refused { IfErr result (λ error. (error ≡ Memory) ⊎ ((error ≡ SlotLimit) × MayRefuse (fields table.new).places SLOTS SlotLimit × MakesBlocks 0 (fields table.old) (fields table.new))) }
+    ensures blocks { (n : ℕ) × (n ≤ 1) × (span.entry.node ≡ 0 → n ≡ 0) × MakesBlocks n (fields table.old) (fields table.new) }
+    ensures root_check { (cells table.new).check 0 ≡ (cells table.old).check 0 }
+    ensures settings { SameSettings (fields table.old) (fields table.new) }
+{
+    let number = number_at(span.pairs, span.depth);
+    let skipped = usize::from(number.is_some());
+    let (_, below) = span.pairs.split_at(skipped);
+    let first = pending.len();
+    list_spans(wanted, pending, number, below, span.depth)?;
+    let listed = wanted.as_slice();
+    let (_, labels) = listed.split_at(skipped);
+    fill_node(table, span.node, number, listed, labels)?;
+    move_spans(pending, first, table.base_of(span.node));
+    Ok(())
+}
+
+/// Gives the node of a span of one pair what the pair's key has there: its number where the key ends, and else its next label.
+/// Answers the span of that label's child, if there is one.
+fn fill_alone<'a, L: Layout, const SLOTS: usize, A: Allocator, K: AsSlice<u8>>(
+    table: &mut Table<L, SLOTS, A>,
+    span: Span<'a, K>,
+) -> Result<Option<Span<'a, K>>, CedarError>
+    requires bare { IsUnfilled SLOTS (fields table.old) span.node }
+    requires not_root { span.node ≢ 0 }
+    requires one { length span.pairs.now ≡ 1 }
+    requires tree { (t : Tree) × IsTreeOfSpan span.depth (entries_by K.items span.pairs.now) t }
+    ensures sound { IsTable SLOTS (fields table.new).places }
+    ensures fills { OnOk result ((t : Tree) → IsTreeOfSpan span.entry.depth (entries_by K.items span.entry.pairs.now) t → Fills (size_of (fields table.old)) (size_of (fields table.new)) (cells table.old) (cells table.new) span.entry.node t.number (labels t.children)) }
+    ensures own { OnOk result ((t : Tree) → IsTreeOfSpan span.entry.depth (entries_by K.items span.entry.pairs.now) t → KeepsOwn L.kind (cells table.new) span.entry.node t.number (labels t.children)) }
+    ensures spans { IfOk result (λ child. (t : Tree) → IsTreeOfSpan span.entry.depth (entries_by K.items span.entry.pairs.now) t → Covers (base_of (cells table.new) span.entry.node) (parts_of K.items (option_to_list child)) t.children none) }
+    ensures refused { IfErr result (λ error. MayRefuse (fields table.new).places SLOTS error) }
+    ensures blocks { (n : ℕ) × (n ≤ 1) × OnErr result (n ≡ 0) × MakesBlocks n (fields table.old) (fields table.new) }
+    ensures root_check { (cells table.new).check 0 ≡ (cells table.old).check 0 }
+    ensures settings { SameSettings (fields table.old) (fields table.new) }
+{
+    let pair = &span.pairs[0];
+    let key = pair.0.as_slice();
+    if key.len() <= span.depth {
+        fill_node(table, span.node, Some(pair.1), &[0], &[])?;
+        return Ok(None);
+    }
+    let labels = [key[span.depth]];
+    fill_node(table, span.node, None, &labels, &labels)?;
+    Ok(Some(Span {
+        node: table.child_slot(span.node, labels[0]),
+        depth: deeper(key, span.depth),
+        pairs: span.pairs,
+    }))
+}
+
+/// Gives the node of a span below the root its number and its labels, and answers the span whose turn is next, if one is left:
+/// that of the last child, or else the last one that waits.
+fn fill_next<'a, L: Layout, const SLOTS: usize, A: Allocator, K: AsSlice<u8>>(
+    table: &mut Table<L, SLOTS, A>,
+    span: Span<'a, K>,
+    wanted: &mut Labels,
+    pending: &mut Vec<Span<'a, K>, A>,
+) -> Result<Option<Span<'a, K>>, CedarError>
+    requires bare { IsUnfilled SLOTS (fields table.old) span.node }
+    requires not_root { span.node ≢ 0 }
+    requires tree { (t : Tree) × IsTreeOfSpan span.depth (entries_by K.items span.pairs.now) t }
+    ensures sound { IsTable SLOTS (fields table.new).places }
+    ensures fills { OnOk result ((t : Tree) → IsTreeOfSpan span.entry.depth (entries_by K.items span.entry.pairs.now) t → Fills (size_of (fields table.old)) (size_of (fields table.new)) (cells table.old) (cells table.new) span.entry.node t.number (labels t.children)) }
+    ensures own { OnOk result ((t : Tree) → IsTreeOfSpan span.entry.depth (entries_by K.items span.entry.pairs.now) t → KeepsOwn L.kind (cells table.new) span.entry.node t.number (labels t.children)) }
+    ensures spans { IfOk result (λ next. (t : Tree) → IsTreeOfSpan span.entry.depth (entries_by K.items span.entry.pairs.now) t → (parts : List Part) × (parts_of K.items (pending.new.items ++ option_to_list next) ≡ parts_of K.items pending.old.items ++ parts) × Covers (base_of (cells table.new) span.entry.node) parts t.children none) }
+    ensures last { IfOk result (λ next. next ≡ None → length pending.new.items ≡ 0) }
+    ensures refused { IfErr result (λ error. (error ≡ Memory) ⊎ ((error ≡ SlotLimit) × MayRefuse (fields table.new).places SLOTS SlotLimit × MakesBlocks 0 (fields table.old) (fields table.new))) }
+    ensures blocks { (n : ℕ) × (n ≤ 1) × MakesBlocks n (fields table.old) (fields table.new) }
+    ensures root_check { (cells table.new).check 0 ≡ (cells table.old).check 0 }
+    ensures settings { SameSettings (fields table.old) (fields table.new) }
+{
+    if span.pairs.len() == 1 {
+        if let Some(child) = fill_alone(table, span)? {
+            return Ok(Some(child));
+        }
+        return Ok(pending.pop());
+    }
+    fill_span(table, span, wanted, pending)?;
+    Ok(pending.pop())
+}
+
+/// Fills the node of each span, and those of their children in turn, the last ones first. `wanted` is room for the labels of
+/// one node.
+fn fill_pending<'a, L: Layout, const SLOTS: usize, A: Allocator, K: AsSlice<u8>>(
+    table: &mut Table<L, SLOTS, A>,
+    wanted: &mut Labels,
+    pending: &mut Vec<Span<'a, K>, A>,
+) -> Result<(), CedarError>
+    requires filling { (g : Forest) × (most : ℕ) × Filling SLOTS (fields table.old) (parts_of K.items pending.old.items) g most }
+    ensures filled { OnOk result ((g : Forest) (most : ℕ) → Filling SLOTS (fields table.old) (parts_of K.items pending.old.items) g most → Filling SLOTS (fields table.new) [] g most) }
+    ensures refused { IfErr result (λ error. (error ≡ Memory) ⊎ ((error ≡ SlotLimit) × ((g : Forest) (most : ℕ) → Filling SLOTS (fields table.old) (parts_of K.items pending.old.items) g most → SLOTS < 256 * most))) }
+    ensures blocks { (n : ℕ) × MakesBlocks n (fields table.old) (fields table.new) }
+    ensures root_check { (cells table.new).check 0 ≡ (cells table.old).check 0 }
+    ensures settings { SameSettings (fields table.old) (fields table.new) }
+{
+    let mut next = pending.pop();
+    while let Some(span) = next {
+        next = fill_next(table, span, wanted, pending)?;
+    }
+    Ok(())
+}
+
+/// Makes an empty table that of some pairs.
+fn fill<L: Layout, const SLOTS: usize, A: Allocator, K: AsSlice<u8>>(
+    table: &mut Table<L, SLOTS, A>,
+    alloc: A,
+    pairs: &[(K, i32)],
+) -> Result<(), CedarError>
+    requires new { IsTable SLOTS (fields table.old).places }
+    requires root_base { (cells table.old).stored 0 ≡ AtBase 0 }
+    requires empty { HoldsTree (size_of (fields table.old)) (cells table.old) none }
+    requires one { (fields table.old).places.blocks.active ≡ 1 }
+    requires tree { (t : Tree) × IsTreeOfSpan 0 (entries_by K.items pairs.now) t × (t.number ≡ None) }
+    ensures filled { OnOk result ((t : Tree) → IsTreeOfSpan 0 (entries_by K.items pairs.now) t → t.number ≡ None → Filling SLOTS (fields table.new) [] t.children (1 + length (prefixes_forest t.children))) }
+    ensures refused { IfErr result (λ error. (error ≡ Memory) ⊎ ((error ≡ SlotLimit) × ((t : Tree) → IsTreeOfSpan 0 (entries_by K.items pairs.now) t → t.number ≡ None → SLOTS ≤ 256 * length (prefixes_forest t.children)))) }
+    ensures blocks { (n : ℕ) × MakesBlocks n (fields table.old) (fields table.new) }
+    ensures root_check { (cells table.new).check 0 ≡ (cells table.old).check 0 }
+    ensures settings { SameSettings (fields table.old) (fields table.new) }
+{
+    let mut pending = Vec::new(alloc);
+    let mut wanted = ArrayVec::new();
+    let span = Span {
+        node: 0,
+        depth: 0,
+        pairs,
+    };
+    fill_span(table, span, &mut wanted, &mut pending)?;
+    fill_pending(table, &mut wanted, &mut pending)
+}
+
+/// Makes a new table that of some pairs, whose keys ascend.
+fn fill_sorted<L: Layout, const SLOTS: usize, A: Allocator, K: AsSlice<u8>>(
+    table: &mut Table<L, SLOTS, A>,
+    alloc: A,
+    pairs: &[(K, i32)],
+) -> Result<(), CedarError>
+    requires well_formed { IsWellFormed SLOTS (fields table.old) }
+    requires empty { tree_of (fields table.old) ≡ empty_tree }
+    requires root_base { (cells table.old).stored 0 ≡ AtBase 0 }
+    requires one { (fields table.old).places.blocks.active ≡ 1 }
+    requires keys { ArePathsKeys (entries_by K.items pairs.now) }
+    requires ascending { ArePathsAscending (entries_by K.items pairs.now) }
+    requires values { AllByRecursion (λ e. is_value e.1 ≡ true) (entries_by K.items pairs.now) }
+    ensures well_formed { OnOk result (IsWellFormed SLOTS (fields table.new)) }
+    ensures tree { OnOk result (tree_of (fields table.new) ≡ asc (entries_by K.items pairs.now)) }
+    ensures marks { OnOk result (SortedMarks L.kind (asc (entries_by K.items pairs.now)) (marks (fields table.new))) }
+    ensures blocks { OnOk result ((n : ℕ) × (n ≤ length (prefixes (asc (entries_by K.items pairs.now)))) × MakesBlocks n (fields table.old) (fields table.new)) }
+    ensures refused { IfErr result (λ error. (error ≡ Memory) ⊎ ((error ≡ SlotLimit) × (SLOTS ≤ 256 * length (prefixes (asc (entries_by K.items pairs.now)))))) }
+    ensures modes { SameModes (fields table.old) (fields table.new) }
+{
+    if pairs.is_empty() {
+        return Ok(());
+    }
+    fill(table, alloc, pairs)?;
+    table.set_entries(pairs.len());
+    Ok(())
+}
+
+/// A table of some pairs of a key and its number, whose keys ascend by bytes, each below the next: it stands for their one
+/// tree with ascending labels, also where a new label would not go to its ascending place. Keys are bytes or texts. It makes
+/// one block at most for each distinct nonempty prefix of a key.
+///
+/// `ordered` and `max_trial` are the settings of the table that is made. It may be refused for memory, or with `SlotLimit` where
+/// 256 times the number of these prefixes is `SLOTS` or more; then no table is made. So
+/// `build_sorted(alloc, true, 1, &[("a", 1), ("ab", 2)])` gives a table of two keys.
+pub fn build_sorted<L: Layout, const SLOTS: usize, A: Allocator + Copy, K: AsSlice<u8>>(
+    alloc: A,
+    ordered: bool,
+    max_trial: i32,
+    pairs: &[(K, i32)],
+) -> Result<Table<L, SLOTS, A>, CedarError>
+    requires tried { pos 1 ≤ℤ max_trial }
+    requires limit { IsSlotLimit SLOTS }
+    requires keys { ArePathsKeys (entries_by K.items pairs.now) }
+    requires ascending { ArePathsAscending (entries_by K.items pairs.now) }
+    requires values { AllByRecursion (λ e. is_value e.1 ≡ true) (entries_by K.items pairs.now) }
+    ensures well_formed { IfOk result (λ table. IsWellFormed SLOTS (fields table)) }
+    ensures tree { IfOk result (λ table. tree_of (fields table) ≡ asc (entries_by K.items pairs.now)) }
+
+    // In the reduced layout just those numbers have slots of their own whose keys begin longer ones.
+    ensures marks { IfOk result (λ table. SortedMarks L.kind (asc (entries_by K.items pairs.now)) (marks (fields table))) }
+    ensures ordered { IfOk result (λ table. (fields table).ordered ≡ ordered) }
+    ensures max_trial { IfOk result (λ table. (fields table).places.blocks.max_trial ≡ max_trial) }
+    ensures blocks { IfOk result (λ table. (n : ℕ) × (n ≤ length (prefixes (asc (entries_by K.items pairs.now)))) × (size_of (fields table) ≡ 256 + 256 * n) × (capacity_of (fields table) ≡ 256 * blocks_after n 1 1)) }
+    ensures refused { IfErr result (λ error. (error ≡ Memory) ⊎ ((error ≡ SlotLimit) × (SLOTS ≤ 256 * length (prefixes (asc (entries_by K.items pairs.now)))))) }
+{
+    let mut table = Table::new(alloc, ordered, max_trial)?;
+    fill_sorted(&mut table, alloc, pairs)?;
+    Ok(table)
+}

@@ -1,0 +1,74 @@
+-- A buffer that takes what stands in a text.
+use Rattle.std.proofs.Common.{◌≡◌, ℕ, zero, suc, ◌+◌, ◌-◌, ◌<◌, ◌≤◌, ◌^◌, ℤ, List, [], ◌∷◌, ◌++◌, length, map, take, drop, set, Option, Some, None, option_map, refl, sym, ap, ◌∙◌, arith}
+use Rattle.std.specs.List.{filter_map, cons_option, range_with_len}
+use Rattle.std.proofs.lemmas.List.{append_assoc, drop-drop, length-drop, take_all, take_more_set}
+use Rattle.cedar_tree.specs.Tree.{Tree, number_at}
+use Rattle.cedar_tree.specs.Queries.{front}
+use Rattle.cedar_words.specs.Words.{longest, len_of, number_of}
+use Rattle.cedar_c.specs.Scans.{Fit, spot, spots_from, token_spot, tokens_from}
+use Rattle.cedar_c.specs.declared.scans.Found.{Found}
+use Rattle.cedar_words.proofs.TokenLemmas.{tokens_step}
+
+-- one more is written
+pub told_more : (xs : List Found) (at place : ℕ) (x : ℤ × ℕ) (left later : List (ℤ × ℕ)) → at < length xs → left ≡ x ∷ later
+    → take (at + 1) (set xs at (spot place x)) ++ map (spot place) later ≡ take at xs ++ map (spot place) left
+told_more xs at place x left later h is =
+    ap (λ t. t ++ map (spot place) later) (take_more_set xs at (spot place x) h)
+    ∙ append_assoc (take at xs) (spot place x ∷ []) (map (spot place) later)
+    ∙ ap (λ l. take at xs ++ map (spot place) l) (sym is)
+
+-- what stands from a place on is what stands there, and then what stands from the next place on
+pub spots_step : (t : Tree) (place : ℕ) (rest : List ℕ) → 0 < length rest
+    → spots_from t place rest ≡ map (spot place) (front t rest) ++ spots_from t (place + 1) (drop 1 rest)
+spots_step t place [] h = absurd (omega (arith, h))
+spots_step t place (b ∷ rest) h = refl
+
+-- a place is told
+pub place_told : (t : Tree) (text : List ℕ) (all : List Found) (before now : List Found) (next : ℕ)
+    → all ≡ before ++ spots_from t next (drop next text) → 0 < length (drop next text) → now ≡ before ++ map (spot next) (front t (drop next text))
+    → all ≡ now ++ spots_from t (next + 1) (drop (next + 1) text)
+place_told t text all before now next was some is =
+    was ∙ ap (λ s. before ++ s) (spots_step t next (drop next text) some)
+    ∙ ap (λ r. before ++ (map (spot next) (front t (drop next text)) ++ spots_from t (next + 1) r)) (drop-drop 1 next text)
+    ∙ sym (append_assoc before (map (spot next) (front t (drop next text))) (spots_from t (next + 1) (drop (next + 1) text)))
+    ∙ ap (λ n. n ++ spots_from t (next + 1) (drop (next + 1) text)) (sym is)
+
+-- nothing stands behind the end
+pub no_spots : (t : Tree) (place : ℕ) (rest : List ℕ) → length rest ≡ 0 → spots_from t place rest ≡ []
+no_spots t place [] h = refl
+no_spots t place (b ∷ rest) h = absurd (omega (arith, h))
+
+-- the token at a place comes first
+pub token_first : (t : Tree) (place : ℕ) (text : List ℕ) (found : Option (ℤ × ℕ)) → 0 < length text → longest t text ≡ found
+    → tokens_from t place text ≡ token_spot (place, len_of found, number_of found) ∷ tokens_from t (place + len_of found) (drop (len_of found) text)
+token_first t place text found h is =
+    ap (map token_spot) (tokens_step t place text (len_of found) (number_of found) h (ap len_of (sym is)) (ap number_of (sym is)))
+
+-- a token is told
+pub token_told : (t : Tree) (text : List ℕ) (all xs : List Found) (count next : ℕ) (token : Found) (later : List Found)
+    → all ≡ take count xs ++ tokens_from t next (drop next text) → count < length xs
+    → tokens_from t next (drop next text) ≡ token ∷ tokens_from t (next + token.length) (drop token.length (drop next text))
+    → all ≡ take (count + 1) (set xs count token) ++ tokens_from t (next + token.length) (drop (next + token.length) text)
+token_told t text all xs count next token later was room first =
+    let rest : List Found = tokens_from t (next + token.length) (drop (next + token.length) text) in
+    was ∙ ap (λ s. take count xs ++ s) first
+    ∙ ap (λ r. take count xs ++ token ∷ tokens_from t (next + token.length) r) (drop-drop token.length next text)
+    ∙ sym (ap (λ s. s ++ rest) (take_more_set xs count token room) ∙ append_assoc (take count xs) (token ∷ []) rest)
+
+-- the fronts of a text have no more bytes than it
+fit_range : (t : Tree) (q : List ℕ) (n a : ℕ) → a + n < 2 ^ 64
+    → Fit (filter_map (λ k. option_map (λ (v : ℤ). (v, k)) (number_at t (take (k + 1) q))) (range_with_len a n))
+fit_range t q zero a h = tt
+fit_range t q (suc n) a h =
+    let later = fit_range t q n (a + 1) (omega (arith, h)) in
+    (elim (number_at t (take (a + 1) q)) as (λ o. Fit (cons_option (option_map (λ (v : ℤ). (v, a)) o) (filter_map (λ k. option_map (λ (v : ℤ). (v, k)) (number_at t (take (k + 1) q))) (range_with_len (a + 1) n)))) [
+      | None ↦ later
+      | Some v ↦ (omega (arith, h), later)
+    ])
+
+pub fronts_are_short : (t : Tree) (q : List ℕ) → length q < 2 ^ 64 → Fit (front t q)
+fronts_are_short t q h = fit_range t q (length q) 0 (omega (arith, h))
+
+-- the rest of a text as a slice of it
+pub rest_of : (text : List ℕ) (next : ℕ) → take (length text - next) (drop next text) ≡ drop next text
+rest_of text next = let all : length (drop next text) ≤ length text - next = omega (arith, length-drop next text) in take_all (length text - next) (drop next text) all

@@ -1,0 +1,8 @@
+use Rattle.std.proofs.Common.{◌≡◌, ◌++◌}
+use Rattle.cedar_tree.specs.Queries.{walk}
+use Rattle.cedar_c.specs.Pairs.{keys_in}
+use Rattle.cedar_c.proofs.keys.keys_of.Given as goal
+
+-- what was collected, and then what is left, is all
+abbrev pub invariant-loop-entry : goal.invariant-loop-entry
+invariant-loop-entry l = l.keys.items ++ keys_in l.entry-iterator ≡ keys_in (walk l.cedar.state.tree)

@@ -1,0 +1,12 @@
+use Rattle.std.proofs.Common.{◌≡◌, ◌≤◌, ◌-◌, ◌++◌, drop, length, take}
+use Rattle.cedar_c.specs.Scans.{spots_from}
+use Rattle.cedar_c.proofs.scans.scan.Given as goal
+
+-- what is told, and then what stands in the rest, is all
+abbrev pub invariant-loop-next : goal.invariant-loop-next
+invariant-loop-next g l =
+    (spots_from (g.T.Scanned.scanned l.fn.trie) l.fn.next (drop l.fn.next l.text) ≡ take l.count l.found ++ spots_from (g.T.Scanned.scanned l.fn.trie) l.next (drop l.next l.text))
+    × (l.count ≤ length l.found) × (l.fn.next ≤ l.next) × (length l.found ≡ length l.fn.found)
+
+abbrev pub decreases-loop-next : goal.decreases-loop-next
+decreases-loop-next g l = length l.text - l.next

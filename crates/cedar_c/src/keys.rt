@@ -1,0 +1,56 @@
+//! The keys themselves, written into a buffer of the caller's.
+
+ghost use Rattle.std.specs.Prelude.{◌≡◌, ◌⊎◌, ◌++◌, ◌<◌, ◌≤◌, ◌↔◌, None, IfSome, length, drop};
+ghost use Rattle.cedar_tree.specs.Queries.{walk};
+ghost use Rattle.cedar_c.specs.Content.{content, tree_in};
+ghost use Rattle.cedar_c.specs.Pairs.{keys_in};
+
+use crate::handle::Handle;
+use crate::save::copy_whole;
+use crate::status::{CLOSED, MEMORY};
+use cedarwood::Cedar;
+use std::alloc::Global;
+
+/// Writes the bytes of all keys into the first places of a buffer, one key after another in the order of the walk, and tells how
+/// many bytes they are: `cedar_predictions` of the empty text tells each key's value and length in the same order. It asks for
+/// memory for a copy of them.
+///
+/// # Errors
+/// 1 where the handle is closed, 11 where the keys have more bytes than the buffer has places: then it tells how many; 2 where a
+/// request for memory was refused. After an error the buffer is as it was.
+#[unsafe(no_mangle)]
+pub extern "C" fn cedar_keys(
+    handle: &mut Handle,
+    alloc: Global,
+    buffer: &mut [u8],
+    needed: &mut usize,
+) -> u32
+    ensures closed { (result ≡ 1) ↔ (content handle.old ≡ None) }
+    ensures written { result ≡ 0 → buffer.new ≡ keys_in (walk (tree_in handle.old)) ++ drop needed.new buffer.old }
+    ensures needed { (result ≡ 0) ⊎ (result ≡ 11) → needed.new ≡ length (keys_in (walk (tree_in handle.old))) }
+    ensures room { (result ≡ 0 → needed.new ≤ length buffer.old) × (result ≡ 11 → length buffer.old < needed.new) }
+    ensures refused { (result ≡ 0) ⊎ (((result ≡ 1) ⊎ (result ≡ 2) ⊎ (result ≡ 11)) × (buffer.new ≡ buffer.old)) }
+    ensures kept { content handle.new ≡ content handle.old }
+{
+    let Some(cedar) = handle.take(alloc) else {
+        return CLOSED;
+    };
+    let keys = keys_of(&cedar, alloc);
+    *handle = Handle::of(cedar);
+    match keys {
+        Some(keys) => copy_whole(keys.as_slice(), buffer, needed),
+        None => MEMORY,
+    }
+}
+
+/// The bytes of all keys, one key after another in the order of the walk, or None for want of memory.
+fn keys_of(cedar: &Cedar<Global>, alloc: Global) -> Option<Vec<u8, Global>>
+    ensures { IfSome result (λ keys. keys.items ≡ keys_in (walk cedar.now.state.tree)) }
+{
+    let mut keys = Vec::new(alloc);
+    for entry in cedar.entries().ok()? {
+        let (key, _) = entry.ok()?;
+        keys.extend_from_slice(key.as_slice()).ok()?;
+    }
+    Some(keys)
+}

@@ -1,0 +1,106 @@
+//! Walks of a dictionary in pieces: a call goes on where the one before it ended.
+
+ghost use Rattle.std.specs.Prelude.{◌≡◌, ◌+◌, ◌<◌, ◌^◌, [], length, take, drop, IsTrue, false};
+ghost use Rattle.cedarwood.specs.Queries.{front, predict};
+ghost use Rattle.cedar_c.specs.Content.{content, tree_in};
+ghost use Rattle.cedar_c.specs.Matches.{filled};
+
+use crate::handle::Handle;
+use crate::walks::{Finds, Match, put_at};
+use std::alloc::Global;
+
+/// Passes over the first of what a walk finds, and says whether it finds so many.
+fn pass<F: Finds>(walk: &mut F, count: usize) -> bool
+    ensures passed { IsTrue result → F.left walk.new ≡ drop count (F.left walk.old) }
+    ensures ended { result ≡ false → drop count (F.left walk.old) ≡ [] }
+{
+    let mut passed = 0;
+    while passed < count {
+        let Some(_) = walk.next_found() else {
+            return false;
+        };
+        passed += 1;
+    }
+    true
+}
+
+/// Writes what a walk finds into the places of a buffer, till it is full or nothing is left, and says how many it wrote.
+fn fill_page<F: Finds>(walk: &mut F, matches: &mut [Match]) -> usize
+    ensures count { result ≡ length (take (length matches.old) (F.left walk.old)) }
+    ensures filled { matches.new ≡ filled matches.old (F.left walk.old) }
+{
+    let mut count = 0;
+    while count < matches.len() {
+        let Some(found) = walk.next_found() else {
+            return count;
+        };
+        put_at(matches, count, found);
+        count += 1;
+    }
+    count
+}
+
+/// Writes what a walk finds from a place of it on, as far as there is room, which is then the place to go on at.
+fn go_on<F: Finds>(walk: &mut F, next: &mut usize, matches: &mut [Match]) -> usize
+    requires { length (F.left walk.old) < 2 ^ 64 }
+    ensures count { result ≡ length (take (length matches.old) (drop next.old (F.left walk.old))) }
+    ensures filled { matches.new ≡ filled matches.old (drop next.old (F.left walk.old)) }
+    ensures next { next.new ≡ next.old + result }
+{
+    if !pass(walk, *next) {
+        return 0;
+    }
+    let count = fill_page(walk, matches);
+    *next += count;
+    count
+}
+
+/// As `cedar_prefixes`, without the first `next` of them: it says how many it wrote, and sets `next` to where the same call goes on.
+#[unsafe(no_mangle)]
+pub extern "C" fn cedar_prefixes_from(
+    handle: &mut Handle,
+    alloc: Global,
+    text: &[u8],
+    next: &mut usize,
+    matches: &mut [Match],
+) -> usize
+    ensures count { result ≡ length (take (length matches.old) (drop next.old (front (tree_in handle.old) text.now))) }
+    ensures filled { matches.new ≡ filled matches.old (drop next.old (front (tree_in handle.old) text.now)) }
+    ensures next { next.new ≡ next.old + result }
+    ensures kept { content handle.new ≡ content handle.old }
+{
+    let Some(cedar) = handle.take(alloc) else {
+        return 0;
+    };
+    let count = go_on(&mut cedar.common_prefix_iter_bytes(text), next, matches);
+    *handle = Handle::of(cedar);
+    count
+}
+
+/// As `cedar_predictions`, without the first `next` of them: it says how many it wrote, and sets `next` to where the same call goes on.
+#[unsafe(no_mangle)]
+pub extern "C" fn cedar_predictions_from(
+    handle: &mut Handle,
+    alloc: Global,
+    text: &[u8],
+    next: &mut usize,
+    matches: &mut [Match],
+) -> usize
+    ensures count { result ≡ length (take (length matches.old) (drop next.old (predict (tree_in handle.old) text.now))) }
+    ensures filled { matches.new ≡ filled matches.old (drop next.old (predict (tree_in handle.old) text.now)) }
+    ensures next { next.new ≡ next.old + result }
+    ensures kept { content handle.new ≡ content handle.old }
+{
+    let Some(cedar) = handle.take(alloc) else {
+        return 0;
+    };
+    // There are no more of them than keys.
+    let _ = cedar.len();
+    let count = go_on(
+        &mut cedar.common_prefix_predict_iter_bytes(text),
+        next,
+        matches,
+    );
+    *handle = Handle::of(cedar);
+    count
+}

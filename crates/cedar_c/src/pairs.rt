@@ -1,0 +1,78 @@
+//! Many pairs in one call.
+
+ghost use Rattle.std.specs.Prelude.{◌≡◌, ◌⊎◌, ◌≤◌, ◌↔◌, ℕ, length, map, take, None, Err, IsSome, IfSome, IfErr, OnOk, option_map};
+ghost use Rattle.cedarwood.specs.Fault.{IsShortage};
+ghost use Rattle.cedarwood.specs.Builds.{all_stored, first_fault};
+ghost use Rattle.cedar_c.specs.Content.{content, state_in};
+ghost use Rattle.cedar_c.specs.Pairs.{entries_in, taken_pair};
+ghost use Rattle.cedar_c.specs.Status.{status_of, position_of};
+
+use crate::handle::Handle;
+use crate::status::{CLOSED, OK, tell};
+use cedarwood::{Cedar, CedarError};
+use std::alloc::Global;
+
+/// A key and its value.
+#[repr(C)]
+#[derive(Clone, Copy)]
+pub struct Pair<'a> {
+    pub key: &'a [u8],
+    pub value: i32,
+}
+
+/// The pairs as the dictionary's own calls take them, or None for want of memory.
+pub(crate) fn taken<'a>(alloc: Global, pairs: &[Pair<'a>]) -> Option<Vec<(&'a [u8], i32), Global>>
+    ensures { IfSome result (λ v. v.items ≡ map taken_pair pairs.now) }
+{
+    let mut taken = Vec::new(alloc);
+    for index in 0..pairs.len() {
+        let pair = pairs[index];
+        taken.push((pair.key, pair.value)).ok()?;
+    }
+    Some(taken)
+}
+
+/// Stores some pairs, as the dictionary's own call does; or none, for want of memory.
+fn store_all(cedar: &mut Cedar<Global>, alloc: Global, pairs: &[Pair<'_>]) -> Result<(), CedarError>
+    ensures stored { OnOk result (cedar.new.state ≡ all_stored cedar.old.state (entries_in pairs.now)) }
+    ensures faulty { IfSome (first_fault (entries_in pairs.now)) (λ e. ((result ≡ Err e) ⊎ (result ≡ Err CedarError.Memory)) × (cedar.new ≡ cedar.old)) }
+    ensures front { (m : ℕ) × (m ≤ length (entries_in pairs.now)) × (cedar.new.state ≡ all_stored cedar.old.state (take m (entries_in pairs.now))) }
+    ensures refused { first_fault (entries_in pairs.now) ≡ None → IfErr result IsShortage }
+{
+    match taken(alloc, pairs) {
+        Some(taken) => cedar.build_bytes(taken.as_slice()),
+        None => Err(CedarError::Memory),
+    }
+}
+
+/// Stores some pairs, one after another: a key's last value stands. All are tested first.
+///
+/// # Errors
+/// 1 where the handle is closed; 2 where a request for memory was refused; the number of the first pair's fault that has one, and
+/// then nothing has changed; 2 or 3 where memory or slots were wanted for a pair: then those before it are stored.
+#[unsafe(no_mangle)]
+pub extern "C" fn cedar_update_all(
+    handle: &mut Handle,
+    alloc: Global,
+    pairs: &[Pair<'_>],
+    position: &mut usize,
+) -> u32
+    ensures closed { (result ≡ 1) ↔ (content handle.old ≡ None) }
+    ensures ok { result ≡ 0 → state_in handle.new ≡ option_map (λ s. all_stored s (entries_in pairs.now)) (state_in handle.old) }
+    ensures faulty { IsSome (content handle.old) → IfSome (first_fault (entries_in pairs.now)) (λ e.
+        (content handle.new ≡ content handle.old) × ((result ≡ 2) ⊎ ((result ≡ status_of e) × (position.new ≡ position_of position.old e)))) }
+
+    // Whatever it answers, a front of the pairs is stored, and nothing else has changed.
+    ensures front { (m : ℕ) × (m ≤ length (entries_in pairs.now)) × (state_in handle.new ≡ option_map (λ s. all_stored s (take m (entries_in pairs.now))) (state_in handle.old)) }
+    ensures refused { IsSome (content handle.old) → first_fault (entries_in pairs.now) ≡ None → (result ≡ 0) ⊎ (result ≡ 2) ⊎ (result ≡ 3) }
+{
+    let Some(mut cedar) = handle.take(alloc) else {
+        return CLOSED;
+    };
+    let answer = store_all(&mut cedar, alloc, pairs);
+    *handle = Handle::of(cedar);
+    match answer {
+        Ok(()) => OK,
+        Err(error) => tell(error, position),
+    }
+}

@@ -1,0 +1,93 @@
+//! A dictionary's file, written into a buffer of the caller's.
+
+ghost use Rattle.std.specs.Prelude.{◌≡◌, ◌⊎◌, ◌++◌, ◌<◌, ◌≤◌, ◌↔◌, None, IsSome, IfSome, length, take, drop};
+ghost use Rattle.cedar_format.specs.Tables.{table_bytes};
+ghost use Rattle.cedar_c.specs.Content.{content};
+ghost use Rattle.cedar_c.specs.Files.{minor_of};
+
+use crate::handle::Handle;
+use crate::status::{CLOSED, MEMORY, NO_ROOM, OK};
+use cedarwood::{Cedar, Watched};
+use std::alloc::Global;
+
+/// Writes the dictionary's file into the first places of a buffer, and tells how many bytes it has. It lists the slots and
+/// blocks that are in use, or, where `is_full`, all of them, as format 1.0 does. It asks for memory for a copy of the file.
+///
+/// # Errors
+/// 1 where the handle is closed, 11 where the file has more bytes than the buffer has places: then it tells how many; 2 where a
+/// request for memory was refused. After an error the buffer is as it was.
+#[unsafe(no_mangle)]
+pub extern "C" fn cedar_save(
+    handle: &mut Handle,
+    alloc: Global,
+    is_full: bool,
+    buffer: &mut [u8],
+    needed: &mut usize,
+) -> u32
+    ensures closed { (result ≡ 1) ↔ (content handle.old ≡ None) }
+    ensures saved { result ≡ 0 → IfSome (content handle.old) (λ d. buffer.new ≡ table_bytes (minor_of is_full) d.table ++ drop needed.new buffer.old) }
+    ensures needed { (result ≡ 0) ⊎ (result ≡ 11) → IfSome (content handle.old) (λ d. needed.new ≡ length (table_bytes (minor_of is_full) d.table)) }
+    ensures room { (result ≡ 0 → needed.new ≤ length buffer.old) × (result ≡ 11 → length buffer.old < needed.new) }
+    ensures refused { (result ≡ 0) ⊎ (((result ≡ 1) ⊎ (result ≡ 2) ⊎ (result ≡ 11)) × (buffer.new ≡ buffer.old)) }
+    ensures kept { content handle.new ≡ content handle.old }
+{
+    let Some(cedar) = handle.take(alloc) else {
+        return CLOSED;
+    };
+    let file = if is_full {
+        file_v1_0(&cedar, alloc)
+    } else {
+        file_of(&cedar, alloc)
+    };
+    *handle = Handle::of(cedar);
+    match file {
+        Some(file) => copy_whole(file.as_slice(), buffer, needed),
+        None => MEMORY,
+    }
+}
+
+/// The bytes of a dictionary's file, or None for want of memory.
+fn file_of(cedar: &Cedar<Global>, alloc: Global) -> Option<Vec<u8, Global>>
+    ensures { IfSome result (λ file. file.items ≡ table_bytes 1 cedar.now.table) }
+{
+    let mut writer = Watched::new(Vec::new(alloc));
+    match cedar.save_to_writer(&mut writer) {
+        Ok(()) => Some(writer.into_inner()),
+        Err(_) => None,
+    }
+}
+
+/// The same in format 1.0.
+fn file_v1_0(cedar: &Cedar<Global>, alloc: Global) -> Option<Vec<u8, Global>>
+    ensures { IfSome result (λ file. file.items ≡ table_bytes 0 cedar.now.table) }
+{
+    let mut writer = Watched::new(Vec::new(alloc));
+    match cedar.save_v1_0_to_writer(&mut writer) {
+        Ok(()) => Some(writer.into_inner()),
+        Err(_) => None,
+    }
+}
+
+/// Writes some bytes into the first places of a buffer, if it has room for all, and tells how many they are.
+pub(crate) fn copy_whole(bytes: &[u8], buffer: &mut [u8], needed: &mut usize) -> u32
+    ensures needed { needed.new ≡ length bytes.now }
+    ensures written { result ≡ 0 → (buffer.new ≡ bytes.now ++ drop (length bytes.now) buffer.old) × (length bytes.now ≤ length buffer.old) }
+    ensures no_room { (result ≡ 0) ⊎ ((result ≡ 11) × (length buffer.old < length bytes.now) × (buffer.new ≡ buffer.old)) }
+{
+    *needed = bytes.len();
+    if buffer.len() < bytes.len() {
+        return NO_ROOM;
+    }
+    let _ = copy_front(bytes, buffer);
+    OK
+}
+
+/// Writes some bytes into the first places of a buffer, as far as there is room, and says how many they are.
+pub(crate) fn copy_front(bytes: &[u8], buffer: &mut [u8]) -> usize
+    ensures count { result ≡ length bytes.now }
+    ensures copied { buffer.new ≡ take (length buffer.old) bytes.now ++ drop (length bytes.now) buffer.old }
+{
+    let room = bytes.len().min(buffer.len());
+    buffer[..room].copy_from_slice(&bytes[..room]);
+    bytes.len()
+}

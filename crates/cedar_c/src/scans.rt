@@ -1,0 +1,206 @@
+//! Long texts, of which a buffer takes as much as it has room for: a call goes on where the one before it ended.
+
+ghost use Rattle.std.specs.Prelude.{◌≡◌, ◌⊎◌, ℕ, ℤ, List, ◌∷◌, ◌++◌, ◌+◌, ◌<◌, ◌≤◌, ◌^◌, [], length, map, take, drop, set, None, IfSome, IsSome};
+ghost use Rattle.cedar_tree.specs.Queries.{front};
+ghost use Rattle.cedar_c.specs.Content.{content, tree_in};
+ghost use Rattle.cedar_c.specs.Scans.{Fit, spot, spots_from, tokens_from};
+
+use crate::handle::Handle;
+use crate::walks::Finds;
+use cedar_words::LongestPrefix;
+use cedarwood::{Layout, Trie};
+use std::alloc::{Allocator, Global};
+
+/// What stands at a place of a text.
+#[repr(C)]
+#[derive(Clone, Copy)]
+pub struct Found {
+    pub place: usize,
+    pub length: usize,
+    pub value: i32,
+}
+
+/// A dictionary whose keys are looked for in texts.
+trait Scanned: LongestPrefix {
+    ghost use Rattle.std.specs.Prelude.{◌≡◌, ◌+◌, ◌<◌, ◌≤◌, length, map, take, ◌++◌, None, IfSome};
+    ghost use Rattle.cedar_tree.specs.Tree.{Tree};
+    ghost use Rattle.cedar_tree.specs.Queries.{front};
+    ghost use Rattle.cedar_c.specs.Scans.{spot};
+
+    ghost scanned: { Self → Tree };
+
+    /// Writes the held fronts of a text behind the first `count` places of a buffer, as those of the place where the text begins,
+    /// and says how many places are written then. None says that there is no room for them.
+    fn tell_fronts(
+        &self,
+        text: &[u8],
+        place: usize,
+        found: &mut [Found],
+        count: usize,
+    ) -> Option<usize>
+        requires { count ≤ length found.old }
+        ensures told { IfSome result (λ n. take n found.new ≡ take count found.old ++ map (spot place) (front (scanned self.now) text.now)) }
+        ensures within { IfSome result (λ n. (n ≤ length found.new) × (count ≤ n)) }
+        ensures no_room { result ≡ None → (length found.new < count + length (front (scanned self.now) text.now)) × (take count found.new ≡ take count found.old) }
+        ensures room { length found.new ≡ length found.old };
+}
+
+impl<L: Layout, const SLOTS: usize, A: Allocator + Copy> Scanned for Trie<L, SLOTS, A> {
+    ghost scanned = { λ trie. trie.state.tree };
+
+    fn tell_fronts(
+        &self,
+        text: &[u8],
+        place: usize,
+        found: &mut [Found],
+        count: usize,
+    ) -> Option<usize> {
+        tell(
+            &mut self.common_prefix_iter_bytes(text),
+            place,
+            found,
+            count,
+        )
+    }
+}
+
+/// Writes what a walk finds behind the first `count` places.
+fn tell<F: Finds>(walk: &mut F, place: usize, found: &mut [Found], count: usize) -> Option<usize>
+    requires room { count ≤ length found.old }
+    requires fit { Fit (F.left walk.old) }
+    ensures told { IfSome result (λ n. take n found.new ≡ take count found.old ++ map (spot place) (F.left walk.old)) }
+    ensures within { IfSome result (λ n. (n ≤ length found.new) × (count ≤ n)) }
+    ensures no_room { result ≡ None → (length found.new < count + length (F.left walk.old)) × (take count found.new ≡ take count found.old) }
+    ensures room { length found.new ≡ length found.old }
+{
+    let mut at = count;
+    while let Some(front) = walk.next_found() {
+        if at == found.len() {
+            return None;
+        }
+        put_at(found, at, place, front);
+        at += 1;
+    }
+    Some(at)
+}
+
+/// Writes a key that was found.
+fn put_at(found: &mut [Found], at: usize, place: usize, front: (i32, usize))
+    requires place { at < length found.old }
+    requires fits { front.1 + 1 < 2 ^ 64 }
+    ensures { found.new ≡ set found.old at (spot place front) }
+{
+    found[at] = Found {
+        place,
+        length: front.1 + 1,
+        value: front.0,
+    };
+}
+
+/// Writes the keys that stand in a text from a place on, as those of whole places, as far as there is room.
+fn scan<T: Scanned>(trie: &T, text: &[u8], next: &mut usize, found: &mut [Found]) -> usize
+    ensures told { spots_from (T.scanned trie.now) next.old (drop next.old text.now) ≡ take result found.new ++ spots_from (T.scanned trie.now) next.new (drop next.new text.now) }
+    ensures full { (length text.now ≤ next.new) ⊎ (length found.new < result + length (front (T.scanned trie.now) (drop next.new text.now))) }
+    ensures within { (result ≤ length found.new) × (next.old ≤ next.new) }
+{
+    let mut count = 0;
+    while *next < text.len() {
+        match trie.tell_fronts(&text[*next..], *next, found, count) {
+            Some(now) => count = now,
+            None => return count,
+        }
+        *next += 1;
+    }
+    count
+}
+
+/// Writes the tokens of a text from a place on, as far as there is room.
+fn cut<T: LongestPrefix>(trie: &T, text: &[u8], next: &mut usize, found: &mut [Found]) -> usize
+    ensures told { tokens_from (T.tree trie.now) next.old (drop next.old text.now) ≡ take result found.new ++ tokens_from (T.tree trie.now) next.new (drop next.new text.now) }
+    ensures full { (length text.now ≤ next.new) ⊎ (result ≡ length found.new) }
+    ensures within { (result ≤ length found.new) × (next.old ≤ next.new) }
+{
+    let mut count = 0;
+    while *next < text.len() && count < found.len() {
+        let token = token_at(trie, &text[*next..], *next);
+        *next += token.length;
+        found[count] = token;
+        count += 1;
+    }
+    count
+}
+
+/// The token at a place, where a text begins.
+fn token_at<T: LongestPrefix>(trie: &T, text: &[u8], place: usize) -> Found
+    requires { 0 < length text.now }
+    ensures first { tokens_from (T.tree trie.now) place text.now ≡ result ∷ tokens_from (T.tree trie.now) (place + result.length) (drop result.length text.now) }
+    ensures within { result.length ≤ length text.now }
+{
+    match trie.longest_prefix(text) {
+        Some((value, others)) => Found {
+            place,
+            length: others + 1,
+            value,
+        },
+        None => Found {
+            place,
+            length: 1,
+            value: -1,
+        },
+    }
+}
+
+/// Writes what keys stand in a text from a place on: place after place, and at each the shortest first. Those of a place are
+/// written as a whole: where there is no room left for them, the walk ends, and `next` is this place, so that a call from there
+/// goes on. It ends behind the text otherwise. It answers how many places of the buffer it wrote; what the others have then
+/// isn't told.
+#[unsafe(no_mangle)]
+pub extern "C" fn cedar_scan(
+    handle: &mut Handle,
+    alloc: Global,
+    text: &[u8],
+    next: &mut usize,
+    found: &mut [Found],
+) -> usize
+    ensures told { IsSome (content handle.old) → spots_from (tree_in handle.old) next.old (drop next.old text.now) ≡ take result found.new ++ spots_from (tree_in handle.old) next.new (drop next.new text.now) }
+
+    // It ends where the text does, or where the keys of a place don't fit in the room that is left.
+    ensures full { (length text.now ≤ next.new) ⊎ (length found.new < result + length (front (tree_in handle.old) (drop next.new text.now))) }
+    ensures within { (result ≤ length found.new) × (next.old ≤ next.new) }
+    ensures closed { content handle.old ≡ None → result ≡ 0 }
+    ensures kept { content handle.new ≡ content handle.old }
+{
+    let Some(cedar) = handle.take(alloc) else {
+        *next = text.len().max(*next);
+        return 0;
+    };
+    let count = scan(&*cedar, text, next, found);
+    *handle = Handle::of(cedar);
+    count
+}
+
+/// Writes the tokens of a text from a place on, where one begins: at each place the longest key that begins there, or else one
+/// byte, with the value -1. It ends where the text or the room does, and `next` is where the next token begins, so that a call from
+/// there goes on. It answers how many places of the buffer it wrote; what the others have then isn't told.
+#[unsafe(no_mangle)]
+pub extern "C" fn cedar_segment(
+    handle: &mut Handle,
+    alloc: Global,
+    text: &[u8],
+    next: &mut usize,
+    found: &mut [Found],
+) -> usize
+    ensures told { IsSome (content handle.old) → tokens_from (tree_in handle.old) next.old (drop next.old text.now) ≡ take result found.new ++ tokens_from (tree_in handle.old) next.new (drop next.new text.now) }
+    ensures full { (length text.now ≤ next.new) ⊎ (result ≡ length found.new) }
+    ensures within { (result ≤ length found.new) × (next.old ≤ next.new) }
+    ensures closed { content handle.old ≡ None → result ≡ 0 }
+    ensures kept { content handle.new ≡ content handle.old }
+{
+    let Some(cedar) = handle.take(alloc) else {
+        *next = text.len().max(*next);
+        return 0;
+    };
+    let count = cut(&*cedar, text, next, found);
+    *handle = Handle::of(cedar);
+    count
+}

@@ -1,0 +1,67 @@
+-- That two runs of the same calls agree, loads among them.
+use Rattle.std.specs.Prelude.{◌≡◌, ◌⊎◌, ℕ, Bool, true, List, [], ◌∷◌}
+use Rattle.std.specs.List.{AllByRecursion}
+use Rattle.cedar_bulk.specs.Sorted.{entries_of}
+use Rattle.cedar_table.specs.Table.Layouts.{LayoutKind, default_layout}
+use Rattle.cedarwood.specs.Dictionary.{Dictionary}
+use Rattle.cedar_calls.specs.Plain.{all_said, states_of, IsLoadless, IsMet}
+use Rattle.cedar_calls.specs.Runs.{IsRun}
+use Rattle.cedar_calls.specs.declared.call.Call.{Call}
+use Rattle.cedar_calls.specs.declared.call.Call.TheVariants as call
+use Rattle.cedar_calls.specs.declared.call.Change.{Change}
+use Rattle.cedar_calls.specs.declared.call.Change.TheVariants as change
+use Rattle.cedar_calls.specs.declared.call.Question.{Question}
+use Rattle.cedar_calls.specs.declared.call.Question.TheVariants as question
+use Rattle.cedar_calls.specs.declared.answer.Answer.{Answer}
+
+-- the same change, whatever `max_trial` it sets and wherever its bytes lie
+abbrev pub IsSameChange : Change → Change → Type 0
+IsSameChange (change.Update k v) (change.Update l w) = (k.now ≡ l.now) × (v ≡ w)
+IsSameChange (change.Insert k v) (change.Insert l w) = (k.now ≡ l.now) × (v ≡ w)
+IsSameChange (change.Erase k) (change.Erase l) = k.now ≡ l.now
+IsSameChange (change.Renew s) (change.Renew z) = s.ordered ≡ z.ordered
+IsSameChange (change.Build p) (change.Build q) = entries_of p.now ≡ entries_of q.now
+IsSameChange c d = ⊥
+
+-- the same question, wherever its bytes lie
+abbrev pub IsSameQuestion : Question → Question → Type 0
+IsSameQuestion (question.Exact k) (question.Exact l) = k.now ≡ l.now
+IsSameQuestion (question.Prefixes k) (question.Prefixes l) = k.now ≡ l.now
+IsSameQuestion (question.Predictions k) (question.Predictions l) = k.now ≡ l.now
+IsSameQuestion question.Entries question.Entries = Unit {0}
+IsSameQuestion question.TextEntries question.TextEntries = Unit {0}
+IsSameQuestion question.Len question.Len = Unit {0}
+IsSameQuestion (question.Figure f) (question.Figure g) = f ≡ g
+IsSameQuestion question.IsEmpty question.IsEmpty = Unit {0}
+IsSameQuestion question.Stats question.Stats = Unit {0}
+IsSameQuestion question.Save question.Save = Unit {0}
+IsSameQuestion question.SaveV1_0 question.SaveV1_0 = Unit {0}
+IsSameQuestion q r = ⊥
+
+-- the same call, whatever `max_trial` it sets and wherever its bytes lie
+abbrev pub IsSameCall : Call → Call → Type 0
+IsSameCall (call.New s) (call.New z) = s.ordered ≡ z.ordered
+IsSameCall (call.Sorted s p) (call.Sorted z q) = (s.ordered ≡ z.ordered) × (entries_of p.now ≡ entries_of q.now)
+IsSameCall (call.Load b m) (call.Load c n) = (b.now ≡ c.now) × (m ≡ n)
+IsSameCall (call.Clone i) (call.Clone j) = i ≡ j
+IsSameCall (call.Change i c) (call.Change j d) = (i ≡ j) × IsSameChange c d
+IsSameCall (call.Ask i q) (call.Ask j r) = (i ≡ j) × IsSameQuestion q r
+IsSameCall c d = ⊥
+
+abbrev pub AreSameCalls : List Call → List Call → Type 0
+AreSameCalls [] [] = Unit {0}
+AreSameCalls (c ∷ calls) (d ∷ others) = IsSameCall c d × AreSameCalls calls others
+AreSameCalls calls others = ⊥
+
+-- Runs agree: two runs of the same calls from the same states, none of them refused for memory or slots, are answered the same, and leave the
+-- same states, whatever `max_trial` is and whatever the tables are. Where a load is among the calls, layout and limit of slots are the same, since
+-- a file is of one layout
+abbrev pub RunsAgree : {A B : Type 0} → List Call → List (Answer A) → List Call → List (Answer B) → Type 0
+RunsAgree calls answers others replies =
+    (by_default : Bool) (layout other : LayoutKind) (slots most : ℕ) (before after start end : List Dictionary)
+    → IsRun layout slots before calls answers after → IsRun other most start others replies end
+    → AreSameCalls calls others → states_of before ≡ states_of start
+    → AllByRecursion IsLoadless calls ⊎ ((layout ≡ other) × (slots ≡ most))
+    → (by_default ≡ true → (layout ≡ default_layout) × (other ≡ default_layout))
+    → AllByRecursion IsMet (all_said by_default calls answers) → AllByRecursion IsMet (all_said by_default others replies)
+    → (all_said by_default calls answers ≡ all_said by_default others replies) × (states_of after ≡ states_of end)

@@ -1,0 +1,12 @@
+use Rattle.std.proofs.Common.{◌≡◌, ◌<◌, ℕ, get_or, [], None}
+use Rattle.cedar_tree.specs.Queries.{exact}
+use Rattle.cedar_table.specs.Walk.Batch.{AreLanes, keys_of}
+use Rattle.cedar_table.specs.Table.TableFields.{fields}
+use Rattle.cedar_table.specs.Meaning.WellFormed.{tree_of}
+use Rattle.cedar_table.proofs.table.Table.search_in_step.Given as goal
+
+abbrev pub invariant-loop-passed : goal.invariant-loop-passed
+invariant-loop-passed g l = AreLanes (fields l.self) (keys_of l.keys) l.passed l.lanes
+
+abbrev pub invariant-loop-lane : goal.invariant-loop-lane
+invariant-loop-lane g l = (i : ℕ) → i < l.lane → get_or l.answers i None ≡ exact (tree_of (fields l.self)) (get_or (keys_of l.keys) i [])

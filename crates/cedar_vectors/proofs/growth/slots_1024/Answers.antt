@@ -1,6 +1,0 @@
-use Rattle.std.proofs.Common.{arith}
-use Rattle.cedar_vectors.proofs.Limits.{limit_1024}
-use Rattle.cedar_vectors.proofs.growth.slots_1024.Goals as goal
-
-pub with-requires : goal.with-requires
-with-requires g c = (omega arith, limit_1024)
