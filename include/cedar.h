@@ -1,6 +1,6 @@
 /* A mutable dictionary from byte strings to whole numbers, for C and C++.
  *
- * A key is a nonempty byte string without byte 0, a value a whole number from 0 to 2147483645. The library is
+ * A key is a nonempty byte string without byte 0, a value a whole number from 0 to 2147483645, in both layouts. The library is
  * proved: for every caller that keeps the rules below, each call does what stands beside it, touches no memory but what
  * is named here, and returns.
  *
@@ -35,10 +35,10 @@ extern "C" {
 
 typedef struct cedar {
     void *held;
-    bool is_open;
+    size_t is_open;
 } cedar;
 
-#define CEDAR_CLOSED { NULL, false }
+#define CEDAR_CLOSED { NULL, 0 }
 
 #define CEDAR_MIN_VALUE 0
 #define CEDAR_MAX_VALUE 2147483645
@@ -62,12 +62,12 @@ enum {
     CEDAR_FILE_MAGIC = 21,         /* not a file of this format */
     CEDAR_FILE_VERSION = 22,       /* another version than 1.0 and 1.1 */
     CEDAR_FILE_BYTE_ORDER = 23,
-    CEDAR_FILE_LAYOUT = 24,        /* a table of the reduced layout */
+    CEDAR_FILE_LAYOUT = 24,        /* a table of the other layout */
     CEDAR_FILE_HEADER = 25,        /* a number of the header is out of its rule */
     CEDAR_FILE_MEMORY_LIMIT = 26,  /* it asks for more than the limit that was given */
     CEDAR_FILE_CORRUPT = 27,       /* the table is not well-formed */
     CEDAR_FILE_TRAILING = 28,      /* something follows the table */
-    CEDAR_FILE_UNREAD = 29         /* the reading itself failed */
+    CEDAR_FILE_UNREAD = 29         /* the reading failed: never answered, since a load reads memory */
 };
 
 /* Opens *d with an empty dictionary, in the place of the one that it has, if it is open. CEDAR_OK or CEDAR_MEMORY; then *d
@@ -78,10 +78,22 @@ uint32_t cedar_new(cedar *d);
  * searches for a place close a block of slots, 1 or more. Also CEDAR_INVALID_MAX_TRIAL. */
 uint32_t cedar_new_with(cedar *d, bool ordered, int32_t max_trial);
 
+/* As cedar_new_with, of the reduced layout: a key's value stands in its last node as long as no longer key has been stored below
+ * it, and takes no slot of its own. All calls below take a dictionary of either layout, and answer the same of both but for the
+ * slots in use. Which one it is, is settled where it is made. */
+uint32_t cedar_new_reduced(cedar *d, bool ordered, int32_t max_trial);
+
+/* Whether *d is of the reduced layout. False if closed. */
+bool cedar_is_reduced(cedar *d);
+
 /* Opens *d with the dictionary of a file's bytes, as `save_to_writer` and the programs write them, in the place of the one that it
  * has. It asks for memory_limit bytes at most, say CEDAR_LOAD_LIMIT. CEDAR_OK exactly takes the bytes of a well-formed table; else
  * the number of the first refusal, or CEDAR_MEMORY; then *d is as it was. */
 uint32_t cedar_load(cedar *d, const uint8_t *bytes, size_t length, size_t memory_limit);
+
+/* As cedar_load, of a file of the reduced layout. Each of the two refuses the other layout's files by CEDAR_FILE_LAYOUT, before it asks
+ * for memory: so where either may come, call the other one then. */
+uint32_t cedar_load_reduced(cedar *d, const uint8_t *bytes, size_t length, size_t memory_limit);
 
 /* Writes the file of *d to the first places of a buffer, and to *needed how many bytes it has; the other places stay. The file
  * lists the slots and blocks that are in use, or, where is_full, all of them, as format 1.0 does. CEDAR_OK, CEDAR_IS_CLOSED,
@@ -125,6 +137,9 @@ uint32_t cedar_update_all(cedar *d, const cedar_pair *pairs, size_t count, size_
  * position writes *position. */
 uint32_t cedar_build(cedar *d, bool ordered, int32_t max_trial, const cedar_pair *pairs, size_t count, size_t *position);
 
+/* As cedar_build, of the reduced layout. */
+uint32_t cedar_build_reduced(cedar *d, bool ordered, int32_t max_trial, const cedar_pair *pairs, size_t count, size_t *position);
+
 /* Removes a key, and says whether it was held. It takes no memory. */
 bool cedar_erase(cedar *d, const uint8_t *key, size_t length);
 
@@ -132,7 +147,8 @@ bool cedar_erase(cedar *d, const uint8_t *key, size_t length);
 bool cedar_get(cedar *d, const uint8_t *key, size_t length, int32_t *value);
 
 /* How many keys are held; how many slots are (one for the root, one for each distinct nonempty prefix of keys, one for each
- * key); how many slots there are; how many blocks of 256 slots can come into use before memory is asked for. 0 if closed. */
+ * value that has a slot of its own, as each has but in the reduced layout); how many slots there are; how many blocks of 256 slots can
+ * come into use before memory is asked for. 0 if closed. */
 size_t cedar_len(cedar *d);
 size_t cedar_used_slots(cedar *d);
 size_t cedar_capacity(cedar *d);

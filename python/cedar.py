@@ -9,6 +9,7 @@
     list(d.segment(b"nets!")) == [(0, 4, 8), (4, 1, None)]
     Cedar.loaded(d.save())
     Cedar.from_sorted([(b"net", 7), (b"nets", 8)])
+    Cedar({"net": 7}, reduced=True)
 """
 
 import ctypes
@@ -22,7 +23,7 @@ from pathlib import Path
 
 
 class _Handle(ctypes.Structure):
-    _fields_ = [("held", c_void_p), ("is_open", c_bool)]
+    _fields_ = [("held", c_void_p), ("is_open", c_size_t)]
 
 
 class _Match(ctypes.Structure):
@@ -44,13 +45,17 @@ def _library(path=os.environ.get("CEDAR_LIBRARY", Path(__file__).parent / "libce
     for name, result, arguments in [
         ("cedar_new", c_uint32, [handle]),
         ("cedar_new_with", c_uint32, [handle, c_bool, c_int32]),
+        ("cedar_new_reduced", c_uint32, [handle, c_bool, c_int32]),
+        ("cedar_is_reduced", c_bool, [handle]),
         ("cedar_load", c_uint32, [handle, c_char_p, c_size_t, c_size_t]),
+        ("cedar_load_reduced", c_uint32, [handle, c_char_p, c_size_t, c_size_t]),
         ("cedar_save", c_uint32, [handle, c_bool, c_char_p, c_size_t, POINTER(c_size_t)]),
         ("cedar_status_text", c_size_t, [c_uint32, c_char_p, c_size_t]),
         ("cedar_free", None, [handle]),
         ("cedar_update", c_uint32, [handle, c_char_p, c_size_t, c_int32, POINTER(c_size_t)]),
         ("cedar_update_all", c_uint32, [handle, POINTER(_Pair), c_size_t, POINTER(c_size_t)]),
         ("cedar_build", c_uint32, [handle, c_bool, c_int32, POINTER(_Pair), c_size_t, POINTER(c_size_t)]),
+        ("cedar_build_reduced", c_uint32, [handle, c_bool, c_int32, POINTER(_Pair), c_size_t, POINTER(c_size_t)]),
         ("cedar_erase", c_bool, [handle, c_char_p, c_size_t]),
         ("cedar_get", c_bool, [handle, c_char_p, c_size_t, POINTER(c_int32)]),
         ("cedar_prefixes", c_size_t, [handle, c_char_p, c_size_t, POINTER(_Match), c_size_t]),
@@ -93,6 +98,7 @@ class CedarError(ValueError):
 _NUL_BYTE = 5
 _UNSORTED = (8, 9)
 _NO_ROOM = 11
+_OTHER_LAYOUT = 24
 _SHORTAGES = (2, 3)
 _MAX_VALUE = 2147483645
 _MAX_SIZE = 2**63 - 1
@@ -165,15 +171,17 @@ class Matches(Sequence):
 
 
 class Cedar:
-    """A mapping from nonempty byte strings without byte 0 to whole numbers from 0 to 2147483645."""
+    """A mapping from nonempty byte strings without byte 0 to whole numbers from 0 to 2147483645. One of the reduced layout answers the
+    same, and takes fewer slots."""
 
-    def __init__(self, pairs=(), ordered=True, max_trial=1):
+    def __init__(self, pairs=(), ordered=True, max_trial=1, reduced=False):
         self._handle = _Handle()
         self._this = byref(self._handle)
         self._value = c_int32()
         self._position = c_size_t()
         self._room = 64
-        _check(_CEDAR.cedar_new_with(self._this, ordered, _trials(max_trial)))
+        new = _CEDAR.cedar_new_reduced if reduced else _CEDAR.cedar_new_with
+        _check(new(self._this, ordered, _trials(max_trial)))
         self.update(pairs)
 
     def update(self, pairs):
@@ -183,11 +191,12 @@ class Cedar:
         _check(_CEDAR.cedar_update_all(self._this, array, len(array), byref(self._position)), self._position)
 
     @classmethod
-    def from_sorted(cls, pairs, ordered=True, max_trial=1):
+    def from_sorted(cls, pairs, ordered=True, max_trial=1, reduced=False):
         """The dictionary of the pairs of a mapping or of a sequence, whose keys ascend by bytes, made at once. A key that isn't above the
         one before it is refused, and its index is told."""
         cedar, array = cls(), _pairs(pairs)
-        _check(_CEDAR.cedar_build(cedar._this, ordered, _trials(max_trial), array, len(array), byref(cedar._position)), cedar._position)
+        build = _CEDAR.cedar_build_reduced if reduced else _CEDAR.cedar_build
+        _check(build(cedar._this, ordered, _trials(max_trial), array, len(array), byref(cedar._position)), cedar._position)
         return cedar
 
     def save(self, is_full=False):
@@ -201,9 +210,12 @@ class Cedar:
                 return ctypes.string_at(buffer, needed.value)
 
     def load(self, data, memory_limit=2**29):
-        """Becomes the dictionary that a file's bytes are of. Where they are refused, it stays as it was."""
+        """Becomes the dictionary that a file's bytes are of, of the layout that they are of. Where they are refused, it stays as it was."""
         data = bytes(data)
-        _check(_CEDAR.cedar_load(self._this, data, len(data), memory_limit))
+        status = _CEDAR.cedar_load(self._this, data, len(data), memory_limit)
+        if status == _OTHER_LAYOUT:
+            status = _CEDAR.cedar_load_reduced(self._this, data, len(data), memory_limit)
+        _check(status)
 
     @classmethod
     def loaded(cls, data, memory_limit=2**29):
@@ -315,6 +327,9 @@ class Cedar:
     def segment(self, text):
         """The tokens of a text: at each place the longest key that stands there, or else one byte without a value."""
         return self._everything(_CEDAR.cedar_segment, text)
+
+    def is_reduced(self):
+        return _CEDAR.cedar_is_reduced(self._this)
 
     def used_slots(self):
         return _CEDAR.cedar_used_slots(self._this)

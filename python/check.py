@@ -21,9 +21,10 @@ def refuses(error, call):
     raise AssertionError("it isn't refused")
 
 
-def check():
+def check(reduced):
     random.seed(7)
-    cedar, plain = Cedar(), {}
+    cedar, plain = Cedar(reduced=reduced), {}
+    assert cedar.is_reduced() == reduced
     for i in range(100_000):
         key = random_key()
         match random.randrange(3):
@@ -40,7 +41,7 @@ def check():
         assert len(cedar) == len(plain)
     assert all(cedar[key] == value for key, value in plain.items())
     prefixes = {key[:n] for key in plain for n in range(1, len(key) + 1)}
-    assert cedar.used_slots() == 1 + len(prefixes) + len(plain)
+    assert cedar.used_slots() <= 1 + len(prefixes) + len(plain) if reduced else cedar.used_slots() == 1 + len(prefixes) + len(plain)
     for _ in range(300):
         text = random_key() + random_key()
         assert cedar.prefixes(text) == [(plain[text[:n]], n) for n in range(1, len(text) + 1) if text[:n] in plain]
@@ -51,11 +52,11 @@ def check():
     refusals(cedar)
     cedar["käse"] = 3
     assert cedar["käse".encode()] == 3
-    loads(Cedar({b"net": 1, b"ten": 2, b"nets": 3}).save())
-    loads(Cedar({b"net": 1, b"ten": 2, b"nets": 3}).save(is_full=True))
+    loads(Cedar({b"net": 1, b"ten": 2, b"nets": 3}, reduced=reduced).save(), reduced)
+    loads(Cedar({b"net": 1, b"ten": 2, b"nets": 3}, reduced=reduced).save(is_full=True), reduced)
     assert Cedar.loaded(cedar.save()).predictions(b"") == cedar.predictions(b"")
     many()
-    from_sorted(plain)
+    from_sorted(plain, reduced)
     whole_texts(cedar, {**plain, "käse".encode(): 3})
     cedar.close()
     assert len(cedar) == 0 and refuses(CedarError, lambda: cedar.__setitem__(b"a", 1)) == "the dictionary is closed"
@@ -94,11 +95,12 @@ def pieces(cedar):
     refuses(ValueError, lambda: cedar.predictions_from(b"a", -1, 1))
 
 
-def from_sorted(plain):
+def from_sorted(plain, reduced):
     """A dictionary of sorted pairs, made at once, beside one made by updates."""
     pairs = sorted(plain.items())
-    cedar = Cedar.from_sorted(pairs)
-    assert list(cedar.items()) == pairs and cedar.used_slots() == Cedar(pairs).used_slots()
+    cedar = Cedar.from_sorted(pairs, reduced=reduced)
+    assert list(cedar.items()) == pairs and cedar.is_reduced() == reduced and cedar.used_slots() <= Cedar(pairs, reduced=reduced).used_slots()
+    assert (cedar.used_slots() < Cedar.from_sorted(pairs).used_slots()) == reduced
     assert len(Cedar.from_sorted([])) == 0 and len(Cedar.from_sorted({"a": 1}, ordered=False, max_trial=3)) == 1
     assert refuses(CedarError, lambda: Cedar.from_sorted([("a", 1), ("b", 2), ("b", 3)])) == "duplicate key in sorted input (at pair 2)"
     assert refuses(CedarError, lambda: Cedar.from_sorted([("b", 1), ("a", 2)])) == "key in sorted input is smaller than its predecessor (at pair 1)"
@@ -127,7 +129,7 @@ def whole_texts(cedar, plain):
     assert scanned[0] == found[0] and scanned[-1] == found[-1] and scanned[2:4] == found[2:4]
 
 
-def loads(data):
+def loads(data, reduced):
     """Loads a file that has net, ten and nets with 1, 2 and 3."""
     cedar = Cedar({b"old": 5})
     for damaged, why in [
@@ -137,7 +139,7 @@ def loads(data):
     ]:
         assert refuses(CedarError, lambda: cedar.load(damaged)) == why and cedar["old"] == 5
     cedar.load(data)
-    assert cedar.predictions(b"") == [(1, 3), (3, 4), (2, 3)] and cedar.get("old") is None
+    assert cedar.predictions(b"") == [(1, 3), (3, 4), (2, 3)] and cedar.get("old") is None and cedar.is_reduced() == reduced
 
 
 def times(count):
@@ -173,7 +175,8 @@ def timed(call):
     return time.process_time() - start
 
 
-check()
+check(False)
+check(True)
 if len(sys.argv) > 1:
     times(int(sys.argv[1]))
     text_times(1 << 24)

@@ -2,12 +2,12 @@
 use Rattle.std.specs.Prelude.{◌≡◌, ◌≢◌, ◌<◌, ◌≤◌, ℕ, ℤ, List, length, Option, Some, None, true}
 use Rattle.cedar_tree.specs.Tree.{Forest}
 use Rattle.cedar_slots.specs.Places.{IsTable}
-use Rattle.cedar_table.specs.declared.layout.Stored.TheVariants.{AtBase}
-use Rattle.cedar_table.specs.Table.Cells.{Held}
-use Rattle.cedar_table.specs.Table.TableFields.{Fields, size_of}
-use Rattle.cedar_table.specs.Edit.NodeEdits.{Above, IsNodeOf}
-use Rattle.cedar_table.specs.Meaning.Family.{Among, below, InRange}
-use Rattle.cedar_table.specs.Meaning.WellFormed.{cells_in}
+use Rattle.cedar_meaning.specs.declared.layout.Stored.TheVariants.{AtBase}
+use Rattle.cedar_meaning.specs.Table.Cells.{Held}
+use Rattle.cedar_meaning.specs.Table.TableFields.{Fields, size_of}
+use Rattle.cedar_meaning.specs.Edit.NodeEdits.{Above, IsNodeOf}
+use Rattle.cedar_meaning.specs.Meaning.Family.{Among, base_of, below, InRange}
+use Rattle.cedar_meaning.specs.Meaning.WellFormed.{cells_in}
 use Rattle.cedar_bulk.specs.Sorted.{Ends, IsBareNode, IsChildless, with_number}
 
 -- the node s has neither number nor label, nor a base
@@ -27,40 +27,44 @@ pub record WantsBase (slots : ℕ) (T : Fields) (s : ℕ) (wanted : List ℕ) : 
   pub few : length wanted ≤ 256
   pub positive_at_root : s ≡ 0 → (l : ℕ) → Among wanted l → 0 < l
 
--- the node s below the root has a base, and neither number nor label; its number's slot is free
-pub record WantsNumber (slots : ℕ) (T : Fields) (s : ℕ) : Type 0 where
+-- the node s below the root has this base, and neither number nor label; its number's slot is free
+pub record WantsNumber (slots : ℕ) (T : Fields) (s base : ℕ) : Type 0 where
   pub sound : IsTable slots T.places
   pub node_in : s < size_of T
   pub not_root : s ≢ 0
   pub node : IsBareNode (size_of T) (cells_in T) s
   pub based : InRange (size_of T) ((cells_in T).stored s)
+  pub base_is : base ≡ base_of (cells_in T) s
   pub free : Held (cells_in T) (below (cells_in T) s 0) → ⊥
 
--- the node s has a base, and neither number nor label; its number's slot is free, if it is to have a number
-pub record WantsChain (slots : ℕ) (T : Fields) (s : ℕ) (number : Option ℤ) : Type 0 where
+-- the node s has this base, and neither number nor label; its number's slot is free, if it is to have a number
+pub record WantsChain (slots : ℕ) (T : Fields) (s base : ℕ) (number : Option ℤ) : Type 0 where
   pub sound : IsTable slots T.places
   pub node_in : s < size_of T
   pub not_root : s ≡ 0 → number ≡ None
   pub node : IsBareNode (size_of T) (cells_in T) s
   pub based : (s ≡ 0 → ⊥) → InRange (size_of T) ((cells_in T).stored s)
+  pub base_is : base ≡ base_of (cells_in T) s
   pub free : (v : ℤ) → number ≡ Some v → Held (cells_in T) (below (cells_in T) s 0) → ⊥
 
--- the node s has a base, and the slot of the label, which goes behind all that it has, is free
-pub record WantsLabel (slots : ℕ) (T : Fields) (s : ℕ) (before : Option ℕ) (label : ℕ) : Type 0 where
+-- the node s has this base, and the slot of the label, which goes behind all that it has, is free
+pub record WantsLabel (slots : ℕ) (T : Fields) (s base : ℕ) (before : Option ℕ) (label : ℕ) : Type 0 where
   pub sound : IsTable slots T.places
   pub node_in : s < size_of T
   pub node : (f : Forest) × IsNodeOf (size_of T) (cells_in T) true f s
   pub positive : 0 < label
   pub based : (s ≡ 0 → ⊥) → InRange (size_of T) ((cells_in T).stored s)
+  pub base_is : base ≡ base_of (cells_in T) s
   pub free : Held (cells_in T) (below (cells_in T) s label) → ⊥
   pub ends : Ends (size_of T) (cells_in T) s label before
 
--- the node s has a base and no label, and the slots of these ascending labels are free
-pub record WantsLabels (slots : ℕ) (T : Fields) (s : ℕ) (before : Option ℕ) (labels : List ℕ) : Type 0 where
+-- the node s has this base and no label, and the slots of these ascending labels are free
+pub record WantsLabels (slots : ℕ) (T : Fields) (s base : ℕ) (before : Option ℕ) (labels : List ℕ) : Type 0 where
   pub sound : IsTable slots T.places
   pub node_in : s < size_of T
   pub node : IsChildless (size_of T) (cells_in T) s
   pub based : (s ≡ 0 → ⊥) → InRange (size_of T) ((cells_in T).stored s)
+  pub base_is : base ≡ base_of (cells_in T) s
   pub ascends : Above 0 labels
   pub free : (l : ℕ) → Among labels l → Held (cells_in T) (below (cells_in T) s l) → ⊥
   pub ends : (l : ℕ) → Ends (size_of T) (cells_in T) s l before

@@ -1,20 +1,20 @@
 -- Sorted entries that go on below one node, and the nodes that wait for theirs.
-use Rattle.std.specs.Prelude.{◌≡◌, ℕ, ◌+◌, ◌≤◌, ◌<◌, nat_lt, bit_xor, cond, ℤ, false, List, [], ◌∷◌, length, map, drop, Option, Some, None, IfSome, true}
+use Rattle.std.specs.Prelude.{◌≡◌, ◌⊎◌, ℕ, ◌+◌, ◌≤◌, ◌<◌, nat_lt, bit_xor, cond, ℤ, false, List, [], ◌∷◌, length, map, drop, Option, Some, None, IfSome, true}
 use Rattle.cedar_tree.specs.Tree.{AllNumbers, Forest, none, child, Tree, is_bare, IsAscending, IsSoundBelow}
 use Rattle.cedar_tree.specs.Queries.{Entry, prefixes_forest, walk, walk_forest}
 use Rattle.cedar_tree.specs.Edits.{edit_at}
-use Rattle.cedar_table.specs.declared.layout.Stored.TheVariants.{AtBase}
+use Rattle.cedar_meaning.specs.declared.layout.Stored.TheVariants.{AtBase}
 use Rattle.cedar_bulk.specs.declared.spans.Span.{Span}
-use Rattle.cedar_table.specs.Table.Cells.{Cells}
-use Rattle.cedar_table.specs.Edit.NodeEdits.{IsAt}
-use Rattle.cedar_table.specs.Meaning.Family.{Among}
+use Rattle.cedar_meaning.specs.Table.Cells.{Cells}
+use Rattle.cedar_meaning.specs.Edit.NodeEdits.{IsAt}
+use Rattle.cedar_meaning.specs.Meaning.Family.{Among}
 use Rattle.cedar_slots.specs.Places.{IsTable}
-use Rattle.cedar_table.specs.Meaning.StandsFor.{HoldsTree}
-use Rattle.cedar_bulk.specs.Sorted.{entries_by, label_of}
+use Rattle.cedar_meaning.specs.Meaning.StandsFor.{HoldsTree}
+use Rattle.cedar_bulk.specs.Sorted.{entries_by, label_of, run}
 use Rattle.cedar_bulk.specs.SortedMarks.{KeepsLast}
-use Rattle.cedar_table.specs.Table.Layouts.{reduced_layout}
-use Rattle.cedar_table.specs.Table.TableFields.{Fields, size_of}
-use Rattle.cedar_table.specs.Meaning.WellFormed.{cells_in, is_value}
+use Rattle.cedar_meaning.specs.Table.Layouts.{reduced_layout}
+use Rattle.cedar_meaning.specs.Table.TableFields.{Fields, size_of}
+use Rattle.cedar_meaning.specs.Meaning.WellFormed.{cells_in, is_value}
 
 -- what a span says: the slot of a node, how many bytes lead to it, and the entries whose keys begin with these
 pub record Part : Type 0 where
@@ -47,6 +47,10 @@ first_label d (e ∷ es) = label_of d e
 abbrev pub IsDeeper : ℕ → List Entry → Type 0
 IsDeeper d [] = ⊥
 IsDeeper d (e ∷ es) = d < length e.0
+
+-- there is one entry, or none ends here and all go on with one label
+abbrev pub IsAlike : ℕ → List Entry → Type 0
+IsAlike d es = (length es ≡ 1) ⊎ (IsDeeper d es × (run d (first_label d es) es ≡ length es))
 
 -- the entries are just what stands below a node with these children, d bytes deep
 pub record Lists (d : ℕ) (entries : List Entry) (f : Forest) : Type 0 where

@@ -1,31 +1,40 @@
 //! All labels of a node, one behind the other.
 
-ghost use Rattle.std.specs.Prelude.{◌≡◌, ◌⊎◌, ℕ, List, ◌++◌, [], ◌∷◌, pos, true};
+ghost use Rattle.std.specs.Prelude.{◌≡◌, ◌⊎◌, ℕ, List, ◌++◌, [], ◌∷◌, bit_xor, pos, true};
 ghost use Rattle.cedar_tree.specs.Tree.{Forest, IsAscending, none};
 ghost use Rattle.cedar_tree.specs.Edits.{add_leaf, edit_at};
-ghost use Rattle.cedar_table.specs.declared.layout.Stored.TheVariants.{AtBase};
-ghost use Rattle.cedar_table.specs.Table.Cells.{Held};
-ghost use Rattle.cedar_table.specs.Edit.NodeEdits.{IsAt};
-ghost use Rattle.cedar_table.specs.Meaning.Family.{below};
-ghost use Rattle.cedar_table.specs.Meaning.StandsFor.{HoldsTree};
+ghost use Rattle.cedar_meaning.specs.declared.layout.Stored.TheVariants.{AtBase};
+ghost use Rattle.cedar_meaning.specs.Table.Cells.{Held};
+ghost use Rattle.cedar_meaning.specs.Edit.NodeEdits.{IsAt};
+ghost use Rattle.cedar_meaning.specs.Meaning.Family.{below};
+ghost use Rattle.cedar_meaning.specs.Meaning.StandsFor.{HoldsTree};
 ghost use Rattle.cedar_slots.specs.Places.{IsTable};
 ghost use Rattle.cedar_bulk.specs.Sorted.{GetsLabels};
-ghost use Rattle.cedar_table.specs.Table.TableFields.{capacity_of, cells, fields, SameFrame, SameSettings, size_of};
+ghost use Rattle.cedar_table.specs.Table.Views.{cells, fields};
+ghost use Rattle.cedar_meaning.specs.Table.TableFields.{capacity_of, SameFrame, SameSettings, size_of};
 ghost use Rattle.cedar_bulk.specs.Asked.{WantsLabel, WantsLabels};
 
 use cedar_table::{Layout, Table};
 use std::alloc::Allocator;
 
-/// Takes the slot of `label` below `node`, and answers it. The new leaf stands behind all labels of the node, which are
+/// The slot for a label below a node whose slots begin at `base`.
+pub(crate) fn slot_at(base: usize, label: u8) -> usize
+    ensures { result ≡ bit_xor base label }
+{
+    base ^ usize::from(label)
+}
+
+/// Takes the slot of `label` below `node`, whose slots begin at `base`, and answers it. The new leaf stands behind all labels of the node, which are
 /// lower: behind the slot `before`, or first of all. The order of the table doesn't matter.
 #[inline(always)]
 fn append_label<L: Layout, const SLOTS: usize, A: Allocator>(
     table: &mut Table<L, SLOTS, A>,
     node: usize,
+    base: usize,
     before: Option<usize>,
     label: u8,
 ) -> usize
-    requires { WantsLabel SLOTS (fields table.old) node before label }
+    requires { WantsLabel SLOTS (fields table.old) node base before label }
     ensures sound { IsTable SLOTS (fields table.new).places }
     ensures slot { result ≡ below (cells table.old) node label }
     ensures tree { (f : Forest) (w : List ℕ) → HoldsTree (size_of (fields table.old)) (cells table.old) f → IsAscending f → IsAt (cells table.old) w node
@@ -43,22 +52,23 @@ fn append_label<L: Layout, const SLOTS: usize, A: Allocator>(
     ensures capacity { capacity_of (fields table.new) ≡ capacity_of (fields table.old) }
     ensures settings { SameSettings (fields table.old) (fields table.new) }
 {
-    let slot = table.child_slot(node, label);
+    let slot = slot_at(base, label);
     table.pop_e_node(slot, L::base_field(0), node);
     table.link(before, node, slot, label);
     slot
 }
 
-/// Takes the slots of ascending labels below `node`, which has none yet: each stands behind the one before it, and the
+/// Takes the slots of ascending labels below `node`, whose slots begin at `base` and which has no label yet: each stands behind the one before it, and the
 /// first one behind the slot `before`, or first of all.
 #[inline(always)]
 pub(crate) fn append_labels<L: Layout, const SLOTS: usize, A: Allocator>(
     table: &mut Table<L, SLOTS, A>,
     node: usize,
+    base: usize,
     before: Option<usize>,
     labels: &[u8],
 )
-    requires { WantsLabels SLOTS (fields table.old) node before labels.now }
+    requires { WantsLabels SLOTS (fields table.old) node base before labels.now }
     ensures sound { IsTable SLOTS (fields table.new).places }
     ensures gets { GetsLabels (size_of (fields table.old)) (cells table.old) (cells table.new) node labels.now }
     ensures root_check { (cells table.new).check 0 ≡ (cells table.old).check 0 }
@@ -66,7 +76,7 @@ pub(crate) fn append_labels<L: Layout, const SLOTS: usize, A: Allocator>(
 {
     let mut before = before;
     for &label in labels {
-        let slot = append_label(table, node, before, label);
+        let slot = append_label(table, node, base, before, label);
         before = Some(slot);
     }
 }

@@ -1,42 +1,45 @@
 //! A node with all of its slots at once: its number's and its labels'.
 
-ghost use Rattle.std.specs.Prelude.{◌≡◌, ℕ, ◌≤◌, IfErr, IfSome, length, MatchOption, OnErr, OnOk, Option, Some, None, true};
-ghost use Rattle.cedar_table.specs.Table.Layouts.{reduced_layout};
+ghost use Rattle.std.specs.Prelude.{◌≡◌, ℕ, ◌≤◌, IfErr, IfOk, IfSome, length, MatchOption, OnErr, OnOk, Option, Some, None, true};
+ghost use Rattle.cedar_meaning.specs.Table.Layouts.{reduced_layout};
 ghost use Rattle.cedar_slots.specs.Places.{IsTable, MayRefuse};
 ghost use Rattle.cedar_bulk.specs.SortedMarks.{KeepsOwn};
 ghost use Rattle.cedar_bulk.specs.Sorted.{Ends, Fills, GetsBase, GetsNumber};
-ghost use Rattle.cedar_table.specs.Edit.Steps.{MakesBlocks};
-ghost use Rattle.cedar_table.specs.Table.TableFields.{cells, fields, SameFrame, SameSettings, size_of};
-ghost use Rattle.cedar_table.specs.Meaning.WellFormed.{is_value};
+ghost use Rattle.cedar_meaning.specs.Edit.Steps.{MakesBlocks};
+ghost use Rattle.cedar_meaning.specs.Meaning.Family.{base_of};
+ghost use Rattle.cedar_table.specs.Table.Views.{cells, fields};
+ghost use Rattle.cedar_meaning.specs.Table.TableFields.{SameFrame, SameSettings, size_of};
+ghost use Rattle.cedar_meaning.specs.Meaning.WellFormed.{is_value};
 ghost use Rattle.cedar_bulk.specs.Asked.{WantsBase, WantsChain, WantsNumber, WantsSlots};
 
-use crate::append::append_labels;
+use crate::append::{append_labels, slot_at};
 use cedar_slots::CedarError;
 use cedar_table::{Layout, Table};
 use std::alloc::Allocator;
 
 /// Gives a node that has neither number nor label a base from which the slots of all labels are free, 0 standing for the
-/// number. The root keeps its base. All growth of a build from sorted pairs happens here.
+/// number, and answers it. The root keeps its base. All growth of a build from sorted pairs happens here.
 #[inline(always)]
 fn give_base<L: Layout, const SLOTS: usize, A: Allocator>(
     table: &mut Table<L, SLOTS, A>,
     node: usize,
     wanted: &[u8],
-) -> Result<(), CedarError>
+) -> Result<usize, CedarError>
     requires { WantsBase SLOTS (fields table.old) node wanted.now }
     ensures sound { IsTable SLOTS (fields table.new).places }
     ensures based { OnOk result (GetsBase (size_of (fields table.old)) (size_of (fields table.new)) (cells table.old) (cells table.new) node wanted.now) }
+    ensures base { IfOk result (λ base. base ≡ base_of (cells table.new) node) }
     ensures refused { IfErr result (λ error. MayRefuse (fields table.new).places SLOTS error) }
     ensures blocks { (n : ℕ) × (n ≤ 1) × OnErr result (n ≡ 0) × (node ≡ 0 → n ≡ 0) × MakesBlocks n (fields table.old) (fields table.new) }
     ensures root_check { (cells table.new).check 0 ≡ (cells table.old).check 0 }
     ensures settings { SameSettings (fields table.old) (fields table.new) }
 {
     if node == 0 {
-        return Ok(());
+        return Ok(0);
     }
     let base = table.place_for(wanted)?;
     table.set_base(node, base);
-    Ok(())
+    Ok(base)
 }
 
 /// Takes the slot for the number of a node that has neither number nor label, and answers it.
@@ -44,16 +47,17 @@ fn give_base<L: Layout, const SLOTS: usize, A: Allocator>(
 fn take_number<L: Layout, const SLOTS: usize, A: Allocator>(
     table: &mut Table<L, SLOTS, A>,
     node: usize,
+    base: usize,
     value: i32,
 ) -> usize
-    requires { WantsNumber SLOTS (fields table.old) node }
+    requires { WantsNumber SLOTS (fields table.old) node base }
     ensures sound { IsTable SLOTS (fields table.new).places }
     ensures gets { GetsNumber (size_of (fields table.old)) (cells table.old) (cells table.new) node (Some value) }
     ensures ends { (l : ℕ) → Ends (size_of (fields table.new)) (cells table.new) node l (Some result) }
     ensures root_check { (cells table.new).check 0 ≡ (cells table.old).check 0 }
     ensures frame { SameFrame (fields table.old) (fields table.new) }
 {
-    let slot = table.child_slot(node, 0);
+    let slot = slot_at(base, 0);
     table.pop_e_node(slot, value, node);
     slot
 }
@@ -64,9 +68,10 @@ fn take_number<L: Layout, const SLOTS: usize, A: Allocator>(
 fn begin_chain<L: Layout, const SLOTS: usize, A: Allocator>(
     table: &mut Table<L, SLOTS, A>,
     node: usize,
+    base: usize,
     number: Option<i32>,
 ) -> Option<usize>
-    requires { WantsChain SLOTS (fields table.old) node number }
+    requires { WantsChain SLOTS (fields table.old) node base number }
     ensures sound { IsTable SLOTS (fields table.new).places }
     ensures gets { GetsNumber (size_of (fields table.old)) (cells table.old) (cells table.new) node number }
     ensures ends { (l : ℕ) → Ends (size_of (fields table.new)) (cells table.new) node l result }
@@ -74,14 +79,14 @@ fn begin_chain<L: Layout, const SLOTS: usize, A: Allocator>(
     ensures frame { SameFrame (fields table.old) (fields table.new) }
 {
     match number {
-        Some(value) => Some(take_number(table, node, value)),
+        Some(value) => Some(take_number(table, node, base, value)),
         None if node == 0 => Some(0),
         None => None,
     }
 }
 
 /// Gives a node that has neither number nor label a slot for its number, if there is one, and ascending labels, each a leaf
-/// without number. All these slots are found at once, and taken in ascending order.
+/// without number. All these slots are found at once, and taken in ascending order. Answers where they begin.
 #[inline(always)]
 fn place_node<L: Layout, const SLOTS: usize, A: Allocator>(
     table: &mut Table<L, SLOTS, A>,
@@ -89,19 +94,20 @@ fn place_node<L: Layout, const SLOTS: usize, A: Allocator>(
     number: Option<i32>,
     wanted: &[u8],
     labels: &[u8],
-) -> Result<(), CedarError>
+) -> Result<usize, CedarError>
     requires { WantsSlots SLOTS (fields table.old) node number wanted.now labels.now }
     ensures sound { IsTable SLOTS (fields table.new).places }
     ensures fills { OnOk result (Fills (size_of (fields table.old)) (size_of (fields table.new)) (cells table.old) (cells table.new) node number labels.now) }
+    ensures base { IfOk result (λ base. base ≡ base_of (cells table.new) node) }
     ensures refused { IfErr result (λ error. MayRefuse (fields table.new).places SLOTS error) }
     ensures blocks { (n : ℕ) × (n ≤ 1) × OnErr result (n ≡ 0) × (node ≡ 0 → n ≡ 0) × MakesBlocks n (fields table.old) (fields table.new) }
     ensures root_check { (cells table.new).check 0 ≡ (cells table.old).check 0 }
     ensures settings { SameSettings (fields table.old) (fields table.new) }
 {
-    give_base(table, node, wanted)?;
-    let before = begin_chain(table, node, number);
-    append_labels(table, node, before, labels);
-    Ok(())
+    let base = give_base(table, node, wanted)?;
+    let before = begin_chain(table, node, base, number);
+    append_labels(table, node, base, before, labels);
+    Ok(base)
 }
 
 /// The number that a node with these labels keeps in its own base field: it has one there if there are no labels and the layout
@@ -116,7 +122,8 @@ fn own_number<L: Layout>(number: Option<i32>, labels: &[u8]) -> Option<i32>
 }
 
 /// Gives a node that has neither number nor label a number, if there is one, and ascending labels, each a leaf without
-/// number. A number without labels stands in the node's own base field, where the layout keeps it there.
+/// number, and answers where their slots begin. A number without labels stands in the node's own base field, where the layout
+/// keeps it there; then no slot follows.
 #[inline(always)]
 pub(crate) fn fill_node<L: Layout, const SLOTS: usize, A: Allocator>(
     table: &mut Table<L, SLOTS, A>,
@@ -124,11 +131,12 @@ pub(crate) fn fill_node<L: Layout, const SLOTS: usize, A: Allocator>(
     number: Option<i32>,
     wanted: &[u8],
     labels: &[u8],
-) -> Result<(), CedarError>
+) -> Result<usize, CedarError>
     requires wants { WantsSlots SLOTS (fields table.old) node number wanted.now labels.now }
     requires value { IfSome number (λ v. is_value v ≡ true) }
     ensures sound { IsTable SLOTS (fields table.new).places }
     ensures fills { OnOk result (Fills (size_of (fields table.old)) (size_of (fields table.new)) (cells table.old) (cells table.new) node number labels.now) }
+    ensures base { IfOk result (λ base. base ≡ base_of (cells table.new) node) }
     ensures own { OnOk result (KeepsOwn L.kind (cells table.new) node number labels.now) }
     ensures refused { IfErr result (λ error. MayRefuse (fields table.new).places SLOTS error) }
     ensures blocks { (n : ℕ) × (n ≤ 1) × OnErr result (n ≡ 0) × (node ≡ 0 → n ≡ 0) × MakesBlocks n (fields table.old) (fields table.new) }
@@ -137,7 +145,7 @@ pub(crate) fn fill_node<L: Layout, const SLOTS: usize, A: Allocator>(
 {
     if let Some(value) = own_number::<L>(number, labels) {
         table.set_own_number(node, value);
-        return Ok(());
+        return Ok(0);
     }
     place_node(table, node, number, wanted, labels)
 }

@@ -5,22 +5,24 @@ ghost use Rattle.std.specs.List.{AllByRecursion};
 ghost use Rattle.cedar_tree.specs.Tree.{empty_tree, Forest, none, Tree};
 ghost use Rattle.cedar_tree.specs.Laws.{ArePathsAscending, ArePathsKeys};
 ghost use Rattle.cedar_tree.specs.Queries.{asc, prefixes, prefixes_forest};
-ghost use Rattle.cedar_slots.specs.declared.error.CedarError.TheVariants.{Memory, SlotLimit};
-ghost use Rattle.cedar_table.specs.declared.layout.Stored.TheVariants.{AtBase};
-ghost use Rattle.cedar_table.specs.Meaning.Family.{base_of};
-ghost use Rattle.cedar_table.specs.Meaning.StandsFor.{HoldsTree, labels};
+ghost use Rattle.cedar_error.specs.declared.error.CedarError.TheVariants.{Memory, SlotLimit};
+ghost use Rattle.cedar_meaning.specs.declared.layout.Stored.TheVariants.{AtBase};
+ghost use Rattle.cedar_meaning.specs.Meaning.Family.{base_of};
+ghost use Rattle.cedar_meaning.specs.Meaning.StandsFor.{HoldsTree, labels};
 ghost use Rattle.cedar_slots.specs.Places.{IsSlotLimit, IsTable, MayRefuse};
 ghost use Rattle.cedar_bulk.specs.Sorted.{entries_by, Fills};
 ghost use Rattle.cedar_bulk.specs.SortedMarks.{KeepsOwn, SortedMarks};
-ghost use Rattle.cedar_table.specs.Meaning.Marks.{marks};
-ghost use Rattle.cedar_bulk.specs.Spans.{Covers, Filling, IsTreeOfSpan, Part, parts_of};
-ghost use Rattle.cedar_table.specs.Edit.Steps.{blocks_after, MakesBlocks, SameModes};
-ghost use Rattle.cedar_table.specs.Table.TableFields.{capacity_of, cells, fields, SameSettings, size_of};
-ghost use Rattle.cedar_table.specs.Meaning.WellFormed.{is_value, IsWellFormed, tree_of};
+ghost use Rattle.cedar_meaning.specs.Meaning.Marks.{marks};
+ghost use Rattle.cedar_bulk.specs.Spans.{Covers, Filling, IsAlike, IsTreeOfSpan, Part, parts_of};
+ghost use Rattle.cedar_meaning.specs.Edit.Steps.{blocks_after, MakesBlocks, SameModes};
+ghost use Rattle.cedar_table.specs.Table.Views.{cells, fields};
+ghost use Rattle.cedar_meaning.specs.Table.TableFields.{capacity_of, SameSettings, size_of};
+ghost use Rattle.cedar_meaning.specs.Meaning.WellFormed.{is_value, IsWellFormed, tree_of};
 ghost use Rattle.cedar_bulk.specs.Asked.{IsUnfilled};
 
+use crate::append::slot_at;
 use crate::fill::fill_node;
-use crate::spans::{Labels, Span, deeper, list_spans, move_spans, number_at};
+use crate::spans::{Labels, Span, are_alike, deeper, list_spans, move_spans, number_at};
 use arrayvec::ArrayVec;
 use cedar_slots::CedarError;
 use cedar_table::{Layout, Table};
@@ -52,20 +54,21 @@ fn fill_span<'a, L: Layout, const SLOTS: usize, A: Allocator, K: AsSlice<u8>>(
     list_spans(wanted, pending, number, below, span.depth)?;
     let listed = wanted.as_slice();
     let (_, labels) = listed.split_at(skipped);
-    fill_node(table, span.node, number, listed, labels)?;
-    move_spans(pending, first, table.base_of(span.node));
+    let base = fill_node(table, span.node, number, listed, labels)?;
+    move_spans(pending, first, base);
     Ok(())
 }
 
 /// Gives the node of a span of one pair what the pair's key has there: its number where the key ends, and else its next label.
-/// Answers the span of that label's child, if there is one.
+/// Pairs that all go on with one label are taken as one. Answers the span of that label's child, if there is one.
 fn fill_alone<'a, L: Layout, const SLOTS: usize, A: Allocator, K: AsSlice<u8>>(
     table: &mut Table<L, SLOTS, A>,
     span: Span<'a, K>,
 ) -> Result<Option<Span<'a, K>>, CedarError>
     requires bare { IsUnfilled SLOTS (fields table.old) span.node }
     requires not_root { span.node ≢ 0 }
-    requires one { length span.pairs.now ≡ 1 }
+    requires some { 0 < length span.pairs.now }
+    requires alike { IsAlike span.depth (entries_by K.items span.pairs.now) }
     requires tree { (t : Tree) × IsTreeOfSpan span.depth (entries_by K.items span.pairs.now) t }
     ensures sound { IsTable SLOTS (fields table.new).places }
     ensures fills { OnOk result ((t : Tree) → IsTreeOfSpan span.entry.depth (entries_by K.items span.entry.pairs.now) t → Fills (size_of (fields table.old)) (size_of (fields table.new)) (cells table.old) (cells table.new) span.entry.node t.number (labels t.children)) }
@@ -83,9 +86,9 @@ fn fill_alone<'a, L: Layout, const SLOTS: usize, A: Allocator, K: AsSlice<u8>>(
         return Ok(None);
     }
     let labels = [key[span.depth]];
-    fill_node(table, span.node, None, &labels, &labels)?;
+    let base = fill_node(table, span.node, None, &labels, &labels)?;
     Ok(Some(Span {
-        node: table.child_slot(span.node, labels[0]),
+        node: slot_at(base, labels[0]),
         depth: deeper(key, span.depth),
         pairs: span.pairs,
     }))
@@ -112,7 +115,7 @@ fn fill_next<'a, L: Layout, const SLOTS: usize, A: Allocator, K: AsSlice<u8>>(
     ensures root_check { (cells table.new).check 0 ≡ (cells table.old).check 0 }
     ensures settings { SameSettings (fields table.old) (fields table.new) }
 {
-    if span.pairs.len() == 1 {
+    if are_alike(span.pairs, span.depth) {
         if let Some(child) = fill_alone(table, span)? {
             return Ok(Some(child));
         }

@@ -1,10 +1,10 @@
 //! Sorted pairs that go on below one node, and what they say of its number and its labels.
 
 ghost use Rattle.std.specs.Prelude.{◌≡◌, ◌↔◌, ◌<◌, ◌≤◌, ◌+◌, ◌++◌, ℕ, List, [], drop, get_or, IsTrue, length, map, OnOk, take};
-ghost use Rattle.cedar_tree.specs.Tree.{Forest, none};
-ghost use Rattle.cedar_table.specs.Meaning.StandsFor.{labels};
+ghost use Rattle.cedar_tree.specs.Tree.{Forest, none, Tree};
+ghost use Rattle.cedar_meaning.specs.Meaning.StandsFor.{labels};
 ghost use Rattle.cedar_bulk.specs.Sorted.{entries_by, run, with_number};
-ghost use Rattle.cedar_bulk.specs.Spans.{based_at, Covers, first_label, first_number, IsDeeper, Lists, Part, parts_of};
+ghost use Rattle.cedar_bulk.specs.Spans.{based_at, Covers, first_label, first_number, IsAlike, IsDeeper, IsTreeOfSpan, Lists, Part, parts_of};
 
 use arrayvec::ArrayVec;
 use std::alloc::{AllocError, Allocator};
@@ -73,8 +73,8 @@ fn run_between<K: AsSlice<u8>>(
     low
 }
 
-/// How many of the first pairs have the label of the first one. Most are few, so the end is looked for near the front: in steps
-/// that double, and then by halves.
+/// How many of the first pairs have the label of the first one. Often that is all of them, or one. Else the end is looked for near
+/// the front: in steps that double, and then by halves.
 fn run_length<K: AsSlice<u8>>(pairs: &[(K, i32)], depth: usize, label: u8) -> usize
     requires lists { (f : Forest) × Lists depth (entries_by K.items pairs.now) f }
     requires first { first_label depth (entries_by K.items pairs.now) ≡ label }
@@ -83,14 +83,46 @@ fn run_length<K: AsSlice<u8>>(pairs: &[(K, i32)], depth: usize, label: u8) -> us
     ensures some { 0 < result }
     ensures within { result ≤ length pairs.now }
 {
-    let mut low = 1;
-    while low < pairs.len() - low {
+    let last = pairs.len() - 1;
+    if has_first_label(pairs, depth, label, last) {
+        return pairs.len();
+    }
+    if !has_first_label(pairs, depth, label, 1) {
+        return 1;
+    }
+    let mut low = 2;
+    while low < last - low {
         if !has_first_label(pairs, depth, label, low + low) {
             return run_between(pairs, depth, label, low, low + low);
         }
         low += low + 1;
     }
-    run_between(pairs, depth, label, low, pairs.len())
+    run_between(pairs, depth, label, low, last)
+}
+
+/// Whether no pair ends here and all go on with one label.
+fn go_on_alike<K: AsSlice<u8>>(pairs: &[(K, i32)], depth: usize) -> bool
+    requires some { 0 < length pairs.now }
+    requires tree { (t : Tree) × IsTreeOfSpan depth (entries_by K.items pairs.now) t }
+    ensures { IsTrue result → IsDeeper depth (entries_by K.items pairs.now) × (run depth (first_label depth (entries_by K.items pairs.now)) (entries_by K.items pairs.now) ≡ length (entries_by K.items pairs.now)) }
+{
+    let key = pairs[0].0.as_slice();
+    if key.len() <= depth {
+        return false;
+    }
+    has_first_label(pairs, depth, key[depth], pairs.len() - 1)
+}
+
+/// Whether there is one pair, or no pair ends here and all go on with one label.
+pub(crate) fn are_alike<K: AsSlice<u8>>(pairs: &[(K, i32)], depth: usize) -> bool
+    requires some { 0 < length pairs.now }
+    requires tree { (t : Tree) × IsTreeOfSpan depth (entries_by K.items pairs.now) t }
+    ensures { IsTrue result → IsAlike depth (entries_by K.items pairs.now) }
+{
+    if pairs.len() == 1 {
+        return true;
+    }
+    go_on_alike(pairs, depth)
 }
 
 /// The number of the first pair, if its key has no byte behind its first `depth` ones.

@@ -148,6 +148,41 @@ static void sorted_pairs(void) {
     cedar_free(&other);
 }
 
+/* A dictionary of the reduced layout answers the same, takes fewer slots, and has files of its own. */
+static void reduced_layout(void) {
+    cedar d = CEDAR_CLOSED, other = CEDAR_CLOSED;
+    const cedar_pair pairs[] = {{bytes_of("net"), 3, 7}, {bytes_of("network"), 7, CEDAR_MAX_VALUE}, {bytes_of("nor"), 3, 0}};
+    static uint8_t file[1 << 14];
+    cedar_match matches[3];
+    cedar_found found[4];
+    size_t position = 77, needed, next = 0;
+    int32_t value;
+    CHECK(!cedar_is_reduced(&d) && cedar_new(&d) == CEDAR_OK && !cedar_is_reduced(&d));
+    CHECK(cedar_new_reduced(&d, true, 0) == CEDAR_INVALID_MAX_TRIAL && !cedar_is_reduced(&d));
+    CHECK(cedar_new_reduced(&d, true, 1) == CEDAR_OK && cedar_is_reduced(&d) && cedar_capacity(&d) == 256);
+    CHECK(cedar_update(&d, pairs[0].key, 3, 7, &position) == CEDAR_OK && cedar_used_slots(&d) == 1 + 3);
+    CHECK(cedar_update(&d, pairs[1].key, 7, CEDAR_MAX_VALUE, &position) == CEDAR_OK && cedar_used_slots(&d) == 1 + 7 + 1);
+    CHECK(cedar_update(&d, pairs[2].key, 3, CEDAR_MAX_VALUE + 1, &position) == CEDAR_INVALID_VALUE && cedar_len(&d) == 2);
+    CHECK(cedar_get(&d, pairs[1].key, 7, &value) && value == CEDAR_MAX_VALUE && !cedar_get(&d, pairs[1].key, 4, &value));
+    CHECK(cedar_prefixes(&d, pairs[1].key, 7, matches, 3) == 2 && matches[0].value == 7 && matches[1].value == CEDAR_MAX_VALUE);
+    CHECK(cedar_segment(&d, bytes_of("a net"), 5, &next, found, 4) == 3 && next == 5 && found[2].place == 2 && found[2].value == 7);
+    CHECK(cedar_save(&d, false, file, sizeof file, &needed) == CEDAR_OK && file[13] == 1);
+    CHECK(cedar_new(&other) == CEDAR_OK && cedar_load(&other, file, needed, CEDAR_LOAD_LIMIT) == CEDAR_FILE_LAYOUT && !cedar_is_reduced(&other));
+    CHECK(cedar_load_reduced(&other, file, needed, CEDAR_LOAD_LIMIT) == CEDAR_OK && cedar_is_reduced(&other) && cedar_len(&other) == 2);
+    CHECK(cedar_load_reduced(&other, file, needed - 1, CEDAR_LOAD_LIMIT) == CEDAR_FILE_TRUNCATED && cedar_len(&other) == 2);
+    CHECK(cedar_build_reduced(&d, true, 0, pairs, 3, &position) == CEDAR_INVALID_MAX_TRIAL && cedar_len(&d) == 2);
+    CHECK(cedar_build_reduced(&d, true, 1, pairs + 1, 3 - 2, &position) == CEDAR_OK && cedar_is_reduced(&d) && cedar_used_slots(&d) == 1 + 7);
+    CHECK(cedar_build_reduced(&d, true, 1, pairs, 3, &position) == CEDAR_OK && cedar_len(&d) == 3 && cedar_used_slots(&d) == 1 + 9 + 1);
+    CHECK(cedar_build(&other, true, 1, pairs, 3, &position) == CEDAR_OK && !cedar_is_reduced(&other) && cedar_used_slots(&other) == 1 + 9 + 3);
+    CHECK(cedar_predictions(&d, bytes_of("n"), 1, matches, 3) == 3 && matches[2].value == 0);
+    CHECK(cedar_erase(&d, pairs[0].key, 3) && !cedar_get(&d, pairs[0].key, 3, &value) && cedar_len(&d) == 2);
+    CHECK(cedar_save(&other, true, file, sizeof file, &needed) == CEDAR_OK && file[13] == 0);
+    CHECK(cedar_load_reduced(&d, file, needed, CEDAR_LOAD_LIMIT) == CEDAR_FILE_LAYOUT && cedar_len(&d) == 2 && cedar_is_reduced(&d));
+    cedar_free(&d);
+    cedar_free(&other);
+    CHECK(!cedar_is_reduced(&d));
+}
+
 static void walks_in_pieces(void) {
     cedar d = CEDAR_CLOSED;
     const cedar_pair pairs[] = {{bytes_of("a"), 1, 1}, {bytes_of("ab"), 2, 2}, {bytes_of("abcd"), 4, 3}, {bytes_of("abd"), 3, 4}, {bytes_of("b"), 1, 5}};
@@ -214,11 +249,12 @@ static void whole_texts(void) {
     cedar_free(&d);
 }
 
-static void random_calls(void) {
+static void random_calls(bool is_reduced) {
     static int32_t plain[PLACES]; /* a value and 1, or 0 */
     size_t held = 0, position;
     cedar d = CEDAR_CLOSED;
-    CHECK(cedar_new(&d) == CEDAR_OK);
+    CHECK((is_reduced ? cedar_new_reduced(&d, true, 1) : cedar_new(&d)) == CEDAR_OK);
+    memset(plain, 0, sizeof plain);
     for (int i = 0; i < 100000; i++) {
         uint8_t key[4];
         size_t length = random_key(key), place = place_of(key, length);
@@ -305,7 +341,9 @@ int main(int count, char **arguments) {
     sorted_pairs();
     walks_in_pieces();
     whole_texts();
-    random_calls();
+    random_calls(false);
+    random_calls(true);
+    reduced_layout();
     if (count > 1) {
         times((uint32_t)atol(arguments[1]));
         text_times();

@@ -13,8 +13,10 @@ namespace {
 
 class Cedar {
 public:
-    Cedar() {
-        if (cedar_new(&inside) != CEDAR_OK) throw std::bad_alloc();
+    enum class Layout { standard, reduced };
+
+    explicit Cedar(Layout layout = Layout::standard) {
+        if ((layout == Layout::reduced ? cedar_new_reduced(&inside, true, 1) : cedar_new(&inside)) != CEDAR_OK) throw std::bad_alloc();
     }
     ~Cedar() { cedar_free(&inside); }
     Cedar(const Cedar &) = delete;
@@ -42,6 +44,7 @@ public:
         return value;
     }
     std::size_t size() { return cedar_len(&inside); }
+    bool is_reduced() { return cedar_is_reduced(&inside); }
 
 private:
     // A string_view's pointer may be null where it is empty.
@@ -57,10 +60,9 @@ std::string random_key() {
     return key;
 }
 
-} // namespace
-
-int main() {
-    Cedar first;
+void random_calls(Cedar::Layout layout) {
+    Cedar first(layout);
+    CHECK(first.is_reduced() == (layout == Cedar::Layout::reduced));
     std::map<std::string, std::int32_t> plain;
     for (int i = 0; i < 100000; i++) {
         std::string key = random_key();
@@ -86,5 +88,12 @@ int main() {
     } catch (const std::invalid_argument &e) {
         CHECK(std::string(e.what()) == "byte 0 at 1");
     }
+}
+
+} // namespace
+
+int main() {
+    random_calls(Cedar::Layout::standard);
+    random_calls(Cedar::Layout::reduced);
     std::puts("ok");
 }

@@ -73,7 +73,7 @@ int main(void) {
     for (long budget = 0; budget < 60; budget++) {
         cedar d = CEDAR_CLOSED;
         left = budget;
-        if (cedar_new(&d) == CEDAR_OK) {
+        if ((budget % 2 ? cedar_new_reduced(&d, true, 1) : cedar_new(&d)) == CEDAR_OK) {
             int32_t stored = fill(&d), value;
             uint8_t key[3];
             refused_update += stored < KEYS;

@@ -1,16 +1,17 @@
 -- What a load tells of a file.
-use Rattle.std.proofs.Common.{◌≡◌, ℕ, inl, inr, List, take, Option, None, Some, IfOk, IfSome, MatchOption, Result, Ok, Err, refl, ap}
+use Rattle.std.proofs.Common.{arith, ◌≡◌, ◌≢◌, ℕ, inl, inr, List, take, Option, None, Some, IfSome, MatchOption, Result, Ok, Err, refl, ap, ◌∙◌}
 use Rattle.std.specs.Prelude.{◌⊎◌}
-use Rattle.cedar_table.specs.Table.Layouts.{default_layout}
-use Rattle.cedar_table.specs.Table.TableFields.{Fields}
+use Rattle.cedar_meaning.specs.Table.Layouts.{LayoutKind, layout_byte}
+use Rattle.cedar_meaning.specs.Table.TableFields.{Fields}
 use Rattle.cedar_format.specs.declared.error.CedarPersistenceError.{CedarPersistenceError}
 use Rattle.cedar_format.specs.declared.error.CedarPersistenceError.TheVariants as errors
 use Rattle.cedar_format.specs.Format.{header_answer, header_at}
 use Rattle.cedar_format.specs.declared.header.Header.{Header}
-use Rattle.cedar_format.specs.Reading.{LacksTable}
+use Rattle.cedar_format.specs.Reading.{IsIo, LacksTable}
 use Rattle.cedar_format.specs.Refusal.{Refusal, refusal_of}
 use Rattle.cedarwood.specs.Loading.{IsDecided, LoadAnswers}
-use Rattle.cedar_c.specs.Files.{file_status, IsFileOf}
+use Rattle.cedar_format.specs.Tables.{IsTableFile}
+use Rattle.cedar_c.specs.Files.{file_status, TellsHeader}
 
 none_some : {X : Type 0} (x : X) → ◌≡◌ {A = Option X} None (Some x) → ⊥
 none_some x h = cc
@@ -20,22 +21,25 @@ pub always : {X : Type 0} (o : Option X) (P : X → Type 0) → ((x : X) → P x
 always None P h = tt
 always (Some x) P h = h x
 
-module _ {X : Type 0} (table : X → Fields) (limit : ℕ) (bytes : List ℕ) where
+module _ {X : Type 0} (table : X → Fields) (kind : LayoutKind) (slots limit : ℕ) (bytes : List ℕ) where
+  abbrev pub IsFile : X → Type 0
+  IsFile x = (version : ℕ) × IsTableFile version slots (table x) bytes
+
   -- a file that was loaded is that of the table
-  pub loaded_bytes : (x : X) → LoadAnswers table default_layout 1073741824 limit bytes (Ok x) → IsFileOf (table x) bytes
+  pub loaded_bytes : (x : X) → LoadAnswers table kind slots limit bytes (Ok x) → IsFile x
   loaded_bytes x (inl lacks) = absurd lacks.0
-  loaded_bytes x (inr told) = of (header_answer 0 1073741824 limit bytes) told
+  loaded_bytes x (inr told) = of (header_answer (layout_byte kind) slots limit bytes) told
     where
-      of : (o : Option Refusal) → MatchOption o (IsFileOf (table x) bytes) (λ r. ◌≡◌ {A = Option Refusal} None (Some r)) → IsFileOf (table x) bytes
+      of : (o : Option Refusal) → MatchOption o (IsFile x) (λ r. ◌≡◌ {A = Option Refusal} None (Some r)) → IsFile x
       of None file = file
       of (Some r) is = absurd (none_some r is)
 
   -- and its header isn't refused
-  pub loaded_header : (P : Refusal → Type 0) (x : X) → LoadAnswers table default_layout 1073741824 limit bytes (Ok x) → IfSome (header_answer 0 1073741824 limit bytes) P
+  pub loaded_header : (P : Refusal → Type 0) (x : X) → LoadAnswers table kind slots limit bytes (Ok x) → IfSome (header_answer (layout_byte kind) slots limit bytes) P
   loaded_header P x (inl lacks) = absurd lacks.0
-  loaded_header P x (inr told) = of (header_answer 0 1073741824 limit bytes) told
+  loaded_header P x (inr told) = of (header_answer (layout_byte kind) slots limit bytes) told
     where
-      of : (o : Option Refusal) → MatchOption o (IsFileOf (table x) bytes) (λ r. ◌≡◌ {A = Option Refusal} None (Some r)) → IfSome o P
+      of : (o : Option Refusal) → MatchOption o (IsFile x) (λ r. ◌≡◌ {A = Option Refusal} None (Some r)) → IfSome o P
       of None file = tt
       of (Some r) is = absurd (none_some r is)
 
@@ -53,39 +57,37 @@ module _ {X : Type 0} (table : X → Fields) (limit : ℕ) (bytes : List ℕ) wh
   lack_is_memory h errors.TrailingData lacks = absurd lacks
 
   -- a refused header is told by its number, unless memory was wanted
-  pub refused_header : (e : CedarPersistenceError) → LoadAnswers table default_layout 1073741824 limit bytes (Err e)
-      → IfSome (header_answer 0 1073741824 limit bytes) (λ r. (file_status (refusal_of e) ≡ file_status r) ⊎ (file_status (refusal_of e) ≡ 2))
-  refused_header e (inl lacks) = always (header_answer 0 1073741824 limit bytes) (λ r. (file_status (refusal_of e) ≡ file_status r) ⊎ (file_status (refusal_of e) ≡ 2)) (λ r. inr (lack_is_memory (header_at (take 88 bytes)) e lacks.0))
-  refused_header e (inr told) = of (header_answer 0 1073741824 limit bytes) told
+  pub refused_header : (e : CedarPersistenceError) → LoadAnswers table kind slots limit bytes (Err e)
+      → IfSome (header_answer (layout_byte kind) slots limit bytes) (λ r. (file_status (refusal_of e) ≡ file_status r) ⊎ (file_status (refusal_of e) ≡ 2))
+  refused_header e (inl lacks) = always (header_answer (layout_byte kind) slots limit bytes) (λ r. (file_status (refusal_of e) ≡ file_status r) ⊎ (file_status (refusal_of e) ≡ 2)) (λ r. inr (lack_is_memory (header_at (take 88 bytes)) e lacks.0))
+  refused_header e (inr told) = of (header_answer (layout_byte kind) slots limit bytes) told
     where
-      of : (o : Option Refusal) → MatchOption o (IsDecided table 1073741824 bytes (Err e)) (λ r. ◌≡◌ {A = Option Refusal} (Some (refusal_of e)) (Some r)) → IfSome o (λ r. (file_status (refusal_of e) ≡ file_status r) ⊎ (file_status (refusal_of e) ≡ 2))
+      of : (o : Option Refusal) → MatchOption o (IsDecided table slots bytes (Err e)) (λ r. ◌≡◌ {A = Option Refusal} (Some (refusal_of e)) (Some r)) → IfSome o (λ r. (file_status (refusal_of e) ≡ file_status r) ⊎ (file_status (refusal_of e) ≡ 2))
       of None decided = tt
       of (Some r) is = let same : refusal_of e ≡ r = cc in inl (ap file_status same)
 
-pub if_ok_then : {T E : Type 0} (P Q : T → Type 0) (r : Result T E) → ((x : T) → P x → Q x) → IfOk r P → IfOk r Q
-if_ok_then P Q (Ok x) h p = h x p
-if_ok_then P Q (Err e) h p = tt
+-- a refused header's number is what is told
+pub told_status : (o : Option Refusal) (e : CedarPersistenceError) (n : ℕ) → n ≡ file_status (refusal_of e)
+    → IfSome o (λ r. (file_status (refusal_of e) ≡ file_status r) ⊎ (file_status (refusal_of e) ≡ 2)) → IfSome o (λ r. TellsHeader r n)
+told_status None e n is h = tt
+told_status (Some r) e n is (inl same) = inl (is ∙ same)
+told_status (Some r) e n is (inr two) = inr (is ∙ two)
 
--- a header's refusal, or want of memory, or a fault of the reading, is what a call answers
-abbrev pub IsHeaderStatus : {T : Type 0} → Result T ℕ → Refusal → Type 0
-IsHeaderStatus result r = (result ≡ Err (file_status r)) ⊎ (result ≡ Err 2) ⊎ (result ≡ Err 29)
+-- where a refusal can't be, there is none
+pub none_refused : {X : Type 0} (o : Option X) (P : X → Type 0) → IfSome o (λ _. ⊥) → IfSome o P
+none_refused None P h = tt
+none_refused (Some x) P h = absurd h
 
-pub told_status : (T : Type 0) (o : Option Refusal) (e : CedarPersistenceError) (n : ℕ) → n ≡ file_status (refusal_of e)
-    → IfSome o (λ r. (file_status (refusal_of e) ≡ file_status r) ⊎ (file_status (refusal_of e) ≡ 2)) → IfSome o (IsHeaderStatus {T = T} (Err n))
-told_status T None e n is h = tt
-told_status T (Some r) e n is (inl same) = let told : n ≡ file_status r = cc in inl cc
-told_status T (Some r) e n is (inr two) = let told : n ≡ 2 = cc in inr (inl cc)
-
-pub status_of_err : {T : Type 0} (o : Option Refusal) (result : Result T ℕ) (n : ℕ) → result ≡ Err n → IfSome o (IsHeaderStatus result)
-    → IfSome o (λ r. (n ≡ file_status r) ⊎ (n ≡ 2) ⊎ (n ≡ 29))
-status_of_err None result n is h = tt
-status_of_err (Some r) result n is (inl a) = inl cc
-status_of_err (Some r) result n is (inr (inl a)) = inr (inl cc)
-status_of_err (Some r) result n is (inr (inr a)) = inr (inr cc)
-
-pub status_of_ok : {T : Type 0} (o : Option Refusal) (result : Result T ℕ) (x : T) → result ≡ Ok x → IfSome o (IsHeaderStatus result)
-    → IfSome o (λ r. (◌≡◌ {A = ℕ} 0 (file_status r)) ⊎ (◌≡◌ {A = ℕ} 0 2) ⊎ (◌≡◌ {A = ℕ} 0 29))
-status_of_ok None result x is h = tt
-status_of_ok (Some r) result x is (inl a) = absurd cc
-status_of_ok (Some r) result x is (inr (inl a)) = absurd cc
-status_of_ok (Some r) result x is (inr (inr a)) = absurd cc
+-- only a fault of the reading has the number 29
+pub read_status : (e : CedarPersistenceError) → (IsIo e → ⊥) → file_status (refusal_of e) ≢ 29
+read_status (errors.Io cause) fine = absurd (fine tt)
+read_status errors.Truncated fine = λ h. omega (arith, h)
+read_status errors.InvalidMagic fine = λ h. omega (arith, h)
+read_status (errors.UnsupportedVersion major minor) fine = λ h. omega (arith, h)
+read_status (errors.UnsupportedByteOrder order) fine = λ h. omega (arith, h)
+read_status (errors.LayoutMismatch expected found) fine = λ h. omega (arith, h)
+read_status (errors.InvalidHeader field value) fine = λ h. omega (arith, h)
+read_status (errors.AllocationLimitExceeded requested limit) fine = λ h. omega (arith, h)
+read_status (errors.AllocationFailed n) fine = λ h. omega (arith, h)
+read_status (errors.CorruptData section index reason) fine = λ h. omega (arith, h)
+read_status errors.TrailingData fine = λ h. omega (arith, h)

@@ -2,8 +2,8 @@
 use Rattle.std.proofs.Common.{◌≡◌, ◌⊎◌, inl, ℕ, ◌≤◌, List, [], ◌∷◌, length, map, take, Option, Some, None, IsSome, IfSome, IfErr, OnOk, Result, Ok, Err, refl, sym, ap, ◌∙◌, arith}
 use Rattle.std.proofs.lemmas.List.{take_all}
 use Rattle.cedar_tree.specs.Queries.{Entry}
-use Rattle.cedar_slots.specs.declared.error.CedarError.{CedarError}
-use Rattle.cedar_slots.specs.declared.error.CedarError.TheVariants.{Memory}
+use Rattle.cedar_error.specs.declared.error.CedarError.{CedarError}
+use Rattle.cedar_error.specs.declared.error.CedarError.TheVariants.{Memory}
 use Rattle.cedar_bulk.specs.Sorted.{entries_of}
 use Rattle.cedarwood.specs.Builds.{all_stored, IsRefusedBuild}
 use Rattle.cedarwood.specs.Dictionary.{Dictionary}
@@ -15,10 +15,10 @@ pub entries_taken : (pairs : List Pair) → entries_of (map taken_pair pairs) �
 entries_taken [] = refl
 entries_taken (p ∷ ps) = ap (λ es. (p.key.now, p.value) ∷ es) (entries_taken ps)
 
-module _ (before after : Dictionary) (es : List Entry) where
+module _ (slots : ℕ) (before after : Dictionary) (es : List Entry) where
   -- a front of the pairs is stored
   pub front_stored : (o : Option CedarError) (result : Result (Unit {0}) CedarError)
-      → (IsSome o → after ≡ before) → OnOk result (after.state ≡ all_stored before.state es) → (o ≡ None → IfErr result (IsRefusedBuild 1073741824 before after es))
+      → (IsSome o → after ≡ before) → OnOk result (after.state ≡ all_stored before.state es) → (o ≡ None → IfErr result (IsRefusedBuild slots before after es))
       → (m : ℕ) × (m ≤ length es) × (after.state ≡ all_stored before.state (take m es))
   front_stored (Some f) result same ok err = (0, omega arith, ap (λ (d : Dictionary). d.state) (same refl))
   front_stored None (Ok x) same ok err =
@@ -32,7 +32,7 @@ module _ (before after : Dictionary) (es : List Entry) where
   faulty_keeps None result same is = tt
   faulty_keeps (Some f) result same is = (inl is, same refl)
 
-  pub refused_shortage : (result : Result (Unit {0}) CedarError) → IfErr result (IsRefusedBuild 1073741824 before after es) → IfErr result IsShortage
+  pub refused_shortage : (result : Result (Unit {0}) CedarError) → IfErr result (IsRefusedBuild slots before after es) → IfErr result IsShortage
   refused_shortage (Ok x) h = tt
   refused_shortage (Err e) h = h.shortage
 

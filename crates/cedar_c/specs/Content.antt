@@ -1,33 +1,40 @@
 -- What a handle has.
 use Rattle.std.specs.Prelude.{ℕ, ℤ, Option, None, Some, option_map}
+use Rattle.cedar_meaning.specs.Table.Layouts.{LayoutKind}
 use Rattle.cedarwood.specs.Dictionary.{Dictionary}
 use Rattle.cedarwood.specs.State.{State}
 use Rattle.cedarwood.specs.Tree.{Tree, empty_tree}
+use Rattle.cedar_c.specs.Layouts.{dictionary_in, layout_of}
+use Rattle.cedar_c.specs.declared.any.AnyCedar.{AnyCedar}
 use Rattle.cedar_c.specs.declared.handle.Handle.{Handle}
 
--- its dictionary, or none where it is closed
-abbrev pub content : Handle → Option Dictionary
+-- its dictionary, of either layout, or none where it is closed
+abbrev pub content : Handle → Option AnyCedar
 content h = h.held.value
+
+-- the layout that the dictionary was made with
+abbrev pub layout_in : Handle → Option LayoutKind
+layout_in h = option_map layout_of (content h)
 
 -- the dictionary's state
 abbrev pub state_in : Handle → Option State
-state_in h = option_map (λ d. d.state) (content h)
+state_in h = option_map (λ a. (dictionary_in a).state) (content h)
 
 -- how many failed searches close a block of it
 abbrev pub trials_in : Handle → Option ℤ
-trials_in h = option_map (λ d. d.max_trial) (content h)
+trials_in h = option_map (λ a. (dictionary_in a).max_trial) (content h)
 
-abbrev pub tree_of : Option Dictionary → Tree
+abbrev pub tree_of : Option AnyCedar → Tree
 tree_of None = empty_tree
-tree_of (Some d) = d.state.tree
+tree_of (Some a) = (dictionary_in a).state.tree
 
 -- the tree that answers come from. A closed handle answers as one that holds no key
 abbrev pub tree_in : Handle → Tree
 tree_in h = tree_of (content h)
 
-abbrev figure : (Dictionary → ℕ) → Option Dictionary → ℕ
+abbrev figure : (Dictionary → ℕ) → Option AnyCedar → ℕ
 figure f None = 0
-figure f (Some d) = f d
+figure f (Some a) = f (dictionary_in a)
 
 -- a figure, which is 0 of a closed handle
 abbrev pub figure_of : (Dictionary → ℕ) → Handle → ℕ

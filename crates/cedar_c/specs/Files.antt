@@ -1,6 +1,6 @@
 -- What a file's bytes are of, and the numbers that a refused one is answered by.
-use Rattle.std.specs.Prelude.{ℕ, Bool, true, false, List}
-use Rattle.cedar_table.specs.Table.TableFields.{Fields}
+use Rattle.std.specs.Prelude.{◌≡◌, ◌⊎◌, ℕ, Bool, true, false, List}
+use Rattle.cedar_meaning.specs.Table.TableFields.{Fields}
 use Rattle.cedar_format.specs.Tables.{IsTableFile}
 use Rattle.cedar_format.specs.Refusal.{Refusal, Truncated, InvalidMagic, UnsupportedVersion, UnsupportedByteOrder, LayoutMismatch, InvalidHeader, AllocationLimitExceeded, AllocationFailed, CorruptData, TrailingData, Failed}
 
@@ -20,6 +20,10 @@ file_status (AllocationFailed requested) = 2
 file_status CorruptData = 27
 file_status TrailingData = 28
 file_status Failed = 29
+
+-- where the header is refused: the number of that refusal, or of want of memory
+abbrev pub TellsHeader : Refusal → ℕ → Type 0
+TellsHeader r status = (status ≡ file_status r) ⊎ (status ≡ 2)
 
 -- which version's file a save writes: format 1.0, which lists all slots and blocks, or 1.1
 abbrev pub minor_of : Bool → ℕ

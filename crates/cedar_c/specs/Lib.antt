@@ -1,5 +1,6 @@
 pub mod Content
 pub mod Files
+pub mod Layouts
 pub mod Matches
 pub mod Ownership
 pub mod Pairs

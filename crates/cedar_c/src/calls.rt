@@ -4,32 +4,37 @@ ghost use Rattle.std.specs.Prelude.{◌≡◌, ◌⊎◌, ◌-◌, ◌*◌, ◌^
 ghost use Rattle.cedarwood.specs.Fault.{fault};
 ghost use Rattle.cedarwood.specs.State.{stored, erased};
 ghost use Rattle.cedarwood.specs.Tree.{empty_tree, number_at};
-ghost use Rattle.cedar_c.specs.Content.{content, state_in, tree_in, trials_in, size_in, capacity_in};
+ghost use Rattle.cedar_meaning.specs.Table.Layouts.{default_layout, reduced_layout};
+ghost use Rattle.cedar_c.specs.Content.{content, layout_in, state_in, tree_in, trials_in, size_in, capacity_in};
+ghost use Rattle.cedar_c.specs.Layouts.{dictionary_in, layout_if, layout_of};
 ghost use Rattle.cedar_c.specs.Status.{status_of, position_of};
 
+use crate::any::AnyCedar;
 use crate::handle::Handle;
 use crate::status::{CLOSED, INVALID_MAX_TRIAL, MEMORY, OK, tell};
-use cedarwood::{Cedar, CedarBuilder};
+use cedarwood::CedarBuilder;
 use std::alloc::Global;
 
 /// An empty dictionary with these settings on the heap.
-fn make(alloc: Global, settings: CedarBuilder) -> Option<Box<Cedar<Global>, Global>>
-    ensures state { IfSome result (λ b. b.value.state ≡ record { tree = empty_tree; ordered = settings.ordered }) }
-    ensures max_trial { IfSome result (λ b. b.value.max_trial ≡ settings.max_trial) }
-    ensures size { IfSome result (λ b. (b.value.size ≡ 256) × (b.value.capacity ≡ 256)) }
+fn make(alloc: Global, is_reduced: bool, settings: CedarBuilder) -> Option<Box<AnyCedar, Global>>
+    ensures state { IfSome result (λ b. (dictionary_in b.value).state ≡ record { tree = empty_tree; ordered = settings.ordered }) }
+    ensures max_trial { IfSome result (λ b. (dictionary_in b.value).max_trial ≡ settings.max_trial) }
+    ensures size { IfSome result (λ b. ((dictionary_in b.value).size ≡ 256) × ((dictionary_in b.value).capacity ≡ 256)) }
+    ensures layout { IfSome result (λ b. layout_of b.value ≡ layout_if is_reduced) }
 {
-    let cedar = settings.build(alloc).ok()?;
+    let cedar = AnyCedar::new(alloc, is_reduced, settings)?;
     Box::new(alloc, cedar).ok()
 }
 
 /// Opens a handle with an empty dictionary of these settings.
-fn renew(handle: &mut Handle, alloc: Global, settings: CedarBuilder) -> u32
+fn renew(handle: &mut Handle, alloc: Global, is_reduced: bool, settings: CedarBuilder) -> u32
     ensures made { result ≡ 0 → state_in handle.new ≡ Some (record { tree = empty_tree; ordered = settings.ordered }) }
     ensures max_trial { result ≡ 0 → trials_in handle.new ≡ Some settings.max_trial }
     ensures size { result ≡ 0 → (size_in handle.new ≡ 256) × (capacity_in handle.new ≡ 256) }
+    ensures layout { result ≡ 0 → layout_in handle.new ≡ Some (layout_if is_reduced) }
     ensures refused { (result ≡ 0) ⊎ ((result ≡ 2) × (content handle.new ≡ content handle.old)) }
 {
-    match make(alloc, settings) {
+    match make(alloc, is_reduced, settings) {
         Some(cedar) => {
             let _ = handle.take(alloc);
             *handle = Handle::of(cedar);
@@ -48,9 +53,10 @@ pub extern "C" fn cedar_new(handle: &mut Handle, alloc: Global) -> u32
     ensures made { result ≡ 0 → state_in handle.new ≡ Some (record { tree = empty_tree; ordered = true }) }
     ensures max_trial { result ≡ 0 → trials_in handle.new ≡ Some (pos 1) }
     ensures size { result ≡ 0 → (size_in handle.new ≡ 256) × (capacity_in handle.new ≡ 256) }
+    ensures layout { result ≡ 0 → layout_in handle.new ≡ Some default_layout }
     ensures refused { (result ≡ 0) ⊎ ((result ≡ 2) × (content handle.new ≡ content handle.old)) }
 {
-    renew(handle, alloc, CedarBuilder::new())
+    renew(handle, alloc, false, CedarBuilder::new())
 }
 
 /// As `cedar_new`, with settings: whether the labels of each node ascend, and how many failed searches for a place close a block.
@@ -67,11 +73,51 @@ pub extern "C" fn cedar_new_with(
     ensures made { result ≡ 0 → state_in handle.new ≡ Some (record { tree = empty_tree; ordered = ordered }) }
     ensures max_trial { result ≡ 0 → trials_in handle.new ≡ Some max_trial }
     ensures size { result ≡ 0 → (size_in handle.new ≡ 256) × (capacity_in handle.new ≡ 256) }
+    ensures layout { result ≡ 0 → layout_in handle.new ≡ Some default_layout }
+    ensures invalid { (result ≡ 7) ↔ (max_trial <ℤ pos 1) }
+    ensures refused { (result ≡ 0) ⊎ (((result ≡ 7) ⊎ (result ≡ 2)) × (content handle.new ≡ content handle.old)) }
+{
+    renew_with(handle, alloc, false, ordered, max_trial)
+}
+
+/// As `cedar_new_with`, of the reduced layout, which takes fewer slots.
+///
+/// # Errors
+/// As `cedar_new_with`.
+#[unsafe(no_mangle)]
+pub extern "C" fn cedar_new_reduced(
+    handle: &mut Handle,
+    alloc: Global,
+    ordered: bool,
+    max_trial: i32,
+) -> u32
+    ensures made { result ≡ 0 → state_in handle.new ≡ Some (record { tree = empty_tree; ordered = ordered }) }
+    ensures max_trial { result ≡ 0 → trials_in handle.new ≡ Some max_trial }
+    ensures size { result ≡ 0 → (size_in handle.new ≡ 256) × (capacity_in handle.new ≡ 256) }
+    ensures layout { result ≡ 0 → layout_in handle.new ≡ Some reduced_layout }
+    ensures invalid { (result ≡ 7) ↔ (max_trial <ℤ pos 1) }
+    ensures refused { (result ≡ 0) ⊎ (((result ≡ 7) ⊎ (result ≡ 2)) × (content handle.new ≡ content handle.old)) }
+{
+    renew_with(handle, alloc, true, ordered, max_trial)
+}
+
+/// Opens a handle with an empty dictionary of these settings, if there can be such.
+fn renew_with(
+    handle: &mut Handle,
+    alloc: Global,
+    is_reduced: bool,
+    ordered: bool,
+    max_trial: i32,
+) -> u32
+    ensures made { result ≡ 0 → state_in handle.new ≡ Some (record { tree = empty_tree; ordered = ordered }) }
+    ensures max_trial { result ≡ 0 → trials_in handle.new ≡ Some max_trial }
+    ensures size { result ≡ 0 → (size_in handle.new ≡ 256) × (capacity_in handle.new ≡ 256) }
+    ensures layout { result ≡ 0 → layout_in handle.new ≡ Some (layout_if is_reduced) }
     ensures invalid { (result ≡ 7) ↔ (max_trial <ℤ pos 1) }
     ensures refused { (result ≡ 0) ⊎ (((result ≡ 7) ⊎ (result ≡ 2)) × (content handle.new ≡ content handle.old)) }
 {
     match CedarBuilder::new().ordered(ordered).max_trial(max_trial) {
-        Ok(settings) => renew(handle, alloc, settings),
+        Ok(settings) => renew(handle, alloc, is_reduced, settings),
         Err(_) => INVALID_MAX_TRIAL,
     }
 }
@@ -99,6 +145,7 @@ pub extern "C" fn cedar_update(
     ensures closed { (result ≡ 1) ↔ (content handle.old ≡ None) }
     ensures ok { result ≡ 0 → state_in handle.new ≡ option_map (λ s. stored s key.now value) (state_in handle.old) }
     ensures err { (result ≡ 0) ⊎ (state_in handle.new ≡ state_in handle.old) }
+    ensures layout { layout_in handle.new ≡ layout_in handle.old }
     ensures faulty { IsSome (content handle.old) → IfSome (fault key.now value) (λ e. (result ≡ status_of e) × (position.new ≡ position_of position.old e)) }
     ensures memory { result ≡ 2 → (size_in handle.new ≡ capacity_in handle.new) × (capacity_in handle.new < 2 ^ 30) }
     ensures limit { result ≡ 3 → size_in handle.new ≡ 2 ^ 30 }
@@ -135,6 +182,7 @@ pub extern "C" fn cedar_insert(
     ensures closed { (result ≡ 1) ↔ (content handle.old ≡ None) }
     ensures ok { result ≡ 0 → state_in handle.new ≡ option_map (λ s. stored s key.now value) (state_in handle.old) }
     ensures err { (result ≡ 0) ⊎ (state_in handle.new ≡ state_in handle.old) }
+    ensures layout { layout_in handle.new ≡ layout_in handle.old }
     ensures held { result ≡ 0 → IsTrue held.new ↔ IsSome (number_at (tree_in handle.old) key.now) }
     ensures before { result ≡ 0 → IfSome (number_at (tree_in handle.old) key.now) (λ v. before.new ≡ v) }
     ensures faulty { IsSome (content handle.old) → IfSome (fault key.now value) (λ e. (result ≡ status_of e) × (position.new ≡ position_of position.old e)) }
@@ -168,6 +216,7 @@ pub extern "C" fn cedar_erase(handle: &mut Handle, alloc: Global, key: &[u8]) ->
     ensures answer { IsTrue result ↔ IsSome (number_at (tree_in handle.old) key.now) }
     ensures after { state_in handle.new ≡ option_map (λ s. erased s key.now) (state_in handle.old) }
     ensures size { (size_in handle.new ≡ size_in handle.old) × (capacity_in handle.new ≡ capacity_in handle.old) }
+    ensures layout { layout_in handle.new ≡ layout_in handle.old }
 {
     let Some(mut cedar) = handle.take(alloc) else {
         return false;

@@ -1,15 +1,20 @@
 //! A dictionary's file, in memory of the caller's.
 
-ghost use Rattle.std.specs.Prelude.{◌≡◌, ◌⊎◌, ◌<◌, Err, Some, IfOk, IfErr, IfSome};
+ghost use Rattle.std.specs.Prelude.{◌≡◌, ◌≢◌, ◌⊎◌, ◌<◌, ℕ, Some, IfOk, IfErr, IfSome, IsErrAnd};
 ghost use Rattle.cedar_format.specs.Format.{header_answer};
 ghost use Rattle.cedar_format.specs.Refusal.{refusal_of};
-ghost use Rattle.cedarwood.specs.Dictionary.{Dictionary};
-ghost use Rattle.cedar_c.specs.Content.{content};
-ghost use Rattle.cedar_c.specs.Files.{file_status, IsFileOf};
+ghost use Rattle.cedar_format.specs.Tables.{IsTableFile};
+ghost use Rattle.cedar_slots.specs.Places.{IsSlotLimit};
+ghost use Rattle.cedar_meaning.specs.Table.Layouts.{default_layout, layout_byte, reduced_layout};
+ghost use Rattle.cedar_c.specs.Content.{content, layout_in};
+ghost use Rattle.cedar_c.specs.Files.{file_status, IsFileOf, TellsHeader};
+ghost use Rattle.cedar_c.specs.Layouts.{dictionary_in, layout_if, layout_of};
+ghost use Rattle.cedar_c.specs.declared.any.AnyCedar.{AnyCedar};
 
+use crate::any::AnyCedar;
 use crate::handle::Handle;
 use crate::status::{MEMORY, OK, OTHER};
-use cedarwood::{Cedar, CedarPersistenceError, Watched};
+use cedarwood::{CedarPersistenceError, Layout, Trie};
 use std::alloc::Global;
 
 /// Opens a handle with the dictionary that a file's bytes are of, in the place of the one that it has. It asks for
@@ -24,13 +29,54 @@ pub extern "C" fn cedar_load(
     bytes: &[u8],
     memory_limit: usize,
 ) -> u32
-    ensures loaded { result ≡ 0 → (d : Dictionary) × (content handle.new ≡ Some d) × IsFileOf d.table bytes.now }
+    ensures loaded { result ≡ 0 → (a : AnyCedar) × (content handle.new ≡ Some a) × IsFileOf (dictionary_in a).table bytes.now }
+    ensures layout { result ≡ 0 → layout_in handle.new ≡ Some default_layout }
     ensures refused { (result ≡ 0) ⊎ (content handle.new ≡ content handle.old) }
 
-    // Behind a header that is refused nothing else is told, but for want of memory or a fault of the reading itself.
-    ensures header { IfSome (header_answer 0 1073741824 memory_limit bytes.now) (λ r. (result ≡ file_status r) ⊎ (result ≡ 2) ⊎ (result ≡ 29)) }
+    // Behind a header that is refused nothing else is told, but for want of memory.
+    ensures header { IfSome (header_answer 0 1073741824 memory_limit bytes.now) (λ r. (result ≡ file_status r) ⊎ (result ≡ 2)) }
+    ensures read { result ≢ 29 }
 {
-    match load(alloc, bytes, memory_limit) {
+    renew(handle, alloc, false, bytes, memory_limit)
+}
+
+/// As `cedar_load`, of a file of the reduced layout.
+///
+/// # Errors
+/// As `cedar_load`, which refuses these files.
+#[unsafe(no_mangle)]
+pub extern "C" fn cedar_load_reduced(
+    handle: &mut Handle,
+    alloc: Global,
+    bytes: &[u8],
+    memory_limit: usize,
+) -> u32
+    ensures loaded { result ≡ 0 → (a : AnyCedar) × (content handle.new ≡ Some a) × IsFileOf (dictionary_in a).table bytes.now }
+    ensures layout { result ≡ 0 → layout_in handle.new ≡ Some reduced_layout }
+    ensures refused { (result ≡ 0) ⊎ (content handle.new ≡ content handle.old) }
+
+    // Behind a header that is refused nothing else is told, but for want of memory.
+    ensures header { IfSome (header_answer 1 1073741824 memory_limit bytes.now) (λ r. (result ≡ file_status r) ⊎ (result ≡ 2)) }
+    ensures read { result ≢ 29 }
+{
+    renew(handle, alloc, true, bytes, memory_limit)
+}
+
+/// Opens a handle with the dictionary that a file's bytes are of, if they are of one of this layout.
+fn renew(
+    handle: &mut Handle,
+    alloc: Global,
+    is_reduced: bool,
+    bytes: &[u8],
+    memory_limit: usize,
+) -> u32
+    ensures loaded { result ≡ 0 → (a : AnyCedar) × (content handle.new ≡ Some a) × IsFileOf (dictionary_in a).table bytes.now }
+    ensures layout { result ≡ 0 → layout_in handle.new ≡ Some (layout_if is_reduced) }
+    ensures refused { (result ≡ 0) ⊎ (content handle.new ≡ content handle.old) }
+    ensures header { IfSome (header_answer (layout_byte (layout_if is_reduced)) 1073741824 memory_limit bytes.now) (λ r. (result ≡ file_status r) ⊎ (result ≡ 2)) }
+    ensures read { result ≢ 29 }
+{
+    match boxed(alloc, is_reduced, bytes, memory_limit) {
         Ok(cedar) => {
             let _ = handle.take(alloc);
             *handle = Handle::of(cedar);
@@ -41,35 +87,76 @@ pub extern "C" fn cedar_load(
 }
 
 /// The dictionary that a file's bytes are of, on the heap.
-#[tactic(auto, using(cedarwood::proofs::DictionaryLemmas::default_limit))]
-fn load(alloc: Global, bytes: &[u8], memory_limit: usize) -> Result<Box<Cedar<Global>, Global>, u32>
-    ensures loaded { IfOk result (λ b. IsFileOf b.value.table bytes.now) }
+fn boxed(
+    alloc: Global,
+    is_reduced: bool,
+    bytes: &[u8],
+    memory_limit: usize,
+) -> Result<Box<AnyCedar, Global>, u32>
+    ensures loaded { IfOk result (λ b. IsFileOf (dictionary_in b.value).table bytes.now) }
+    ensures layout { IfOk result (λ b. layout_of b.value ≡ layout_if is_reduced) }
     ensures refused { IfErr result (λ status. 0 < status) }
-    ensures header { IfSome (header_answer 0 1073741824 memory_limit bytes.now) (λ r. (result ≡ Err (file_status r)) ⊎ (result ≡ Err 2) ⊎ (result ≡ Err 29)) }
+    ensures header { IfSome (header_answer (layout_byte (layout_if is_reduced)) 1073741824 memory_limit bytes.now) (λ r. IsErrAnd result (TellsHeader r)) }
+    ensures read { IfErr result (λ status. status ≢ 29) }
 {
-    let mut reader = Watched::new(bytes);
-    let loaded = Cedar::load_from_reader_with_limit(alloc, &mut reader, memory_limit);
-    if reader.failed() {
-        return Err(FAILED);
+    match AnyCedar::loaded(alloc, is_reduced, bytes, memory_limit) {
+        Ok(cedar) => match Box::new(alloc, cedar) {
+            Ok(cedar) => Ok(cedar),
+            Err(_) => Err(MEMORY),
+        },
+        Err(status) => Err(status),
     }
-    match loaded {
-        Ok(cedar) => boxed(alloc, cedar),
+}
+
+impl AnyCedar {
+    /// The dictionary that a file's bytes are of.
+    #[tactic(auto, using(cedarwood::proofs::DictionaryLemmas::default_limit))]
+    fn loaded(
+        alloc: Global,
+        is_reduced: bool,
+        bytes: &[u8],
+        memory_limit: usize,
+    ) -> Result<AnyCedar, u32>
+        ensures loaded { IfOk result (λ a. IsFileOf (dictionary_in a).table bytes.now) }
+        ensures layout { IfOk result (λ a. layout_of a ≡ layout_if is_reduced) }
+        ensures refused { IfErr result (λ status. 0 < status) }
+        ensures header { IfSome (header_answer (layout_byte (layout_if is_reduced)) 1073741824 memory_limit bytes.now) (λ r. IsErrAnd result (TellsHeader r)) }
+        ensures read { IfErr result (λ status. status ≢ 29) }
+    {
+        if is_reduced {
+            match load(alloc, bytes, memory_limit) {
+                Ok(cedar) => Ok(AnyCedar::Reduced(cedar)),
+                Err(status) => Err(status),
+            }
+        } else {
+            match load(alloc, bytes, memory_limit) {
+                Ok(cedar) => Ok(AnyCedar::Default(cedar)),
+                Err(status) => Err(status),
+            }
+        }
+    }
+}
+
+/// The dictionary that a file's bytes are of, if they are of one of this layout.
+fn load<L: Layout, const SLOTS: usize>(
+    alloc: Global,
+    bytes: &[u8],
+    memory_limit: usize,
+) -> Result<Trie<L, SLOTS, Global>, u32>
+    requires limit { IsSlotLimit SLOTS }
+    ensures loaded { IfOk result (λ d. (version : ℕ) × IsTableFile version SLOTS d.table bytes.now) }
+    ensures refused { IfErr result (λ status. 0 < status) }
+    ensures header { IfSome (header_answer (layout_byte L.kind) SLOTS memory_limit bytes.now) (λ r. IsErrAnd result (TellsHeader r)) }
+    ensures read { IfErr result (λ status. status ≢ 29) }
+{
+    let mut left = bytes;
+    match Trie::load_from_reader_with_limit(alloc, &mut left, memory_limit) {
+        Ok(trie) => Ok(trie),
         Err(error) => Err(tell_refusal(error)),
     }
 }
 
-/// A dictionary on the heap.
-fn boxed(alloc: Global, cedar: Cedar<Global>) -> Result<Box<Cedar<Global>, Global>, u32>
-    ensures made { IfOk result (λ b. b.value ≡ cedar) }
-    ensures refused { IfErr result (λ status. status ≡ 2) }
-{
-    match Box::new(alloc, cedar) {
-        Ok(cedar) => Ok(cedar),
-        Err(_) => Err(MEMORY),
-    }
-}
-
-/// The reading itself failed.
+/// The reading itself failed, which that of bytes in memory doesn't.
 const FAILED: u32 = 29;
 
 /// The number of a refusal.

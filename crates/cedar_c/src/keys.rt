@@ -3,12 +3,14 @@
 ghost use Rattle.std.specs.Prelude.{◌≡◌, ◌⊎◌, ◌++◌, ◌<◌, ◌≤◌, ◌↔◌, None, IfSome, length, drop};
 ghost use Rattle.cedar_tree.specs.Queries.{walk};
 ghost use Rattle.cedar_c.specs.Content.{content, tree_in};
+ghost use Rattle.cedar_c.specs.Layouts.{dictionary_in};
 ghost use Rattle.cedar_c.specs.Pairs.{keys_in};
 
+use crate::any::AnyCedar;
 use crate::handle::Handle;
 use crate::save::copy_whole;
 use crate::status::{CLOSED, MEMORY};
-use cedarwood::Cedar;
+use cedarwood::{Layout, Trie};
 use std::alloc::Global;
 
 /// Writes the bytes of all keys into the first places of a buffer, one key after another in the order of the walk, and tells how
@@ -35,7 +37,7 @@ pub extern "C" fn cedar_keys(
     let Some(cedar) = handle.take(alloc) else {
         return CLOSED;
     };
-    let keys = keys_of(&cedar, alloc);
+    let keys = cedar.keys(alloc);
     *handle = Handle::of(cedar);
     match keys {
         Some(keys) => copy_whole(keys.as_slice(), buffer, needed),
@@ -43,12 +45,26 @@ pub extern "C" fn cedar_keys(
     }
 }
 
+impl AnyCedar {
+    fn keys(&self, alloc: Global) -> Option<Vec<u8, Global>>
+        ensures { IfSome result (λ keys. keys.items ≡ keys_in (walk (dictionary_in self.now).state.tree)) }
+    {
+        match self {
+            AnyCedar::Default(cedar) => keys_of(cedar, alloc),
+            AnyCedar::Reduced(cedar) => keys_of(cedar, alloc),
+        }
+    }
+}
+
 /// The bytes of all keys, one key after another in the order of the walk, or None for want of memory.
-fn keys_of(cedar: &Cedar<Global>, alloc: Global) -> Option<Vec<u8, Global>>
-    ensures { IfSome result (λ keys. keys.items ≡ keys_in (walk cedar.now.state.tree)) }
+fn keys_of<L: Layout, const SLOTS: usize>(
+    trie: &Trie<L, SLOTS, Global>,
+    alloc: Global,
+) -> Option<Vec<u8, Global>>
+    ensures { IfSome result (λ keys. keys.items ≡ keys_in (walk trie.now.state.tree)) }
 {
     let mut keys = Vec::new(alloc);
-    for entry in cedar.entries().ok()? {
+    for entry in trie.entries().ok()? {
         let (key, _) = entry.ok()?;
         keys.extend_from_slice(key.as_slice()).ok()?;
     }

@@ -3,10 +3,13 @@
 ghost use Rattle.std.specs.Prelude.{◌≡◌, ◌+◌, ◌<◌, ◌^◌, [], length, take, drop, IsTrue, false};
 ghost use Rattle.cedarwood.specs.Queries.{front, predict};
 ghost use Rattle.cedar_c.specs.Content.{content, tree_in};
+ghost use Rattle.cedar_c.specs.Layouts.{dictionary_in};
 ghost use Rattle.cedar_c.specs.Matches.{filled};
 
+use crate::any::AnyCedar;
 use crate::handle::Handle;
 use crate::walks::{Finds, Match, put_at};
+use cedarwood::{Layout, Trie};
 use std::alloc::Global;
 
 /// Passes over the first of what a walk finds, and says whether it finds so many.
@@ -55,6 +58,64 @@ fn go_on<F: Finds>(walk: &mut F, next: &mut usize, matches: &mut [Match]) -> usi
     count
 }
 
+/// Writes the held fronts of a text from a place of the walk on.
+fn go_on_prefixes<L: Layout, const SLOTS: usize>(
+    trie: &Trie<L, SLOTS, Global>,
+    text: &[u8],
+    next: &mut usize,
+    matches: &mut [Match],
+) -> usize
+    ensures count { result ≡ length (take (length matches.old) (drop next.old (front trie.now.state.tree text.now))) }
+    ensures filled { matches.new ≡ filled matches.old (drop next.old (front trie.now.state.tree text.now)) }
+    ensures next { next.new ≡ next.old + result }
+{
+    go_on(&mut trie.common_prefix_iter_bytes(text), next, matches)
+}
+
+/// Writes the keys that begin with a text from a place of the walk on.
+fn go_on_predictions<L: Layout, const SLOTS: usize>(
+    trie: &Trie<L, SLOTS, Global>,
+    text: &[u8],
+    next: &mut usize,
+    matches: &mut [Match],
+) -> usize
+    ensures count { result ≡ length (take (length matches.old) (drop next.old (predict trie.now.state.tree text.now))) }
+    ensures filled { matches.new ≡ filled matches.old (drop next.old (predict trie.now.state.tree text.now)) }
+    ensures next { next.new ≡ next.old + result }
+{
+    // There are no more of them than keys.
+    let _ = trie.len();
+    go_on(
+        &mut trie.common_prefix_predict_iter_bytes(text),
+        next,
+        matches,
+    )
+}
+
+impl AnyCedar {
+    fn prefixes_from(&self, text: &[u8], next: &mut usize, matches: &mut [Match]) -> usize
+        ensures count { result ≡ length (take (length matches.old) (drop next.old (front (dictionary_in self.now).state.tree text.now))) }
+        ensures filled { matches.new ≡ filled matches.old (drop next.old (front (dictionary_in self.now).state.tree text.now)) }
+        ensures next { next.new ≡ next.old + result }
+    {
+        match self {
+            AnyCedar::Default(cedar) => go_on_prefixes(cedar, text, next, matches),
+            AnyCedar::Reduced(cedar) => go_on_prefixes(cedar, text, next, matches),
+        }
+    }
+
+    fn predictions_from(&self, text: &[u8], next: &mut usize, matches: &mut [Match]) -> usize
+        ensures count { result ≡ length (take (length matches.old) (drop next.old (predict (dictionary_in self.now).state.tree text.now))) }
+        ensures filled { matches.new ≡ filled matches.old (drop next.old (predict (dictionary_in self.now).state.tree text.now)) }
+        ensures next { next.new ≡ next.old + result }
+    {
+        match self {
+            AnyCedar::Default(cedar) => go_on_predictions(cedar, text, next, matches),
+            AnyCedar::Reduced(cedar) => go_on_predictions(cedar, text, next, matches),
+        }
+    }
+}
+
 /// As `cedar_prefixes`, without the first `next` of them: it says how many it wrote, and sets `next` to where the same call goes on.
 #[unsafe(no_mangle)]
 pub extern "C" fn cedar_prefixes_from(
@@ -72,7 +133,7 @@ pub extern "C" fn cedar_prefixes_from(
     let Some(cedar) = handle.take(alloc) else {
         return 0;
     };
-    let count = go_on(&mut cedar.common_prefix_iter_bytes(text), next, matches);
+    let count = cedar.prefixes_from(text, next, matches);
     *handle = Handle::of(cedar);
     count
 }
@@ -94,13 +155,7 @@ pub extern "C" fn cedar_predictions_from(
     let Some(cedar) = handle.take(alloc) else {
         return 0;
     };
-    // There are no more of them than keys.
-    let _ = cedar.len();
-    let count = go_on(
-        &mut cedar.common_prefix_predict_iter_bytes(text),
-        next,
-        matches,
-    );
+    let count = cedar.predictions_from(text, next, matches);
     *handle = Handle::of(cedar);
     count
 }

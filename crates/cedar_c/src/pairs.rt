@@ -3,13 +3,15 @@
 ghost use Rattle.std.specs.Prelude.{◌≡◌, ◌⊎◌, ◌≤◌, ◌↔◌, ℕ, length, map, take, None, Err, IsSome, IfSome, IfErr, OnOk, option_map};
 ghost use Rattle.cedarwood.specs.Fault.{IsShortage};
 ghost use Rattle.cedarwood.specs.Builds.{all_stored, first_fault};
-ghost use Rattle.cedar_c.specs.Content.{content, state_in};
+ghost use Rattle.cedar_c.specs.Content.{content, layout_in, state_in};
+ghost use Rattle.cedar_c.specs.Layouts.{dictionary_in, layout_of};
 ghost use Rattle.cedar_c.specs.Pairs.{entries_in, taken_pair};
 ghost use Rattle.cedar_c.specs.Status.{status_of, position_of};
 
+use crate::any::AnyCedar;
 use crate::handle::Handle;
 use crate::status::{CLOSED, OK, tell};
-use cedarwood::{Cedar, CedarError};
+use cedarwood::{CedarError, Layout, Trie};
 use std::alloc::Global;
 
 /// A key and its value.
@@ -33,15 +35,34 @@ pub(crate) fn taken<'a>(alloc: Global, pairs: &[Pair<'a>]) -> Option<Vec<(&'a [u
 }
 
 /// Stores some pairs, as the dictionary's own call does; or none, for want of memory.
-fn store_all(cedar: &mut Cedar<Global>, alloc: Global, pairs: &[Pair<'_>]) -> Result<(), CedarError>
-    ensures stored { OnOk result (cedar.new.state ≡ all_stored cedar.old.state (entries_in pairs.now)) }
-    ensures faulty { IfSome (first_fault (entries_in pairs.now)) (λ e. ((result ≡ Err e) ⊎ (result ≡ Err CedarError.Memory)) × (cedar.new ≡ cedar.old)) }
-    ensures front { (m : ℕ) × (m ≤ length (entries_in pairs.now)) × (cedar.new.state ≡ all_stored cedar.old.state (take m (entries_in pairs.now))) }
+fn store_all<L: Layout, const SLOTS: usize>(
+    trie: &mut Trie<L, SLOTS, Global>,
+    alloc: Global,
+    pairs: &[Pair<'_>],
+) -> Result<(), CedarError>
+    ensures stored { OnOk result (trie.new.state ≡ all_stored trie.old.state (entries_in pairs.now)) }
+    ensures faulty { IfSome (first_fault (entries_in pairs.now)) (λ e. ((result ≡ Err e) ⊎ (result ≡ Err CedarError.Memory)) × (trie.new ≡ trie.old)) }
+    ensures front { (m : ℕ) × (m ≤ length (entries_in pairs.now)) × (trie.new.state ≡ all_stored trie.old.state (take m (entries_in pairs.now))) }
     ensures refused { first_fault (entries_in pairs.now) ≡ None → IfErr result IsShortage }
 {
     match taken(alloc, pairs) {
-        Some(taken) => cedar.build_bytes(taken.as_slice()),
+        Some(taken) => trie.build_bytes(taken.as_slice()),
         None => Err(CedarError::Memory),
+    }
+}
+
+impl AnyCedar {
+    fn store_all(&mut self, alloc: Global, pairs: &[Pair<'_>]) -> Result<(), CedarError>
+        ensures stored { OnOk result ((dictionary_in self.new).state ≡ all_stored (dictionary_in self.old).state (entries_in pairs.now)) }
+        ensures faulty { IfSome (first_fault (entries_in pairs.now)) (λ e. ((result ≡ Err e) ⊎ (result ≡ Err CedarError.Memory)) × (self.new ≡ self.old)) }
+        ensures front { (m : ℕ) × (m ≤ length (entries_in pairs.now)) × ((dictionary_in self.new).state ≡ all_stored (dictionary_in self.old).state (take m (entries_in pairs.now))) }
+        ensures refused { first_fault (entries_in pairs.now) ≡ None → IfErr result IsShortage }
+        ensures layout { layout_of self.new ≡ layout_of self.old }
+    {
+        match self {
+            AnyCedar::Default(cedar) => store_all(cedar, alloc, pairs),
+            AnyCedar::Reduced(cedar) => store_all(cedar, alloc, pairs),
+        }
     }
 }
 
@@ -64,12 +85,13 @@ pub extern "C" fn cedar_update_all(
 
     // Whatever it answers, a front of the pairs is stored, and nothing else has changed.
     ensures front { (m : ℕ) × (m ≤ length (entries_in pairs.now)) × (state_in handle.new ≡ option_map (λ s. all_stored s (take m (entries_in pairs.now))) (state_in handle.old)) }
+    ensures layout { layout_in handle.new ≡ layout_in handle.old }
     ensures refused { IsSome (content handle.old) → first_fault (entries_in pairs.now) ≡ None → (result ≡ 0) ⊎ (result ≡ 2) ⊎ (result ≡ 3) }
 {
     let Some(mut cedar) = handle.take(alloc) else {
         return CLOSED;
     };
-    let answer = store_all(&mut cedar, alloc, pairs);
+    let answer = cedar.store_all(alloc, pairs);
     *handle = Handle::of(cedar);
     match answer {
         Ok(()) => OK,

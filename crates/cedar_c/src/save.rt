@@ -4,10 +4,12 @@ ghost use Rattle.std.specs.Prelude.{◌≡◌, ◌⊎◌, ◌++◌, ◌<◌, ◌
 ghost use Rattle.cedar_format.specs.Tables.{table_bytes};
 ghost use Rattle.cedar_c.specs.Content.{content};
 ghost use Rattle.cedar_c.specs.Files.{minor_of};
+ghost use Rattle.cedar_c.specs.Layouts.{dictionary_in};
 
+use crate::any::AnyCedar;
 use crate::handle::Handle;
 use crate::status::{CLOSED, MEMORY, NO_ROOM, OK};
-use cedarwood::{Cedar, Watched};
+use cedarwood::{Layout, Trie, Watched};
 use std::alloc::Global;
 
 /// Writes the dictionary's file into the first places of a buffer, and tells how many bytes it has. It lists the slots and
@@ -25,8 +27,8 @@ pub extern "C" fn cedar_save(
     needed: &mut usize,
 ) -> u32
     ensures closed { (result ≡ 1) ↔ (content handle.old ≡ None) }
-    ensures saved { result ≡ 0 → IfSome (content handle.old) (λ d. buffer.new ≡ table_bytes (minor_of is_full) d.table ++ drop needed.new buffer.old) }
-    ensures needed { (result ≡ 0) ⊎ (result ≡ 11) → IfSome (content handle.old) (λ d. needed.new ≡ length (table_bytes (minor_of is_full) d.table)) }
+    ensures saved { result ≡ 0 → IfSome (content handle.old) (λ a. buffer.new ≡ table_bytes (minor_of is_full) (dictionary_in a).table ++ drop needed.new buffer.old) }
+    ensures needed { (result ≡ 0) ⊎ (result ≡ 11) → IfSome (content handle.old) (λ a. needed.new ≡ length (table_bytes (minor_of is_full) (dictionary_in a).table)) }
     ensures room { (result ≡ 0 → needed.new ≤ length buffer.old) × (result ≡ 11 → length buffer.old < needed.new) }
     ensures refused { (result ≡ 0) ⊎ (((result ≡ 1) ⊎ (result ≡ 2) ⊎ (result ≡ 11)) × (buffer.new ≡ buffer.old)) }
     ensures kept { content handle.new ≡ content handle.old }
@@ -34,11 +36,7 @@ pub extern "C" fn cedar_save(
     let Some(cedar) = handle.take(alloc) else {
         return CLOSED;
     };
-    let file = if is_full {
-        file_v1_0(&cedar, alloc)
-    } else {
-        file_of(&cedar, alloc)
-    };
+    let file = cedar.file(alloc, is_full);
     *handle = Handle::of(cedar);
     match file {
         Some(file) => copy_whole(file.as_slice(), buffer, needed),
@@ -46,23 +44,55 @@ pub extern "C" fn cedar_save(
     }
 }
 
-/// The bytes of a dictionary's file, or None for want of memory.
-fn file_of(cedar: &Cedar<Global>, alloc: Global) -> Option<Vec<u8, Global>>
-    ensures { IfSome result (λ file. file.items ≡ table_bytes 1 cedar.now.table) }
+impl AnyCedar {
+    fn file(&self, alloc: Global, is_full: bool) -> Option<Vec<u8, Global>>
+        ensures { IfSome result (λ file. file.items ≡ table_bytes (minor_of is_full) (dictionary_in self.now).table) }
+    {
+        match self {
+            AnyCedar::Default(cedar) => either_file(cedar, alloc, is_full),
+            AnyCedar::Reduced(cedar) => either_file(cedar, alloc, is_full),
+        }
+    }
+}
+
+/// The bytes of a dictionary's file in either version, or None for want of memory.
+fn either_file<L: Layout, const SLOTS: usize>(
+    trie: &Trie<L, SLOTS, Global>,
+    alloc: Global,
+    is_full: bool,
+) -> Option<Vec<u8, Global>>
+    ensures { IfSome result (λ file. file.items ≡ table_bytes (minor_of is_full) trie.now.table) }
+{
+    if is_full {
+        file_v1_0(trie, alloc)
+    } else {
+        file_of(trie, alloc)
+    }
+}
+
+/// The same in format 1.1.
+fn file_of<L: Layout, const SLOTS: usize>(
+    trie: &Trie<L, SLOTS, Global>,
+    alloc: Global,
+) -> Option<Vec<u8, Global>>
+    ensures { IfSome result (λ file. file.items ≡ table_bytes 1 trie.now.table) }
 {
     let mut writer = Watched::new(Vec::new(alloc));
-    match cedar.save_to_writer(&mut writer) {
+    match trie.save_to_writer(&mut writer) {
         Ok(()) => Some(writer.into_inner()),
         Err(_) => None,
     }
 }
 
 /// The same in format 1.0.
-fn file_v1_0(cedar: &Cedar<Global>, alloc: Global) -> Option<Vec<u8, Global>>
-    ensures { IfSome result (λ file. file.items ≡ table_bytes 0 cedar.now.table) }
+fn file_v1_0<L: Layout, const SLOTS: usize>(
+    trie: &Trie<L, SLOTS, Global>,
+    alloc: Global,
+) -> Option<Vec<u8, Global>>
+    ensures { IfSome result (λ file. file.items ≡ table_bytes 0 trie.now.table) }
 {
     let mut writer = Watched::new(Vec::new(alloc));
-    match cedar.save_v1_0_to_writer(&mut writer) {
+    match trie.save_v1_0_to_writer(&mut writer) {
         Ok(()) => Some(writer.into_inner()),
         Err(_) => None,
     }

@@ -3,8 +3,10 @@
 ghost use Rattle.std.specs.Prelude.{◌≡◌, ◌⊎◌, ℕ, ℤ, List, ◌∷◌, ◌++◌, ◌+◌, ◌<◌, ◌≤◌, ◌^◌, [], length, map, take, drop, set, None, IfSome, IsSome};
 ghost use Rattle.cedar_tree.specs.Queries.{front};
 ghost use Rattle.cedar_c.specs.Content.{content, tree_in};
+ghost use Rattle.cedar_c.specs.Layouts.{dictionary_in};
 ghost use Rattle.cedar_c.specs.Scans.{Fit, spot, spots_from, tokens_from};
 
+use crate::any::AnyCedar;
 use crate::handle::Handle;
 use crate::walks::Finds;
 use cedar_words::LongestPrefix;
@@ -150,6 +152,30 @@ fn token_at<T: LongestPrefix>(trie: &T, text: &[u8], place: usize) -> Found
     }
 }
 
+impl AnyCedar {
+    fn scan(&self, text: &[u8], next: &mut usize, found: &mut [Found]) -> usize
+        ensures told { spots_from (dictionary_in self.now).state.tree next.old (drop next.old text.now) ≡ take result found.new ++ spots_from (dictionary_in self.now).state.tree next.new (drop next.new text.now) }
+        ensures full { (length text.now ≤ next.new) ⊎ (length found.new < result + length (front (dictionary_in self.now).state.tree (drop next.new text.now))) }
+        ensures within { (result ≤ length found.new) × (next.old ≤ next.new) }
+    {
+        match self {
+            AnyCedar::Default(cedar) => scan(cedar, text, next, found),
+            AnyCedar::Reduced(cedar) => scan(cedar, text, next, found),
+        }
+    }
+
+    fn cut(&self, text: &[u8], next: &mut usize, found: &mut [Found]) -> usize
+        ensures told { tokens_from (dictionary_in self.now).state.tree next.old (drop next.old text.now) ≡ take result found.new ++ tokens_from (dictionary_in self.now).state.tree next.new (drop next.new text.now) }
+        ensures full { (length text.now ≤ next.new) ⊎ (result ≡ length found.new) }
+        ensures within { (result ≤ length found.new) × (next.old ≤ next.new) }
+    {
+        match self {
+            AnyCedar::Default(cedar) => cut(cedar, text, next, found),
+            AnyCedar::Reduced(cedar) => cut(cedar, text, next, found),
+        }
+    }
+}
+
 /// Writes what keys stand in a text from a place on: place after place, and at each the shortest first. Those of a place are
 /// written as a whole: where there is no room left for them, the walk ends, and `next` is this place, so that a call from there
 /// goes on. It ends behind the text otherwise. It answers how many places of the buffer it wrote; what the others have then
@@ -174,7 +200,7 @@ pub extern "C" fn cedar_scan(
         *next = text.len().max(*next);
         return 0;
     };
-    let count = scan(&*cedar, text, next, found);
+    let count = cedar.scan(text, next, found);
     *handle = Handle::of(cedar);
     count
 }
@@ -200,7 +226,7 @@ pub extern "C" fn cedar_segment(
         *next = text.len().max(*next);
         return 0;
     };
-    let count = cut(&*cedar, text, next, found);
+    let count = cedar.cut(text, next, found);
     *handle = Handle::of(cedar);
     count
 }

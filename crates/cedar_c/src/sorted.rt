@@ -1,51 +1,84 @@
 //! A dictionary of sorted pairs, made at once.
 
 ghost use Rattle.std.specs.Prelude.{◌≡◌, ◌⊎◌, ◌+◌, ◌*◌, ◌≤◌, ◌≤ℤ◌, ◌<ℤ◌, ℕ, pos, length, None, Some, Err, IfOk, IfErr, IfSome};
+ghost use Rattle.cedar_slots.specs.Places.{IsSlotLimit};
+ghost use Rattle.cedar_meaning.specs.Table.Layouts.{default_layout, reduced_layout};
 ghost use Rattle.cedar_tree.specs.Queries.{asc, prefixes};
 ghost use Rattle.cedarwood.specs.Dictionary.{capacity_after};
-ghost use Rattle.cedar_c.specs.Content.{content, state_in, trials_in, size_in, capacity_in};
+ghost use Rattle.cedar_c.specs.Content.{content, layout_in, state_in, trials_in, size_in, capacity_in};
+ghost use Rattle.cedar_c.specs.Layouts.{dictionary_in, layout_if, layout_of};
 ghost use Rattle.cedar_c.specs.Pairs.{entries_in, fault_in};
 ghost use Rattle.cedar_c.specs.Status.{status_of, position_of};
 
+use crate::any::AnyCedar;
 use crate::handle::Handle;
 use crate::pairs::{Pair, taken};
 use crate::status::{INVALID_MAX_TRIAL, OK, tell};
-use cedarwood::{Cedar, CedarBuilder, CedarError};
+use cedarwood::{CedarBuilder, CedarError, Layout, Trie};
 use std::alloc::Global;
 
 /// A dictionary of sorted pairs with these settings.
-fn made(
+fn made<L: Layout, const SLOTS: usize>(
     alloc: Global,
     settings: CedarBuilder,
     pairs: &[Pair<'_>],
-) -> Result<Cedar<Global>, CedarError>
+) -> Result<Trie<L, SLOTS, Global>, CedarError>
+    requires limit { IsSlotLimit SLOTS }
     ensures faulty { IfSome (fault_in pairs.now) (λ e. (result ≡ Err e) ⊎ (result ≡ Err CedarError.Memory)) }
     ensures state { IfOk result (λ d. d.state ≡ record { tree = asc (entries_in pairs.now); ordered = settings.ordered }) }
     ensures max_trial { IfOk result (λ d. d.max_trial ≡ settings.max_trial) }
     ensures size { IfOk result (λ d. (n : ℕ) × (n ≤ length (prefixes (asc (entries_in pairs.now)))) × (d.size ≡ 256 + 256 * n) × (d.capacity ≡ capacity_after n 256 256)) }
     ensures refused { fault_in pairs.now ≡ None → IfErr result (λ e.
-        (e ≡ CedarError.Memory) ⊎ ((e ≡ CedarError.SlotLimit) × (1073741824 ≤ 256 * length (prefixes (asc (entries_in pairs.now)))))) }
+        (e ≡ CedarError.Memory) ⊎ ((e ≡ CedarError.SlotLimit) × (SLOTS ≤ 256 * length (prefixes (asc (entries_in pairs.now)))))) }
 {
     match taken(alloc, pairs) {
-        Some(taken) => settings.from_sorted_bytes(alloc, taken.as_slice()),
+        Some(taken) => Trie::from_sorted_bytes_with(alloc, settings, taken.as_slice()),
         None => Err(CedarError::Memory),
+    }
+}
+
+impl AnyCedar {
+    /// A dictionary of sorted pairs with these settings.
+    #[tactic(auto, using(cedarwood::proofs::DictionaryLemmas::default_limit))]
+    fn from_sorted(
+        alloc: Global,
+        is_reduced: bool,
+        settings: CedarBuilder,
+        pairs: &[Pair<'_>],
+    ) -> Result<AnyCedar, CedarError>
+        ensures faulty { IfSome (fault_in pairs.now) (λ e. (result ≡ Err e) ⊎ (result ≡ Err CedarError.Memory)) }
+        ensures state { IfOk result (λ a. (dictionary_in a).state ≡ record { tree = asc (entries_in pairs.now); ordered = settings.ordered }) }
+        ensures max_trial { IfOk result (λ a. (dictionary_in a).max_trial ≡ settings.max_trial) }
+        ensures size { IfOk result (λ a. (n : ℕ) × (n ≤ length (prefixes (asc (entries_in pairs.now)))) × ((dictionary_in a).size ≡ 256 + 256 * n) × ((dictionary_in a).capacity ≡ capacity_after n 256 256)) }
+        ensures layout { IfOk result (λ a. layout_of a ≡ layout_if is_reduced) }
+        ensures refused { fault_in pairs.now ≡ None → IfErr result (λ e.
+            (e ≡ CedarError.Memory) ⊎ ((e ≡ CedarError.SlotLimit) × (1073741824 ≤ 256 * length (prefixes (asc (entries_in pairs.now)))))) }
+    {
+        if is_reduced {
+            let cedar = made(alloc, settings, pairs)?;
+            return Ok(AnyCedar::Reduced(cedar));
+        }
+        let cedar = made(alloc, settings, pairs)?;
+        Ok(AnyCedar::Default(cedar))
     }
 }
 
 /// The same on the heap.
 fn boxed(
     alloc: Global,
+    is_reduced: bool,
     settings: CedarBuilder,
     pairs: &[Pair<'_>],
-) -> Result<Box<Cedar<Global>, Global>, CedarError>
+) -> Result<Box<AnyCedar, Global>, CedarError>
     ensures faulty { IfSome (fault_in pairs.now) (λ e. (result ≡ Err e) ⊎ (result ≡ Err CedarError.Memory)) }
-    ensures state { IfOk result (λ b. b.value.state ≡ record { tree = asc (entries_in pairs.now); ordered = settings.ordered }) }
-    ensures max_trial { IfOk result (λ b. b.value.max_trial ≡ settings.max_trial) }
-    ensures size { IfOk result (λ b. (n : ℕ) × (n ≤ length (prefixes (asc (entries_in pairs.now)))) × (b.value.size ≡ 256 + 256 * n) × (b.value.capacity ≡ capacity_after n 256 256)) }
+    ensures state { IfOk result (λ b. (dictionary_in b.value).state ≡ record { tree = asc (entries_in pairs.now); ordered = settings.ordered }) }
+    ensures max_trial { IfOk result (λ b. (dictionary_in b.value).max_trial ≡ settings.max_trial) }
+    ensures size { IfOk result (λ b. (n : ℕ) × (n ≤ length (prefixes (asc (entries_in pairs.now)))) × ((dictionary_in b.value).size ≡ 256 + 256 * n) × ((dictionary_in b.value).capacity ≡ capacity_after n 256 256)) }
+    ensures layout { IfOk result (λ b. layout_of b.value ≡ layout_if is_reduced) }
     ensures refused { fault_in pairs.now ≡ None → IfErr result (λ e.
         (e ≡ CedarError.Memory) ⊎ ((e ≡ CedarError.SlotLimit) × (1073741824 ≤ 256 * length (prefixes (asc (entries_in pairs.now)))))) }
 {
-    let cedar = made(alloc, settings, pairs)?;
+    let cedar = AnyCedar::from_sorted(alloc, is_reduced, settings, pairs)?;
     match Box::new(alloc, cedar) {
         Ok(cedar) => Ok(cedar),
         Err(_) => Err(CedarError::Memory),
@@ -56,6 +89,7 @@ fn boxed(
 fn renew(
     handle: &mut Handle,
     alloc: Global,
+    is_reduced: bool,
     settings: CedarBuilder,
     pairs: &[Pair<'_>],
     position: &mut usize,
@@ -63,17 +97,44 @@ fn renew(
     ensures made { result ≡ 0 → state_in handle.new ≡ Some (record { tree = asc (entries_in pairs.now); ordered = settings.ordered }) }
     ensures max_trial { result ≡ 0 → trials_in handle.new ≡ Some settings.max_trial }
     ensures size { result ≡ 0 → (n : ℕ) × (n ≤ length (prefixes (asc (entries_in pairs.now)))) × (size_in handle.new ≡ 256 + 256 * n) × (capacity_in handle.new ≡ capacity_after n 256 256) }
+    ensures layout { result ≡ 0 → layout_in handle.new ≡ Some (layout_if is_reduced) }
     ensures faulty { IfSome (fault_in pairs.now) (λ e. (result ≡ 2) ⊎ ((result ≡ status_of e) × (position.new ≡ position_of position.old e))) }
     ensures refused { fault_in pairs.now ≡ None → (result ≡ 0) ⊎ (result ≡ 2) ⊎ ((result ≡ 3) × (1073741824 ≤ 256 * length (prefixes (asc (entries_in pairs.now))))) }
     ensures kept { (result ≡ 0) ⊎ (content handle.new ≡ content handle.old) }
 {
-    match boxed(alloc, settings, pairs) {
+    match boxed(alloc, is_reduced, settings, pairs) {
         Ok(cedar) => {
             let _ = handle.take(alloc);
             *handle = Handle::of(cedar);
             OK
         }
         Err(error) => tell(error, position),
+    }
+}
+
+/// Opens a handle with a dictionary of sorted pairs with these settings, if there can be such.
+fn renew_with(
+    handle: &mut Handle,
+    alloc: Global,
+    is_reduced: bool,
+    ordered: bool,
+    max_trial: i32,
+    pairs: &[Pair<'_>],
+    position: &mut usize,
+) -> u32
+    ensures made { result ≡ 0 → state_in handle.new ≡ Some (record { tree = asc (entries_in pairs.now); ordered = ordered }) }
+    ensures max_trial { result ≡ 0 → trials_in handle.new ≡ Some max_trial }
+    ensures size { result ≡ 0 → (n : ℕ) × (n ≤ length (prefixes (asc (entries_in pairs.now)))) × (size_in handle.new ≡ 256 + 256 * n) × (capacity_in handle.new ≡ capacity_after n 256 256) }
+    ensures layout { result ≡ 0 → layout_in handle.new ≡ Some (layout_if is_reduced) }
+    ensures invalid { max_trial <ℤ pos 1 → result ≡ 7 }
+    ensures faulty { pos 1 ≤ℤ max_trial → IfSome (fault_in pairs.now) (λ e. (result ≡ 2) ⊎ ((result ≡ status_of e) × (position.new ≡ position_of position.old e))) }
+    ensures refused { pos 1 ≤ℤ max_trial → fault_in pairs.now ≡ None →
+        (result ≡ 0) ⊎ (result ≡ 2) ⊎ ((result ≡ 3) × (1073741824 ≤ 256 * length (prefixes (asc (entries_in pairs.now))))) }
+    ensures kept { (result ≡ 0) ⊎ (content handle.new ≡ content handle.old) }
+{
+    match CedarBuilder::new().ordered(ordered).max_trial(max_trial) {
+        Ok(settings) => renew(handle, alloc, is_reduced, settings, pairs, position),
+        Err(_) => INVALID_MAX_TRIAL,
     }
 }
 
@@ -96,14 +157,38 @@ pub extern "C" fn cedar_build(
     ensures made { result ≡ 0 → state_in handle.new ≡ Some (record { tree = asc (entries_in pairs.now); ordered = ordered }) }
     ensures max_trial { result ≡ 0 → trials_in handle.new ≡ Some max_trial }
     ensures size { result ≡ 0 → (n : ℕ) × (n ≤ length (prefixes (asc (entries_in pairs.now)))) × (size_in handle.new ≡ 256 + 256 * n) × (capacity_in handle.new ≡ capacity_after n 256 256) }
+    ensures layout { result ≡ 0 → layout_in handle.new ≡ Some default_layout }
     ensures invalid { max_trial <ℤ pos 1 → result ≡ 7 }
     ensures faulty { pos 1 ≤ℤ max_trial → IfSome (fault_in pairs.now) (λ e. (result ≡ 2) ⊎ ((result ≡ status_of e) × (position.new ≡ position_of position.old e))) }
     ensures refused { pos 1 ≤ℤ max_trial → fault_in pairs.now ≡ None →
         (result ≡ 0) ⊎ (result ≡ 2) ⊎ ((result ≡ 3) × (1073741824 ≤ 256 * length (prefixes (asc (entries_in pairs.now))))) }
     ensures kept { (result ≡ 0) ⊎ (content handle.new ≡ content handle.old) }
 {
-    match CedarBuilder::new().ordered(ordered).max_trial(max_trial) {
-        Ok(settings) => renew(handle, alloc, settings, pairs, position),
-        Err(_) => INVALID_MAX_TRIAL,
-    }
+    renew_with(handle, alloc, false, ordered, max_trial, pairs, position)
+}
+
+/// As `cedar_build`, of the reduced layout, which takes fewer slots.
+///
+/// # Errors
+/// As `cedar_build`.
+#[unsafe(no_mangle)]
+pub extern "C" fn cedar_build_reduced(
+    handle: &mut Handle,
+    alloc: Global,
+    ordered: bool,
+    max_trial: i32,
+    pairs: &[Pair<'_>],
+    position: &mut usize,
+) -> u32
+    ensures made { result ≡ 0 → state_in handle.new ≡ Some (record { tree = asc (entries_in pairs.now); ordered = ordered }) }
+    ensures max_trial { result ≡ 0 → trials_in handle.new ≡ Some max_trial }
+    ensures size { result ≡ 0 → (n : ℕ) × (n ≤ length (prefixes (asc (entries_in pairs.now)))) × (size_in handle.new ≡ 256 + 256 * n) × (capacity_in handle.new ≡ capacity_after n 256 256) }
+    ensures layout { result ≡ 0 → layout_in handle.new ≡ Some reduced_layout }
+    ensures invalid { max_trial <ℤ pos 1 → result ≡ 7 }
+    ensures faulty { pos 1 ≤ℤ max_trial → IfSome (fault_in pairs.now) (λ e. (result ≡ 2) ⊎ ((result ≡ status_of e) × (position.new ≡ position_of position.old e))) }
+    ensures refused { pos 1 ≤ℤ max_trial → fault_in pairs.now ≡ None →
+        (result ≡ 0) ⊎ (result ≡ 2) ⊎ ((result ≡ 3) × (1073741824 ≤ 256 * length (prefixes (asc (entries_in pairs.now))))) }
+    ensures kept { (result ≡ 0) ⊎ (content handle.new ≡ content handle.old) }
+{
+    renew_with(handle, alloc, true, ordered, max_trial, pairs, position)
 }

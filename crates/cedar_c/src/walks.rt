@@ -3,10 +3,12 @@
 ghost use Rattle.std.specs.Prelude.{◌≡◌, ℕ, ℤ, List, ◌∷◌, ◌++◌, ◌+◌, ◌<◌, ◌^◌, length, take, drop};
 ghost use Rattle.cedarwood.specs.Queries.{front, predict};
 ghost use Rattle.cedar_c.specs.Content.{content, tree_in};
+ghost use Rattle.cedar_c.specs.Layouts.{dictionary_in};
 ghost use Rattle.cedar_c.specs.Matches.{filled};
 
+use crate::any::AnyCedar;
 use crate::handle::Handle;
-use cedarwood::{PrefixIter, PrefixPredictIter, Walked};
+use cedarwood::{Layout, PrefixIter, PrefixPredictIter, Trie, Walked};
 use std::alloc::Global;
 
 /// A key that a walk found: its value, and the number of bytes that the walk tells of it.
@@ -71,6 +73,54 @@ pub(crate) fn put_at(matches: &mut [Match], place: usize, found: (i32, usize))
     }
 }
 
+/// Writes the held fronts of a text, and says how many it has.
+fn fill_prefixes<L: Layout, const SLOTS: usize>(
+    trie: &Trie<L, SLOTS, Global>,
+    text: &[u8],
+    matches: &mut [Match],
+) -> usize
+    ensures count { result ≡ length (front trie.now.state.tree text.now) }
+    ensures filled { matches.new ≡ filled matches.old (front trie.now.state.tree text.now) }
+{
+    fill(&mut trie.common_prefix_iter_bytes(text), matches)
+}
+
+/// Writes the keys that begin with a text, and says how many there are.
+fn fill_predictions<L: Layout, const SLOTS: usize>(
+    trie: &Trie<L, SLOTS, Global>,
+    text: &[u8],
+    matches: &mut [Match],
+) -> usize
+    ensures count { result ≡ length (predict trie.now.state.tree text.now) }
+    ensures filled { matches.new ≡ filled matches.old (predict trie.now.state.tree text.now) }
+{
+    // There are no more of them than keys.
+    let _ = trie.len();
+    fill(&mut trie.common_prefix_predict_iter_bytes(text), matches)
+}
+
+impl AnyCedar {
+    fn prefixes(&self, text: &[u8], matches: &mut [Match]) -> usize
+        ensures count { result ≡ length (front (dictionary_in self.now).state.tree text.now) }
+        ensures filled { matches.new ≡ filled matches.old (front (dictionary_in self.now).state.tree text.now) }
+    {
+        match self {
+            AnyCedar::Default(cedar) => fill_prefixes(cedar, text, matches),
+            AnyCedar::Reduced(cedar) => fill_prefixes(cedar, text, matches),
+        }
+    }
+
+    fn predictions(&self, text: &[u8], matches: &mut [Match]) -> usize
+        ensures count { result ≡ length (predict (dictionary_in self.now).state.tree text.now) }
+        ensures filled { matches.new ≡ filled matches.old (predict (dictionary_in self.now).state.tree text.now) }
+    {
+        match self {
+            AnyCedar::Default(cedar) => fill_predictions(cedar, text, matches),
+            AnyCedar::Reduced(cedar) => fill_predictions(cedar, text, matches),
+        }
+    }
+}
+
 /// Writes the held fronts of a text into the first places of a buffer, shortest first, as many as there is room for, and says
 /// how many the text has: for each the value, and one less than its bytes. It is one walk.
 #[unsafe(no_mangle)]
@@ -87,7 +137,7 @@ pub extern "C" fn cedar_prefixes(
     let Some(cedar) = handle.take(alloc) else {
         return 0;
     };
-    let count = fill(&mut cedar.common_prefix_iter_bytes(text), matches);
+    let count = cedar.prefixes(text, matches);
     *handle = Handle::of(cedar);
     count
 }
@@ -108,9 +158,7 @@ pub extern "C" fn cedar_predictions(
     let Some(cedar) = handle.take(alloc) else {
         return 0;
     };
-    // There are no more of them than keys.
-    let _ = cedar.len();
-    let count = fill(&mut cedar.common_prefix_predict_iter_bytes(text), matches);
+    let count = cedar.predictions(text, matches);
     *handle = Handle::of(cedar);
     count
 }

@@ -8,9 +8,9 @@ use Rattle.cedar_tree.specs.Tree.{Tree, empty_tree, number_at}
 use Rattle.cedar_tree.specs.Queries.{asc, exact, front, predict}
 use Rattle.cedar_tree.specs.State.{State, erased, stored}
 use Rattle.cedar_bulk.specs.Sorted.{entries_of}
-use Rattle.cedar_table.specs.Meaning.WellFormed.{tree_of}
-use Rattle.cedar_table.specs.Table.Layouts.{LayoutKind, default_layout, layout_byte}
-use Rattle.cedar_table.specs.Table.TableFields.{Fields}
+use Rattle.cedar_meaning.specs.Meaning.WellFormed.{tree_of}
+use Rattle.cedar_meaning.specs.Table.Layouts.{LayoutKind, default_layout, layout_byte}
+use Rattle.cedar_meaning.specs.Table.TableFields.{Fields}
 use Rattle.cedar_format.specs.declared.error.CedarPersistenceError.{CedarPersistenceError}
 use Rattle.cedar_format.specs.declared.error.CedarPersistenceError.TheVariants as errors
 use Rattle.cedar_format.specs.declared.header.Header.{Header}
@@ -195,8 +195,6 @@ module _ {A B : Type 0} (b : Bool) where
       let k = load_joins start end g.0 q g.2 in
       let both = loads_alike layout slots m x.now h.0 g.0 h.1 again (subst IsMet j.0 met) (subst IsMet k.0 also) in
       (j.0 ∙ both.0 ∙ sym k.0, j.1 ∙ ap (λ l. states_of before ++ l) both.1 ∙ ap (λ l. l ++ loaded_states g.0) states ∙ sym k.1)
-  load_step layout slots before after start end (call.Load x m) (call.Load y n) answer.Unread e h g same states load met also = absurd met
-  load_step layout slots before after start end (call.Load x m) (call.Load y n) (answer.Loaded r) answer.Unread h g same states load met also = absurd also
   load_step layout slots before after start end (call.Load x m) (call.Load y n) (answer.Loaded r) e h g same states load met also = absurd g
   load_step layout slots before after start end (call.Load x m) (call.Load y n) a e h g same states load met also = absurd h
   load_step layout slots before after start end (call.Load x m) d a e h g same states load met also = absurd same

@@ -9,9 +9,9 @@ use Rattle.cedar_tree.specs.Tree.{IsSoundBelow, number_at}
 use Rattle.cedar_tree.specs.Queries.{Entry, is_path, last_at}
 use Rattle.cedar_tree.proofs.BuildLemmas.{number_at-asc}
 use Rattle.cedar_tree.proofs.TreeLemmas.{number_at-empty}
-use Rattle.cedar_slots.specs.declared.error.CedarError.{CedarError}
+use Rattle.cedar_error.specs.declared.error.CedarError.{CedarError}
 use Rattle.cedar_bulk.specs.Sorted.{Pair, entries_of}
-use Rattle.cedar_table.specs.Table.Layouts.{LayoutKind}
+use Rattle.cedar_meaning.specs.Table.Layouts.{LayoutKind}
 use Rattle.cedar_format.specs.declared.error.CedarPersistenceError.{CedarPersistenceError}
 use Rattle.cedarwood.specs.declared.builder.CedarBuilder.{CedarBuilder}
 use Rattle.cedarwood.specs.Builds.{first_fault}
@@ -101,7 +101,6 @@ module _ (key : List ℕ) where
   key_step layout slots before after (call.Sorted settings pairs) (answer.Made r) h =
       joined_goes before after h.0 r (last_at key None (entries_of pairs.now)) h.2 (sorted_number layout slots settings pairs.now h.0 h.1)
   key_step layout slots before after (call.Load bytes limit) (answer.Loaded r) h = load_goes layout slots limit bytes.now before after h.0 r h.1 h.2
-  key_step layout slots before after (call.Load bytes limit) answer.Unread h = ap (numbers_at key) h
   key_step layout slots before after (call.Clone i) (answer.Made r) h =
       (number_in h.0, found_number before i h.0 h.1, joined_goes before after h.2.0 r (number_in h.0) h.2.2 (copy_number h.0 h.2.0 h.2.1))
   key_step layout slots before after (call.Clone i) answer.Missing h = ap (numbers_at key) h.1

@@ -4,10 +4,10 @@ use Rattle.std.specs.declared.result.Result.{Result}
 use Rattle.cedar_tree.specs.Tree.{Tree, empty_tree, number_at}
 use Rattle.cedar_tree.specs.Queries.{Entry, used, walk}
 use Rattle.cedar_tree.specs.State.{State, stored}
-use Rattle.cedar_slots.specs.declared.error.CedarError.{CedarError}
-use Rattle.cedar_slots.specs.declared.error.CedarError.TheVariants.{Memory}
+use Rattle.cedar_error.specs.declared.error.CedarError.{CedarError}
+use Rattle.cedar_error.specs.declared.error.CedarError.TheVariants.{Memory}
 use Rattle.cedar_bulk.specs.Sorted.{entries_of}
-use Rattle.cedar_table.specs.Table.Layouts.{LayoutKind, default_layout}
+use Rattle.cedar_meaning.specs.Table.Layouts.{LayoutKind, default_layout}
 use Rattle.cedarwood.specs.Builds.{all_stored, first_fault, outcome}
 use Rattle.cedarwood.specs.Dictionary.{Dictionary}
 use Rattle.cedarwood.specs.Fault.{fault, IsShortage}

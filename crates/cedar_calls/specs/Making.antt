@@ -2,11 +2,11 @@
 use Rattle.std.specs.Prelude.{◌≡◌, ◌⊎◌, ℕ, ◌+◌, ◌*◌, ◌≤◌, List, [], ◌∷◌, ◌++◌, length, None, IfErr, IfOk, IfSome, MatchResult, Result, Ok, Err}
 use Rattle.cedar_tree.specs.Tree.{empty_tree}
 use Rattle.cedar_tree.specs.Queries.{Entry, asc, prefixes}
-use Rattle.cedar_slots.specs.declared.error.CedarError.{CedarError}
-use Rattle.cedar_slots.specs.declared.error.CedarError.TheVariants.{Memory, SlotLimit}
+use Rattle.cedar_error.specs.declared.error.CedarError.{CedarError}
+use Rattle.cedar_error.specs.declared.error.CedarError.TheVariants.{Memory, SlotLimit}
 use Rattle.cedar_bulk.specs.Sorted.{Pair, entries_of}
 use Rattle.cedar_bulk.specs.SortedMarks.{SortedMarks}
-use Rattle.cedar_table.specs.Table.Layouts.{LayoutKind}
+use Rattle.cedar_meaning.specs.Table.Layouts.{LayoutKind}
 use Rattle.cedar_format.specs.declared.error.CedarPersistenceError.{CedarPersistenceError}
 use Rattle.cedarwood.specs.declared.builder.CedarBuilder.{CedarBuilder}
 use Rattle.cedarwood.specs.Dictionary.{capacity_after, Dictionary}

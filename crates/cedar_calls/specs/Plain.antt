@@ -5,9 +5,9 @@ use Rattle.std.specs.Str.{is_utf8}
 use Rattle.cedar_tree.specs.Tree.{empty_tree, number_at}
 use Rattle.cedar_tree.specs.Queries.{Entry, asc, exact, front, predict, used, walk}
 use Rattle.cedar_tree.specs.State.{State, erased, stored}
-use Rattle.cedar_slots.specs.declared.error.CedarError.{CedarError}
+use Rattle.cedar_error.specs.declared.error.CedarError.{CedarError}
 use Rattle.cedar_bulk.specs.Sorted.{entries_of}
-use Rattle.cedar_table.specs.Table.Layouts.{LayoutKind, default_layout}
+use Rattle.cedar_meaning.specs.Table.Layouts.{LayoutKind, default_layout}
 use Rattle.cedar_format.specs.declared.error.CedarPersistenceError.{CedarPersistenceError}
 use Rattle.cedar_format.specs.Refusal.{Refusal, AllocationFailed, refusal_of}
 use Rattle.cedarwood.specs.Builds.{all_stored, first_fault}
@@ -35,7 +35,6 @@ pub data Said : Type 0 where
   done : Said
   refused : CedarError → Said
   unloaded : Refusal → Said
-  unread : Said
   was : Option ℤ → Said
   held : Bool → Said
   found : Option (ℤ × ℕ) → Said
@@ -94,7 +93,6 @@ abbrev pub said : {A : Type 0} → Bool → Call → Answer A → Said
 said by_default c answer.Missing = missing
 said by_default c (answer.Made result) = said_result (λ _. done) result
 said by_default c (answer.Loaded result) = said_load result
-said by_default c answer.Unread = unread
 said by_default c (answer.Changed result) = said_change result
 said by_default c (answer.Replied result) = said_asked by_default c result
 
@@ -109,11 +107,10 @@ abbrev pub IsLacking : Refusal → Type 0
 IsLacking (AllocationFailed n) = Unit {0}
 IsLacking _ = ⊥
 
--- nothing was refused for memory or slots, and each load was read
+-- nothing was refused for memory or slots
 abbrev pub IsMet : Said → Type 0
 IsMet (refused e) = IsShortage e → ⊥
 IsMet (unloaded r) = IsLacking r → ⊥
-IsMet unread = ⊥
 IsMet _ = Unit {0}
 
 -- what is said without a fault, else the fault

@@ -1,6 +1,6 @@
 -- Calls one after another on any number of dictionaries: what each answers, and the dictionaries after it.
 use Rattle.std.specs.Prelude.{◌≡◌, ℕ, List, [], ◌∷◌, slice_get, slice_set, Some, None}
-use Rattle.cedar_table.specs.Table.Layouts.{LayoutKind}
+use Rattle.cedar_meaning.specs.Table.Layouts.{LayoutKind}
 use Rattle.cedarwood.specs.Dictionary.{Dictionary, IsValid}
 use Rattle.cedar_calls.specs.Making.{IsCopy, IsLoad, IsNew, IsSortedBuild, Makes}
 use Rattle.cedar_calls.specs.Changes.{IsChange}
@@ -29,7 +29,6 @@ abbrev pub IsStep : {A : Type 0} → LayoutKind → ℕ → List Dictionary → 
 IsStep layout slots before (call.New settings) (answer.Made result) after = Makes (IsNew settings) before result after
 IsStep layout slots before (call.Sorted settings pairs) (answer.Made result) after = Makes (IsSortedBuild layout slots settings pairs.now) before result after
 IsStep layout slots before (call.Load bytes limit) (answer.Loaded result) after = Makes (IsLoad layout slots limit bytes.now) before result after
-IsStep layout slots before (call.Load bytes limit) answer.Unread after = after ≡ before
 IsStep layout slots before (call.Clone index) (answer.Made result) after = (d : Dictionary) × (slice_get before index ≡ Some d) × Makes (IsCopy d) before result after
 IsStep layout slots before (call.Clone index) answer.Missing after = MissesAt before index after
 IsStep layout slots before (call.Change index change) (answer.Changed result) after = ChangesAt before index (λ d changed. IsValid slots d × IsChange layout slots d change result changed) after

@@ -12,8 +12,6 @@ pub enum Answer<A: Allocator> {
     Made(Result<(), CedarError>),
     /// Whether a further dictionary was loaded. If so, it stands behind the others.
     Loaded(Result<(), CedarPersistenceError>),
-    /// A read of a load's bytes failed, which none of bytes in memory does: so no dictionary was made.
-    Unread,
     /// What a change answered.
     Changed(Changed),
     /// What a dictionary replied.

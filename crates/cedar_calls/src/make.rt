@@ -8,7 +8,7 @@ ghost use Rattle.cedar_calls.specs.Runs.{IsStep};
 ghost use Rattle.cedar_calls.specs.declared.call.Call.TheVariants as call;
 
 use crate::Answer;
-use cedarwood::{CedarError, Layout, Trie, Watched};
+use cedarwood::{CedarError, Layout, Trie};
 use std::alloc::Allocator;
 
 /// Puts what was made behind the other dictionaries, for which there is room.
@@ -38,11 +38,8 @@ pub(crate) fn load<L: Layout, const SLOTS: usize, A: Allocator + Copy>(
     ensures len { vec_len tries.new ≤ vec_len tries.old + 1 }
     ensures capacity { vec_capacity tries.new ≡ vec_capacity tries.old }
 {
-    let mut reader = Watched::new(bytes);
-    let loaded = Trie::load_from_reader_with_limit(alloc, &mut reader, limit);
-    if reader.failed() {
-        return Answer::Unread;
-    }
+    let mut left = bytes;
+    let loaded = Trie::load_from_reader_with_limit(alloc, &mut left, limit);
     if let Ok(trie) = &loaded {
         trie.stands_on_its_table();
     }

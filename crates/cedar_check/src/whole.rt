@@ -3,8 +3,9 @@
 ghost use Rattle.std.specs.Prelude.{◌+◌, ◌*◌, ◌≤◌, ◌≤ℤ◌, length, pos};
 ghost use Rattle.std.specs.Result.{OkIff};
 ghost use Rattle.cedar_slots.specs.Places.{IsPowerOfTwo, IsSlotLimit};
-ghost use Rattle.cedar_table.specs.Meaning.WellFormed.{IsWellFormed};
-ghost use Rattle.cedar_table.specs.Table.TableFields.{capacity_of, fields};
+ghost use Rattle.cedar_meaning.specs.Meaning.WellFormed.{IsWellFormed};
+ghost use Rattle.cedar_table.specs.Table.Views.{fields};
+ghost use Rattle.cedar_meaning.specs.Table.TableFields.{capacity_of};
 
 use crate::tree::check_tree;
 use cedar_slots::{Corrupt, Ticks};

@@ -7,8 +7,8 @@ use Rattle.cedar_tree.specs.Tree.{number_at}
 use Rattle.cedar_tree.specs.Queries.{Entry, front, predict, walk}
 use Rattle.cedar_tree.specs.State.{State}
 use Rattle.cedar_cli.specs.declared.command.Verb.TheVariants.{Put, Erase, Exact, Segment, Prefixes, Predict, Entries, Figures}
-use Rattle.cedar_slots.specs.declared.error.CedarError.{CedarError}
-use Rattle.cedar_slots.specs.declared.error.CedarError.TheVariants.{EmptyKey, NulByte, InvalidValue}
+use Rattle.cedar_error.specs.declared.error.CedarError.{CedarError}
+use Rattle.cedar_error.specs.declared.error.CedarError.TheVariants.{EmptyKey, NulByte, InvalidValue}
 use Rattle.cedarwood.specs.Fault.{fault}
 use Rattle.hex.specs.Hex.{encode_lower}
 use Rattle.cedar_words.specs.Words.{Token, segments}

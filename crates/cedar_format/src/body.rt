@@ -8,16 +8,15 @@ ghost use Rattle.cedar_slots.specs.Slots.{blank_info, blank_node};
 ghost use Rattle.cedar_format.specs.Format.{body_len, filled, listed_bytes, listed_in, need, tables_len, CountsWithin, DecodeAnswers, IsFile, IsHeader, Passes};
 ghost use Rattle.cedar_format.specs.Records.{body_bytes, FitsBody};
 ghost use Rattle.cedar_format.specs.Reading.{IsIo, LacksNoMore, LacksTable, Misses, Trails};
-ghost use Rattle.cedar_format.specs.WatchedDevice.{device_of, has_failed};
 
 use crate::error::CedarPersistenceError;
 use crate::header::{Header, check_sizes, read_header};
 use crate::listing::{fill_up, read_records};
 use crate::reserve::reserve_counted;
-use crate::watched::Watched;
+use crate::source::Source;
 use cedar_table::{BLOCK_SIZE, BlockRecord, NInfoRecord, NodeRecord, Ticks};
 use std::alloc::Allocator;
-use std::io::{ErrorKind, Read};
+use std::io::ErrorKind;
 use std::marker::Brand;
 use std::sync::ledger::{Blank, Ledger};
 
@@ -65,8 +64,8 @@ fn reserve_tables<A: Allocator + Copy, C: Ledger>(
 }
 
 /// Reads the four lists of a file, one after another.
-fn read_lists<R: Read, A: Allocator>(
-    reader: &mut Watched<R>,
+fn read_lists<S: Source, A: Allocator>(
+    reader: &mut S,
     tables: Decoded<A>,
 ) -> Result<Decoded<A>, CedarPersistenceError>
     requires nodes { (tables.nodes.items ≡ []) × (tables.header.array_len ≤ vec_capacity tables.nodes) }
@@ -78,11 +77,11 @@ fn read_lists<R: Read, A: Allocator>(
     ensures n_infos { IfOk result (λ d. (length d.n_infos.items ≡ tables.header.n_infos_len) × (vec_capacity d.n_infos ≡ vec_capacity tables.n_infos)) }
     ensures blocks { IfOk result (λ d. (length d.blocks.items ≡ tables.header.blocks_len) × (vec_capacity d.blocks ≡ vec_capacity tables.blocks)) }
     ensures reject { IfOk result (λ d. length d.reject.items ≡ tables.header.reject_len) }
-    ensures bytes { IfOk result (λ d. Consumes (R.remaining (device_of reader.old)) (R.remaining (device_of reader.new)) (body_bytes d.nodes.items d.n_infos.items d.blocks.items d.reject.items)) }
+    ensures bytes { IfOk result (λ d. Consumes (S.remaining reader.old) (S.remaining reader.new) (body_bytes d.nodes.items d.n_infos.items d.blocks.items d.reject.items)) }
     ensures fits { IfOk result (λ d. FitsBody d.nodes.items d.n_infos.items d.blocks.items d.reject.items) }
     ensures len { IfOk result (λ d. length (body_bytes d.nodes.items d.n_infos.items d.blocks.items d.reject.items) ≡ body_len tables.header) }
-    ensures misses { IfErr result (Misses (R.remaining (device_of reader.old)) (has_failed reader.new) (body_len tables.header)) }
-    ensures failed { has_failed reader.old ≡ true → has_failed reader.new ≡ true }
+    ensures misses { IfErr result (Misses (S.remaining reader.old) (S.failed reader.new) (body_len tables.header)) }
+    ensures failed { S.failed reader.old ≡ true → S.failed reader.new ≡ true }
 {
     let Decoded {
         header,
@@ -139,12 +138,12 @@ fn fill_tables<A: Allocator>(lists: Decoded<A>) -> Decoded<A>
 }
 
 /// The end of the input, by one exact read of one byte.
-fn read_end<R: Read>(reader: &mut Watched<R>) -> Result<(), CedarPersistenceError>
-    ensures bytes { OnOk result (Consumes (R.remaining (device_of reader.old)) (R.remaining (device_of reader.new)) []) }
-    ensures ended { OnOk result (has_failed reader.new ≡ false → IsAtEnd (R.remaining (device_of reader.old))) }
-    ensures at_end { OnOk result (has_failed reader.new ≡ false → IsAtEnd (R.remaining (device_of reader.new))) }
-    ensures trailing { IfErr result (Trails (R.remaining (device_of reader.old)) (has_failed reader.new)) }
-    ensures failed { has_failed reader.old ≡ true → has_failed reader.new ≡ true }
+fn read_end<S: Source>(reader: &mut S) -> Result<(), CedarPersistenceError>
+    ensures bytes { OnOk result (Consumes (S.remaining reader.old) (S.remaining reader.new) []) }
+    ensures ended { OnOk result (S.failed reader.new ≡ false → IsAtEnd (S.remaining reader.old)) }
+    ensures at_end { OnOk result (S.failed reader.new ≡ false → IsAtEnd (S.remaining reader.new)) }
+    ensures trailing { IfErr result (Trails (S.remaining reader.old) (S.failed reader.new)) }
+    ensures failed { S.failed reader.old ≡ true → S.failed reader.new ≡ true }
 {
     let mut byte = [0u8; 1];
     let (count, fault) = reader.read_available(&mut byte);
@@ -167,29 +166,29 @@ fn read_end<R: Read>(reader: &mut Watched<R>) -> Result<(), CedarPersistenceErro
 ///
 /// # Errors
 /// As `decode_counted`.
-pub fn decode<R: Read, A: Allocator + Copy>(
+pub fn decode<S: Source, A: Allocator + Copy>(
     alloc: A,
-    reader: &mut Watched<R>,
+    reader: &mut S,
     layout: u8,
     slots: usize,
     memory_limit: usize,
 ) -> Result<Decoded<A>, CedarPersistenceError>
     requires slots { IsSlotLimit slots }
     ensures bytes { IfOk result (λ d. (front : List ℕ) × IsHeader layout front d.header
-        × Consumes (R.remaining (device_of reader.old)) (R.remaining (device_of reader.new)) (front ++ listed_bytes (listed_in d.header) d.nodes.items d.n_infos.items d.blocks.items d.reject.items)) }
+        × Consumes (S.remaining reader.old) (S.remaining reader.new) (front ++ listed_bytes (listed_in d.header) d.nodes.items d.n_infos.items d.blocks.items d.reject.items)) }
     ensures file { IfOk result (λ d. IsFile slots memory_limit d.header d.nodes.items d.n_infos.items d.blocks.items d.reject.items) }
-    ensures answer { IfSome (R.remaining (device_of reader.old)) (λ bytes. has_failed reader.new ≡ false → DecodeAnswers layout slots memory_limit bytes result) }
-    ensures at_end { OnOk result (has_failed reader.new ≡ false → IsAtEnd (R.remaining (device_of reader.new))) }
-    ensures io { IfErr result (λ e. IsIo e → has_failed reader.new ≡ true) }
-    ensures lacks { IfErr result (LacksNoMore (Passes layout slots memory_limit (R.remaining (device_of reader.old)))) }
+    ensures answer { IfSome (S.remaining reader.old) (λ bytes. S.failed reader.new ≡ false → DecodeAnswers layout slots memory_limit bytes result) }
+    ensures at_end { OnOk result (S.failed reader.new ≡ false → IsAtEnd (S.remaining reader.new)) }
+    ensures io { IfErr result (λ e. IsIo e → S.failed reader.new ≡ true) }
+    ensures lacks { IfErr result (LacksNoMore (Passes layout slots memory_limit (S.remaining reader.old))) }
 {
-    uncounted::<Brand, R, A>(alloc, reader, layout, slots, memory_limit, Blank::new(1))
+    uncounted::<Brand, S, A>(alloc, reader, layout, slots, memory_limit, Blank::new(1))
 }
 
 /// Decodes with a count of its own, which nothing reads.
-fn uncounted<C: Ledger, R: Read, A: Allocator + Copy>(
+fn uncounted<C: Ledger, S: Source, A: Allocator + Copy>(
     alloc: A,
-    reader: &mut Watched<R>,
+    reader: &mut S,
     layout: u8,
     slots: usize,
     memory_limit: usize,
@@ -200,12 +199,12 @@ fn uncounted<C: Ledger, R: Read, A: Allocator + Copy>(
     requires parts { blank.parts ≡ C.parts }
     requires some { 0 < blank.parts }
     ensures bytes { IfOk result (λ d. (front : List ℕ) × IsHeader layout front d.header
-        × Consumes (R.remaining (device_of reader.old)) (R.remaining (device_of reader.new)) (front ++ listed_bytes (listed_in d.header) d.nodes.items d.n_infos.items d.blocks.items d.reject.items)) }
+        × Consumes (S.remaining reader.old) (S.remaining reader.new) (front ++ listed_bytes (listed_in d.header) d.nodes.items d.n_infos.items d.blocks.items d.reject.items)) }
     ensures file { IfOk result (λ d. IsFile slots memory_limit d.header d.nodes.items d.n_infos.items d.blocks.items d.reject.items) }
-    ensures answer { IfSome (R.remaining (device_of reader.old)) (λ bytes. has_failed reader.new ≡ false → DecodeAnswers layout slots memory_limit bytes result) }
-    ensures at_end { OnOk result (has_failed reader.new ≡ false → IsAtEnd (R.remaining (device_of reader.new))) }
-    ensures io { IfErr result (λ e. IsIo e → has_failed reader.new ≡ true) }
-    ensures lacks { IfErr result (LacksNoMore (Passes layout slots memory_limit (R.remaining (device_of reader.old)))) }
+    ensures answer { IfSome (S.remaining reader.old) (λ bytes. S.failed reader.new ≡ false → DecodeAnswers layout slots memory_limit bytes result) }
+    ensures at_end { OnOk result (S.failed reader.new ≡ false → IsAtEnd (S.remaining reader.new)) }
+    ensures io { IfErr result (λ e. IsIo e → S.failed reader.new ≡ true) }
+    ensures lacks { IfErr result (LacksNoMore (Passes layout slots memory_limit (S.remaining reader.old))) }
 {
     let mut asked = Ticks::<C>::new(blank);
     decode_counted(alloc, reader, layout, slots, memory_limit, &mut asked)
@@ -216,9 +215,9 @@ fn uncounted<C: Ledger, R: Read, A: Allocator + Copy>(
 /// # Errors
 /// The first refusal, if there is one; `AllocationFailed` with the number of elements where a table's request was refused,
 /// once the header has passed; `Io` where the reader failed.
-pub fn decode_counted<R: Read, A: Allocator + Copy, C: Ledger>(
+pub fn decode_counted<S: Source, A: Allocator + Copy, C: Ledger>(
     alloc: A,
-    reader: &mut Watched<R>,
+    reader: &mut S,
     layout: u8,
     slots: usize,
     memory_limit: usize,
@@ -228,20 +227,20 @@ pub fn decode_counted<R: Read, A: Allocator + Copy, C: Ledger>(
 
     // Whatever the reader does, fields come only with just their bytes.
     ensures bytes { IfOk result (λ d. (front : List ℕ) × IsHeader layout front d.header
-        × Consumes (R.remaining (device_of reader.old)) (R.remaining (device_of reader.new)) (front ++ listed_bytes (listed_in d.header) d.nodes.items d.n_infos.items d.blocks.items d.reject.items)) }
+        × Consumes (S.remaining reader.old) (S.remaining reader.new) (front ++ listed_bytes (listed_in d.header) d.nodes.items d.n_infos.items d.blocks.items d.reject.items)) }
     ensures file { IfOk result (λ d. IsFile slots memory_limit d.header d.nodes.items d.n_infos.items d.blocks.items d.reject.items) }
 
     // A reader that tells its bytes and does not fail gets the first refusal, if there is one.
-    ensures answer { IfSome (R.remaining (device_of reader.old)) (λ bytes. has_failed reader.new ≡ false → DecodeAnswers layout slots memory_limit bytes result) }
-    ensures at_end { OnOk result (has_failed reader.new ≡ false → IsAtEnd (R.remaining (device_of reader.new))) }
-    ensures io { IfErr result (λ e. IsIo e → has_failed reader.new ≡ true) }
-    ensures lacks { IfErr result (LacksNoMore (Passes layout slots memory_limit (R.remaining (device_of reader.old)))) }
+    ensures answer { IfSome (S.remaining reader.old) (λ bytes. S.failed reader.new ≡ false → DecodeAnswers layout slots memory_limit bytes result) }
+    ensures at_end { OnOk result (S.failed reader.new ≡ false → IsAtEnd (S.remaining reader.new)) }
+    ensures io { IfErr result (λ e. IsIo e → S.failed reader.new ≡ true) }
+    ensures lacks { IfErr result (LacksNoMore (Passes layout slots memory_limit (S.remaining reader.old))) }
 
     // Nothing is asked of memory before the header has passed, and then at most the need that it was tested for.
-    ensures asked { CountsWithin layout slots memory_limit (R.remaining (device_of reader.old)) need asked.old asked.new }
+    ensures asked { CountsWithin layout slots memory_limit (S.remaining reader.old) need asked.old asked.new }
 
     // The header of what was read has passed.
-    ensures passes { IfOk result (λ d. Passes layout slots memory_limit (R.remaining (device_of reader.old)) d.header) }
+    ensures passes { IfOk result (λ d. Passes layout slots memory_limit (S.remaining reader.old) d.header) }
 {
     let header = read_header(reader, layout)?;
     check_sizes(&header, slots, memory_limit)?;

@@ -101,6 +101,16 @@ pub(crate) fn u64_of(bytes: [u8; 8]) -> u64
     u64::from_le_bytes(bytes)
 }
 
+/// Takes as many bytes from the front as the buffer has, by one copy.
+pub(crate) fn take_bytes(bytes: &mut &[u8], buf: &mut [u8])
+    requires { length buf.old ≤ length bytes.old.now }
+    ensures { bytes.old.now ≡ buf.new ++ bytes.new.now }
+{
+    let (front, rest) = bytes.split_at(buf.len());
+    *bytes = rest;
+    buf.copy_from_slice(front);
+}
+
 /// Takes a byte from the front.
 pub(crate) fn take_u8(bytes: &mut &[u8]) -> u8
     requires { 1 ≤ length bytes.old.now }

@@ -11,9 +11,10 @@ ghost use Rattle.std.specs.Io.KnownBytes.{Appends, Consumes};
 use crate::buffer::{Buffer, put_bytes, put_i32, put_u16, put_usize};
 use crate::error::CedarPersistenceError;
 use crate::numbers::write_bytes;
+use crate::source::Source;
 use crate::watched::Watched;
 use std::io;
-use std::io::{ErrorKind, Read, Write};
+use std::io::{ErrorKind, Write};
 
 /// The first eight bytes of a file.
 pub const MAGIC: [u8; 8] = *b"CEDARW\0\0";
@@ -200,17 +201,14 @@ pub(crate) fn parse_header(bytes: &[u8], layout: u8) -> Result<Header, CedarPers
 }
 
 /// Reads a header of this layout.
-pub fn read_header<R: Read>(
-    reader: &mut Watched<R>,
-    layout: u8,
-) -> Result<Header, CedarPersistenceError>
+pub fn read_header<S: Source>(reader: &mut S, layout: u8) -> Result<Header, CedarPersistenceError>
     // What was read is a header of this layout with just these fields.
-    ensures bytes { IfOk result (λ h. (bytes : List ℕ) × Consumes (R.remaining (device_of reader.old)) (R.remaining (device_of reader.new)) bytes × IsHeader layout bytes h) }
+    ensures bytes { IfOk result (λ h. (bytes : List ℕ) × Consumes (S.remaining reader.old) (S.remaining reader.new) bytes × IsHeader layout bytes h) }
     // A reader that tells its bytes and does not fail gets the first refusal, if there is one.
-    ensures refusal { IfSome (R.remaining (device_of reader.old)) (λ bytes. has_failed reader.new ≡ false → refusal result ≡ header_refusal layout (take 88 bytes)) }
-    ensures io { IfErr result (λ e. IsIo e → has_failed reader.new ≡ true) }
+    ensures refusal { IfSome (S.remaining reader.old) (λ bytes. S.failed reader.new ≡ false → refusal result ≡ header_refusal layout (take 88 bytes)) }
+    ensures io { IfErr result (λ e. IsIo e → S.failed reader.new ≡ true) }
     ensures room { IfErr result (λ e. IsLack e → ⊥) }
-    ensures failed { has_failed reader.old ≡ true → has_failed reader.new ≡ true }
+    ensures failed { S.failed reader.old ≡ true → S.failed reader.new ≡ true }
 {
     let mut buf = [0u8; HEADER_LEN];
     let (count, fault) = reader.read_available(&mut buf);

@@ -11,6 +11,7 @@ mod listing;
 mod numbers;
 mod record;
 mod reserve;
+mod source;
 mod table;
 mod watched;
 
@@ -26,5 +27,6 @@ pub use numbers::{
     read_i16, read_i32, read_u8, read_u16, read_u64, read_usize, write_i16, write_i32, write_usize,
 };
 pub use reserve::reserve_exact;
+pub use source::Source;
 pub use table::{table_of, write_table};
 pub use watched::Watched;

@@ -9,15 +9,16 @@ ghost use Rattle.cedar_format.specs.WatchedDevice.{device_of, has_failed};
 
 use crate::buffer::BUFFER_LEN;
 use crate::error::CedarPersistenceError;
-use crate::numbers::{read_bytes, write_bytes};
+use crate::numbers::write_bytes;
 use crate::record::Record;
+use crate::source::Source;
 use crate::watched::Watched;
 use std::alloc::Allocator;
-use std::io::{Read, Write};
+use std::io::Write;
 
 /// Reads a list of so many records.
-pub(crate) fn read_records<R: Read, T: Record, A: Allocator>(
-    reader: &mut Watched<R>,
+pub(crate) fn read_records<S: Source, T: Record, A: Allocator>(
+    reader: &mut S,
     count: usize,
     records: &mut Vec<T, A>,
 ) -> Result<(), CedarPersistenceError>
@@ -25,11 +26,11 @@ pub(crate) fn read_records<R: Read, T: Record, A: Allocator>(
     requires room { count ≤ vec_capacity records.old }
     ensures count { OnOk result (vec_len records.new ≡ count) }
     ensures capacity { OnOk result (vec_capacity records.new ≡ vec_capacity records.old) }
-    ensures bytes { OnOk result (Consumes (R.remaining (device_of reader.old)) (R.remaining (device_of reader.new)) (flat_map T.bytes_of records.new.items)) }
+    ensures bytes { OnOk result (Consumes (S.remaining reader.old) (S.remaining reader.new) (flat_map T.bytes_of records.new.items)) }
     ensures fits { OnOk result (All T.Fits records.new.items) }
     ensures len { OnOk result (length (flat_map T.bytes_of records.new.items) ≡ count * T.LEN) }
-    ensures misses { IfErr result (Misses (R.remaining (device_of reader.old)) (has_failed reader.new) (count * T.LEN)) }
-    ensures failed { has_failed reader.old ≡ true → has_failed reader.new ≡ true }
+    ensures misses { IfErr result (Misses (S.remaining reader.old) (S.failed reader.new) (count * T.LEN)) }
+    ensures failed { S.failed reader.old ≡ true → S.failed reader.new ≡ true }
 {
     let mut buffer = [0u8; BUFFER_LEN];
     let most = BUFFER_LEN / T::LEN;
@@ -41,8 +42,8 @@ pub(crate) fn read_records<R: Read, T: Record, A: Allocator>(
 }
 
 /// Reads as many further records as fit in the buffer.
-fn read_piece<R: Read, T: Record, A: Allocator>(
-    reader: &mut Watched<R>,
+fn read_piece<S: Source, T: Record, A: Allocator>(
+    reader: &mut S,
     buffer: &mut [u8; BUFFER_LEN],
     count: usize,
     records: &mut Vec<T, A>,
@@ -52,13 +53,13 @@ fn read_piece<R: Read, T: Record, A: Allocator>(
     requires fits { All T.Fits records.old.items }
     ensures count { OnOk result (vec_len records.new ≡ vec_len records.old + count) }
     ensures capacity { vec_capacity records.new ≡ vec_capacity records.old }
-    ensures bytes { OnOk result ((bytes : List ℕ) × Consumes (R.remaining (device_of reader.old)) (R.remaining (device_of reader.new)) bytes × (flat_map T.bytes_of records.new.items ≡ flat_map T.bytes_of records.old.items ++ bytes)) }
+    ensures bytes { OnOk result ((bytes : List ℕ) × Consumes (S.remaining reader.old) (S.remaining reader.new) bytes × (flat_map T.bytes_of records.new.items ≡ flat_map T.bytes_of records.old.items ++ bytes)) }
     ensures fits { OnOk result (All T.Fits records.new.items) }
-    ensures misses { IfErr result (Misses (R.remaining (device_of reader.old)) (has_failed reader.new) (count * T.LEN)) }
-    ensures failed { has_failed reader.old ≡ true → has_failed reader.new ≡ true }
+    ensures misses { IfErr result (Misses (S.remaining reader.old) (S.failed reader.new) (count * T.LEN)) }
+    ensures failed { S.failed reader.old ≡ true → S.failed reader.new ≡ true }
 {
     let bytes = &mut buffer[..count * T::LEN];
-    read_bytes(reader, bytes)?;
+    reader.fill(bytes)?;
     take_records(bytes, count, records);
     Ok(())
 }

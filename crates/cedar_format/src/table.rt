@@ -2,7 +2,7 @@
 
 ghost use Rattle.std.specs.Prelude.{◌≡◌, ◌≤◌, ◌^◌, true, IfErr, OnOk};
 ghost use Rattle.std.specs.Io.KnownBytes.{Appends};
-ghost use Rattle.cedar_table.specs.Table.TableFields.{fields};
+ghost use Rattle.cedar_table.specs.Table.Views.{fields};
 ghost use Rattle.cedar_format.specs.Format.{IsFile};
 ghost use Rattle.cedar_format.specs.Records.{body_bytes, FitsBody};
 ghost use Rattle.cedar_format.specs.Reading.{IsIo};

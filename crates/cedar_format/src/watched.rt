@@ -1,12 +1,14 @@
 //! A reader or writer that remembers whether one of its calls failed.
 
-ghost use Rattle.std.specs.Prelude.{◌≡◌, ◌<◌, ◌≤◌, ◌||◌, true, false, length, is_err, take, IfNone, OnSome, IfErr, OnOk, OnErr};
-ghost use Rattle.std.specs.Io.KnownBytes.{Appends, Consumes, IsAtEnd, Keeps, ReadConsumes, WriteAppends};
+ghost use Rattle.std.specs.Prelude.{◌≡◌, ◌||◌, true, false, length, is_err, IfErr, OnOk, OnErr};
+ghost use Rattle.std.specs.Io.KnownBytes.{Appends, Consumes, Keeps, ReadConsumes, WriteAppends};
 ghost use Rattle.std.specs.Io.{ReadsAtMost, WritesAtMost};
 ghost use Rattle.std.specs.IoError.{error_kind};
 ghost use Rattle.cedar_format.specs.Reading.{EndsWithin};
 ghost use Rattle.cedar_format.specs.WatchedDevice.{device_of, has_failed, is_write_fault};
 
+use crate::error::CedarPersistenceError;
+use crate::source::Source;
 use std::io;
 use std::io::{ErrorKind, Read, Write};
 
@@ -88,15 +90,25 @@ impl<R: Read> Read for Watched<R> {
     }
 }
 
-impl<R: Read> Watched<R> {
-    /// Fills the buffer as far as the input goes. Answers how many bytes came, and the fault that ended them.
-    pub(crate) fn read_available(&mut self, buf: &mut [u8]) -> (usize, Option<io::Error>)
-        ensures within { result.0 ≤ length buf.new }
-        ensures bytes { Consumes (R.remaining (device_of self.old)) (R.remaining (device_of self.new)) (take result.0 buf.new) }
-        ensures ended { IfNone result.1 (result.0 < length buf.new → IsAtEnd (R.remaining (device_of self.new))) }
-        ensures fault { OnSome result.1 (has_failed self.new ≡ true) }
-        ensures failed { has_failed self.old ≡ true → has_failed self.new ≡ true }
-    {
+impl<R: Read> Source for Watched<R> {
+    ghost remaining = { λ w. R.remaining (device_of w) };
+
+    ghost failed = { has_failed };
+
+    fn fill(&mut self, buf: &mut [u8]) -> Result<(), CedarPersistenceError> {
+        match self.read_exact(buf) {
+            Ok(()) => Ok(()),
+            Err(error) => {
+                if error.kind() == ErrorKind::UnexpectedEof {
+                    Err(CedarPersistenceError::Truncated)
+                } else {
+                    Err(CedarPersistenceError::Io(error))
+                }
+            }
+        }
+    }
+
+    fn read_available(&mut self, buf: &mut [u8]) -> (usize, Option<io::Error>) {
         let mut filled = 0;
         let mut tries = u64::MAX;
         while filled < buf.len() {

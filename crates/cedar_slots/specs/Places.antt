@@ -3,8 +3,8 @@ use Rattle.std.specs.Prelude.{bit_xor, ◌≡◌, ℕ, ◌+◌, ◌*◌, ◌/◌
 use Rattle.cedar_slots.specs.Blocks.{blank_block, block_at, BlockFields, counts_at, HasLists, head_of, kind_of, Sized}
 use Rattle.cedar_slots.specs.declared.blocks.BlockType.{BlockType}
 use Rattle.cedar_slots.specs.declared.blocks.BlockType.TheVariants.{Open}
-use Rattle.cedar_slots.specs.declared.error.CedarError.{CedarError}
-use Rattle.cedar_slots.specs.declared.error.CedarError.TheVariants.{Memory, SlotLimit}
+use Rattle.cedar_error.specs.declared.error.CedarError.{CedarError}
+use Rattle.cedar_error.specs.declared.error.CedarError.TheVariants.{Memory, SlotLimit}
 use Rattle.cedar_slots.specs.declared.blocks.Counts.{Counts}
 use Rattle.cedar_slots.specs.declared.records.BlockRecord.{BlockRecord}
 use Rattle.cedar_slots.specs.declared.records.NodeRecord.{NodeRecord}

@@ -1,20 +1,17 @@
 //! The slots of a double-array trie and where new ones are found: the rings in which free slots stand, the blocks of 256
 //! slots, the three lists of blocks, and the test of all of these where nobody has vouched for them. Nothing here knows what
-//! the slots stand for; the errors that the crates above share, and the faults of a table, stand here too, as the lowest place.
+//! the slots stand for.
 #![tactic(auto)]
 
 mod blocks;
 mod check;
-mod corrupt;
-mod error;
 mod places;
 mod records;
 mod slots;
 mod ticks;
 
 pub use blocks::{BlockType, Blocks, Counts};
-pub use corrupt::Corrupt;
-pub use error::CedarError;
+pub use cedar_error::{CedarError, Corrupt};
 pub use places::Places;
 pub use records::{BlockRecord, NInfoRecord, NodeRecord};
 pub use slots::{BLOCK_SIZE, Slots};

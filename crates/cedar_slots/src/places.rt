@@ -8,9 +8,9 @@ ghost use Rattle.cedar_slots.specs.Views.{blocks_of, places_of, slots_of};
 ghost use Rattle.cedar_slots.specs.Places.{AddsBlock, FreesSlot, Grown, IsFreePlace, IsNew, IsOpen, IsBase, IsPowerOfTwo, IsSlotLimit, IsStart, MayRefuse, NoneFree, reject_at, Rejects, room_for_one, SameSlots, Shaped, Sound, TakesSlot, Within};
 
 use crate::blocks::{BlockType, Blocks};
-use crate::error::CedarError;
 use crate::records::{BlockRecord, NInfoRecord, NodeRecord};
 use crate::slots::{BLOCK_SIZE, Slots};
+use cedar_error::CedarError;
 use std::alloc::{AllocError, Allocator};
 
 #[derive(Drop)]

@@ -1,6 +1,1 @@
-pub mod CellsLemmas
-pub mod EditLemmas
-pub mod MeaningLemmas
-pub mod RelocationLemmas
-pub mod UpdateLemmas
 pub mod WalkLemmas

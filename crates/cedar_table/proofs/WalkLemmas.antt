@@ -3,4 +3,3 @@ pub mod Batch
 pub mod Lanes
 pub mod NextFront
 pub mod NextNode
-pub mod SearchStep

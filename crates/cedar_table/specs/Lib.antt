@@ -1,5 +1,2 @@
-pub mod Edit
-pub mod Meaning
-pub mod Relocation
 pub mod Table
 pub mod Walk

@@ -1,5 +1,3 @@
--- The table's fields, and its slots as functions of their numbers.
-pub mod Cells
-pub mod Layouts
+-- A table and its parts as their fields.
 pub mod Parts
-pub mod TableFields
+pub mod Views

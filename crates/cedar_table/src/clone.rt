@@ -3,14 +3,14 @@
 ghost use Rattle.std.specs.Prelude.{◌≡◌, IfOk};
 ghost use Rattle.cedar_slots.specs.Views.{places_of};
 
-use crate::layout::Layout;
 use crate::table::Table;
+use cedar_meaning::Layout;
 use cedar_slots::{Blocks, Places, Slots};
 use std::alloc::{AllocError, Allocator};
 use std::marker::PhantomData;
 
 impl<L: Layout, const SLOTS: usize, A: Allocator + Copy> Clone for Table<L, SLOTS, A> {
-    ghost use Rattle.cedar_table.specs.Table.TableFields.{fields};
+    ghost use Rattle.cedar_table.specs.Table.Views.{fields};
 
     // Equal in each field.
     ghost is_clone = { λ table copy. fields copy ≡ fields table };

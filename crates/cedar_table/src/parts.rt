@@ -4,10 +4,11 @@ ghost use Rattle.std.specs.Prelude.{◌≡◌, ◌+◌, ◌*◌, ◌≤◌, ◌�
 ghost use Rattle.std.specs.Result.{OkIff};
 ghost use Rattle.cedar_table.specs.Table.Parts.{parts_fields};
 ghost use Rattle.cedar_slots.specs.Places.{IsPowerOfTwo, IsSlotLimit, IsTable, Shaped};
-ghost use Rattle.cedar_table.specs.Table.TableFields.{capacity_of, fields};
+ghost use Rattle.cedar_table.specs.Table.Views.{fields};
+ghost use Rattle.cedar_meaning.specs.Table.TableFields.{capacity_of};
 
-use crate::layout::Layout;
 use crate::table::Table;
+use cedar_meaning::Layout;
 use cedar_slots::{
     BLOCK_SIZE, BlockRecord, Blocks, Corrupt, NInfoRecord, NodeRecord, Places, Slots, Ticks,
 };

@@ -4,8 +4,8 @@ ghost use Rattle.std.specs.Prelude.{◌≡◌, ◌≤ℤ◌, ◌*◌, ◌≤◌,
 ghost use Rattle.cedar_slots.specs.Places.{IsSlotLimit, IsTable, Shaped};
 ghost use Rattle.cedar_slots.specs.Views.{places_of};
 
-use crate::layout::{Layout, Stored};
 use arrayvec::ArrayVec;
+use cedar_meaning::{Layout, Stored};
 use cedar_slots::{BLOCK_SIZE, BlockRecord, CedarError, NInfoRecord, NodeRecord, Places, Ticks};
 use std::alloc::Allocator;
 use std::marker::PhantomData;
@@ -30,16 +30,17 @@ pub struct Table<L: Layout, const SLOTS: usize, A: Allocator> {
 impl<L: Layout, const SLOTS: usize, A: Allocator> Table<L, SLOTS, A> {
     ghost use Rattle.std.specs.Prelude.{ℕ, ◌<◌, ◌^◌, ◌⊎◌, ◌+◌, ◌-◌, ◌/◌, ◌↔◌, count_by, IfErr, IfOk, IsTrue, negsuc, OnErr};
     ghost use Rattle.std.specs.List.{range_with_len};
-    ghost use Rattle.cedar_slots.specs.declared.error.CedarError.TheVariants.{Memory};
+    ghost use Rattle.cedar_error.specs.declared.error.CedarError.TheVariants.{Memory};
     ghost use Rattle.cedar_slots.specs.Blocks.{block_at};
-    ghost use Rattle.cedar_table.specs.Table.Cells.{Gives, HasPlaces, Held, InfoWritten, is_held, IsPlace, NodeWritten, NoPlace, SameHeld, Takes};
-    ghost use Rattle.cedar_table.specs.Table.Layouts.{reading};
+    ghost use Rattle.cedar_meaning.specs.Table.Cells.{Gives, HasPlaces, Held, InfoWritten, is_held, IsPlace, NodeWritten, NoPlace, SameHeld, Takes};
+    ghost use Rattle.cedar_meaning.specs.Table.Layouts.{reading};
     ghost use Rattle.cedar_slots.specs.Places.{AddsBlock, IsNew, MayRefuse, reject_at, SameSlots};
-    ghost use Rattle.cedar_table.specs.Edit.Asked.{MayClaim};
-    ghost use Rattle.cedar_table.specs.Relocation.Reserved.{freed};
+    ghost use Rattle.cedar_meaning.specs.Edit.Asked.{MayClaim};
+    ghost use Rattle.cedar_meaning.specs.Relocation.Reserved.{freed};
     ghost use Rattle.cedar_slots.specs.Slots.{check_at};
-    ghost use Rattle.cedar_table.specs.Table.TableFields.{capacity_of, cells, fields, SameFrame, SameSettings, size_of};
-    ghost use Rattle.cedar_table.specs.Meaning.WellFormed.{IsWellFormed, tree_of};
+    ghost use Rattle.cedar_table.specs.Table.Views.{cells, fields};
+    ghost use Rattle.cedar_meaning.specs.Table.TableFields.{capacity_of, SameFrame, SameSettings, size_of};
+    ghost use Rattle.cedar_meaning.specs.Meaning.WellFormed.{IsWellFormed, tree_of};
     ghost use Rattle.cedar_tree.specs.Tree.{empty_tree};
 
     /// A table with one block, in which the root alone is held. It stands for the empty tree.

@@ -6,10 +6,10 @@ use Rattle.std.specs.Io.KnownBytes.{Consumes, IsAtEnd}
 use Rattle.cedar_slots.specs.declared.records.NodeRecord.{NodeRecord}
 use Rattle.cedar_slots.specs.declared.records.NInfoRecord.{NInfoRecord}
 use Rattle.cedar_slots.specs.declared.records.BlockRecord.{BlockRecord}
-use Rattle.cedar_table.specs.Table.Layouts.{LayoutKind, layout_byte}
+use Rattle.cedar_meaning.specs.Table.Layouts.{LayoutKind, layout_byte}
 use Rattle.cedar_slots.specs.Places.{IsPowerOfTwo}
-use Rattle.cedar_table.specs.Table.TableFields.{Fields, capacity_of}
-use Rattle.cedar_table.specs.Meaning.WellFormed.{IsWellFormed}
+use Rattle.cedar_meaning.specs.Table.TableFields.{Fields, capacity_of}
+use Rattle.cedar_meaning.specs.Meaning.WellFormed.{IsWellFormed}
 use Rattle.cedar_format.specs.declared.error.CedarPersistenceError.{CedarPersistenceError}
 use Rattle.cedar_format.specs.declared.error.CedarPersistenceError.TheVariants as errors
 use Rattle.cedar_format.specs.Reading.{LacksNoMore}

@@ -1,8 +1,8 @@
 -- What is said of a call's result, said of it without its answer; and what a pair at fault leaves.
 use Rattle.std.proofs.Common.{◌≡◌, ℕ, ℤ, Option, Some, None, IfSome, IfOk, IfErr, IsOk, OnOk, OnErr, Result, Ok, Err, refl, ap, sym, subst, arith, ◌∙◌, List, ◌⊎◌, inl, inr}
-use Rattle.cedar_slots.specs.declared.error.CedarError.{CedarError}
-use Rattle.cedar_slots.specs.declared.error.CedarError.TheVariants.{Memory, SlotLimit}
-use Rattle.cedar_table.specs.Table.Layouts.{LayoutKind}
+use Rattle.cedar_error.specs.declared.error.CedarError.{CedarError}
+use Rattle.cedar_error.specs.declared.error.CedarError.TheVariants.{Memory, SlotLimit}
+use Rattle.cedar_meaning.specs.Table.Layouts.{LayoutKind}
 use Rattle.cedarwood.specs.Builds.{outcome}
 use Rattle.cedarwood.specs.Dictionary.{Dictionary}
 use Rattle.cedarwood.specs.Fault.{fault}

@@ -1,22 +1,25 @@
 -- What pairs without a fault are, and where the first fault comes.
-use Rattle.std.proofs.Common.{◌≡◌, ℕ, zero, suc, ◌+◌, ◌<◌, ◌≤◌, ◌∙◌, sym, ap, subst, refl, arith, false, true, List, [], ◌∷◌, map, length, ◌++◌, take, drop, drop-cons, get_or, ◌-◌, Option, Some, None, IfSome, Err, Result}
-use Rattle.std.specs.Prelude.{IsOk, ℤ}
+use Rattle.std.proofs.Common.{◌≡◌, ℕ, zero, suc, ◌+◌, ◌<◌, ◌≤◌, ◌∙◌, ◌==◌, cond, ltb, sym, ap, subst, refl, arith, false, true, List, [], ◌∷◌, map, length, ◌++◌, take, drop, drop-cons, get_or, ◌-◌, Option, option_map, Some, None, IfSome, Err, Result}
+use Rattle.std.specs.Prelude.{IsOk, nat_lt, ℤ}
 use Rattle.std.proofs.lemmas.List.{get_or-map, length-map, take_more}
-use Rattle.std.specs.List.{AllByRecursion}
+use Rattle.std.proofs.lemmas.Bool.Decides.{nat_tests}
+use Rattle.std.proofs.lemmas.List.Sums.{position_or_len_is}
+use Rattle.std.specs.List.{AllByRecursion, position_or_len}
 use Rattle.std.specs.List.Sorted.{IsStrictlySortedBy}
 use Rattle.std.specs.Cmp.Lexicographic.{slice_cmp}
-use Rattle.std.specs.Ordering.{nat_cmp}
+use Rattle.std.specs.Ordering.{nat_cmp, ordering_then}
 use Rattle.std.specs.declared.cmp.Ordering.{Ordering}
 use Rattle.std.specs.declared.cmp.Ordering.TheVariants.{Equal, Greater, Less}
 use Rattle.std.proofs.lemmas.Cmp.{nat_list_cmp_total}
 use Rattle.cedar_tree.specs.Queries.{Entry}
 use Rattle.cedar_tree.specs.Laws.{ArePathsAscending, ArePathsKeys}
-use Rattle.cedar_slots.specs.declared.error.CedarError.{CedarError}
-use Rattle.cedar_slots.specs.declared.error.CedarError.TheVariants.{DuplicateKey, KeysNotSorted}
-use Rattle.cedar_table.specs.Meaning.WellFormed.{is_value}
+use Rattle.cedar_tree.specs.Tree.{IsKey, IsPath}
+use Rattle.cedar_error.specs.declared.error.CedarError.{CedarError}
+use Rattle.cedar_error.specs.declared.error.CedarError.TheVariants.{DuplicateKey, KeysNotSorted, NulByte}
+use Rattle.cedar_meaning.specs.Meaning.WellFormed.{is_value}
 use Rattle.cedar_bulk.specs.Sorted.{entries_by}
-use Rattle.cedarwood.specs.Fault.{fault, or_else}
-use Rattle.cedarwood.specs.SortedInput.{AreBytes, fault_behind, fault_from, fault_of_order, key_at}
+use Rattle.cedarwood.specs.Fault.{fault, IsInRange, key_fault, or_else, value_fault}
+use Rattle.cedarwood.specs.SortedInput.{AreBytes, fault_behind, fault_from, fault_of_order, HasNoNul, key_at}
 use Rattle.cedarwood.proofs.DictionaryLemmas.{is_value_of}
 use Rattle.cedarwood.proofs.FaultLemmas.{in_range_of, key_of, key_part}
 
@@ -93,6 +96,57 @@ fault_handed_on (Some x) r r' e faulty sound was is = let same : e ≡ x = cc in
 
 pub faultless : {X : Type 0} (f : Option CedarError) (r : Result X CedarError) → f ≡ None → IfSome f (λ x. r ≡ Err x)
 faultless f r e = subst (λ o. IfSome o (λ x. r ≡ Err x)) (sym e) tt
+
+-- ---- the quick test
+
+-- two keys are in order if what they share ends where the first one ends, or where its byte is lower
+pub less_at : (xs ys : List ℕ) (n : ℕ) → ((i : ℕ) → i < n → get_or xs i 0 ≡ get_or ys i 0) → n ≤ length xs → n < length ys → (n < length xs → get_or xs n 0 < get_or ys n 0) → slice_cmp nat_cmp xs ys ≡ Less
+less_at [] [] n same h l lower = absurd (omega (arith, l))
+less_at [] (y ∷ ys) n same h l lower = refl
+less_at (x ∷ xs) [] n same h l lower = absurd (omega (arith, l))
+less_at (x ∷ xs) (y ∷ ys) zero same h l lower =
+    let less : x < y = lower (omega arith) in
+    let test : nat_lt x y ≡ true = grind (arith, nat_tests) in
+    ap (λ b. ordering_then (cond b Less (cond (x == y) Equal Greater)) (slice_cmp nat_cmp xs ys)) test
+less_at (x ∷ xs) (y ∷ ys) (suc n) same h l lower =
+    let first : x ≡ y = same 0 (omega arith) in
+    let test : nat_lt x y ≡ false = grind (arith, nat_tests) in
+    let equal : (x == y) ≡ true = grind (arith, nat_tests) in
+    ap (λ b. ordering_then (cond b Less (cond (x == y) Equal Greater)) (slice_cmp nat_cmp xs ys)) test
+    ∙ ap (λ b. ordering_then (cond b Equal Greater) (slice_cmp nat_cmp xs ys)) equal
+    ∙ less_at xs ys n (λ i k. same (suc i) (omega (arith, k))) (omega (arith, h)) (omega (arith, l)) (λ k. lower (omega (arith, k)))
+
+-- bytes without a 0, of which there is one, are no fault
+pub clean_key : (key : List ℕ) → HasNoNul key → 0 < length key → key_fault key ≡ None
+clean_key [] clean some = absurd (omega (arith, some))
+clean_key (b ∷ rest) clean some =
+    let key : List ℕ = b ∷ rest in
+    let none : (k : ℕ) → k < length key → (get_or key k 0 == 0) ≡ false = λ k h. let other = clean k h in grind (arith, nat_tests) in
+    let all : position_or_len (λ c. c == 0) key ≡ length key = position_or_len_is (λ c. c == 0) key (length key) 0 (omega arith) none (λ h. absurd (omega (arith, h))) in
+    let past : ltb (length key) (length key) ≡ false = grind (arith, nat_tests) in
+    ap (λ n. option_map NulByte (cond (ltb n (length key)) (Some n) None)) all
+    ∙ ap (λ t. option_map NulByte (cond t (Some (length key)) None)) past
+
+-- nor is a pair of them in order
+pub no_fault_behind : (index : ℕ) (before key : List ℕ) (v : ℤ) → slice_cmp nat_cmp before key ≡ Less → HasNoNul key → 0 < length key → IsInRange v → fault_behind index before key v ≡ None
+no_fault_behind index before key v less clean some range =
+    ap (λ f. or_else (or_else f (value_fault v)) (fault_of_order index (slice_cmp nat_cmp before key))) (clean_key key clean some)
+    ∙ ap (λ f. or_else f (fault_of_order index (slice_cmp nat_cmp before key))) range
+    ∙ ap (fault_of_order index) less
+
+path_clean : (key : List ℕ) → IsPath key → HasNoNul key
+path_clean [] path i h = absurd (omega (arith, h))
+path_clean (b ∷ key) path zero h = λ e. omega (arith, path.0, e)
+path_clean (b ∷ key) path (suc i) h = path_clean key path.2 i (omega (arith, h))
+
+key_clean : (key : List ℕ) → IsKey key → HasNoNul key
+key_clean [] is = absurd is
+key_clean (b ∷ key) is = path_clean (b ∷ key) is
+
+-- a key without a fault has no byte 0
+pub clean_behind : (index : ℕ) (before key : List ℕ) (v : ℤ) → fault_behind index before key v ≡ None → ((i : ℕ) → get_or key i 0 < 256) → HasNoNul key
+clean_behind index before key v sound bytes =
+    key_clean key (key_of key v (key_part (fault key v) (fault_of_order index (slice_cmp nat_cmp before key)) sound).0 bytes)
 
 bytes_last : (xs : List Entry) (p : Entry) → AreBytes xs → ((i : ℕ) → get_or p.0 i 0 < 256) → AreBytes (xs ++ p ∷ [])
 bytes_last [] p all here = (here, tt)

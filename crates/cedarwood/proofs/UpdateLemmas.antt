@@ -4,16 +4,16 @@ use Rattle.std.proofs.lemmas.Result.{on_ok_weaker, on_err_weaker}
 use Rattle.cedar_tree.specs.Tree.{Tree, has_label, number_at, put}
 use Rattle.cedar_tree.specs.Queries.{used}
 use Rattle.cedar_tree.specs.State.{State, stored}
-use Rattle.cedar_slots.specs.declared.error.CedarError.{CedarError}
-use Rattle.cedar_slots.specs.declared.error.CedarError.TheVariants.{EmptyKey, NulByte, InvalidValue, Memory, SlotLimit}
-use Rattle.cedar_table.specs.Table.Cells.{NoPlace}
-use Rattle.cedar_table.specs.Table.Layouts.{default_layout}
-use Rattle.cedar_table.specs.Meaning.Marks.{marks, MarksPut}
+use Rattle.cedar_error.specs.declared.error.CedarError.{CedarError}
+use Rattle.cedar_error.specs.declared.error.CedarError.TheVariants.{EmptyKey, NulByte, InvalidValue, Memory, SlotLimit}
+use Rattle.cedar_meaning.specs.Table.Cells.{NoPlace}
+use Rattle.cedar_meaning.specs.Table.Layouts.{default_layout}
+use Rattle.cedar_meaning.specs.Meaning.Marks.{marks, MarksPut}
 use Rattle.cedar_slots.specs.Places.{MayRefuse, PlaceFields}
-use Rattle.cedar_table.specs.Edit.Steps.{MakesBlocks, SameModes, blocks_after}
-use Rattle.cedar_table.specs.Table.TableFields.{Fields, capacity_of, size_of}
-use Rattle.cedar_table.specs.Meaning.WellFormed.{IsWellFormed, cells_in, tree_of}
-use Rattle.cedar_table.proofs.MeaningLemmas.FullBlocks.{full_blocks_counted}
+use Rattle.cedar_meaning.specs.Edit.Steps.{MakesBlocks, SameModes, blocks_after}
+use Rattle.cedar_meaning.specs.Table.TableFields.{Fields, capacity_of, size_of}
+use Rattle.cedar_meaning.specs.Meaning.WellFormed.{IsWellFormed, cells_in, tree_of}
+use Rattle.cedar_meaning.proofs.MeaningLemmas.FullBlocks.{full_blocks_counted}
 use Rattle.cedarwood.specs.Dictionary.{Dictionary, Grows, first_bytes}
 use Rattle.cedarwood.specs.Fault.{fault, key_fault, value_fault, or_else, IsShortage}
 use Rattle.cedarwood.proofs.GrowthLemmas.{dictionary_of, blocks_stay, grows}

@@ -1,8 +1,8 @@
 -- What a load answers.
 use Rattle.std.specs.Prelude.{◌≡◌, ◌≤◌, ◌⊎◌, ℕ, List, take, Some, None, MatchOption, Result, Ok, Err, IsErrAnd}
 use Rattle.std.specs.Result.{IsOkAnd}
-use Rattle.cedar_table.specs.Table.Layouts.{LayoutKind, layout_byte}
-use Rattle.cedar_table.specs.Table.TableFields.{Fields}
+use Rattle.cedar_meaning.specs.Table.Layouts.{LayoutKind, layout_byte}
+use Rattle.cedar_meaning.specs.Table.TableFields.{Fields}
 use Rattle.cedar_format.specs.declared.error.CedarPersistenceError.{CedarPersistenceError}
 use Rattle.cedar_format.specs.Format.{header_answer, header_at, header_refusal, need, size_refusal, Passes}
 use Rattle.cedar_format.specs.declared.error.CedarPersistenceError.TheVariants.{AllocationFailed}

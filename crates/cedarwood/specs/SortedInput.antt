@@ -1,11 +1,11 @@
 -- What keeps pairs from being a sorted input.
-use Rattle.std.specs.Prelude.{ℕ, zero, suc, ◌+◌, ℤ, List, [], ◌∷◌, ◌<◌, get_or, Option, Some, None}
+use Rattle.std.specs.Prelude.{◌≡◌, ◌≢◌, ◌≤◌, ℕ, zero, suc, ◌+◌, ℤ, List, [], ◌∷◌, ◌<◌, get_or, length, Option, Some, None}
 use Rattle.std.specs.Cmp.Lexicographic.{slice_cmp}
 use Rattle.std.specs.Ordering.{nat_cmp}
 use Rattle.std.specs.declared.cmp.Ordering.{Ordering}
 use Rattle.std.specs.declared.cmp.Ordering.TheVariants.{Equal, Greater, Less}
-use Rattle.cedar_slots.specs.declared.error.CedarError.{CedarError}
-use Rattle.cedar_slots.specs.declared.error.CedarError.TheVariants.{DuplicateKey, KeysNotSorted}
+use Rattle.cedar_error.specs.declared.error.CedarError.{CedarError}
+use Rattle.cedar_error.specs.declared.error.CedarError.TheVariants.{DuplicateKey, KeysNotSorted}
 use Rattle.cedar_tree.specs.Queries.{Entry}
 use Rattle.cedar_bulk.specs.Sorted.{Pair, entries_of}
 use Rattle.cedarwood.specs.Fault.{fault, or_else}
@@ -39,3 +39,16 @@ key_at before (e ∷ es) (suc i) = key_at e.0 es i
 abbrev pub AreBytes : List Entry → Type 0
 AreBytes [] = Unit {0}
 AreBytes (e ∷ es) = ((i : ℕ) → get_or e.0 i 0 < 256) × AreBytes es
+
+-- ---- what a quick test reads
+
+-- no byte is 0
+abbrev pub HasNoNul : List ℕ → Type 0
+HasNoNul key = (i : ℕ) → i < length key → get_or key i 0 ≢ 0
+
+-- two keys share their first n bytes, and no more
+pub record IsSharedFront (before key : List ℕ) (n : ℕ) : Type 0 where
+  pub in_before : n ≤ length before
+  pub in_key : n ≤ length key
+  pub same : (i : ℕ) → i < n → get_or before i 0 ≡ get_or key i 0
+  pub ends : n < length before → n < length key → get_or before n 0 ≢ get_or key n 0

@@ -3,10 +3,10 @@ use Rattle.std.specs.Prelude.{◌≡◌, ◌⊎◌, ℕ, ℤ, ◌+◌, ◌-◌, 
 use Rattle.cedar_tree.specs.Tree.{has_label, number_at}
 use Rattle.cedar_tree.specs.Queries.{used}
 use Rattle.cedar_tree.specs.State.{stored}
-use Rattle.cedar_slots.specs.declared.error.CedarError.{CedarError}
-use Rattle.cedar_slots.specs.declared.error.CedarError.TheVariants.{Memory, SlotLimit}
-use Rattle.cedar_table.specs.Meaning.Marks.{MarksPut}
-use Rattle.cedar_table.specs.Table.Layouts.{LayoutKind, default_layout, reduced_layout}
+use Rattle.cedar_error.specs.declared.error.CedarError.{CedarError}
+use Rattle.cedar_error.specs.declared.error.CedarError.TheVariants.{Memory, SlotLimit}
+use Rattle.cedar_meaning.specs.Meaning.Marks.{MarksPut}
+use Rattle.cedar_meaning.specs.Table.Layouts.{LayoutKind, default_layout, reduced_layout}
 use Rattle.cedarwood.specs.Dictionary.{Dictionary, Grows, IsMarked, first_bytes}
 use Rattle.cedarwood.specs.Fault.{fault, IsShortage}
 

@@ -4,9 +4,9 @@ use Rattle.cedar_tree.specs.Queries.{Entry, node_at, predict}
 use Rattle.cedar_tree.specs.Walks.{entries_of, visits_left}
 use Rattle.cedar_table.specs.declared.walk.visits.Visited.{Visited}
 use Rattle.cedar_table.specs.Walk.Fronts.{IsOnQuery}
-use Rattle.cedar_table.specs.Table.TableFields.{Fields}
+use Rattle.cedar_meaning.specs.Table.TableFields.{Fields}
 use Rattle.cedar_table.specs.Walk.Visits.{IsBelow, left_at, path_to}
-use Rattle.cedar_table.specs.Meaning.WellFormed.{cells_in, IsWellFormed, tree_of}
+use Rattle.cedar_meaning.specs.Meaning.WellFormed.{cells_in, IsWellFormed, tree_of}
 use Rattle.cedarwood.specs.declared.queries.predict.PredictPlace.{PredictPlace}
 use Rattle.cedarwood.specs.declared.queries.predict.PredictPlace.TheVariants.{End, Node, Start}
 

@@ -31,7 +31,7 @@ mod trie;
 
 pub use builder::CedarBuilder;
 pub use cedar_format::{
-    CedarPersistenceError, Watched, one_table_for_its_bytes, well_formed_tables_pass,
+    CedarPersistenceError, Source, Watched, one_table_for_its_bytes, well_formed_tables_pass,
 };
 pub use cedar_table::{CedarError, DefaultLayout, Layout, ReducedLayout, Ticks};
 // Laws of the tree that all answers come from, for whoever proves something of a dictionary's callers.

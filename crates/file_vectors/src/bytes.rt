@@ -24,10 +24,10 @@ pub fn saved<L: Layout>(alloc: Global, trie: &Full<L>) -> Result<Vec<u8>, CedarP
     Ok(writer.into_inner())
 }
 
-/// The dictionary of some bytes, read as of a layout.
+/// The dictionary of some bytes in memory, read as of a layout.
 #[tactic(auto, using(cedarwood::proofs::DictionaryLemmas::default_limit))]
 pub fn loaded_as<L: Layout>(alloc: Global, bytes: &[u8]) -> Result<Full<L>, CedarPersistenceError> {
-    Trie::load_from_reader(alloc, &mut Watched::new(bytes))
+    Trie::load_from_reader(alloc, &mut &bytes[..])
 }
 
 /// The dictionary of some bytes.

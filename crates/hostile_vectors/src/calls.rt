@@ -98,15 +98,22 @@ fn numbers_of_a_file(rt: HostRuntime) -> Result<(), Fail> {
     Ok(())
 }
 
+// From bytes in memory, and none is left after the last.
 #[test]
 fn unsigned_numbers_of_a_file(rt: HostRuntime) -> Result<(), Fail> {
-    let mut reader = Watched::new(b"\x01\x02\x03\x04\0\0\0\0\0\0\x80".as_slice());
+    let mut left = b"\x01\x02\x03\x04\0\0\0\0\0\0\x80".as_slice();
     let read = (
-        v1::read_u8(&mut reader)?,
-        v1::read_u16(&mut reader)?,
-        v1::read_u64(&mut reader)?,
+        v1::read_u8(&mut left)?,
+        v1::read_u16(&mut left)?,
+        v1::read_u64(&mut left)?,
     );
     assert_eq!(rt; read, (1, 0x0302, 0x8000_0000_0000_0004));
+    assert!(rt;
+        matches!(
+            v1::read_u8(&mut left),
+            Err(CedarPersistenceError::Truncated)
+        )
+    );
     Ok(())
 }
 

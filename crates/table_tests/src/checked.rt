@@ -2,8 +2,8 @@
 
 ghost use Rattle.std.specs.Prelude.{◌≡◌, ◌<◌, IfOk};
 ghost use Rattle.cedar_slots.specs.Places.{IsTable};
-ghost use Rattle.cedar_table.specs.Table.TableFields.{fields};
-ghost use Rattle.cedar_table.specs.Meaning.WellFormed.{IsWellFormed};
+ghost use Rattle.cedar_table.specs.Table.Views.{fields};
+ghost use Rattle.cedar_meaning.specs.Meaning.WellFormed.{IsWellFormed};
 
 use crate::keys::{erases, put};
 use crate::steps::takes;

@@ -2,7 +2,7 @@
 
 ghost use Rattle.std.specs.Prelude.{◌≡◌, ◌<◌, ◌≤◌, length};
 ghost use Rattle.cedar_slots.specs.Places.{IsTable};
-ghost use Rattle.cedar_table.specs.Table.TableFields.{fields};
+ghost use Rattle.cedar_table.specs.Table.Views.{fields};
 
 use crate::steps::{block, gives, heads, node, take, take_one, take_some, takes};
 use cedar_table::{DefaultLayout, Table, Ticks};

@@ -2,8 +2,8 @@
 
 ghost use Rattle.std.specs.Prelude.{◌≡◌, ◌==◌, IsTrue, position};
 ghost use Rattle.cedar_tree.specs.Tree.{IsKey};
-ghost use Rattle.cedar_table.specs.Table.TableFields.{fields};
-ghost use Rattle.cedar_table.specs.Meaning.WellFormed.{IsWellFormed};
+ghost use Rattle.cedar_table.specs.Table.Views.{fields};
+ghost use Rattle.cedar_meaning.specs.Meaning.WellFormed.{IsWellFormed};
 
 use cedar_table::{CedarError, DefaultLayout, Table};
 use std::alloc::Global;

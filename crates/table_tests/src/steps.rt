@@ -2,7 +2,7 @@
 
 ghost use Rattle.std.specs.Prelude.{◌≡◌};
 ghost use Rattle.cedar_slots.specs.Places.{IsTable};
-ghost use Rattle.cedar_table.specs.Table.TableFields.{fields};
+ghost use Rattle.cedar_table.specs.Table.Views.{fields};
 
 use cedar_table::{CedarError, DefaultLayout, Table, Ticks};
 use std::alloc::{AllocError, Allocator, Global};

@@ -5,22 +5,22 @@ use Rattle.std.proofs.lemmas.Bool.Decides.{nat_tests}
 use Rattle.cedar_tree.specs.Tree.{AllAbove, child, Forest, IsAscending, none}
 use Rattle.cedar_tree.specs.Queries.{node_at}
 use Rattle.cedar_tree.specs.Edits.{add_leaf, edit_at}
-use Rattle.cedar_table.specs.declared.layout.Stored.TheVariants.{AtBase}
-use Rattle.cedar_table.specs.Table.Cells.{Cells, Held}
-use Rattle.cedar_table.specs.Edit.NodeEdits.{Above, IsAt, IsNodeOf}
-use Rattle.cedar_table.specs.Meaning.Family.{Among, base_in, below, InRange}
-use Rattle.cedar_table.specs.Meaning.StandsFor.{HoldsTree}
+use Rattle.cedar_meaning.specs.declared.layout.Stored.TheVariants.{AtBase}
+use Rattle.cedar_meaning.specs.Table.Cells.{Cells, Held}
+use Rattle.cedar_meaning.specs.Edit.NodeEdits.{Above, IsAt, IsNodeOf}
+use Rattle.cedar_meaning.specs.Meaning.Family.{Among, base_in, base_of, below, InRange}
+use Rattle.cedar_meaning.specs.Meaning.StandsFor.{HoldsTree}
 use Rattle.cedar_slots.specs.Places.{IsTable}
 use Rattle.cedar_bulk.specs.Asked.{WantsLabel}
 use Rattle.cedar_bulk.specs.Sorted.{Ends, GetsLabels, leaves}
-use Rattle.cedar_table.specs.Edit.Steps.{root_of}
-use Rattle.cedar_table.specs.Table.TableFields.{Fields, SameFrame, size_of}
-use Rattle.cedar_table.specs.Meaning.WellFormed.{cells_in}
-use Rattle.cedar_table.proofs.EditLemmas.AtPath.{held_node}
-use Rattle.cedar_table.proofs.UpdateLemmas.Frame.{frame_same, frame_then}
-use Rattle.cedar_table.proofs.MeaningLemmas.TreeOf.{in_use}
+use Rattle.cedar_meaning.specs.Edit.Steps.{root_of}
+use Rattle.cedar_meaning.specs.Table.TableFields.{Fields, SameFrame, size_of}
+use Rattle.cedar_meaning.specs.Meaning.WellFormed.{cells_in}
+use Rattle.cedar_meaning.proofs.EditLemmas.AtPath.{held_node}
+use Rattle.cedar_meaning.proofs.UpdateLemmas.Frame.{frame_same, frame_then}
+use Rattle.cedar_meaning.proofs.MeaningLemmas.TreeOf.{in_use}
 use Rattle.cedar_bulk.proofs.BulkLemmas.OneAfterAnother.{ascending_edit, edit_alike, edit_nothing, edit_twice}
-use Rattle.cedar_table.proofs.MeaningLemmas.ExclusiveOr.{xor_injective}
+use Rattle.cedar_meaning.proofs.MeaningLemmas.ExclusiveOr.{xor_injective}
 
 -- ---- ascending labels
 
@@ -212,9 +212,9 @@ append_on slots size before mid after a x s done last way small up here k table 
     place_after = more.slot ∙ ap (λ st. bit_xor (base_in st) x) (sym (more.stays a (held_node (cells_in mid) way a (k.gets.paths way a here))))
 
 -- what the next label asks for
-pub append_ready : (slots : ℕ) (before mid : Fields) (a x : ℕ) (done : List ℕ) (last : Option ℕ) (f : Forest) (n : IsNodeOf (size_of before) (cells_in before) true f a) → (node_at (root_of f) n.path).children ≡ none → Above 0 (done ++ x ∷ [])
-    → a < size_of before → ((a ≡ 0 → ⊥) → InRange (size_of before) ((cells_in before).stored a)) → (Held (cells_in before) (below (cells_in before) a x) → ⊥) → Appending slots (size_of before) before mid a done last → WantsLabel slots mid a last x
-append_ready slots before mid a x done last f n bare up inside based free k =
+pub append_ready : (slots : ℕ) (before mid : Fields) (a base x : ℕ) (done : List ℕ) (last : Option ℕ) (f : Forest) (n : IsNodeOf (size_of before) (cells_in before) true f a) → (node_at (root_of f) n.path).children ≡ none → Above 0 (done ++ x ∷ [])
+    → a < size_of before → ((a ≡ 0 → ⊥) → InRange (size_of before) ((cells_in before).stored a)) → base ≡ base_of (cells_in before) a → (Held (cells_in before) (below (cells_in before) a x) → ⊥) → Appending slots (size_of before) before mid a done last → WantsLabel slots mid a base last x
+append_ready slots before mid a base x done last f n bare up inside based is free k =
     let same : size_of before ≡ size_of mid = sym k.frame.size in
     let high = above_last 0 done x up in
     let node = node_appending slots (size_of before) before mid a done last f 0 (x ∷ []) n bare up k in
@@ -224,6 +224,7 @@ append_ready slots before mid a x done last f n bare up inside based free k =
       node = (edit_at n.path (λ x. x) (λ _. leaves done) f, subst (λ m. IsNodeOf m (cells_in mid) true (edit_at n.path (λ x. x) (λ _. leaves done) f) a) same node);
       positive = high.0;
       based = λ z. subst (λ m. InRange m ((cells_in mid).stored a)) same (subst (InRange (size_of before)) (sym (k.gets.stays a (held_node (cells_in before) n.path a n.at))) (based z));
+      base_is = is ∙ ap base_in (sym (k.gets.stays a (held_node (cells_in before) n.path a n.at)));
       free = next_free (size_of before) (cells_in before) (cells_in mid) (cells_in mid) a x 0 done up n.path n.at k.gets free;
       ends = subst (λ m. Ends m (cells_in mid) a x last) same (k.ends x high.1);
     }

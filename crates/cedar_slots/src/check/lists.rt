@@ -12,9 +12,9 @@ ghost use Rattle.cedar_slots.specs.Views.{blocks_of};
 ghost use Rattle.cedar_slots.specs.declared.blocks.BlockType.TheVariants.{Full};
 
 use crate::blocks::{BlockType, Blocks, Counts};
-use crate::corrupt::Corrupt;
 use crate::records::BlockRecord;
 use crate::ticks::Ticks;
+use cedar_error::Corrupt;
 use std::alloc::Allocator;
 use std::sync::ledger::Ledger;
 

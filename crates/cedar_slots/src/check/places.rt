@@ -6,11 +6,11 @@ ghost use Rattle.cedar_slots.specs.PlaceChecks.{BlankBlocks, BlankSlots};
 ghost use Rattle.cedar_slots.specs.Places.{FreeBlock, HasFree, IsPowerOfTwo, reject_at, Rejects, Shaped, Sound};
 ghost use Rattle.cedar_slots.specs.Views.{blocks_of, places_of};
 
-use crate::corrupt::Corrupt;
 use crate::places::{Places, reserved};
 use crate::records::BlockRecord;
 use crate::slots::BLOCK_SIZE;
 use crate::ticks::Ticks;
+use cedar_error::Corrupt;
 use std::alloc::Allocator;
 use std::sync::ledger::Ledger;
 

@@ -10,10 +10,10 @@ ghost use Rattle.cedar_slots.specs.PlaceChecks.{Cleared, free_count, free_here, 
 ghost use Rattle.cedar_slots.specs.Slots.{info_at, is_free, node_at, SlotLink};
 ghost use Rattle.cedar_slots.specs.Views.{slots_of};
 
-use crate::corrupt::Corrupt;
 use crate::records::{NInfoRecord, NodeRecord};
 use crate::slots::{BLOCK_SIZE, Slots};
 use crate::ticks::Ticks;
+use cedar_error::Corrupt;
 use std::alloc::Allocator;
 use std::sync::ledger::Ledger;
 

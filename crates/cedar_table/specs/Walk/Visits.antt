@@ -4,11 +4,11 @@ use Rattle.cedar_tree.specs.Tree.{Forest, none, child}
 use Rattle.cedar_tree.specs.Queries.{node_at}
 use Rattle.cedar_tree.specs.Walks.{Visit, forwards, visits_after, visits_left}
 use Rattle.cedar_table.specs.declared.walk.visits.Visited.{Visited}
-use Rattle.cedar_table.specs.Table.Cells.{Cells}
-use Rattle.cedar_table.specs.Meaning.Family.{below}
-use Rattle.cedar_table.specs.Edit.NodeEdits.{IsAt}
-use Rattle.cedar_table.specs.Table.TableFields.{Fields}
-use Rattle.cedar_table.specs.Meaning.WellFormed.{cells_in, tree_of}
+use Rattle.cedar_meaning.specs.Table.Cells.{Cells}
+use Rattle.cedar_meaning.specs.Meaning.Family.{below}
+use Rattle.cedar_meaning.specs.Edit.NodeEdits.{IsAt}
+use Rattle.cedar_meaning.specs.Table.TableFields.{Fields}
+use Rattle.cedar_meaning.specs.Meaning.WellFormed.{cells_in, tree_of}
 
 -- the slot that owns a slot
 abbrev pub owner_of : Cells → ℕ → ℕ

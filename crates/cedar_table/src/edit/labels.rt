@@ -1,15 +1,16 @@
 //! The labels of a node as a list.
 
-use crate::layout::Layout;
 use crate::table::{Labels, Table};
 use arrayvec::ArrayVec;
+use cedar_meaning::Layout;
 use std::alloc::Allocator;
 
 impl<L: Layout, const SLOTS: usize, A: Allocator> Table<L, SLOTS, A> {
     ghost use Rattle.std.specs.Prelude.{◌≡◌, ◌≢◌, ℕ, List, [], ◌<◌, ◌↔◌, IsTrue, pos};
-    ghost use Rattle.cedar_table.specs.Meaning.Family.{below, Family, Head, Links, owned};
-    ghost use Rattle.cedar_table.specs.Relocation.Renaming.{IsNode};
-    ghost use Rattle.cedar_table.specs.Table.TableFields.{cells, fields, size_of};
+    ghost use Rattle.cedar_meaning.specs.Meaning.Family.{below, Family, Head, Links, owned};
+    ghost use Rattle.cedar_meaning.specs.Relocation.Renaming.{IsNode};
+    ghost use Rattle.cedar_table.specs.Table.Views.{cells, fields};
+    ghost use Rattle.cedar_meaning.specs.Table.TableFields.{size_of};
 
     /// Whether a node has a slot for its number. Only a node that names no first label can have one, so the check of that
     /// slot, which mostly lies far off, is seldom read.

@@ -1,7 +1,7 @@
 //! A label added to a node, and one taken away.
 
-use crate::layout::Layout;
 use crate::table::Table;
+use cedar_meaning::Layout;
 use cedar_slots::{BLOCK_SIZE, NInfoRecord};
 use std::alloc::Allocator;
 
@@ -9,16 +9,17 @@ impl<L: Layout, const SLOTS: usize, A: Allocator> Table<L, SLOTS, A> {
     ghost use Rattle.std.specs.Prelude.{◌≡◌, ◌≢◌, ℕ, List, ◌++◌, [], ◌∷◌, ◌<◌, MatchOption, None, pos, true};
     ghost use Rattle.cedar_tree.specs.Tree.{Forest, IsAscending, without};
     ghost use Rattle.cedar_tree.specs.Edits.{add_leaf, edit_at};
-    ghost use Rattle.cedar_table.specs.Table.Cells.{Held};
-    ghost use Rattle.cedar_table.specs.Edit.Asked.{SeeksBehind, SeeksPlace};
-    ghost use Rattle.cedar_table.specs.Edit.NodeEdits.{AddsLabel, GoesBehind, GoesFirst, HasChain, IsAt, IsNodeOf, LeadsTo, LinkedBehind, LinkedChild, Removes, SetsChild, SetsSibling};
-    ghost use Rattle.cedar_table.specs.Meaning.Family.{base_of, below, InRange, Node};
-    ghost use Rattle.cedar_table.specs.Meaning.StandsFor.{HoldsTree};
+    ghost use Rattle.cedar_meaning.specs.Table.Cells.{Held};
+    ghost use Rattle.cedar_meaning.specs.Edit.Asked.{SeeksBehind, SeeksPlace};
+    ghost use Rattle.cedar_meaning.specs.Edit.NodeEdits.{AddsLabel, GoesBehind, GoesFirst, HasChain, IsAt, IsNodeOf, LeadsTo, LinkedBehind, LinkedChild, Removes, SetsChild, SetsSibling};
+    ghost use Rattle.cedar_meaning.specs.Meaning.Family.{base_of, below, InRange, Node};
+    ghost use Rattle.cedar_meaning.specs.Meaning.StandsFor.{HoldsTree};
     ghost use Rattle.cedar_slots.specs.Places.{IsTable};
-    ghost use Rattle.cedar_table.specs.Relocation.Reserved.{freed};
-    ghost use Rattle.cedar_table.specs.Table.TableFields.{cells, fields, SameFrame, size_of};
-    ghost use Rattle.cedar_table.specs.Edit.Steps.{HasNode};
-    ghost use Rattle.cedar_table.specs.Meaning.WellFormed.{TableHolds};
+    ghost use Rattle.cedar_meaning.specs.Relocation.Reserved.{freed};
+    ghost use Rattle.cedar_table.specs.Table.Views.{cells, fields};
+    ghost use Rattle.cedar_meaning.specs.Table.TableFields.{SameFrame, size_of};
+    ghost use Rattle.cedar_meaning.specs.Edit.Steps.{HasNode};
+    ghost use Rattle.cedar_meaning.specs.Meaning.WellFormed.{TableHolds};
 
     /// Makes `label` the one after that of the held slot `slot`.
     pub(crate) fn set_sibling(&mut self, slot: usize, label: u8)

@@ -1,7 +1,7 @@
 //! A node's number set, and taken away.
 
-use crate::layout::Layout;
 use crate::table::Table;
+use cedar_meaning::Layout;
 use cedar_slots::NodeRecord;
 use std::alloc::Allocator;
 
@@ -9,15 +9,16 @@ impl<L: Layout, const SLOTS: usize, A: Allocator> Table<L, SLOTS, A> {
     ghost use Rattle.std.specs.Prelude.{◌≡◌, ◌⊎◌, ℕ, List, ◌<◌, None, pos, Some};
     ghost use Rattle.cedar_tree.specs.Tree.{Forest};
     ghost use Rattle.cedar_tree.specs.Edits.{edit_at};
-    ghost use Rattle.cedar_table.specs.Table.Cells.{Held};
-    ghost use Rattle.cedar_table.specs.Edit.NodeEdits.{DropsNumber, IsAt, IsNodeOf, SetsNumber};
-    ghost use Rattle.cedar_table.specs.Meaning.Family.{below, InRange};
-    ghost use Rattle.cedar_table.specs.Meaning.StandsFor.{HoldsTree};
+    ghost use Rattle.cedar_meaning.specs.Table.Cells.{Held};
+    ghost use Rattle.cedar_meaning.specs.Edit.NodeEdits.{DropsNumber, IsAt, IsNodeOf, SetsNumber};
+    ghost use Rattle.cedar_meaning.specs.Meaning.Family.{below, InRange};
+    ghost use Rattle.cedar_meaning.specs.Meaning.StandsFor.{HoldsTree};
     ghost use Rattle.cedar_slots.specs.Places.{IsTable};
-    ghost use Rattle.cedar_table.specs.Relocation.Reserved.{freed};
-    ghost use Rattle.cedar_table.specs.Table.TableFields.{cells, fields, SameFrame, size_of};
-    ghost use Rattle.cedar_table.specs.Edit.Steps.{HasNode};
-    ghost use Rattle.cedar_table.specs.Meaning.WellFormed.{TableHolds};
+    ghost use Rattle.cedar_meaning.specs.Relocation.Reserved.{freed};
+    ghost use Rattle.cedar_table.specs.Table.Views.{cells, fields};
+    ghost use Rattle.cedar_meaning.specs.Table.TableFields.{SameFrame, size_of};
+    ghost use Rattle.cedar_meaning.specs.Edit.Steps.{HasNode};
+    ghost use Rattle.cedar_meaning.specs.Meaning.WellFormed.{TableHolds};
 
     /// Sets the number of a node that has a base: over the one in its slot, or else in its slot for one, which is free.
     #[inline(always)]

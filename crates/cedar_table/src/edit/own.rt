@@ -1,7 +1,7 @@
 //! Numbers in the base fields of their own nodes: in a layout that keeps them there, that of each node which owns no slot.
 
-use crate::layout::{Layout, Stored};
 use crate::table::Table;
+use cedar_meaning::{Layout, Stored};
 use cedar_slots::{CedarError, NodeRecord};
 use std::alloc::Allocator;
 
@@ -10,17 +10,18 @@ impl<L: Layout, const SLOTS: usize, A: Allocator> Table<L, SLOTS, A> {
     ghost use Rattle.cedar_tree.specs.Tree.{Forest};
     ghost use Rattle.cedar_tree.specs.Edits.{edit_at};
     ghost use Rattle.cedar_tree.specs.Queries.{node_at};
-    ghost use Rattle.cedar_table.specs.declared.layout.Stored.TheVariants.{AtBase, OwnNumber};
-    ghost use Rattle.cedar_table.specs.Edit.NodeEdits.{IsAt};
-    ghost use Rattle.cedar_table.specs.Meaning.Family.{base_of, below};
-    ghost use Rattle.cedar_table.specs.Table.Layouts.{reduced_layout};
-    ghost use Rattle.cedar_table.specs.Meaning.Marks.{KeepsOtherMarks};
-    ghost use Rattle.cedar_table.specs.Edit.Own.{FieldSet};
+    ghost use Rattle.cedar_meaning.specs.declared.layout.Stored.TheVariants.{AtBase, OwnNumber};
+    ghost use Rattle.cedar_meaning.specs.Edit.NodeEdits.{IsAt};
+    ghost use Rattle.cedar_meaning.specs.Meaning.Family.{base_of, below};
+    ghost use Rattle.cedar_meaning.specs.Table.Layouts.{reduced_layout};
+    ghost use Rattle.cedar_meaning.specs.Meaning.Marks.{KeepsOtherMarks};
+    ghost use Rattle.cedar_meaning.specs.Edit.Own.{FieldSet};
     ghost use Rattle.cedar_slots.specs.Places.{IsTable, MayRefuse, SameSlots};
-    ghost use Rattle.cedar_table.specs.Relocation.Renaming.{OwnsNothing};
-    ghost use Rattle.cedar_table.specs.Edit.Steps.{HasNode, MayAddBlock, root_of};
-    ghost use Rattle.cedar_table.specs.Table.TableFields.{cells, fields, SameFrame, size_of};
-    ghost use Rattle.cedar_table.specs.Meaning.WellFormed.{is_value, TableHolds};
+    ghost use Rattle.cedar_meaning.specs.Relocation.Renaming.{OwnsNothing};
+    ghost use Rattle.cedar_meaning.specs.Edit.Steps.{HasNode, MayAddBlock, root_of};
+    ghost use Rattle.cedar_table.specs.Table.Views.{cells, fields};
+    ghost use Rattle.cedar_meaning.specs.Table.TableFields.{SameFrame, size_of};
+    ghost use Rattle.cedar_meaning.specs.Meaning.WellFormed.{is_value, TableHolds};
 
     /// Whether a node below the root owns no slot and keeps its number, if it gets one, in its own base field.
     pub(crate) fn keeps_own(&self, node: usize) -> bool

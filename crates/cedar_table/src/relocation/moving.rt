@@ -1,19 +1,20 @@
 //! Moving the slots of a node to another base.
 
-use crate::layout::{Layout, Stored};
 use crate::table::Table;
+use cedar_meaning::{Layout, Stored};
 use cedar_slots::{NInfoRecord, NodeRecord};
 use std::alloc::Allocator;
 
 impl<L: Layout, const SLOTS: usize, A: Allocator> Table<L, SLOTS, A> {
     ghost use Rattle.std.specs.Prelude.{bit_xor, ◌≡◌, ◌≢◌, ℕ, List, ◌<◌, ◌^◌, ◌↔◌, IsTrue, pos, true};
-    ghost use Rattle.cedar_table.specs.Table.Cells.{Held, IsPlace, SameHeld};
-    ghost use Rattle.cedar_table.specs.Meaning.Family.{Among, base_of, below, Family, Head, Links};
+    ghost use Rattle.cedar_meaning.specs.Table.Cells.{Held, IsPlace, SameHeld};
+    ghost use Rattle.cedar_meaning.specs.Meaning.Family.{Among, base_of, below, Family, Head, Links};
     ghost use Rattle.cedar_slots.specs.Places.{IsTable};
-    ghost use Rattle.cedar_table.specs.Relocation.Asked.{MayReserve, MovesSlot, Repoints, RepointsUnder};
-    ghost use Rattle.cedar_table.specs.Relocation.Renaming.{Always, ChecksAt, IsNode, IsNumber, Movable, Rebased, Relocated, Renames, Repointed, single};
-    ghost use Rattle.cedar_table.specs.Relocation.Reserved.{freed, seen};
-    ghost use Rattle.cedar_table.specs.Table.TableFields.{cells, fields, SameFrame, size_of};
+    ghost use Rattle.cedar_meaning.specs.Relocation.Asked.{MayReserve, MovesSlot, Repoints, RepointsUnder};
+    ghost use Rattle.cedar_meaning.specs.Relocation.Renaming.{Always, ChecksAt, IsNode, IsNumber, Movable, Rebased, Relocated, Renames, Repointed, single};
+    ghost use Rattle.cedar_meaning.specs.Relocation.Reserved.{freed, seen};
+    ghost use Rattle.cedar_table.specs.Table.Views.{cells, fields};
+    ghost use Rattle.cedar_meaning.specs.Table.TableFields.{SameFrame, size_of};
 
     /// Where a node's slots begin, and 0 if its base field says nothing of that.
     pub fn base_of(&self, node: usize) -> usize

@@ -1,23 +1,24 @@
 //! Room for a new label below a node: one of two sets of slots is moved to another base, and the slot for the label is
 //! kept back meanwhile.
 
-use crate::layout::Layout;
 use crate::table::{Labels, Table};
 use arrayvec::ArrayVec;
+use cedar_meaning::Layout;
 use cedar_slots::CedarError;
 use std::alloc::Allocator;
 
 impl<L: Layout, const SLOTS: usize, A: Allocator> Table<L, SLOTS, A> {
     ghost use Rattle.std.specs.Prelude.{bit_xor, ◌≡◌, ◌≢◌, ℕ, List, ◌<◌, ◌≤◌, ◌↔◌, IfErr, IfOk, IsTrue, length, OnErr, OnOk, pos};
-    ghost use Rattle.cedar_table.specs.Table.Cells.{HasPlaces, SameHeld};
-    ghost use Rattle.cedar_table.specs.Meaning.Family.{Among, below, Family, Head, Links, owned};
+    ghost use Rattle.cedar_meaning.specs.Table.Cells.{HasPlaces, SameHeld};
+    ghost use Rattle.cedar_meaning.specs.Meaning.Family.{Among, below, Family, Head, Links, owned};
     ghost use Rattle.cedar_slots.specs.Places.{IsTable, MayRefuse, SameSlots};
-    ghost use Rattle.cedar_table.specs.Relocation.Asked.{StandsBelow, WantsSlot};
-    ghost use Rattle.cedar_table.specs.Relocation.Renaming.{IsNode, OwnsLabels};
-    ghost use Rattle.cedar_table.specs.Relocation.Reserved.{Reserves, SetReserved};
-    ghost use Rattle.cedar_table.specs.Edit.Steps.{MakesBlocks, MayAddBlock};
-    ghost use Rattle.cedar_table.specs.Table.TableFields.{cells, fields, SameSettings, size_of};
-    ghost use Rattle.cedar_table.specs.Relocation.Wanted.{goes_before, rest_of, with_label};
+    ghost use Rattle.cedar_meaning.specs.Relocation.Asked.{StandsBelow, WantsSlot};
+    ghost use Rattle.cedar_meaning.specs.Relocation.Renaming.{IsNode, OwnsLabels};
+    ghost use Rattle.cedar_meaning.specs.Relocation.Reserved.{Reserves, SetReserved};
+    ghost use Rattle.cedar_meaning.specs.Edit.Steps.{MakesBlocks, MayAddBlock};
+    ghost use Rattle.cedar_table.specs.Table.Views.{cells, fields};
+    ghost use Rattle.cedar_meaning.specs.Table.TableFields.{SameSettings, size_of};
+    ghost use Rattle.cedar_meaning.specs.Relocation.Wanted.{goes_before, rest_of, with_label};
 
     /// A base from which there is room for all labels. A single label goes where the first free slot is. The move
     /// of a set makes a block here or not at all.

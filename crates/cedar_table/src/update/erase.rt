@@ -1,7 +1,7 @@
 //! A key taken away, and nodes that are left with neither number nor child.
 
-use crate::layout::{Layout, Stored};
 use crate::table::Table;
+use cedar_meaning::{Layout, Stored};
 use std::alloc::Allocator;
 
 impl<L: Layout, const SLOTS: usize, A: Allocator> Table<L, SLOTS, A> {
@@ -9,13 +9,14 @@ impl<L: Layout, const SLOTS: usize, A: Allocator> Table<L, SLOTS, A> {
     ghost use Rattle.cedar_tree.specs.Tree.{Forest, cut, empty_tree, is_bare, number_at};
     ghost use Rattle.cedar_tree.specs.Edits.{edit_at, HasPath};
     ghost use Rattle.cedar_tree.specs.Queries.{node_at};
-    ghost use Rattle.cedar_table.specs.Edit.NodeEdits.{IsAt};
-    ghost use Rattle.cedar_table.specs.Meaning.Marks.{KeepsMarks, KeepsOtherMarks, marks, MarksCut};
+    ghost use Rattle.cedar_meaning.specs.Edit.NodeEdits.{IsAt};
+    ghost use Rattle.cedar_meaning.specs.Meaning.Marks.{KeepsMarks, KeepsOtherMarks, marks, MarksCut};
     ghost use Rattle.cedar_slots.specs.Places.{IsTable};
-    ghost use Rattle.cedar_table.specs.Edit.Steps.{HasNode, root_of, SameModes, trimmed};
-    ghost use Rattle.cedar_table.specs.Table.TableFields.{capacity_of, cells, fields, SameFrame, size_of};
-    ghost use Rattle.cedar_table.specs.Edit.Trims.{LosesLeaf, TellsBare};
-    ghost use Rattle.cedar_table.specs.Meaning.WellFormed.{IsWellFormed, TableHolds, tree_of};
+    ghost use Rattle.cedar_meaning.specs.Edit.Steps.{HasNode, root_of, SameModes, trimmed};
+    ghost use Rattle.cedar_table.specs.Table.Views.{cells, fields};
+    ghost use Rattle.cedar_meaning.specs.Table.TableFields.{capacity_of, SameFrame, size_of};
+    ghost use Rattle.cedar_meaning.specs.Edit.Trims.{LosesLeaf, TellsBare};
+    ghost use Rattle.cedar_meaning.specs.Meaning.WellFormed.{IsWellFormed, TableHolds, tree_of};
 
     /// Whether a node has neither number nor child and isn't the root.
     fn is_bare(&self, node: usize) -> bool

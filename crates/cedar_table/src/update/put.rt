@@ -1,22 +1,23 @@
 //! A key's number put.
 
-use crate::layout::Layout;
 use crate::table::Table;
+use cedar_meaning::Layout;
 use cedar_slots::CedarError;
 use std::alloc::Allocator;
 
 impl<L: Layout, const SLOTS: usize, A: Allocator> Table<L, SLOTS, A> {
     ghost use Rattle.std.specs.Prelude.{◌≡◌, ◌⊎◌, ℕ, ◌+◌, ◌<◌, ◌≤◌, IfErr, IfOk, drop, is_some, length, take, OnErr, OnOk, true, false, [], ◌∷◌};
     ghost use Rattle.cedar_tree.specs.Tree.{IsKey, has_label, number_at, put};
-    ghost use Rattle.cedar_table.specs.Table.Cells.{NoPlace};
-    ghost use Rattle.cedar_table.specs.Edit.KeyWalk.{TakenBack, Walked};
-    ghost use Rattle.cedar_table.specs.Table.Layouts.{default_layout, reduced_layout};
-    ghost use Rattle.cedar_table.specs.Meaning.Marks.{KeepsMarks, marks, MarksPut, NewMark, PutsMarks};
-    ghost use Rattle.cedar_table.specs.Edit.Own.{HasWay, LacksNode};
+    ghost use Rattle.cedar_meaning.specs.Table.Cells.{NoPlace};
+    ghost use Rattle.cedar_meaning.specs.Edit.KeyWalk.{TakenBack, Walked};
+    ghost use Rattle.cedar_meaning.specs.Table.Layouts.{default_layout, reduced_layout};
+    ghost use Rattle.cedar_meaning.specs.Meaning.Marks.{KeepsMarks, marks, MarksPut, NewMark, PutsMarks};
+    ghost use Rattle.cedar_meaning.specs.Edit.Own.{HasWay, LacksNode};
     ghost use Rattle.cedar_slots.specs.Places.{MayRefuse};
-    ghost use Rattle.cedar_table.specs.Edit.Steps.{MakesBlocks, SameModes};
-    ghost use Rattle.cedar_table.specs.Table.TableFields.{cells, fields, size_of};
-    ghost use Rattle.cedar_table.specs.Meaning.WellFormed.{IsWellFormed, is_value, tree_of};
+    ghost use Rattle.cedar_meaning.specs.Edit.Steps.{MakesBlocks, SameModes};
+    ghost use Rattle.cedar_table.specs.Table.Views.{cells, fields};
+    ghost use Rattle.cedar_meaning.specs.Table.TableFields.{size_of};
+    ghost use Rattle.cedar_meaning.specs.Meaning.WellFormed.{IsWellFormed, is_value, tree_of};
 
     /// The slot of the last node that a key leads to, and how many of its labels lead there.
     fn known_front(&self, key: &[u8]) -> (usize, usize)

@@ -1,7 +1,7 @@
 //! One step of an update: to the child under a label, which is added where there is none, or to the number.
 
-use crate::layout::Layout;
 use crate::table::Table;
+use cedar_meaning::Layout;
 use cedar_slots::CedarError;
 use std::alloc::Allocator;
 
@@ -9,17 +9,18 @@ impl<L: Layout, const SLOTS: usize, A: Allocator> Table<L, SLOTS, A> {
     ghost use Rattle.std.specs.Prelude.{◌≡◌, ◌≢◌, ◌⊎◌, ℕ, ℤ, List, ◌<◌, false, IfErr, IfOk, IsTrue, OnErr, OnOk, pos, Some, true};
     ghost use Rattle.cedar_tree.specs.Tree.{Forest};
     ghost use Rattle.cedar_tree.specs.Edits.{edit_at};
-    ghost use Rattle.cedar_table.specs.declared.layout.Stored.TheVariants.{AtBase, OwnNumber};
-    ghost use Rattle.cedar_table.specs.Table.Cells.{Held, NoPlace};
-    ghost use Rattle.cedar_table.specs.Edit.NodeEdits.{IsAt};
-    ghost use Rattle.cedar_table.specs.Relocation.Asked.{WantsRoom, WantsSlot};
-    ghost use Rattle.cedar_table.specs.Meaning.Family.{base_of, below};
-    ghost use Rattle.cedar_table.specs.Table.Layouts.{default_layout, reduced_layout};
-    ghost use Rattle.cedar_table.specs.Meaning.Marks.{PutsMark};
+    ghost use Rattle.cedar_meaning.specs.declared.layout.Stored.TheVariants.{AtBase, OwnNumber};
+    ghost use Rattle.cedar_meaning.specs.Table.Cells.{Held, NoPlace};
+    ghost use Rattle.cedar_meaning.specs.Edit.NodeEdits.{IsAt};
+    ghost use Rattle.cedar_meaning.specs.Relocation.Asked.{WantsRoom, WantsSlot};
+    ghost use Rattle.cedar_meaning.specs.Meaning.Family.{base_of, below};
+    ghost use Rattle.cedar_meaning.specs.Table.Layouts.{default_layout, reduced_layout};
+    ghost use Rattle.cedar_meaning.specs.Meaning.Marks.{PutsMark};
     ghost use Rattle.cedar_slots.specs.Places.{IsTable, MayRefuse, SameSlots};
-    ghost use Rattle.cedar_table.specs.Edit.Steps.{HasNode, MakesBlocks, MayAddBlock, Placed, StepsTo};
-    ghost use Rattle.cedar_table.specs.Table.TableFields.{cells, fields, size_of};
-    ghost use Rattle.cedar_table.specs.Meaning.WellFormed.{is_value, TableHolds};
+    ghost use Rattle.cedar_meaning.specs.Edit.Steps.{HasNode, MakesBlocks, MayAddBlock, Placed, StepsTo};
+    ghost use Rattle.cedar_table.specs.Table.Views.{cells, fields};
+    ghost use Rattle.cedar_meaning.specs.Table.TableFields.{size_of};
+    ghost use Rattle.cedar_meaning.specs.Meaning.WellFormed.{is_value, TableHolds};
 
     /// Gives a leaf that has no base yet the first one: where the first free slot is that of `label`. A block is made only
     /// where no slot outside block 0 is free.

@@ -1,24 +1,25 @@
 //! A number that stands in the way of a new label: it moves from its node's own base field into a slot, and back where the
 //! label is refused.
 
-use crate::layout::{Layout, Stored};
 use crate::table::Table;
+use cedar_meaning::{Layout, Stored};
 use cedar_slots::CedarError;
 use std::alloc::Allocator;
 
 impl<L: Layout, const SLOTS: usize, A: Allocator> Table<L, SLOTS, A> {
     ghost use Rattle.std.specs.Prelude.{◌≡◌, ℕ, List, ◌<◌, ◌≤◌, IfErr, IfOk, is_some, length, MatchOption, None, OnErr, OnOk, pos, Some, take, true, false};
     ghost use Rattle.cedar_tree.specs.Tree.{Forest, IsKey, number_at};
-    ghost use Rattle.cedar_table.specs.Edit.NodeEdits.{IsAt};
-    ghost use Rattle.cedar_table.specs.Meaning.Family.{below};
-    ghost use Rattle.cedar_table.specs.Table.Layouts.{reduced_layout};
-    ghost use Rattle.cedar_table.specs.Meaning.Marks.{KeepsMarks, KeepsOtherMarks, mark, MovesOut};
-    ghost use Rattle.cedar_table.specs.Edit.Own.{HasWay, IsOwnAt, LacksNode};
+    ghost use Rattle.cedar_meaning.specs.Edit.NodeEdits.{IsAt};
+    ghost use Rattle.cedar_meaning.specs.Meaning.Family.{below};
+    ghost use Rattle.cedar_meaning.specs.Table.Layouts.{reduced_layout};
+    ghost use Rattle.cedar_meaning.specs.Meaning.Marks.{KeepsMarks, KeepsOtherMarks, mark, MovesOut};
+    ghost use Rattle.cedar_meaning.specs.Edit.Own.{HasWay, IsOwnAt, LacksNode};
     ghost use Rattle.cedar_slots.specs.Places.{MayRefuse};
-    ghost use Rattle.cedar_table.specs.Meaning.Reading.{first_in};
-    ghost use Rattle.cedar_table.specs.Edit.Steps.{HasNode, MakesBlocks, root_of, SameModes};
-    ghost use Rattle.cedar_table.specs.Table.TableFields.{cells, fields, SameFrame, size_of};
-    ghost use Rattle.cedar_table.specs.Meaning.WellFormed.{IsWellFormed, tree_of};
+    ghost use Rattle.cedar_meaning.specs.Meaning.Reading.{first_in};
+    ghost use Rattle.cedar_meaning.specs.Edit.Steps.{HasNode, MakesBlocks, root_of, SameModes};
+    ghost use Rattle.cedar_table.specs.Table.Views.{cells, fields};
+    ghost use Rattle.cedar_meaning.specs.Table.TableFields.{SameFrame, size_of};
+    ghost use Rattle.cedar_meaning.specs.Meaning.WellFormed.{IsWellFormed, tree_of};
 
     /// How long the proper front of a key is whose node keeps its number in its own base field, if there is one.
     fn own_front(&self, key: &[u8]) -> Option<usize>

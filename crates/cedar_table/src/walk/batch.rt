@@ -1,7 +1,7 @@
 //! Look-ups of many keys in step, so that their waits for memory overlap.
 
-use crate::layout::Layout;
 use crate::table::Table;
+use cedar_meaning::Layout;
 use cedar_slots::Ticks;
 use std::alloc::Allocator;
 use std::sync::ledger::Ledger;
@@ -16,8 +16,8 @@ impl<L: Layout, const SLOTS: usize, A: Allocator> Table<L, SLOTS, A> {
     ghost use Rattle.std.specs.Prelude.{◌≡◌, ◌+◌, ◌++◌, ◌<◌, ◌≤◌, drop, length, map, Some, take};
     ghost use Rattle.cedar_tree.specs.Queries.{exact};
     ghost use Rattle.cedar_table.specs.Walk.Batch.{AreLanes, IsLane, keys_of};
-    ghost use Rattle.cedar_table.specs.Table.TableFields.{fields};
-    ghost use Rattle.cedar_table.specs.Meaning.WellFormed.{IsWellFormed, tree_of};
+    ghost use Rattle.cedar_table.specs.Table.Views.{fields};
+    ghost use Rattle.cedar_meaning.specs.Meaning.WellFormed.{IsWellFormed, tree_of};
 
     /// Passes one more byte of a key, if there is one.
     #[inline(always)]

@@ -1,7 +1,7 @@
 //! The next front of a query that is held.
 
-use crate::layout::Layout;
 use crate::table::Table;
+use cedar_meaning::Layout;
 use cedar_slots::Ticks;
 use std::alloc::Allocator;
 use std::sync::ledger::Ledger;
@@ -21,8 +21,8 @@ impl<L: Layout, const SLOTS: usize, A: Allocator> Table<L, SLOTS, A> {
     ghost use Rattle.std.specs.Prelude.{◌≡◌, ◌∷◌, [], ◌+◌, ◌*◌, ◌-◌, ◌<◌, ◌≤◌, length, MatchOption};
     ghost use Rattle.cedar_tree.specs.Walks.{front_from};
     ghost use Rattle.cedar_table.specs.Walk.Fronts.{IsOnQuery, passed};
-    ghost use Rattle.cedar_table.specs.Table.TableFields.{fields};
-    ghost use Rattle.cedar_table.specs.Meaning.WellFormed.{IsWellFormed, tree_of};
+    ghost use Rattle.cedar_table.specs.Table.Views.{fields};
+    ghost use Rattle.cedar_meaning.specs.Meaning.WellFormed.{IsWellFormed, tree_of};
 
     /// The next front of a query that is held, behind the first `place` bytes, which lead to `node`. Each byte costs two comparisons
     /// of a check field at most. It takes no memory.

@@ -1,7 +1,7 @@
 //! Exact search.
 
-use crate::layout::{Layout, Stored};
 use crate::table::Table;
+use cedar_meaning::{Layout, Stored};
 use cedar_slots::Ticks;
 use std::alloc::Allocator;
 use std::sync::ledger::Ledger;
@@ -10,11 +10,12 @@ impl<L: Layout, const SLOTS: usize, A: Allocator> Table<L, SLOTS, A> {
     ghost use Rattle.std.specs.Prelude.{◌≡◌, ◌≢◌, ◌+◌, ◌<◌, ◌≤◌, ◌↔◌, IsTrue, false, MatchOption, pos, length};
     ghost use Rattle.cedar_tree.specs.Tree.{Tree, has_label, subtree};
     ghost use Rattle.cedar_tree.specs.Queries.{exact};
-    ghost use Rattle.cedar_table.specs.declared.layout.Stored.TheVariants.{Nothing};
-    ghost use Rattle.cedar_table.specs.Meaning.Family.{base_of, below};
-    ghost use Rattle.cedar_table.specs.Meaning.StandsFor.{Stands};
-    ghost use Rattle.cedar_table.specs.Table.TableFields.{cells, fields, size_of};
-    ghost use Rattle.cedar_table.specs.Meaning.WellFormed.{IsWellFormed, tree_of};
+    ghost use Rattle.cedar_meaning.specs.declared.layout.Stored.TheVariants.{Nothing};
+    ghost use Rattle.cedar_meaning.specs.Meaning.Family.{base_of, below};
+    ghost use Rattle.cedar_meaning.specs.Meaning.StandsFor.{Stands};
+    ghost use Rattle.cedar_table.specs.Table.Views.{cells, fields};
+    ghost use Rattle.cedar_meaning.specs.Table.TableFields.{size_of};
+    ghost use Rattle.cedar_meaning.specs.Meaning.WellFormed.{IsWellFormed, tree_of};
 
     /// What the base field of a node says. In the layout by default that is a base, with no test.
     pub fn stored_at_node(&self, node: usize) -> Stored

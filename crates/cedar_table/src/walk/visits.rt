@@ -1,7 +1,7 @@
 //! A walk over the nodes of a tree, each before its children: from a node to the next one, by the slots alone.
 
-use crate::layout::{Layout, Stored};
 use crate::table::Table;
+use cedar_meaning::{Layout, Stored};
 use std::alloc::Allocator;
 
 /// A node that a walk comes to.
@@ -22,12 +22,13 @@ impl<L: Layout, const SLOTS: usize, A: Allocator> Table<L, SLOTS, A> {
     ghost use Rattle.cedar_tree.specs.Tree.{empty_tree, has_label, subtree, Tree};
     ghost use Rattle.cedar_tree.specs.Queries.{node_at};
     ghost use Rattle.cedar_tree.specs.Walks.{behind};
-    ghost use Rattle.cedar_table.specs.Edit.NodeEdits.{IsAt};
-    ghost use Rattle.cedar_table.specs.Meaning.Family.{below};
-    ghost use Rattle.cedar_table.specs.Meaning.StandsFor.{Stands};
-    ghost use Rattle.cedar_table.specs.Table.TableFields.{cells, fields, size_of};
+    ghost use Rattle.cedar_meaning.specs.Edit.NodeEdits.{IsAt};
+    ghost use Rattle.cedar_meaning.specs.Meaning.Family.{below};
+    ghost use Rattle.cedar_meaning.specs.Meaning.StandsFor.{Stands};
+    ghost use Rattle.cedar_table.specs.Table.Views.{cells, fields};
+    ghost use Rattle.cedar_meaning.specs.Table.TableFields.{size_of};
     ghost use Rattle.cedar_table.specs.Walk.Visits.{ComesTo, first_of, IsBelow, left_after, left_at, path_to};
-    ghost use Rattle.cedar_table.specs.Meaning.WellFormed.{IsWellFormed, tree_of};
+    ghost use Rattle.cedar_meaning.specs.Meaning.WellFormed.{IsWellFormed, tree_of};
 
     /// The number of a node. The read isn't counted. A node that names a first label has none, so the slot that its number would
     /// have, which mostly lies far off, is seldom read.

@@ -1,25 +1,23 @@
-//! How a dictionary is loaded.
+//! How a dictionary is loaded: from a watched reader, or from bytes in memory.
 
 ghost use Rattle.std.specs.Prelude.{◌≡◌, ℕ, ◌+◌, ◌*◌, false, true, IfErr, IfOk, IfSome};
 ghost use Rattle.std.specs.Io.KnownBytes.{Consumes};
-ghost use Rattle.cedar_table.specs.Table.Layouts.{layout_byte};
+ghost use Rattle.cedar_meaning.specs.Table.Layouts.{layout_byte};
 ghost use Rattle.cedar_slots.specs.Places.{IsSlotLimit};
-ghost use Rattle.cedar_table.specs.Table.TableFields.{fields};
-ghost use Rattle.cedar_table.specs.Meaning.WellFormed.{IsWellFormed};
+ghost use Rattle.cedar_table.specs.Table.Views.{fields};
+ghost use Rattle.cedar_meaning.specs.Meaning.WellFormed.{IsWellFormed};
 ghost use Rattle.cedar_format.specs.Format.{need, trial_refusal, CountsWithin, IsVersion, Passes};
 ghost use Rattle.cedar_format.specs.Reading.{IsIo, IsLack, LacksNoMore};
 ghost use Rattle.cedar_format.specs.Refusal.{refusal, refusal_of, CorruptData};
 ghost use Rattle.cedar_format.specs.Tables.{table_bytes};
-ghost use Rattle.cedar_format.specs.WatchedDevice.{device_of, has_failed};
 ghost use Rattle.cedarwood.specs.Loading.{LoadAnswers};
 
 use crate::persistence::uncounted::uncounted;
-use crate::{CedarPersistenceError, DEFAULT_LOAD_MEMORY_LIMIT, Layout, Ticks, Trie, Watched};
+use crate::{CedarPersistenceError, DEFAULT_LOAD_MEMORY_LIMIT, Layout, Source, Ticks, Trie};
 use cedar_check::check_well_formed;
 use cedar_format::{Header, decode_counted, table_of};
 use cedar_table::Corrupt;
 use std::alloc::Allocator;
-use std::io::Read;
 use std::marker::Brand;
 use std::sync::ledger::{Blank, Ledger};
 
@@ -35,10 +33,10 @@ impl<L: Layout, const SLOTS: usize, A: Allocator + Copy> Trie<L, SLOTS, A> {
     /// # Errors
     /// The first refusal of the header and of the input's length, if there is one; `CorruptData` where the bytes are of no
     /// well-formed table; `AllocationFailed` with the number of elements where a request was refused, once the header has
-    /// passed; `Io` where the reader failed.
-    pub fn load_counted<R: Read, C: Ledger, D: Ledger>(
+    /// passed; `Io` where the reader failed, which bytes in memory never do.
+    pub fn load_counted<S: Source, C: Ledger, D: Ledger>(
         alloc: A,
-        reader: &mut Watched<R>,
+        reader: &mut S,
         memory_limit: usize,
         asked: &mut Ticks<C>,
         reads: &mut Ticks<D>,
@@ -46,17 +44,17 @@ impl<L: Layout, const SLOTS: usize, A: Allocator + Copy> Trie<L, SLOTS, A> {
         requires limit { IsSlotLimit SLOTS }
 
         // Whatever the reader does, a dictionary comes only with just the bytes of its table, which is well-formed.
-        ensures bytes { IfOk result (λ trie. (version : ℕ) × IsVersion version × Consumes (R.remaining (device_of reader.old)) (R.remaining (device_of reader.new)) (table_bytes version trie.table)) }
+        ensures bytes { IfOk result (λ trie. (version : ℕ) × IsVersion version × Consumes (S.remaining reader.old) (S.remaining reader.new) (table_bytes version trie.table)) }
         ensures formed { IfOk result (λ trie. IsWellFormed SLOTS trie.table) }
 
-        // A reader that tells its bytes and does not fail gets the answer that they decide.
-        ensures answer { IfSome (R.remaining (device_of reader.old)) (λ bytes. has_failed reader.new ≡ false → LoadAnswers (λ trie. trie.table) L.kind SLOTS memory_limit bytes result) }
-        ensures io { IfErr result (λ e. IsIo e → has_failed reader.new ≡ true) }
-        ensures lacks { IfErr result (LacksNoMore (Passes (layout_byte L.kind) SLOTS memory_limit (R.remaining (device_of reader.old)))) }
+        // A reader that tells its bytes and does not fail, as bytes in memory, gets the answer that they decide.
+        ensures answer { IfSome (S.remaining reader.old) (λ bytes. S.failed reader.new ≡ false → LoadAnswers (λ trie. trie.table) L.kind SLOTS memory_limit bytes result) }
+        ensures io { IfErr result (λ e. IsIo e → S.failed reader.new ≡ true) }
+        ensures lacks { IfErr result (LacksNoMore (Passes (layout_byte L.kind) SLOTS memory_limit (S.remaining reader.old))) }
 
         // Before the header has passed nothing is asked of memory and no record is read for the test.
-        ensures asked { CountsWithin (layout_byte L.kind) SLOTS memory_limit (R.remaining (device_of reader.old)) need asked.old asked.new }
-        ensures reads { CountsWithin (layout_byte L.kind) SLOTS memory_limit (R.remaining (device_of reader.old)) (λ h. 16 * h.capacity + 1024) reads.old reads.new }
+        ensures asked { CountsWithin (layout_byte L.kind) SLOTS memory_limit (S.remaining reader.old) need asked.old asked.new }
+        ensures reads { CountsWithin (layout_byte L.kind) SLOTS memory_limit (S.remaining reader.old) (λ h. 16 * h.capacity + 1024) reads.old reads.new }
     {
         let decoded = decode_counted(alloc, reader, L::file_byte(), SLOTS, memory_limit, asked)?;
         check_trials(&decoded.header)?;
@@ -67,7 +65,8 @@ impl<L: Layout, const SLOTS: usize, A: Allocator + Copy> Trie<L, SLOTS, A> {
         }
     }
 
-    /// Loads the dictionary that was saved, if that asks for `memory_limit` bytes at most.
+    /// Loads the dictionary that was saved, if that asks for `memory_limit` bytes at most. A reader is handed over in a
+    /// `Watched`, and bytes in memory as they are.
     ///
     /// ```
     /// let mut file = Watched::new(saved);
@@ -77,19 +76,19 @@ impl<L: Layout, const SLOTS: usize, A: Allocator + Copy> Trie<L, SLOTS, A> {
     ///
     /// # Errors
     /// As `load_counted`.
-    pub fn load_from_reader_with_limit<R: Read>(
+    pub fn load_from_reader_with_limit<S: Source>(
         alloc: A,
-        reader: &mut Watched<R>,
+        reader: &mut S,
         memory_limit: usize,
     ) -> Result<Self, CedarPersistenceError>
         requires limit { IsSlotLimit SLOTS }
-        ensures bytes { IfOk result (λ trie. (version : ℕ) × IsVersion version × Consumes (R.remaining (device_of reader.old)) (R.remaining (device_of reader.new)) (table_bytes version trie.table)) }
+        ensures bytes { IfOk result (λ trie. (version : ℕ) × IsVersion version × Consumes (S.remaining reader.old) (S.remaining reader.new) (table_bytes version trie.table)) }
         ensures formed { IfOk result (λ trie. IsWellFormed SLOTS trie.table) }
-        ensures answer { IfSome (R.remaining (device_of reader.old)) (λ bytes. has_failed reader.new ≡ false → LoadAnswers (λ trie. trie.table) L.kind SLOTS memory_limit bytes result) }
-        ensures io { IfErr result (λ e. IsIo e → has_failed reader.new ≡ true) }
-        ensures lacks { IfErr result (LacksNoMore (Passes (layout_byte L.kind) SLOTS memory_limit (R.remaining (device_of reader.old)))) }
+        ensures answer { IfSome (S.remaining reader.old) (λ bytes. S.failed reader.new ≡ false → LoadAnswers (λ trie. trie.table) L.kind SLOTS memory_limit bytes result) }
+        ensures io { IfErr result (λ e. IsIo e → S.failed reader.new ≡ true) }
+        ensures lacks { IfErr result (LacksNoMore (Passes (layout_byte L.kind) SLOTS memory_limit (S.remaining reader.old))) }
     {
-        uncounted::<Brand, Brand, Self, A, R>(
+        uncounted::<Brand, Brand, Self, A, S>(
             alloc,
             reader,
             memory_limit,
@@ -104,20 +103,23 @@ impl<L: Layout, const SLOTS: usize, A: Allocator + Copy> Trie<L, SLOTS, A> {
     /// let mut file = Watched::new(saved);
     /// let again = Cedar::load_from_reader(rt.alloc(), &mut file)?;
     /// assert_eq!(rt; again.len(), cedar.len());
+    ///
+    /// let again = Cedar::load_from_reader(rt.alloc(), &mut &saved[..])?;
+    /// assert_eq!(rt; again.len(), cedar.len());
     /// ```
     ///
     /// # Errors
     /// As `load_counted`.
-    pub fn load_from_reader<R: Read>(
+    pub fn load_from_reader<S: Source>(
         alloc: A,
-        reader: &mut Watched<R>,
+        reader: &mut S,
     ) -> Result<Self, CedarPersistenceError>
         requires limit { IsSlotLimit SLOTS }
-        ensures bytes { IfOk result (λ trie. (version : ℕ) × IsVersion version × Consumes (R.remaining (device_of reader.old)) (R.remaining (device_of reader.new)) (table_bytes version trie.table)) }
+        ensures bytes { IfOk result (λ trie. (version : ℕ) × IsVersion version × Consumes (S.remaining reader.old) (S.remaining reader.new) (table_bytes version trie.table)) }
         ensures formed { IfOk result (λ trie. IsWellFormed SLOTS trie.table) }
-        ensures answer { IfSome (R.remaining (device_of reader.old)) (λ bytes. has_failed reader.new ≡ false → LoadAnswers (λ trie. trie.table) L.kind SLOTS 536870912 bytes result) }
-        ensures io { IfErr result (λ e. IsIo e → has_failed reader.new ≡ true) }
-        ensures lacks { IfErr result (LacksNoMore (Passes (layout_byte L.kind) SLOTS 536870912 (R.remaining (device_of reader.old)))) }
+        ensures answer { IfSome (S.remaining reader.old) (λ bytes. S.failed reader.new ≡ false → LoadAnswers (λ trie. trie.table) L.kind SLOTS 536870912 bytes result) }
+        ensures io { IfErr result (λ e. IsIo e → S.failed reader.new ≡ true) }
+        ensures lacks { IfErr result (LacksNoMore (Passes (layout_byte L.kind) SLOTS 536870912 (S.remaining reader.old))) }
     {
         Self::load_from_reader_with_limit(alloc, reader, DEFAULT_LOAD_MEMORY_LIMIT)
     }

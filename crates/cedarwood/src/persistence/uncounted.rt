@@ -3,31 +3,28 @@
 ghost use Rattle.std.specs.Prelude.{◌≡◌, ◌<◌, ℕ, false, true, IfErr, IfOk, IfSome};
 ghost use Rattle.std.specs.Io.KnownBytes.{Consumes};
 ghost use Rattle.cedar_slots.specs.Places.{IsSlotLimit};
-ghost use Rattle.cedar_table.specs.Meaning.WellFormed.{IsWellFormed};
-ghost use Rattle.cedar_table.specs.Table.Layouts.{layout_byte};
+ghost use Rattle.cedar_meaning.specs.Meaning.WellFormed.{IsWellFormed};
+ghost use Rattle.cedar_meaning.specs.Table.Layouts.{layout_byte};
 ghost use Rattle.cedar_format.specs.Format.{IsVersion, Passes};
 ghost use Rattle.cedar_format.specs.Reading.{IsIo, LacksNoMore};
 ghost use Rattle.cedar_format.specs.Tables.{table_bytes};
-ghost use Rattle.cedar_format.specs.WatchedDevice.{device_of, has_failed};
 ghost use Rattle.cedarwood.specs.Loading.{LoadAnswers};
 
-use crate::{CedarPersistenceError, Layout, Ticks, Trie, Watched};
+use crate::{CedarPersistenceError, Layout, Source, Ticks, Trie};
 use std::alloc::Allocator;
-use std::io::Read;
 use std::sync::ledger::{Blank, Ledger};
 
 /// What can be loaded with counts.
 pub(crate) trait Loaded<A: Allocator + Copy> {
     ghost use Rattle.std.specs.Prelude.{◌≡◌, ℕ, false, true, IfErr, IfOk, IfSome};
     ghost use Rattle.std.specs.Io.KnownBytes.{Consumes};
-    ghost use Rattle.cedar_table.specs.Table.Layouts.{LayoutKind, layout_byte};
+    ghost use Rattle.cedar_meaning.specs.Table.Layouts.{LayoutKind, layout_byte};
     ghost use Rattle.cedar_slots.specs.Places.{IsSlotLimit};
-    ghost use Rattle.cedar_table.specs.Table.TableFields.{Fields};
-    ghost use Rattle.cedar_table.specs.Meaning.WellFormed.{IsWellFormed};
+    ghost use Rattle.cedar_meaning.specs.Table.TableFields.{Fields};
+    ghost use Rattle.cedar_meaning.specs.Meaning.WellFormed.{IsWellFormed};
     ghost use Rattle.cedar_format.specs.Format.{IsVersion, Passes};
     ghost use Rattle.cedar_format.specs.Reading.{IsIo, LacksNoMore};
     ghost use Rattle.cedar_format.specs.Tables.{table_bytes};
-    ghost use Rattle.cedar_format.specs.WatchedDevice.{device_of, has_failed};
     ghost use Rattle.cedarwood.specs.Loading.{LoadAnswers};
 
     ghost kind: { LayoutKind };
@@ -37,19 +34,19 @@ pub(crate) trait Loaded<A: Allocator + Copy> {
     ghost table: { Self → Fields };
 
     /// What was saved.
-    fn load<R: Read, C: Ledger, D: Ledger>(
+    fn load<S: Source, C: Ledger, D: Ledger>(
         alloc: A,
-        reader: &mut Watched<R>,
+        reader: &mut S,
         memory_limit: usize,
         asked: &mut Ticks<C>,
         reads: &mut Ticks<D>,
     ) -> Result<Self, CedarPersistenceError>
         requires { IsSlotLimit slots }
-        ensures bytes { IfOk result (λ x. (version : ℕ) × IsVersion version × Consumes (R.remaining (device_of reader.old)) (R.remaining (device_of reader.new)) (table_bytes version (table x))) }
+        ensures bytes { IfOk result (λ x. (version : ℕ) × IsVersion version × Consumes (S.remaining reader.old) (S.remaining reader.new) (table_bytes version (table x))) }
         ensures formed { IfOk result (λ x. IsWellFormed slots (table x)) }
-        ensures answer { IfSome (R.remaining (device_of reader.old)) (λ bytes. has_failed reader.new ≡ false → LoadAnswers table kind slots memory_limit bytes result) }
-        ensures io { IfErr result (λ e. IsIo e → has_failed reader.new ≡ true) }
-        ensures lacks { IfErr result (LacksNoMore (Passes (layout_byte kind) slots memory_limit (R.remaining (device_of reader.old)))) };
+        ensures answer { IfSome (S.remaining reader.old) (λ bytes. S.failed reader.new ≡ false → LoadAnswers table kind slots memory_limit bytes result) }
+        ensures io { IfErr result (λ e. IsIo e → S.failed reader.new ≡ true) }
+        ensures lacks { IfErr result (LacksNoMore (Passes (layout_byte kind) slots memory_limit (S.remaining reader.old))) };
 }
 
 impl<L: Layout, const SLOTS: usize, A: Allocator + Copy> Loaded<A> for Trie<L, SLOTS, A> {
@@ -59,9 +56,9 @@ impl<L: Layout, const SLOTS: usize, A: Allocator + Copy> Loaded<A> for Trie<L, S
 
     ghost table = { λ trie. trie.table };
 
-    fn load<R: Read, C: Ledger, D: Ledger>(
+    fn load<S: Source, C: Ledger, D: Ledger>(
         alloc: A,
-        reader: &mut Watched<R>,
+        reader: &mut S,
         memory_limit: usize,
         asked: &mut Ticks<C>,
         reads: &mut Ticks<D>,
@@ -72,9 +69,9 @@ impl<L: Layout, const SLOTS: usize, A: Allocator + Copy> Loaded<A> for Trie<L, S
 
 /// Loads with counts of its own, which nothing reads. Ledgers for them are picked where no type that is passed has a const
 /// parameter: so they aren't made in the trie's own call.
-pub(crate) fn uncounted<C: Ledger, D: Ledger, T: Loaded<A>, A: Allocator + Copy, R: Read>(
+pub(crate) fn uncounted<C: Ledger, D: Ledger, T: Loaded<A>, A: Allocator + Copy, S: Source>(
     alloc: A,
-    reader: &mut Watched<R>,
+    reader: &mut S,
     memory_limit: usize,
     asked_blank: Blank,
     reads_blank: Blank,
@@ -86,11 +83,11 @@ pub(crate) fn uncounted<C: Ledger, D: Ledger, T: Loaded<A>, A: Allocator + Copy,
     requires reads_name { reads_blank.name ≡ D.name }
     requires reads_parts { reads_blank.parts ≡ D.parts }
     requires reads_some { 0 < reads_blank.parts }
-    ensures bytes { IfOk result (λ x. (version : ℕ) × IsVersion version × Consumes (R.remaining (device_of reader.old)) (R.remaining (device_of reader.new)) (table_bytes version (T.table x))) }
+    ensures bytes { IfOk result (λ x. (version : ℕ) × IsVersion version × Consumes (S.remaining reader.old) (S.remaining reader.new) (table_bytes version (T.table x))) }
     ensures formed { IfOk result (λ x. IsWellFormed T.slots (T.table x)) }
-    ensures answer { IfSome (R.remaining (device_of reader.old)) (λ bytes. has_failed reader.new ≡ false → LoadAnswers T.table T.kind T.slots memory_limit bytes result) }
-    ensures io { IfErr result (λ e. IsIo e → has_failed reader.new ≡ true) }
-    ensures lacks { IfErr result (LacksNoMore (Passes (layout_byte T.kind) T.slots memory_limit (R.remaining (device_of reader.old)))) }
+    ensures answer { IfSome (S.remaining reader.old) (λ bytes. S.failed reader.new ≡ false → LoadAnswers T.table T.kind T.slots memory_limit bytes result) }
+    ensures io { IfErr result (λ e. IsIo e → S.failed reader.new ≡ true) }
+    ensures lacks { IfErr result (LacksNoMore (Passes (layout_byte T.kind) T.slots memory_limit (S.remaining reader.old))) }
 {
     let asked = &mut Ticks::<C>::new(asked_blank);
     let reads = &mut Ticks::<D>::new(reads_blank);

@@ -3,7 +3,7 @@
 ghost use Rattle.std.specs.Prelude.{◌≡◌, ⊤, ℕ, ℤ, List, [], IfSome, None, MatchOption};
 ghost use Rattle.std.specs.Iterator.{item_count, UpTo, YieldsFirst};
 ghost use Rattle.std.specs.Iterator.SizeHint.{IsWithinCount};
-ghost use Rattle.cedar_table.specs.Meaning.WellFormed.{IsWellFormed};
+ghost use Rattle.cedar_meaning.specs.Meaning.WellFormed.{IsWellFormed};
 ghost use Rattle.cedarwood.specs.WalkPlaces.{GoesOnTo, IsPredictPlace, predicted_from};
 
 use crate::queries::walked::Walked;
@@ -39,7 +39,7 @@ impl<'a, T: Walked> Model for PrefixPredictIter<'a, T> {
 
     ghost Value = { List (ℤ × ℕ) };
 
-    ghost use Rattle.cedar_table.specs.Meaning.WellFormed.{IsWellFormed};
+    ghost use Rattle.cedar_meaning.specs.Meaning.WellFormed.{IsWellFormed};
     ghost use Rattle.cedarwood.specs.WalkPlaces.{IsPredictPlace, predicted_from};
 
     ghost view = { λ it. predicted_from (T.shown it.trie.now) it.query.now it.place };
@@ -49,7 +49,7 @@ impl<'a, T: Walked> Model for PrefixPredictIter<'a, T> {
 
 impl<'a, T: Walked> PrefixPredictIter<'a, T> {
     ghost use Rattle.cedar_tree.specs.Queries.{predict};
-    ghost use Rattle.cedar_table.specs.Meaning.WellFormed.{IsWellFormed, tree_of};
+    ghost use Rattle.cedar_meaning.specs.Meaning.WellFormed.{IsWellFormed, tree_of};
 
     // Before the query's node is looked for.
     pub(crate) fn new(trie: &'a T, query: &'a [u8]) -> Self
@@ -99,19 +99,20 @@ impl<'a, T: Walked> Iterator for PrefixPredictIter<'a, T> {
 
     ghost remaining = { item_count (λ (rest : List (ℤ × ℕ)). rest) };
 
-    #[inline]
+    #[inline(always)]
     fn next(&mut self) -> Option<(i32, usize)> {
         let mut found = visited_next(self.trie, self.query, self.place);
         while let Some(next) = found {
+            // The place is known to be a node's: within the loop nothing tests what it is. It is written back where the walk stops, since
+            // after each write the table's vectors would be read again.
             let place = PredictPlace::Node {
                 slot: next.slot,
                 depth: next.depth,
             };
-            self.place = place;
             if let Some(number) = next.number {
+                self.place = place;
                 return Some((number, next.depth));
             }
-            // The place is known to be a node's: within the loop nothing tests what it is.
             found = visited_next(self.trie, self.query, place);
         }
         self.place = PredictPlace::End;

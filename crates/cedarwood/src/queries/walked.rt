@@ -13,9 +13,9 @@ pub trait Walked {
     ghost use Rattle.cedar_tree.specs.Queries.{node_at};
     ghost use Rattle.cedar_tree.specs.Walks.{front_from};
     ghost use Rattle.cedar_table.specs.Walk.Fronts.{IsOnQuery, passed};
-    ghost use Rattle.cedar_table.specs.Table.TableFields.{Fields};
+    ghost use Rattle.cedar_meaning.specs.Table.TableFields.{Fields};
     ghost use Rattle.cedar_table.specs.Walk.Visits.{ComesTo, IsBelow, left_at, path_to};
-    ghost use Rattle.cedar_table.specs.Meaning.WellFormed.{cells_in, IsWellFormed, tree_of};
+    ghost use Rattle.cedar_meaning.specs.Meaning.WellFormed.{cells_in, IsWellFormed, tree_of};
 
     /// How many slots it may have, and the table that it is kept in.
     ghost slots: { ℕ };

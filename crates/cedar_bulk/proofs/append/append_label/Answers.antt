@@ -1,17 +1,19 @@
 use Rattle.std.proofs.Common.{◌≡◌, ◌<◌, ◌∙◌, arith, inr, rules, subst, sym, ap, [], ◌∷◌, ◌++◌, w32, FitsSigned, true}
+use Rattle.std.specs.Prelude.{bit_xor}
 use Rattle.std.proofs.lemmas.Int.{to_z-of_z}
 use Rattle.cedar_tree.specs.Edits.{add_leaf, edit_at}
-use Rattle.cedar_table.specs.declared.layout.Stored.TheVariants.{AtBase}
-use Rattle.cedar_table.specs.Table.Cells.{Held}
-use Rattle.cedar_table.specs.Edit.NodeEdits.{AddsLabel, CanAdd, IsAt}
-use Rattle.cedar_table.specs.Meaning.Family.{below}
-use Rattle.cedar_table.specs.Table.Layouts.{reading}
-use Rattle.cedar_table.specs.Meaning.StandsFor.{HoldsTree}
-use Rattle.cedar_table.specs.Table.TableFields.{cells, fields, size_of}
+use Rattle.cedar_meaning.specs.declared.layout.Stored.TheVariants.{AtBase}
+use Rattle.cedar_meaning.specs.Table.Cells.{Held}
+use Rattle.cedar_meaning.specs.Edit.NodeEdits.{AddsLabel, CanAdd, IsAt}
+use Rattle.cedar_meaning.specs.Meaning.Family.{below}
+use Rattle.cedar_meaning.specs.Table.Layouts.{reading}
+use Rattle.cedar_meaning.specs.Meaning.StandsFor.{HoldsTree}
+use Rattle.cedar_table.specs.Table.Views.{cells, fields}
+use Rattle.cedar_meaning.specs.Table.TableFields.{size_of}
 use Rattle.cedar_bulk.proofs.BulkLemmas.LastLabel.{behind_held, held_before, leaf_bare, leaf_last, linked_check, still_held, stored_stays}
-use Rattle.cedar_table.proofs.EditLemmas.AtPath.{held_node}
-use Rattle.cedar_table.proofs.EditLemmas.SlotForLabel.{can_add_at, can_link_by, held_after, label_added_by, root_check_stays, slot_inside, slot_stays}
-use Rattle.cedar_table.proofs.EditLemmas.LeafAtPlace.{label_added, path_of_leaf, paths_stay}
+use Rattle.cedar_meaning.proofs.EditLemmas.AtPath.{held_node}
+use Rattle.cedar_meaning.proofs.EditLemmas.SlotForLabel.{can_add_at, can_link_by, held_after, label_added_by, root_check_stays, slot_inside, slot_stays}
+use Rattle.cedar_meaning.proofs.EditLemmas.LeafAtPlace.{label_added, path_of_leaf, paths_stay}
 use Rattle.cedar_bulk.proofs.append.append_label.Goals as goal
 
 pub pop_e_node-requires : goal.pop_e_node-requires
@@ -21,7 +23,7 @@ pop_e_node-requires g c =
     let shaped = c.args.table.now.shaped in
     let n = c.requires.node in
     let k : CanAdd size T c.args.node c.args.label = can_add_at size T true n.0 c.args.node c.args.label n.1 c.requires.positive (omega (arith, c.ranges.label.fits)) c.requires.based c.requires.free in
-    let e : c.child_slot-slot.result ≡ below T c.args.node c.args.label = c.child_slot-slot.ensures in (
+    let e : c.slot_at-slot.result ≡ below T c.args.node c.args.label = c.slot_at-slot.ensures ∙ ap (λ b. bit_xor b c.args.label) c.requires.base_is in (
       search rules,
       (
         c.requires.sound,
@@ -40,19 +42,19 @@ link-requires g c =
     let n = c.requires.node in
     let popped = c.pop_e_node.ensures in
     let k : CanAdd size T c.args.node c.args.label = can_add_at size T true n.0 c.args.node c.args.label n.1 c.requires.positive (omega (arith, c.ranges.label.fits)) c.requires.based c.requires.free in
-    let e : c.child_slot-slot.result ≡ below T c.args.node c.args.label = c.child_slot-slot.ensures in
+    let e : c.slot_at-slot.result ≡ below T c.args.node c.args.label = c.slot_at-slot.ensures ∙ ap (λ b. bit_xor b c.args.label) c.requires.base_is in
     let fits : FitsSigned w32 c.base_field.result = search rules in
-    let bare : T₁.stored c.child_slot-slot.result ≡ AtBase 0 = popped.stored ∙ ap (reading g.L.Layout.kind) (to_z-of_z w32 c.base_field.result fits) ∙ c.base_field.ensures in
-    let held = held_after size T T₁ c.args.node c.args.label c.child_slot-slot.result e k popped.takes in (
+    let bare : T₁.stored c.slot_at-slot.result ≡ AtBase 0 = popped.stored ∙ ap (reading g.L.Layout.kind) (to_z-of_z w32 c.base_field.result fits) ∙ c.base_field.ensures in
+    let held = held_after size T T₁ c.args.node c.args.label c.slot_at-slot.result e k popped.takes in (
       search rules,
       (
         popped.sound,
         (
-          can_link_by size T T₁ true n.0 c.args.node c.args.label c.child_slot-slot.result _ popped.frame.size e n.1 k popped.takes bare c.args.before c.requires.ends.goes,
+          can_link_by size T T₁ true n.0 c.args.node c.args.label c.slot_at-slot.result _ popped.frame.size e n.1 k popped.takes bare c.args.before c.requires.ends.goes,
           (
             subst (λ m. c.args.node < m) (sym popped.frame.size) c.requires.node_in,
             (
-              subst (λ m. c.child_slot-slot.result < m) (sym popped.frame.size) (subst (λ s. s < size) (sym e) (slot_inside size T c.args.node c.args.label (omega (arith, c.requires.node_in)) (omega arith) k)),
+              subst (λ m. c.slot_at-slot.result < m) (sym popped.frame.size) (subst (λ s. s < size) (sym e) (slot_inside size T c.args.node c.args.label (omega (arith, c.requires.node_in)) (omega arith) k)),
               (held.0, (inr (c.args.node, popped.takes.at), held.1)),
             ),
           ),
@@ -68,11 +70,11 @@ added g c =
     let popped = c.pop_e_node.ensures in
     let k : CanAdd size T c.args.node c.args.label = can_add_at size T true n.0 c.args.node c.args.label n.1 c.requires.positive (omega (arith, c.ranges.label.fits)) c.requires.based c.requires.free in
     let fits : FitsSigned w32 c.base_field.result = search rules in
-    label_added_by size T (cells c.pop_e_node.new.self) (cells c.link.new.self) true n.0 c.args.node c.args.label c.child_slot-slot.result c.child_slot-slot.ensures n.1 k popped.takes (popped.stored ∙ ap (reading g.L.Layout.kind) (to_z-of_z w32 c.base_field.result fits) ∙ c.base_field.ensures)
+    label_added_by size T (cells c.pop_e_node.new.self) (cells c.link.new.self) true n.0 c.args.node c.args.label c.slot_at-slot.result (c.slot_at-slot.ensures ∙ ap (λ b. bit_xor b c.args.label) c.requires.base_is) n.1 k popped.takes (popped.stored ∙ ap (reading g.L.Layout.kind) (to_z-of_z w32 c.base_field.result fits) ∙ c.base_field.ensures)
     c.args.before c.requires.ends.goes c.link.ensures.linked
 
-free : (g : _) (c : goal.After-link g) → Held (cells c.args.table.now) c.child_slot-slot.result → ⊥
-free g c = subst (λ s. Held (cells c.args.table.now) s → ⊥) (sym c.child_slot-slot.ensures) c.requires.free
+free : (g : _) (c : goal.After-link g) → Held (cells c.args.table.now) c.slot_at-slot.result → ⊥
+free g c = subst (λ s. Held (cells c.args.table.now) s → ⊥) (sym (c.slot_at-slot.ensures ∙ ap (λ b. bit_xor b c.args.label) c.requires.base_is)) c.requires.free
 
 pub returns-clause-tree : goal.returns-clause-tree
 returns-clause-tree g c = λ f w h u at.
@@ -85,7 +87,7 @@ returns-clause-leaf g c = λ w at.
     let size = size_of (fields c.args.table.now) in
     let T = cells c.args.table.now in
     let k : CanAdd size T c.args.node c.args.label = can_add_at size T true n.0 c.args.node c.args.label n.1 c.requires.positive (omega (arith, c.ranges.label.fits)) c.requires.based c.requires.free in
-    let slot = slot_stays size T (cells c.pop_e_node.new.self) (cells c.link.new.self) c.args.node c.args.label c.child_slot-slot.result c.child_slot-slot.ensures k c.pop_e_node.ensures.takes c.args.before c.link.ensures.linked in
+    let slot = slot_stays size T (cells c.pop_e_node.new.self) (cells c.link.new.self) c.args.node c.args.label c.slot_at-slot.result (c.slot_at-slot.ensures ∙ ap (λ b. bit_xor b c.args.label) c.requires.base_is) k c.pop_e_node.ensures.takes c.args.before c.link.ensures.linked in
     subst (IsAt (cells c.link.new.self) (w ++ c.args.label ∷ [])) (sym slot)
     (path_of_leaf size T (cells c.link.new.self) true n.0 c.args.node c.args.label (added g c) n.1.holds w at)
 
@@ -96,33 +98,33 @@ returns-clause-paths g c = λ v s at.
 
 pub returns-clause-stays : goal.returns-clause-stays
 returns-clause-stays g c =
-    stored_stays (cells c.args.table.now) (cells c.pop_e_node.new.self) (cells c.link.new.self) c.args.node c.args.label c.child_slot-slot.result (free g c) c.pop_e_node.ensures.takes c.args.before c.link.ensures.linked
+    stored_stays (cells c.args.table.now) (cells c.pop_e_node.new.self) (cells c.link.new.self) c.args.node c.args.label c.slot_at-slot.result (free g c) c.pop_e_node.ensures.takes c.args.before c.link.ensures.linked
 
 pub returns-clause-keeps : goal.returns-clause-keeps
 returns-clause-keeps g c =
-    still_held (cells c.args.table.now) (cells c.pop_e_node.new.self) (cells c.link.new.self) c.args.node c.args.label c.child_slot-slot.result (free g c) c.pop_e_node.ensures.takes c.args.before c.link.ensures.linked
+    still_held (cells c.args.table.now) (cells c.pop_e_node.new.self) (cells c.link.new.self) c.args.node c.args.label c.slot_at-slot.result (free g c) c.pop_e_node.ensures.takes c.args.before c.link.ensures.linked
 
 pub returns-clause-held : goal.returns-clause-held
 returns-clause-held g c =
-    held_before (cells c.args.table.now) (cells c.pop_e_node.new.self) (cells c.link.new.self) c.args.node c.args.label c.child_slot-slot.result (free g c) c.pop_e_node.ensures.takes c.args.before c.link.ensures.linked
+    held_before (cells c.args.table.now) (cells c.pop_e_node.new.self) (cells c.link.new.self) c.args.node c.args.label c.slot_at-slot.result (free g c) c.pop_e_node.ensures.takes c.args.before c.link.ensures.linked
 
 pub returns-clause-bare : goal.returns-clause-bare
 returns-clause-bare g c =
     let fits : FitsSigned w32 c.base_field.result = search rules in
-    leaf_bare (cells c.args.table.now) (cells c.pop_e_node.new.self) (cells c.link.new.self) c.args.node c.args.label c.child_slot-slot.result (free g c) c.pop_e_node.ensures.takes c.args.before c.link.ensures.linked
+    leaf_bare (cells c.args.table.now) (cells c.pop_e_node.new.self) (cells c.link.new.self) c.args.node c.args.label c.slot_at-slot.result (free g c) c.pop_e_node.ensures.takes c.args.before c.link.ensures.linked
     (c.pop_e_node.ensures.stored ∙ ap (reading g.L.Layout.kind) (to_z-of_z w32 c.base_field.result fits) ∙ c.base_field.ensures)
 
 pub returns-clause-owner : goal.returns-clause-owner
 returns-clause-owner g c =
-    linked_check (cells c.args.table.now) (cells c.pop_e_node.new.self) (cells c.link.new.self) c.args.node c.args.label c.child_slot-slot.result (free g c) c.pop_e_node.ensures.takes c.args.before c.link.ensures.linked c.child_slot-slot.result
+    linked_check (cells c.args.table.now) (cells c.pop_e_node.new.self) (cells c.link.new.self) c.args.node c.args.label c.slot_at-slot.result (free g c) c.pop_e_node.ensures.takes c.args.before c.link.ensures.linked c.slot_at-slot.result
     ∙ c.pop_e_node.ensures.takes.at
 
 pub returns-clause-last : goal.returns-clause-last
 returns-clause-last g c =
     let n = c.requires.node in
-    leaf_last (cells c.args.table.now) (cells c.pop_e_node.new.self) (cells c.link.new.self) c.args.node c.args.label c.child_slot-slot.result (free g c) c.pop_e_node.ensures.takes c.args.before c.link.ensures.linked
+    leaf_last (cells c.args.table.now) (cells c.pop_e_node.new.self) (cells c.link.new.self) c.args.node c.args.label c.slot_at-slot.result (free g c) c.pop_e_node.ensures.takes c.args.before c.link.ensures.linked
     (held_node (cells c.args.table.now) n.1.path c.args.node n.1.at) (behind_held (size_of (fields c.args.table.now)) (cells c.args.table.now) c.args.node c.args.label c.args.before c.requires.ends.goes) c.requires.ends.last
 
 pub returns-clause-root_check : goal.returns-clause-root_check
 returns-clause-root_check g c =
-    root_check_stays (cells c.args.table.now) (cells c.pop_e_node.new.self) (cells c.link.new.self) c.args.node c.args.label c.child_slot-slot.result c.child_slot-slot.ensures c.requires.free c.pop_e_node.ensures.takes c.args.before c.link.ensures.linked
+    root_check_stays (cells c.args.table.now) (cells c.pop_e_node.new.self) (cells c.link.new.self) c.args.node c.args.label c.slot_at-slot.result (c.slot_at-slot.ensures ∙ ap (λ b. bit_xor b c.args.label) c.requires.base_is) c.requires.free c.pop_e_node.ensures.takes c.args.before c.link.ensures.linked

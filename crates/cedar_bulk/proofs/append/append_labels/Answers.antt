@@ -1,10 +1,11 @@
 use Rattle.std.proofs.Common.{◌≡◌, ◌<◌, ◌+◌, ◌∙◌, [], ◌∷◌, ◌++◌, arith, rules, subst, sym, refl, inl, inr, take, get_or, length, List, ℕ, zero, suc, true, Some}
 use Rattle.std.proofs.lemmas.List.{take_more}
 use Rattle.cedar_tree.specs.Edits.{add_leaf, edit_at}
-use Rattle.cedar_table.specs.Edit.NodeEdits.{Above}
-use Rattle.cedar_table.specs.Meaning.Family.{Among}
-use Rattle.cedar_table.specs.Meaning.StandsFor.{HoldsTree}
-use Rattle.cedar_table.specs.Table.TableFields.{cells, fields, size_of}
+use Rattle.cedar_meaning.specs.Edit.NodeEdits.{Above}
+use Rattle.cedar_meaning.specs.Meaning.Family.{Among}
+use Rattle.cedar_meaning.specs.Meaning.StandsFor.{HoldsTree}
+use Rattle.cedar_table.specs.Table.Views.{cells, fields}
+use Rattle.cedar_meaning.specs.Table.TableFields.{size_of}
 use Rattle.cedar_bulk.proofs.BulkLemmas.LabelByLabel.{above_take, append_begins, append_on, append_ready, Appended, Appending}
 use Rattle.cedar_bulk.proofs.append.append_labels.Goals as goal
 
@@ -26,7 +27,7 @@ append_label-slot-requires g c =
     let i = c.loop-label.label-index in
     let n = c.requires.node in
     let up : Above 0 (take i labels ++ get_or labels i 0 ∷ []) = subst (Above 0) (next_label labels i c.loop-label-test.true) (above_take (i + 1) 0 labels c.requires.ascends) in
-    let k = append_ready g.row.SLOTS (fields c.args.table.now) (fields c.loop-label.table) c.args.node (get_or labels i 0) (take i labels) c.loop-label.before n.0 n.1 n.2 up c.requires.node_in c.requires.based (c.requires.free (get_or labels i 0) (among_all labels i c.loop-label-test.true)) c.loop-label.invariant in
+    let k = append_ready g.row.SLOTS (fields c.args.table.now) (fields c.loop-label.table) c.args.node c.args.base (get_or labels i 0) (take i labels) c.loop-label.before n.0 n.1 n.2 up c.requires.node_in c.requires.based c.requires.base_is (c.requires.free (get_or labels i 0) (among_all labels i c.loop-label-test.true)) c.loop-label.invariant in
     (search rules, k)
 
 pub loop-label-preserved : goal.loop-label-preserved

@@ -1,6 +1,7 @@
 use Rattle.std.proofs.Common.{◌≢◌, arith, rules, subst, sym}
 use Rattle.cedar_bulk.specs.Sorted.{GetsNumber}
-use Rattle.cedar_table.specs.Table.TableFields.{cells, fields, size_of}
+use Rattle.cedar_table.specs.Table.Views.{cells, fields}
+use Rattle.cedar_meaning.specs.Table.TableFields.{size_of}
 use Rattle.cedar_bulk.proofs.BulkLemmas.BareNode.{empty_node}
 use Rattle.cedar_bulk.proofs.BulkLemmas.FilledNode.{first_ends, no_number_got, root_ends}
 use Rattle.cedar_bulk.proofs.fill.begin_chain.Goals as goal
@@ -8,7 +9,7 @@ use Rattle.cedar_bulk.proofs.fill.begin_chain.Goals as goal
 pub take_number-requires : goal.take_number-requires
 take_number-requires g c =
     let not_root : c.args.node ≢ 0 = λ z. let no = c.requires.not_root z in let some = c.in-Some.is in cc in
-    (search rules, record { sound = c.requires.sound; node_in = c.requires.node_in; not_root = not_root; node = c.requires.node; based = c.requires.based not_root; free = c.requires.free _ c.in-Some.is })
+    (search rules, record { sound = c.requires.sound; node_in = c.requires.node_in; not_root = not_root; node = c.requires.node; based = c.requires.based not_root; base_is = c.requires.base_is; free = c.requires.free _ c.in-Some.is })
 
 pub returns-in-None-clause-gets : goal.returns-in-None-clause-gets
 returns-in-None-clause-gets g c = subst (GetsNumber (size_of (fields c.args.table.now)) (cells c.args.table.now) (cells c.args.table.now) c.args.node) (sym c.in-None.is) (no_number_got (size_of (fields c.args.table.now)) (cells c.args.table.now) c.args.node)

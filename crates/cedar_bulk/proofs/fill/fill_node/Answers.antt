@@ -3,18 +3,20 @@ use Rattle.std.specs.Prelude.{IfSome, List, true, ℕ}
 use Rattle.std.proofs.lemmas.Int.{to_z-of_z}
 use Rattle.cedar_tree.specs.Tree.{Forest}
 use Rattle.cedar_tree.specs.Edits.{edit_at}
-use Rattle.cedar_table.specs.declared.layout.Stored.TheVariants.{OwnNumber}
-use Rattle.cedar_table.specs.Edit.NodeEdits.{IsAt, IsNodeOf}
-use Rattle.cedar_table.specs.Meaning.StandsFor.{HoldsTree}
-use Rattle.cedar_table.specs.Edit.Own.{FieldSet}
+use Rattle.cedar_meaning.specs.declared.layout.Stored.TheVariants.{OwnNumber}
+use Rattle.cedar_meaning.specs.Edit.NodeEdits.{IsAt, IsNodeOf}
+use Rattle.cedar_meaning.specs.Meaning.Family.{base_in}
+use Rattle.cedar_meaning.specs.Meaning.StandsFor.{HoldsTree}
+use Rattle.cedar_meaning.specs.Edit.Own.{FieldSet}
 use Rattle.cedar_bulk.specs.Sorted.{Fills}
-use Rattle.cedar_table.specs.Table.TableFields.{cells, fields, size_of}
-use Rattle.cedar_table.specs.Meaning.WellFormed.{is_value}
+use Rattle.cedar_table.specs.Table.Views.{cells, fields}
+use Rattle.cedar_meaning.specs.Table.TableFields.{size_of}
+use Rattle.cedar_meaning.specs.Meaning.WellFormed.{is_value}
 use Rattle.cedar_bulk.proofs.BulkLemmas.BareNode.{empty_node}
-use Rattle.cedar_table.proofs.UpdateLemmas.BlocksMade.{framed_none}
+use Rattle.cedar_meaning.proofs.UpdateLemmas.BlocksMade.{framed_none}
 use Rattle.cedar_bulk.proofs.BulkLemmas.FilledNode.{no_labels, own_filled}
 use Rattle.cedar_bulk.proofs.BulkLemmas.InnerKeys.{always_on_ok, placed_own}
-use Rattle.cedar_table.proofs.EditLemmas.OwnNumber.{spare_past}
+use Rattle.cedar_meaning.proofs.EditLemmas.OwnNumber.{spare_past}
 use Rattle.cedar_bulk.proofs.fill.fill_node.Goals as goal
 
 pub set_own_number-requires : goal.set_own_number-requires
@@ -57,3 +59,6 @@ returns-in-Some-clause-root_check g c = c.set_own_number.ensures.set.check 0
 
 pub returns-clause-own : goal.returns-clause-own
 returns-clause-own g c = always_on_ok c.place_node.result (placed_own g.L.Layout.kind (cells c.place_node.new.table) c.args.node c.args.number c.args.labels.now c.in_default.ensures)
+
+pub returns-in-Some-clause-base : goal.returns-in-Some-clause-base
+returns-in-Some-clause-base g c = ap base_in (sym c.set_own_number.ensures.set.set)

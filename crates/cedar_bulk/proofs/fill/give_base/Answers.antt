@@ -1,13 +1,15 @@
-use Rattle.std.proofs.Common.{◌≡◌, ◌≤◌, ◌∙◌, arith, inl, rules, subst, sym, refl}
-use Rattle.cedar_table.specs.Table.Cells.{Held}
+use Rattle.std.proofs.Common.{◌≡◌, ◌≤◌, ◌∙◌, ap, arith, inl, rules, subst, sym, refl}
+use Rattle.cedar_meaning.specs.Table.Cells.{Held}
+use Rattle.cedar_meaning.specs.Meaning.Family.{base_in}
 use Rattle.cedar_bulk.specs.Sorted.{GetsBase}
-use Rattle.cedar_table.specs.Table.TableFields.{cells, fields, size_of}
+use Rattle.cedar_table.specs.Table.Views.{cells, fields}
+use Rattle.cedar_meaning.specs.Table.TableFields.{size_of}
 use Rattle.cedar_slots.specs.Views.{places_of}
-use Rattle.cedar_table.proofs.EditLemmas.AtPath.{held_node}
-use Rattle.cedar_table.proofs.UpdateLemmas.BlocksMade.{made_larger, made_none, same_slots}
+use Rattle.cedar_meaning.proofs.EditLemmas.AtPath.{held_node}
+use Rattle.cedar_meaning.proofs.UpdateLemmas.BlocksMade.{made_larger, made_none, same_slots}
 use Rattle.cedar_bulk.proofs.BulkLemmas.FilledNode.{node_based, root_based}
-use Rattle.cedar_table.proofs.EditLemmas.FirstBase.{held_still}
-use Rattle.cedar_table.proofs.RelocationLemmas.PlacesFirst.{among_small, base_placed}
+use Rattle.cedar_meaning.proofs.EditLemmas.FirstBase.{held_still}
+use Rattle.cedar_meaning.proofs.RelocationLemmas.PlacesFirst.{among_small, base_placed}
 use Rattle.cedar_bulk.proofs.fill.give_base.Goals as goal
 
 pub returns-then-node-eq0-clause-based : goal.returns-then-node-eq0-clause-based
@@ -45,3 +47,9 @@ returns-clause-based g c =
 
 pub returns-clause-root_check : goal.returns-clause-root_check
 returns-clause-root_check g c = c.set_base.ensures.rebased.check 0 ∙ (c.in_ok-base.ensures.held.other 0 (inl refl)).check
+
+pub returns-then-node-eq0-clause-base : goal.returns-then-node-eq0-clause-base
+returns-then-node-eq0-clause-base g c = ap base_in (sym c.requires.leaf)
+
+pub returns-clause-base : goal.returns-clause-base
+returns-clause-base g c = ap base_in (sym c.set_base.ensures.rebased.set)

@@ -1,13 +1,14 @@
 use Rattle.std.proofs.Common.{◌≡◌, ◌≢◌, ◌<◌, ◌≤◌, ◌∙◌, ℕ, arith, inl, rules, subst, sym, ap, refl, Some}
 use Rattle.std.specs.Prelude.{ℤ}
-use Rattle.cedar_table.specs.Table.Cells.{Held}
-use Rattle.cedar_table.specs.Meaning.Family.{Among, below, InRange}
+use Rattle.cedar_meaning.specs.Table.Cells.{Held}
+use Rattle.cedar_meaning.specs.Meaning.Family.{Among, base_in, below, InRange}
 use Rattle.cedar_bulk.specs.Sorted.{Fills, GetsBase, GetsLabels, IsChildless, with_number}
-use Rattle.cedar_table.specs.Table.TableFields.{cells, fields, size_of}
-use Rattle.cedar_table.proofs.EditLemmas.AtPath.{held_node}
-use Rattle.cedar_table.proofs.UpdateLemmas.BlocksMade.{made_framed, made_larger}
+use Rattle.cedar_table.specs.Table.Views.{cells, fields}
+use Rattle.cedar_meaning.specs.Table.TableFields.{size_of}
+use Rattle.cedar_meaning.proofs.EditLemmas.AtPath.{held_node}
+use Rattle.cedar_meaning.proofs.UpdateLemmas.BlocksMade.{made_framed, made_larger}
 use Rattle.cedar_bulk.proofs.BulkLemmas.FilledNode.{filled, labels_free, still_bare, still_childless, wanted_positive}
-use Rattle.cedar_table.proofs.UpdateLemmas.Frame.{frame_then}
+use Rattle.cedar_meaning.proofs.UpdateLemmas.Frame.{frame_then}
 use Rattle.cedar_bulk.proofs.fill.place_node.Goals as goal
 
 pub give_base-requires : goal.give_base-requires
@@ -19,7 +20,7 @@ give_base-requires g c =
 pub begin_chain-before-requires : goal.begin_chain-before-requires
 begin_chain-before-requires g c =
     let n = c.requires.node in
-    let e = c.in_ok-give_base.ensures in
+    let e = c.in_ok-base.ensures in
     let T₁ = cells c.give_base.new.table in
     let size = size_of (fields c.args.table.now) in
     let size' = size_of (fields c.give_base.new.table) in
@@ -27,12 +28,12 @@ begin_chain-before-requires g c =
     let node = still_bare size size' (cells c.args.table.now) T₁ c.args.node c.args.wanted.now n e.based in
     let free : (v : ℤ) → c.args.number ≡ Some v → Held T₁ (below T₁ c.args.node 0) → ⊥ = λ v is.
     e.based.free 0 (subst (λ ws. Among ws 0) (ap (λ o. with_number o c.args.labels.now) (sym is) ∙ sym c.requires.wanted) (inl refl)) in
-    (search rules, record { sound = e.sound; node_in = omega (arith, c.requires.node_in, more); not_root = c.requires.not_root; node = node; based = e.based.based; free = free })
+    (search rules, record { sound = e.sound; node_in = omega (arith, c.requires.node_in, more); not_root = c.requires.not_root; node = node; based = e.based.based; base_is = e.base; free = free })
 
 pub append_labels-requires : goal.append_labels-requires
 append_labels-requires g c =
     let n = c.requires.node in
-    let e = c.in_ok-give_base.ensures in
+    let e = c.in_ok-base.ensures in
     let b = c.begin_chain-before.ensures in
     let T = cells c.args.table.now in
     let T₁ = cells c.give_base.new.table in
@@ -49,12 +50,12 @@ append_labels-requires g c =
     subst (λ m. InRange m (T₂.stored c.args.node)) (sym same) (subst (InRange size₁) (sym (b.gets.stays c.args.node (e.based.keeps c.args.node held))) (e.based.based z)) in
     let free : (l : ℕ) → Among c.args.labels.now l → Held T₂ (below T₂ c.args.node l) → ⊥ =
     labels_free size size₁ T T₁ T₂ c.args.node c.args.number c.args.labels.now held c.requires.ascends (subst (GetsBase size size₁ T T₁ c.args.node) c.requires.wanted e.based) b.gets in
-    (search rules, record { sound = b.sound; node_in = omega (arith, c.requires.node_in, more, same); node = subst (λ m. IsChildless m T₂ c.args.node) (sym same) numbered; based = base; ascends = c.requires.ascends; free = free; ends = b.ends })
+    (search rules, record { sound = b.sound; node_in = omega (arith, c.requires.node_in, more, same); node = subst (λ m. IsChildless m T₂ c.args.node) (sym same) numbered; based = base; base_is = e.base ∙ ap base_in (sym (b.gets.stays c.args.node (e.based.keeps c.args.node held))); ascends = c.requires.ascends; free = free; ends = b.ends })
 
 pub returns-clause-fills : goal.returns-clause-fills
 returns-clause-fills g c =
     let n = c.requires.node in
-    let e = c.in_ok-give_base.ensures in
+    let e = c.in_ok-base.ensures in
     let b = c.begin_chain-before.ensures in
     let a = c.append_labels.ensures in
     let T = cells c.args.table.now in
@@ -69,7 +70,7 @@ returns-clause-fills g c =
 
 pub returns-clause-blocks : goal.returns-clause-blocks
 returns-clause-blocks g c =
-    let e = c.in_ok-give_base.ensures in (
+    let e = c.in_ok-base.ensures in (
       e.blocks.0,
       e.blocks.1,
       tt,
@@ -77,3 +78,12 @@ returns-clause-blocks g c =
       made_framed e.blocks.0 (fields c.args.table.now) (fields c.give_base.new.table) (fields c.append_labels.new.table) e.blocks.4
           (frame_then (fields c.give_base.new.table) (fields c.begin_chain-before.new.table) (fields c.append_labels.new.table) c.begin_chain-before.ensures.frame c.append_labels.ensures.frame),
     )
+
+pub returns-clause-base : goal.returns-clause-base
+returns-clause-base g c =
+    let n = c.requires.node in
+    let e = c.in_ok-base.ensures in
+    let b = c.begin_chain-before.ensures in
+    let a = c.append_labels.ensures in
+    let held = e.based.keeps c.args.node (held_node (cells c.args.table.now) n.1.path c.args.node n.1.at) in
+    e.base ∙ ap base_in (sym (b.gets.stays c.args.node held)) ∙ ap base_in (sym (a.gets.stays c.args.node (b.gets.keeps c.args.node held)))

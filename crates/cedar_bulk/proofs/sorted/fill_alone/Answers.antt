@@ -1,16 +1,17 @@
-use Rattle.std.proofs.Common.{◌≡◌, suc, ◌<◌, ◌∙◌, arith, rules, refl, sym, ap, subst, get_or, length, FitsSigned, of_z, to_z, w32, Result, Ok, Err, Some, None, [], ◌∷◌}
+use Rattle.std.proofs.Common.{◌≡◌, suc, ◌<◌, ◌∙◌, arith, rules, refl, sym, ap, subst, get_or, length, drop, List, FitsSigned, of_z, to_z, w32, Result, Ok, Err, Some, None, [], ◌∷◌}
 use Rattle.std.specs.Prelude.{bit_xor, IfSome, OnErr, true}
 use Rattle.std.proofs.lemmas.Int.{to_z-of_z}
 use Rattle.cedar_tree.specs.Queries.{Entry}
-use Rattle.cedar_slots.specs.declared.error.CedarError.{CedarError}
+use Rattle.cedar_error.specs.declared.error.CedarError.{CedarError}
 use Rattle.cedar_bulk.specs.Sorted.{entries_by, Fills}
 use Rattle.cedar_bulk.specs.SortedMarks.{KeepsOwn}
-use Rattle.cedar_bulk.specs.Spans.{IsTreeOfSpan}
-use Rattle.cedar_table.specs.Meaning.Family.{base_of}
-use Rattle.cedar_table.specs.Meaning.StandsFor.{labels}
-use Rattle.cedar_table.specs.Meaning.WellFormed.{is_value}
-use Rattle.cedar_table.specs.Table.TableFields.{cells, fields, size_of}
-use Rattle.cedar_bulk.proofs.BulkLemmas.OnePair.{covers_same, ends_here, goes_on, only_one}
+use Rattle.cedar_bulk.specs.Spans.{IsAlike, IsTreeOfSpan}
+use Rattle.cedar_meaning.specs.Meaning.Family.{base_of}
+use Rattle.cedar_meaning.specs.Meaning.StandsFor.{labels}
+use Rattle.cedar_meaning.specs.Meaning.WellFormed.{is_value}
+use Rattle.cedar_table.specs.Table.Views.{cells, fields}
+use Rattle.cedar_meaning.specs.Table.TableFields.{size_of}
+use Rattle.cedar_bulk.proofs.BulkLemmas.OnePair.{covers_same, ends_alone, ends_here, first_then, goes_on}
 use Rattle.cedar_bulk.proofs.sorted.fill_alone.Goals as goal
 
 on_err_always : {X : Type 0} {P : Type 0} (r : Result X CedarError) → P → OnErr r P
@@ -24,7 +25,7 @@ fill_node-requires g c =
     let p = get_or c.args.span.pairs.now 0 c.index-span-0.result in
     let e : Entry = (items p.0, p.1) in
     let r = c.requires in
-    let one = only_one c.args.span.pairs.now c.index-span-0.result r.one in
+    let one = ends_alone items d c.args.span.pairs.now c.index-span-0.result r.alike (omega (arith, ap length (sym c.as_slice-key.ensures), c.if-key-span.true)) in
     let t = subst (λ xs. IsTreeOfSpan d xs r.tree.0) (ap (entries_by items) one) r.tree.1 in
     let k = ends_here d e r.tree.0 t (omega (arith, ap length (sym c.as_slice-key.ensures), c.if-key-span.true)) in
     let fits : FitsSigned w32 p.1 = search rules in
@@ -38,7 +39,7 @@ returns-then-key-span-clause-fills g c = λ t h.
     let p = get_or c.args.span.pairs.now 0 c.index-span-0.result in
     let e : Entry = (items p.0, p.1) in
     let fits : FitsSigned w32 p.1 = search rules in
-    let one = only_one c.args.span.pairs.now c.index-span-0.result c.requires.one in
+    let one = ends_alone items d c.args.span.pairs.now c.index-span-0.result c.requires.alike (omega (arith, ap length (sym c.as_slice-key.ensures), c.if-key-span.true)) in
     let k = ends_here d e t (subst (λ xs. IsTreeOfSpan d xs t) (ap (entries_by items) one) h) (omega (arith, ap length (sym c.as_slice-key.ensures), c.if-key-span.true)) in
     let T = cells c.args.table.now in
     let T' = cells c.fill_node.new.table in
@@ -55,7 +56,7 @@ returns-then-key-span-clause-own g c = λ t h.
     let p = get_or c.args.span.pairs.now 0 c.index-span-0.result in
     let e : Entry = (items p.0, p.1) in
     let fits : FitsSigned w32 p.1 = search rules in
-    let one = only_one c.args.span.pairs.now c.index-span-0.result c.requires.one in
+    let one = ends_alone items d c.args.span.pairs.now c.index-span-0.result c.requires.alike (omega (arith, ap length (sym c.as_slice-key.ensures), c.if-key-span.true)) in
     let k = ends_here d e t (subst (λ xs. IsTreeOfSpan d xs t) (ap (entries_by items) one) h) (omega (arith, ap length (sym c.as_slice-key.ensures), c.if-key-span.true)) in
     let T' = cells c.fill_node.new.table in
     subst (λ o. KeepsOwn g.L.Layout.kind T' c.args.span.node o (labels t.children)) (sym k.number)
@@ -68,7 +69,7 @@ returns-then-key-span-clause-spans g c = λ t h.
     let d = c.args.span.depth in
     let p = get_or c.args.span.pairs.now 0 c.index-span-0.result in
     let e : Entry = (items p.0, p.1) in
-    let one = only_one c.args.span.pairs.now c.index-span-0.result c.requires.one in
+    let one = ends_alone items d c.args.span.pairs.now c.index-span-0.result c.requires.alike (omega (arith, ap length (sym c.as_slice-key.ensures), c.if-key-span.true)) in
     (ends_here d e t (subst (λ xs. IsTreeOfSpan d xs t) (ap (entries_by items) one) h) (omega (arith, ap length (sym c.as_slice-key.ensures), c.if-key-span.true))).alone
 
 pub fill_node-requires-2 : goal.fill_node-requires-2
@@ -78,16 +79,17 @@ fill_node-requires-2 g c =
     let p = get_or c.args.span.pairs.now 0 c.index-span-0.result in
     let e : Entry = (items p.0, p.1) in
     let r = c.requires in
-    let one = only_one c.args.span.pairs.now c.index-span-0.result r.one in
-    let t = subst (λ xs. IsTreeOfSpan d xs r.tree.0) (ap (entries_by items) one) r.tree.1 in
-    let k = goes_on d e r.tree.0 t (omega (arith, ap length (sym c.as_slice-key.ensures), c.if-key-span.false)) in
+    let one = first_then items c.args.span.pairs.now c.index-span-0.result r.some in
+    let es : List Entry = entries_by items (drop 1 c.args.span.pairs.now) in
+    let t = subst (λ xs. IsTreeOfSpan d xs r.tree.0) one r.tree.1 in
+    let k = goes_on d e es r.tree.0 t (omega (arith, ap length (sym c.as_slice-key.ensures), c.if-key-span.false)) (subst (IsAlike d) one r.alike) in
     let positive : 0 < get_or c.as_slice-key.result.now d 0 = subst (λ xs. 0 < get_or xs d 0) (sym c.as_slice-key.ensures) k.positive in
     (search rules, (record { sound = r.bare.sound; node_in = r.bare.node_in; not_root = λ z. refl; node = r.bare.node; leaf = r.bare.leaf; wanted = refl; some = omega arith; few = omega arith; ascends = (positive, tt) }, tt))
 
-pub returns-in_err-fill_node-2-clause-blocks : goal.returns-in_err-fill_node-2-clause-blocks
-returns-in_err-fill_node-2-clause-blocks g c =
-    let b = c.in_err-fill_node-2.ensures.blocks in
-    (b.0, b.1, on_err_always c.from_residual-in_err-fill_node-2.result b.2, b.4)
+pub returns-in_err-base-clause-blocks : goal.returns-in_err-base-clause-blocks
+returns-in_err-base-clause-blocks g c =
+    let b = c.in_err-base.ensures.blocks in
+    (b.0, b.1, on_err_always c.from_residual-in_err-base.result b.2, b.4)
 
 pub returns-clause-fills : goal.returns-clause-fills
 returns-clause-fills g c = λ t h.
@@ -95,15 +97,16 @@ returns-clause-fills g c = λ t h.
     let d = c.args.span.depth in
     let p = get_or c.args.span.pairs.now 0 c.index-span-0.result in
     let e : Entry = (items p.0, p.1) in
-    let one = only_one c.args.span.pairs.now c.index-span-0.result c.requires.one in
-    let k = goes_on d e t (subst (λ xs. IsTreeOfSpan d xs t) (ap (entries_by items) one) h) (omega (arith, ap length (sym c.as_slice-key.ensures), c.if-key-span.false)) in
+    let one = first_then items c.args.span.pairs.now c.index-span-0.result c.requires.some in
+    let es : List Entry = entries_by items (drop 1 c.args.span.pairs.now) in
+    let k = goes_on d e es t (subst (λ xs. IsTreeOfSpan d xs t) one h) (omega (arith, ap length (sym c.as_slice-key.ensures), c.if-key-span.false)) (subst (IsAlike d) one c.requires.alike) in
     let label : labels t.children ≡ get_or c.as_slice-key.result.now d 0 ∷ [] = k.label ∙ ap (λ xs. get_or xs d 0 ∷ []) (sym c.as_slice-key.ensures) in
     let T = cells c.args.table.now in
     let T' = cells c.fill_node-2.new.table in
     let size = size_of (fields c.args.table.now) in
     let size' = size_of (fields c.fill_node-2.new.table) in
     subst (λ o. Fills size size' T T' c.args.span.node o (labels t.children)) (sym k.number)
-    (subst (Fills size size' T T' c.args.span.node None) (sym label) c.in_ok-fill_node-2.ensures.fills)
+    (subst (Fills size size' T T' c.args.span.node None) (sym label) c.in_ok-base.ensures.fills)
 
 pub returns-clause-spans : goal.returns-clause-spans
 returns-clause-spans g c = λ t h.
@@ -111,8 +114,9 @@ returns-clause-spans g c = λ t h.
     let d = c.args.span.depth in
     let p = get_or c.args.span.pairs.now 0 c.index-span-0.result in
     let e : Entry = (items p.0, p.1) in
-    let one = only_one c.args.span.pairs.now c.index-span-0.result c.requires.one in
-    let k = goes_on d e t (subst (λ xs. IsTreeOfSpan d xs t) (ap (entries_by items) one) h) (omega (arith, ap length (sym c.as_slice-key.ensures), c.if-key-span.false)) in
+    let one = first_then items c.args.span.pairs.now c.index-span-0.result c.requires.some in
+    let es : List Entry = entries_by items (drop 1 c.args.span.pairs.now) in
+    let k = goes_on d e es t (subst (λ xs. IsTreeOfSpan d xs t) one h) (omega (arith, ap length (sym c.as_slice-key.ensures), c.if-key-span.false)) (subst (IsAlike d) one c.requires.alike) in
     let base = base_of (cells c.fill_node-2.new.table) c.args.span.node in
     let depth : c.deeper.result ≡ suc d = omega (arith, c.deeper.ensures) in
-    covers_same base _ _ t.children (c.child_slot.ensures ∙ ap (λ xs. bit_xor base (get_or xs d 0)) c.as_slice-key.ensures) depth (ap (entries_by items) one) (k.covers base)
+    covers_same base _ _ t.children (c.slot_at.ensures ∙ ap (λ b. bit_xor b (get_or c.as_slice-key.result.now d 0)) c.in_ok-base.ensures.base ∙ ap (λ xs. bit_xor base (get_or xs d 0)) c.as_slice-key.ensures) depth one (k.covers base)

@@ -2,17 +2,18 @@ use Rattle.std.proofs.Common.{◌≡◌, ◌<◌, ◌≤◌, ◌∙◌, arith, r
 use Rattle.std.specs.Prelude.{IfSome, true}
 use Rattle.cedar_tree.specs.Tree.{none}
 use Rattle.cedar_tree.specs.Queries.{Entry}
-use Rattle.cedar_table.specs.Edit.NodeEdits.{Above}
+use Rattle.cedar_meaning.specs.Edit.NodeEdits.{Above}
 use Rattle.cedar_bulk.specs.Sorted.{entries_by, Fills, with_number}
 use Rattle.cedar_bulk.specs.SortedMarks.{KeepsOwn}
 use Rattle.cedar_bulk.specs.Spans.{based_at, Covers, Lists, parts_of}
-use Rattle.cedar_table.specs.Meaning.StandsFor.{labels}
-use Rattle.cedar_table.specs.Table.TableFields.{cells, fields, size_of}
-use Rattle.cedar_table.specs.Meaning.WellFormed.{is_value}
+use Rattle.cedar_meaning.specs.Meaning.StandsFor.{labels}
+use Rattle.cedar_table.specs.Table.Views.{cells, fields}
+use Rattle.cedar_meaning.specs.Table.TableFields.{size_of}
+use Rattle.cedar_meaning.specs.Meaning.WellFormed.{is_value}
 use Rattle.cedar_bulk.proofs.BulkLemmas.MovedSpans.{covers_moved, front_inside, spans_moved}
 use Rattle.cedar_bulk.proofs.BulkLemmas.Spans.{as_many, back_is, below_is, bit_is}
 use Rattle.cedar_slots.specs.Views.{places_of}
-use Rattle.cedar_table.proofs.UpdateLemmas.BlocksMade.{made_none, same_slots}
+use Rattle.cedar_meaning.proofs.UpdateLemmas.BlocksMade.{made_none, same_slots}
 use Rattle.cedar_bulk.proofs.sorted.fill_span.Goals as goal
 
 pub split_at-requires : goal.split_at-requires
@@ -98,7 +99,7 @@ returns-clause-fills g c = λ t h.
     let size = size_of (fields c.args.table.now) in
     let size' = size_of (fields c.fill_node.new.table) in
     subst (λ o. Fills size size' T T' c.args.span.node o (labels t.children)) k.number_is
-    (subst (Fills size size' T T' c.args.span.node number) positive c.in_ok-fill_node.ensures.fills)
+    (subst (Fills size size' T T' c.args.span.node number) positive c.in_ok-base.ensures.fills)
 
 pub returns-clause-spans : goal.returns-clause-spans
 returns-clause-spans g c = λ t h.
@@ -111,8 +112,8 @@ returns-clause-spans g c = λ t h.
     let k = below_is d es t number skipped h c.number_at-number.ensures count in
     let below : entries_by items c.split_at.result.1.now ≡ drop skipped es = ap (entries_by items) c.split_at.ensures.back ∙ back_is items skipped c.args.span.pairs.now in
     let made = c.in_ok-list_spans.ensures.spans t.children (subst (λ xs. Lists d xs t.children) (sym below) k.lists) in
-    let moved = spans_moved items c.args.pending.now.items made.0 c.len-first.result c.base_of.result (omega (arith, c.len-first.ensures)) (parts_of items c.list_spans.new.pending.items) (parts_of items c.move_spans.new.pending.items) made.1 c.move_spans.ensures in
-    (map (based_at c.base_of.result) made.0, moved, subst (λ b. Covers b (map (based_at c.base_of.result) made.0) t.children none) c.base_of.ensures (covers_moved c.base_of.result made.0 t.children none made.2))
+    let moved = spans_moved items c.args.pending.now.items made.0 c.len-first.result c.in_ok-base.base (omega (arith, c.len-first.ensures)) (parts_of items c.list_spans.new.pending.items) (parts_of items c.move_spans.new.pending.items) made.1 c.move_spans.ensures in
+    (map (based_at c.in_ok-base.base) made.0, moved, subst (λ b. Covers b (map (based_at c.in_ok-base.base) made.0) t.children none) c.in_ok-base.ensures.base (covers_moved c.in_ok-base.base made.0 t.children none made.2))
 
 pub returns-clause-own : goal.returns-clause-own
 returns-clause-own g c = λ t h.
@@ -128,4 +129,4 @@ returns-clause-own g c = λ t h.
     let positive : c.split_at-2.result.1.now ≡ labels t.children = c.split_at-2.ensures.back ∙ ap (drop skipped) listed ∙ k.wanted in
     let T' = cells c.fill_node.new.table in
     subst (λ o. KeepsOwn g.L.Layout.kind T' c.args.span.node o (labels t.children)) k.number_is
-    (subst (KeepsOwn g.L.Layout.kind T' c.args.span.node number) positive c.in_ok-fill_node.ensures.own)
+    (subst (KeepsOwn g.L.Layout.kind T' c.args.span.node number) positive c.in_ok-base.ensures.own)

@@ -2,7 +2,7 @@ use Rattle.std.proofs.Common.{rules, ◌≡◌, ◌∙◌, ◌<◌, ◌^◌, [],
 use Rattle.cedarwood.specs.Queries.{front}
 use Rattle.cedar_c.specs.Content.{content, tree_in}
 use Rattle.cedar_c.proofs.ClosedLemmas.{closed_is_empty}
-use Rattle.cedar_c.proofs.MatchLemmas.{fronts_fit, no_fronts, nothing_told}
+use Rattle.cedar_c.proofs.MatchLemmas.{no_fronts, nothing_told}
 use Rattle.cedar_c.proofs.pages.cedar_prefixes_from.Goals as goal
 
 pub returns-in_default-clause-count : goal.returns-in_default-clause-count
@@ -18,9 +18,3 @@ returns-in_default-clause-filled c =
     let all = front (tree_in c.args.handle.now) c.args.text.now in
     let none : all ≡ [] = ap (λ t. front t c.args.text.now) (closed_is_empty c.args.handle.now closed) ∙ no_fronts c.args.text.now in
     (nothing_told c.args.matches.now c.args.next.now all none).1
-
-pub go_on-count-requires : goal.go_on-count-requires
-go_on-count-requires c =
-    let t = c.deref.result.now.state.tree in
-    let short : length c.args.text.now < 2 ^ 64 = search rules in
-    subst (λ xs. length xs < 2 ^ 64) (sym c.common_prefix_iter_bytes.ensures.rest) (fronts_fit t c.args.text.now short)

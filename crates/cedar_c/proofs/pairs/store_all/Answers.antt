@@ -7,33 +7,33 @@ use Rattle.cedar_c.proofs.PairLemmas.{entries_taken, faulty_keeps, front_stored,
 use Rattle.cedar_c.proofs.pairs.store_all.Goals as goal
 
 pub returns-in-Some-clause-faulty : goal.returns-in-Some-clause-faulty
-returns-in-Some-clause-faulty c =
+returns-in-Some-clause-faulty g c =
     let same : c.as_slice.result.now ≡ map taken_pair c.args.pairs.now = search rules in
     let is : entries_of c.as_slice.result.now ≡ entries_in c.args.pairs.now = ap entries_of same ∙ entries_taken c.args.pairs.now in
-    let before = c.args.cedar.now in
+    let before = c.args.trie.now in
     let after = c.build_bytes.new.self in
     let result = c.build_bytes.result in
     let kept = subst (λ (es : List Entry). IsSome (first_fault es) → after ≡ before) is c.build_bytes.ensures.unchanged in
     let faulty = subst (λ (es : List Entry). IfSome (first_fault es) (λ e. result ≡ Err e)) is c.build_bytes.ensures.faulty in
-    faulty_keeps before after (entries_in c.args.pairs.now) (first_fault (entries_in c.args.pairs.now)) result kept faulty
+    faulty_keeps g.row.SLOTS before after (entries_in c.args.pairs.now) (first_fault (entries_in c.args.pairs.now)) result kept faulty
 
 pub returns-in-Some-clause-front : goal.returns-in-Some-clause-front
-returns-in-Some-clause-front c =
+returns-in-Some-clause-front g c =
     let same : c.as_slice.result.now ≡ map taken_pair c.args.pairs.now = search rules in
     let is : entries_of c.as_slice.result.now ≡ entries_in c.args.pairs.now = ap entries_of same ∙ entries_taken c.args.pairs.now in
-    let before = c.args.cedar.now in
+    let before = c.args.trie.now in
     let after = c.build_bytes.new.self in
     let result = c.build_bytes.result in
     let kept = subst (λ (es : List Entry). IsSome (first_fault es) → after ≡ before) is c.build_bytes.ensures.unchanged in
     let stored = subst (λ (es : List Entry). OnOk result (after.state ≡ all_stored before.state es)) is c.build_bytes.ensures.stored in
-    let refused = subst (λ (es : List Entry). first_fault es ≡ None → IfErr result (IsRefusedBuild 1073741824 before after es)) is c.build_bytes.ensures.refused in
-    front_stored before after (entries_in c.args.pairs.now) (first_fault (entries_in c.args.pairs.now)) result kept stored refused
+    let refused = subst (λ (es : List Entry). first_fault es ≡ None → IfErr result (IsRefusedBuild g.row.SLOTS before after es)) is c.build_bytes.ensures.refused in
+    front_stored g.row.SLOTS before after (entries_in c.args.pairs.now) (first_fault (entries_in c.args.pairs.now)) result kept stored refused
 
 pub returns-in-Some-clause-refused : goal.returns-in-Some-clause-refused
-returns-in-Some-clause-refused c =
+returns-in-Some-clause-refused g c =
     let same : c.as_slice.result.now ≡ map taken_pair c.args.pairs.now = search rules in
     let is : entries_of c.as_slice.result.now ≡ entries_in c.args.pairs.now = ap entries_of same ∙ entries_taken c.args.pairs.now in
-    let before = c.args.cedar.now in
+    let before = c.args.trie.now in
     let after = c.build_bytes.new.self in
-    let refused = subst (λ (es : List Entry). first_fault es ≡ None → IfErr c.build_bytes.result (IsRefusedBuild 1073741824 before after es)) is c.build_bytes.ensures.refused in
-    λ none. refused_shortage before after (entries_in c.args.pairs.now) c.build_bytes.result (refused none)
+    let refused = subst (λ (es : List Entry). first_fault es ≡ None → IfErr c.build_bytes.result (IsRefusedBuild g.row.SLOTS before after es)) is c.build_bytes.ensures.refused in
+    λ none. refused_shortage g.row.SLOTS before after (entries_in c.args.pairs.now) c.build_bytes.result (refused none)

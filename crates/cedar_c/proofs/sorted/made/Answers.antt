@@ -1,5 +1,5 @@
 use Rattle.std.proofs.Common.{rules, ◌≡◌, ◌∙◌, ◌⊎◌, ◌*◌, ◌≤◌, List, [], None, Err, IfSome, IfErr, length, map, subst, ap}
-use Rattle.cedar_slots.specs.declared.error.CedarError.TheVariants.{Memory, SlotLimit}
+use Rattle.cedar_error.specs.declared.error.CedarError.TheVariants.{Memory, SlotLimit}
 use Rattle.cedar_tree.specs.Queries.{Entry, asc, prefixes}
 use Rattle.cedar_bulk.specs.Sorted.{entries_of}
 use Rattle.cedarwood.specs.SortedInput.{fault_from}
@@ -8,16 +8,16 @@ use Rattle.cedar_c.proofs.PairLemmas.{entries_taken, fault_answered}
 use Rattle.cedar_c.proofs.sorted.made.Goals as goal
 
 pub returns-in-Some-clause-faulty : goal.returns-in-Some-clause-faulty
-returns-in-Some-clause-faulty c =
+returns-in-Some-clause-faulty g c =
     let same : c.as_slice.result.now ≡ map taken_pair c.args.pairs.now = search rules in
     let is : entries_of c.as_slice.result.now ≡ entries_in c.args.pairs.now = ap entries_of same ∙ entries_taken c.args.pairs.now in
-    let result = c.from_sorted_bytes.result in
-    let faulty = subst (λ (es : List Entry). IfSome (fault_from 0 [] es) (λ e. result ≡ Err e)) is c.from_sorted_bytes.ensures.faulty in
+    let result = c.from_sorted_bytes_with.result in
+    let faulty = subst (λ (es : List Entry). IfSome (fault_from 0 [] es) (λ e. result ≡ Err e)) is c.from_sorted_bytes_with.ensures.faulty in
     fault_answered (fault_in c.args.pairs.now) result faulty
 
 pub returns-in-Some-clause-refused : goal.returns-in-Some-clause-refused
-returns-in-Some-clause-refused c =
+returns-in-Some-clause-refused g c =
     let same : c.as_slice.result.now ≡ map taken_pair c.args.pairs.now = search rules in
     let is : entries_of c.as_slice.result.now ≡ entries_in c.args.pairs.now = ap entries_of same ∙ entries_taken c.args.pairs.now in
-    let result = c.from_sorted_bytes.result in
-    subst (λ (es : List Entry). fault_from 0 [] es ≡ None → IfErr result (λ e. (e ≡ Memory) ⊎ ((e ≡ SlotLimit) × (1073741824 ≤ 256 * length (prefixes (asc es)))))) is c.from_sorted_bytes.ensures.refused
+    let result = c.from_sorted_bytes_with.result in
+    subst (λ (es : List Entry). fault_from 0 [] es ≡ None → IfErr result (λ e. (e ≡ Memory) ⊎ ((e ≡ SlotLimit) × (g.row.SLOTS ≤ 256 * length (prefixes (asc es)))))) is c.from_sorted_bytes_with.ensures.refused

@@ -3,7 +3,7 @@ use Rattle.cedarwood.specs.Queries.{front}
 use Rattle.cedar_c.specs.Content.{content}
 use Rattle.cedar_c.specs.Matches.{filled}
 use Rattle.cedar_c.proofs.ClosedLemmas.{closed_is_empty}
-use Rattle.cedar_c.proofs.MatchLemmas.{fronts_fit, no_fronts, nothing_filled}
+use Rattle.cedar_c.proofs.MatchLemmas.{no_fronts, nothing_filled}
 use Rattle.cedar_c.proofs.walks.cedar_prefixes.Goals as goal
 
 pub returns-in_default-clause-count : goal.returns-in_default-clause-count
@@ -16,9 +16,3 @@ returns-in_default-clause-filled c =
     let closed : content c.args.handle.now ≡ None = search rules in
     let matches = c.args.matches.now in
     sym (ap (λ t. filled matches (front t c.args.text.now)) (closed_is_empty c.args.handle.now closed) ∙ ap (filled matches) (no_fronts c.args.text.now) ∙ nothing_filled matches)
-
-pub fill-count-requires : goal.fill-count-requires
-fill-count-requires c =
-    let t = c.deref.result.now.state.tree in
-    let short : length c.args.text.now < 2 ^ 64 = search rules in
-    subst (λ xs. length xs < 2 ^ 64) (sym c.common_prefix_iter_bytes.ensures.rest) (fronts_fit t c.args.text.now short)

@@ -1,5 +1,5 @@
 use Rattle.std.proofs.Common.{sym, ◌∙◌}
-use Rattle.cedar_table.specs.Table.TableFields.{fields}
+use Rattle.cedar_table.specs.Table.Views.{fields}
 use Rattle.cedar_check.proofs.WalkEnds.{root_looks, well_formed_met, well_formed_walked}
 use Rattle.cedar_check.proofs.Turns.{on_err}
 use Rattle.cedar_check.proofs.Complete.{walked_well_formed}

@@ -1,4 +1,5 @@
-use Rattle.cedar_table.specs.Table.TableFields.{cells, fields, size_of}
+use Rattle.cedar_table.specs.Table.Views.{cells, fields}
+use Rattle.cedar_meaning.specs.Table.TableFields.{size_of}
 use Rattle.cedar_check.proofs.Turns.{up_faulty}
 use Rattle.cedar_check.proofs.tree.go_on.Goals as goal
 

@@ -1,8 +1,9 @@
 use Rattle.std.proofs.Common.{rules, ◌≡◌, sym, ◌∙◌, ap, true, w32, FitsSigned}
 use Rattle.std.proofs.lemmas.Bool.{false≢true}
 use Rattle.std.proofs.lemmas.Int.{to_z-of_z}
-use Rattle.cedar_table.specs.Table.TableFields.{cells, fields, size_of}
-use Rattle.cedar_table.specs.Meaning.WellFormed.{is_value}
+use Rattle.cedar_table.specs.Table.Views.{cells, fields}
+use Rattle.cedar_meaning.specs.Table.TableFields.{size_of}
+use Rattle.cedar_meaning.specs.Meaning.WellFormed.{is_value}
 use Rattle.cedar_check.proofs.WhatIsRead.{own_looks, own_value, own_walk}
 use Rattle.cedar_check.proofs.tree.meet_own.Goals as goal
 

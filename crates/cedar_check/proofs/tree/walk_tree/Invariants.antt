@@ -1,6 +1,7 @@
 use Rattle.std.proofs.Common.{ℕ, ◌+◌, ◌-◌, ◌*◌, ◌≤◌}
 use Rattle.cedar_check.specs.TreeWalk.{Ends}
-use Rattle.cedar_table.specs.Table.TableFields.{cells, fields, size_of}
+use Rattle.cedar_table.specs.Table.Views.{cells, fields}
+use Rattle.cedar_meaning.specs.Table.TableFields.{size_of}
 use Rattle.cedar_check.proofs.Turns.{IsOnWay}
 use Rattle.cedar_check.proofs.tree.walk_tree.Given as goal
 

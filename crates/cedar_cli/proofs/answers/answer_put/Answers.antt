@@ -4,8 +4,8 @@ use Rattle.cedar_tree.specs.State.{stored}
 use Rattle.cedar_cli.specs.Script.{refusal}
 use Rattle.cedar_cli.specs.Seen.{seen}
 use Rattle.std.specs.Prelude.{Result}
-use Rattle.cedar_slots.specs.declared.error.CedarError.{CedarError}
-use Rattle.cedar_slots.specs.declared.error.CedarError.TheVariants.{Memory, SlotLimit}
+use Rattle.cedar_error.specs.declared.error.CedarError.{CedarError}
+use Rattle.cedar_error.specs.declared.error.CedarError.TheVariants.{Memory, SlotLimit}
 use Rattle.cedar_cli.specs.declared.script.ScriptError.TheVariants.{Write}
 use Rattle.cedarwood.specs.Fault.{fault, IsShortage}
 use Rattle.cedar_cli.specs.declared.command.Verb.TheVariants.{Put}

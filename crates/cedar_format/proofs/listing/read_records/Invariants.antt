@@ -9,9 +9,9 @@ invariant-loop-buffer g l = record {
   count : vec_len l.records ≤ l.count;
   room : l.count ≤ vec_capacity l.records;
   capacity : vec_capacity l.records ≡ vec_capacity l.initial.records;
-  bytes : Consumes (g.R.Read.remaining l.initial.reader.device) (g.R.Read.remaining l.reader.device) (flat_map g.T.Record.bytes_of l.records.items);
+  bytes : Consumes (g.S.Source.remaining l.initial.reader) (g.S.Source.remaining l.reader) (flat_map g.T.Record.bytes_of l.records.items);
   fits : All g.T.Record.Fits l.records.items;
-  failed : l.initial.reader.failed ≡ true → l.reader.failed ≡ true;
+  failed : g.S.Source.failed l.initial.reader ≡ true → g.S.Source.failed l.reader ≡ true;
 }
 
 abbrev pub decreases-loop-buffer : goal.decreases-loop-buffer

@@ -1,12 +1,12 @@
-use Rattle.std.proofs.Common.{◌≡◌, ◌<◌, ◌+◌, ◌∙◌, ℕ, List, [], sym, ap, subst, get_or, drop, length, None, Option}
+use Rattle.std.proofs.Common.{◌≡◌, ◌<◌, ◌+◌, ◌∙◌, ℕ, suc, arith, List, [], sym, ap, subst, get_or, drop, length, None, Option}
 use Rattle.std.proofs.lemmas.Result.{err_from_is_err_and}
-use Rattle.cedar_slots.specs.declared.error.CedarError.{CedarError}
+use Rattle.cedar_error.specs.declared.error.CedarError.{CedarError}
 use Rattle.cedar_tree.specs.Queries.{Entry}
 use Rattle.cedar_bulk.specs.Sorted.{entries_by}
 use Rattle.cedarwood.specs.Fault.{or_else}
-use Rattle.cedarwood.specs.SortedInput.{fault_behind, fault_from, key_at}
+use Rattle.cedarwood.specs.SortedInput.{fault_behind, fault_from, HasNoNul, key_at}
 use Rattle.cedarwood.proofs.FaultLemmas.{key_part, no_fault}
-use Rattle.cedarwood.proofs.SortedInputLemmas.{after_sound, as_many, bytes_more, entry_there, fault_step, first_fault}
+use Rattle.cedarwood.proofs.SortedInputLemmas.{after_sound, as_many, bytes_more, clean_behind, entry_there, fault_step, first_fault, key_at_last}
 use Rattle.cedarwood.proofs.UpdateLemmas.{has_fault}
 use Rattle.cedarwood.proofs.sorted.check_sorted.Goals as goal
 
@@ -55,7 +55,9 @@ loop-index-preserved g c =
     let inside : i < length es = subst (λ n. i < n) (sym (as_many items c.args.pairs.now)) c.loop-index-test.true in
     let there = entry_there items c.args.pairs.now i pair c.loop-index-test.true c.index-pairs-index.is in
     let sound : fault_behind i c.key_before-before.result.now e.0 e.1 ≡ None = no_fault (fault_behind i c.key_before-before.result.now e.0 e.1) c.check_behind.result tt c.check_behind.ensures.faulty c.in_ok-check_behind.was in
+    let next : i + 1 ≡ suc i = omega arith in
     record {
       first = c.loop-index.invariant.first ∙ turn c.key_before-before.result.now es i e inside there c.key_before-before.ensures ∙ after_sound _ (fault_from (i + 1) (key_at [] es (i + 1)) (drop (i + 1) es)) sound;
       bytes = bytes_more es i e inside c.loop-index.invariant.bytes (subst (λ (x : Entry). (j : ℕ) → get_or x.0 j 0 < 256) (sym there) c.in_ok-check_behind.ensures.bytes);
+      clean = subst HasNoNul (sym (ap (key_at [] es) next ∙ key_at_last [] es i e inside ∙ ap (λ (x : Entry). x.0) there)) (clean_behind i c.key_before-before.result.now e.0 e.1 sound c.in_ok-check_behind.ensures.bytes);
     }

@@ -3,25 +3,19 @@ use Rattle.std.specs.Prelude.{Option, None, Some}
 use mir.Raw.{raw}
 use base.Shift.{Keyless}
 use denote.Memory.{lone}
-use denote.Param.{number}
 use denote.Param.Send.{IsSend}
 use denote.RawPtr.{Ptr}
-use Rattle.std.proofs.alloc.Global.TheSendSync.{the_send as global_send}
-use Rattle.std.specs.contracts.alloc.Global as global
-use Rattle.std.specs.contracts.impls.GlobalAllocator.TheImpl as global_allocator
 use Rattle.std_alloc.proofs.SendSync.{lies}
 use Rattle.std.proofs.Crossing.{frees}
-use Rattle.cedar_table.specs.contracts.layout.DefaultLayoutLayout.TheImpl as default_layout
-use Rattle.cedar_table.specs.contracts.layout.DefaultLayout as layout
-use Rattle.cedarwood.specs.Dictionary.{Dictionary}
-use Rattle.cedarwood.proofs.trie.Trie.TheSendSync.{the_send}
+use Rattle.cedar_c.specs.declared.any.AnyCedar.{AnyCedar}
+use Rattle.cedar_c.proofs.any.AnyCedar.TheSendSync.{the_send}
 use Rattle.cedar_c.specs.Ownership.{cedar_row, heap, held_owns}
 use Rattle.cedar_c.specs.contracts.held.Held.{the_row}
 
 cedar_send : IsSend cedar_row
-cedar_send = the_send layout.the_row (number 1073741824) global.the_row default_layout.ghosts global_allocator.ghosts global_send frees
+cedar_send = the_send
 
-keyless : (p : Ptr) (d : Option Dictionary) → Keyless (held_owns p d)
+keyless : (p : Ptr) (d : Option AnyCedar) → Keyless (held_owns p d)
 keyless p None = tt
 keyless p (Some d) = (lies cedar_row cedar_send p d, frees.frees heap (raw (lone cedar_row.mir)) p)
 

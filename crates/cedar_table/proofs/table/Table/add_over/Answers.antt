@@ -1,10 +1,11 @@
 use Rattle.std.proofs.Common.{rules, ◌∙◌, sym}
-use Rattle.cedar_table.specs.Edit.NodeEdits.{IsNodeOf}
-use Rattle.cedar_table.specs.Meaning.Family.{below}
-use Rattle.cedar_table.specs.Relocation.Reserved.{freed}
-use Rattle.cedar_table.specs.Table.TableFields.{cells, fields, size_of}
-use Rattle.cedar_table.proofs.UpdateLemmas.ChildReached.{child_added_over}
-use Rattle.cedar_table.proofs.UpdateLemmas.BlocksMade.{growth_framed}
+use Rattle.cedar_meaning.specs.Edit.NodeEdits.{IsNodeOf}
+use Rattle.cedar_meaning.specs.Meaning.Family.{below}
+use Rattle.cedar_meaning.specs.Relocation.Reserved.{freed}
+use Rattle.cedar_table.specs.Table.Views.{cells, fields}
+use Rattle.cedar_meaning.specs.Table.TableFields.{size_of}
+use Rattle.cedar_meaning.proofs.UpdateLemmas.ChildReached.{child_added_over}
+use Rattle.cedar_meaning.proofs.UpdateLemmas.BlocksMade.{growth_framed}
 use Rattle.cedar_table.proofs.table.Table.add_over.Goals as goal
 
 pub add_reserved-requires : goal.add_reserved-requires

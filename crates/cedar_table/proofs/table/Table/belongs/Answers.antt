@@ -1,7 +1,7 @@
 use Rattle.std.proofs.Common.{◌≡◌, ◌<◌, ◌^◌, arith, rules, sym, ◌∙◌, ap, pos, ℤ, w32, to_z, of_z, FitsSigned}
 use Rattle.std.proofs.lemmas.Bool.{eqb-true, eq-eqb}
 use Rattle.std.proofs.lemmas.Int.{ints, to_z_pos, to_z-of_z}
-use Rattle.cedar_table.specs.Table.TableFields.{cells}
+use Rattle.cedar_table.specs.Table.Views.{cells}
 use Rattle.cedar_table.proofs.table.Table.belongs.Goals as goal
 
 pub returns-clause-answer : goal.returns-clause-answer

@@ -1,6 +1,6 @@
 use Rattle.std.proofs.Common.{◌∙◌, ap, bit_xor}
-use Rattle.cedar_table.specs.Meaning.Family.{below}
-use Rattle.cedar_table.specs.Table.TableFields.{cells}
+use Rattle.cedar_meaning.specs.Meaning.Family.{below}
+use Rattle.cedar_table.specs.Table.Views.{cells}
 use Rattle.cedar_table.proofs.table.Table.child_slot.Goals as goal
 
 pub returns : goal.returns

@@ -1,11 +1,12 @@
 use Rattle.std.proofs.Common.{◌<◌, rules, sym, subst}
 use Rattle.cedar_tree.specs.Tree.{subtree}
 use Rattle.cedar_tree.specs.Queries.{node_at}
-use Rattle.cedar_table.specs.Meaning.StandsFor.{Stands}
-use Rattle.cedar_table.specs.Table.TableFields.{cells, fields, size_of}
-use Rattle.cedar_table.specs.Meaning.WellFormed.{tree_of}
+use Rattle.cedar_meaning.specs.Meaning.StandsFor.{Stands}
+use Rattle.cedar_table.specs.Table.Views.{cells, fields}
+use Rattle.cedar_meaning.specs.Table.TableFields.{size_of}
+use Rattle.cedar_meaning.specs.Meaning.WellFormed.{tree_of}
 use Rattle.cedar_table.proofs.WalkLemmas.NextNode.{child_inside, child_stands_at, node_inside, node_stands}
-use Rattle.cedar_table.proofs.WalkLemmas.SearchStep.{never_nothing}
+use Rattle.cedar_meaning.proofs.MeaningLemmas.SearchStep.{never_nothing}
 use Rattle.cedar_table.proofs.table.Table.child_under.Goals as goal
 
 pub slot_below-slot-requires : goal.slot_below-slot-requires

@@ -1,11 +1,11 @@
 use Rattle.std.proofs.Common.{◌≡◌, ◌∙◌, ◌<◌, ℕ, arith, length, None, Option, rules, Some, subst, sym, take, true, false}
-use Rattle.cedar_table.specs.Edit.NodeEdits.{IsAt}
-use Rattle.cedar_table.specs.Meaning.Marks.{KeepsOtherMarks, mark}
-use Rattle.cedar_table.specs.Meaning.Reading.{first_in}
+use Rattle.cedar_meaning.specs.Edit.NodeEdits.{IsAt}
+use Rattle.cedar_meaning.specs.Meaning.Marks.{KeepsOtherMarks, mark}
+use Rattle.cedar_meaning.specs.Meaning.Reading.{first_in}
 use Rattle.std.specs.Prelude.{MatchOption}
 use Rattle.std.proofs.lemmas.List.{length-take-le}
-use Rattle.cedar_table.specs.Table.Layouts.{reduced_layout}
-use Rattle.cedar_table.specs.Table.TableFields.{cells, fields}
+use Rattle.cedar_meaning.specs.Table.Layouts.{reduced_layout}
+use Rattle.cedar_table.specs.Table.Views.{cells, fields}
 use Rattle.cedar_table.proofs.table.Table.close_way.Goals as goal
 
 -- what is known of the length where there is one

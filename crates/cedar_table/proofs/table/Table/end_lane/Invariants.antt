@@ -1,6 +1,6 @@
 use Rattle.std.proofs.Common.{length, ◌-◌, Some}
 use Rattle.cedar_table.specs.Walk.Batch.{IsLane}
-use Rattle.cedar_table.specs.Table.TableFields.{fields}
+use Rattle.cedar_table.specs.Table.Views.{fields}
 use Rattle.cedar_table.proofs.table.Table.end_lane.Given as goal
 
 abbrev pub invariant-loop-at : goal.invariant-loop-at

@@ -1,8 +1,8 @@
 use Rattle.std.proofs.Common.{◌-◌, ◌≡◌, ◌≤◌, ◌++◌, drop, map, take}
 use Rattle.cedar_tree.specs.Queries.{exact}
 use Rattle.cedar_table.specs.Walk.Batch.{keys_of}
-use Rattle.cedar_table.specs.Table.TableFields.{fields}
-use Rattle.cedar_table.specs.Meaning.WellFormed.{tree_of}
+use Rattle.cedar_table.specs.Table.Views.{fields}
+use Rattle.cedar_meaning.specs.Meaning.WellFormed.{tree_of}
 use Rattle.cedar_table.proofs.table.Table.exact_match_search_batch.Given as goal
 
 abbrev pub invariant-loop-start : goal.invariant-loop-start

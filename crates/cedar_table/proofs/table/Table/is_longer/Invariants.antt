@@ -1,7 +1,7 @@
 use Rattle.std.proofs.Common.{length}
-use Rattle.cedar_table.specs.Meaning.Reading.{chain}
-use Rattle.cedar_table.specs.Table.TableFields.{cells}
-use Rattle.cedar_table.proofs.RelocationLemmas.LongerChain.{InStep}
+use Rattle.cedar_meaning.specs.Meaning.Reading.{chain}
+use Rattle.cedar_table.specs.Table.Views.{cells}
+use Rattle.cedar_meaning.proofs.RelocationLemmas.LongerChain.{InStep}
 use Rattle.cedar_table.proofs.table.Table.is_longer.Given as goal
 
 abbrev pub invariant-loop-left : goal.invariant-loop-left

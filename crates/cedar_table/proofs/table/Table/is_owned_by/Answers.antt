@@ -4,9 +4,9 @@ use Rattle.std.proofs.lemmas.Int.{ints, to_z_pos, to_z-of_z}
 use Rattle.std.proofs.lemmas.List.{get_or_read}
 use Rattle.cedar_slots.specs.declared.records.NodeRecord.{NodeRecord}
 use Rattle.cedar_slots.specs.Slots.{blank_node, check_at}
-use Rattle.cedar_table.specs.Table.TableFields.{cells}
+use Rattle.cedar_table.specs.Table.Views.{cells}
 use Rattle.cedar_slots.specs.Views.{places_of}
-use Rattle.cedar_table.proofs.CellsLemmas.HeldSlots.{active_is}
+use Rattle.cedar_meaning.proofs.CellsLemmas.HeldSlots.{active_is}
 use Rattle.cedar_table.proofs.table.Table.is_owned_by.Goals as goal
 
 pub returns : goal.returns

@@ -1,6 +1,6 @@
 use Rattle.std.proofs.Common.{drop, take}
-use Rattle.cedar_table.specs.Edit.KeyWalk.{Walked}
-use Rattle.cedar_table.specs.Table.TableFields.{fields}
+use Rattle.cedar_meaning.specs.Edit.KeyWalk.{Walked}
+use Rattle.cedar_table.specs.Table.Views.{fields}
 use Rattle.cedar_table.proofs.table.Table.known_front.Given as goal
 
 abbrev pub invariant-loop-length : goal.invariant-loop-length

@@ -1,9 +1,10 @@
 use Rattle.std.proofs.Common.{◌≡◌, ◌<◌, ◌%◌, arith, subst, sym, ◌∙◌, inl, inr}
-use Rattle.cedar_table.specs.Edit.NodeEdits.{IsLabelOf}
-use Rattle.cedar_table.specs.Meaning.Family.{base_of, Links}
-use Rattle.cedar_table.specs.Table.TableFields.{cells, fields, size_of}
-use Rattle.cedar_table.proofs.MeaningLemmas.Chain.{links_next, strictly_below}
-use Rattle.cedar_table.proofs.MeaningLemmas.ExclusiveOr.{xor_within}
+use Rattle.cedar_meaning.specs.Edit.NodeEdits.{IsLabelOf}
+use Rattle.cedar_meaning.specs.Meaning.Family.{base_of, Links}
+use Rattle.cedar_table.specs.Table.Views.{cells, fields}
+use Rattle.cedar_meaning.specs.Table.TableFields.{size_of}
+use Rattle.cedar_meaning.proofs.MeaningLemmas.Chain.{links_next, strictly_below}
+use Rattle.cedar_meaning.proofs.MeaningLemmas.ExclusiveOr.{xor_within}
 use Rattle.cedar_table.proofs.table.Table.last_before.Goals as goal
 use Rattle.cedar_table.proofs.table.Table.last_before.Goals.{then-not-self-via-then-not-self, then-not-self-via-else-not-self+then-next-eq0, then-not-self-via-else-not-self+else-next-eq0+then-label-next}
 

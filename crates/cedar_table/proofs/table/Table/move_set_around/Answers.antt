@@ -1,13 +1,14 @@
 use Rattle.std.proofs.Common.{arith, rules, subst, sym, ℕ, ◌≤◌, ◌∙◌, inl, inr, refl}
-use Rattle.cedar_table.specs.Meaning.Family.{Among, owned}
-use Rattle.cedar_table.specs.Meaning.StandsFor.{HoldsTree}
-use Rattle.cedar_table.specs.Relocation.Renaming.{Movable, SetMoved}
-use Rattle.cedar_table.specs.Relocation.Reserved.{freed}
-use Rattle.cedar_table.specs.Table.TableFields.{cells, fields, size_of}
-use Rattle.cedar_table.proofs.UpdateLemmas.BlocksMade.{growth_framed, made_larger}
-use Rattle.cedar_table.proofs.RelocationLemmas.Movable.{relocated_holds}
-use Rattle.cedar_table.proofs.RelocationLemmas.PlacesFirst.{can_relocate, same_holds, set_moved}
-use Rattle.cedar_table.specs.Edit.Steps.{MayAddBlock}
+use Rattle.cedar_meaning.specs.Meaning.Family.{Among, owned}
+use Rattle.cedar_meaning.specs.Meaning.StandsFor.{HoldsTree}
+use Rattle.cedar_meaning.specs.Relocation.Renaming.{Movable, SetMoved}
+use Rattle.cedar_meaning.specs.Relocation.Reserved.{freed}
+use Rattle.cedar_table.specs.Table.Views.{cells, fields}
+use Rattle.cedar_meaning.specs.Table.TableFields.{size_of}
+use Rattle.cedar_meaning.proofs.UpdateLemmas.BlocksMade.{growth_framed, made_larger}
+use Rattle.cedar_meaning.proofs.RelocationLemmas.Movable.{relocated_holds}
+use Rattle.cedar_meaning.proofs.RelocationLemmas.PlacesFirst.{can_relocate, same_holds, set_moved}
+use Rattle.cedar_meaning.specs.Edit.Steps.{MayAddBlock}
 use Rattle.cedar_table.proofs.table.Table.move_set_around.Goals as goal
 
 pub relocate_around-requires : goal.relocate_around-requires

@@ -1,11 +1,12 @@
 use Rattle.std.proofs.Common.{◌≡◌, ◌+◌, ◌<◌, ◌∙◌, ap, arith, length, rules, subst, sym, ℕ, List}
-use Rattle.cedar_table.specs.Meaning.Family.{Among, owned}
-use Rattle.cedar_table.specs.Relocation.Renaming.{IsNode}
-use Rattle.cedar_table.specs.Table.TableFields.{cells, fields, size_of}
-use Rattle.cedar_table.specs.Relocation.Wanted.{with_label}
-use Rattle.cedar_table.proofs.RelocationLemmas.Conflict.{not_owned, owned_short}
-use Rattle.cedar_table.proofs.RelocationLemmas.Movable.{node_at_end}
-use Rattle.cedar_table.proofs.RelocationLemmas.WantedLabels.{with_length, with_new, with_old}
+use Rattle.cedar_meaning.specs.Meaning.Family.{Among, owned}
+use Rattle.cedar_meaning.specs.Relocation.Renaming.{IsNode}
+use Rattle.cedar_table.specs.Table.Views.{cells, fields}
+use Rattle.cedar_meaning.specs.Table.TableFields.{size_of}
+use Rattle.cedar_meaning.specs.Relocation.Wanted.{with_label}
+use Rattle.cedar_meaning.proofs.RelocationLemmas.Conflict.{not_owned, owned_short}
+use Rattle.cedar_meaning.proofs.RelocationLemmas.Movable.{node_at_end}
+use Rattle.cedar_meaning.proofs.RelocationLemmas.WantedLabels.{with_length, with_new, with_old}
 use Rattle.cedar_table.proofs.table.Table.move_with.Goals as goal
 
 pub labels_of-labels-requires : goal.labels_of-labels-requires

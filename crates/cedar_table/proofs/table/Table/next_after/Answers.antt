@@ -1,6 +1,6 @@
 use Rattle.std.proofs.Common.{◌-◌, ◌++◌, arith, rules}
-use Rattle.cedar_table.specs.Meaning.Family.{below}
-use Rattle.cedar_table.specs.Table.TableFields.{cells, fields}
+use Rattle.cedar_meaning.specs.Meaning.Family.{below}
+use Rattle.cedar_table.specs.Table.Views.{cells, fields}
 use Rattle.cedar_table.specs.Walk.Visits.{owner_of, path_to}
 use Rattle.cedar_table.proofs.WalkLemmas.NextNode.{at_last, climbed_all, climbed_none, climbed_on, comes_right, first_is, parent_below, sibling_there, stepped}
 use Rattle.cedar_table.proofs.table.Table.next_after.Goals as goal

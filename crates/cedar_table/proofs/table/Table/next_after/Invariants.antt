@@ -1,5 +1,5 @@
 use Rattle.std.proofs.Common.{ℕ, List}
-use Rattle.cedar_table.specs.Table.TableFields.{cells, fields}
+use Rattle.cedar_table.specs.Table.Views.{cells, fields}
 use Rattle.cedar_table.specs.Walk.Visits.{IsBelow}
 use Rattle.cedar_table.proofs.WalkLemmas.NextNode.{Climbed}
 use Rattle.cedar_table.proofs.table.Table.next_after.Given as goal

@@ -2,8 +2,8 @@ use Rattle.std.proofs.Common.{◌+◌, ◌-◌, ◌∙◌, ap, arith, rules, sym
 use Rattle.std.proofs.lemmas.Int.{to_z-of_z}
 use Rattle.cedar_tree.specs.Queries.{node_at}
 use Rattle.cedar_tree.specs.Walks.{front_from}
-use Rattle.cedar_table.specs.Table.TableFields.{fields}
-use Rattle.cedar_table.specs.Meaning.WellFormed.{tree_of}
+use Rattle.cedar_table.specs.Table.Views.{fields}
+use Rattle.cedar_meaning.specs.Meaning.WellFormed.{tree_of}
 use Rattle.cedar_table.proofs.WalkLemmas.NextFront.{front_gone, front_held, front_passed, on_child}
 use Rattle.cedar_table.proofs.table.Table.next_held_front.Goals as goal
 

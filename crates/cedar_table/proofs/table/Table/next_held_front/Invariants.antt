@@ -1,8 +1,8 @@
 use Rattle.std.proofs.Common.{◌≡◌, ◌+◌, ◌*◌, ◌-◌, ◌≤◌, length}
 use Rattle.cedar_tree.specs.Walks.{front_from}
 use Rattle.cedar_table.specs.Walk.Fronts.{IsOnQuery}
-use Rattle.cedar_table.specs.Table.TableFields.{fields}
-use Rattle.cedar_table.specs.Meaning.WellFormed.{tree_of}
+use Rattle.cedar_table.specs.Table.Views.{fields}
+use Rattle.cedar_meaning.specs.Meaning.WellFormed.{tree_of}
 use Rattle.cedar_table.proofs.table.Table.next_held_front.Given as goal
 
 -- no front of the bytes between is held, and each of them cost two comparisons at most

@@ -1,5 +1,6 @@
 use Rattle.std.proofs.Common.{◌<◌, ◌∙◌, arith, rules, ◌++◌, [], ◌∷◌}
-use Rattle.cedar_table.specs.Table.TableFields.{fields, size_of}
+use Rattle.cedar_table.specs.Table.Views.{fields}
+use Rattle.cedar_meaning.specs.Table.TableFields.{size_of}
 use Rattle.cedar_table.proofs.WalkLemmas.NextNode.{next_label, node_inside}
 use Rattle.cedar_table.proofs.table.Table.next_sibling.Goals as goal
 

@@ -1,5 +1,6 @@
 use Rattle.std.proofs.Common.{◌≡◌, ◌≤◌, ◌++◌, arith, rules, subst, sym, MatchOption, []}
-use Rattle.cedar_table.specs.Table.TableFields.{fields, size_of}
+use Rattle.cedar_table.specs.Table.Views.{fields}
+use Rattle.cedar_meaning.specs.Table.TableFields.{size_of}
 use Rattle.cedar_table.specs.Walk.Visits.{ComesTo, path_to}
 use Rattle.cedar_table.proofs.WalkLemmas.NextNode.{comes_down, first_there, none_below, short_way}
 use Rattle.cedar_table.proofs.table.Table.node_after.Goals as goal

@@ -1,4 +1,4 @@
-use Rattle.cedar_table.specs.Table.TableFields.{fields}
+use Rattle.cedar_table.specs.Table.Views.{fields}
 use Rattle.cedar_table.proofs.WalkLemmas.Lanes.{lane_goes_on, lane_stays}
 use Rattle.cedar_table.proofs.table.Table.pass.Goals as goal
 

@@ -1,6 +1,6 @@
 use Rattle.std.proofs.Common.{rules, ◌+◌, ◌<◌, ℕ, sym, subst, arith, get_or, List, [], None, Some}
 use Rattle.cedar_table.specs.Walk.Batch.{IsLane, keys_of}
-use Rattle.cedar_table.specs.Table.TableFields.{fields}
+use Rattle.cedar_table.specs.Table.Views.{fields}
 use Rattle.cedar_table.proofs.WalkLemmas.Lanes.{key_at, key_count, Round, round_begins, round_ends, round_goes_on, round_misses}
 use Rattle.cedar_table.proofs.table.Table.pass_each.Goals as goal
 use Rattle.cedar_table.proofs.table.Table.pass_each.Goals.{in-Some, in_default}

@@ -1,5 +1,5 @@
 use Rattle.cedar_table.specs.Walk.Batch.{keys_of}
-use Rattle.cedar_table.specs.Table.TableFields.{fields}
+use Rattle.cedar_table.specs.Table.Views.{fields}
 use Rattle.cedar_table.proofs.WalkLemmas.Lanes.{Round}
 use Rattle.cedar_table.proofs.table.Table.pass_each.Given as goal
 

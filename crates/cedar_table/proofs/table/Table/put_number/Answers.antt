@@ -3,17 +3,18 @@ use Rattle.std.specs.Prelude.{List, ℕ, ℤ, OnOk}
 use Rattle.std.proofs.lemmas.Int.{to_z-of_z}
 use Rattle.cedar_tree.specs.Tree.{Forest}
 use Rattle.cedar_tree.specs.Edits.{edit_at}
-use Rattle.cedar_table.specs.declared.layout.Stored.TheVariants.{OwnNumber}
-use Rattle.cedar_table.specs.Edit.NodeEdits.{IsAt}
-use Rattle.cedar_table.specs.Meaning.Family.{base_in}
-use Rattle.cedar_table.specs.Meaning.StandsFor.{HoldsTree}
-use Rattle.cedar_table.specs.Table.TableFields.{cells, fields, size_of}
-use Rattle.cedar_table.specs.Meaning.WellFormed.{is_value}
-use Rattle.cedar_table.proofs.UpdateLemmas.BlocksMade.{framed_none, growth_none}
-use Rattle.cedar_table.proofs.EditLemmas.OwnNumber.{field_paths, kind_is, own_reduced, spare_past}
-use Rattle.cedar_table.proofs.EditLemmas.NumberMovesOut.{leaf_alone}
-use Rattle.cedar_table.proofs.UpdateLemmas.MarksAfterPut.{own_put}
-use Rattle.cedar_table.proofs.UpdateLemmas.StepAnswers.{on_success}
+use Rattle.cedar_meaning.specs.declared.layout.Stored.TheVariants.{OwnNumber}
+use Rattle.cedar_meaning.specs.Edit.NodeEdits.{IsAt}
+use Rattle.cedar_meaning.specs.Meaning.Family.{base_in}
+use Rattle.cedar_meaning.specs.Meaning.StandsFor.{HoldsTree}
+use Rattle.cedar_table.specs.Table.Views.{cells, fields}
+use Rattle.cedar_meaning.specs.Table.TableFields.{size_of}
+use Rattle.cedar_meaning.specs.Meaning.WellFormed.{is_value}
+use Rattle.cedar_meaning.proofs.UpdateLemmas.BlocksMade.{framed_none, growth_none}
+use Rattle.cedar_meaning.proofs.EditLemmas.OwnNumber.{field_paths, kind_is, own_reduced, spare_past}
+use Rattle.cedar_meaning.proofs.EditLemmas.NumberMovesOut.{leaf_alone}
+use Rattle.cedar_meaning.proofs.UpdateLemmas.MarksAfterPut.{own_put}
+use Rattle.cedar_meaning.proofs.UpdateLemmas.StepAnswers.{on_success}
 use Rattle.cedar_table.proofs.table.Table.put_number.Goals as goal
 
 pub set_own_number-requires : goal.set_own_number-requires

@@ -1,7 +1,8 @@
 use Rattle.std.proofs.Common.{take}
 use Rattle.cedar_slots.specs.Places.{IsTable}
-use Rattle.cedar_table.specs.Table.TableFields.{cells, fields, SameFrame}
-use Rattle.cedar_table.proofs.RelocationLemmas.MovedAround.{Passing}
+use Rattle.cedar_table.specs.Table.Views.{cells, fields}
+use Rattle.cedar_meaning.specs.Table.TableFields.{SameFrame}
+use Rattle.cedar_meaning.proofs.RelocationLemmas.MovedAround.{Passing}
 use Rattle.cedar_table.proofs.table.Table.relocate_around.Given as goal
 
 abbrev pub invariant-loop-label : goal.invariant-loop-label

@@ -1,8 +1,8 @@
 use Rattle.std.proofs.Common.{rules}
-use Rattle.cedar_table.specs.Table.TableFields.{cells, fields}
-use Rattle.cedar_table.specs.Relocation.Renaming.{Always}
-use Rattle.cedar_table.proofs.UpdateLemmas.Frame.{frame_same}
-use Rattle.cedar_table.proofs.RelocationLemmas.Repointed.{repointed_nothing}
+use Rattle.cedar_table.specs.Table.Views.{cells, fields}
+use Rattle.cedar_meaning.specs.Relocation.Renaming.{Always}
+use Rattle.cedar_meaning.proofs.UpdateLemmas.Frame.{frame_same}
+use Rattle.cedar_meaning.proofs.RelocationLemmas.Repointed.{repointed_nothing}
 use Rattle.cedar_table.proofs.table.Table.repoint_under.Goals as goal
 
 pub repoint-requires : goal.repoint-requires

@@ -1,9 +1,10 @@
 use Rattle.std.proofs.Common.{◌<◌, ◌∙◌, ap, arith, rules, subst, sym, ℕ, List, []}
-use Rattle.cedar_table.specs.Edit.NodeEdits.{follow_on}
-use Rattle.cedar_table.specs.Meaning.Family.{below}
-use Rattle.cedar_table.specs.Table.TableFields.{cells, fields, size_of}
-use Rattle.cedar_table.proofs.UpdateLemmas.BlocksMade.{made_larger}
-use Rattle.cedar_table.proofs.RelocationLemmas.Conflict.{conflict, reserves_kept, reserves_moved, reserves_own, slot_inside, slot_owned}
+use Rattle.cedar_meaning.specs.Edit.NodeEdits.{follow_on}
+use Rattle.cedar_meaning.specs.Meaning.Family.{below}
+use Rattle.cedar_table.specs.Table.Views.{cells, fields}
+use Rattle.cedar_meaning.specs.Table.TableFields.{size_of}
+use Rattle.cedar_meaning.proofs.UpdateLemmas.BlocksMade.{made_larger}
+use Rattle.cedar_meaning.proofs.RelocationLemmas.Conflict.{conflict, reserves_kept, reserves_moved, reserves_own, slot_inside, slot_owned}
 use Rattle.cedar_table.proofs.table.Table.resolve.Goals as goal
 
 pub owner-owner-requires : goal.owner-owner-requires

@@ -1,8 +1,8 @@
 use Rattle.std.proofs.Common.{rules, ◌≡◌, ℕ, sym, subst, ◌∙◌, refl, arith, get_or, List, [], None}
 use Rattle.cedar_tree.specs.Queries.{exact}
 use Rattle.cedar_table.specs.Walk.Batch.{IsLane, keys_of}
-use Rattle.cedar_table.specs.Table.TableFields.{fields}
-use Rattle.cedar_table.specs.Meaning.WellFormed.{tree_of}
+use Rattle.cedar_table.specs.Table.Views.{fields}
+use Rattle.cedar_meaning.specs.Meaning.WellFormed.{tree_of}
 use Rattle.cedar_table.proofs.WalkLemmas.Lanes.{answered_at, answers_are, key_at, key_count, lanes_begin}
 use Rattle.cedar_table.proofs.table.Table.search_in_step.Goals as goal
 

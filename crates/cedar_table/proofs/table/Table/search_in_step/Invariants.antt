@@ -1,8 +1,8 @@
 use Rattle.std.proofs.Common.{◌≡◌, ◌<◌, ℕ, get_or, [], None}
 use Rattle.cedar_tree.specs.Queries.{exact}
 use Rattle.cedar_table.specs.Walk.Batch.{AreLanes, keys_of}
-use Rattle.cedar_table.specs.Table.TableFields.{fields}
-use Rattle.cedar_table.specs.Meaning.WellFormed.{tree_of}
+use Rattle.cedar_table.specs.Table.Views.{fields}
+use Rattle.cedar_meaning.specs.Meaning.WellFormed.{tree_of}
 use Rattle.cedar_table.proofs.table.Table.search_in_step.Given as goal
 
 abbrev pub invariant-loop-passed : goal.invariant-loop-passed

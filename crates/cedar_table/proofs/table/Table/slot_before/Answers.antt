@@ -1,10 +1,11 @@
 use Rattle.std.proofs.Common.{◌≡◌, ◌<◌, ◌∙◌, arith, inl, inr, pos, rules, subst, sym}
-use Rattle.cedar_table.specs.Edit.NodeEdits.{IsLabelOf, IsLead}
-use Rattle.cedar_table.specs.Meaning.Family.{base_of, below, Links}
-use Rattle.cedar_table.specs.Table.TableFields.{cells, fields, size_of}
-use Rattle.cedar_table.proofs.MeaningLemmas.Chain.{first_links, lead_links, links_few, links_next, root_stored, strictly_below}
-use Rattle.cedar_table.proofs.EditLemmas.SlotForLabel.{lead_inside, root_lead}
-use Rattle.cedar_table.proofs.MeaningLemmas.ExclusiveOr.{xor_within}
+use Rattle.cedar_meaning.specs.Edit.NodeEdits.{IsLabelOf, IsLead}
+use Rattle.cedar_meaning.specs.Meaning.Family.{base_of, below, Links}
+use Rattle.cedar_table.specs.Table.Views.{cells, fields}
+use Rattle.cedar_meaning.specs.Table.TableFields.{size_of}
+use Rattle.cedar_meaning.proofs.MeaningLemmas.Chain.{first_links, lead_links, links_few, links_next, root_stored, strictly_below}
+use Rattle.cedar_meaning.proofs.EditLemmas.SlotForLabel.{lead_inside, root_lead}
+use Rattle.cedar_meaning.proofs.MeaningLemmas.ExclusiveOr.{xor_within}
 use Rattle.cedar_table.proofs.table.Table.slot_before.Goals as goal
 use Rattle.cedar_table.proofs.table.Table.slot_before.Goals.{then-node-eq0-via-then-node-eq0, then-node-eq0-via-else-node-eq0+then-has_number_slot, then-not-self-via-then-not-self, then-not-self-via-else-not-self+then-first-eq0, then-not-self-via-else-not-self+else-first-eq0+then-label-first}
 

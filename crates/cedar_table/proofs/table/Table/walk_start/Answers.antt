@@ -1,9 +1,9 @@
 use Rattle.std.proofs.Common.{refl, rules, subst, sym}
 use Rattle.std.proofs.lemmas.List.{append-nil}
 use Rattle.cedar_tree.specs.Queries.{node_at}
-use Rattle.cedar_table.specs.Edit.NodeEdits.{IsAt}
-use Rattle.cedar_table.specs.Table.TableFields.{cells, fields}
-use Rattle.cedar_table.specs.Meaning.WellFormed.{tree_of}
+use Rattle.cedar_meaning.specs.Edit.NodeEdits.{IsAt}
+use Rattle.cedar_table.specs.Table.Views.{cells, fields}
+use Rattle.cedar_meaning.specs.Meaning.WellFormed.{tree_of}
 use Rattle.cedar_table.proofs.WalkLemmas.NextNode.{node_stands}
 use Rattle.cedar_table.proofs.table.Table.walk_start.Goals as goal
 

@@ -1,6 +1,6 @@
 use Rattle.std.proofs.Common.{subst}
-use Rattle.cedar_table.specs.Meaning.Marks.{marks, MarksCut}
-use Rattle.cedar_table.specs.Table.TableFields.{fields}
+use Rattle.cedar_meaning.specs.Meaning.Marks.{marks, MarksCut}
+use Rattle.cedar_table.specs.Table.Views.{fields}
 use Rattle.cedarwood.specs.Dictionary.{Dictionary}
 use Rattle.cedarwood.proofs.MarkedLemmas.{is_marked}
 use Rattle.cedarwood.proofs.trie.Trie.erase_bytes.Goals as goal

@@ -1,6 +1,6 @@
 use Rattle.std.proofs.Common.{◌≡◌, sym, subst, None, IfSome}
 use Rattle.cedar_tree.specs.Tree.{IsSound}
-use Rattle.cedar_table.specs.Table.TableFields.{fields}
+use Rattle.cedar_table.specs.Table.Views.{fields}
 use Rattle.cedarwood.specs.Dictionary.{Dictionary}
 use Rattle.cedarwood.specs.Fault.{value_fault}
 use Rattle.cedarwood.proofs.DictionaryLemmas.{is_sound, found_in_range}

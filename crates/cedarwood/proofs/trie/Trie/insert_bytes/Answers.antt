@@ -2,9 +2,9 @@ use Rattle.std.proofs.Common.{rules, ◌≡◌, ℕ, ℤ, ◌<◌, ◌≤◌, No
 use Rattle.std.proofs.lemmas.Int.{to_z-of_z}
 use Rattle.std.proofs.lemmas.Result.{err_from_is_err_and}
 use Rattle.cedar_tree.specs.Tree.{IsSound, number_at}
-use Rattle.cedar_table.specs.Table.TableFields.{fields}
-use Rattle.cedar_slots.specs.declared.error.CedarError.{CedarError}
-use Rattle.cedar_slots.specs.declared.error.CedarError.TheVariants.{Memory, SlotLimit}
+use Rattle.cedar_table.specs.Table.Views.{fields}
+use Rattle.cedar_error.specs.declared.error.CedarError.{CedarError}
+use Rattle.cedar_error.specs.declared.error.CedarError.TheVariants.{Memory, SlotLimit}
 use Rattle.cedar_bulk.proofs.BulkLemmas.InnerKeys.{always_on_ok}
 use Rattle.cedar_bulk.proofs.BulkLemmas.SlotsOfNumbers.{all_marked}
 use Rattle.cedarwood.specs.Builds.{outcome}

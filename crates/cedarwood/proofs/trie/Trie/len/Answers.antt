@@ -1,5 +1,5 @@
 use Rattle.std.proofs.Common.{subst}
-use Rattle.cedar_table.specs.Table.TableFields.{fields}
+use Rattle.cedar_table.specs.Table.Views.{fields}
 use Rattle.cedarwood.specs.Dictionary.{IsValid}
 use Rattle.cedarwood.proofs.ValidLemmas.{is_valid}
 use Rattle.cedarwood.proofs.trie.Trie.len.Goals as goal

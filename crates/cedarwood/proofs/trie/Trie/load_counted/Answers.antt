@@ -1,6 +1,6 @@
 use Rattle.std.proofs.Common.{arith, refl, rules}
 use Rattle.std.proofs.lemmas.Result.{err_from_is_err_and}
-use Rattle.cedar_table.specs.Table.TableFields.{fields}
+use Rattle.cedar_table.specs.Table.Views.{fields}
 use Rattle.cedarwood.proofs.GrowthLemmas.{dictionary_of}
 use Rattle.cedarwood.proofs.LoadLemmas.{accepted, can_be_tested, read_bytes, reads_within, refused_early, refused_table, refused_trials}
 use Rattle.cedar_format.proofs.Lacking.{no_lack}

@@ -1,6 +1,6 @@
 use Rattle.std.proofs.Common.{◌≡◌, arith, refl, ap}
 use Rattle.std.proofs.lemmas.Result.{on_ok_weaker}
-use Rattle.cedar_table.specs.Table.TableFields.{fields}
+use Rattle.cedar_table.specs.Table.Views.{fields}
 use Rattle.cedarwood.proofs.SaveLemmas.{file_passes, is_file}
 use Rattle.cedarwood.proofs.trie.Trie.save_to_writer.Goals as goal
 

@@ -1,17 +1,14 @@
 use Rattle.std.proofs.Common.{◌≡◌, [], MatchOption}
-use Rattle.cedar_table.specs.Meaning.WellFormed.{IsWellFormed}
-use Rattle.cedarwood.specs.WalkPlaces.{GoesOnTo, IsPredictPlace, nodes_left, predicted_from}
+use Rattle.cedar_meaning.specs.Meaning.WellFormed.{IsWellFormed}
+use Rattle.cedarwood.proofs.PredictionLemmas.{ComesWith, nodes_behind}
 use Rattle.cedarwood.proofs.queries.predict.PrefixPredictIterIterator.next.Given as goal
 
--- no number was passed, and what was found is the node after the place
+-- no number was passed: what is left begins with the node that was found
 abbrev pub invariant-loop-found : goal.invariant-loop-found
 invariant-loop-found g l = record {
   table : IsWellFormed g.T.Walked.slots (g.T.Walked.shown l.self-inside.trie.now);
-  place : IsPredictPlace (g.T.Walked.shown l.self-inside.trie.now) l.self-inside.query.now l.self-inside.place;
-  rest : predicted_from (g.T.Walked.shown l.self-inside.trie.now) l.self-inside.query.now l.self-inside.place ≡ l.fn.self;
-  found : MatchOption l.found (predicted_from (g.T.Walked.shown l.self-inside.trie.now) l.self-inside.query.now l.self-inside.place ≡ [])
-      (GoesOnTo (g.T.Walked.shown l.self-inside.trie.now) l.self-inside.query.now l.self-inside.place);
+  found : MatchOption l.found (l.fn.self ≡ []) (ComesWith (g.T.Walked.shown l.self-inside.trie.now) l.self-inside.query.now l.fn.self);
 }
 
 abbrev pub decreases-loop-found : goal.decreases-loop-found
-decreases-loop-found g l = nodes_left (g.T.Walked.shown l.self-inside.trie.now) l.self-inside.query.now l.self-inside.place
+decreases-loop-found g l = nodes_behind (g.T.Walked.shown l.self-inside.trie.now) l.self-inside.query.now l.found

@@ -1,0 +1,38 @@
+-- A dictionary of either layout.
+use Rattle.std.specs.Prelude.{◌≡◌, Bool, true, false}
+use Rattle.std.specs.Coded.{Coded, code_by, coded×, coded_bool}
+use Rattle.std.proofs.Common.{refl}
+use Rattle.cedar_meaning.specs.Table.Layouts.{LayoutKind, default_layout, reduced_layout}
+use Rattle.cedarwood.specs.Dictionary.{Dictionary, dictionary_code}
+use Rattle.cedar_c.specs.declared.any.AnyCedar.{AnyCedar}
+use Rattle.cedar_c.specs.declared.any.AnyCedar.TheVariants.{Default, Reduced}
+
+-- what a caller sees of it in either layout
+abbrev pub dictionary_in : AnyCedar → Dictionary
+dictionary_in (Default d) = d
+dictionary_in (Reduced d) = d
+
+-- the layout that it was made with
+abbrev pub layout_of : AnyCedar → LayoutKind
+layout_of (Default d) = default_layout
+layout_of (Reduced d) = reduced_layout
+
+abbrev pub layout_if : Bool → LayoutKind
+layout_if false = default_layout
+layout_if true = reduced_layout
+
+abbrev pub is_reduced : AnyCedar → Bool
+is_reduced (Default d) = false
+is_reduced (Reduced d) = true
+
+abbrev pub of_parts : Bool × Dictionary → AnyCedar
+of_parts (false, d) = Default d
+of_parts (true, d) = Reduced d
+
+pub of_parts_back : (a : AnyCedar) → of_parts (is_reduced a, dictionary_in a) ≡ a
+of_parts_back (Default d) = refl
+of_parts_back (Reduced d) = refl
+
+-- it serves what a pointer owns alone
+abbrev pub any_code : Coded AnyCedar
+any_code = code_by (Bool × Dictionary) (coded× coded_bool dictionary_code) (λ a. (is_reduced a, dictionary_in a)) of_parts of_parts_back

@@ -1,0 +1,127 @@
+//! A dictionary of either layout: each call goes to the one that is there.
+
+ghost use Rattle.std.specs.Prelude.{◌≡◌, ◌↔◌, ◌+◌, ◌-◌, ◌/◌, IfOk, IfSome, IsSome, IsTrue, length};
+ghost use Rattle.cedar_meaning.specs.Table.Layouts.{default_layout, reduced_layout};
+ghost use Rattle.cedar_tree.specs.Queries.{exact, prefixes, used, walk};
+ghost use Rattle.cedarwood.specs.Builds.{outcome};
+ghost use Rattle.cedarwood.specs.State.{erased};
+ghost use Rattle.cedarwood.specs.Tree.{empty_tree, number_at, IsSound};
+ghost use Rattle.cedarwood.specs.Updates.{IsUpdate};
+ghost use Rattle.cedar_c.specs.Layouts.{dictionary_in, layout_if, layout_of};
+
+use cedarwood::{Cedar, CedarBuilder, CedarError, ReducedCedar};
+use std::alloc::Global;
+
+/// A dictionary, of the layout that it was made with.
+#[derive(Drop)]
+pub enum AnyCedar {
+    Default(Cedar<Global>),
+    Reduced(ReducedCedar<Global>),
+}
+
+impl AnyCedar {
+    /// An empty dictionary with these settings, or None for want of memory.
+    #[tactic(auto, using(cedarwood::proofs::DictionaryLemmas::default_limit))]
+    pub(crate) fn new(alloc: Global, is_reduced: bool, settings: CedarBuilder) -> Option<AnyCedar>
+        ensures state { IfSome result (λ a. (dictionary_in a).state ≡ record { tree = empty_tree; ordered = settings.ordered }) }
+        ensures max_trial { IfSome result (λ a. (dictionary_in a).max_trial ≡ settings.max_trial) }
+        ensures size { IfSome result (λ a. ((dictionary_in a).size ≡ 256) × ((dictionary_in a).capacity ≡ 256)) }
+        ensures layout { IfSome result (λ a. layout_of a ≡ layout_if is_reduced) }
+    {
+        if is_reduced {
+            let cedar = ReducedCedar::with(alloc, settings).ok()?;
+            return Some(AnyCedar::Reduced(cedar));
+        }
+        let cedar = settings.build(alloc).ok()?;
+        Some(AnyCedar::Default(cedar))
+    }
+
+    pub(crate) fn is_reduced(&self) -> bool
+        ensures { IsTrue result ↔ (layout_of self.now ≡ reduced_layout) }
+    {
+        match self {
+            AnyCedar::Default(_) => false,
+            AnyCedar::Reduced(_) => true,
+        }
+    }
+
+    pub(crate) fn update_bytes(&mut self, key: &[u8], value: i32) -> Result<(), CedarError>
+        ensures updated { IsUpdate (layout_of self.old) 1073741824 (dictionary_in self.old) (dictionary_in self.new) key.now value result }
+        ensures layout { layout_of self.new ≡ layout_of self.old }
+    {
+        match self {
+            AnyCedar::Default(cedar) => cedar.update_bytes(key, value),
+            AnyCedar::Reduced(cedar) => cedar.update_bytes(key, value),
+        }
+    }
+
+    pub(crate) fn insert_bytes(&mut self, key: &[u8], value: i32) -> Result<Option<i32>, CedarError>
+        ensures updated { IsUpdate (layout_of self.old) 1073741824 (dictionary_in self.old) (dictionary_in self.new) key.now value (outcome result) }
+        ensures held { IfOk result (λ held. held ≡ number_at (dictionary_in self.old).state.tree key.now) }
+        ensures layout { layout_of self.new ≡ layout_of self.old }
+    {
+        match self {
+            AnyCedar::Default(cedar) => cedar.insert_bytes(key, value),
+            AnyCedar::Reduced(cedar) => cedar.insert_bytes(key, value),
+        }
+    }
+
+    pub(crate) fn erase_bytes(&mut self, key: &[u8]) -> bool
+        ensures answer { IsTrue result ↔ IsSome (number_at (dictionary_in self.old).state.tree key.now) }
+        ensures after { (dictionary_in self.new).state ≡ erased (dictionary_in self.old).state key.now }
+        ensures size { ((dictionary_in self.new).size ≡ (dictionary_in self.old).size) × ((dictionary_in self.new).capacity ≡ (dictionary_in self.old).capacity) }
+        ensures layout { layout_of self.new ≡ layout_of self.old }
+    {
+        match self {
+            AnyCedar::Default(cedar) => cedar.erase_bytes(key),
+            AnyCedar::Reduced(cedar) => cedar.erase_bytes(key),
+        }
+    }
+
+    pub(crate) fn exact_match_search_bytes(&self, key: &[u8]) -> Option<(i32, usize)>
+        ensures answer { result ≡ exact (dictionary_in self.now).state.tree key.now }
+        ensures sound { IsSound (dictionary_in self.now).state.tree }
+    {
+        match self {
+            AnyCedar::Default(cedar) => cedar.exact_match_search_bytes(key),
+            AnyCedar::Reduced(cedar) => cedar.exact_match_search_bytes(key),
+        }
+    }
+
+    pub(crate) fn len(&self) -> usize
+        ensures { result ≡ length (walk (dictionary_in self.now).state.tree) }
+    {
+        match self {
+            AnyCedar::Default(cedar) => cedar.len(),
+            AnyCedar::Reduced(cedar) => cedar.len(),
+        }
+    }
+
+    pub(crate) fn used_node_slots(&self) -> usize
+        ensures marked { result ≡ 1 + length (prefixes (dictionary_in self.now).state.tree) + length (walk (dictionary_in self.now).marked) }
+        ensures by_default { layout_of self.now ≡ default_layout → result ≡ used (dictionary_in self.now).state.tree }
+    {
+        match self {
+            AnyCedar::Default(cedar) => cedar.used_node_slots(),
+            AnyCedar::Reduced(cedar) => cedar.used_node_slots(),
+        }
+    }
+
+    pub(crate) fn node_capacity(&self) -> usize
+        ensures { result ≡ (dictionary_in self.now).capacity }
+    {
+        match self {
+            AnyCedar::Default(cedar) => cedar.node_capacity(),
+            AnyCedar::Reduced(cedar) => cedar.node_capacity(),
+        }
+    }
+
+    pub(crate) fn spare_blocks(&self) -> usize
+        ensures { result ≡ ((dictionary_in self.now).capacity - (dictionary_in self.now).size) / 256 }
+    {
+        match self {
+            AnyCedar::Default(cedar) => cedar.spare_blocks(),
+            AnyCedar::Reduced(cedar) => cedar.spare_blocks(),
+        }
+    }
+}

@@ -1,0 +1,60 @@
+//! What a file is loaded from: a watched reader, or bytes in memory.
+
+ghost use Rattle.std.specs.Prelude.{false, Some};
+
+use crate::buffer::take_bytes;
+use crate::error::CedarPersistenceError;
+use std::io;
+
+/// What a file is loaded from, and whether its reading has failed.
+///
+/// The calls that load know of it only what stands here. A [`Watched`](crate::Watched) reader has failed where one of its calls
+/// did. Bytes in memory, `&[u8]`, never fail, and begin behind what was taken.
+pub trait Source {
+    ghost use Rattle.std.specs.Prelude.{◌≡◌, ◌<◌, ◌≤◌, true, Bool, length, take, List, ℕ, Option, IfErr, IfNone, OnOk, OnSome};
+    ghost use Rattle.std.specs.Io.KnownBytes.{Consumes, IsAtEnd};
+    ghost use Rattle.cedar_format.specs.Reading.{Misses};
+
+    /// The bytes that are left, where they are known.
+    ghost remaining: { Self → Option (List ℕ) };
+
+    /// Whether a read failed so far.
+    ghost failed: { Self → Bool };
+
+    /// Fills the buffer.
+    ///
+    /// # Errors
+    /// `Truncated` where fewer bytes were left; `Io` where the reading failed.
+    fn fill(&mut self, buf: &mut [u8]) -> Result<(), CedarPersistenceError>
+        ensures bytes { OnOk result (Consumes (remaining self.old) (remaining self.new) buf.new) }
+        ensures misses { IfErr result (Misses (remaining self.old) (failed self.new) (length buf.old)) }
+        ensures stays { failed self.old ≡ true → failed self.new ≡ true };
+
+    /// Fills the buffer as far as the input goes. Answers how many bytes came, and the fault that ended them.
+    fn read_available(&mut self, buf: &mut [u8]) -> (usize, Option<io::Error>)
+        ensures within { result.0 ≤ length buf.new }
+        ensures bytes { Consumes (remaining self.old) (remaining self.new) (take result.0 buf.new) }
+        ensures ended { IfNone result.1 (result.0 < length buf.new → IsAtEnd (remaining self.new)) }
+        ensures fault { OnSome result.1 (failed self.new ≡ true) }
+        ensures stays { failed self.old ≡ true → failed self.new ≡ true };
+}
+
+impl Source for &[u8] {
+    ghost remaining = { λ bytes. Some bytes.now };
+
+    ghost failed = { λ bytes. false };
+
+    fn fill(&mut self, buf: &mut [u8]) -> Result<(), CedarPersistenceError> {
+        if self.len() < buf.len() {
+            return Err(CedarPersistenceError::Truncated);
+        }
+        take_bytes(self, buf);
+        Ok(())
+    }
+
+    fn read_available(&mut self, buf: &mut [u8]) -> (usize, Option<io::Error>) {
+        let count = self.len().min(buf.len());
+        take_bytes(self, &mut buf[..count]);
+        (count, None)
+    }
+}

@@ -1,0 +1,5 @@
+pub mod CellsLemmas
+pub mod EditLemmas
+pub mod MeaningLemmas
+pub mod RelocationLemmas
+pub mod UpdateLemmas

@@ -1,0 +1,4 @@
+pub mod Edit
+pub mod Meaning
+pub mod Relocation
+pub mod Table
