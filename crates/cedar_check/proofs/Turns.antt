@@ -1,9 +1,9 @@
 -- The steps of a walk over the nodes, one after another.
 use Rattle.std.proofs.Common.{◌≡◌, ◌≢◌, ℕ, zero, suc, ◌+◌, ◌<◌, ◌≤◌, sym, ◌∙◌, ap, refl, subst, inl, inr, arith, Bool, true, false, cond, is_some, Result, Ok, Err}
-use Rattle.std.specs.Prelude.{OnErr, pos}
+use Rattle.std.specs.Prelude.{IfOk, OnErr, pos}
 use Rattle.cedar_check.specs.declared.tree.Walk.{Walk}
 use Rattle.cedar_meaning.specs.Table.Cells.{Cells}
-use Rattle.cedar_check.specs.TreeWalk.{Ends, GoesOn, GoesUp, numbers_at, slots_at, walk_up}
+use Rattle.cedar_check.specs.TreeWalk.{Ends, GoesDown, GoesOn, GoesUp, numbers_at, slots_at, walk_down, walk_up}
 use Rattle.cedar_meaning.specs.Meaning.Family.{base_of, below}
 use Rattle.cedar_meaning.specs.Meaning.Reading.{has_number_slot, number_in}
 use Rattle.cedar_meaning.proofs.MeaningLemmas.ExclusiveOr.{pos_injective}
@@ -86,3 +86,15 @@ module _ (size : ℕ) (ordered : Bool) (T : Cells) where
   pub up_faulty : (w : Walk) {E : Type 0} (r : Result Walk E) → w.label ≡ 0 → OnErr r ((c : ℕ) → GoesUp size ordered T w c → ⊥) → OnErr r ((next : Walk) → GoesOn size ordered T w next → ⊥)
   up_faulty w (Ok next) ended faulty = tt
   up_faulty w (Err error) ended faulty = λ next on. elim on [ inl down ↦ omega (arith, down.0.positive, ended) | inr up ↦ faulty up.0 up.1 ]
+
+  pub up_on : (w : Walk) {E : Type 0} (r : Result Walk E) → IfOk r (λ next. (c : ℕ) × GoesUp size ordered T w c × (next ≡ walk_up T w c)) → IfOk r (GoesOn size ordered T w)
+  up_on w (Ok next) up = inr up
+  up_on w (Err error) up = tt
+
+  pub down_faulty : (w : Walk) {E : Type 0} (r : Result Walk E) → 0 < w.label → OnErr r (GoesDown size T w → ⊥) → OnErr r ((next : Walk) → GoesOn size ordered T w next → ⊥)
+  down_faulty w (Ok next) positive faulty = tt
+  down_faulty w (Err error) positive faulty = λ next on. elim on [ inl down ↦ faulty down.0 | inr up ↦ omega (arith, up.1.ended, positive) ]
+
+  pub down_on : (w : Walk) {E : Type 0} (r : Result Walk E) → IfOk r (λ next. GoesDown size T w × (next ≡ walk_down T w)) → IfOk r (GoesOn size ordered T w)
+  down_on w (Ok next) down = inl down
+  down_on w (Err error) down = tt

@@ -48,16 +48,39 @@ pub(crate) fn answer_line<L: Layout, const SLOTS: usize, A: Allocator + Copy, W:
     };
     match command {
         None => write_whole(writer, b"bad line\n"),
-        Some(command) => match command.verb {
-            Verb::Put(value) => answer_put(trie, &command.key, value, writer),
-            Verb::Erase => answer_erase(trie, &command.key, writer),
-            Verb::Exact => answer_exact(trie, &command.key, writer),
-            Verb::Prefixes => answer_prefixes(trie, &command.key, writer),
-            Verb::Predict => answer_predict(trie, &command.key, writer),
-            Verb::Entries => answer_entries(trie, &command.key, writer),
-            Verb::Figures => answer_figures(trie, &command.key, writer),
-            Verb::Segment => answer_segment(trie, &command.key, writer),
-        },
+        Some(command) => answer_command(trie, command.verb, &command.key, writer),
+    }
+}
+
+/// Does what an order asks, and writes the answer.
+fn answer_command<L: Layout, const SLOTS: usize, A: Allocator + Copy, W: Write>(
+    trie: &mut Trie<L, SLOTS, A>,
+    verb: Verb,
+    key: &[u8],
+    writer: &mut Watched<W>,
+) -> Result<(), ScriptError>
+    ensures ok { OnOk result (Obeys (Some (verb, key.now)) (seen L.kind trie.old) (seen L.kind trie.new)
+        (W.contents (device_of writer.old)) (W.contents (device_of writer.new))) }
+    ensures err { OnErr result (Leaves (Some (verb, key.now)) (seen L.kind trie.old) trie.new.state
+        (W.contents (device_of writer.old)) (W.contents (device_of writer.new))) }
+    ensures cause { result ≡ Err ScriptError.Write → has_failed writer.new ≡ true }
+    ensures unfailed { OnOk result (has_failed writer.new ≡ has_failed writer.old) }
+    ensures never_read { result ≡ Err ScriptError.Read → ⊥ }
+    ensures limit { result ≡ Err ScriptError.SlotLimit → trie.new.size ≡ SLOTS }
+    ensures starved { result ≡ Err ScriptError.Memory → has_failed writer.new ≡ has_failed writer.old }
+    ensures full { result ≡ Err ScriptError.SlotLimit → has_failed writer.new ≡ has_failed writer.old }
+    ensures blocks { GrowsWithin (length key.now) trie.old trie.new }
+    ensures max_trial { trie.new.max_trial ≡ trie.old.max_trial }
+{
+    match verb {
+        Verb::Put(value) => answer_put(trie, key, value, writer),
+        Verb::Erase => answer_erase(trie, key, writer),
+        Verb::Exact => answer_exact(trie, key, writer),
+        Verb::Prefixes => answer_prefixes(trie, key, writer),
+        Verb::Predict => answer_predict(trie, key, writer),
+        Verb::Entries => answer_entries(trie, key, writer),
+        Verb::Figures => answer_figures(trie, key, writer),
+        Verb::Segment => answer_segment(trie, key, writer),
     }
 }
 

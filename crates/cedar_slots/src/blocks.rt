@@ -352,9 +352,30 @@ impl<A: Allocator> Blocks<A> {
         }
     }
 
-    /// Sets what `block` counts, and moves it to the list that its counts now name. Mostly that is the list in which it
-    /// stands, which is seen without a list.
-    // Else the counts go through memory in two widths, and each call waits for them.
+    /// Sets what `block` counts, and moves it to the list that its counts now name. They come one by one: else each caller lays
+    /// them down in memory, though it mostly needs no list.
+    fn set_each_count(&mut self, block: usize, num: i16, reject: i16, trial: i32, e_head: i32)
+        requires lists { HasLists (blocks_of self.old) }
+        requires sized { Sized (blocks_of self.old) }
+        requires block_in { block < self.old.active }
+        ensures lists { HasLists (blocks_of self.new) }
+        ensures made { counts_at self.new.records.items block ≡ record { num = num; reject = reject; trial = trial; e_head = e_head } }
+        ensures others { (b : ℕ) → (b ≡ block → ⊥) → counts_at self.new.records.items b ≡ counts_at self.old.records.items b }
+        ensures idle { SameFrom self.old.active self.old.records.items self.new.records.items }
+        ensures len { length self.new.records.items ≡ length self.old.records.items }
+        ensures active { self.new.active ≡ self.old.active }
+        ensures max_trial { self.new.max_trial ≡ self.old.max_trial }
+    {
+        let counts = Counts {
+            num,
+            reject,
+            trial,
+            e_head,
+        };
+        self.set_counts_and_list(block, counts);
+    }
+
+    /// Sets what `block` counts, and moves it to the list that its counts now name.
     #[inline(always)]
     pub fn set_counts(&mut self, block: usize, counts: Counts)
         requires lists { HasLists (blocks_of self.old) }
@@ -369,10 +390,36 @@ impl<A: Allocator> Blocks<A> {
         ensures max_trial { self.new.max_trial ≡ self.old.max_trial }
     {
         let old = self.counts(block);
+        self.change_counts(block, old, counts);
+    }
+
+    /// Sets what `block` counts, which was `old`, and moves it to the list that its counts now name. Mostly that is the list in
+    /// which it stands, which is seen without a list.
+    // Else the counts go through memory in two widths, and each call waits for them.
+    #[inline(always)]
+    pub(crate) fn change_counts(&mut self, block: usize, old: Counts, counts: Counts)
+        requires was { old ≡ counts_at self.old.records.items block }
+        requires lists { HasLists (blocks_of self.old) }
+        requires sized { Sized (blocks_of self.old) }
+        requires block_in { block < self.old.active }
+        ensures lists { HasLists (blocks_of self.new) }
+        ensures made { counts_at self.new.records.items block ≡ counts }
+        ensures others { (b : ℕ) → (b ≡ block → ⊥) → counts_at self.new.records.items b ≡ counts_at self.old.records.items b }
+        ensures idle { SameFrom self.old.active self.old.records.items self.new.records.items }
+        ensures len { length self.new.records.items ≡ length self.old.records.items }
+        ensures active { self.new.active ≡ self.old.active }
+        ensures max_trial { self.new.max_trial ≡ self.old.max_trial }
+    {
         if counts.keeps_list(old) {
             self.write_counts(block, counts);
         } else {
-            self.set_counts_and_list(block, counts);
+            self.set_each_count(
+                block,
+                counts.num,
+                counts.reject,
+                counts.trial,
+                counts.e_head,
+            );
         }
     }
 

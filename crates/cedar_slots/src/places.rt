@@ -107,10 +107,12 @@ impl<A: Allocator> Places<A> {
         ensures max_trial { self.new.blocks.max_trial ≡ self.old.blocks.max_trial }
     {
         let block = slot / BLOCK_SIZE;
-        let counts = self.blocks.counts(block);
         let next = self.slots.next_free(slot);
         self.slots.take(slot, node);
-        self.blocks.set_counts(block, counts.less(slot, next));
+        // Read behind the writes above, so that what stays as it is needn't be written again.
+        let counts = self.blocks.counts(block);
+        self.blocks
+            .change_counts(block, counts, counts.less(slot, next));
     }
 
     /// Frees `slot`, which stands in its block after the free slot at the head, if there is one.
@@ -130,11 +132,12 @@ impl<A: Allocator> Places<A> {
         let floor = self.reject_for(counts.num + 1);
         if counts.num == reserved(block) {
             self.slots.give_alone(slot);
-            self.blocks.set_counts(block, counts.one(slot, floor));
+            self.blocks
+                .change_counts(block, counts, counts.one(slot, floor));
         } else {
             let head = counts.head();
             self.slots.give_after(head, slot);
-            self.blocks.set_counts(block, counts.more(floor));
+            self.blocks.change_counts(block, counts, counts.more(floor));
         }
     }
 
@@ -268,7 +271,8 @@ impl<A: Allocator> Places<A> {
     {
         let block = slot / BLOCK_SIZE;
         let counts = self.blocks.counts(block);
-        self.blocks.set_counts(block, counts.beginning_at(slot));
+        self.blocks
+            .change_counts(block, counts, counts.beginning_at(slot));
     }
 
     /// Notes that `wanted` labels found no place in a block with `num` free slots.
@@ -318,10 +322,13 @@ impl<A: Allocator> Places<A> {
         if counts.num < wanted || counts.reject <= wanted {
             return None;
         }
+        let first = usize::from(labels[0]);
+        let (_, others) = labels.split_at(1);
         let head = counts.head();
         let mut slot = head;
         for _ in 0..BLOCK_SIZE {
-            if self.slots.fits(slot ^ usize::from(labels[0]), labels) {
+            // The first label would stand on `slot` itself.
+            if self.slots.fits(slot ^ first, others) {
                 return Some(slot);
             }
             slot = self.slots.next_free(slot);

@@ -1,6 +1,6 @@
 //! The slots, and the rings in which the free ones stand.
 
-ghost use Rattle.std.specs.Prelude.{◌≡◌, ℕ, ◌+◌, ◌*◌, ◌/◌, ◌^◌, ◌<◌, ◌≤◌, ◌⊎◌, IsTrue, length, slice_set, unsigned_abs};
+ghost use Rattle.std.specs.Prelude.{◌≡◌, ℕ, ◌+◌, ◌*◌, ◌/◌, ◌^◌, ◌<◌, ◌≤◌, ◌⊎◌, ◌-◌, bit_xor, IsTrue, length, slice_index_or, slice_set, true, unsigned_abs};
 ghost use Rattle.cedar_slots.specs.Slots.{AllFree, base_at, blank_info, check_at, given_after, given_alone, is_free, linked, node_at, SlotLink, taken};
 
 use crate::records::{NInfoRecord, NodeRecord};
@@ -140,6 +140,22 @@ impl<A: Allocator> Slots<A> {
         self.nodes[slot].check < 0
     }
 
+    /// Whether the slots of the first and of the last label are free from `base` on, as they are if all labels' slots are. Both
+    /// are read, since a branch between them would often be guessed wrong.
+    fn ends_fit(&self, base: usize, labels: &[u8]) -> bool
+        requires fits { length self.now.nodes.items ≤ 2 ^ 30 }
+        requires base_in { 256 * (base / 256) + 256 ≤ length self.now.nodes.items }
+        requires not_root { 0 < base / 256 }
+        requires some { 0 < length labels.now }
+        ensures first { IsTrue result → is_free self.now.nodes.items (bit_xor base (slice_index_or labels.now 0 0)) ≡ true }
+        ensures last { IsTrue result → is_free self.now.nodes.items (bit_xor base (slice_index_or labels.now (length labels.now - 1) 0)) ≡ true }
+        ensures only { AllFree self.now.nodes.items base labels.now → IsTrue result }
+    {
+        let first = self.is_free(base ^ usize::from(labels[0]));
+        let last = self.is_free(base ^ usize::from(labels[labels.len() - 1]));
+        first & last
+    }
+
     /// Whether each label's slot is free from `base` on.
     pub fn fits(&self, base: usize, labels: &[u8]) -> bool
         requires fits { length self.now.nodes.items ≤ 2 ^ 30 }
@@ -148,6 +164,15 @@ impl<A: Allocator> Slots<A> {
         ensures fits { IsTrue result → AllFree self.now.nodes.items base labels.now }
         ensures only { AllFree self.now.nodes.items base labels.now → IsTrue result }
     {
+        if labels.is_empty() {
+            return true;
+        }
+        if !self.ends_fit(base, labels) {
+            return false;
+        }
+        if labels.len() <= 2 {
+            return true;
+        }
         for &label in labels {
             if !self.is_free(base ^ usize::from(label)) {
                 return false;

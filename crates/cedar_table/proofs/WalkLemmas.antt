@@ -3,3 +3,4 @@ pub mod Batch
 pub mod Lanes
 pub mod NextFront
 pub mod NextNode
+pub mod NextNumber

@@ -20,4 +20,4 @@ pub use cedar_slots::{
 pub use parts::Parts;
 pub use table::Table;
 pub use walk::fronts::Front;
-pub use walk::visits::Visited;
+pub use walk::visits::{Numbered, Visited};

@@ -1,4 +1,5 @@
 //! Mixed calls on the dictionary beside the plain tree, in both layouts.
+use crate::expect::{expect_counts, expect_erased};
 use crate::layouts::{Full, built};
 use cedarwood::{CedarBuilder, DefaultLayout, Layout, ReducedLayout};
 use plain_tree::PlainTree;
@@ -108,18 +109,23 @@ fn call<L: Layout>(alloc: Global, both: &mut Beside<L>, plan: Plan) -> Result<bo
     Ok(agreed && both.tree.exact(&key) == both.trie.exact_match_search_bytes(&key))
 }
 
+// Whether each of some pairs is found.
+fn finds_all<L: Layout>(trie: &Full<L>, pairs: &[(Vec<u8>, i32)]) -> bool {
+    for (key, value) in pairs {
+        if trie.exact_match_search_bytes(key) != Some((*value, key.len())) {
+            return false;
+        }
+    }
+    true
+}
+
 // Whether both hold the same, in as many slots as the tree takes or, where a number may stand in its node's own slot,
 // in as many as the tree has nodes, and at most one more for each number.
 fn agree<L: Layout>(alloc: Global, both: &Beside<L>) -> Result<bool, AllocError> {
     let entries = both.tree.walk(alloc)?;
-    for (key, value) in &entries {
-        if both.trie.exact_match_search_bytes(key) != Some((*value, key.len())) {
-            return Ok(false);
-        }
-    }
     let same_len = both.trie.len() == entries.len();
     let same_empty = both.trie.is_empty() == entries.is_empty();
-    Ok(same_len && same_empty && fits(alloc, both)?)
+    Ok(same_len && same_empty && finds_all(&both.trie, &entries) && fits(alloc, both)?)
 }
 
 // Whether each number has a slot of its own, or in the reduced layout so many as its nodes leave open.
@@ -133,6 +139,24 @@ fn fits<L: Layout>(alloc: Global, both: &Beside<L>) -> Result<bool, AllocError> 
     Ok(prefixes < used && used <= most)
 }
 
+// One call on both, and every 200 calls a comparison of all that they hold.
+fn holds_on<L: Layout>(
+    alloc: Global,
+    both: &mut Beside<L>,
+    plan: Plan,
+    turn: u32,
+) -> Result<bool, AllocError> {
+    let agreed = call(alloc, both, plan)?;
+    if turn % 200 == 0 {
+        return Ok(agreed && agree(alloc, both)?);
+    }
+    Ok(agreed)
+}
+
+fn expect(rt: &impl Abort, holds: bool, turn: u32, plan: Plan) {
+    assert!(rt; holds, "call {turn} of {plan:?}");
+}
+
 // Mixed calls.
 fn make_calls<L: Layout>(
     rt: &impl Abort,
@@ -141,13 +165,18 @@ fn make_calls<L: Layout>(
     plan: Plan,
 ) -> Result<(), AllocError> {
     for turn in 0..CALLS {
-        assert!(rt; call(alloc, both, plan)?, "call {turn} of {plan:?}");
-        if turn % 200 == 0 {
-            assert!(rt; agree(alloc, both)?, "after call {turn} of {plan:?}");
-        }
+        let holds = holds_on(alloc, both, plan, turn)?;
+        expect(rt, holds, turn, plan);
     }
-    assert!(rt; agree(alloc, both)?, "after {plan:?}");
+    let holds = agree(alloc, both)?;
+    expect(rt, holds, CALLS, plan);
     Ok(())
+}
+
+fn erase_each<L: Layout>(rt: &impl Abort, trie: &mut Full<L>, pairs: &[(Vec<u8>, i32)]) {
+    for (key, _) in pairs {
+        expect_erased(rt, trie, key, true);
+    }
 }
 
 // Each key is erased, and the root's slot is left.
@@ -157,25 +186,36 @@ fn erase_all<L: Layout>(
     both: &mut Beside<L>,
 ) -> Result<(), AllocError> {
     let entries = both.tree.walk(alloc)?;
-    for (key, _) in &entries {
-        assert!(rt; both.trie.erase_bytes(key));
-    }
-    assert_eq!(rt; (both.trie.len(), both.trie.used_node_slots()), (0, 1));
+    erase_each(rt, &mut both.trie, &entries);
+    expect_counts(rt, &both.trie, 0, 1);
+    Ok(())
+}
+
+fn begun<L: Layout>(alloc: Global, plan: Plan) -> Result<Beside<L>, Fail> {
+    let builder = CedarBuilder::new()
+        .ordered(plan.ordered)
+        .max_trial(plan.max_trial)?;
+    Ok(Beside {
+        trie: built(alloc, builder)?,
+        tree: PlainTree::new(alloc),
+        seed: 7,
+    })
+}
+
+fn run_on<L: Layout>(
+    rt: &impl Abort,
+    alloc: Global,
+    both: &mut Beside<L>,
+    plan: Plan,
+) -> Result<(), Fail> {
+    make_calls(rt, alloc, both, plan)?;
+    erase_all(rt, alloc, both)?;
     Ok(())
 }
 
 fn run<L: Layout>(rt: &impl Abort, alloc: Global, plan: Plan) -> Result<(), Fail> {
-    let builder = CedarBuilder::new()
-        .ordered(plan.ordered)
-        .max_trial(plan.max_trial)?;
-    let mut both = Beside::<L> {
-        trie: built(alloc, builder)?,
-        tree: PlainTree::new(alloc),
-        seed: 7,
-    };
-    make_calls(rt, alloc, &mut both, plan)?;
-    erase_all(rt, alloc, &mut both)?;
-    Ok(())
+    let mut both = begun::<L>(alloc, plan)?;
+    run_on(rt, alloc, &mut both, plan)
 }
 
 // Each source of keys, where one failed search closes a block, and where three do.

@@ -1,7 +1,8 @@
 //! Builds, inserts, copies and figures, at values made by hand.
-use crate::expect::{expect_counts, expect_erased, expect_found};
+use crate::expect::expect_counts;
+use crate::steps::{Step, expect_steps};
 use cedarwood::{
-    Cedar, CedarError, MemoryStats, PrefixIter, PrefixPredictIter, ReducedLayout, Trie,
+    Cedar, CedarError, Layout, MemoryStats, PrefixIter, PrefixPredictIter, ReducedLayout, Trie,
 };
 use std::alloc::Global;
 use std::process::Abort;
@@ -29,9 +30,9 @@ fn expect_stats(
         node_capacity,
         allocated_bytes,
     };
-    assert_eq!(rt; cedar.memory_stats(), wanted);
-    assert_eq!(rt; cedar.allocated_bytes(), allocated_bytes);
-    assert_eq!(rt; cedar.spare_blocks(), 0);
+    assert!(rt; cedar.memory_stats() == wanted);
+    assert!(rt; cedar.allocated_bytes() == allocated_bytes);
+    assert!(rt; cedar.spare_blocks() == 0);
 }
 
 // The figures of a new dictionary, and of one with a key.
@@ -55,60 +56,62 @@ fn expect_text(
     wanted: &str,
 ) -> Result<(), Fail> {
     let text = format!(in alloc; "{cedar:?}")?;
-    assert_eq!(rt; text.as_str(), wanted);
+    assert!(rt; text.as_str() == wanted);
     Ok(())
 }
 
 fn expect_inserted(
     rt: &impl Abort,
     cedar: &mut Cedar<Global>,
-    key: &[u8],
+    key: &str,
     value: i32,
-    answer: Result<Option<i32>, CedarError>,
+    before: Option<i32>,
 ) {
-    assert_eq!(rt; cedar.insert_bytes(key, value), answer);
+    assert!(rt; cedar.insert(key, value) == Ok(before));
 }
 
 // An insert answers the value before.
 #[test]
 fn inserts(rt: HostRuntime) -> Result<(), Fail> {
     let mut cedar = Cedar::new(rt.alloc())?;
-    expect_inserted(&rt, &mut cedar, b"ab", 1, Ok(None));
-    expect_inserted(&rt, &mut cedar, b"ab", 2, Ok(Some(1)));
-    expect_inserted(&rt, &mut cedar, b"", 3, Err(CedarError::EmptyKey));
-    assert_eq!(rt; cedar.insert("a", 3), Ok(None));
-    expect_found(&rt, &cedar, b"ab", Some((2, 2)));
-    expect_counts(&rt, &cedar, 2, 5);
-    Ok(())
+    expect_inserted(&rt, &mut cedar, "ab", 1, None);
+    expect_inserted(&rt, &mut cedar, "ab", 2, Some(1));
+    assert!(&rt; cedar.insert_bytes(b"", 3) == Err(CedarError::EmptyKey));
+    let steps = [Step::Found(b"ab", Some((2, 2))), Step::Counts(1, 4)];
+    expect_steps(&rt, &mut cedar, &steps)
 }
 
-// A later pair of a key stands.
+fn expect_built<L: Layout, const SLOTS: usize>(
+    rt: &impl Abort,
+    trie: &mut Trie<L, SLOTS, Global>,
+    pairs: &[(&str, i32)],
+    wanted: Result<(), CedarError>,
+) {
+    assert!(rt; trie.build(pairs) == wanted);
+}
+
+const FAULTY: [(&str, i32); 2] = [("valid", 1), ("", 2)];
+
+const PAIRS: [(&str, i32); 4] = [("网", 1), ("a", 2), ("网球", 3), ("a", 4)];
+
+// Nothing is stored where a pair has a fault, and a later pair of a key stands.
 #[test]
 fn builds_in_order(rt: HostRuntime) -> Result<(), Fail> {
     let mut cedar = Cedar::new(rt.alloc())?;
-    let pairs = [("网", 1), ("a", 2), ("网球", 3), ("a", 4)];
-    cedar.build(&pairs)?;
+    expect_built(&rt, &mut cedar, &FAULTY, Err(CedarError::EmptyKey));
+    expect_counts(&rt, &cedar, 0, 1);
+    expect_built(&rt, &mut cedar, &PAIRS, Ok(()));
     let first = first_items(
         cedar.common_prefix_iter("网球拍"),
         cedar.common_prefix_predict_iter(""),
     );
-    assert_eq!(rt; first, (Some((1, 2)), Some((4, 1))));
-    expect_found(&rt, &cedar, b"a", Some((4, 1)));
-    let pairs: [(&[u8], i32); 1] = [(b"\xff", 5)];
-    cedar.build_bytes(&pairs)?;
-    assert_eq!(rt; cedar.len(), 4);
+    assert!(&rt; first == (Some((1, 2)), Some((4, 1))));
+    cedar.build_bytes(&[(b"\xff".as_slice(), 5)])?;
+    expect_counts(&rt, &cedar, 4, 13);
     Ok(())
 }
 
-// Nothing is stored where a pair has a fault.
-#[test]
-fn builds_none_of_a_faulty_list(rt: HostRuntime) -> Result<(), Fail> {
-    let mut cedar = Cedar::new(rt.alloc())?;
-    let pairs = [("valid", 1), ("", 2)];
-    assert_eq!(rt; cedar.build(&pairs), Err(CedarError::EmptyKey));
-    expect_counts(&rt, &cedar, 0, 1);
-    Ok(())
-}
+const TOO_MANY: [(&str, i32); 3] = [("a", 1), ("b", 2), ("ab", 3)];
 
 // At the limit of slots the pairs before the refused one are stored.
 #[tactic(auto, using(crate::proofs::Limits::limit_256))]
@@ -116,23 +119,31 @@ fn builds_none_of_a_faulty_list(rt: HostRuntime) -> Result<(), Fail> {
 fn builds_up_to_the_limit(rt: HostRuntime) -> Result<(), Fail> {
     let builder = Cedar::<Global>::builder();
     let mut trie = Trie::<ReducedLayout, 256, Global>::with(rt.alloc(), builder)?;
-    let pairs = [("a", 1), ("b", 2), ("ab", 3)];
-    assert_eq!(rt; trie.build(&pairs), Err(CedarError::SlotLimit));
-    expect_counts(&rt, &trie, 2, 3);
-    expect_found(&rt, &trie, b"b", Some((2, 1)));
-    Ok(())
+    expect_built(&rt, &mut trie, &TOO_MANY, Err(CedarError::SlotLimit));
+    let steps = [Step::Counts(2, 3), Step::Found(b"b", Some((2, 1)))];
+    expect_steps(&rt, &mut trie, &steps)
 }
+
+const HELD: [Step; 3] = [
+    Step::Put(b"a", 1),
+    Step::Put(b"ab", 2),
+    Step::Put(b"abc", 3),
+];
+
+const COPIED: [Step; 3] = [
+    Step::Counts(3, 7),
+    Step::Erased(b"abc", true),
+    Step::Counts(2, 5),
+];
+
+const LEFT: [Step; 2] = [Step::Counts(3, 7), Step::Found(b"abc", Some((3, 3)))];
 
 // A change of the copy doesn't show in the original.
 #[test]
 fn a_copy(rt: HostRuntime) -> Result<(), Fail> {
     let mut cedar = Cedar::new(rt.alloc())?;
-    let pairs = [("a", 1), ("ab", 2), ("abc", 3)];
-    cedar.build(&pairs)?;
+    expect_steps(&rt, &mut cedar, &HELD)?;
     let mut copy = cedar.clone()?;
-    expect_erased(&rt, &mut copy, b"abc", true);
-    expect_counts(&rt, &copy, 2, 5);
-    expect_counts(&rt, &cedar, 3, 7);
-    expect_found(&rt, &cedar, b"abc", Some((3, 3)));
-    Ok(())
+    expect_steps(&rt, &mut copy, &COPIED)?;
+    expect_steps(&rt, &mut cedar, &LEFT)
 }

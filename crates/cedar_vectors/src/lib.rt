@@ -26,6 +26,8 @@ mod sorted;
 #[cfg(test)]
 mod sorted_texts;
 #[cfg(test)]
+mod steps;
+#[cfg(test)]
 mod texts;
 #[cfg(test)]
 mod words;

@@ -3,7 +3,7 @@ ghost use Rattle.cedar_slots.specs.Places.{IsSlotLimit};
 
 use cedar_cli::{DONE, FAULT, REFUSED, USAGE, run_program};
 use cedarwood::{DefaultLayout, Watched};
-use std::alloc::AllocError;
+use std::alloc::{AllocError, Global};
 use std::fs;
 use std::process::Abort;
 use std::test::Fail;
@@ -35,19 +35,101 @@ const NONE: Faults = Faults {
     request: 0,
 };
 
+// What a run leaves beside its bytes.
+#[derive(Clone, Copy)]
+struct Marks {
+    status: u8,
+    flushes: u64,
+    requests: u64,
+    is_fault: bool,
+}
+
 // What a run leaves.
 #[derive(Drop)]
 struct Left {
-    status: u8,
+    marks: Marks,
     written: Vec<u8>,
     told: Vec<u8>,
-    flushes: u64,
-    requests: u64,
-    is_reader_failed: bool,
-    is_writer_failed: bool,
 }
 
-// Runs the program on the script. The writer of errors takes `errors_room` bytes.
+type Writer<'a> = Watched<FlushCounter<FailingWriter<'a>>>;
+
+// The program's call, of which nothing is said here.
+fn call<const SLOTS: usize>(
+    refusing: &Refusing<Global>,
+    rt: &HostRuntime,
+    arguments: &[&str],
+    reader: &mut Watched<FailingReader<'_>>,
+    writer: &mut Writer<'_>,
+    errors: &mut Watched<FailingWriter<'_>>,
+) -> u8
+    requires { IsSlotLimit SLOTS }
+{
+    run_program::<DefaultLayout, SLOTS, _, _, _, _, _>(
+        refusing, rt, arguments, reader, writer, errors,
+    )
+}
+
+// Runs the program on the script, with these bytes for what is written and told.
+fn run_into<const SLOTS: usize>(
+    rt: &HostRuntime,
+    arguments: &[&str],
+    faults: Faults,
+    written: &mut Vec<u8>,
+    told: &mut Vec<u8>,
+) -> Marks
+    requires { IsSlotLimit SLOTS }
+{
+    let refusing = Refusing::new(rt.alloc());
+    refusing.refuse(faults.request, faults.request);
+    let reader = FailingReader::new(SCRIPT, SCRIPT.len(), 64, faults.reader);
+    let writer = FailingWriter::new(written, 64, Ending::Fault);
+    let mut reader = Watched::new(reader);
+    let mut writer = Watched::new(FlushCounter::new(writer, faults.flush));
+    let mut errors = Watched::new(FailingWriter::new(told, 64, Ending::Fault));
+    let status = call::<SLOTS>(
+        &refusing,
+        rt,
+        arguments,
+        &mut reader,
+        &mut writer,
+        &mut errors,
+    );
+    let is_fault = reader.failed() || writer.failed();
+    let inside = writer.into_inner();
+    let flushes = inside.flushes();
+    let len = inside.inner().len();
+    let told_len = errors.into_inner().len();
+    written.truncate(len);
+    told.truncate(told_len);
+    Marks {
+        status,
+        flushes,
+        requests: refusing.requests(),
+        is_fault,
+    }
+}
+
+// Runs the program on the script within so many slots. The writer of errors takes `errors_room` bytes.
+fn run_within<const SLOTS: usize>(
+    rt: &HostRuntime,
+    arguments: &[&str],
+    faults: Faults,
+    errors_room: usize,
+) -> Result<Left, AllocError>
+    requires { IsSlotLimit SLOTS }
+{
+    let mut written = vec![in rt.alloc(); 0u8; faults.room]?;
+    let mut told = vec![in rt.alloc(); 0u8; errors_room]?;
+    let marks = run_into::<SLOTS>(rt, arguments, faults, &mut written, &mut told);
+    Ok(Left {
+        marks,
+        written,
+        told,
+    })
+}
+
+// The same within as many slots as the program has.
 #[tactic(auto, using(cedarwood::proofs::DictionaryLemmas::default_limit))]
 fn run(
     rt: &HostRuntime,
@@ -58,73 +140,42 @@ fn run(
     run_within::<1073741824>(rt, arguments, faults, errors_room)
 }
 
-// The same within so many slots.
-fn run_within<const SLOTS: usize>(
-    rt: &HostRuntime,
+// A run has to end with this status, and to have written and told this.
+fn expect_left(rt: &impl Abort, left: &Left, status: u8, written: &str, told: &str) {
+    assert!(rt; left.marks.status == status);
+    expect_bytes(rt, &left.written, written);
+    expect_bytes(rt, &left.told, told);
+}
+
+fn expect_bytes(rt: &impl Abort, found: &[u8], wanted: &str) {
+    assert!(rt; found == wanted.as_bytes());
+}
+
+// A run that has to leave this.
+fn expect_run(
+    rt: &impl Abort,
+    host: &HostRuntime,
     arguments: &[&str],
     faults: Faults,
     errors_room: usize,
-) -> Result<Left, AllocError>
-    requires { IsSlotLimit SLOTS }
-{
-    let alloc = rt.alloc();
-    let refusing = Refusing::new(alloc);
-    refusing.refuse(faults.request, faults.request);
-    let mut written = vec![in alloc; 0u8; faults.room]?;
-    let mut told = vec![in alloc; 0u8; errors_room]?;
-    let reader = FailingReader::new(SCRIPT, SCRIPT.len(), 64, faults.reader);
-    let writer = FailingWriter::new(&mut written, 64, Ending::Fault);
-    let errors = FailingWriter::new(&mut told, 64, Ending::Fault);
-    let mut reader = Watched::new(reader);
-    let mut writer = Watched::new(FlushCounter::new(writer, faults.flush));
-    let mut errors = Watched::new(errors);
-    let status = run_program::<DefaultLayout, SLOTS, _, _, _, _, _>(
-        &refusing,
-        rt,
-        arguments,
-        &mut reader,
-        &mut writer,
-        &mut errors,
-    );
-    let is_reader_failed = reader.failed();
-    let is_writer_failed = writer.failed();
-    let inside = writer.into_inner();
-    let flushes = inside.flushes();
-    let len = inside.inner().len();
-    let told_len = errors.into_inner().len();
-    written.truncate(len);
-    told.truncate(told_len);
-    Ok(Left {
-        status,
-        written,
-        told,
-        flushes,
-        requests: refusing.requests(),
-        is_reader_failed,
-        is_writer_failed,
-    })
+    wanted: (u8, &str, &str),
+) -> Result<Marks, Fail> {
+    let left = run(host, arguments, faults, errors_room)?;
+    expect_left(rt, &left, wanted.0, wanted.1, wanted.2);
+    Ok(left.marks)
 }
 
-// A run has to end with this status, and to have written and told this.
-fn expect_left(rt: &impl Abort, left: &Left, status: u8, written: &[u8], told: &[u8]) {
-    assert_eq!(rt; left.status, status);
-    assert_eq!(rt; left.written.as_slice(), written);
-    assert_eq!(rt; left.told.as_slice(), told);
-}
-
-// No device may have failed.
-fn expect_no_fault(rt: &impl Abort, left: &Left) {
-    assert!(rt; !left.is_reader_failed && !left.is_writer_failed);
+// No device may have failed, and there have to be so many flushes.
+fn expect_no_fault(rt: &impl Abort, marks: Marks, flushes: u64) {
+    assert!(rt; (marks.is_fault, marks.flushes) == (false, flushes));
 }
 
 // The script comes in one read, and the next read finds its end: two flushes, and one after the run.
 #[test]
 fn a_good_run(rt: HostRuntime) -> Result<(), Fail> {
-    let left = run(&rt, &[], NONE, 128)?;
-    expect_left(&rt, &left, DONE, ANSWERS.as_bytes(), b"");
-    expect_no_fault(&rt, &left);
-    assert_eq!(rt; left.flushes, 3);
-    assert_eq!(rt; (DONE, FAULT, USAGE), (0, 1, 2));
+    let marks = expect_run(&rt, &rt, &[], NONE, 128, (DONE, ANSWERS, ""))?;
+    expect_no_fault(&rt, marks, 3);
+    assert!(&rt; (DONE, FAULT, USAGE, REFUSED) == (0, 1, 2, 3));
     Ok(())
 }
 
@@ -136,12 +187,10 @@ fn expect_usage(rt: &impl Abort, host: &HostRuntime, arguments: &[&str]) -> Resu
         flush: 1,
         ..NONE
     };
-    let left = run(host, arguments, faults, 128)?;
-    expect_left(rt, &left, 2, b"", USAGE_TEXT.as_bytes());
-    expect_no_fault(rt, &left);
-    assert_eq!(rt; (left.flushes, left.requests), (0, 0));
-    let silenced = run(host, arguments, faults, 0)?;
-    expect_left(rt, &silenced, 2, b"", b"");
+    let marks = expect_run(rt, host, arguments, faults, 128, (2, "", USAGE_TEXT))?;
+    expect_no_fault(rt, marks, 0);
+    assert!(rt; marks.requests == 0);
+    expect_run(rt, host, arguments, faults, 0, (2, "", ""))?;
     Ok(())
 }
 
@@ -172,8 +221,14 @@ fn wrong_arguments(rt: HostRuntime) -> Result<(), Fail> {
 
 // A run with these options has to answer the script.
 fn expect_answers(rt: &impl Abort, host: &HostRuntime, arguments: &[&str]) -> Result<(), Fail> {
-    let left = run(host, arguments, NONE, 128)?;
-    expect_left(rt, &left, DONE, ANSWERS.as_bytes(), b"");
+    expect_run(rt, host, arguments, NONE, 128, (DONE, ANSWERS, ""))?;
+    Ok(())
+}
+
+// A saved file has to be of this version of the format.
+fn expect_version(rt: &impl Abort, host: &HostRuntime, minor: u8) -> Result<(), Fail> {
+    let bytes = fs::read(host, "program_saved.cedar")?;
+    assert!(rt; (bytes.len(), bytes.get(10)) == (5762, Some(&minor)));
     Ok(())
 }
 
@@ -186,8 +241,7 @@ fn a_saved_dictionary(rt: HostRuntime) -> Result<(), Fail> {
     ];
     for (arguments, minor) in cases {
         expect_answers(&rt, &rt, arguments)?;
-        let bytes = fs::read(&rt, "program_saved.cedar")?;
-        assert_eq!(rt; (bytes.len(), bytes.get(10)), (5762, Some(&minor)));
+        expect_version(&rt, &rt, minor)?;
         expect_answers(&rt, &rt, &["--load", "program_saved.cedar"])?;
     }
     Ok(())
@@ -198,13 +252,11 @@ fn expect_file_fault(
     rt: &impl Abort,
     host: &HostRuntime,
     arguments: &[&str],
-    written: &[u8],
+    written: &str,
     told: &str,
 ) -> Result<(), Fail> {
-    let left = run(host, arguments, NONE, 128)?;
-    assert_eq!(rt; left.status, REFUSED);
-    assert_eq!(rt; left.written.as_slice(), written);
-    assert!(rt; left.told.starts_with(told.as_bytes()));
+    let wanted = (REFUSED, written, told);
+    expect_run(rt, host, arguments, NONE, told.len(), wanted)?;
     Ok(())
 }
 
@@ -213,14 +265,12 @@ fn expect_file_fault(
 fn refused_files(rt: HostRuntime) -> Result<(), Fail> {
     fs::write(&rt, "program_cut.cedar", "CEDARW")?;
     let cut = "cedar: load: serialized cedar trie is truncated\n";
-    expect_file_fault(&rt, &rt, &["--load", "program_cut.cedar"], b"", cut)?;
+    expect_file_fault(&rt, &rt, &["--load", "program_cut.cedar"], "", cut)?;
     let load = "cedar: load: persistence I/O error: ";
-    expect_file_fault(&rt, &rt, &["--load", "program_missing.cedar"], b"", load)?;
+    expect_file_fault(&rt, &rt, &["--load", "program_missing.cedar"], "", load)?;
     let save = "cedar: save: persistence I/O error: ";
     let place = ["--save", "program_missing/x.cedar"];
-    expect_file_fault(&rt, &rt, &place, ANSWERS.as_bytes(), save)?;
-    assert_eq!(rt; REFUSED, 3);
-    Ok(())
+    expect_file_fault(&rt, &rt, &place, ANSWERS, save)
 }
 
 // The answers to look-ups don't depend on the order of labels.
@@ -234,7 +284,7 @@ fn new_labels_first(rt: HostRuntime) -> Result<(), Fail> {
 #[test]
 fn out_of_slots(rt: HostRuntime) -> Result<(), Fail> {
     let left = run_within::<256>(&rt, &[], NONE, 128)?;
-    expect_left(&rt, &left, FAULT, b"", b"cedar: slot limit\n");
+    expect_left(&rt, &left, FAULT, "", "cedar: slot limit\n");
     Ok(())
 }
 
@@ -292,13 +342,10 @@ fn expect_fault(
     told: &str,
     flushes: u64,
 ) -> Result<(), Fail> {
-    let left = run(host, &[], faults, 128)?;
-    expect_left(rt, &left, 1, written.as_bytes(), told.as_bytes());
-    assert_eq!(rt; left.flushes, flushes);
-    let silenced = run(host, &[], faults, 0)?;
-    expect_left(rt, &silenced, 1, written.as_bytes(), b"");
-    let begun = run(host, &[], faults, 6)?;
-    expect_left(rt, &begun, 1, written.as_bytes(), b"cedar:");
+    let marks = expect_run(rt, host, &[], faults, 128, (1, written, told))?;
+    assert!(rt; marks.flushes == flushes);
+    expect_run(rt, host, &[], faults, 0, (1, written, ""))?;
+    expect_run(rt, host, &[], faults, 6, (1, written, "cedar:"))?;
     Ok(())
 }
 
@@ -315,21 +362,30 @@ fn expect_memory(rt: &impl Abort, host: &HostRuntime, request: u64) -> Result<()
     let faults = Faults { request, ..NONE };
     let left = run(host, &[], faults, 128)?;
     let begun = ANSWERS.as_bytes().starts_with(&left.written);
-    assert_eq!(rt; (left.status, begun), (1, true), "at request {request}");
-    assert_eq!(rt; left.told.as_slice(), b"cedar: out of memory\n".as_slice());
+    assert!(rt;
+        (left.marks.status, begun) == (1, true),
+        "at request {request}"
+    );
+    expect_bytes(rt, &left.told, "cedar: out of memory\n");
+    Ok(())
+}
+
+// The same where the error can't be told.
+fn expect_silence(rt: &impl Abort, host: &HostRuntime, request: u64) -> Result<(), Fail> {
+    let faults = Faults { request, ..NONE };
     let silenced = run(host, &[], faults, 0)?;
-    assert_eq!(rt; silenced.status, 1, "at request {request}");
+    assert!(rt; silenced.marks.status == 1, "at request {request}");
     Ok(())
 }
 
 // Each request refused in turn.
 #[test]
 fn refused_memory(rt: HostRuntime) -> Result<(), Fail> {
-    let whole = run(&rt, &[], NONE, 128)?;
-    assert_eq!(rt; whole.status, 0);
-    assert!(rt; whole.requests > 0);
-    for earlier in 0..whole.requests {
+    let marks = expect_run(&rt, &rt, &[], NONE, 128, (DONE, ANSWERS, ""))?;
+    assert!(&rt; marks.requests > 0);
+    for earlier in 0..marks.requests {
         expect_memory(&rt, &rt, earlier + 1)?;
+        expect_silence(&rt, &rt, earlier + 1)?;
     }
     Ok(())
 }

@@ -1,6 +1,6 @@
-//! The builder, the text forms and the figures.
-use crate::expect::{expect_counts, expect_erased, expect_found, expect_room};
-use cedarwood::{Cedar, CedarBuilder, CedarError};
+//! The builder and the figures.
+use crate::steps::{Step, expect_from_new, expect_steps};
+use cedarwood::{Cedar, CedarBuilder, CedarError, DefaultLayout};
 use std::alloc::Global;
 use std::process::Abort;
 use std::test::Fail;
@@ -8,12 +8,22 @@ use std::test::Fail;
 // So many trials have to be refused.
 fn expect_refused(rt: &impl Abort, value: i32) {
     let wanted = Err(CedarError::InvalidMaxTrial { value });
-    assert_eq!(rt; CedarBuilder::new().max_trial(value), wanted);
+    assert!(rt; CedarBuilder::new().max_trial(value) == wanted);
 }
 
 // Settings are the same or not.
 fn expect_same(rt: &impl Abort, one: CedarBuilder, other: CedarBuilder, is_same: bool) {
-    assert_eq!(rt; one == other, is_same);
+    assert!(rt; (one == other) == is_same);
+}
+
+fn expect_settings(rt: &impl Abort, builder: CedarBuilder) -> Result<(), Fail> {
+    let new = CedarBuilder::new();
+    expect_same(rt, builder, builder.clone()?, true);
+    expect_same(rt, builder, Cedar::<Global>::builder(), false);
+    expect_same(rt, new, new.ordered(false), false);
+    expect_same(rt, new, new.max_trial(2)?, false);
+    expect_same(rt, new, CedarBuilder::default(), true);
+    Ok(())
 }
 
 #[test]
@@ -21,36 +31,33 @@ fn a_builder(rt: HostRuntime) -> Result<(), Fail> {
     expect_refused(&rt, 0);
     expect_refused(&rt, -3);
     let builder = CedarBuilder::new().ordered(false).max_trial(2)?;
-    let new = CedarBuilder::new();
-    expect_same(&rt, builder, builder.clone()?, true);
-    expect_same(&rt, builder, Cedar::<Global>::builder(), false);
-    expect_same(&rt, new, new.ordered(false), false);
-    expect_same(&rt, new, new.max_trial(2)?, false);
-    expect_same(&rt, new, CedarBuilder::default(), true);
+    expect_settings(&rt, builder)?;
     let mut cedar = builder.build(rt.alloc())?;
-    cedar.update("b", 1)?;
-    cedar.update("a", 2)?;
-    expect_found(&rt, &cedar, b"b", Some((1, 1)));
-    assert!(rt; cedar.erase("b"));
-    assert!(rt; !cedar.erase("b"));
-    Ok(())
+    let steps = [
+        Step::Put(b"b", 1),
+        Step::Put(b"a", 2),
+        Step::Predicted(b"", &[(2, 1), (1, 1)]),
+    ];
+    expect_steps(&rt, &mut cedar, &steps)
 }
 
 // A key, its extensions, and what is left of them.
+const FIGURES: [Step; 12] = [
+    Step::Counts(0, 1),
+    Step::Room(256, 0),
+    Step::Put(b"a", 0),
+    Step::Put(b"ab", 1),
+    Step::Put(b"abc", 2),
+    Step::Counts(3, 7),
+    Step::Erased(b"abc", true),
+    Step::Counts(2, 5),
+    Step::Put(b"abc", 2),
+    Step::Erased(b"a", true),
+    Step::Counts(2, 6),
+    Step::Room(512, 0),
+];
+
 #[test]
 fn figures(rt: HostRuntime) -> Result<(), Fail> {
-    let mut cedar = Cedar::new(rt.alloc())?;
-    expect_counts(&rt, &cedar, 0, 1);
-    expect_room(&rt, &cedar, 256, 0);
-    cedar.update("a", 0)?;
-    cedar.update("ab", 1)?;
-    cedar.update("abc", 2)?;
-    expect_counts(&rt, &cedar, 3, 7);
-    expect_erased(&rt, &mut cedar, b"abc", true);
-    expect_counts(&rt, &cedar, 2, 5);
-    cedar.update("abc", 2)?;
-    expect_erased(&rt, &mut cedar, b"a", true);
-    expect_counts(&rt, &cedar, 2, 6);
-    expect_room(&rt, &cedar, 512, 0);
-    Ok(())
+    expect_from_new::<DefaultLayout>(&rt, rt.alloc(), true, &FIGURES)
 }

@@ -2,6 +2,7 @@
 use crate::expect::{expect_counts, expect_found};
 use cedarwood::{Cedar, CedarBuilder, CedarError, ReducedLayout, Trie};
 use std::alloc::Global;
+use std::process::Abort;
 use std::test::Fail;
 use test_devices::Refusing;
 
@@ -28,25 +29,48 @@ fn reduced_texts(rt: HostRuntime) -> Result<(), Fail> {
     Ok(())
 }
 
-// What the first fault of some pairs is, if there is one.
-fn outcome(memory: &Refusing<Global>, pairs: &[(&str, i32)]) -> Result<(), CedarError> {
-    CedarBuilder::new().from_sorted(memory, pairs)?;
-    Ok(())
+const FAULTS: [(&[(&str, i32)], CedarError); 7] = [
+    (
+        &[("b", 1), ("a", -1)],
+        CedarError::InvalidValue { value: -1 },
+    ),
+    (
+        &[("b", 1), ("a", 2)],
+        CedarError::KeysNotSorted { index: 1 },
+    ),
+    (&[("a", 1), ("a", 2)], CedarError::DuplicateKey { index: 1 }),
+    (&[("a", 1), ("", 2)], CedarError::EmptyKey),
+    (
+        &[("a", 1), ("b\0", -2)],
+        CedarError::NulByte { position: 1 },
+    ),
+    (
+        &[("a", 1), ("ab", 2), ("aa", 3), ("", 4)],
+        CedarError::KeysNotSorted { index: 2 },
+    ),
+    (&[("", 1)], CedarError::EmptyKey),
+];
+
+fn expect_fault(
+    rt: &impl Abort,
+    memory: &Refusing<Global>,
+    pairs: &[(&str, i32)],
+    wanted: &CedarError,
+) {
+    match CedarBuilder::new().from_sorted(memory, pairs) {
+        Ok(_) => assert!(rt; false),
+        Err(error) => assert!(rt; error == *wanted),
+    }
 }
 
-// A fault is told before any memory is asked for.
+// The first fault is told, wherever it comes, before any memory is asked for.
 #[test]
 fn faults_before_memory(rt: HostRuntime) -> Result<(), Fail> {
     let memory = Refusing::new(rt.alloc());
     memory.refuse(1, u64::MAX);
-    let cases = [
-        (("b", 1), ("a", 2), CedarError::KeysNotSorted { index: 1 }),
-        (("a", 1), ("a", 2), CedarError::DuplicateKey { index: 1 }),
-        (("a", 1), ("b\0", -2), CedarError::NulByte { position: 1 }),
-    ];
-    for (first, second, error) in cases {
-        assert_eq!(rt; outcome(&memory, &[first, second]), Err(error));
+    for (pairs, error) in &FAULTS {
+        expect_fault(&rt, &memory, pairs, error);
     }
-    assert_eq!(rt; memory.requests(), 0);
+    assert!(&rt; memory.requests() == 0);
     Ok(())
 }

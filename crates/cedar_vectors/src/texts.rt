@@ -1,45 +1,58 @@
 //! The texts of the errors, as a user reads them.
 use cedarwood::CedarError;
+use std::alloc::Global;
+use std::process::Abort;
 use std::test::Fail;
+
+const TEXTS: [(CedarError, &str); 10] = [
+    (CedarError::EmptyKey, "cedar keys must not be empty"),
+    (
+        CedarError::NulByte { position: 0 },
+        "cedar keys must not contain the terminal byte 0x00 (at byte 0)",
+    ),
+    (
+        CedarError::NulByte { position: 1234 },
+        "cedar keys must not contain the terminal byte 0x00 (at byte 1234)",
+    ),
+    (
+        CedarError::InvalidValue { value: -1 },
+        "cedar value -1 is outside the supported range 0..=2147483645",
+    ),
+    (
+        CedarError::InvalidValue { value: 2147483646 },
+        "cedar value 2147483646 is outside the supported range 0..=2147483645",
+    ),
+    (
+        CedarError::InvalidMaxTrial { value: -5 },
+        "max_trial must be greater than zero, got -5",
+    ),
+    (
+        CedarError::DuplicateKey { index: 7 },
+        "duplicate key at sorted input index 7",
+    ),
+    (
+        CedarError::KeysNotSorted { index: 8 },
+        "key at input index 8 is smaller than its predecessor",
+    ),
+    (CedarError::Memory, "out of memory"),
+    (CedarError::SlotLimit, "cedar trie has no slot left"),
+];
+
+fn expect_text(
+    rt: &impl Abort,
+    alloc: Global,
+    error: &CedarError,
+    wanted: &str,
+) -> Result<(), Fail> {
+    let told = format!(in alloc; "{error}")?;
+    assert!(rt; told.as_str() == wanted);
+    Ok(())
+}
 
 #[test]
 fn texts_of_the_errors(rt: HostRuntime) -> Result<(), Fail> {
-    let cases = [
-        (CedarError::EmptyKey, "cedar keys must not be empty"),
-        (
-            CedarError::NulByte { position: 0 },
-            "cedar keys must not contain the terminal byte 0x00 (at byte 0)",
-        ),
-        (
-            CedarError::NulByte { position: 1234 },
-            "cedar keys must not contain the terminal byte 0x00 (at byte 1234)",
-        ),
-        (
-            CedarError::InvalidValue { value: -1 },
-            "cedar value -1 is outside the supported range 0..=2147483645",
-        ),
-        (
-            CedarError::InvalidValue { value: 2147483646 },
-            "cedar value 2147483646 is outside the supported range 0..=2147483645",
-        ),
-        (
-            CedarError::InvalidMaxTrial { value: -5 },
-            "max_trial must be greater than zero, got -5",
-        ),
-        (
-            CedarError::DuplicateKey { index: 7 },
-            "duplicate key at sorted input index 7",
-        ),
-        (
-            CedarError::KeysNotSorted { index: 8 },
-            "key at input index 8 is smaller than its predecessor",
-        ),
-        (CedarError::Memory, "out of memory"),
-        (CedarError::SlotLimit, "cedar trie has no slot left"),
-    ];
-    for (error, text) in &cases {
-        let told = format!(in rt.alloc(); "{error}")?;
-        assert_eq!(rt; told.as_str(), *text);
+    for (error, text) in &TEXTS {
+        expect_text(&rt, rt.alloc(), error, text)?;
     }
     Ok(())
 }

@@ -1,7 +1,8 @@
 //! Texts cut into tokens, in both layouts.
 
 use crate::layouts::{Full, empty, words};
-use cedar_words::segment;
+use crate::steps::{Step, expect_steps};
+use cedar_words::{Segments, segment};
 use cedarwood::{DefaultLayout, Layout, ReducedLayout};
 use std::alloc::Global;
 use std::process::Abort;
@@ -15,7 +16,7 @@ fn expect_tokens<L: Layout>(
     rt: &impl Abort,
 ) -> Result<(), Fail> {
     let found: Vec<(usize, usize, Option<i32>)> = segment(cedar, text).collect(alloc)?;
-    assert_eq!(rt; found.as_slice(), wanted);
+    assert!(rt; found.as_slice() == wanted);
     Ok(())
 }
 
@@ -44,20 +45,32 @@ fn words_of_a_text(rt: HostRuntime) -> Result<(), Fail> {
     expect_words::<ReducedLayout>(&rt, rt.alloc())
 }
 
-// Where a longer key goes on and the text does not, the shorter one is the token. A clone goes on from there, and what has ended stays so.
+// What is left behind the first token, and the end, which stays.
+const LEFT: [Option<(usize, usize, Option<i32>)>; 4] = [
+    Some((1, 1, None)),
+    Some((2, 3, Some(3))),
+    None,
+    None,
+];
+
+fn expect_left<L: Layout>(rt: &impl Abort, mut tokens: Segments<'_, Full<L>>) {
+    for left in LEFT {
+        assert!(rt; tokens.next() == left);
+    }
+    assert!(rt; tokens.size_hint() == (0, Some(0)));
+}
+
+const KEYS: [Step; 2] = [Step::Put(b"a", 1), Step::Put(b"abc", 3)];
+
+// Where a longer key goes on and the text does not, the shorter one is the token. A clone goes on from there.
 fn expect_clones<L: Layout>(rt: &impl Abort, alloc: Global) -> Result<(), Fail> {
     let mut cedar = empty::<L>(alloc)?;
-    cedar.update("a", 1)?;
-    cedar.update("abc", 3)?;
+    expect_steps(rt, &mut cedar, &KEYS)?;
     let mut tokens = segment(&cedar, b"ababc");
-    assert_eq!(rt; tokens.size_hint(), (1, Some(5)));
-    assert_eq!(rt; tokens.next(), Some((0, 1, Some(1))));
-    let mut clone = tokens.clone()?;
-    for left in [Some((1, 1, None)), Some((2, 3, Some(3))), None, None] {
-        assert_eq!(rt; tokens.next(), left);
-        assert_eq!(rt; clone.next(), left);
-    }
-    assert_eq!(rt; tokens.size_hint(), (0, Some(0)));
+    assert!(rt; tokens.size_hint() == (1, Some(5)));
+    assert!(rt; tokens.next() == Some((0, 1, Some(1))));
+    expect_left(rt, tokens.clone()?);
+    expect_left(rt, tokens);
     Ok(())
 }
 

@@ -1,11 +1,11 @@
 -- Where walks that are under way stand in a table.
-use Rattle.std.specs.Prelude.{◌≡◌, ◌==◌, cond, ℕ, ◌+◌, ◌<◌, ◌≤◌, ℤ, List, [], ◌∷◌, length, map}
-use Rattle.cedar_tree.specs.Queries.{Entry, node_at, predict}
-use Rattle.cedar_tree.specs.Walks.{entries_of, visits_left}
-use Rattle.cedar_table.specs.declared.walk.visits.Visited.{Visited}
+use Rattle.std.specs.Prelude.{◌≡◌, ◌==◌, cond, ℕ, ◌<◌, ◌≤◌, ℤ, List, [], ◌∷◌, length, map}
+use Rattle.cedar_tree.specs.Queries.{Entry, predict}
+use Rattle.cedar_tree.specs.Walks.{entries_of}
+use Rattle.cedar_table.specs.declared.walk.visits.Numbered.{Numbered}
 use Rattle.cedar_table.specs.Walk.Fronts.{IsOnQuery}
 use Rattle.cedar_meaning.specs.Table.TableFields.{Fields}
-use Rattle.cedar_table.specs.Walk.Visits.{IsBelow, left_at, path_to}
+use Rattle.cedar_table.specs.Walk.Visits.{IsBelow, IsNumberedBelow, left_at, path_to}
 use Rattle.cedar_meaning.specs.Meaning.WellFormed.{cells_in, IsWellFormed, tree_of}
 use Rattle.cedarwood.specs.declared.queries.predict.PredictPlace.{PredictPlace}
 use Rattle.cedarwood.specs.declared.queries.predict.PredictPlace.TheVariants.{End, Node, Start}
@@ -26,23 +26,16 @@ predicted_from T query Start = predict (tree_of T) query
 predicted_from T query (Node slot depth) = answers_of (entries_of (left_at T query depth slot))
 predicted_from T query End = []
 
--- it stands at a node below its query
+-- it stands at a node with a number below its query
 abbrev pub IsPredictPlace : Fields → List ℕ → PredictPlace → Type 0
 IsPredictPlace T query Start = Unit {0}
-IsPredictPlace T query (Node slot depth) = IsBelow (cells_in T) query depth slot
+IsPredictPlace T query (Node slot depth) = IsNumberedBelow T query depth slot
 IsPredictPlace T query End = Unit {0}
 
--- at most so many nodes are still to come
-abbrev pub nodes_left : Fields → List ℕ → PredictPlace → ℕ
-nodes_left T query Start = length (visits_left (node_at (tree_of T) query) []) + 2
-nodes_left T query (Node slot depth) = length (left_at T query depth slot) + 1
-nodes_left T query End = 0
-
--- from a place the walk comes to a node
-pub record GoesOnTo (T : Fields) (query : List ℕ) (place : PredictPlace) (next : Visited) : Type 0 where
-  pub below : IsBelow (cells_in T) query next.depth next.slot
-  pub rest : predicted_from T query place ≡ answers_of (entries_of ((path_to T next.depth next.slot, next.number) ∷ left_at T query next.depth next.slot))
-  pub fewer : nodes_left T query (Node next.slot next.depth) < nodes_left T query place
+-- from a place the walk comes to a node with a number: its answer is the first of those left
+pub record GoesOnTo (T : Fields) (query : List ℕ) (place : PredictPlace) (next : Numbered) : Type 0 where
+  pub stands : IsPredictPlace T query (Node next.slot next.depth)
+  pub rest : predicted_from T query place ≡ (next.number, next.depth) ∷ predicted_from T query (Node next.slot next.depth)
 
 -- the entries that a walk over all keys has left, where it has been at slot s, at the end of the path `key`, and `left` entries are
 -- still to come

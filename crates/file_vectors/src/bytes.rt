@@ -165,10 +165,7 @@ pub fn expect_loaded<L: Layout>(
     for minor in [0, 1] {
         set(&mut bytes, 10, minor);
         let trie = loaded_as::<L>(alloc, &bytes)?;
-        assert_eq!(rt;
-            (trie.used_node_slots(), trie.exact_match_search("a")),
-            (used, found)
-        );
+        assert!(rt; (trie.used_node_slots(), trie.exact_match_search("a")) == (used, found));
     }
     Ok(())
 }
@@ -177,7 +174,7 @@ pub fn expect_loaded<L: Layout>(
 fn a_new_dictionary(rt: HostRuntime) -> Result<(), Fail> {
     let cedar = Cedar::new(rt.alloc())?;
     let file = empty_file(rt.alloc())?;
-    assert_eq!(rt; file.len(), 3182);
+    assert!(rt; file.len() == 3182);
     expect_saved(&rt, rt.alloc(), &cedar, &file)?;
     expect_loaded::<DefaultLayout>(&rt, rt.alloc(), &file, 1, None)
 }
@@ -187,7 +184,7 @@ fn one_key(rt: HostRuntime) -> Result<(), Fail> {
     let mut cedar = Cedar::new(rt.alloc())?;
     cedar.update("a", 7)?;
     let file = one_key_file(rt.alloc())?;
-    assert_eq!(rt; file.len(), 5762);
+    assert!(rt; file.len() == 5762);
     expect_saved(&rt, rt.alloc(), &cedar, &file)?;
     expect_loaded::<DefaultLayout>(&rt, rt.alloc(), &file, 3, Some((7, 1)))
 }
@@ -201,10 +198,10 @@ fn settings_are_kept(rt: HostRuntime) -> Result<(), Fail> {
         cedar.update(key, value)?;
     }
     let bytes = saved(rt.alloc(), &cedar)?;
-    assert_eq!(&rt; (bytes.get(14), bytes.get(16)), (Some(&0), Some(&3)));
+    assert!(&rt; (bytes.get(14), bytes.get(16)) == (Some(&0), Some(&3)));
     let again = loaded(rt.alloc(), &bytes)?;
     for (key, value) in [("b", 1), ("a", 2), ("c", 3)] {
-        assert_eq!(&rt; again.exact_match_search(key), Some((value, 1)));
+        assert!(&rt; again.exact_match_search(key) == Some((value, 1)));
     }
     assert!(&rt; saved(rt.alloc(), &again)? == bytes);
     Ok(())
@@ -225,7 +222,7 @@ fn many_keys(rt: HostRuntime) -> Result<(), Fail> {
     let bytes = saved(rt.alloc(), &cedar)?;
     let mut again = loaded(rt.alloc(), &bytes)?;
     assert!(&rt; saved(rt.alloc(), &again)? == bytes);
-    assert_eq!(&rt; again.len(), cedar.len());
+    assert!(&rt; again.len() == cedar.len());
     for key in ["x", "xy", "xyz", "longer"] {
         cedar.update(key, 1)?;
         again.update(key, 1)?;
@@ -243,12 +240,12 @@ fn expect_spare(
     long: &[u8],
 ) -> Result<(), Fail> {
     let mut again = loaded(alloc, file)?;
-    assert_eq!(rt; (again.node_capacity(), again.spare_blocks()), (1024, 1));
+    assert!(rt; (again.node_capacity(), again.spare_blocks()) == (1024, 1));
     assert!(rt; saved(alloc, &again)?.as_slice() == short);
     assert!(rt; saved_v1_0(alloc, &again)?.as_slice() == long);
     for label in 1..=255u8 {
         again.update_bytes(&[97, label, 97], 2)?;
-        assert_eq!(rt; again.exact_match_search_bytes(&[97, label]), Some((1, 2)));
+        assert!(rt; again.exact_match_search_bytes(&[97, label]) == Some((1, 2)));
     }
     Ok(())
 }
@@ -262,7 +259,7 @@ fn spare_blocks_are_left_out(rt: HostRuntime) -> Result<(), Fail> {
     }
     let short = saved(rt.alloc(), &cedar)?;
     let long = saved_v1_0(rt.alloc(), &cedar)?;
-    assert_eq!(rt; (short.len(), long.len()), (8342, 10922));
+    assert!(rt; (short.len(), long.len()) == (8342, 10922));
     expect_spare(&rt, rt.alloc(), &short, &short, &long)?;
     expect_spare(&rt, rt.alloc(), &long, &short, &long)
 }

@@ -22,11 +22,8 @@ fn fault(alloc: Global, file: &[u8]) -> Option<(&'static str, usize, &'static st
 #[test]
 fn node_without_children(rt: HostRuntime) -> Result<(), Fail> {
     let mut file = one_key_file(rt.alloc())?;
-    assert_eq!(&rt; fault(rt.alloc(), &file), None);
+    assert!(&rt; fault(rt.alloc(), &file) == None);
     set(&mut file, 865, 0);
-    assert_eq!(&rt;
-        fault(rt.alloc(), &file),
-        Some(("trie", 97, "structural node has no children"))
-    );
+    assert!(&rt; fault(rt.alloc(), &file) == Some(("trie", 97, "structural node has no children")));
     Ok(())
 }

@@ -36,7 +36,7 @@ fn one_key(rt: HostRuntime) -> Result<(), Fail> {
     let mut trie = empty(rt.alloc())?;
     trie.update("a", 7)?;
     let file = one_key_file(rt.alloc())?;
-    assert_eq!(rt; file.len(), 3182);
+    assert!(rt; file.len() == 3182);
     expect_saved(&rt, rt.alloc(), &trie, &file)?;
     expect_loaded::<ReducedLayout>(&rt, rt.alloc(), &file, 2, Some((7, 1)))
 }

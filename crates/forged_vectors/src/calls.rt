@@ -142,7 +142,7 @@ pub fn expect_goes_on(
 
 fn expect_loads_again(rt: &impl Abort, alloc: Global, both: &Beside) -> Result<(), Fail> {
     let bytes = saved(alloc, &both.trie, 1)?;
-    assert_eq!(rt; judged_by_default(alloc, &bytes)?, Verdict::Loads);
+    assert!(rt; judged_by_default(alloc, &bytes)? == Verdict::Loads);
     let again = loaded(alloc, &bytes)?;
     assert!(rt; agree(alloc, &again, &both.tree)?);
     assert!(rt; saved(alloc, &again, 1)? == bytes);

@@ -10,9 +10,8 @@ use std::test::Fail;
 // Loads a file, and says whether it loads: just as the plain test says, and what loads goes on.
 fn expect_judged(rt: &impl Abort, alloc: Global, file: &[u8], at: usize) -> Result<bool, Fail> {
     let answer = loaded(alloc, file);
-    assert_eq!(rt;
-        answered(&answer),
-        judged_by_default(alloc, file)?,
+    assert!(rt;
+        answered(&answer) == judged_by_default(alloc, file)?,
         "at {at}"
     );
     match answer {
@@ -61,7 +60,7 @@ fn new_file_lowest_bits(rt: HostRuntime) -> Result<(), Fail> {
         set(&mut file, 10, minor);
         assert!(&rt; expect_judged(&rt, rt.alloc(), &file, 0)?);
         let places = places_that_load(&rt, rt.alloc(), &mut file, 1, 0..3182)?;
-        assert_eq!(&rt; places.len(), 136);
+        assert!(&rt; places.len() == 136);
         assert!(&rt; places == harmless_places(rt.alloc())?);
     }
     Ok(())

@@ -14,8 +14,8 @@ fn expect_verdict(
     file: &[u8],
     verdict: Verdict,
 ) -> Result<(), Fail> {
-    assert_eq!(rt; judged_by_default(alloc, file)?, verdict);
-    assert_eq!(rt; answered(&loaded(alloc, file)), verdict);
+    assert!(rt; judged_by_default(alloc, file)? == verdict);
+    assert!(rt; answered(&loaded(alloc, file)) == verdict);
     Ok(())
 }
 
@@ -64,7 +64,7 @@ fn full_file(alloc: Global, minor: u64) -> Result<Vec<u8>, Fail> {
 fn head_of_the_full_list(rt: HostRuntime) -> Result<(), Fail> {
     for (minor, len) in [(0, 21242), (1, 13502)] {
         let mut file = full_file(rt.alloc(), minor)?;
-        assert_eq!(&rt; (file.len(), file.get(20)), (len, Some(&2)));
+        assert!(&rt; (file.len(), file.get(20)) == (len, Some(&2)));
         expect_verdict(&rt, rt.alloc(), &file, Verdict::Loads)?;
         set(&mut file, 20, 3);
         expect_verdict(&rt, rt.alloc(), &file, Verdict::Corrupt)?;
@@ -95,11 +95,11 @@ fn first_free_slot_of_a_full_block(rt: HostRuntime) -> Result<(), Fail> {
     expect_verdict(&rt, rt.alloc(), &file, Verdict::Loads)?;
     let mut trie = loaded(rt.alloc(), &file)?;
     assert!(&rt; saved(rt.alloc(), &trie, 0)? == file);
-    assert_eq!(&rt; trie.len(), 512);
+    assert!(&rt; trie.len() == 512);
     for pair in &two_bytes(rt.alloc())? {
         assert!(&rt; trie.erase_bytes(key_of(pair)));
     }
-    assert_eq!(&rt; (trie.len(), trie.used_node_slots()), (0, 1));
+    assert!(&rt; (trie.len(), trie.used_node_slots()) == (0, 1));
     Ok(())
 }
 

@@ -43,15 +43,15 @@ fn loads(rt: HostRuntime) -> Result<(), Fail> {
         ..FileUse::NONE
     };
     let good = load(rt.alloc(), GOOD, 0)?;
-    assert_eq!(&rt; good, ((Verdict::Loads, 0), opened));
+    assert!(&rt; good == ((Verdict::Loads, 0), opened));
     let closed = FilePlan {
         opens: false,
         ..GOOD
     };
-    assert_eq!(&rt; load(rt.alloc(), closed, 0)?, ((Verdict::Io, 0), opened));
+    assert!(&rt; load(rt.alloc(), closed, 0)? == ((Verdict::Io, 0), opened));
     for room in [0, 1, 87, 88, 100, 5761] {
         let short = FilePlan { room, ..GOOD };
-        assert_eq!(&rt; load(rt.alloc(), short, 0)?, ((Verdict::Io, 0), opened));
+        assert!(&rt; load(rt.alloc(), short, 0)? == ((Verdict::Io, 0), opened));
     }
     Ok(())
 }
@@ -61,11 +61,11 @@ fn loads(rt: HostRuntime) -> Result<(), Fail> {
 fn loads_without_memory(rt: HostRuntime) -> Result<(), Fail> {
     for (request, elements) in [(1, 8192), (2, 512), (3, 512), (4, 2), (5, 257)] {
         let (answer, uses) = load(rt.alloc(), GOOD, request)?;
-        assert_eq!(&rt; answer, (Verdict::Memory, elements));
-        assert_eq!(&rt; uses.opened, 1);
+        assert!(&rt; answer == (Verdict::Memory, elements));
+        assert!(&rt; uses.opened == 1);
     }
     let (answer, _) = load(rt.alloc(), GOOD, 6)?;
-    assert_eq!(&rt; answer, (Verdict::Loads, 0));
+    assert!(&rt; answer == (Verdict::Loads, 0));
     Ok(())
 }
 
@@ -111,9 +111,9 @@ fn saves(rt: HostRuntime) -> Result<(), Fail> {
     };
     for minor in [0, 1] {
         let good = save(rt.alloc(), minor, GOOD, 0)?;
-        assert_eq!(&rt; good, ((Verdict::Loads, 0), whole));
+        assert!(&rt; good == ((Verdict::Loads, 0), whole));
         let lost = save(rt.alloc(), minor, unflushed, 0)?;
-        assert_eq!(&rt; lost, ((Verdict::Io, 0), whole));
+        assert!(&rt; lost == ((Verdict::Io, 0), whole));
     }
     Ok(())
 }
@@ -125,11 +125,8 @@ fn expect_fault(
     written: usize,
 ) -> Result<(), Fail> {
     let (answer, uses) = save(alloc, 1, plan, 0)?;
-    assert_eq!(rt; answer, (Verdict::Io, 0));
-    assert_eq!(rt;
-        (uses.made, uses.written, uses.as_expected),
-        (1, written, true)
-    );
+    assert!(rt; answer == (Verdict::Io, 0));
+    assert!(rt; (uses.made, uses.written, uses.as_expected) == (1, written, true));
     Ok(())
 }
 
@@ -145,8 +142,8 @@ fn saves_that_fail(rt: HostRuntime) -> Result<(), Fail> {
     }
     for minor in [0, 1] {
         let (answer, uses) = save(rt.alloc(), minor, GOOD, 1)?;
-        assert_eq!(&rt; answer, (Verdict::Memory, 8192));
-        assert_eq!(&rt; (uses.made, uses.written), (1, 0));
+        assert!(&rt; answer == (Verdict::Memory, 8192));
+        assert!(&rt; (uses.made, uses.written) == (1, 0));
     }
     Ok(())
 }

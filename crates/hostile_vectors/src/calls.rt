@@ -22,7 +22,7 @@ fn chain(alloc: Global) -> Result<Cedar<Global>, CedarError> {
 }
 
 fn expect_pairs(rt: &impl Abort, found: &[(i32, usize)], wanted: [(i32, usize); 2]) {
-    assert_eq!(rt; found, wanted.as_slice());
+    assert!(rt; found == wanted.as_slice());
 }
 
 #[test]
@@ -35,7 +35,7 @@ fn walks_and_longest(rt: HostRuntime) -> Result<(), Fail> {
         .collect(rt.alloc())?;
     expect_pairs(&rt, &below, [(2, 0), (3, 1)]);
     let longest = (cedar.longest_prefix(b"abx"), cedar.longest_prefix(b"x"));
-    assert_eq!(rt; longest, (Some((2, 1)), None));
+    assert!(rt; longest == (Some((2, 1)), None));
     Ok(())
 }
 
@@ -58,9 +58,9 @@ fn expect_counted<C: Ledger, D: Ledger>(
     let mut reader = Watched::new(file.as_slice());
     let cedar = Cedar::load_counted(alloc, &mut reader, DEFAULT_LOAD_MEMORY_LIMIT, asked, reads)?;
     let mut walk = cedar.common_prefix_iter_bytes(b"abx");
-    assert_eq!(rt; walk.next_counted(reads), Some((1, 0)));
-    assert_eq!(rt; walk.next_counted(reads), Some((2, 1)));
-    assert_eq!(rt; walk.next_counted(reads), None);
+    assert!(rt; walk.next_counted(reads) == Some((1, 0)));
+    assert!(rt; walk.next_counted(reads) == Some((2, 1)));
+    assert!(rt; walk.next_counted(reads) == None);
     Ok(())
 }
 
@@ -88,7 +88,7 @@ fn numbers_of_a_file(rt: HostRuntime) -> Result<(), Fail> {
         v1::read_i32(&mut reader)?,
         v1::read_usize(&mut reader, "size")?,
     );
-    assert_eq!(rt; read, (-2, -3, 4));
+    assert!(rt; read == (-2, -3, 4));
     assert!(rt;
         matches!(
             v1::read_u8(&mut reader),
@@ -107,7 +107,7 @@ fn unsigned_numbers_of_a_file(rt: HostRuntime) -> Result<(), Fail> {
         v1::read_u16(&mut left)?,
         v1::read_u64(&mut left)?,
     );
-    assert_eq!(rt; read, (1, 0x0302, 0x8000_0000_0000_0004));
+    assert!(rt; read == (1, 0x0302, 0x8000_0000_0000_0004));
     assert!(rt;
         matches!(
             v1::read_u8(&mut left),
@@ -134,9 +134,9 @@ fn fields_of_a_file(rt: HostRuntime) -> Result<(), Fail> {
         1073741824,
         DEFAULT_LOAD_MEMORY_LIMIT,
     )?;
-    assert_eq!(rt; decoded.header, header);
-    assert_eq!(rt; decoded.nodes.len(), header.capacity);
-    assert_eq!(rt; decoded.reject.len(), 257);
+    assert!(rt; decoded.header == header);
+    assert!(rt; decoded.nodes.len() == header.capacity);
+    assert!(rt; decoded.reject.len() == 257);
     let mut room: Vec<u8> = Vec::new(rt.alloc());
     v1::reserve_exact(&mut room, 5)?;
     assert!(rt; room.capacity() >= 5);

@@ -13,9 +13,9 @@ fn fill<L: Layout, const SLOTS: usize>(
     trie: &mut Trie<L, SLOTS, Global>,
 ) -> usize {
     for byte in 0..255u8 {
-        assert_eq!(rt; trie.update_bytes(&[byte + 1], 1), Ok(()));
+        assert!(rt; trie.update_bytes(&[byte + 1], 1) == Ok(()));
     }
-    assert_eq!(rt; (trie.len(), trie.spare_blocks()), (255, 0));
+    assert!(rt; (trie.len(), trie.spare_blocks()) == (255, 0));
     trie.used_node_slots()
 }
 
@@ -36,18 +36,18 @@ fn expect_full<L: Layout, const SLOTS: usize>(
 {
     let mut trie = Trie::<L, SLOTS, Global>::with(alloc, CedarBuilder::new().ordered(ordered))?;
     for _ in 0..2 {
-        assert_eq!(rt; fill(rt, &mut trie), used);
-        assert_eq!(rt; first_count(&saved(alloc, &trie)?, SLOTS), Some(1));
-        assert_eq!(rt; trie.update_bytes(&[1, 1], 2), Err(CedarError::SlotLimit));
-        assert_eq!(rt; (trie.len(), trie.used_node_slots()), (255, used));
+        assert!(rt; fill(rt, &mut trie) == used);
+        assert!(rt; first_count(&saved(alloc, &trie)?, SLOTS) == Some(1));
+        assert!(rt; trie.update_bytes(&[1, 1], 2) == Err(CedarError::SlotLimit));
+        assert!(rt; (trie.len(), trie.used_node_slots()) == (255, used));
         assert!(rt; loads_again(alloc, &trie)?);
-        assert_eq!(rt; trie.update_bytes(&[2], 9), Ok(()));
-        assert_eq!(rt; trie.exact_match_search_bytes(&[2]), Some((9, 1)));
+        assert!(rt; trie.update_bytes(&[2], 9) == Ok(()));
+        assert!(rt; trie.exact_match_search_bytes(&[2]) == Some((9, 1)));
         for byte in 0..255u8 {
             assert!(rt; trie.erase_bytes(&[255 - byte]));
             assert!(rt; loads_again(alloc, &trie)?);
         }
-        assert_eq!(rt; (trie.len(), trie.used_node_slots()), (0, 1));
+        assert!(rt; (trie.len(), trie.used_node_slots()) == (0, 1));
     }
     Ok(())
 }

@@ -77,13 +77,13 @@ fn refuse_each<L: Layout>(rt: &impl Abort, alloc: Global) -> Result<(), Fail> {
     for ending in [Ending::Quiet, Ending::UnexpectedEof] {
         for (request, elements) in [(1, 512), (2, 512), (3, 2), (4, 257)] {
             let answer = load::<L>(alloc, &file, len, ending, request)?;
-            assert_eq!(rt; answer, (Loaded::Lacks(elements), request));
+            assert!(rt; answer == (Loaded::Lacks(elements), request));
         }
         let answer = load::<L>(alloc, &file, len, ending, 5)?;
-        assert_eq!(rt; answer, (Loaded::Same, 4));
+        assert!(rt; answer == (Loaded::Same, 4));
     }
     let answer = load::<L>(alloc, &file, len, Ending::Fault, 0)?;
-    assert_eq!(rt; answer, (Loaded::Io, 4));
+    assert!(rt; answer == (Loaded::Io, 4));
     Ok(())
 }
 
@@ -104,7 +104,7 @@ fn cut_each<L: Layout>(rt: &impl Abort, alloc: Global) -> Result<(), Fail> {
             (Ending::Fault, Loaded::Io),
         ] {
             let loaded = load::<L>(alloc, &file, comes, ending, 0)?;
-            assert_eq!(rt; loaded, (answer, requests), "at {comes}");
+            assert!(rt; loaded == (answer, requests), "at {comes}");
         }
     }
     Ok(())
@@ -132,15 +132,15 @@ fn large_header(alloc: Global) -> Result<Vec<u8>, AllocError> {
 fn refusals_before_memory(rt: HostRuntime) -> Result<(), Fail> {
     let header = large_header(rt.alloc())?;
     let answer = load::<DefaultLayout>(rt.alloc(), &header, 88, Ending::Quiet, 1)?;
-    assert_eq!(&rt; answer, (Loaded::Limit(21646808580), 0));
+    assert!(&rt; answer == (Loaded::Limit(21646808580), 0));
     let file = file_of::<DefaultLayout>(rt.alloc())?;
     let memory = Refusing::new(rt.alloc());
     memory.refuse(1, 1);
     let mut reader = Watched::new(file.as_slice());
     match Trie::<DefaultLayout, 256, &Refusing<Global>>::load_from_reader(&memory, &mut reader) {
         Ok(_) => assert!(&rt; false),
-        Err(error) => assert_eq!(&rt; refusal(&error), Loaded::Header("capacity", 512)),
+        Err(error) => assert!(&rt; refusal(&error) == Loaded::Header("capacity", 512)),
     }
-    assert_eq!(&rt; memory.requests(), 0);
+    assert!(&rt; memory.requests() == 0);
     Ok(())
 }

@@ -40,7 +40,7 @@ type Pairs = Result<Vec<(i32, usize)>, CedarError>;
 
 fn expect_pairs(rt: &impl Abort, found: Pairs, wanted: [(i32, usize); 2]) -> Result<(), Fail> {
     let found = found?;
-    assert_eq!(rt; found.as_slice(), wanted.as_slice());
+    assert!(rt; found.as_slice() == wanted.as_slice());
     Ok(())
 }
 
@@ -60,7 +60,7 @@ fn expect_entries<L: Layout>(
 fn expect_text<L: Layout>(rt: &impl Abort, trie: &Full<L, Global>) -> Result<(), Fail> {
     let mut texts = trie.entries_str()?;
     let (text, _) = texts.next().ok_or("an entry")??;
-    assert_eq!(rt; text.len(), HALF);
+    assert!(rt; text.len() == HALF);
     Ok(())
 }
 
@@ -70,14 +70,14 @@ fn expect_found<L: Layout>(
     trie: &Full<L, Global>,
     key: &[u8],
 ) -> Result<(), Fail> {
-    assert_eq!(rt; trie.exact_match_search_bytes(key), Some((2, LEN)));
-    assert_eq!(rt; trie.longest_prefix(half(key)), Some((1, HALF - 1)));
+    assert!(rt; trie.exact_match_search_bytes(key) == Some((2, LEN)));
+    assert!(rt; trie.longest_prefix(half(key)) == Some((1, HALF - 1)));
     let fronts = trie.common_prefix_search_bytes(key);
     expect_pairs(rt, fronts, [(1, HALF - 1), (2, LEN - 1)])?;
     let below = trie.common_prefix_predict_bytes(half(key));
     expect_pairs(rt, below, [(1, 0), (2, HALF)])?;
     let tokens: Vec<(usize, usize, Option<i32>)> = segment(trie, key).collect(alloc)?;
-    assert_eq!(rt; tokens.as_slice(), [(0, LEN, Some(2))].as_slice());
+    assert!(rt; tokens.as_slice() == [(0, LEN, Some(2))].as_slice());
     expect_entries(rt, trie, key)?;
     expect_text(rt, trie)
 }
@@ -89,13 +89,13 @@ fn expect_changes<L: Layout>(
     key: &[u8],
 ) -> Result<(), Fail> {
     assert!(rt; trie.erase_bytes(half(key)) && trie.erase_bytes(key) && !trie.erase_bytes(key));
-    assert_eq!(rt; trie.used_node_slots(), 1);
-    assert_eq!(rt; trie.insert_bytes(key, 3), Ok(None));
-    assert_eq!(rt; trie.update_bytes(key, 4), Ok(()));
-    assert_eq!(rt; trie.build_bytes(&[(half(key), 1), (key, 5)]), Ok(()));
-    assert_eq!(rt; trie.insert_bytes(key, 6), Ok(Some(5)));
+    assert!(rt; trie.used_node_slots() == 1);
+    assert!(rt; trie.insert_bytes(key, 3) == Ok(None));
+    assert!(rt; trie.update_bytes(key, 4) == Ok(()));
+    assert!(rt; trie.build_bytes(&[(half(key), 1), (key, 5)]) == Ok(()));
+    assert!(rt; trie.insert_bytes(key, 6) == Ok(Some(5)));
     assert!(rt; trie.erase_bytes(key));
-    assert_eq!(rt; trie.update_bytes(key, 2), Ok(()));
+    assert!(rt; trie.update_bytes(key, 2) == Ok(()));
     Ok(())
 }
 
@@ -147,7 +147,7 @@ fn expect_files<L: Layout>(
 fn expect_each_call<L: Layout>(rt: &impl Abort, alloc: Global, used: usize) -> Result<(), Fail> {
     let key = long_key(alloc)?;
     let mut trie = begun::<L>(alloc, &key)?;
-    assert_eq!(rt; (trie.len(), trie.used_node_slots()), (2, used));
+    assert!(rt; (trie.len(), trie.used_node_slots()) == (2, used));
     expect_found(rt, alloc, &trie, &key)?;
     expect_files(rt, alloc, &trie, &key)?;
     expect_changes(rt, &mut trie, &key)?;
@@ -182,13 +182,10 @@ fn expect_script<L: Layout>(rt: &impl Abort, alloc: Global) -> Result<(), Fail> 
     let mut trie = Full::<L, Global>::with(alloc, CedarBuilder::new())?;
     let mut reader = Watched::new(script.as_slice());
     let mut writer = Watched::new(Vec::new(alloc));
-    assert_eq!(rt;
-        run_script(alloc, &mut trie, &mut reader, &mut writer),
-        Ok(())
-    );
+    assert!(rt; run_script(alloc, &mut trie, &mut reader, &mut writer) == Ok(()));
     let answers = b"ok\nok\n2 1000000\n1:0 2:999999\n2:0\n0:1000000:2\nerased\nabsent\n";
-    assert_eq!(rt; writer.into_inner().as_slice(), answers.as_slice());
-    assert_eq!(rt; trie.len(), 1);
+    assert!(rt; writer.into_inner().as_slice() == answers.as_slice());
+    assert!(rt; trie.len() == 1);
     Ok(())
 }
 

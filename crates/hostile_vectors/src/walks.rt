@@ -24,15 +24,12 @@ fn walk_bytes<L: Layout>(rt: &impl Abort, trie: &Tested<'_, L>) -> Result<usize,
     let mut entries = trie.entries()?;
     for (given, wanted) in KEYS.iter().enumerate() {
         let left = 3usize.wrapping_sub(given);
-        assert_eq!(rt;
-            (entries.len(), entries.size_hint()),
-            (left, (0, Some(left)))
-        );
+        assert!(rt; (entries.len(), entries.size_hint()) == (left, (0, Some(left))));
         match entries.next() {
-            Some(Ok((key, _))) => assert_eq!(rt; key.as_slice(), wanted.as_bytes()),
+            Some(Ok((key, _))) => assert!(rt; key.as_slice() == wanted.as_bytes()),
             other => {
                 assert!(rt; matches!(other, Some(Err(CedarError::Memory))));
-                assert_eq!(rt; entries.len(), 0);
+                assert!(rt; entries.len() == 0);
                 assert!(rt; entries.next().is_none() && entries.next().is_none());
                 return Ok(given);
             }
@@ -45,12 +42,12 @@ fn walk_bytes<L: Layout>(rt: &impl Abort, trie: &Tested<'_, L>) -> Result<usize,
 fn walk_texts<L: Layout>(rt: &impl Abort, trie: &Tested<'_, L>) -> Result<usize, CedarError> {
     let mut entries = trie.entries_str()?;
     for (given, wanted) in KEYS.iter().enumerate() {
-        assert_eq!(rt; entries.size_hint(), (0, Some(3usize.wrapping_sub(given))));
+        assert!(rt; entries.size_hint() == (0, Some(3usize.wrapping_sub(given))));
         match entries.next() {
-            Some(Ok((key, _))) => assert_eq!(rt; key.as_str(), *wanted),
+            Some(Ok((key, _))) => assert!(rt; key.as_str() == *wanted),
             other => {
                 assert!(rt; matches!(other, Some(Err(EntryError::Memory))));
-                assert_eq!(rt; entries.size_hint(), (0, Some(0)));
+                assert!(rt; entries.size_hint() == (0, Some(0)));
                 assert!(rt; entries.next().is_none() && entries.next().is_none());
                 return Ok(given);
             }
@@ -66,12 +63,15 @@ fn expect_ends<L: Layout>(rt: &impl Abort, alloc: Global, request: u64) -> Resul
     let trie = begun::<L>(&memory)?;
     memory.refuse(request, request);
     let given = walk_bytes(rt, &trie).unwrap_or(0);
-    assert_eq!(rt; given < 3, memory.requests() >= request, "at {request}");
+    assert!(rt;
+        (given < 3) == (memory.requests() >= request),
+        "at {request}"
+    );
     memory.refuse(request, request);
     let texts = walk_texts(rt, &trie).unwrap_or(0);
-    assert_eq!(rt; texts, given, "at {request}");
+    assert!(rt; texts == given, "at {request}");
     memory.refuse_none();
-    assert_eq!(rt; walk_bytes(rt, &trie), Ok(3), "at {request}");
+    assert!(rt; walk_bytes(rt, &trie) == Ok(3), "at {request}");
     Ok(given)
 }
 
@@ -83,7 +83,7 @@ fn refuse_each<L: Layout>(rt: &impl Abort, alloc: Global) -> Result<(), Fail> {
             *front = true;
         }
     }
-    assert_eq!(rt; fronts, [true; 4]);
+    assert!(rt; fronts == [true; 4]);
     Ok(())
 }
 

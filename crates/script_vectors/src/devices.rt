@@ -9,7 +9,7 @@ use test_devices::Ending;
 
 // What the first rows leave has to be held, and these of the reader and the writer to have failed.
 fn expect_left(rt: &impl Abort, ended: &Ended, rows: usize, failed: (bool, bool)) {
-    assert_eq!(rt; (ended.held, ended.failed), (held_after(rows), failed));
+    assert!(rt; (ended.held, ended.failed) == (held_after(rows), failed));
 }
 
 // The dictionary and the answers don't depend on how many bytes a call moves.

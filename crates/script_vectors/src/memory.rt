@@ -73,7 +73,7 @@ fn expect_resumed(rt: &impl Abort, alloc: Global, request: u64) -> Result<(), Fa
     expect_ended(rt, &left.first, Err(ScriptError::Memory), &written);
     assert!(rt; left.is_left_as_finished, "at request {request}");
     written.extend_from_slice(&left.second.written)?;
-    assert_eq!(rt; left.second.outcome, Ok(()), "at request {request}");
+    assert!(rt; left.second.outcome == Ok(()), "at request {request}");
     assert!(rt;
         written == answers(alloc, ROWS.len())?,
         "at request {request}"
@@ -86,7 +86,7 @@ fn expect_resumed(rt: &impl Abort, alloc: Global, request: u64) -> Result<(), Fa
 fn a_script(rt: HostRuntime) -> Result<(), Fail> {
     let whole = run_refused(rt.alloc(), 0)?;
     assert!(rt; whole.requests > 0);
-    assert_eq!(rt; whole.first.outcome, Ok(()));
+    assert!(rt; whole.first.outcome == Ok(()));
     for earlier in 0..whole.requests {
         expect_resumed(&rt, rt.alloc(), earlier + 1)?;
     }

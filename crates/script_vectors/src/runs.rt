@@ -182,8 +182,8 @@ pub(crate) fn expect_ended(
     outcome: Result<(), ScriptError>,
     written: &[u8],
 ) {
-    assert_eq!(rt; ended.outcome, outcome);
-    assert_eq!(rt; ended.written.as_slice(), written);
+    assert!(rt; ended.outcome == outcome);
+    assert!(rt; ended.written.as_slice() == written);
 }
 
 /// Each script has to end well, and with its answers.

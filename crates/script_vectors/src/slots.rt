@@ -34,8 +34,8 @@ fn expect_left<L: Layout, const SLOTS: usize>(
         Err(ScriptError::SlotLimit),
         left.written.as_bytes(),
     );
-    assert_eq!(rt; (ended.held, ended.failed), (left.held, (false, false)));
-    assert_eq!(rt; (trie.len(), trie.used_node_slots()), left.figures);
+    assert!(rt; (ended.held, ended.failed) == (left.held, (false, false)));
+    assert!(rt; (trie.len(), trie.used_node_slots()) == left.figures);
     Ok(())
 }
 

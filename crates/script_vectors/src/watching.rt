@@ -16,8 +16,8 @@ fn expect_read<R: Read>(
     failed: bool,
 ) {
     let mut buf = [0u8; 4];
-    assert_eq!(rt; reader.read(&mut buf).ok(), wanted);
-    assert_eq!(rt; reader.failed(), failed);
+    assert!(rt; reader.read(&mut buf).ok() == wanted);
+    assert!(rt; reader.failed() == failed);
 }
 
 // A reader is remembered as failed from its first fault on; the end of the input is none.
@@ -43,8 +43,8 @@ fn expect_write<W: Write>(
     wanted: Option<usize>,
     failed: bool,
 ) {
-    assert_eq!(rt; writer.write(bytes).ok(), wanted);
-    assert_eq!(rt; writer.failed(), failed);
+    assert!(rt; writer.write(bytes).ok() == wanted);
+    assert!(rt; writer.failed() == failed);
 }
 
 // A write of no bytes is no fault, and one that takes none of some bytes is.
@@ -59,15 +59,15 @@ fn a_writer(rt: HostRuntime) {
         expect_write(&rt, &mut writer, b"", Some(0), false);
         expect_write(&rt, &mut writer, b"d", last, true);
         expect_write(&rt, &mut writer, b"", Some(0), true);
-        assert_eq!(rt; writer.into_inner().len(), 3);
-        assert_eq!(rt; kept, *b"abc");
+        assert!(rt; writer.into_inner().len() == 3);
+        assert!(rt; kept == *b"abc");
     }
 }
 
 // A flush has to succeed or not, and the writer to have failed or not.
 fn expect_flush<W: Write>(rt: &impl Abort, writer: &mut Watched<W>, is_ok: bool, failed: bool) {
-    assert_eq!(rt; writer.flush().is_ok(), is_ok);
-    assert_eq!(rt; writer.failed(), failed);
+    assert!(rt; writer.flush().is_ok() == is_ok);
+    assert!(rt; writer.failed() == failed);
 }
 
 // A flush is passed on, and its fault remembered.
@@ -79,7 +79,7 @@ fn a_flush(rt: HostRuntime) {
     expect_flush(&rt, &mut writer, true, false);
     expect_flush(&rt, &mut writer, false, true);
     expect_flush(&rt, &mut writer, true, true);
-    assert_eq!(rt; writer.into_inner().flushes(), 3);
+    assert!(rt; writer.into_inner().flushes() == 3);
 }
 
 // What a script leaves whose flush of one number fails, where the reader gives a byte a read.
@@ -120,9 +120,9 @@ fn run_unflushed(alloc: Global, script: &[u8], flush: u64) -> Result<Unflushed, 
 // A run has to have ended at the failed flush, after so many, and to have written this, with more to read or not.
 fn expect_left(rt: &impl Abort, left: &Unflushed, flushes: u64, written: &[u8], has_more: bool) {
     let devices = (left.failed, left.flushes, left.has_more_to_read);
-    assert_eq!(rt; left.outcome, Err(ScriptError::Write));
-    assert_eq!(rt; devices, ((false, true), flushes, has_more));
-    assert_eq!(rt; left.written.as_slice(), written);
+    assert!(rt; left.outcome == Err(ScriptError::Write));
+    assert!(rt; devices == ((false, true), flushes, has_more));
+    assert!(rt; left.written.as_slice() == written);
 }
 
 // A script flushes before each read: the bytes of the reads before the failed flush have come, and no more.

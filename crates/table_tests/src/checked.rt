@@ -91,7 +91,7 @@ fn set_info<C: Ledger>(
 fn is_sound<C: Ledger>(rt: &impl Abort, table: &Small, ticks: &mut Ticks<C>)
     requires { IsTable 1024 (fields table.now).places }
 {
-    assert_eq!(rt; fault(table, ticks), None);
+    assert!(rt; fault(table, ticks) == None);
 }
 
 /// The table has to have this fault.
@@ -103,7 +103,7 @@ fn is_faulty<C: Ledger>(
 )
     requires { IsTable 1024 (fields table.now).places }
 {
-    assert_eq!(rt; fault(table, ticks), Some(wanted));
+    assert!(rt; fault(table, ticks) == Some(wanted));
 }
 
 fn each_update<C: Ledger>(rt: &impl Abort, alloc: Global, blank: Blank) -> Result<(), Fail>
@@ -236,14 +236,11 @@ fn each_chain<C: Ledger>(rt: &impl Abort, alloc: Global, blank: Blank) -> Result
 {
     let ticks = &mut Ticks::<C>::new(blank);
     let mut table = table_of(alloc, false, &[b"b", b"a"])?;
-    assert_eq!(rt; table.sibling(0), 97);
+    assert!(rt; table.sibling(0) == 97);
     is_sound(rt, &table, ticks);
     set_info(rt, &mut table, 98, 97, 0, ticks);
     let (section, _, reason) = fault(&table, ticks).unwrap_or_default();
-    assert_eq!(rt;
-        (section, reason),
-        ("siblings", "sibling chain contains a cycle")
-    );
+    assert!(rt; (section, reason) == ("siblings", "sibling chain contains a cycle"));
     let mut table = table_of(alloc, true, &[b"b", b"a"])?;
     let unsorted = ("siblings", 0, "ordered sibling chain is not sorted");
     set_info(rt, &mut table, 98, 97, 0, ticks);

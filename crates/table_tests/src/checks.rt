@@ -157,11 +157,14 @@ fn each_change<C: Ledger>(
     alloc: Global,
     ticks: &mut Ticks<C>,
 ) -> Result<(), Fail> {
-    assert_eq!(rt; section(parts_of(table, alloc)?, ticks), "ok");
+    assert!(rt; section(parts_of(table, alloc)?, ticks) == "ok");
     for (field, index, value, wanted) in rows {
         let mut parts = parts_of(table, alloc)?;
         set(&mut parts, *field, *index, *value);
-        assert_eq!(rt; section(parts, ticks), *wanted, "{field:?} {index} {value}");
+        assert!(rt;
+            section(parts, ticks) == *wanted,
+            "{field:?} {index} {value}"
+        );
     }
     Ok(())
 }

@@ -18,7 +18,7 @@ fn heads_are<const SLOTS: usize>(
     table: &Table<DefaultLayout, SLOTS, Global>,
     wanted: (i32, i32, i32),
 ) {
-    assert_eq!(rt; heads(table), wanted);
+    assert!(rt; heads(table) == wanted);
 }
 
 /// A block's record has to have these fields.
@@ -28,7 +28,7 @@ fn block_is<const SLOTS: usize>(
     number: usize,
     wanted: (i32, i32, i16, i16, i32, i32),
 ) {
-    assert_eq!(rt; block(table, number), Some(wanted));
+    assert!(rt; block(table, number) == Some(wanted));
 }
 
 /// A slot's node record has to have these fields.
@@ -39,7 +39,7 @@ fn node_is<const SLOTS: usize, C: Ledger>(
     wanted: (i32, i32),
     ticks: &mut Ticks<C>,
 ) {
-    assert_eq!(rt; node(table, slot, ticks), Some(wanted));
+    assert!(rt; node(table, slot, ticks) == Some(wanted));
 }
 
 /// There have to be so many slots, in use or not, and held, and so many blocks to spare.
@@ -57,7 +57,7 @@ fn room_is<const SLOTS: usize>(
         table.used_node_slots(),
         table.spare_blocks(),
     );
-    assert_eq!(rt; found, (capacity, held, spare));
+    assert!(rt; found == (capacity, held, spare));
 }
 
 /// Labels have to find their places from this base on.
@@ -72,7 +72,7 @@ fn finds<const SLOTS: usize>(
     requires few { length labels.now ≤ 256 }
     ensures { IsTable SLOTS (fields table.new).places }
 {
-    assert_eq!(rt; table.find_places(labels), Ok(base));
+    assert!(rt; table.find_places(labels) == Ok(base));
 }
 
 fn each_list<C: Ledger>(rt: &impl Abort, alloc: Global, blank: Blank) -> Result<(), Fail>
@@ -88,7 +88,7 @@ fn each_list<C: Ledger>(rt: &impl Abort, alloc: Global, blank: Blank) -> Result<
     take_one(&mut table)?;
     heads_are(rt, &table, (1, 0, 0));
     block_is(rt, &table, 0, (1, 1, 256, 257, 0, 1));
-    assert_eq!(rt; take_one(&mut table)?, 512);
+    assert!(rt; take_one(&mut table)? == 512);
     heads_are(rt, &table, (1, 0, 2));
     take_some(&mut table, 255)?;
     heads_are(rt, &table, (2, 0, 0));
@@ -136,11 +136,11 @@ fn block_of_root<C: Ledger>(rt: &impl Abort, alloc: Global, blank: Blank) -> Res
 {
     let ticks = &mut Ticks::<C>::new(blank);
     let mut table = Table::<DefaultLayout, 1024, Global>::new(alloc, true, 1)?;
-    assert_eq!(rt; fill_first(&mut table, ticks), 255);
-    assert_eq!(rt; table.used_node_slots(), 256);
+    assert!(rt; fill_first(&mut table, ticks) == 255);
+    assert!(rt; table.used_node_slots() == 256);
     heads_are(rt, &table, (0, 0, 0));
     let (prev, next, num, reject, trial, _) = block(&table, 0).unwrap_or_default();
-    assert_eq!(rt; (prev, next, num, reject, trial), (0, 0, 1, 257, 0));
+    assert!(rt; (prev, next, num, reject, trial) == (0, 0, 1, 257, 0));
     gives(rt, &mut table, 7, ticks);
     node_is(rt, &table, 7, (-7, -7), ticks);
     block_is(rt, &table, 0, (0, 0, 2, 257, 0, 7));
@@ -175,7 +175,7 @@ fn places_for_several<C: Ledger>(rt: &impl Abort, alloc: Global, blank: Blank) -
     finds(rt, &mut table, &[1, 2, 255], 512 ^ 1);
     heads_are(rt, &table, (0, 1, 2));
     block_is(rt, &table, 1, (1, 1, 3, 3, 1, 509));
-    assert_eq!(rt; table.reject(3), 3);
+    assert!(rt; table.reject(3) == 3);
     gives(rt, &mut table, 256, ticks);
     heads_are(rt, &table, (0, 0, 1));
     block_is(rt, &table, 1, (2, 2, 4, 5, 0, 509));

@@ -20,7 +20,7 @@ fn adds(rt: &impl Abort, table: &mut Refused<'_>, wanted: Result<usize, CedarErr
     requires { IsTable 1024 (fields table.old).places }
     ensures { IsTable 1024 (fields table.new).places }
 {
-    assert_eq!(rt; table.add_block(), wanted);
+    assert!(rt; table.add_block() == wanted);
 }
 
 /// A growth of which one request is refused leaves every field as it was.
@@ -38,7 +38,7 @@ fn one_request<C: Ledger>(
     let before = all_fields(table, alloc, ticks)?;
     memory.refuse(request, request);
     adds(rt, table, Err(CedarError::Memory));
-    assert_eq!(rt; memory.requests(), request);
+    assert!(rt; memory.requests() == request);
     memory.refuse_none();
     let after = all_fields(table, alloc, ticks)?;
     assert!(rt; after == before);
@@ -50,13 +50,13 @@ fn up_to_the_limit(rt: &impl Abort, memory: &Refusing<Global>, table: &mut Refus
     requires { IsTable 1024 (fields table.old).places }
 {
     adds(rt, table, Ok(1));
-    assert_eq!(rt; table.find_place(), Ok(256));
+    assert!(rt; table.find_place() == Ok(256));
     adds(rt, table, Ok(2));
-    assert_eq!(rt; (table.size(), table.capacity()), (768, 1024));
+    assert!(rt; (table.size(), table.capacity()) == (768, 1024));
     memory.refuse(1, u64::MAX);
     adds(rt, table, Ok(3));
     adds(rt, table, Err(CedarError::SlotLimit));
-    assert_eq!(rt; memory.requests(), 0);
+    assert!(rt; memory.requests() == 0);
     memory.refuse_none();
 }
 

@@ -130,7 +130,7 @@ fn beside_a_set<C: Ledger>(rt: &impl Abort, alloc: Global, blank: Blank) -> Resu
         }
     }
     assert!(rt; agree(&table, &held, ticks));
-    assert_eq!(rt; table.size(), 4096);
+    assert!(rt; table.size() == 4096);
     Ok(())
 }
 

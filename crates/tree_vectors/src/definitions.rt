@@ -26,7 +26,7 @@ fn expect_front(
     expected: &[(i32, usize)],
 ) -> Result<(), AllocError> {
     let found = tree.front(alloc, query)?;
-    assert_eq!(rt; found.as_slice(), expected, "fronts of {query:?}");
+    assert!(rt; found.as_slice() == expected, "fronts of {query:?}");
     Ok(())
 }
 
@@ -39,7 +39,7 @@ fn expect_predict(
     expected: &[(i32, usize)],
 ) -> Result<(), AllocError> {
     let found = tree.predict(alloc, query)?;
-    assert_eq!(rt; found.as_slice(), expected, "predicted of {query:?}");
+    assert!(rt; found.as_slice() == expected, "predicted of {query:?}");
     Ok(())
 }
 
@@ -51,8 +51,8 @@ fn expect_counts(
     len: usize,
     used: usize,
 ) -> Result<(), AllocError> {
-    assert_eq!(rt; tree.len(alloc)?, len, "keys");
-    assert_eq!(rt; tree.used(alloc)?, used, "slots");
+    assert!(rt; tree.len(alloc)? == len, "keys");
+    assert!(rt; tree.used(alloc)? == used, "slots");
     Ok(())
 }
 
@@ -75,7 +75,7 @@ fn one_key_below_another(rt: HostRuntime) -> Result<(), Fail> {
     expect_front(alloc, &rt, &tree, b"abc", &[(1, 0), (2, 1)])?;
     expect_predict(alloc, &rt, &tree, b"a", &[(1, 0), (2, 1)])?;
     expect_counts(alloc, &rt, &tree, 2, 5)?;
-    assert_eq!(rt; tree.exact(b""), None);
+    assert!(rt; tree.exact(b"") == None);
     Ok(())
 }
 
@@ -185,7 +185,7 @@ fn every_label_below_one_node(rt: HostRuntime) -> Result<(), Fail> {
     assert!(rt; tree.cut(b"a"));
     expect_counts(alloc, &rt, &tree, 0, 1)?;
     tree.put(alloc, true, b"after", 7)?;
-    assert_eq!(rt; tree.exact(b"after"), Some((7, 5)));
+    assert!(rt; tree.exact(b"after") == Some((7, 5)));
     Ok(())
 }
 
@@ -195,7 +195,7 @@ fn a_query_with_a_byte_0(rt: HostRuntime) -> Result<(), Fail> {
     let mut tree = tree_of(alloc, true, &[("a", 1), ("ab", 2), ("abc", 3)])?;
     expect_front(alloc, &rt, &tree, b"a\0", &[(1, 0)])?;
     expect_predict(alloc, &rt, &tree, b"a\0", &[])?;
-    assert_eq!(rt; tree.exact(b"a\0"), None);
+    assert!(rt; tree.exact(b"a\0") == None);
     assert!(rt; !tree.cut(b"a\0"));
     expect_counts(alloc, &rt, &tree, 3, 7)?;
     Ok(())
@@ -230,10 +230,10 @@ fn words_that_share_bytes(rt: HostRuntime) -> Result<(), Fail> {
         ("亞丁港", 8),
     ];
     let tree = tree_of(alloc, true, &pairs)?;
-    assert_eq!(rt; tree.len(alloc)?, 8);
-    assert_eq!(rt; tree.exact("亞".as_bytes()), Some((6, 3)));
-    assert_eq!(rt; tree.exact("亞丁港".as_bytes()), Some((8, 9)));
-    assert_eq!(rt; tree.exact("亝".as_bytes()), Some((4, 3)));
-    assert_eq!(rt; tree.exact("些須".as_bytes()), Some((1, 6)));
+    assert!(rt; tree.len(alloc)? == 8);
+    assert!(rt; tree.exact("亞".as_bytes()) == Some((6, 3)));
+    assert!(rt; tree.exact("亞丁港".as_bytes()) == Some((8, 9)));
+    assert!(rt; tree.exact("亝".as_bytes()) == Some((4, 3)));
+    assert!(rt; tree.exact("些須".as_bytes()) == Some((1, 6)));
     Ok(())
 }

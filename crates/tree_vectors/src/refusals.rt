@@ -45,7 +45,10 @@ fn a_refused_put_leaves_the_tree(rt: HostRuntime) -> Result<(), Fail> {
             is_walk_kept: false,
             used: 10,
         };
-        assert_eq!(rt; stored, whole, "two nodes below the new one, and its place");
+        assert!(rt;
+            stored == whole,
+            "two nodes below the new one, and its place"
+        );
         for request in 1..=3 {
             let left = put_refused(rt.alloc(), ordered, request)?;
             let before = Outcome {
@@ -54,7 +57,7 @@ fn a_refused_put_leaves_the_tree(rt: HostRuntime) -> Result<(), Fail> {
                 is_walk_kept: true,
                 used: 6,
             };
-            assert_eq!(rt; left, before, "at request {request}");
+            assert!(rt; left == before, "at request {request}");
         }
     }
     Ok(())
@@ -68,12 +71,12 @@ fn nothing_is_asked_for_what_is_held(rt: HostRuntime) -> Result<(), Fail> {
     tree.put(&alloc, true, b"ab", 1)?;
     alloc.refuse(1, u64::MAX);
     tree.put(&alloc, true, b"ab", 2)?;
-    assert_eq!(rt; tree.exact(b"ab"), Some((2, 2)));
+    assert!(rt; tree.exact(b"ab") == Some((2, 2)));
     assert!(rt; tree.walk(&alloc).is_err());
     assert!(rt; tree.front(&alloc, b"ab").is_err());
     assert!(rt; tree.predict(&alloc, b"ab").is_err());
     assert!(rt; tree.prefixes(&alloc).is_err());
     assert!(rt; tree.cut(b"ab"));
-    assert_eq!(rt; tree.exact(b"ab"), None);
+    assert!(rt; tree.exact(b"ab") == None);
     Ok(())
 }

@@ -1,6 +1,7 @@
 -- The search for places: blocks whose ring begins elsewhere, blocks that a search has failed in, and the open list.
-use Rattle.std.proofs.Common.{◌≡◌, ℕ, ◌+◌, ◌*◌, ◌/◌, ◌<◌, ◌≤◌, ◌≤ℤ◌, ◌<ℤ◌, ◌+ℤ◌, List, [], ◌∷◌, ◌++◌, length, length-append, length-set, get_or, set, cond, eqb, true, false, Bool, int_lt, refl, sym, ap, subst, inl, inr, ◌∙◌, arith, ℤ, pos, unsigned_abs}
+use Rattle.std.proofs.Common.{◌≡◌, ℕ, ◌+◌, ◌*◌, ◌/◌, ◌<◌, ◌≤◌, ◌≤ℤ◌, ◌<ℤ◌, ◌+ℤ◌, List, [], ◌∷◌, ◌++◌, length, length-append, length-set, get_or, drop, zero, suc, set, cond, eqb, true, false, Bool, int_lt, refl, sym, ap, subst, inl, inr, ◌∙◌, arith, ℤ, pos, unsigned_abs}
 use Rattle.std.specs.Prelude.{bit_xor}
+use Rattle.std.specs.Int.Bits.{xor_assoc, xor_self, xor_zero_r}
 use Rattle.std.specs.Int.{int_min}
 use Rattle.std.specs.Ordering.{int_eq}
 use Rattle.std.proofs.lemmas.Int.{ints}
@@ -189,6 +190,16 @@ next_start table sound b slot next b_in is next_eq =
 
 pub free_slot_in : (table : PlaceFields) (b slot : ℕ) → IsFreeIn table b slot → slot < length table.slots.nodes
 free_slot_in table b slot is = free_in table.slots.nodes slot is.free
+
+-- each label's slot is free if the first one stands on a free slot, and those of the other labels are free
+pub first_fits : (nodes : List NodeRecord) (slot first : ℕ) (labels others : List ℕ) → first ≡ get_or labels 0 0 → others ≡ drop 1 labels → is_free nodes slot ≡ true → AllFree nodes (bit_xor slot first) others → AllFree nodes (bit_xor slot (get_or labels 0 0)) labels
+first_fits nodes slot first [] others is rest free fits k d h = absurd (omega arith)
+first_fits nodes slot first (x ∷ xs) others is rest free fits zero d h =
+    let back : bit_xor (bit_xor slot x) x ≡ slot = xor_assoc slot x x ∙ ap (bit_xor slot) (xor_self x) ∙ xor_zero_r slot in
+    rw back free
+first_fits nodes slot first (x ∷ xs) others is rest free fits (suc k) d h =
+    let inside : k < length others = rw rest (omega arith) in
+    subst (λ l. is_free nodes (bit_xor (bit_xor slot l) (get_or xs k d)) ≡ true) is (subst (λ ys. is_free nodes (bit_xor (bit_xor slot first) (get_or ys k d)) ≡ true) rest (fits k d inside))
 
 -- a step by a label from a slot of an active block stays in the table
 pub start_fits : (table : PlaceFields) (sound : Sound table) (b slot label : ℕ) → b < table.blocks.active → slot / 256 ≡ b → label < 256 → 256 * (bit_xor slot label / 256) + 256 ≤ length table.slots.nodes

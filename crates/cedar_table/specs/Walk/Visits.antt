@@ -1,8 +1,10 @@
 -- Where a walk over the nodes of a tree stands in a table.
-use Rattle.std.specs.Prelude.{◌≡◌, ℕ, zero, suc, ◌+◌, ◌-◌, ◌<◌, ◌≤◌, List, [], ◌∷◌, ◌++◌, length, take, unsigned_abs}
+use Rattle.std.specs.Prelude.{◌≡◌, ℕ, ℤ, zero, suc, ◌+◌, ◌-◌, ◌<◌, ◌≤◌, List, [], ◌∷◌, ◌++◌, length, Option, Some, take, unsigned_abs}
 use Rattle.cedar_tree.specs.Tree.{Forest, none, child}
-use Rattle.cedar_tree.specs.Queries.{node_at}
-use Rattle.cedar_tree.specs.Walks.{Visit, forwards, visits_after, visits_left}
+use Rattle.cedar_tree.specs.Queries.{Entry, node_at}
+use Rattle.cedar_tree.specs.Walks.{Visit, entries_of, forwards, visits_after, visits_left}
+use Rattle.cedar_table.specs.declared.walk.visits.Numbered.{Numbered}
+use Rattle.cedar_table.specs.declared.walk.visits.Place.{Place}
 use Rattle.cedar_table.specs.declared.walk.visits.Visited.{Visited}
 use Rattle.cedar_meaning.specs.Table.Cells.{Cells}
 use Rattle.cedar_meaning.specs.Meaning.Family.{below}
@@ -47,3 +49,30 @@ pub record ComesTo (T : Fields) (start : List ℕ) (left : List Visit) (path : L
   pub visits : left ≡ (path_to T next.depth next.slot, next.number) ∷ left_at T start next.depth next.slot
   pub way : path_to T next.depth next.slot ≡ take (next.depth - 1) path ++ next.label ∷ []
   pub deep : (0 < next.depth) × (next.depth ≤ length path + 1)
+
+-- the number of the node at slot s, n labels below the path `start`
+abbrev pub number_below : Fields → List ℕ → ℕ → ℕ → Option ℤ
+number_below T start n s = (node_at (tree_of T) (start ++ path_to T n s)).number
+
+-- slot s is a node with a number there
+abbrev pub IsNumberedBelow : Fields → List ℕ → ℕ → ℕ → Type 0
+IsNumberedBelow T start n s = IsBelow (cells_in T) start n s × (v : ℤ) × (number_below T start n s ≡ Some v)
+
+-- the node at a place, with its number
+abbrev pub visited_at : Fields → List ℕ → Place → Visited
+visited_at T start place = record {
+  slot = place.slot;
+  depth = place.depth;
+  label = place.label;
+  number = number_below T start place.depth place.slot;
+}
+
+-- the entries that a walk below the path `start` has left where it has come to slot s, n labels below, and not yet been at it
+abbrev pub entries_at : Fields → List ℕ → ℕ → ℕ → List Entry
+entries_at T start n s = entries_of ((path_to T n s, number_below T start n s) ∷ left_at T start n s)
+
+-- a walk below the path `start` that had these entries left comes to a node with a number: the first of those left
+pub record ComesToNumber (T : Fields) (start : List ℕ) (left : List Entry) (next : Numbered) : Type 0 where
+  pub below : IsBelow (cells_in T) start next.depth next.slot
+  pub number : number_below T start next.depth next.slot ≡ Some next.number
+  pub entries : left ≡ (path_to T next.depth next.slot, next.number) ∷ entries_of (left_at T start next.depth next.slot)

@@ -17,17 +17,37 @@ pub struct Visited {
     pub number: Option<i32>,
 }
 
+/// A node with a number that a walk comes to.
+#[derive(Clone, Copy, Debug, PartialEq, Eq)]
+pub struct Numbered {
+    /// The node's slot.
+    pub slot: usize,
+    /// How many labels it is below the node where the walk began.
+    pub depth: usize,
+    /// Its number.
+    pub number: i32,
+}
+
+/// Where a walk comes to, before anything is read of the node there: its slot, how many labels it is below the node where the walk
+/// began, and the last of these.
+#[derive(Clone, Copy)]
+pub(crate) struct Place {
+    slot: usize,
+    depth: usize,
+    label: u8,
+}
+
 impl<L: Layout, const SLOTS: usize, A: Allocator> Table<L, SLOTS, A> {
-    ghost use Rattle.std.specs.Prelude.{◌≡◌, ℕ, List, [], ◌∷◌, ◌++◌, ◌+◌, ◌<◌, MatchOption, pos, true};
-    ghost use Rattle.cedar_tree.specs.Tree.{empty_tree, has_label, subtree, Tree};
-    ghost use Rattle.cedar_tree.specs.Queries.{node_at};
-    ghost use Rattle.cedar_tree.specs.Walks.{behind};
+    ghost use Rattle.std.specs.Prelude.{◌≡◌, ◌≢◌, ℕ, ℤ, List, [], ◌∷◌, ◌++◌, ◌+◌, ◌<◌, MatchOption, pos, Some, true};
+    ghost use Rattle.cedar_tree.specs.Tree.{has_label, Tree};
+    ghost use Rattle.cedar_tree.specs.Queries.{node_at, walk};
+    ghost use Rattle.cedar_tree.specs.Walks.{behind, entries_of};
     ghost use Rattle.cedar_meaning.specs.Edit.NodeEdits.{IsAt};
     ghost use Rattle.cedar_meaning.specs.Meaning.Family.{below};
     ghost use Rattle.cedar_meaning.specs.Meaning.StandsFor.{Stands};
     ghost use Rattle.cedar_table.specs.Table.Views.{cells, fields};
     ghost use Rattle.cedar_meaning.specs.Table.TableFields.{size_of};
-    ghost use Rattle.cedar_table.specs.Walk.Visits.{ComesTo, first_of, IsBelow, left_after, left_at, path_to};
+    ghost use Rattle.cedar_table.specs.Walk.Visits.{ComesTo, ComesToNumber, entries_at, first_of, IsBelow, IsNumberedBelow, left_after, left_at, path_to, visited_at};
     ghost use Rattle.cedar_meaning.specs.Meaning.WellFormed.{IsWellFormed, tree_of};
 
     /// The number of a node. The read isn't counted. A node that names a first label has none, so the slot that its number would
@@ -93,33 +113,57 @@ impl<L: Layout, const SLOTS: usize, A: Allocator> Table<L, SLOTS, A> {
         self.owner(node)
     }
 
+    /// The number of a node that is known to have one: where the layout keeps each in a slot of its own there is no test.
+    #[inline(always)]
+    fn number_held(&self, node: usize) -> i32
+        requires node_in { node < size_of (fields self.now) }
+        requires held { (t : Tree) × (v : ℤ) × Stands (size_of (fields self.now)) (cells self.now) node t × (t.number ≡ Some v) }
+        ensures { (t : Tree) → Stands (size_of (fields self.now)) (cells self.now) node t → t.number ≡ Some result }
+    {
+        match self.stored_at_node(node) {
+            Stored::OwnNumber(value) => value,
+            Stored::AtBase(base) => self.base(base),
+            Stored::Nothing => 0,
+        }
+    }
+
+    /// The label of the first child of a node that is known to have a number, or 0. It is the sibling of the number's slot.
+    #[inline(always)]
+    fn label_after_number(&self, node: usize) -> u8
+        requires well_formed { IsWellFormed SLOTS (fields self.now) }
+        requires held { (w : List ℕ) × (v : ℤ) × IsAt (cells self.now) w node × ((node_at (tree_of (fields self.now)) w).number ≡ Some v) }
+        ensures { (w : List ℕ) → IsAt (cells self.now) w node → result ≡ first_of (node_at (tree_of (fields self.now)) w).children }
+    {
+        match self.stored_at_node(node) {
+            Stored::AtBase(base) => self.sibling(base),
+            Stored::OwnNumber(_) => 0,
+            Stored::Nothing => 0,
+        }
+    }
+
     /// The child of a node under a label that it has.
     #[inline(always)]
-    fn child_under(&self, node: usize, label: u8, depth: usize) -> Visited
+    fn child_under(&self, node: usize, label: u8, depth: usize) -> Place
         requires well_formed { IsWellFormed SLOTS (fields self.now) }
         requires at { (w : List ℕ) × IsAt (cells self.now) w node × (has_label (node_at (tree_of (fields self.now)) w).children label ≡ true) }
         ensures slot { result.slot ≡ below (cells self.now) node label }
         ensures depth { result.depth ≡ depth }
         ensures label { result.label ≡ label }
-        ensures number { (w : List ℕ) → IsAt (cells self.now) w node → has_label (node_at (tree_of (fields self.now)) w).children label ≡ true → result.number ≡ (subtree (node_at (tree_of (fields self.now)) w).children label).number }
     {
-        let slot = self.slot_below(node, label);
-        let number = self.number_of(slot);
-        Visited {
-            slot,
+        Place {
+            slot: self.slot_below(node, label),
             depth,
             label,
-            number,
         }
     }
 
     /// The next node of a walk that is through with all below a node: the sibling after it, or the one after the nearest node above
     /// it that has one, short of the node `depth` labels above, where the walk began.
     #[inline(always)]
-    fn next_after(&self, node: usize, depth: usize) -> Option<Visited>
+    fn next_after(&self, node: usize, depth: usize) -> Option<Place>
         requires well_formed { IsWellFormed SLOTS (fields self.now) }
         requires below { (start : List ℕ) × IsBelow (cells self.now) start depth node }
-        ensures { (start : List ℕ) → IsBelow (cells self.now) start depth node → MatchOption result (left_after (fields self.now) start depth node ≡ []) (ComesTo (fields self.now) start (left_after (fields self.now) start depth node) (path_to (fields self.now) depth node)) }
+        ensures { (start : List ℕ) → IsBelow (cells self.now) start depth node → MatchOption result (left_after (fields self.now) start depth node ≡ []) (λ place. ComesTo (fields self.now) start (left_after (fields self.now) start depth node) (path_to (fields self.now) depth node) (visited_at (fields self.now) start place)) }
     {
         let mut slot = node;
         let mut steps = depth;
@@ -135,6 +179,21 @@ impl<L: Layout, const SLOTS: usize, A: Allocator> Table<L, SLOTS, A> {
         None
     }
 
+    /// Where a walk goes on that has been at a node, whose first child has this label: to that child, or else to the sibling after the
+    /// node, or else to the one after the nearest node above it that has one.
+    #[inline(always)]
+    fn place_after(&self, node: usize, depth: usize, label: u8) -> Option<Place>
+        requires well_formed { IsWellFormed SLOTS (fields self.now) }
+        requires below { (start : List ℕ) × IsBelow (cells self.now) start depth node }
+        requires first { (w : List ℕ) → IsAt (cells self.now) w node → label ≡ first_of (node_at (tree_of (fields self.now)) w).children }
+        ensures { (start : List ℕ) → IsBelow (cells self.now) start depth node → MatchOption result (left_at (fields self.now) start depth node ≡ []) (λ place. ComesTo (fields self.now) start (left_at (fields self.now) start depth node) (path_to (fields self.now) depth node) (visited_at (fields self.now) start place)) }
+    {
+        if label != 0 {
+            return Some(self.child_under(node, label, depth + 1));
+        }
+        self.next_after(node, depth)
+    }
+
     /// The next node of a walk that has been at a node, `depth` labels below the one where it began, and not yet below it: its first
     /// child, or else the sibling after it, or else the one after the nearest node above it that has one. It takes no memory.
     #[inline(always)]
@@ -144,25 +203,67 @@ impl<L: Layout, const SLOTS: usize, A: Allocator> Table<L, SLOTS, A> {
         ensures { (start : List ℕ) → IsBelow (cells self.now) start depth node → MatchOption result (left_at (fields self.now) start depth node ≡ []) (ComesTo (fields self.now) start (left_at (fields self.now) start depth node) (path_to (fields self.now) depth node)) }
     {
         let label = self.first_child(node);
-        if label != 0 {
-            return Some(self.child_under(node, label, depth + 1));
-        }
-        self.next_after(node, depth)
+        let place = self.place_after(node, depth, label)?;
+        Some(Visited {
+            slot: place.slot,
+            depth: place.depth,
+            label: place.label,
+            number: self.number_of(place.slot),
+        })
     }
 
-    /// The node of a query, where a walk over all below it begins, if there is one.
-    pub fn walk_start(&self, query: &[u8]) -> Option<Visited>
-        requires { IsWellFormed SLOTS (fields self.now) }
-        ensures { MatchOption result (node_at (tree_of (fields self.now)) query.now ≡ empty_tree) (λ first.
-            (first.depth ≡ 0) × IsBelow (cells self.now) query.now 0 first.slot × (first.number ≡ (node_at (tree_of (fields self.now)) query.now).number)) }
+    /// The first node with a number of those that begin at a node other than the root, `depth` labels below the one where the walk
+    /// began, and go on below it. A node that names a first label has no number, and each other one has: nothing else is asked on the
+    /// way down.
+    #[inline(always)]
+    fn numbered_from(&self, node: usize, depth: usize) -> Numbered
+        requires well_formed { IsWellFormed SLOTS (fields self.now) }
+        requires below { (start : List ℕ) × IsBelow (cells self.now) start depth node }
+        requires not_root { node ≢ 0 }
+        ensures { (start : List ℕ) → IsBelow (cells self.now) start depth node → ComesToNumber (fields self.now) start (entries_at (fields self.now) start depth node) result }
     {
-        let slot = self.node_of(query)?;
-        let number = self.number_of(slot);
-        Some(Visited {
+        let mut slot = node;
+        let mut steps = depth;
+        let mut label = self.child(slot);
+        while label != 0 {
+            slot = self.slot_below(slot, label);
+            steps += 1;
+            label = self.child(slot);
+        }
+        Numbered {
             slot,
-            depth: 0,
-            label: 0,
-            number,
-        })
+            depth: steps,
+            number: self.number_held(slot),
+        }
+    }
+
+    /// The next node with a number of a walk that has been at one, `depth` labels below the node where it began, and not yet below
+    /// it. It takes no memory.
+    #[inline(always)]
+    pub fn numbered_after(&self, node: usize, depth: usize) -> Option<Numbered>
+        requires well_formed { IsWellFormed SLOTS (fields self.now) }
+        requires below { (start : List ℕ) × IsNumberedBelow (fields self.now) start depth node }
+        ensures { (start : List ℕ) → IsBelow (cells self.now) start depth node → MatchOption result (entries_of (left_at (fields self.now) start depth node) ≡ []) (ComesToNumber (fields self.now) start (entries_of (left_at (fields self.now) start depth node))) }
+    {
+        let label = self.label_after_number(node);
+        let place = self.place_after(node, depth, label)?;
+        Some(self.numbered_from(place.slot, place.depth))
+    }
+
+    /// The first node with a number of those that begin at a query's node, and go on below it.
+    pub fn first_numbered(&self, query: &[u8]) -> Option<Numbered>
+        requires { IsWellFormed SLOTS (fields self.now) }
+        ensures { MatchOption result (walk (node_at (tree_of (fields self.now)) query.now) ≡ []) (ComesToNumber (fields self.now) query.now (walk (node_at (tree_of (fields self.now)) query.now))) }
+    {
+        let node = self.node_of(query)?;
+        if node != 0 {
+            return Some(self.numbered_from(node, 0));
+        }
+        let label = self.first_child(node);
+        if label == 0 {
+            return None;
+        }
+        let place = self.child_under(node, label, 1);
+        Some(self.numbered_from(place.slot, place.depth))
     }
 }

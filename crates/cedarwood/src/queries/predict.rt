@@ -7,7 +7,7 @@ ghost use Rattle.cedar_meaning.specs.Meaning.WellFormed.{IsWellFormed};
 ghost use Rattle.cedarwood.specs.WalkPlaces.{GoesOnTo, IsPredictPlace, predicted_from};
 
 use crate::queries::walked::Walked;
-use cedar_table::Visited;
+use cedar_table::Numbered;
 use std::alloc::AllocError;
 use std::iter::FusedIterator;
 use std::marker::Model;
@@ -17,7 +17,7 @@ use std::marker::Model;
 pub(crate) enum PredictPlace {
     /// The query's node hasn't been looked for.
     Start,
-    /// It has been at this node, so many labels below the query's, and not yet below it.
+    /// It has been at this node, which has a number, so many labels below the query's, and not yet below it.
     Node { slot: usize, depth: usize },
     /// Nothing is left.
     End,
@@ -64,16 +64,16 @@ impl<'a, T: Walked> PrefixPredictIter<'a, T> {
     }
 }
 
-/// The node that a walk comes to next.
+/// The node with a number that a walk comes to next.
 #[inline(always)]
-fn visited_next<T: Walked>(trie: &T, query: &[u8], place: PredictPlace) -> Option<Visited>
+fn numbered_next<T: Walked>(trie: &T, query: &[u8], place: PredictPlace) -> Option<Numbered>
     requires well_formed { IsWellFormed T.slots (T.shown trie.now) }
     requires place { IsPredictPlace (T.shown trie.now) query.now place }
     ensures { MatchOption result (predicted_from (T.shown trie.now) query.now place ≡ []) (GoesOnTo (T.shown trie.now) query.now place) }
 {
     match place {
-        PredictPlace::Start => trie.start(query),
-        PredictPlace::Node { slot, depth } => trie.next_node(slot, depth),
+        PredictPlace::Start => trie.first_numbered(query),
+        PredictPlace::Node { slot, depth } => trie.next_numbered(slot, depth),
         PredictPlace::End => None,
     }
 }
@@ -101,22 +101,15 @@ impl<'a, T: Walked> Iterator for PrefixPredictIter<'a, T> {
 
     #[inline(always)]
     fn next(&mut self) -> Option<(i32, usize)> {
-        let mut found = visited_next(self.trie, self.query, self.place);
-        while let Some(next) = found {
-            // The place is known to be a node's: within the loop nothing tests what it is. It is written back where the walk stops, since
-            // after each write the table's vectors would be read again.
-            let place = PredictPlace::Node {
-                slot: next.slot,
-                depth: next.depth,
-            };
-            if let Some(number) = next.number {
-                self.place = place;
-                return Some((number, next.depth));
-            }
-            found = visited_next(self.trie, self.query, place);
-        }
-        self.place = PredictPlace::End;
-        None
+        let Some(next) = numbered_next(self.trie, self.query, self.place) else {
+            self.place = PredictPlace::End;
+            return None;
+        };
+        self.place = PredictPlace::Node {
+            slot: next.slot,
+            depth: next.depth,
+        };
+        Some((next.number, next.depth))
     }
 
     fn size_hint(&self) -> (usize, Option<usize>)

@@ -1,7 +1,7 @@
 //! What walks that are under way ask of a dictionary.
 
 use crate::{Layout, Ticks, Trie};
-use cedar_table::{Front, Visited};
+use cedar_table::{Front, Numbered, Visited};
 use std::alloc::Allocator;
 use std::sync::ledger::Ledger;
 
@@ -9,12 +9,11 @@ use std::sync::ledger::Ledger;
 /// parameter asks for the size of that type, of which a borrow says nothing.
 pub trait Walked {
     ghost use Rattle.std.specs.Prelude.{◌≡◌, ℕ, List, ◌∷◌, [], ◌+◌, ◌*◌, ◌-◌, ◌<◌, ◌≤◌, length, MatchOption};
-    ghost use Rattle.cedar_tree.specs.Tree.{empty_tree};
-    ghost use Rattle.cedar_tree.specs.Queries.{node_at};
-    ghost use Rattle.cedar_tree.specs.Walks.{front_from};
+    ghost use Rattle.cedar_tree.specs.Queries.{node_at, walk};
+    ghost use Rattle.cedar_tree.specs.Walks.{entries_of, front_from};
     ghost use Rattle.cedar_table.specs.Walk.Fronts.{IsOnQuery, passed};
     ghost use Rattle.cedar_meaning.specs.Table.TableFields.{Fields};
-    ghost use Rattle.cedar_table.specs.Walk.Visits.{ComesTo, IsBelow, left_at, path_to};
+    ghost use Rattle.cedar_table.specs.Walk.Visits.{ComesTo, ComesToNumber, IsBelow, IsNumberedBelow, left_at, path_to};
     ghost use Rattle.cedar_meaning.specs.Meaning.WellFormed.{cells_in, IsWellFormed, tree_of};
 
     /// How many slots it may have, and the table that it is kept in.
@@ -37,11 +36,16 @@ pub trait Walked {
         ensures on { MatchOption result (place ≤ length query.now) (λ front. (place < front.len) × IsOnQuery (shown self.now) query.now front.len front.slot) }
         ensures cost { ticks.new ≤ ticks.old + 2 * (passed query.now result - place) };
 
-    /// The slot of a query's node, if there is one, and the node's number, if it has one.
-    fn start(&self, query: &[u8]) -> Option<Visited>
+    /// The first node with a number of those that begin at a query's node, and go on below it.
+    fn first_numbered(&self, query: &[u8]) -> Option<Numbered>
         requires { IsWellFormed slots (shown self.now) }
-        ensures { MatchOption result (node_at (tree_of (shown self.now)) query.now ≡ empty_tree) (λ first.
-            (first.depth ≡ 0) × IsBelow (cells_in (shown self.now)) query.now 0 first.slot × (first.number ≡ (node_at (tree_of (shown self.now)) query.now).number)) };
+        ensures { MatchOption result (walk (node_at (tree_of (shown self.now)) query.now) ≡ []) (ComesToNumber (shown self.now) query.now (walk (node_at (tree_of (shown self.now)) query.now))) };
+
+    /// The next node with a number of a walk that has been at one.
+    fn next_numbered(&self, node: usize, depth: usize) -> Option<Numbered>
+        requires well_formed { IsWellFormed slots (shown self.now) }
+        requires below { (start : List ℕ) × IsNumberedBelow (shown self.now) start depth node }
+        ensures { (start : List ℕ) → IsBelow (cells_in (shown self.now)) start depth node → MatchOption result (entries_of (left_at (shown self.now) start depth node) ≡ []) (ComesToNumber (shown self.now) start (entries_of (left_at (shown self.now) start depth node))) };
 
     /// The next node of a walk.
     fn next_node(&self, node: usize, depth: usize) -> Option<Visited>
@@ -66,8 +70,13 @@ impl<L: Layout, const SLOTS: usize, A: Allocator + Copy> Walked for Trie<L, SLOT
     }
 
     #[inline(always)]
-    fn start(&self, query: &[u8]) -> Option<Visited> {
-        self.table.walk_start(query)
+    fn first_numbered(&self, query: &[u8]) -> Option<Numbered> {
+        self.table.first_numbered(query)
+    }
+
+    #[inline(always)]
+    fn next_numbered(&self, node: usize, depth: usize) -> Option<Numbered> {
+        self.table.numbered_after(node, depth)
     }
 
     #[inline(always)]

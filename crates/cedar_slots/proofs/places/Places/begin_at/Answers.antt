@@ -8,8 +8,8 @@ use Rattle.cedar_slots.specs.Views.{blocks_of, places_of}
 pub returns-clause-sound : goal.returns-clause-sound
 returns-clause-sound g c =
     let old = (places_of c.args.self.now) in
-    let new : PlaceFields = record old { blocks = (blocks_of c.set_counts.new.self) } in
-    let e = c.set_counts.ensures in
+    let new : PlaceFields = record old { blocks = (blocks_of c.change_counts.new.self) } in
+    let e = c.change_counts.ensures in
     let was = c.counts-counts.result in
     let now = c.beginning_at.result in
     let turned = Turned-at old c.args.slot c.requires.sound c.requires.place was now c.counts-counts.ensures c.beginning_at.ensures.num c.beginning_at.ensures.e_head in

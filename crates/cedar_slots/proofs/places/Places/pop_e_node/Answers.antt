@@ -25,8 +25,8 @@ less-requires-clause-next_fits g c =
 pub returns-clause-sound : goal.returns-clause-sound
 returns-clause-sound g c =
     let old = (places_of c.args.self.now) in
-    let new : PlaceFields = record old { slots = (slots_of c.take.new.self); blocks = (blocks_of c.set_counts.new.self) } in
-    let e = c.set_counts.ensures in
+    let new : PlaceFields = record old { slots = (slots_of c.take.new.self); blocks = (blocks_of c.change_counts.new.self) } in
+    let e = c.change_counts.ensures in
     Sound-taken old new c.args.slot c.args.node c.requires.sound c.requires.slot_in c.requires.slot_free c.requires.node_used c.take.ensures.nodes c.take.ensures.infos c.take.ensures.len c.counts-counts.result c.less.result
     (recounted old new (c.args.slot / 256) c.requires.sound c.requires.slot_in c.counts-counts.result c.less.result c.counts-counts.ensures e.made
     (Bounded-same old.blocks.max_trial new.blocks.max_trial c.counts-counts.result c.less.result e.max_trial c.less.ensures.reject c.less.ensures.trial)
@@ -36,5 +36,5 @@ returns-clause-sound g c =
 
 pub returns-clause-takes_slot : goal.returns-clause-takes_slot
 returns-clause-takes_slot g c =
-    let new : PlaceFields = record (places_of c.args.self.now) { slots = (slots_of c.take.new.self); blocks = (blocks_of c.set_counts.new.self) } in
+    let new : PlaceFields = record (places_of c.args.self.now) { slots = (slots_of c.take.new.self); blocks = (blocks_of c.change_counts.new.self) } in
     TakesSlot-taken (places_of c.args.self.now) new c.args.slot c.args.node c.requires.sound c.requires.slot_in c.requires.slot_free c.requires.node_used c.take.ensures.nodes c.take.ensures.infos

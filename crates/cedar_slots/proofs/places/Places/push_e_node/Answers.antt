@@ -22,8 +22,8 @@ more-requires g c = num_room (places_of c.args.self.now) c.args.slot c.requires.
 
 pub returns-then-counts-reserved-clause-sound : goal.returns-then-counts-reserved-clause-sound
 returns-then-counts-reserved-clause-sound g c =
-    let new : PlaceFields = record (places_of c.args.self.now) { slots = (slots_of c.give_alone.new.self); blocks = (blocks_of c.set_counts.new.self) } in
-    let e = c.set_counts.ensures in
+    let new : PlaceFields = record (places_of c.args.self.now) { slots = (slots_of c.give_alone.new.self); blocks = (blocks_of c.change_counts.new.self) } in
+    let e = c.change_counts.ensures in
     let same : c.counts-counts.result.num ≡ c.reserved.result = omega (arith, ints) in
     Sound-given_alone (places_of c.args.self.now) c.args.slot c.requires.sound c.requires.slot_in c.requires.not_root c.requires.slot_used c.counts-counts.result c.counts-counts.ensures new c.one.result (same ∙ c.reserved.ensures)
     (recounted (places_of c.args.self.now) new (c.args.slot / 256) c.requires.sound c.requires.slot_in c.counts-counts.result c.one.result c.counts-counts.ensures e.made
@@ -38,8 +38,8 @@ returns-then-counts-reserved-clause-frees_slot g c =
 
 pub returns-else-counts-reserved-clause-sound : goal.returns-else-counts-reserved-clause-sound
 returns-else-counts-reserved-clause-sound g c =
-    let new : PlaceFields = record (places_of c.args.self.now) { slots = (slots_of c.give_after.new.self); blocks = (blocks_of c.set_counts-else-counts-reserved.new.self) } in
-    let e = c.set_counts-else-counts-reserved.ensures in
+    let new : PlaceFields = record (places_of c.args.self.now) { slots = (slots_of c.give_after.new.self); blocks = (blocks_of c.change_counts-else-counts-reserved.new.self) } in
+    let e = c.change_counts-else-counts-reserved.ensures in
     let some = λ (none : c.counts-counts.result.num ≡ _). let same : c.counts-counts.result.num ≡ c.reserved.result = none ∙ sym c.reserved.ensures in c.if-counts-reserved.false (omega (arith, ints)) in
     let at_head = headed (places_of c.args.self.now) c.args.slot c.requires.sound c.requires.slot_in c.requires.not_root c.requires.slot_used c.counts-counts.result c.counts-counts.ensures some c.head-head.result c.head-head.ensures in
     Sound-given_after (places_of c.args.self.now) c.args.slot c.requires.sound c.requires.slot_in c.requires.not_root c.requires.slot_used c.counts-counts.result c.counts-counts.ensures some c.head-head.result at_head new c.more.result

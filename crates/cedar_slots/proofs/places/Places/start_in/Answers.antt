@@ -1,8 +1,6 @@
-use Rattle.std.proofs.Common.{◌<◌, ◌≤ℤ◌, arith, pos, subst}
-use Rattle.std.specs.Prelude.{bit_xor}
+use Rattle.std.proofs.Common.{◌<◌, ◌≤ℤ◌, arith, pos}
 use Rattle.std.proofs.lemmas.Int.{ints}
-use Rattle.cedar_slots.specs.Slots.{AllFree}
-use Rattle.cedar_slots.proofs.PlacementLemmas.PlaceSearch.{free_slot_in, head_start, next_start, start_fits, start_positive}
+use Rattle.cedar_slots.proofs.PlacementLemmas.PlaceSearch.{first_fits, free_slot_in, head_start, next_start, start_fits, start_positive}
 use Rattle.cedar_slots.proofs.places.Places.start_in.Goals as goal
 use Rattle.cedar_slots.specs.Views.{places_of}
 
@@ -13,19 +11,19 @@ loop-init g c =
 
 pub fits-requires-clause-base_in : goal.fits-requires-clause-base_in
 fits-requires-clause-base_in g c =
-    let small : c.from.result < 256 = omega (arith, c.type_inv.labels 0) in
-    omega (arith, start_fits (places_of c.args.self.now) c.requires.sound c.args.block c.loop.slot c.from.result c.requires.block_in c.loop.invariant.here small)
+    let small : c.from-first.result < 256 = omega (arith, c.type_inv.labels 0) in
+    omega (arith, start_fits (places_of c.args.self.now) c.requires.sound c.args.block c.loop.slot c.from-first.result c.requires.block_in c.loop.invariant.here small)
 
 pub fits-requires-clause-not_root : goal.fits-requires-clause-not_root
 fits-requires-clause-not_root g c =
-    let small : c.from.result < 256 = omega (arith, c.type_inv.labels 0) in
-    start_positive c.args.block c.loop.slot c.from.result c.requires.not_root c.loop.invariant.here small
+    let small : c.from-first.result < 256 = omega (arith, c.type_inv.labels 0) in
+    start_positive c.args.block c.loop.slot c.from-first.result c.requires.not_root c.loop.invariant.here small
 
 pub returns-then-fits : goal.returns-then-fits
 returns-then-fits g c = record {
   free = c.loop.invariant.free;
   here = c.loop.invariant.here;
-  fits = subst (λ l. AllFree c.args.self.now.slots.nodes.items (bit_xor c.loop.slot l) c.args.labels.now) c.from.ensures (c.fits.ensures.fits c.if-fits.true);
+  fits = first_fits c.args.self.now.slots.nodes.items c.loop.slot c.from-first.result c.args.labels.now c.split_at.result.1.now c.from-first.ensures c.split_at.ensures.back c.loop.invariant.free (c.fits.ensures.fits c.if-fits.true);
 }
 
 pub next_free-slot-requires : goal.next_free-slot-requires

@@ -1,8 +1,9 @@
 use Rattle.std.proofs.Common.{◌-◌, ◌++◌, arith, rules}
 use Rattle.cedar_meaning.specs.Meaning.Family.{below}
 use Rattle.cedar_table.specs.Table.Views.{cells, fields}
-use Rattle.cedar_table.specs.Walk.Visits.{owner_of, path_to}
+use Rattle.cedar_table.specs.Walk.Visits.{owner_of, path_to, visited_at}
 use Rattle.cedar_table.proofs.WalkLemmas.NextNode.{at_last, climbed_all, climbed_none, climbed_on, comes_right, first_is, parent_below, sibling_there, stepped}
+use Rattle.cedar_table.proofs.WalkLemmas.NextNumber.{number_there}
 use Rattle.cedar_table.proofs.table.Table.next_after.Goals as goal
 
 pub loop-steps-init : goal.loop-steps-init
@@ -76,10 +77,11 @@ returns-then-label-ne0 g c = λ start at.
     let climb = c.loop-steps.invariant start at in
     let on = stepped _ T k start c.args.depth c.args.node n s climb c.loop-steps-test.true in
     let first = first_is _ T k start c.args.depth c.args.node n s climb c.loop-steps-test.true p l c.parent-parent.ensures.check c.next_sibling-label.ensures in
-    comes_right _ T k start c.args.depth c.args.node (n - 1) s p l on c.parent-parent.ensures.check first c.child_under.result c.if-label-ne0.true c.child_under.ensures.slot
+    let above = parent_below _ T k start (n - 1) s p on.below c.parent-parent.ensures.check in
+    let there = sibling_there _ T k start c.args.depth c.args.node (n - 1) s p l on c.parent-parent.ensures.check first c.if-label-ne0.true in
+    comes_right _ T k start c.args.depth c.args.node (n - 1) s p l on c.parent-parent.ensures.check first (visited_at T start c.child_under.result) c.if-label-ne0.true c.child_under.ensures.slot
     (omega (arith, c.child_under.ensures.depth, c.loop-steps-test.true)) c.child_under.ensures.label
-    (c.child_under.ensures.number (start ++ path_to T (n - 1) p) (parent_below _ T k start (n - 1) s p on.below c.parent-parent.ensures.check)
-    (sibling_there _ T k start c.args.depth c.args.node (n - 1) s p l on c.parent-parent.ensures.check first c.if-label-ne0.true))
+    (number_there _ T k start (n - 1) p l c.child_under.result.slot c.child_under.result.depth above there c.child_under.ensures.slot (omega (arith, c.child_under.ensures.depth, c.loop-steps-test.true)))
 
 pub loop-steps-preserved : goal.loop-steps-preserved
 loop-steps-preserved g c = λ start at.

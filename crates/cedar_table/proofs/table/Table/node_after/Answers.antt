@@ -1,34 +1,22 @@
-use Rattle.std.proofs.Common.{◌≡◌, ◌≤◌, ◌++◌, arith, rules, subst, sym, MatchOption, []}
+use Rattle.std.proofs.Common.{◌++◌, Option, ℤ, rules, subst, sym}
 use Rattle.cedar_table.specs.Table.Views.{fields}
-use Rattle.cedar_meaning.specs.Table.TableFields.{size_of}
-use Rattle.cedar_table.specs.Walk.Visits.{ComesTo, path_to}
-use Rattle.cedar_table.proofs.WalkLemmas.NextNode.{comes_down, first_there, none_below, short_way}
+use Rattle.cedar_table.specs.Walk.Visits.{ComesTo, left_at, path_to}
+use Rattle.cedar_table.proofs.WalkLemmas.NextNode.{node_inside, node_stands}
 use Rattle.cedar_table.proofs.table.Table.node_after.Goals as goal
 
-pub overflow_add-depth : goal.overflow_add-depth
-overflow_add-depth g c =
-    let T = c.args.self.now in
-    let short : c.args.depth ≤ size_of (fields T) = short_way _ (fields T) c.requires.well_formed c.requires.below.0 c.args.depth c.args.node c.requires.below.1 in
-    omega (arith, short, T.shaped.blocks.active_in, T.shaped.blocks.fits)
-
-pub child_under-requires : goal.child_under-requires
-child_under-requires g c =
+pub number_of-requires : goal.number_of-requires
+number_of-requires g c =
     let T = fields c.args.self.now in
-    let start = c.requires.below.0 in
-    let path = start ++ path_to T c.args.depth c.args.node in
-    (search rules, (c.requires.well_formed, (path, c.requires.below.1, first_there _ (c.first_child-label.ensures path c.requires.below.1) c.if-label-ne0.true)))
-
-pub returns-then-label-ne0 : goal.returns-then-label-ne0
-returns-then-label-ne0 g c = λ start at.
-    let T = fields c.args.self.now in
-    let path = start ++ path_to T c.args.depth c.args.node in
-    let first = c.first_child-label.ensures path at in
-    comes_down _ T c.requires.well_formed start c.args.depth c.args.node c.first_child-label.result c.child_under.result at first c.if-label-ne0.true c.child_under.ensures.slot c.child_under.ensures.depth c.child_under.ensures.label
-    (c.child_under.ensures.number path at (first_there _ first c.if-label-ne0.true))
+    let k = c.requires.well_formed in
+    let place = c.in_ok-place.place in
+    let w = c.requires.below.0 ++ path_to T place.depth place.slot in
+    let comes = c.in_ok-place.ensures c.requires.below.0 c.requires.below.1 in
+    (search rules, (node_inside _ T k w place.slot comes.below, (_, node_stands _ T k w place.slot comes.below)))
 
 pub returns : goal.returns
 returns g c = λ start at.
     let T = fields c.args.self.now in
-    let path = start ++ path_to T c.args.depth c.args.node in
-    let none_there = none_below _ T c.requires.well_formed start c.args.depth c.args.node c.first_child-label.result (c.first_child-label.ensures path at) (search rules) in
-    subst (λ left. MatchOption c.next_after.result (left ≡ []) (ComesTo T start left (path_to T c.args.depth c.args.node))) (sym none_there) (c.next_after.ensures start at)
+    let place = c.in_ok-place.place in
+    let comes = c.in_ok-place.ensures start at in
+    let is = c.number_of.ensures _ (node_stands _ T c.requires.well_formed (start ++ path_to T place.depth place.slot) place.slot comes.below) in
+    subst (λ (o : Option ℤ). ComesTo T start (left_at T start c.args.depth c.args.node) (path_to T c.args.depth c.args.node) (record { slot = place.slot; depth = place.depth; label = place.label; number = o })) (sym is) comes

@@ -2,7 +2,7 @@ use Rattle.std.proofs.Common.{◌≡◌, ◌∙◌, ap, inr}
 use Rattle.cedar_slots.specs.Blocks.{counts_at, counts_of, kind_of}
 use Rattle.cedar_slots.specs.Views.{blocks_of}
 use Rattle.cedar_slots.proofs.ListsLemmas.BlockMoved.{BlockLists-stay, ListRings-kept}
-use Rattle.cedar_slots.proofs.blocks.Blocks.set_counts.Goals as goal
+use Rattle.cedar_slots.proofs.blocks.Blocks.change_counts.Goals as goal
 
 pub returns-then-keeps_list-clause-lists : goal.returns-then-keeps_list-clause-lists
 returns-then-keeps_list-clause-lists g c =
@@ -12,5 +12,5 @@ returns-then-keeps_list-clause-lists g c =
     let lists = c.requires.lists.0 in
     let w = c.write_counts.ensures in
     let same : kind_of new.max_trial (counts_at new.records e) ≡ kind_of old.max_trial (counts_at old.records e) =
-    ap (λ z. kind_of z (counts_at new.records e)) w.max_trial ∙ ap (kind_of old.max_trial) w.made ∙ c.keeps_list.ensures c.if-keeps_list.true old.max_trial ∙ ap (kind_of old.max_trial) c.counts-old.ensures in
+    ap (λ z. kind_of z (counts_at new.records e)) w.max_trial ∙ ap (kind_of old.max_trial) w.made ∙ c.keeps_list.ensures c.if-keeps_list.true old.max_trial ∙ ap (kind_of old.max_trial) c.requires.was in
     (lists, BlockLists-stay old new e lists c.requires.lists.1 w.active w.max_trial (λ b other. ap counts_of (w.others b other)) (ListRings-kept old new lists w.links w.heads c.requires.lists.1.rings) (inr same))

@@ -1,0 +1,15 @@
+use Rattle.std.proofs.Common.{◌≡◌, ℕ, List, [], MatchOption, rules, subst, sym}
+use Rattle.cedar_tree.specs.Walks.{entries_of}
+use Rattle.cedar_meaning.specs.Meaning.WellFormed.{cells_in}
+use Rattle.cedar_table.specs.Walk.Visits.{ComesToNumber, IsBelow, IsNumberedBelow, left_at}
+use Rattle.cedarwood.specs.Dictionary.{Dictionary}
+use Rattle.cedarwood.proofs.queries.walked.TrieWalked.next_numbered.Goals as goal
+
+pub numbered_after-requires : goal.numbered_after-requires
+numbered_after-requires g c =
+    (search rules, (c.self.invariant, subst (λ (d : Dictionary). (start : List ℕ) × IsNumberedBelow d.table start c.args.depth c.args.node) (sym c.self.view_is) c.requires.below))
+
+pub returns : goal.returns
+returns g c =
+    subst (λ (d : Dictionary). (start : List ℕ) → IsBelow (cells_in d.table) start c.args.depth c.args.node → MatchOption c.numbered_after.result (entries_of (left_at d.table start c.args.depth c.args.node) ≡ []) (ComesToNumber d.table start (entries_of (left_at d.table start c.args.depth c.args.node))))
+    c.self.view_is c.numbered_after.ensures
