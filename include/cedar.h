@@ -12,9 +12,9 @@
  *   only read. During the call nobody else writes it, nor reads what the call may write.
  * - A `cedar` begins as CEDAR_CLOSED and is changed by these calls alone. It may be moved; of two copies only one is used
  *   from then on. Its fields aren't read or written.
- * - One call at a time works on a dictionary, cedar_get and the figures too, since they write to the variable while they
- *   run. It may go from thread to thread where a lock, a thread's start or join, or a sequentially consistent atomic
- *   orders the calls. Different dictionaries share nothing.
+ * - One call at a time works on a dictionary, cedar_get and the figures too: what is proved of a call takes for granted that it
+ *   has the variable and the dictionary for itself. It may go from thread to thread where a lock, a thread's start or join, or a
+ *   sequentially consistent atomic orders the calls. Different dictionaries share nothing.
  * - Calls aren't made from a signal handler, or from the forked child of a process with threads.
  * - malloc, realloc and free are one allocator's, and align a block as C asks.
  *

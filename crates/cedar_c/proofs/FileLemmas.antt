@@ -1,5 +1,5 @@
 -- What a load tells of a file.
-use Rattle.std.proofs.Common.{arith, ◌≡◌, ◌≢◌, ℕ, inl, inr, List, take, Option, None, Some, IfSome, MatchOption, Result, Ok, Err, refl, ap, ◌∙◌}
+use Rattle.std.proofs.Common.{arith, ◌≡◌, ◌≢◌, ℕ, inl, inr, List, take, Option, None, Some, IfSome, MatchOption, Ok, Err, refl, ap, ◌∙◌}
 use Rattle.std.specs.Prelude.{◌⊎◌}
 use Rattle.cedar_meaning.specs.Table.Layouts.{LayoutKind, layout_byte}
 use Rattle.cedar_meaning.specs.Table.TableFields.{Fields}

@@ -1,6 +1,7 @@
 pub mod Content
 pub mod Files
 pub mod Layouts
+pub mod Lending
 pub mod Matches
 pub mod Ownership
 pub mod Pairs

@@ -137,7 +137,6 @@ pub extern "C" fn cedar_free(handle: &mut Handle, alloc: Global)
 #[unsafe(no_mangle)]
 pub extern "C" fn cedar_update(
     handle: &mut Handle,
-    alloc: Global,
     key: &[u8],
     value: i32,
     position: &mut usize,
@@ -154,11 +153,10 @@ pub extern "C" fn cedar_update(
     ensures refused { IsSome (content handle.old) → fault key.now value ≡ None →
         (result ≡ 0) ⊎ (((result ≡ 2) ⊎ (result ≡ 3)) × (number_at (tree_in handle.old) key.now ≡ None)) }
 {
-    let Some(mut cedar) = handle.take(alloc) else {
+    if !handle.is_open() {
         return CLOSED;
-    };
-    let answer = cedar.update_bytes(key, value);
-    *handle = Handle::of(cedar);
+    }
+    let answer = handle.held.lend().update_bytes(key, value);
     match answer {
         Ok(()) => OK,
         Err(error) => tell(error, position),
@@ -172,7 +170,6 @@ pub extern "C" fn cedar_update(
 #[unsafe(no_mangle)]
 pub extern "C" fn cedar_insert(
     handle: &mut Handle,
-    alloc: Global,
     key: &[u8],
     value: i32,
     held: &mut bool,
@@ -193,11 +190,10 @@ pub extern "C" fn cedar_insert(
     ensures refused { IsSome (content handle.old) → fault key.now value ≡ None →
         (result ≡ 0) ⊎ (((result ≡ 2) ⊎ (result ≡ 3)) × (number_at (tree_in handle.old) key.now ≡ None)) }
 {
-    let Some(mut cedar) = handle.take(alloc) else {
+    if !handle.is_open() {
         return CLOSED;
-    };
-    let answer = cedar.insert_bytes(key, value);
-    *handle = Handle::of(cedar);
+    }
+    let answer = handle.held.lend().insert_bytes(key, value);
     match answer {
         Ok(number) => {
             *held = number.is_some();
@@ -212,33 +208,30 @@ pub extern "C" fn cedar_insert(
 
 /// Removes a key, and says whether it was held.
 #[unsafe(no_mangle)]
-pub extern "C" fn cedar_erase(handle: &mut Handle, alloc: Global, key: &[u8]) -> bool
+pub extern "C" fn cedar_erase(handle: &mut Handle, key: &[u8]) -> bool
     ensures answer { IsTrue result ↔ IsSome (number_at (tree_in handle.old) key.now) }
     ensures after { state_in handle.new ≡ option_map (λ s. erased s key.now) (state_in handle.old) }
     ensures size { (size_in handle.new ≡ size_in handle.old) × (capacity_in handle.new ≡ capacity_in handle.old) }
     ensures layout { layout_in handle.new ≡ layout_in handle.old }
 {
-    let Some(mut cedar) = handle.take(alloc) else {
+    if !handle.is_open() {
         return false;
-    };
-    let held = cedar.erase_bytes(key);
-    *handle = Handle::of(cedar);
-    held
+    }
+    handle.held.lend().erase_bytes(key)
 }
 
 /// Tells the value at a key, and says whether the key is held.
 #[unsafe(no_mangle)]
-pub extern "C" fn cedar_get(handle: &mut Handle, alloc: Global, key: &[u8], value: &mut i32) -> bool
+pub extern "C" fn cedar_get(handle: &mut Handle, key: &[u8], value: &mut i32) -> bool
     ensures answer { IsTrue result ↔ IsSome (number_at (tree_in handle.old) key.now) }
     ensures value { IfSome (number_at (tree_in handle.old) key.now) (λ v. value.new ≡ v) }
     ensures absent { number_at (tree_in handle.old) key.now ≡ None → value.new ≡ value.old }
     ensures kept { content handle.new ≡ content handle.old }
 {
-    let Some(cedar) = handle.take(alloc) else {
+    if !handle.is_open() {
         return false;
-    };
-    let found = cedar.exact_match_search_bytes(key);
-    *handle = Handle::of(cedar);
+    }
+    let found = handle.held.lend().exact_match_search_bytes(key);
     match found {
         Some((number, _)) => {
             *value = number;

@@ -34,11 +34,10 @@ pub extern "C" fn cedar_keys(
     ensures refused { (result ≡ 0) ⊎ (((result ≡ 1) ⊎ (result ≡ 2) ⊎ (result ≡ 11)) × (buffer.new ≡ buffer.old)) }
     ensures kept { content handle.new ≡ content handle.old }
 {
-    let Some(cedar) = handle.take(alloc) else {
+    if !handle.is_open() {
         return CLOSED;
-    };
-    let keys = cedar.keys(alloc);
-    *handle = Handle::of(cedar);
+    }
+    let keys = handle.held.lend().keys(alloc);
     match keys {
         Some(keys) => copy_whole(keys.as_slice(), buffer, needed),
         None => MEMORY,

@@ -1,7 +1,7 @@
 //! The dictionary for C, and so for C++ and Python: `include/cedar.h` declares the exports, and says what their callers owe.
 //!
-//! C has a [`handle::Handle`]: a pointer to a dictionary of either layout on the C library's heap, or none. Each call takes the
-//! dictionary out of it, makes the dictionary's own call, and puts it back.
+//! C has a [`handle::Handle`]: a pointer to a dictionary of either layout on the C library's heap, or none. Each call makes the
+//! dictionary's own call where it lies; one that opens or closes a handle alone takes a dictionary out of it or puts one in.
 #![tactic(auto)]
 
 mod any;

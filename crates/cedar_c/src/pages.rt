@@ -120,7 +120,6 @@ impl AnyCedar {
 #[unsafe(no_mangle)]
 pub extern "C" fn cedar_prefixes_from(
     handle: &mut Handle,
-    alloc: Global,
     text: &[u8],
     next: &mut usize,
     matches: &mut [Match],
@@ -130,19 +129,16 @@ pub extern "C" fn cedar_prefixes_from(
     ensures next { next.new ≡ next.old + result }
     ensures kept { content handle.new ≡ content handle.old }
 {
-    let Some(cedar) = handle.take(alloc) else {
+    if !handle.is_open() {
         return 0;
-    };
-    let count = cedar.prefixes_from(text, next, matches);
-    *handle = Handle::of(cedar);
-    count
+    }
+    handle.held.lend().prefixes_from(text, next, matches)
 }
 
 /// As `cedar_predictions`, without the first `next` of them: it says how many it wrote, and sets `next` to where the same call goes on.
 #[unsafe(no_mangle)]
 pub extern "C" fn cedar_predictions_from(
     handle: &mut Handle,
-    alloc: Global,
     text: &[u8],
     next: &mut usize,
     matches: &mut [Match],
@@ -152,10 +148,8 @@ pub extern "C" fn cedar_predictions_from(
     ensures next { next.new ≡ next.old + result }
     ensures kept { content handle.new ≡ content handle.old }
 {
-    let Some(cedar) = handle.take(alloc) else {
+    if !handle.is_open() {
         return 0;
-    };
-    let count = cedar.predictions_from(text, next, matches);
-    *handle = Handle::of(cedar);
-    count
+    }
+    handle.held.lend().predictions_from(text, next, matches)
 }

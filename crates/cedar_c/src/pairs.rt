@@ -88,11 +88,10 @@ pub extern "C" fn cedar_update_all(
     ensures layout { layout_in handle.new ≡ layout_in handle.old }
     ensures refused { IsSome (content handle.old) → first_fault (entries_in pairs.now) ≡ None → (result ≡ 0) ⊎ (result ≡ 2) ⊎ (result ≡ 3) }
 {
-    let Some(mut cedar) = handle.take(alloc) else {
+    if !handle.is_open() {
         return CLOSED;
-    };
-    let answer = cedar.store_all(alloc, pairs);
-    *handle = Handle::of(cedar);
+    }
+    let answer = handle.held.lend().store_all(alloc, pairs);
     match answer {
         Ok(()) => OK,
         Err(error) => tell(error, position),

@@ -33,18 +33,26 @@ pub extern "C" fn cedar_save(
     ensures refused { (result ≡ 0) ⊎ (((result ≡ 1) ⊎ (result ≡ 2) ⊎ (result ≡ 11)) × (buffer.new ≡ buffer.old)) }
     ensures kept { content handle.new ≡ content handle.old }
 {
-    let Some(cedar) = handle.take(alloc) else {
+    if !handle.is_open() {
         return CLOSED;
-    };
-    let file = cedar.file(alloc, is_full);
-    *handle = Handle::of(cedar);
-    match file {
-        Some(file) => copy_whole(file.as_slice(), buffer, needed),
-        None => MEMORY,
     }
+    handle.held.lend().save(alloc, is_full, buffer, needed)
 }
 
 impl AnyCedar {
+    /// Writes the dictionary's file into the first places of a buffer, and tells how many bytes it has.
+    fn save(&self, alloc: Global, is_full: bool, buffer: &mut [u8], needed: &mut usize) -> u32
+        ensures saved { result ≡ 0 → buffer.new ≡ table_bytes (minor_of is_full) (dictionary_in self.now).table ++ drop needed.new buffer.old }
+        ensures needed { (result ≡ 0) ⊎ (result ≡ 11) → needed.new ≡ length (table_bytes (minor_of is_full) (dictionary_in self.now).table) }
+        ensures room { (result ≡ 0 → needed.new ≤ length buffer.old) × (result ≡ 11 → length buffer.old < needed.new) }
+        ensures refused { (result ≡ 0) ⊎ (((result ≡ 2) ⊎ (result ≡ 11)) × (buffer.new ≡ buffer.old)) }
+    {
+        match self.file(alloc, is_full) {
+            Some(file) => copy_whole(file.as_slice(), buffer, needed),
+            None => MEMORY,
+        }
+    }
+
     fn file(&self, alloc: Global, is_full: bool) -> Option<Vec<u8, Global>>
         ensures { IfSome result (λ file. file.items ≡ table_bytes (minor_of is_full) (dictionary_in self.now).table) }
     {

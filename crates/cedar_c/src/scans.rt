@@ -11,7 +11,7 @@ use crate::handle::Handle;
 use crate::walks::Finds;
 use cedar_words::LongestPrefix;
 use cedarwood::{Layout, Trie};
-use std::alloc::{Allocator, Global};
+use std::alloc::Allocator;
 
 /// What stands at a place of a text.
 #[repr(C)]
@@ -183,7 +183,6 @@ impl AnyCedar {
 #[unsafe(no_mangle)]
 pub extern "C" fn cedar_scan(
     handle: &mut Handle,
-    alloc: Global,
     text: &[u8],
     next: &mut usize,
     found: &mut [Found],
@@ -196,13 +195,11 @@ pub extern "C" fn cedar_scan(
     ensures closed { content handle.old ≡ None → result ≡ 0 }
     ensures kept { content handle.new ≡ content handle.old }
 {
-    let Some(cedar) = handle.take(alloc) else {
+    if !handle.is_open() {
         *next = text.len().max(*next);
         return 0;
-    };
-    let count = cedar.scan(text, next, found);
-    *handle = Handle::of(cedar);
-    count
+    }
+    handle.held.lend().scan(text, next, found)
 }
 
 /// Writes the tokens of a text from a place on, where one begins: at each place the longest key that begins there, or else one
@@ -211,7 +208,6 @@ pub extern "C" fn cedar_scan(
 #[unsafe(no_mangle)]
 pub extern "C" fn cedar_segment(
     handle: &mut Handle,
-    alloc: Global,
     text: &[u8],
     next: &mut usize,
     found: &mut [Found],
@@ -222,11 +218,9 @@ pub extern "C" fn cedar_segment(
     ensures closed { content handle.old ≡ None → result ≡ 0 }
     ensures kept { content handle.new ≡ content handle.old }
 {
-    let Some(cedar) = handle.take(alloc) else {
+    if !handle.is_open() {
         *next = text.len().max(*next);
         return 0;
-    };
-    let count = cedar.cut(text, next, found);
-    *handle = Handle::of(cedar);
-    count
+    }
+    handle.held.lend().cut(text, next, found)
 }

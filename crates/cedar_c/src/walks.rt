@@ -124,22 +124,15 @@ impl AnyCedar {
 /// Writes the held fronts of a text into the first places of a buffer, shortest first, as many as there is room for, and says
 /// how many the text has: for each the value, and one less than its bytes. It is one walk.
 #[unsafe(no_mangle)]
-pub extern "C" fn cedar_prefixes(
-    handle: &mut Handle,
-    alloc: Global,
-    text: &[u8],
-    matches: &mut [Match],
-) -> usize
+pub extern "C" fn cedar_prefixes(handle: &mut Handle, text: &[u8], matches: &mut [Match]) -> usize
     ensures count { result ≡ length (front (tree_in handle.old) text.now) }
     ensures filled { matches.new ≡ filled matches.old (front (tree_in handle.old) text.now) }
     ensures kept { content handle.new ≡ content handle.old }
 {
-    let Some(cedar) = handle.take(alloc) else {
+    if !handle.is_open() {
         return 0;
-    };
-    let count = cedar.prefixes(text, matches);
-    *handle = Handle::of(cedar);
-    count
+    }
+    handle.held.lend().prefixes(text, matches)
 }
 
 /// Writes the keys that begin with a text into the first places of a buffer, in the order of the walk, as many as there is room
@@ -147,7 +140,6 @@ pub extern "C" fn cedar_prefixes(
 #[unsafe(no_mangle)]
 pub extern "C" fn cedar_predictions(
     handle: &mut Handle,
-    alloc: Global,
     text: &[u8],
     matches: &mut [Match],
 ) -> usize
@@ -155,10 +147,8 @@ pub extern "C" fn cedar_predictions(
     ensures filled { matches.new ≡ filled matches.old (predict (tree_in handle.old) text.now) }
     ensures kept { content handle.new ≡ content handle.old }
 {
-    let Some(cedar) = handle.take(alloc) else {
+    if !handle.is_open() {
         return 0;
-    };
-    let count = cedar.predictions(text, matches);
-    *handle = Handle::of(cedar);
-    count
+    }
+    handle.held.lend().predictions(text, matches)
 }

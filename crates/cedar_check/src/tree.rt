@@ -82,10 +82,14 @@ fn owner_named<L: Layout, const SLOTS: usize, A: Allocator>(
 ) -> Option<usize>
     ensures { MatchOption result ((c : ℕ) → c < size_of (fields table.now) → check ≢ pos c) (λ c. (check ≡ pos c) × (c < size_of (fields table.now))) }
 {
-    if check < 0 || check as usize >= table.size() {
+    if check < 0 {
         return None;
     }
-    Some(check as usize)
+    let owner = check as usize;
+    if owner >= table.size() {
+        return None;
+    }
+    Some(owner)
 }
 
 /// Where the slots of a node with this base field begin, and 0 if it says nothing of that.

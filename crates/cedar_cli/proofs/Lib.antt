@@ -2,6 +2,7 @@ pub mod Begun
 pub mod BlockCounts
 pub mod Bytes
 pub mod EntryLines
+pub mod Faults
 pub mod JoinedLines
 pub mod Newlines
 pub mod Orders

@@ -7,7 +7,7 @@ use Rattle.std.specs.Io.KnownBytes.{Consumes, Appends, Keeps, IsAtEnd}
 use Rattle.cedar_tree.specs.State.{State}
 use Rattle.cedar_cli.specs.Command.{order_of}
 use Rattle.cedar_cli.specs.Lines.{lines_of, IsOpen}
-use Rattle.cedar_cli.specs.Script.{Obeys, Leaves, Finishes, Splits, Advances, Stops, EndsEarly, IsCutShort, AppendsFront, answer, answers, obeyed, seen_after}
+use Rattle.cedar_cli.specs.Script.{Obeys, Leaves, Finishes, Splits, Advances, Stops, EndsEarly, IsCutShort, AppendsFront, answers, obeyed, seen_after}
 use Rattle.cedar_cli.specs.Seen.{Seen}
 use Rattle.cedar_cli.proofs.Bytes.{Appends-append, Appends-kept, Appends-none, answers-append, cut_short_none, lines_of-last, Finishes-append, line_finished}
 

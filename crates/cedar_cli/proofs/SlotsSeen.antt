@@ -1,6 +1,6 @@
 -- What a script sees of a dictionary once a key was stored or removed.
-use Rattle.std.proofs.Common.{◌≡◌, ◌+◌, ◌++◌, ℕ, zero, suc, ℤ, ◌<◌, ◌⊎◌, inl, inr, List, [], ◌∷◌, take, length, Option, Some, None, Bool, true, false, not, cond, ◌&&◌, ◌||◌, ◌==◌, refl, sym, ap, subst, ◌∙◌, arith}
-use Rattle.std.specs.Prelude.{◌↔◌, is_some}
+use Rattle.std.proofs.Common.{◌≡◌, ◌+◌, ◌++◌, ℕ, zero, suc, ℤ, ◌<◌, ◌⊎◌, inl, inr, List, [], ◌∷◌, take, length, Option, Some, None, Bool, true, false, not, cond, ◌&&◌, ◌||◌, ◌==◌, refl, sym, ap, ◌∙◌, arith}
+use Rattle.std.specs.Prelude.{is_some}
 use Rattle.std.proofs.lemmas.Bool.{eqb-true, false≢true}
 use Rattle.std.proofs.lemmas.Bool.Decides.{eqb_tells}
 use Rattle.cedar_tree.specs.State.{State, stored, erased}
@@ -16,7 +16,7 @@ use Rattle.cedarwood.specs.Fault.{fault}
 use Rattle.cedarwood.proofs.MarkedLemmas.{same_numbers}
 use Rattle.cedar_cli.specs.Script.{figures_text, obeyed, reply}
 use Rattle.cedar_cli.specs.declared.command.Verb.TheVariants.{Put, Erase, Figures}
-use Rattle.cedar_cli.specs.Seen.{Seen, cut_in, has_node, has_slot, has_slot_beside, is_held, is_proper_front, put_in, seen, slots_held}
+use Rattle.cedar_cli.specs.Seen.{Seen, cut_in, has_node, has_slot, has_slot_beside, is_proper_front, put_in, seen, slots_held}
 
 -- ---- tests
 

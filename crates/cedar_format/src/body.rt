@@ -1,22 +1,25 @@
 //! The tables of a file.
 
 ghost use Rattle.std.specs.Prelude.{◌≡◌, ◌<◌, ◌≤◌, ◌+◌, ◌/◌, ◌^◌, ◌⊎◌, true, false, length, List, ℕ, [], ◌++◌, IfErr, IfOk, IfSome, OnOk, None, vec_capacity};
-ghost use Rattle.std.specs.Io.KnownBytes.{Consumes, IsAtEnd};
+ghost use Rattle.std.specs.Io.KnownBytes.{Appends, Consumes, IsAtEnd};
 ghost use Rattle.cedar_slots.specs.Blocks.{blank_block};
 ghost use Rattle.cedar_slots.specs.Places.{IsSlotLimit};
 ghost use Rattle.cedar_slots.specs.Slots.{blank_info, blank_node};
 ghost use Rattle.cedar_format.specs.Format.{body_len, filled, listed_bytes, listed_in, need, tables_len, CountsWithin, DecodeAnswers, IsFile, IsHeader, Passes};
 ghost use Rattle.cedar_format.specs.Records.{body_bytes, FitsBody};
 ghost use Rattle.cedar_format.specs.Reading.{IsIo, LacksNoMore, LacksTable, Misses, Trails};
+ghost use Rattle.cedar_format.specs.WatchedDevice.{device_of, has_failed};
 
+use crate::buffer::BUFFER_LEN;
 use crate::error::CedarPersistenceError;
 use crate::header::{Header, check_sizes, read_header};
-use crate::listing::{fill_up, read_records};
+use crate::listing::{fill_up, read_records, write_records};
 use crate::reserve::reserve_counted;
 use crate::source::Source;
-use cedar_table::{BLOCK_SIZE, BlockRecord, NInfoRecord, NodeRecord, Ticks};
+use crate::watched::Watched;
+use cedar_slots::{BLOCK_SIZE, BlockRecord, NInfoRecord, NodeRecord, Ticks};
 use std::alloc::Allocator;
-use std::io::ErrorKind;
+use std::io::{ErrorKind, Write};
 use std::marker::Brand;
 use std::sync::ledger::{Blank, Ledger};
 
@@ -248,4 +251,27 @@ pub fn decode_counted<S: Source, A: Allocator + Copy, C: Ledger>(
     let lists = read_lists(reader, empty)?;
     read_end(reader)?;
     Ok(fill_tables(lists))
+}
+
+/// Writes the four lists of a file, one after another, in pieces of some thousand bytes. It takes no memory.
+///
+/// # Errors
+/// `Io` where the writer failed.
+pub fn write_lists<W: Write>(
+    writer: &mut Watched<W>,
+    nodes: &[NodeRecord],
+    n_infos: &[NInfoRecord],
+    blocks: &[BlockRecord],
+    reject: &[i16],
+) -> Result<(), CedarPersistenceError>
+    ensures bytes { OnOk result (Appends (W.contents (device_of writer.old)) (W.contents (device_of writer.new)) (body_bytes nodes.now n_infos.now blocks.now reject.now)) }
+    ensures fits { OnOk result (FitsBody nodes.now n_infos.now blocks.now reject.now) }
+    ensures err { IfErr result (λ e. IsIo e × (has_failed writer.new ≡ true)) }
+    ensures failed { has_failed writer.old ≡ true → has_failed writer.new ≡ true }
+{
+    let mut buffer = [0u8; BUFFER_LEN];
+    write_records(writer, &mut buffer, nodes)?;
+    write_records(writer, &mut buffer, n_infos)?;
+    write_records(writer, &mut buffer, blocks)?;
+    write_records(writer, &mut buffer, reject)
 }

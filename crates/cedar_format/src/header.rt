@@ -243,7 +243,7 @@ fn fault_of(error: io::Error) -> CedarPersistenceError
 }
 
 /// How many slots a file of a minor version lists: all, or from 1 on those in use alone.
-pub(crate) fn listed(minor: u16, capacity: usize, size: usize) -> usize
+pub fn listed(minor: u16, capacity: usize, size: usize) -> usize
     ensures { result ≡ listed minor capacity size }
 {
     if minor == FULL_MINOR { capacity } else { size }

@@ -1,5 +1,5 @@
 //! The binary format of a table, versions 1.0 and 1.1: its exact bytes and its exact refusals; and the devices that it is
-//! read from and written to.
+//! read from and written to. What stands in a file is told by a table's fields, so nothing here needs the code of tables.
 #![tactic(auto)]
 
 mod body;
@@ -12,15 +12,14 @@ mod numbers;
 mod record;
 mod reserve;
 mod source;
-mod table;
 mod watched;
 
-pub use body::{Decoded, decode, decode_counted};
-pub use cedar_table::{BlockRecord, NInfoRecord, NodeRecord};
+pub use body::{Decoded, decode, decode_counted, write_lists};
+pub use cedar_slots::{BlockRecord, NInfoRecord, NodeRecord};
 pub use error::CedarPersistenceError;
 pub use header::{
     FLAG_ORDERED, FULL_MINOR, HEADER_LEN, Header, LAYOUT, LITTLE_ENDIAN, MAGIC, MAJOR, MINOR,
-    REDUCED_LAYOUT, read_header, write_header,
+    REDUCED_LAYOUT, listed, read_header, write_header,
 };
 pub use laws::{headers_are_read_again, one_table_for_its_bytes, well_formed_tables_pass};
 pub use numbers::{
@@ -28,5 +27,4 @@ pub use numbers::{
 };
 pub use reserve::reserve_exact;
 pub use source::Source;
-pub use table::{table_of, write_table};
 pub use watched::Watched;

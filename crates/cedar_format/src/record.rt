@@ -6,7 +6,7 @@ ghost use Rattle.cedar_format.specs.Numbers.{i16_bytes, length-i16_bytes, length
 ghost use Rattle.cedar_format.specs.Records.{node_bytes, info_bytes, block_bytes, FitsNode, FitsInfo, FitsBlock};
 
 use crate::buffer::{take_i16, take_i32, take_u8, write_i16_at, write_i32_at};
-use cedar_table::{BlockRecord, NInfoRecord, NodeRecord};
+use cedar_slots::{BlockRecord, NInfoRecord, NodeRecord};
 
 /// What a file holds a list of.
 pub(crate) trait Record: Copy + Drop {

@@ -5,7 +5,7 @@ ghost use Rattle.cedar_format.specs.Refusal.{refusal_of, AllocationFailed};
 
 use crate::error::CedarPersistenceError;
 use crate::record::Record;
-use cedar_table::Ticks;
+use cedar_slots::Ticks;
 use std::alloc::Allocator;
 use std::sync::ledger::Ledger;
 

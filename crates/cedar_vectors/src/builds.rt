@@ -1,5 +1,5 @@
 //! Builds, inserts, copies and figures, at values made by hand.
-use crate::expect::expect_counts;
+use crate::expect::{expect_counts, expect_stored};
 use crate::steps::{Step, expect_steps};
 use cedarwood::{
     Cedar, CedarError, Layout, MemoryStats, PrefixIter, PrefixPredictIter, ReducedLayout, Trie,
@@ -35,20 +35,6 @@ fn expect_stats(
     assert!(rt; cedar.spare_blocks() == 0);
 }
 
-// The figures of a new dictionary, and of one with a key.
-#[test]
-fn figures_and_text(rt: HostRuntime) -> Result<(), Fail> {
-    let mut cedar = Cedar::new(rt.alloc())?;
-    let text = "Cedar(entries=0, node_slots=256, ordered=true)";
-    expect_text(&rt, rt.alloc(), &cedar, text)?;
-    expect_stats(&cedar, 0, 1, 256, 3094, &rt);
-    cedar.update("a", 7)?;
-    let text = "Cedar(entries=1, node_slots=512, ordered=true)";
-    expect_text(&rt, rt.alloc(), &cedar, text)?;
-    expect_stats(&cedar, 1, 3, 512, 5674, &rt);
-    Ok(())
-}
-
 fn expect_text(
     rt: &impl Abort,
     alloc: Global,
@@ -58,6 +44,25 @@ fn expect_text(
     let text = format!(in alloc; "{cedar:?}")?;
     assert!(rt; text.as_str() == wanted);
     Ok(())
+}
+
+// A dictionary is changed here and owned by its test: each way out that drops it costs.
+fn expect_figures(rt: &impl Abort, alloc: Global, cedar: &mut Cedar<Global>) -> Result<(), Fail> {
+    let text = "Cedar(entries=0, node_slots=256, ordered=true)";
+    expect_text(rt, alloc, cedar, text)?;
+    expect_stats(cedar, 0, 1, 256, 3094, rt);
+    expect_stored(rt, cedar, b"a", 7);
+    let text = "Cedar(entries=1, node_slots=512, ordered=true)";
+    expect_text(rt, alloc, cedar, text)?;
+    expect_stats(cedar, 1, 3, 512, 5674, rt);
+    Ok(())
+}
+
+// The figures of a new dictionary, and of one with a key.
+#[test]
+fn figures_and_text(rt: HostRuntime) -> Result<(), Fail> {
+    let mut cedar = Cedar::new(rt.alloc())?;
+    expect_figures(&rt, rt.alloc(), &mut cedar)
 }
 
 fn expect_inserted(
@@ -70,15 +75,20 @@ fn expect_inserted(
     assert!(rt; cedar.insert(key, value) == Ok(before));
 }
 
+fn expect_no_key(rt: &impl Abort, cedar: &mut Cedar<Global>) {
+    assert!(rt; cedar.insert_bytes(b"", 3) == Err(CedarError::EmptyKey));
+}
+
+const INSERTED: [Step; 2] = [Step::Found(b"ab", Some((2, 2))), Step::Counts(1, 4)];
+
 // An insert answers the value before.
 #[test]
 fn inserts(rt: HostRuntime) -> Result<(), Fail> {
     let mut cedar = Cedar::new(rt.alloc())?;
     expect_inserted(&rt, &mut cedar, "ab", 1, None);
     expect_inserted(&rt, &mut cedar, "ab", 2, Some(1));
-    assert!(&rt; cedar.insert_bytes(b"", 3) == Err(CedarError::EmptyKey));
-    let steps = [Step::Found(b"ab", Some((2, 2))), Step::Counts(1, 4)];
-    expect_steps(&rt, &mut cedar, &steps)
+    expect_no_key(&rt, &mut cedar);
+    expect_steps(&rt, &mut cedar, &INSERTED)
 }
 
 fn expect_built<L: Layout, const SLOTS: usize>(
@@ -138,12 +148,20 @@ const COPIED: [Step; 3] = [
 
 const LEFT: [Step; 2] = [Step::Counts(3, 7), Step::Found(b"abc", Some((3, 3)))];
 
+fn expect_copied(rt: &impl Abort, cedar: &Cedar<Global>) -> Result<(), Fail> {
+    let mut copy = cedar.clone()?;
+    expect_steps(rt, &mut copy, &COPIED)
+}
+
+fn expect_apart(rt: &impl Abort, cedar: &mut Cedar<Global>) -> Result<(), Fail> {
+    expect_steps(rt, cedar, &HELD)?;
+    expect_copied(rt, cedar)?;
+    expect_steps(rt, cedar, &LEFT)
+}
+
 // A change of the copy doesn't show in the original.
 #[test]
 fn a_copy(rt: HostRuntime) -> Result<(), Fail> {
     let mut cedar = Cedar::new(rt.alloc())?;
-    expect_steps(&rt, &mut cedar, &HELD)?;
-    let mut copy = cedar.clone()?;
-    expect_steps(&rt, &mut copy, &COPIED)?;
-    expect_steps(&rt, &mut cedar, &LEFT)
+    expect_apart(&rt, &mut cedar)
 }

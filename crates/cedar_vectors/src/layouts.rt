@@ -33,13 +33,18 @@ const WORDS: [&str; 10] = [
     "中华人民共和国",
 ];
 
-/// A dictionary of these texts, each with its place as its value.
-pub(crate) fn words<L: Layout>(alloc: Global) -> Result<Full<L>, CedarError> {
-    let mut cedar = empty(alloc)?;
+fn put_words<L: Layout>(cedar: &mut Full<L>) -> Result<(), CedarError> {
     let mut value = 0;
     for word in WORDS {
         cedar.update(word, value)?;
         value = value.wrapping_add(1);
     }
+    Ok(())
+}
+
+/// A dictionary of these texts, each with its place as its value.
+pub(crate) fn words<L: Layout>(alloc: Global) -> Result<Full<L>, CedarError> {
+    let mut cedar = empty(alloc)?;
+    put_words(&mut cedar)?;
     Ok(cedar)
 }

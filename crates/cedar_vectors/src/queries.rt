@@ -17,14 +17,23 @@ fn expect_pairs(rt: &impl Abort, found: &[(i32, usize)], wanted: &[(i32, usize)]
     assert!(rt; found == wanted);
 }
 
-// Of texts of several bytes a letter: the fronts of one, and what goes on from one.
-fn expect_words<L: Layout>(rt: &impl Abort, alloc: Global) -> Result<(), Fail> {
-    let cedar = words::<L>(alloc)?;
+fn expect_fronts<L: Layout>(rt: &impl Abort, cedar: &Full<L>) -> Result<(), Fail> {
     let found = cedar.common_prefix_search("网球拍卖会")?;
     expect_pairs(rt, &found, &[(3, 2), (4, 5), (5, 8)]);
+    Ok(())
+}
+
+fn expect_predicted<L: Layout>(rt: &impl Abort, cedar: &Full<L>) -> Result<(), Fail> {
     let found = cedar.common_prefix_predict("中")?;
     expect_pairs(rt, &found, &[(6, 0), (7, 3), (8, 9), (9, 18)]);
     Ok(())
+}
+
+// Of texts of several bytes a letter: the fronts of one, and what goes on from one.
+fn expect_words<L: Layout>(rt: &impl Abort, alloc: Global) -> Result<(), Fail> {
+    let cedar = words::<L>(alloc)?;
+    expect_fronts(rt, &cedar)?;
+    expect_predicted(rt, &cedar)
 }
 
 #[test]
@@ -110,8 +119,7 @@ fn expect_predicted_left<L: Layout>(rt: &impl Abort, mut walk: PrefixPredictIter
 }
 
 // A clone in mid-walk goes on from there.
-fn expect_clones<L: Layout>(rt: &impl Abort, alloc: Global) -> Result<(), Fail> {
-    let cedar = chain::<L>(rt, alloc)?;
+fn expect_clones<L: Layout>(rt: &impl Abort, cedar: &Full<L>) -> Result<(), Fail> {
     let mut walk = cedar.common_prefix_iter("abcd");
     assert!(rt; walk.size_hint() == (0, Some(4)));
     assert!(rt; walk.next() == Some((1, 0)));
@@ -120,8 +128,7 @@ fn expect_clones<L: Layout>(rt: &impl Abort, alloc: Global) -> Result<(), Fail> 
     Ok(())
 }
 
-fn expect_predicted_clones<L: Layout>(rt: &impl Abort, alloc: Global) -> Result<(), Fail> {
-    let cedar = chain::<L>(rt, alloc)?;
+fn expect_predicted_clones<L: Layout>(rt: &impl Abort, cedar: &Full<L>) -> Result<(), Fail> {
     let mut walk = cedar.common_prefix_predict_iter("a");
     assert!(rt; walk.size_hint() == (0, None));
     assert!(rt; walk.next() == Some((1, 0)));
@@ -130,12 +137,16 @@ fn expect_predicted_clones<L: Layout>(rt: &impl Abort, alloc: Global) -> Result<
     Ok(())
 }
 
+fn expect_both_clones<L: Layout>(rt: &impl Abort, alloc: Global) -> Result<(), Fail> {
+    let cedar = chain::<L>(rt, alloc)?;
+    expect_clones(rt, &cedar)?;
+    expect_predicted_clones(rt, &cedar)
+}
+
 #[test]
 fn a_clone_goes_on(rt: HostRuntime) -> Result<(), Fail> {
-    expect_clones::<DefaultLayout>(&rt, rt.alloc())?;
-    expect_clones::<ReducedLayout>(&rt, rt.alloc())?;
-    expect_predicted_clones::<DefaultLayout>(&rt, rt.alloc())?;
-    expect_predicted_clones::<ReducedLayout>(&rt, rt.alloc())
+    expect_both_clones::<DefaultLayout>(&rt, rt.alloc())?;
+    expect_both_clones::<ReducedLayout>(&rt, rt.alloc())
 }
 
 fn expect_counted<C: Ledger>(cedar: &Cedar<Global>, blank: Blank, rt: &impl Abort)
@@ -159,17 +170,22 @@ fn a_counted_walk(rt: HostRuntime) -> Result<(), Fail> {
 }
 
 // Texts, and a key that is none.
+const KEYS: [Step; 4] = [
+    Step::Put(b"alpha", 4),
+    Step::Put(b"\xff\x78", 3),
+    Step::Put(b"beta", 2),
+    Step::Put(b"gamma", 5),
+];
+
+fn expect_erased<L: Layout>(rt: &impl Abort, cedar: &mut Full<L>, key: &str, was_held: bool) {
+    assert!(rt; cedar.erase(key) == was_held);
+}
+
 fn texts<L: Layout>(rt: &impl Abort, alloc: Global) -> Result<Full<L>, Fail> {
     let mut cedar = empty(alloc)?;
-    let keys = [
-        Step::Put(b"alpha", 4),
-        Step::Put(b"\xff\x78", 3),
-        Step::Put(b"beta", 2),
-        Step::Put(b"gamma", 5),
-    ];
-    expect_steps(rt, &mut cedar, &keys)?;
-    let erased = (cedar.erase("missing"), cedar.erase("beta"));
-    assert!(rt; erased == (false, true));
+    expect_steps(rt, &mut cedar, &KEYS)?;
+    expect_erased(rt, &mut cedar, "missing", false);
+    expect_erased(rt, &mut cedar, "beta", true);
     Ok(cedar)
 }
 

@@ -11,7 +11,7 @@ use Rattle.cedar_meaning.specs.Meaning.Reading.{has_number_slot}
 use Rattle.cedar_meaning.specs.Edit.Steps.{root_of}
 use Rattle.cedar_meaning.specs.Table.TableFields.{Fields}
 use Rattle.cedar_meaning.specs.Meaning.WellFormed.{cells_in, IsWellFormed, tree_of}
-use Rattle.cedarwood.specs.Dictionary.{IsMarked, some_numbers, with_some}
+use Rattle.cedarwood.specs.Dictionary.{IsMarked, with_some}
 use Rattle.cedarwood.proofs.GrowthLemmas.{dictionary_of}
 
 -- tests that agree keep the same numbers

@@ -1,5 +1,7 @@
 //! Saved files byte by byte, and dictionaries that are saved and loaded.
-use cedarwood::{Cedar, CedarBuilder, CedarPersistenceError, DefaultLayout, Layout, Trie, Watched};
+use cedarwood::{
+    Cedar, CedarBuilder, CedarError, CedarPersistenceError, DefaultLayout, Layout, Trie, Watched,
+};
 use std::alloc::{AllocError, Global};
 use std::process::Abort;
 use std::test::Fail;
@@ -42,6 +44,26 @@ pub fn loaded_front(
     len: usize,
 ) -> Result<Cedar<Global>, CedarPersistenceError> {
     loaded(alloc, &bytes[..len.min(bytes.len())])
+}
+
+/// Stores a pair. Of what the dictionary then holds nothing is said: so a test that stores pairs doesn't carry the clauses of the call.
+pub fn put<L: Layout>(trie: &mut Full<L>, key: &[u8], value: i32) -> Result<(), CedarError> {
+    trie.update_bytes(key, value)
+}
+
+/// A key has to be found with this.
+pub fn expect_found<L: Layout>(
+    rt: &impl Abort,
+    trie: &Full<L>,
+    key: &[u8],
+    wanted: Option<(i32, usize)>,
+) {
+    assert!(rt; trie.exact_match_search_bytes(key) == wanted);
+}
+
+/// Bytes have to be these.
+pub fn expect_bytes(rt: &impl Abort, found: &[u8], wanted: &[u8]) {
+    assert!(rt; found == wanted);
 }
 
 /// Changes a byte of a file.
@@ -111,31 +133,47 @@ pub fn empty_file(alloc: Global) -> Result<Vec<u8>, AllocError> {
     Ok(bytes)
 }
 
+// The nodes of the first block of that file, in which `a` has the slot 97.
+fn put_first_nodes(bytes: &mut Vec<u8>) -> Result<(), AllocError> {
+    put_node(bytes, 0, -1)?;
+    put_node(bytes, -255, -2)?;
+    for slot in 2..255usize {
+        let (base, check) = match slot {
+            96 => (-95, -98),
+            97 => (256, 0),
+            98 => (-96, -99),
+            _ => (1 - slot as i32, -1 - slot as i32),
+        };
+        put_node(bytes, base, check)?;
+    }
+    put_node(bytes, -254, -1)
+}
+
+// The nodes of its second block, whose first slot holds the number.
+fn put_second_nodes(bytes: &mut Vec<u8>) -> Result<(), AllocError> {
+    put_node(bytes, 7, 97)?;
+    put_node(bytes, -511, -258)?;
+    for slot in 258..511usize {
+        put_node(bytes, 1 - slot as i32, -1 - slot as i32)?;
+    }
+    put_node(bytes, -510, -257)
+}
+
+// Its labels, its blocks and what they reject.
+fn put_rest(bytes: &mut Vec<u8>) -> Result<(), AllocError> {
+    bytes.extend_from_slice(&[97])?;
+    bytes.extend_from_slice(&[0; 1023])?;
+    put_block(bytes, 0, 255, 1)?;
+    put_block(bytes, 1, 255, 257)?;
+    put_rejects(bytes)
+}
+
 /// The file of the key `a` with 7 in format 1.0.
 pub fn one_key_file(alloc: Global) -> Result<Vec<u8>, AllocError> {
     let mut bytes = header(alloc, 1, 512, 1)?;
-    put_node(&mut bytes, 0, -1)?;
-    put_node(&mut bytes, -255, -2)?;
-    for slot in 2..255usize {
-        match slot {
-            96 => put_node(&mut bytes, -95, -98)?,
-            97 => put_node(&mut bytes, 256, 0)?,
-            98 => put_node(&mut bytes, -96, -99)?,
-            _ => put_node(&mut bytes, 1 - slot as i32, -1 - slot as i32)?,
-        }
-    }
-    put_node(&mut bytes, -254, -1)?;
-    put_node(&mut bytes, 7, 97)?;
-    put_node(&mut bytes, -511, -258)?;
-    for slot in 258..511usize {
-        put_node(&mut bytes, 1 - slot as i32, -1 - slot as i32)?;
-    }
-    put_node(&mut bytes, -510, -257)?;
-    bytes.extend_from_slice(&[97])?;
-    bytes.extend_from_slice(&[0; 1023])?;
-    put_block(&mut bytes, 0, 255, 1)?;
-    put_block(&mut bytes, 1, 255, 257)?;
-    put_rejects(&mut bytes)?;
+    put_first_nodes(&mut bytes)?;
+    put_second_nodes(&mut bytes)?;
+    put_rest(&mut bytes)?;
     Ok(bytes)
 }
 
@@ -189,45 +227,148 @@ fn one_key(rt: HostRuntime) -> Result<(), Fail> {
     expect_loaded::<DefaultLayout>(&rt, rt.alloc(), &file, 3, Some((7, 1)))
 }
 
+const PAIRS: [(&[u8], i32); 3] = [(b"b", 1), (b"a", 2), (b"c", 3)];
+
+// A dictionary with no setting as by default.
+fn with_settings(alloc: Global) -> Result<Cedar<Global>, CedarError> {
+    let builder = CedarBuilder::new().ordered(false).max_trial(3)?;
+    builder.build(alloc)
+}
+
+fn put_pairs(cedar: &mut Cedar<Global>) -> Result<(), CedarError> {
+    for (key, value) in PAIRS {
+        put(cedar, key, value)?;
+    }
+    Ok(())
+}
+
+fn expect_pairs(rt: &impl Abort, cedar: &Cedar<Global>) {
+    for (key, value) in PAIRS {
+        expect_found(rt, cedar, key, Some((value, 1)));
+    }
+}
+
+// A file has to have these settings in its header.
+fn expect_settings(rt: &impl Abort, file: &[u8]) {
+    assert!(rt; (file.get(14), file.get(16)) == (Some(&0), Some(&3)));
+}
+
+// A file has to load to the dictionary of the pairs, which saves as the same bytes.
+fn expect_kept(rt: &impl Abort, alloc: Global, file: &[u8]) -> Result<(), Fail> {
+    let again = loaded(alloc, file)?;
+    expect_pairs(rt, &again);
+    let bytes = saved(alloc, &again)?;
+    expect_bytes(rt, &bytes, file);
+    Ok(())
+}
+
 // The settings come from the file, and it saves as the same bytes.
 #[test]
 fn settings_are_kept(rt: HostRuntime) -> Result<(), Fail> {
-    let builder = CedarBuilder::new().ordered(false).max_trial(3)?;
-    let mut cedar = builder.build(rt.alloc())?;
-    for (key, value) in [("b", 1), ("a", 2), ("c", 3)] {
-        cedar.update(key, value)?;
+    let mut cedar = with_settings(rt.alloc())?;
+    put_pairs(&mut cedar)?;
+    let file = saved(rt.alloc(), &cedar)?;
+    expect_settings(&rt, &file);
+    expect_kept(&rt, rt.alloc(), &file)
+}
+
+// A key of four bytes for each number, none of which is 0.
+fn key_of(number: u32) -> [u8; 4] {
+    let mut key = number.wrapping_mul(2654435761).to_be_bytes();
+    for byte in &mut key {
+        *byte |= 1;
     }
-    let bytes = saved(rt.alloc(), &cedar)?;
-    assert!(&rt; (bytes.get(14), bytes.get(16)) == (Some(&0), Some(&3)));
-    let again = loaded(rt.alloc(), &bytes)?;
-    for (key, value) in [("b", 1), ("a", 2), ("c", 3)] {
-        assert!(&rt; again.exact_match_search(key) == Some((value, 1)));
+    key
+}
+
+fn put_thousands(cedar: &mut Cedar<Global>) -> Result<(), CedarError> {
+    for number in 0..3000u32 {
+        put(cedar, &key_of(number), number as i32)?;
     }
-    assert!(&rt; saved(rt.alloc(), &again)? == bytes);
     Ok(())
+}
+
+fn put_more(cedar: &mut Cedar<Global>) -> Result<(), CedarError> {
+    for key in ["x", "xy", "xyz", "longer"] {
+        put(cedar, key.as_bytes(), 1)?;
+    }
+    Ok(())
+}
+
+fn reloaded(alloc: Global, cedar: &Cedar<Global>) -> Result<Cedar<Global>, CedarPersistenceError> {
+    let file = saved(alloc, cedar)?;
+    loaded(alloc, &file)
+}
+
+// Two dictionaries have to hold as many keys, and to save as the same bytes.
+fn expect_same(
+    rt: &impl Abort,
+    alloc: Global,
+    one: &Cedar<Global>,
+    other: &Cedar<Global>,
+) -> Result<(), Fail> {
+    assert!(rt; one.len() == other.len());
+    let bytes = saved(alloc, one)?;
+    let others = saved(alloc, other)?;
+    expect_bytes(rt, &bytes, &others);
+    Ok(())
+}
+
+// They have to be the same, and to stay so as both get more keys.
+fn expect_same_later(
+    rt: &impl Abort,
+    alloc: Global,
+    one: &mut Cedar<Global>,
+    other: &mut Cedar<Global>,
+) -> Result<(), Fail> {
+    expect_same(rt, alloc, one, other)?;
+    put_more(one)?;
+    put_more(other)?;
+    expect_same(rt, alloc, one, other)
 }
 
 // A dictionary of some thousand keys goes on as the saved one: the same calls leave the same bytes.
 #[test]
 fn many_keys(rt: HostRuntime) -> Result<(), Fail> {
     let mut cedar = Cedar::new(rt.alloc())?;
-    for number in 0..3000u32 {
-        let mixed = number.wrapping_mul(2654435761);
-        let mut key = mixed.to_be_bytes();
-        for byte in &mut key {
-            *byte |= 1;
-        }
-        cedar.update_bytes(&key, number as i32)?;
+    put_thousands(&mut cedar)?;
+    let mut again = reloaded(rt.alloc(), &cedar)?;
+    expect_same_later(&rt, rt.alloc(), &mut cedar, &mut again)
+}
+
+fn put_below(cedar: &mut Cedar<Global>) -> Result<(), CedarError> {
+    for label in 1..=255u8 {
+        put(cedar, &[97, label], 1)?;
     }
-    let bytes = saved(rt.alloc(), &cedar)?;
-    let mut again = loaded(rt.alloc(), &bytes)?;
-    assert!(&rt; saved(rt.alloc(), &again)? == bytes);
-    assert!(&rt; again.len() == cedar.len());
-    for key in ["x", "xy", "xyz", "longer"] {
-        cedar.update(key, 1)?;
-        again.update(key, 1)?;
+    Ok(())
+}
+
+// Further keys have to fit, and what was held has to stay.
+fn expect_more(rt: &impl Abort, cedar: &mut Cedar<Global>) -> Result<(), CedarError> {
+    for label in 1..=255u8 {
+        put(cedar, &[97, label, 97], 2)?;
+        expect_found(rt, cedar, &[97, label], Some((1, 2)));
     }
-    assert!(&rt; saved(rt.alloc(), &again)? == saved(rt.alloc(), &cedar)?);
+    Ok(())
+}
+
+fn expect_room(rt: &impl Abort, cedar: &Cedar<Global>, slots: usize, spare: usize) {
+    assert!(rt; cedar.node_capacity() == slots);
+    assert!(rt; cedar.spare_blocks() == spare);
+}
+
+// Both versions of a dictionary's file have to be these.
+fn expect_files(
+    rt: &impl Abort,
+    alloc: Global,
+    cedar: &Cedar<Global>,
+    short: &[u8],
+    long: &[u8],
+) -> Result<(), Fail> {
+    let found = saved(alloc, cedar)?;
+    expect_bytes(rt, &found, short);
+    let found = saved_v1_0(alloc, cedar)?;
+    expect_bytes(rt, &found, long);
     Ok(())
 }
 
@@ -240,13 +381,9 @@ fn expect_spare(
     long: &[u8],
 ) -> Result<(), Fail> {
     let mut again = loaded(alloc, file)?;
-    assert!(rt; (again.node_capacity(), again.spare_blocks()) == (1024, 1));
-    assert!(rt; saved(alloc, &again)?.as_slice() == short);
-    assert!(rt; saved_v1_0(alloc, &again)?.as_slice() == long);
-    for label in 1..=255u8 {
-        again.update_bytes(&[97, label, 97], 2)?;
-        assert!(rt; again.exact_match_search_bytes(&[97, label]) == Some((1, 2)));
-    }
+    expect_room(rt, &again, 1024, 1);
+    expect_files(rt, alloc, &again, short, long)?;
+    expect_more(rt, &mut again)?;
     Ok(())
 }
 
@@ -254,12 +391,10 @@ fn expect_spare(
 #[test]
 fn spare_blocks_are_left_out(rt: HostRuntime) -> Result<(), Fail> {
     let mut cedar = Cedar::new(rt.alloc())?;
-    for label in 1..=255u8 {
-        cedar.update_bytes(&[97, label], 1)?;
-    }
+    put_below(&mut cedar)?;
     let short = saved(rt.alloc(), &cedar)?;
     let long = saved_v1_0(rt.alloc(), &cedar)?;
-    assert!(rt; (short.len(), long.len()) == (8342, 10922));
+    assert!(&rt; (short.len(), long.len()) == (8342, 10922));
     expect_spare(&rt, rt.alloc(), &short, &short, &long)?;
     expect_spare(&rt, rt.alloc(), &long, &short, &long)
 }

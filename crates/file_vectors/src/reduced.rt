@@ -1,6 +1,9 @@
 //! Files of the reduced layout.
-use crate::bytes::{Full, empty_file, expect_loaded, expect_saved, loaded, loaded_as, saved, set};
-use cedarwood::{Cedar, CedarBuilder, CedarError, CedarPersistenceError, ReducedLayout, Trie};
+use crate::bytes::{Full, empty_file, expect_loaded, expect_saved, loaded_as, saved, set};
+use cedarwood::{
+    Cedar, CedarBuilder, CedarError, CedarPersistenceError, DefaultLayout, Layout, ReducedLayout,
+    Trie,
+};
 use std::alloc::{AllocError, Global};
 use std::test::Fail;
 
@@ -41,28 +44,26 @@ fn one_key(rt: HostRuntime) -> Result<(), Fail> {
     expect_loaded::<ReducedLayout>(&rt, rt.alloc(), &file, 2, Some((7, 1)))
 }
 
+// The layout that a load asks for, and that of the file, if they aren't the same.
+fn mismatch<L: Layout>(alloc: Global, file: &[u8]) -> Option<(u8, u8)> {
+    match loaded_as::<L>(alloc, file) {
+        Err(CedarPersistenceError::LayoutMismatch { expected, found }) => Some((expected, found)),
+        _ => None,
+    }
+}
+
+fn saved_new(alloc: Global) -> Result<Vec<u8>, Fail> {
+    let cedar = Cedar::new(alloc)?;
+    let file = saved(alloc, &cedar)?;
+    Ok(file)
+}
+
 // A file of one layout is none of the other.
 #[test]
 fn the_other_layout(rt: HostRuntime) -> Result<(), Fail> {
     let file = one_key_file(rt.alloc())?;
-    assert!(&rt;
-        matches!(
-            loaded(rt.alloc(), &file),
-            Err(CedarPersistenceError::LayoutMismatch {
-                expected: 0,
-                found: 1
-            })
-        )
-    );
-    let file = saved(rt.alloc(), &Cedar::new(rt.alloc())?)?;
-    assert!(&rt;
-        matches!(
-            loaded_as::<ReducedLayout>(rt.alloc(), &file),
-            Err(CedarPersistenceError::LayoutMismatch {
-                expected: 1,
-                found: 0
-            })
-        )
-    );
+    assert!(&rt; mismatch::<DefaultLayout>(rt.alloc(), &file) == Some((0, 1)));
+    let file = saved_new(rt.alloc())?;
+    assert!(&rt; mismatch::<ReducedLayout>(rt.alloc(), &file) == Some((1, 0)));
     Ok(())
 }

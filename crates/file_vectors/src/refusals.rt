@@ -4,24 +4,28 @@ use cedarwood::{Cedar, CedarPersistenceError, Watched};
 use std::alloc::{AllocError, Global};
 use std::test::Fail;
 
+fn has_more(alloc: Global, file: &[u8]) -> bool {
+    matches!(
+        loaded(alloc, file),
+        Err(CedarPersistenceError::TrailingData)
+    )
+}
+
+fn is_cut(alloc: Global, file: &[u8], len: usize) -> bool {
+    matches!(
+        loaded_front(alloc, file, len),
+        Err(CedarPersistenceError::Truncated)
+    )
+}
+
 // A byte too many, and one too few where the number of trials is at fault too.
 #[test]
 fn the_length(rt: HostRuntime) -> Result<(), Fail> {
     let mut file = empty_file(rt.alloc())?;
     file.push(0)?;
-    assert!(rt;
-        matches!(
-            loaded(rt.alloc(), &file),
-            Err(CedarPersistenceError::TrailingData)
-        )
-    );
+    assert!(&rt; has_more(rt.alloc(), &file));
     set(&mut file, 16, 0);
-    assert!(rt;
-        matches!(
-            loaded_front(rt.alloc(), &file, 3181),
-            Err(CedarPersistenceError::Truncated)
-        )
-    );
+    assert!(&rt; is_cut(rt.alloc(), &file, 3181));
     Ok(())
 }
 

@@ -1,10 +1,22 @@
 //! The texts of errors.
 use cedarwood::CedarPersistenceError;
+use std::alloc::Global;
+use std::process::Abort;
 use std::test::Fail;
+
+fn expect_text(
+    rt: &impl Abort,
+    alloc: Global,
+    error: &CedarPersistenceError,
+    wanted: &str,
+) -> Result<(), Fail> {
+    let told = format!(in alloc; "{error}")?;
+    assert!(rt; told.as_str() == wanted);
+    Ok(())
+}
 
 #[test]
 fn texts(rt: HostRuntime) -> Result<(), Fail> {
-    let alloc = rt.alloc();
     let cases = [
         (
             CedarPersistenceError::Truncated,
@@ -61,7 +73,7 @@ fn texts(rt: HostRuntime) -> Result<(), Fail> {
         ),
     ];
     for (error, text) in &cases {
-        assert!(&rt; format!(in alloc; "{error}")?.as_str() == *text);
+        expect_text(&rt, rt.alloc(), error, text)?;
     }
     Ok(())
 }

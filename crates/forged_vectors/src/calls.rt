@@ -1,10 +1,11 @@
 //! What loads goes on: it is saved as the same bytes, takes calls beside a plain tree, is saved and loads again.
+use crate::bare::{counts, cut, erase, exact, found, put, saved, update};
 use crate::fields::{File, minor};
 use crate::tree::{Entry, keys_of};
 use crate::verdict::{Verdict, judged};
-use cedarwood::{Cedar, CedarPersistenceError, DEFAULT_LOAD_MEMORY_LIMIT, Watched};
+use cedarwood::{Cedar, CedarPersistenceError, DEFAULT_LOAD_MEMORY_LIMIT, Layout, Trie, Watched};
 use plain_tree::PlainTree;
-use std::alloc::{AllocError, Global};
+use std::alloc::{AllocError, Allocator, Global};
 use std::process::Abort;
 use std::test::Fail;
 
@@ -13,21 +14,6 @@ pub const SLOTS: usize = 1073741824;
 
 // How many calls a loaded file takes.
 const CALLS: u32 = 50;
-
-/// The bytes of a dictionary that is saved in a minor version of the format.
-pub fn saved(
-    alloc: Global,
-    trie: &Cedar<Global>,
-    minor: u64,
-) -> Result<Vec<u8>, CedarPersistenceError> {
-    let mut writer = Watched::new(Vec::new(alloc));
-    if minor == 0 {
-        trie.save_v1_0_to_writer(&mut writer)?;
-    } else {
-        trie.save_to_writer(&mut writer)?;
-    }
-    Ok(writer.into_inner())
-}
 
 /// The dictionary of some bytes.
 #[tactic(auto, using(cedarwood::proofs::DictionaryLemmas::default_limit))]
@@ -72,7 +58,7 @@ fn tree_of(
 ) -> Result<PlainTree<Global>, AllocError> {
     let mut tree = PlainTree::new(alloc);
     for (key, value) in entries {
-        tree.put(alloc, ordered, key, *value)?;
+        put(alloc, &mut tree, ordered, key, *value)?;
     }
     Ok(tree)
 }
@@ -83,27 +69,36 @@ fn call(alloc: Global, both: &mut Beside) -> Result<bool, AllocError> {
     let number = next(&mut both.seed);
     let agreed = if number % 8 < 5 {
         let value = (number / 8) as i32;
-        both.tree.put(alloc, both.ordered, &key, value)?;
-        both.trie.update_bytes(&key, value).is_ok()
+        put(alloc, &mut both.tree, both.ordered, &key, value)?;
+        update(&mut both.trie, &key, value).is_ok()
     } else {
-        both.tree.cut(&key) == both.trie.erase_bytes(&key)
+        cut(&mut both.tree, &key) == erase(&mut both.trie, &key)
     };
-    Ok(agreed && both.tree.exact(&key) == both.trie.exact_match_search_bytes(&key))
+    Ok(agreed && exact(&both.tree, &key) == found(&both.trie, &key))
+}
+
+// Whether a dictionary finds each of these.
+fn finds_each<L: Layout, const SLOTS: usize, A: Allocator + Copy>(
+    trie: &Trie<L, SLOTS, A>,
+    entries: &[Entry],
+) -> bool {
+    for (key, value) in entries {
+        if found(trie, key) != Some((*value, key.len())) {
+            return false;
+        }
+    }
+    true
 }
 
 // Whether both hold the same, in as many slots as the tree takes.
-fn agree(
+fn agree<L: Layout, const SLOTS: usize, A: Allocator + Copy>(
     alloc: Global,
-    trie: &Cedar<Global>,
+    trie: &Trie<L, SLOTS, A>,
     tree: &PlainTree<Global>,
 ) -> Result<bool, AllocError> {
     let entries = tree.walk(alloc)?;
-    for (key, value) in &entries {
-        if trie.exact_match_search_bytes(key) != Some((*value, key.len())) {
-            return Ok(false);
-        }
-    }
-    Ok(trie.len() == entries.len() && trie.used_node_slots() == tree.used(alloc)?)
+    let wanted = (entries.len(), tree.used(alloc)?);
+    Ok(counts(trie) == wanted && finds_each(trie, &entries))
 }
 
 // Calls one after another, and whether all agreed.

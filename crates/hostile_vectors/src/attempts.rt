@@ -1,7 +1,10 @@
 //! Calls on a dictionary that take memory, each request of which is refused in turn.
-use crate::state::{Full, State, loads_again, state_of};
-use cedarwood::{CedarBuilder, CedarError, DefaultLayout, Layout, ReducedLayout};
-use std::alloc::Global;
+ghost use Rattle.cedar_slots.specs.Places.{IsSlotLimit};
+
+use crate::bare::{Full, below, build, copied, counts, fronts, insert, made, update};
+use crate::state::{State, loads_again, state_of};
+use cedarwood::{CedarError, DefaultLayout, Layout, ReducedLayout, Trie};
+use std::alloc::{Allocator, Global};
 use std::process::Abort;
 use std::test::Fail;
 use test_devices::Refusing;
@@ -35,39 +38,55 @@ const ATTEMPTS: [Attempt; 6] = [
     Attempt::Predicted,
 ];
 
-type Tested<'a, L> = Full<L, &'a Refusing<Global>>;
-
-#[tactic(auto, using(cedarwood::proofs::DictionaryLemmas::default_limit))]
-fn begun<'a, L: Layout>(
-    memory: &'a Refusing<Global>,
+fn begun<L: Layout, const SLOTS: usize, A: Allocator + Copy>(
+    alloc: A,
     ordered: bool,
-) -> Result<Tested<'a, L>, CedarError> {
-    let mut trie = Full::<L, &'a Refusing<Global>>::with(
-        memory,
-        CedarBuilder::new().ordered(ordered),
-    )?;
-    trie.build_bytes(&BEFORE)?;
+) -> Result<Trie<L, SLOTS, A>, CedarError>
+    requires { IsSlotLimit SLOTS }
+{
+    let mut trie = made(alloc, ordered)?;
+    build(&mut trie, &BEFORE)?;
     Ok(trie)
 }
 
-// Makes a call, and answers how many keys were held then, copied or found.
-fn make_attempt<L: Layout>(trie: &mut Tested<'_, L>, what: Attempt) -> Result<usize, CedarError> {
-    match what {
-        Attempt::Update => trie.update_bytes(&LONG, 9)?,
-        Attempt::Insert => {
-            trie.insert_bytes(&LONG, 9)?;
-        }
-        Attempt::Build => trie.build_bytes(&PAIRS)?,
-        Attempt::Clone => {
-            let Ok(copy) = trie.clone() else {
-                return Err(CedarError::Memory);
-            };
-            return Ok(copy.len());
-        }
-        Attempt::Fronts => return Ok(trie.common_prefix_search_bytes(b"abc")?.len()),
-        Attempt::Predicted => return Ok(trie.common_prefix_predict_bytes(b"")?.len()),
+// How many keys a copy has.
+fn count_copied<L: Layout, const SLOTS: usize, A: Allocator + Copy>(
+    trie: &Trie<L, SLOTS, A>,
+) -> Result<usize, CedarError> {
+    match copied(trie) {
+        Ok(copy) => Ok(copy.len()),
+        Err(_) => Err(CedarError::Memory),
     }
-    Ok(trie.len())
+}
+
+fn count_fronts<L: Layout, const SLOTS: usize, A: Allocator + Copy>(
+    trie: &Trie<L, SLOTS, A>,
+) -> Result<usize, CedarError> {
+    Ok(fronts(trie, b"abc")?.len())
+}
+
+fn count_predicted<L: Layout, const SLOTS: usize, A: Allocator + Copy>(
+    trie: &Trie<L, SLOTS, A>,
+) -> Result<usize, CedarError> {
+    Ok(below(trie, b"")?.len())
+}
+
+// Makes a call, and answers how many keys were held then, copied or found.
+fn make_attempt<L: Layout, const SLOTS: usize, A: Allocator + Copy>(
+    trie: &mut Trie<L, SLOTS, A>,
+    what: Attempt,
+) -> Result<usize, CedarError> {
+    match what {
+        Attempt::Update => update(trie, &LONG, 9)?,
+        Attempt::Insert => {
+            insert(trie, &LONG, 9)?;
+        }
+        Attempt::Build => build(trie, &PAIRS)?,
+        Attempt::Clone => return count_copied(trie),
+        Attempt::Fronts => return count_fronts(trie),
+        Attempt::Predicted => return count_predicted(trie),
+    }
+    Ok(counts(trie).0)
 }
 
 // How many keys are held, copied or found where the call succeeds.
@@ -80,32 +99,68 @@ fn answer(what: Attempt) -> usize {
     }
 }
 
-// What is held once the first pairs of a build are stored.
-#[tactic(auto, using(cedarwood::proofs::DictionaryLemmas::default_limit))]
-fn after_pairs<L: Layout>(alloc: Global, ordered: bool, count: usize) -> Result<State, Fail> {
-    let mut trie = Full::<L, Global>::with(alloc, CedarBuilder::new().ordered(ordered))?;
-    trie.build_bytes(&BEFORE)?;
+fn update_front<L: Layout, const SLOTS: usize, A: Allocator + Copy>(
+    trie: &mut Trie<L, SLOTS, A>,
+    count: usize,
+) -> Result<(), CedarError> {
     for (key, value) in PAIRS.iter().take(count) {
-        trie.update_bytes(key, *value)?;
+        update(trie, key, *value)?;
     }
-    Ok(state_of(alloc, &trie)?)
+    Ok(())
 }
 
-// Whether what is held is what was held before the call, or a front of the pairs more where the call is a build.
-fn is_left<L: Layout>(
+// Whether this is what is held once the first pairs of a build are stored, one by one.
+#[tactic(auto, using(cedarwood::proofs::DictionaryLemmas::default_limit))]
+fn is_after_pairs<L: Layout>(
     alloc: Global,
-    trie: &Tested<'_, L>,
     ordered: bool,
-    what: Attempt,
+    count: usize,
+    left: &State,
 ) -> Result<bool, Fail> {
-    let left = state_of(alloc, trie)?;
-    let most = if matches!(what, Attempt::Build) { 4 } else { 1 };
+    let mut trie: Full<L, Global> = begun(alloc, ordered)?;
+    update_front(&mut trie, count)?;
+    Ok(state_of(alloc, &trie)? == *left)
+}
+
+// Whether this is what is held after so many of a build's pairs, or after a front of these.
+fn is_after_some<L: Layout>(
+    alloc: Global,
+    ordered: bool,
+    most: usize,
+    left: &State,
+) -> Result<bool, Fail> {
     for count in 0..most {
-        if after_pairs::<L>(alloc, ordered, count)? == left {
+        if is_after_pairs::<L>(alloc, ordered, count, left)? {
             return Ok(true);
         }
     }
     Ok(false)
+}
+
+// Whether what is held is what was held before the call, or a front of the pairs more where the call is a build, and its
+// saved bytes load.
+fn is_left<L: Layout, const SLOTS: usize, A: Allocator + Copy>(
+    alloc: Global,
+    trie: &Trie<L, SLOTS, A>,
+    ordered: bool,
+    what: Attempt,
+) -> Result<bool, Fail>
+    requires { IsSlotLimit SLOTS }
+{
+    let most = if matches!(what, Attempt::Build) { 4 } else { 1 };
+    let left = state_of(alloc, trie)?;
+    Ok(is_after_some::<L>(alloc, ordered, most, &left)? && loads_again(alloc, trie)?)
+}
+
+// Whether the call succeeds, and what is then held loads.
+fn succeeds<L: Layout, const SLOTS: usize, A: Allocator + Copy>(
+    alloc: Global,
+    trie: &mut Trie<L, SLOTS, A>,
+    what: Attempt,
+) -> Result<bool, Fail>
+    requires { IsSlotLimit SLOTS }
+{
+    Ok(make_attempt(trie, what) == Ok(answer(what)) && loads_again(alloc, trie)?)
 }
 
 // Makes a call with some requests refused, and says whether it answered want of memory. If it did, what was held stays and its saved
@@ -120,20 +175,24 @@ fn is_refused<L: Layout>(
     refused: (u64, u64),
 ) -> Result<bool, Fail> {
     let memory = Refusing::new(alloc);
-    let mut trie = begun::<L>(&memory, ordered)?;
+    let mut trie: Full<L, &Refusing<Global>> = begun(&memory, ordered)?;
     memory.refuse(refused.0, refused.1);
     let outcome = make_attempt(&mut trie, what);
     let is_met = memory.requests() >= refused.0;
     memory.refuse_none();
-    let wanted = Ok(answer(what));
-    let is_right = if outcome == Err(CedarError::Memory) {
-        is_met && is_left(alloc, &trie, ordered, what)? && loads_again(alloc, &trie)?
+    let is_short = outcome == Err(CedarError::Memory);
+    let is_right = if is_short {
+        is_met && is_left(alloc, &trie, ordered, what)?
     } else {
-        outcome == wanted
+        outcome == Ok(answer(what))
     };
-    let succeeds = make_attempt(&mut trie, what) == wanted && loads_again(alloc, &trie)?;
-    expect(rt, (is_right, succeeds), what, refused);
-    Ok(outcome.is_err())
+    expect(
+        rt,
+        (is_right, succeeds(alloc, &mut trie, what)?),
+        what,
+        refused,
+    );
+    Ok(is_short)
 }
 
 // A call with some requests refused, and the next one, have to answer as they should.

@@ -1,24 +1,40 @@
 //! Calls of which no other test makes use, at values made by hand.
 ghost use Rattle.std.specs.Prelude.{◌≡◌, ◌<◌};
 
+use crate::bare::{empty, update};
 use crate::state::saved;
 use cedar_words::LongestPrefix;
 use cedarwood::persistence::v1;
 use cedarwood::{
-    Cedar, CedarError, CedarPersistenceError, DEFAULT_LOAD_MEMORY_LIMIT, Ticks, Watched,
+    Cedar, CedarError, CedarPersistenceError, DEFAULT_LOAD_MEMORY_LIMIT, DefaultLayout, Ticks,
+    Watched,
 };
-use std::alloc::Global;
+use std::alloc::{AllocError, Global};
 use std::marker::Brand;
 use std::process::Abort;
 use std::sync::ledger::{Blank, Ledger};
 use std::test::Fail;
 
 fn chain(alloc: Global) -> Result<Cedar<Global>, CedarError> {
-    let mut cedar = Cedar::new(alloc)?;
-    cedar.update("a", 1)?;
-    cedar.update("ab", 2)?;
-    cedar.update("abc", 3)?;
+    let mut cedar = empty::<DefaultLayout>(alloc)?;
+    update(&mut cedar, b"a", 1)?;
+    update(&mut cedar, b"ab", 2)?;
+    update(&mut cedar, b"abc", 3)?;
     Ok(cedar)
+}
+
+type Pairs = Vec<(i32, usize)>;
+
+fn fronts(alloc: Global, cedar: &Cedar<Global>, query: &[u8]) -> Result<Pairs, AllocError> {
+    cedar.common_prefix_iter_bytes(query).collect(alloc)
+}
+
+fn below(alloc: Global, cedar: &Cedar<Global>, query: &[u8]) -> Result<Pairs, AllocError> {
+    cedar.common_prefix_predict_iter_bytes(query).collect(alloc)
+}
+
+fn longest(cedar: &Cedar<Global>, text: &[u8]) -> Option<(i32, usize)> {
+    cedar.longest_prefix(text)
 }
 
 fn expect_pairs(rt: &impl Abort, found: &[(i32, usize)], wanted: [(i32, usize); 2]) {
@@ -28,13 +44,9 @@ fn expect_pairs(rt: &impl Abort, found: &[(i32, usize)], wanted: [(i32, usize); 
 #[test]
 fn walks_and_longest(rt: HostRuntime) -> Result<(), Fail> {
     let cedar = chain(rt.alloc())?;
-    let fronts: Vec<(i32, usize)> = cedar.common_prefix_iter_bytes(b"abx").collect(rt.alloc())?;
-    expect_pairs(&rt, &fronts, [(1, 0), (2, 1)]);
-    let below: Vec<(i32, usize)> = cedar
-        .common_prefix_predict_iter_bytes(b"ab")
-        .collect(rt.alloc())?;
-    expect_pairs(&rt, &below, [(2, 0), (3, 1)]);
-    let longest = (cedar.longest_prefix(b"abx"), cedar.longest_prefix(b"x"));
+    expect_pairs(&rt, &fronts(rt.alloc(), &cedar, b"abx")?, [(1, 0), (2, 1)]);
+    expect_pairs(&rt, &below(rt.alloc(), &cedar, b"ab")?, [(2, 0), (3, 1)]);
+    let longest = (longest(&cedar, b"abx"), longest(&cedar, b"x"));
     assert!(rt; longest == (Some((2, 1)), None));
     Ok(())
 }
@@ -117,26 +129,34 @@ fn unsigned_numbers_of_a_file(rt: HostRuntime) -> Result<(), Fail> {
     Ok(())
 }
 
-// A header goes out as it came in, and the lists of a file are as long as it says.
+// The front of a file, as its header is written anew.
+fn header_again(alloc: Global, file: &[u8]) -> Result<Vec<u8>, CedarPersistenceError> {
+    let header = v1::read_header(&mut Watched::new(file), v1::LAYOUT)?;
+    let mut writer = Watched::new(Vec::new(alloc));
+    v1::write_header(&mut writer, v1::LAYOUT, header)?;
+    Ok(writer.into_inner())
+}
+
+// How many nodes a file lists, how many it says, and how many reject values it has.
 #[tactic(auto, using(cedarwood::proofs::DictionaryLemmas::default_limit))]
+fn lengths_of(alloc: Global, file: &[u8]) -> Result<(usize, usize, usize), CedarPersistenceError> {
+    let header = v1::read_header(&mut Watched::new(file), v1::LAYOUT)?;
+    let mut reader = Watched::new(file);
+    let limit = DEFAULT_LOAD_MEMORY_LIMIT;
+    let decoded = v1::decode(alloc, &mut reader, v1::LAYOUT, 1073741824, limit)?;
+    if decoded.header != header {
+        return Err(CedarPersistenceError::TrailingData);
+    }
+    Ok((decoded.nodes.len(), header.capacity, decoded.reject.len()))
+}
+
+// A header goes out as it came in, and the lists of a file are as long as it says.
 #[test]
 fn fields_of_a_file(rt: HostRuntime) -> Result<(), Fail> {
     let file = saved(rt.alloc(), &chain(rt.alloc())?)?;
-    let header = v1::read_header(&mut Watched::new(file.as_slice()), v1::LAYOUT)?;
-    let mut writer = Watched::new(Vec::new(rt.alloc()));
-    v1::write_header(&mut writer, v1::LAYOUT, header)?;
-    assert!(rt; file.starts_with(&writer.into_inner()));
-    let mut reader = Watched::new(file.as_slice());
-    let decoded = v1::decode(
-        rt.alloc(),
-        &mut reader,
-        v1::LAYOUT,
-        1073741824,
-        DEFAULT_LOAD_MEMORY_LIMIT,
-    )?;
-    assert!(rt; decoded.header == header);
-    assert!(rt; decoded.nodes.len() == header.capacity);
-    assert!(rt; decoded.reject.len() == 257);
+    assert!(rt; file.starts_with(&header_again(rt.alloc(), &file)?));
+    let (nodes, capacity, rejects) = lengths_of(rt.alloc(), &file)?;
+    assert!(rt; (nodes, rejects) == (capacity, 257));
     let mut room: Vec<u8> = Vec::new(rt.alloc());
     v1::reserve_exact(&mut room, 5)?;
     assert!(rt; room.capacity() >= 5);

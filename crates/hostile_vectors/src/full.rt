@@ -1,22 +1,20 @@
 //! Dictionaries whose slots are all in use: a refused key leaves them as they were, and they can be emptied and filled again.
 ghost use Rattle.cedar_slots.specs.Places.{IsSlotLimit};
 
+use crate::bare::{counts, erase, found, made, room, update};
 use crate::state::{loads_again, saved};
-use cedarwood::{CedarBuilder, CedarError, DefaultLayout, Layout, ReducedLayout, Trie};
+use cedarwood::{CedarError, DefaultLayout, Layout, ReducedLayout, Trie};
 use std::alloc::Global;
 use std::process::Abort;
 use std::test::Fail;
 
-// Stores each key of one byte: how many slots are then used.
-fn fill<L: Layout, const SLOTS: usize>(
-    rt: &impl Abort,
-    trie: &mut Trie<L, SLOTS, Global>,
-) -> usize {
+// Stores each key of one byte, and says whether all were stored.
+fn fill<L: Layout, const SLOTS: usize>(trie: &mut Trie<L, SLOTS, Global>) -> bool {
+    let mut are_stored = true;
     for byte in 0..255u8 {
-        assert!(rt; trie.update_bytes(&[byte + 1], 1) == Ok(()));
+        are_stored = update(trie, &[byte + 1], 1).is_ok() && are_stored;
     }
-    assert!(rt; (trie.len(), trie.spare_blocks()) == (255, 0));
-    trie.used_node_slots()
+    are_stored
 }
 
 // Block 0's count in a file: free slots, and one for the root.
@@ -24,9 +22,54 @@ fn first_count(file: &[u8], slots: usize) -> Option<u8> {
     file.get(slots.wrapping_mul(10).wrapping_add(96)).copied()
 }
 
-// All keys of one byte fill block 0. One more below them is refused, a value in the place of another isn't; and all of it once more
-// after each key was erased.
+// All keys of one byte fill block 0: then it has no free slot, and no other block is spare.
+fn expect_filled<L: Layout, const SLOTS: usize>(
+    rt: &impl Abort,
+    alloc: Global,
+    trie: &mut Trie<L, SLOTS, Global>,
+    used: usize,
+) -> Result<(), Fail> {
+    assert!(rt; fill(trie));
+    assert!(rt; (counts(trie), room(trie).1) == ((255, used), 0));
+    assert!(rt; first_count(&saved(alloc, trie)?, SLOTS) == Some(1));
+    Ok(())
+}
+
+// A key more is refused, and leaves all as it was. A value in the place of another isn't.
 fn expect_full<L: Layout, const SLOTS: usize>(
+    rt: &impl Abort,
+    alloc: Global,
+    trie: &mut Trie<L, SLOTS, Global>,
+    used: usize,
+) -> Result<(), Fail>
+    requires { IsSlotLimit SLOTS }
+{
+    assert!(rt; update(trie, &[1, 1], 2) == Err(CedarError::SlotLimit));
+    assert!(rt; counts(trie) == (255, used));
+    assert!(rt; loads_again(alloc, trie)?);
+    assert!(rt; update(trie, &[2], 9).is_ok());
+    assert!(rt; found(trie, &[2]) == Some((9, 1)));
+    Ok(())
+}
+
+// Each key is erased, and what is then left loads.
+fn expect_emptied<L: Layout, const SLOTS: usize>(
+    rt: &impl Abort,
+    alloc: Global,
+    trie: &mut Trie<L, SLOTS, Global>,
+) -> Result<(), Fail>
+    requires { IsSlotLimit SLOTS }
+{
+    for byte in 0..255u8 {
+        let was_held = erase(trie, &[255 - byte]);
+        assert!(rt; was_held && loads_again(alloc, trie)?);
+    }
+    assert!(rt; counts(trie) == (0, 1));
+    Ok(())
+}
+
+// A dictionary is filled and emptied, and all of it once more.
+fn expect_twice<L: Layout, const SLOTS: usize>(
     rt: &impl Abort,
     alloc: Global,
     ordered: bool,
@@ -34,20 +77,11 @@ fn expect_full<L: Layout, const SLOTS: usize>(
 ) -> Result<(), Fail>
     requires { IsSlotLimit SLOTS }
 {
-    let mut trie = Trie::<L, SLOTS, Global>::with(alloc, CedarBuilder::new().ordered(ordered))?;
+    let trie = &mut made::<L, SLOTS, Global>(alloc, ordered)?;
     for _ in 0..2 {
-        assert!(rt; fill(rt, &mut trie) == used);
-        assert!(rt; first_count(&saved(alloc, &trie)?, SLOTS) == Some(1));
-        assert!(rt; trie.update_bytes(&[1, 1], 2) == Err(CedarError::SlotLimit));
-        assert!(rt; (trie.len(), trie.used_node_slots()) == (255, used));
-        assert!(rt; loads_again(alloc, &trie)?);
-        assert!(rt; trie.update_bytes(&[2], 9) == Ok(()));
-        assert!(rt; trie.exact_match_search_bytes(&[2]) == Some((9, 1)));
-        for byte in 0..255u8 {
-            assert!(rt; trie.erase_bytes(&[255 - byte]));
-            assert!(rt; loads_again(alloc, &trie)?);
-        }
-        assert!(rt; (trie.len(), trie.used_node_slots()) == (0, 1));
+        expect_filled(rt, alloc, trie, used)?;
+        expect_full(rt, alloc, trie, used)?;
+        expect_emptied(rt, alloc, trie)?;
     }
     Ok(())
 }
@@ -56,8 +90,8 @@ fn expect_full<L: Layout, const SLOTS: usize>(
 #[test]
 fn emptied_and_filled_again(rt: HostRuntime) -> Result<(), Fail> {
     for ordered in [true, false] {
-        expect_full::<DefaultLayout, 512>(&rt, rt.alloc(), ordered, 511)?;
-        expect_full::<ReducedLayout, 256>(&rt, rt.alloc(), ordered, 256)?;
+        expect_twice::<DefaultLayout, 512>(&rt, rt.alloc(), ordered, 511)?;
+        expect_twice::<ReducedLayout, 256>(&rt, rt.alloc(), ordered, 256)?;
     }
     Ok(())
 }

@@ -5,6 +5,8 @@
 #[cfg(test)]
 mod attempts;
 #[cfg(test)]
+mod bare;
+#[cfg(test)]
 mod calls;
 #[cfg(test)]
 mod full;

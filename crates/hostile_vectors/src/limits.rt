@@ -1,8 +1,9 @@
 //! Mixed calls on dictionaries of few slots beside the plain tree, most of the time with no slot left.
 ghost use Rattle.cedar_slots.specs.Places.{IsSlotLimit};
 
+use crate::bare::{erase, made, room, update};
 use crate::state::{loads_again, state_of};
-use cedarwood::{CedarBuilder, CedarError, DefaultLayout, Layout, ReducedLayout, Trie};
+use cedarwood::{CedarError, DefaultLayout, Layout, ReducedLayout, Trie};
 use plain_tree::PlainTree;
 use std::alloc::{AllocError, Global};
 use std::process::Abort;
@@ -46,61 +47,109 @@ fn key(alloc: Global, seed: &mut u32) -> Result<Vec<u8>, AllocError> {
     Ok(key)
 }
 
-// The tree's change of a put: the numbers of the held fronts move into slots, and the key's own is in one if longer keys are held.
-fn put<L: Layout, const SLOTS: usize>(
+fn is_held(tree: &PlainTree<Global>, key: &[u8]) -> bool {
+    tree.number_at(key).is_some()
+}
+
+fn put(
+    alloc: Global,
+    tree: &mut PlainTree<Global>,
+    ordered: bool,
+    key: &[u8],
+    value: i32,
+) -> Result<(), AllocError> {
+    tree.put(alloc, ordered, key, value)
+}
+
+fn cut(tree: &mut PlainTree<Global>, key: &[u8]) -> bool {
+    tree.cut(key)
+}
+
+// Whether a key or a longer one is held.
+fn goes_on(alloc: Global, tree: &PlainTree<Global>, key: &[u8]) -> Result<bool, AllocError> {
+    Ok(!tree.predict(alloc, key)?.is_empty())
+}
+
+// A new key moves the numbers of the held fronts into slots, and its own is in one if longer keys are held.
+fn mark(
+    alloc: Global,
+    tree: &PlainTree<Global>,
+    marked: &mut PlainTree<Global>,
+    key: &[u8],
+) -> Result<(), AllocError> {
+    for (_, last) in &tree.front(alloc, key)? {
+        put(
+            alloc,
+            marked,
+            true,
+            &key[..last.wrapping_add(1).min(key.len())],
+            1,
+        )?;
+    }
+    if goes_on(alloc, tree, key)? {
+        put(alloc, marked, true, key, 1)?;
+    }
+    Ok(())
+}
+
+// Stores a pair in both trees.
+fn put_both<L: Layout, const SLOTS: usize>(
     alloc: Global,
     both: &mut Beside<L, SLOTS>,
     key: &[u8],
     value: i32,
 ) -> Result<(), AllocError> {
-    if both.tree.number_at(key).is_none() {
-        for (_, last) in &both.tree.front(alloc, key)? {
-            both.marked.put(alloc, true, &key[..last.wrapping_add(1).min(key.len())], 1)?;
-        }
-        if !both.tree.predict(alloc, key)?.is_empty() {
-            both.marked.put(alloc, true, key, 1)?;
-        }
+    if !is_held(&both.tree, key) {
+        mark(alloc, &both.tree, &mut both.marked, key)?;
     }
-    both.tree.put(alloc, both.ordered, key, value)
+    put(alloc, &mut both.tree, both.ordered, key, value)
 }
 
-// Stores a pair in both, and says whether the dictionary is right to do so or to refuse it: only for want of slots, where all are in use,
-// and never a key that is held.
+// Whether a dictionary is right to refuse a key: only for want of slots, where all are in use, and never one that is held.
+fn is_right<L: Layout, const SLOTS: usize>(
+    both: &Beside<L, SLOTS>,
+    key: &[u8],
+    error: &CedarError,
+) -> bool {
+    *error == CedarError::SlotLimit && room(&both.trie) == (SLOTS, 0) && !is_held(&both.tree, key)
+}
+
+// Stores a pair in both, and says whether the dictionary is right to do so or to refuse it.
 fn store<L: Layout, const SLOTS: usize>(
     alloc: Global,
     both: &mut Beside<L, SLOTS>,
     key: &[u8],
     value: i32,
 ) -> Result<bool, AllocError> {
-    match both.trie.update_bytes(key, value) {
+    match update(&mut both.trie, key, value) {
         Ok(()) => {
-            put(alloc, both, key, value)?;
+            put_both(alloc, both, key, value)?;
             Ok(true)
         }
         Err(error) => {
             both.refused = both.refused.saturating_add(1);
-            let is_full = both.trie.node_capacity() == SLOTS && both.trie.spare_blocks() == 0;
-            Ok(error == CedarError::SlotLimit && is_full && both.tree.number_at(key).is_none())
+            Ok(is_right(both, key, &error))
         }
     }
 }
 
 // Erases a key from both, and says whether they answered the same.
-fn erase<L: Layout, const SLOTS: usize>(both: &mut Beside<L, SLOTS>, key: &[u8]) -> bool {
-    both.marked.cut(key);
-    both.tree.cut(key) == both.trie.erase_bytes(key)
+fn erase_both<L: Layout, const SLOTS: usize>(both: &mut Beside<L, SLOTS>, key: &[u8]) -> bool {
+    cut(&mut both.marked, key);
+    cut(&mut both.tree, key) == erase(&mut both.trie, key)
 }
 
 // One of the held keys, if there is one.
-fn held_key<L: Layout, const SLOTS: usize>(
+fn held_key(
     alloc: Global,
-    both: &mut Beside<L, SLOTS>,
+    tree: &PlainTree<Global>,
+    seed: &mut u32,
 ) -> Result<Vec<u8>, AllocError> {
-    let mut entries = both.tree.walk(alloc)?;
+    let mut entries = tree.walk(alloc)?;
     if entries.is_empty() {
-        return key(alloc, &mut both.seed);
+        return key(alloc, seed);
     }
-    let (key, _) = entries.swap_remove(next(&mut both.seed) as usize % entries.len());
+    let (key, _) = entries.swap_remove(next(seed) as usize % entries.len());
     Ok(key)
 }
 
@@ -116,30 +165,74 @@ fn call<L: Layout, const SLOTS: usize>(
     if is_storing == (number < 7) {
         return store(alloc, both, &key, (turn % 65536) as i32);
     }
-    let held = held_key(alloc, both)?;
-    Ok(erase(both, &key) && erase(both, &held))
+    let held = held_key(alloc, &both.tree, &mut both.seed)?;
+    Ok(erase_both(both, &key) && erase_both(both, &held))
 }
 
-// Whether both hold the same in the same order and in as many slots, and what is saved loads.
+// How many slots the keys take: one for the root, one for each node, and those of the numbers.
+fn used<L: Layout, const SLOTS: usize>(
+    alloc: Global,
+    both: &Beside<L, SLOTS>,
+    keys: usize,
+) -> Result<usize, AllocError> {
+    let numbers = if L::keeps_numbers() {
+        both.marked.len(alloc)?
+    } else {
+        keys
+    };
+    let nodes = both.tree.prefixes(alloc)?.len();
+    Ok(nodes.wrapping_add(numbers).wrapping_add(1))
+}
+
+// Whether both hold the same in the same order and in as many slots.
+fn hold_same<L: Layout, const SLOTS: usize>(
+    alloc: Global,
+    both: &Beside<L, SLOTS>,
+) -> Result<bool, AllocError> {
+    let state = state_of(alloc, &both.trie)?;
+    let held = both.tree.predict(alloc, b"")?;
+    let used = used(alloc, both, state.len)?;
+    Ok(state.len == held.len() && state.used == used && state.held == held)
+}
+
+// Whether both hold the same, and what is saved loads.
 fn agree<L: Layout, const SLOTS: usize>(
     alloc: Global,
     both: &Beside<L, SLOTS>,
 ) -> Result<bool, Fail>
     requires { IsSlotLimit SLOTS }
 {
-    let state = state_of(alloc, &both.trie)?;
-    let numbers = if L::keeps_numbers() {
-        both.marked.len(alloc)?
-    } else {
-        state.len
-    };
-    let nodes = both.tree.prefixes(alloc)?.len();
-    let is_same = state.held == both.tree.predict(alloc, b"")? && state.len == state.held.len();
-    Ok(
-        is_same
-            && state.used == nodes.wrapping_add(numbers).wrapping_add(1)
-            && loads_again(alloc, &both.trie)?,
-    )
+    Ok(hold_same(alloc, both)? && loads_again(alloc, &both.trie)?)
+}
+
+fn begun<L: Layout, const SLOTS: usize>(
+    alloc: Global,
+    ordered: bool,
+) -> Result<Beside<L, SLOTS>, CedarError>
+    requires { IsSlotLimit SLOTS }
+{
+    Ok(Beside {
+        trie: made(alloc, ordered)?,
+        tree: PlainTree::new(alloc),
+        marked: PlainTree::new(alloc),
+        ordered,
+        seed: 7,
+        refused: 0,
+    })
+}
+
+// One call on both, after which they have to agree.
+fn expect_call<L: Layout, const SLOTS: usize>(
+    rt: &impl Abort,
+    alloc: Global,
+    both: &mut Beside<L, SLOTS>,
+    turn: u32,
+) -> Result<(), Fail>
+    requires { IsSlotLimit SLOTS }
+{
+    let holds = call(alloc, both, turn)? && agree(alloc, both)?;
+    assert!(rt; holds, "call {turn} of {SLOTS}");
+    Ok(())
 }
 
 fn run<L: Layout, const SLOTS: usize>(
@@ -149,17 +242,9 @@ fn run<L: Layout, const SLOTS: usize>(
 ) -> Result<(), Fail>
     requires { IsSlotLimit SLOTS }
 {
-    let mut both = Beside::<L, SLOTS> {
-        trie: Trie::with(alloc, CedarBuilder::new().ordered(ordered))?,
-        tree: PlainTree::new(alloc),
-        marked: PlainTree::new(alloc),
-        ordered,
-        seed: 7,
-        refused: 0,
-    };
+    let both = &mut begun::<L, SLOTS>(alloc, ordered)?;
     for turn in 0..CALLS {
-        let holds = call(alloc, &mut both, turn)? && agree(alloc, &both)?;
-        assert!(rt; holds, "call {turn} of {SLOTS}");
+        expect_call(rt, alloc, both, turn)?;
     }
     assert!(rt; both.refused > 200);
     Ok(())

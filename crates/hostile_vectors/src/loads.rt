@@ -1,19 +1,19 @@
 //! Loads that are refused memory, by readers that give a byte a read and that fail.
-use crate::state::{Full, saved};
-use cedarwood::{
-    CedarBuilder, CedarPersistenceError, DefaultLayout, Layout, ReducedLayout, Trie, Watched,
-};
-use std::alloc::{AllocError, Global};
+ghost use Rattle.cedar_slots.specs.Places.{IsSlotLimit};
+
+use crate::bare::{build, empty};
+use crate::state::{loaded, saved, saves};
+use cedarwood::{CedarPersistenceError, DefaultLayout, Layout, ReducedLayout, Trie, Watched};
+use std::alloc::{AllocError, Allocator, Global};
 use std::process::Abort;
 use std::test::Fail;
 use test_devices::{Ending, FailingReader, Refusing};
 
-#[tactic(auto, using(cedarwood::proofs::DictionaryLemmas::default_limit))]
+const PAIRS: [(&[u8], i32); 3] = [(b"a", 1), (b"ab", 2), (b"b", 3)];
+
 fn file_of<L: Layout>(alloc: Global) -> Result<Vec<u8>, Fail> {
-    let mut trie = Full::<L, Global>::with(alloc, CedarBuilder::new())?;
-    for (key, value) in [("a", 1), ("ab", 2), ("b", 3)] {
-        trie.update(key, value)?;
-    }
+    let mut trie = empty::<L>(alloc)?;
+    build(&mut trie, &PAIRS)?;
     Ok(saved(alloc, &trie)?)
 }
 
@@ -44,6 +44,32 @@ fn refusal(error: &CedarPersistenceError) -> Loaded {
     }
 }
 
+type Answer<'a, L, const SLOTS: usize> = Result<
+    Trie<L, SLOTS, &'a Refusing<Global>>,
+    CedarPersistenceError,
+>;
+
+fn compared<L: Layout, const SLOTS: usize, A: Allocator + Copy>(
+    alloc: Global,
+    trie: &Trie<L, SLOTS, A>,
+    file: &[u8],
+) -> Result<Loaded, Fail> {
+    let is_same = saves(alloc, trie, file)?;
+    Ok(if is_same { Loaded::Same } else { Loaded::Other })
+}
+
+// What a load of this file answered.
+fn answered<L: Layout, const SLOTS: usize, A: Allocator + Copy>(
+    alloc: Global,
+    file: &[u8],
+    answer: Result<Trie<L, SLOTS, A>, CedarPersistenceError>,
+) -> Result<Loaded, Fail> {
+    match answer {
+        Ok(trie) => compared(alloc, &trie, file),
+        Err(error) => Ok(refusal(&error)),
+    }
+}
+
 // A load of the first bytes of a file, a byte a read, with one request refused.
 #[tactic(auto, using(cedarwood::proofs::DictionaryLemmas::default_limit))]
 fn load<L: Layout>(
@@ -56,35 +82,36 @@ fn load<L: Layout>(
     let memory = Refusing::new(alloc);
     memory.refuse(request, request);
     let mut reader = Watched::new(FailingReader::new(file, comes, 1, ending));
-    let answer = Full::<L, &Refusing<Global>>::load_from_reader(&memory, &mut reader);
-    let loaded = match answer {
-        Ok(trie) => {
-            if saved(alloc, &trie)?.as_slice() == file {
-                Loaded::Same
-            } else {
-                Loaded::Other
-            }
-        }
-        Err(error) => refusal(&error),
-    };
-    Ok((loaded, memory.requests()))
+    let answer: Answer<'_, L, 1073741824> = loaded(&memory, &mut reader);
+    let requests = memory.requests();
+    Ok((answered(alloc, file, answer)?, requests))
+}
+
+// A load of a whole file has to answer this.
+fn expect<L: Layout>(
+    rt: &impl Abort,
+    alloc: Global,
+    file: &[u8],
+    asked: (Ending, u64),
+    wanted: (Loaded, u64),
+) -> Result<(), Fail> {
+    let answer = load::<L>(alloc, file, file.len(), asked.0, asked.1)?;
+    let is_wanted = answer.0 == wanted.0 && answer.1 == wanted.1;
+    assert!(rt; is_wanted, "{:?} {}", asked.0, asked.1);
+    Ok(())
 }
 
 // Each of the four lists is refused, and then none is. The reader's end follows the file, or a fault of its own.
 fn refuse_each<L: Layout>(rt: &impl Abort, alloc: Global) -> Result<(), Fail> {
     let file = file_of::<L>(alloc)?;
-    let len = file.len();
     for ending in [Ending::Quiet, Ending::UnexpectedEof] {
         for (request, elements) in [(1, 512), (2, 512), (3, 2), (4, 257)] {
-            let answer = load::<L>(alloc, &file, len, ending, request)?;
-            assert!(rt; answer == (Loaded::Lacks(elements), request));
+            let wanted = (Loaded::Lacks(elements), request);
+            expect::<L>(rt, alloc, &file, (ending, request), wanted)?;
         }
-        let answer = load::<L>(alloc, &file, len, ending, 5)?;
-        assert!(rt; answer == (Loaded::Same, 4));
+        expect::<L>(rt, alloc, &file, (ending, 5), (Loaded::Same, 4))?;
     }
-    let answer = load::<L>(alloc, &file, len, Ending::Fault, 0)?;
-    assert!(rt; answer == (Loaded::Io, 4));
-    Ok(())
+    expect::<L>(rt, alloc, &file, (Ending::Fault, 0), (Loaded::Io, 4))
 }
 
 #[test]
@@ -126,21 +153,25 @@ fn large_header(alloc: Global) -> Result<Vec<u8>, AllocError> {
     Ok(header)
 }
 
-// What the header refuses is refused before anything is asked of memory.
+// A load of a table that is larger than is allowed, with the first request refused.
 #[tactic(auto, using(crate::proofs::SlotLimits::limit_256))]
+fn load_small(alloc: Global) -> Result<(Loaded, u64), Fail> {
+    let file = file_of::<DefaultLayout>(alloc)?;
+    let memory = Refusing::new(alloc);
+    memory.refuse(1, 1);
+    let mut reader = Watched::new(file.as_slice());
+    let answer: Answer<'_, DefaultLayout, 256> = loaded(&memory, &mut reader);
+    let requests = memory.requests();
+    Ok((answered(alloc, &file, answer)?, requests))
+}
+
+// What the header refuses is refused before anything is asked of memory.
 #[test]
 fn refusals_before_memory(rt: HostRuntime) -> Result<(), Fail> {
     let header = large_header(rt.alloc())?;
     let answer = load::<DefaultLayout>(rt.alloc(), &header, 88, Ending::Quiet, 1)?;
     assert!(&rt; answer == (Loaded::Limit(21646808580), 0));
-    let file = file_of::<DefaultLayout>(rt.alloc())?;
-    let memory = Refusing::new(rt.alloc());
-    memory.refuse(1, 1);
-    let mut reader = Watched::new(file.as_slice());
-    match Trie::<DefaultLayout, 256, &Refusing<Global>>::load_from_reader(&memory, &mut reader) {
-        Ok(_) => assert!(&rt; false),
-        Err(error) => assert!(&rt; refusal(&error) == Loaded::Header("capacity", 512)),
-    }
-    assert!(&rt; memory.requests() == 0);
+    let answer = load_small(rt.alloc())?;
+    assert!(&rt; answer == (Loaded::Header("capacity", 512), 0));
     Ok(())
 }

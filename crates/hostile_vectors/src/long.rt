@@ -1,10 +1,15 @@
 //! A key of a million bytes and its first half, through each call, through files and through a script: a chain of a million nodes.
+use crate::bare::{
+    Full, below, build, copied, counts, empty, erase, found, fronts, insert, of_sorted, update,
+};
 use crate::runs::{change, one, run};
-use crate::state::{Full, loads_again, saved};
+use crate::state::{loads_again, saved};
 use cedar_calls::{Answer, Change, Changed};
-use cedar_cli::run_script;
+use cedar_cli::{ScriptError, run_script};
 use cedar_words::{LongestPrefix, segment};
-use cedarwood::{CedarBuilder, CedarError, DefaultLayout, Layout, ReducedLayout, Watched};
+use cedarwood::{
+    CedarError, CedarPersistenceError, DefaultLayout, Entries, Layout, ReducedLayout, Watched,
+};
 use std::alloc::{AllocError, Global};
 use std::cell::Cell;
 use std::process::Abort;
@@ -30,73 +35,82 @@ fn half(key: &[u8]) -> &[u8] {
     &key[..HALF.min(key.len())]
 }
 
+type Long<L> = Full<L, Global>;
+
 #[tactic(auto, using(cedarwood::proofs::DictionaryLemmas::default_limit))]
-fn begun<L: Layout>(alloc: Global, key: &[u8]) -> Result<Full<L, Global>, CedarError> {
-    let pairs = [(half(key), 1), (key, 2)];
-    Full::<L, Global>::from_sorted_bytes_with(alloc, CedarBuilder::new(), &pairs)
+fn begun<L: Layout>(alloc: Global, key: &[u8]) -> Result<Long<L>, CedarError> {
+    of_sorted(alloc, true, &[(half(key), 1), (key, 2)])
 }
 
-type Pairs = Result<Vec<(i32, usize)>, CedarError>;
-
-fn expect_pairs(rt: &impl Abort, found: Pairs, wanted: [(i32, usize); 2]) -> Result<(), Fail> {
-    let found = found?;
-    assert!(rt; found.as_slice() == wanted.as_slice());
-    Ok(())
+// Whether an answer is a list of these two.
+fn are(found: Result<Vec<(i32, usize)>, CedarError>, wanted: [(i32, usize); 2]) -> bool {
+    match found {
+        Ok(found) => found.as_slice() == wanted.as_slice(),
+        Err(_) => false,
+    }
 }
 
-fn expect_entries<L: Layout>(
-    rt: &impl Abort,
-    trie: &Full<L, Global>,
-    key: &[u8],
-) -> Result<(), Fail> {
+fn is_next<L: Layout>(entries: &mut Entries<'_, Long<L>, Global>, wanted: &[u8]) -> bool {
+    match entries.next() {
+        Some(Ok((key, _))) => key.as_slice() == wanted,
+        _ => false,
+    }
+}
+
+// Whether the entries are the half and the key.
+fn are_entries<L: Layout>(trie: &Long<L>, key: &[u8]) -> Result<bool, CedarError> {
     let mut entries = trie.entries()?;
-    let (first, _) = entries.next().ok_or("an entry")??;
-    let (second, _) = entries.next().ok_or("an entry")??;
-    assert!(rt; first.as_slice() == half(key) && second.as_slice() == key);
-    assert!(rt; entries.next().is_none());
-    Ok(())
+    let are_both = is_next(&mut entries, half(key)) && is_next(&mut entries, key);
+    Ok(are_both && entries.is_empty() && entries.next().is_none())
 }
 
-fn expect_text<L: Layout>(rt: &impl Abort, trie: &Full<L, Global>) -> Result<(), Fail> {
+// How long the first entry's text is.
+fn text_len<L: Layout>(trie: &Long<L>) -> Result<usize, CedarError> {
     let mut texts = trie.entries_str()?;
-    let (text, _) = texts.next().ok_or("an entry")??;
-    assert!(rt; text.len() == HALF);
-    Ok(())
+    match texts.next() {
+        Some(Ok((text, _))) => Ok(text.len()),
+        _ => Ok(0),
+    }
+}
+
+fn longest<L: Layout>(trie: &Long<L>, text: &[u8]) -> Option<(i32, usize)> {
+    trie.longest_prefix(text)
+}
+
+type Tokens = Vec<(usize, usize, Option<i32>)>;
+
+fn tokens<L: Layout>(alloc: Global, trie: &Long<L>, text: &[u8]) -> Result<Tokens, AllocError> {
+    segment(trie, text).collect(alloc)
 }
 
 fn expect_found<L: Layout>(
     rt: &impl Abort,
     alloc: Global,
-    trie: &Full<L, Global>,
+    trie: &Long<L>,
     key: &[u8],
 ) -> Result<(), Fail> {
-    assert!(rt; trie.exact_match_search_bytes(key) == Some((2, LEN)));
-    assert!(rt; trie.longest_prefix(half(key)) == Some((1, HALF - 1)));
-    let fronts = trie.common_prefix_search_bytes(key);
-    expect_pairs(rt, fronts, [(1, HALF - 1), (2, LEN - 1)])?;
-    let below = trie.common_prefix_predict_bytes(half(key));
-    expect_pairs(rt, below, [(1, 0), (2, HALF)])?;
-    let tokens: Vec<(usize, usize, Option<i32>)> = segment(trie, key).collect(alloc)?;
+    assert!(rt; found(trie, key) == Some((2, LEN)));
+    assert!(rt; longest(trie, half(key)) == Some((1, HALF - 1)));
+    assert!(rt; are(fronts(trie, key), [(1, HALF - 1), (2, LEN - 1)]));
+    assert!(rt; are(below(trie, half(key)), [(1, 0), (2, HALF)]));
+    let tokens = tokens(alloc, trie, key)?;
     assert!(rt; tokens.as_slice() == [(0, LEN, Some(2))].as_slice());
-    expect_entries(rt, trie, key)?;
-    expect_text(rt, trie)
+    assert!(rt; are_entries(trie, key)?);
+    assert!(rt; text_len(trie)? == HALF);
+    Ok(())
 }
 
 // The two keys erased, stored again one by one and in a list.
-fn expect_changes<L: Layout>(
-    rt: &impl Abort,
-    trie: &mut Full<L, Global>,
-    key: &[u8],
-) -> Result<(), Fail> {
-    assert!(rt; trie.erase_bytes(half(key)) && trie.erase_bytes(key) && !trie.erase_bytes(key));
-    assert!(rt; trie.used_node_slots() == 1);
-    assert!(rt; trie.insert_bytes(key, 3) == Ok(None));
-    assert!(rt; trie.update_bytes(key, 4) == Ok(()));
-    assert!(rt; trie.build_bytes(&[(half(key), 1), (key, 5)]) == Ok(()));
-    assert!(rt; trie.insert_bytes(key, 6) == Ok(Some(5)));
-    assert!(rt; trie.erase_bytes(key));
-    assert!(rt; trie.update_bytes(key, 2) == Ok(()));
-    Ok(())
+fn expect_changes<L: Layout>(rt: &impl Abort, trie: &mut Long<L>, key: &[u8]) {
+    let were_held = (erase(trie, half(key)), erase(trie, key), erase(trie, key));
+    assert!(rt; were_held == (true, true, false));
+    assert!(rt; counts(trie) == (0, 1));
+    assert!(rt; insert(trie, key, 3) == Ok(None));
+    assert!(rt; update(trie, key, 4) == Ok(()));
+    assert!(rt; build(trie, &[(half(key), 1), (key, 5)]) == Ok(()));
+    assert!(rt; insert(trie, key, 6) == Ok(Some(5)));
+    assert!(rt; erase(trie, key));
+    assert!(rt; update(trie, key, 2) == Ok(()));
 }
 
 // The key stored and erased by calls in a list.
@@ -120,37 +134,61 @@ fn expect_calls<L: Layout>(rt: &impl Abort, alloc: Global, key: &[u8]) -> Result
     Ok(())
 }
 
+fn save_at_path<L: Layout>(
+    trie: &Long<L>,
+    files: &FakeFiles<'_>,
+) -> Result<(), CedarPersistenceError> {
+    trie.save_to_path(files, "long.cedar")
+}
+
 #[tactic(auto, using(cedarwood::proofs::DictionaryLemmas::default_limit))]
-fn expect_files<L: Layout>(
+fn load_at_path<L: Layout>(
+    alloc: Global,
+    files: &FakeFiles<'_>,
+) -> Result<Long<L>, CedarPersistenceError> {
+    Long::<L>::load_from_path(alloc, files, "long.cedar")
+}
+
+// A dictionary saved to a file of these bytes, and the one that is loaded from there.
+fn through_path<L: Layout>(
     rt: &impl Abort,
     alloc: Global,
-    trie: &Full<L, Global>,
-    key: &[u8],
-) -> Result<(), Fail> {
-    assert!(rt; loads_again(alloc, trie)?);
-    let copy = trie.clone()?;
-    let bytes = saved(alloc, &copy)?;
+    trie: &Long<L>,
+    bytes: &[u8],
+) -> Result<Long<L>, CedarPersistenceError> {
     let plan = FilePlan {
         opens: true,
         room: bytes.len(),
         flushes: true,
     };
     let uses = Cell::new(FileUse::NONE);
-    let files = FakeFiles::new(&bytes, plan, &uses);
-    copy.save_to_path(&files, "long.cedar")?;
-    assert!(rt; uses.get().as_expected && uses.get().written == bytes.len());
-    let again = Full::<L, Global>::load_from_path(alloc, &files, "long.cedar")?;
-    expect_found(rt, alloc, &again, key)
+    let files = FakeFiles::new(bytes, plan, &uses);
+    save_at_path(trie, &files)?;
+    assert!(rt; (uses.get().as_expected, uses.get().written) == (true, bytes.len()));
+    load_at_path(alloc, &files)
 }
 
 #[tactic(auto, using(cedarwood::proofs::DictionaryLemmas::default_limit))]
+fn expect_files<L: Layout>(
+    rt: &impl Abort,
+    alloc: Global,
+    trie: &Long<L>,
+    key: &[u8],
+) -> Result<(), Fail> {
+    assert!(rt; loads_again(alloc, trie)?);
+    let copy = copied(trie)?;
+    let bytes = saved(alloc, &copy)?;
+    let again = through_path(rt, alloc, &copy, &bytes)?;
+    expect_found(rt, alloc, &again, key)
+}
+
 fn expect_each_call<L: Layout>(rt: &impl Abort, alloc: Global, used: usize) -> Result<(), Fail> {
     let key = long_key(alloc)?;
     let mut trie = begun::<L>(alloc, &key)?;
-    assert!(rt; (trie.len(), trie.used_node_slots()) == (2, used));
+    assert!(rt; counts(&trie) == (2, used));
     expect_found(rt, alloc, &trie, &key)?;
     expect_files(rt, alloc, &trie, &key)?;
-    expect_changes(rt, &mut trie, &key)?;
+    expect_changes(rt, &mut trie, &key);
     expect_calls::<L>(rt, alloc, &key)?;
     expect_found(rt, alloc, &trie, &key)?;
     expect_files(rt, alloc, &trie, &key)
@@ -172,20 +210,34 @@ fn push_line(script: &mut Vec<u8>, command: &[u8], value: &[u8]) -> Result<(), A
 }
 
 // Each form of a line with such a key.
-#[tactic(auto, using(cedarwood::proofs::DictionaryLemmas::default_limit))]
-fn expect_script<L: Layout>(rt: &impl Abort, alloc: Global) -> Result<(), Fail> {
+fn script_of(alloc: Global) -> Result<Vec<u8>, AllocError> {
     let mut script = Vec::from_slice(alloc, b"+ 61 1\n")?;
     push_line(&mut script, b"+ ", b" 2\n")?;
     for command in [b"= ", b"< ", b"> ", b"/ ", b"- ", b"- "] {
         push_line(&mut script, command, b"\n")?;
     }
-    let mut trie = Full::<L, Global>::with(alloc, CedarBuilder::new())?;
-    let mut reader = Watched::new(script.as_slice());
+    Ok(script)
+}
+
+// What a script is answered.
+fn answers_to<L: Layout>(
+    alloc: Global,
+    trie: &mut Long<L>,
+    script: &[u8],
+) -> Result<Vec<u8>, ScriptError> {
+    let mut reader = Watched::new(script);
     let mut writer = Watched::new(Vec::new(alloc));
-    assert!(rt; run_script(alloc, &mut trie, &mut reader, &mut writer) == Ok(()));
-    let answers = b"ok\nok\n2 1000000\n1:0 2:999999\n2:0\n0:1000000:2\nerased\nabsent\n";
-    assert!(rt; writer.into_inner().as_slice() == answers.as_slice());
-    assert!(rt; trie.len() == 1);
+    run_script(alloc, trie, &mut reader, &mut writer)?;
+    Ok(writer.into_inner())
+}
+
+fn expect_script<L: Layout>(rt: &impl Abort, alloc: Global) -> Result<(), Fail> {
+    let script = script_of(alloc)?;
+    let mut trie = empty::<L>(alloc)?;
+    let answers = answers_to(alloc, &mut trie, &script)?;
+    let wanted = b"ok\nok\n2 1000000\n1:0 2:999999\n2:0\n0:1000000:2\nerased\nabsent\n";
+    assert!(rt; answers.as_slice() == wanted.as_slice());
+    assert!(rt; counts(&trie).0 == 1);
     Ok(())
 }
 

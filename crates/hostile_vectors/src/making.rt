@@ -1,7 +1,10 @@
 //! Dictionaries that are made, new ones and of sorted pairs, each request refused in turn.
-use crate::state::{Full, loads_again};
-use cedarwood::{CedarBuilder, CedarError, DefaultLayout, Layout, ReducedLayout};
-use std::alloc::Global;
+ghost use Rattle.cedar_slots.specs.Places.{IsSlotLimit};
+
+use crate::bare::{Full, counts, made, of_sorted, of_sorted_texts};
+use crate::state::loads_again;
+use cedarwood::{CedarError, DefaultLayout, Layout, ReducedLayout, Trie};
+use std::alloc::{Allocator, Global};
 use std::process::Abort;
 use std::test::Fail;
 use test_devices::Refusing;
@@ -17,29 +20,36 @@ enum Making {
     Texts,
 }
 
-type Tested<'a, L> = Full<L, &'a Refusing<Global>>;
-
-#[tactic(auto, using(cedarwood::proofs::DictionaryLemmas::default_limit))]
-fn made<'a, L: Layout>(
-    memory: &'a Refusing<Global>,
+fn begun<L: Layout, const SLOTS: usize, A: Allocator + Copy>(
+    alloc: A,
     what: Making,
     ordered: bool,
-) -> Result<Tested<'a, L>, CedarError> {
-    let builder = CedarBuilder::new().ordered(ordered);
+) -> Result<Trie<L, SLOTS, A>, CedarError>
+    requires { IsSlotLimit SLOTS }
+{
     match what {
-        Making::New => Tested::with(memory, builder),
-        Making::Bytes => Tested::from_sorted_bytes_with(memory, builder, &PAIRS),
-        Making::Texts => Tested::from_sorted_with(memory, builder, &TEXTS),
+        Making::New => made(alloc, ordered),
+        Making::Bytes => of_sorted(alloc, ordered, &PAIRS),
+        Making::Texts => of_sorted_texts(alloc, ordered, &TEXTS),
     }
 }
 
-// How many keys a dictionary has that is made so.
-fn count_made<L: Layout>(
-    memory: &Refusing<Global>,
-    what: Making,
-    ordered: bool,
+// How many keys a dictionary has that was made.
+fn count_made<L: Layout, const SLOTS: usize, A: Allocator + Copy>(
+    made: Result<Trie<L, SLOTS, A>, CedarError>,
 ) -> Result<usize, CedarError> {
-    Ok(made::<L>(memory, what, ordered)?.len())
+    Ok(counts(&made?).0)
+}
+
+// How many keys a dictionary has, if what it saves loads.
+fn count_if_loads<L: Layout, const SLOTS: usize, A: Allocator + Copy>(
+    alloc: Global,
+    trie: &Trie<L, SLOTS, A>,
+) -> Result<Option<usize>, Fail>
+    requires { IsSlotLimit SLOTS }
+{
+    let loads = loads_again(alloc, trie)?;
+    Ok(if loads { Some(counts(trie).0) } else { None })
 }
 
 // Makes a dictionary with one request refused, and says whether it asked so often. The same call then succeeds.
@@ -53,23 +63,23 @@ fn is_refused<L: Layout>(
 ) -> Result<bool, Fail> {
     let memory = Refusing::new(alloc);
     memory.refuse(request, request);
-    let outcome = count_made::<L>(&memory, what, ordered);
+    let outcome = count_made(begun::<L, 1073741824, &Refusing<Global>>(&memory, what, ordered));
     let is_refused = memory.requests() >= request;
     memory.refuse_none();
-    let trie = made::<L>(&memory, what, ordered)?;
-    let wanted = if is_refused {
-        Err(CedarError::Memory)
+    let trie: Full<L, &Refusing<Global>> = begun(&memory, what, ordered)?;
+    let held = count_if_loads(alloc, &trie)?;
+    let is_right = if is_refused {
+        outcome == Err(CedarError::Memory)
     } else {
-        Ok(trie.len())
+        outcome.ok() == held
     };
-    let holds = (outcome == wanted, loads_again(alloc, &trie)?);
-    expect(rt, holds, what, request);
+    expect(rt, is_right && held.is_some(), what, request);
     Ok(is_refused)
 }
 
 // A call with a request refused has to answer as it should, and what the next one makes to load.
-fn expect(rt: &impl Abort, holds: (bool, bool), what: Making, request: u64) {
-    assert!(rt; holds == (true, true), "{what:?} at {request}");
+fn expect(rt: &impl Abort, holds: bool, what: Making, request: u64) {
+    assert!(rt; holds, "{what:?} at {request}");
 }
 
 // How many requests it makes, each of which was refused.

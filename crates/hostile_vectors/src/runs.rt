@@ -1,6 +1,7 @@
 //! Lists of calls, each request of which is refused in turn.
 ghost use Rattle.cedar_slots.specs.Places.{IsSlotLimit};
 
+use crate::bare::{made, update};
 use crate::state::state_of;
 use cedar_calls::{Answer, Call, Change, Changed, run_calls};
 use cedarwood::{CedarBuilder, CedarError, DefaultLayout, Layout, ReducedLayout, Trie};
@@ -71,8 +72,8 @@ pub(crate) fn one<L: Layout, const SLOTS: usize, A: Allocator + Copy>(
 ) -> Result<Tries<L, SLOTS, A>, Fail>
     requires { IsSlotLimit SLOTS }
 {
-    let mut trie = Trie::with(alloc, CedarBuilder::new())?;
-    trie.update("z", 1)?;
+    let mut trie = made(alloc, true)?;
+    update(&mut trie, b"z", 1)?;
     let mut tries = Vec::new(alloc);
     tries.push(trie)?;
     Ok(tries)

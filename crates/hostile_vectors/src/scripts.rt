@@ -1,7 +1,8 @@
 //! Scripts whose writer fails at each byte of each form of an answer, and whose reader never ends a line.
-use crate::state::{Full, State, state_of};
+use crate::bare::{Full, empty, made, update};
+use crate::state::{State, state_of};
 use cedar_cli::{ScriptError, run_script};
-use cedarwood::{Cedar, CedarBuilder, CedarError, DefaultLayout, Layout, ReducedLayout, Watched};
+use cedarwood::{Cedar, DefaultLayout, Layout, ReducedLayout, Watched};
 use std::alloc::Global;
 use std::process::Abort;
 use std::test::Fail;
@@ -51,50 +52,88 @@ fn rows_within(room: usize) -> usize {
     ROWS.len()
 }
 
-// A run of the first rows on a new dictionary, whose writer takes so many bytes, a few at a time, and then ends: its outcome, what it wrote,
-// and what is held then.
-#[tactic(auto, using(cedarwood::proofs::DictionaryLemmas::default_limit))]
-fn run<L: Layout>(
+// A run of a script whose writer fills a buffer, a few bytes at a time, and then ends: its outcome, and how many bytes it wrote.
+fn write_answers<L: Layout>(
     alloc: Global,
-    rows: usize,
-    room: usize,
+    trie: &mut Full<L, Global>,
+    script: &[u8],
+    written: &mut [u8],
     ending: Ending,
-) -> Result<(Result<(), ScriptError>, Vec<u8>, State), Fail> {
-    let script = text_of(alloc, false, rows)?;
-    let mut trie = Full::<L, Global>::with(alloc, CedarBuilder::new())?;
-    let mut written = vec![in alloc; 0u8; room]?;
-    let mut reader = Watched::new(script.as_slice());
-    let mut writer = Watched::new(FailingWriter::new(&mut written, 5, ending));
-    let outcome = run_script(alloc, &mut trie, &mut reader, &mut writer);
-    let len = writer.into_inner().len();
-    written.truncate(len);
-    Ok((outcome, written, state_of(alloc, &trie)?))
+) -> (Result<(), ScriptError>, usize) {
+    let mut reader = Watched::new(script);
+    let mut writer = Watched::new(FailingWriter::new(written, 5, ending));
+    let outcome = run_script(alloc, trie, &mut reader, &mut writer);
+    (outcome, writer.into_inner().len())
 }
 
-// A run whose writer takes so many bytes has to end by its fault, and to leave what it should.
-fn expect(rt: &impl Abort, outcome: Result<(), ScriptError>, is_left: bool, room: usize) {
+// What a run leaves: its outcome, what it wrote, and what is held then.
+#[derive(Drop)]
+struct Left {
+    outcome: Result<(), ScriptError>,
+    written: Vec<u8>,
+    state: State,
+}
+
+// A run of the first rows on a new dictionary, whose writer takes so many bytes.
+fn run<L: Layout>(alloc: Global, rows: usize, room: usize, ending: Ending) -> Result<Left, Fail> {
+    let script = text_of(alloc, false, rows)?;
+    let mut written = vec![in alloc; 0u8; room]?;
+    let mut trie = empty::<L>(alloc)?;
+    let (outcome, len) = write_answers(alloc, &mut trie, &script, &mut written, ending);
+    written.truncate(len);
+    let state = state_of(alloc, &trie)?;
+    Ok(Left {
+        outcome,
+        written,
+        state,
+    })
+}
+
+// A run whose writer takes so many bytes has to end by its fault, to have written the bytes before it, and to leave what it should.
+fn expect_cut<L: Layout>(
+    rt: &impl Abort,
+    alloc: Global,
+    written: &[u8],
+    state: &State,
+    ending: Ending,
+) -> Result<(), Fail> {
+    let room = written.len();
+    let run = run::<L>(alloc, ROWS.len(), room, ending)?;
+    let is_left = run.written.as_slice() == written && run.state.held == state.held;
     assert!(rt;
-        (outcome, is_left) == (Err(ScriptError::Write), true),
+        (run.outcome == Err(ScriptError::Write), is_left) == (true, true),
         "at {room}"
     );
+    Ok(())
 }
 
-// At each byte of the answers: what was written is the bytes before it, and what is held is that of the lines whose answers
-// were written whole.
+// What is held at the end is that of the lines whose answers were written whole.
+fn fail_at<L: Layout>(
+    rt: &impl Abort,
+    alloc: Global,
+    answers: &[u8],
+    room: usize,
+) -> Result<(), Fail> {
+    let finished = run::<L>(alloc, rows_within(room), answers.len(), Ending::Fault)?;
+    let written = &answers[..room.min(answers.len())];
+    expect_cut::<L>(rt, alloc, written, &finished.state, Ending::Fault)?;
+    expect_cut::<L>(rt, alloc, written, &finished.state, Ending::Quiet)
+}
+
+fn expect_whole<L: Layout>(rt: &impl Abort, alloc: Global, answers: &[u8]) -> Result<(), Fail> {
+    let whole = run::<L>(alloc, ROWS.len(), answers.len(), Ending::Fault)?;
+    let is_whole = whole.written.as_slice() == answers;
+    assert!(rt; (whole.outcome == Ok(()), is_whole) == (true, true));
+    Ok(())
+}
+
+// The writer fails at each byte of the answers.
 fn fail_each<L: Layout>(rt: &impl Abort, alloc: Global) -> Result<(), Fail> {
     let answers = text_of(alloc, true, ROWS.len())?;
     for room in 0..answers.len() {
-        let (_, _, finished) = run::<L>(alloc, rows_within(room), answers.len(), Ending::Fault)?;
-        for ending in [Ending::Fault, Ending::Quiet] {
-            let (outcome, written, left) = run::<L>(alloc, ROWS.len(), room, ending)?;
-            let is_left = &answers[..room] == written.as_slice() && left.held == finished.held;
-            expect(rt, outcome, is_left, room);
-        }
+        fail_at::<L>(rt, alloc, &answers, room)?;
     }
-    let (outcome, written, _) = run::<L>(alloc, ROWS.len(), answers.len(), Ending::Fault)?;
-    assert!(rt; outcome == Ok(()));
-    assert!(rt; written == answers);
-    Ok(())
+    expect_whole::<L>(rt, alloc, &answers)
 }
 
 #[test]
@@ -105,23 +144,32 @@ fn each_byte_of_the_answers(rt: HostRuntime) -> Result<(), Fail> {
 
 // A line that never ends, behind two that do, where the requests from one on are refused: the run ends for want of memory, and the finished lines
 // stand.
+#[tactic(auto, using(cedarwood::proofs::DictionaryLemmas::default_limit))]
 fn run_endless(alloc: Global, refused: u64) -> Result<(Result<(), ScriptError>, State), Fail> {
     let memory = Refusing::new(alloc);
-    let mut cedar = Cedar::new(&memory)?;
-    cedar.update("b", 2)?;
+    let mut cedar: Cedar<&Refusing<Global>> = made(&memory, true)?;
+    update(&mut cedar, b"b", 2)?;
     memory.refuse(refused, u64::MAX);
+    let outcome = read_endless(alloc, &mut cedar, &memory);
+    Ok((outcome, state_of(alloc, &cedar)?))
+}
+
+fn read_endless<'a>(
+    alloc: Global,
+    cedar: &mut Cedar<&'a Refusing<Global>>,
+    memory: &'a Refusing<Global>,
+) -> Result<(), ScriptError> {
     let mut reader = Watched::new(Endless::new(b"+ 62 3\n- 63\n+ ", b'6'));
     let mut writer = Watched::new(Vec::new(alloc));
-    let outcome = run_script(&memory, &mut cedar, &mut reader, &mut writer);
-    Ok((outcome, state_of(alloc, &cedar)?))
+    run_script(memory, cedar, &mut reader, &mut writer)
 }
 
 #[test]
 fn a_line_without_end(rt: HostRuntime) -> Result<(), Fail> {
     for more in 0..8u64 {
         let (outcome, left) = run_endless(rt.alloc(), more + 5)?;
-        assert!(&rt; outcome == Err(ScriptError::Memory));
-        assert!(&rt; left.held.as_slice() == [(3, 1)].as_slice());
+        let is_short = outcome == Err(ScriptError::Memory);
+        assert!(&rt; is_short && left.held.as_slice() == [(3, 1)].as_slice());
     }
     Ok(())
 }

@@ -1,11 +1,8 @@
 //! What a dictionary holds, and how it is saved and loaded.
 ghost use Rattle.cedar_slots.specs.Places.{IsSlotLimit};
 
-use cedarwood::{CedarPersistenceError, Layout, Trie, Watched};
+use cedarwood::{CedarPersistenceError, Layout, Source, Trie, Watched};
 use std::alloc::{AllocError, Allocator, Global};
-
-/// A dictionary of 2^30 slots at most, over an allocator that refuses or not.
-pub type Full<L, A> = Trie<L, 1073741824, A>;
 
 /// The keys' values in the order of the walk, each with its key's length, and how many slots are used. The values are
 /// distinct in each test, so they say which keys are held.
@@ -38,14 +35,23 @@ pub fn saved<L: Layout, const SLOTS: usize, A: Allocator + Copy>(
     Ok(writer.into_inner())
 }
 
-/// The dictionary of some bytes.
-pub fn loaded<L: Layout, const SLOTS: usize>(
-    alloc: Global,
-    bytes: &[u8],
-) -> Result<Trie<L, SLOTS, Global>, CedarPersistenceError>
+/// The dictionary of what a reader gives.
+pub fn loaded<L: Layout, const SLOTS: usize, A: Allocator + Copy, S: Source>(
+    alloc: A,
+    reader: &mut S,
+) -> Result<Trie<L, SLOTS, A>, CedarPersistenceError>
     requires { IsSlotLimit SLOTS }
 {
-    Trie::load_from_reader(alloc, &mut Watched::new(bytes))
+    Trie::load_from_reader(alloc, reader)
+}
+
+/// Whether these are the bytes of the saved dictionary.
+pub fn saves<L: Layout, const SLOTS: usize, A: Allocator + Copy>(
+    alloc: Global,
+    trie: &Trie<L, SLOTS, A>,
+    bytes: &[u8],
+) -> Result<bool, CedarPersistenceError> {
+    Ok(saved(alloc, trie)?.as_slice() == bytes)
 }
 
 /// Whether what is saved of a dictionary loads, to one that saves the same bytes.
@@ -56,6 +62,7 @@ pub fn loads_again<L: Layout, const SLOTS: usize, A: Allocator + Copy>(
     requires { IsSlotLimit SLOTS }
 {
     let bytes = saved(alloc, trie)?;
-    let again = loaded::<L, SLOTS>(alloc, &bytes)?;
-    Ok(saved(alloc, &again)? == bytes)
+    let mut reader = Watched::new(bytes.as_slice());
+    let again = loaded::<L, SLOTS, Global, Watched<&[u8]>>(alloc, &mut reader)?;
+    saves(alloc, &again, &bytes)
 }

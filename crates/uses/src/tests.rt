@@ -5,63 +5,123 @@ use crate::counter::count;
 use crate::filter::has_keyword;
 use crate::service::publish;
 use crate::tokenizer::Tokenizer;
-use cedarwood::{CedarBuilder, CedarError, DefaultLayout, Trie, Watched};
+use cedarwood::{
+    Cedar, CedarBuilder, CedarError, CedarPersistenceError, DefaultLayout, Trie, Watched,
+};
 use std::alloc::Global;
+use std::process::Abort;
 use std::test::Fail;
 use test_devices::Refusing;
 
+fn expect_number(rt: &impl Abort, words: &Cedar<Global>, key: &[u8], wanted: Option<(i32, usize)>) {
+    assert!(rt; search(words, key) == wanted);
+}
+
+fn expect_keyword(rt: &impl Abort, words: &Cedar<Global>, text: &[u8], is_there: bool) {
+    assert!(rt; has_keyword(words, text) == is_there);
+}
+
+fn expect_first(
+    rt: &impl Abort,
+    alloc: Global,
+    words: &Cedar<Global>,
+    wanted: (i32, usize),
+) -> Result<(), Fail> {
+    let found = complete(words, alloc, "ne", 1)?;
+    assert!(rt; found.as_slice() == [wanted].as_slice());
+    Ok(())
+}
+
+fn expect_counted(rt: &impl Abort, alloc: Global) -> Result<(), Fail> {
+    let counts = count(alloc, &["net", "ten", "net", "nets"])?;
+    expect_number(rt, &counts, b"net", Some((2, 3)));
+    expect_number(rt, &counts, b"ne", None);
+    expect_keyword(rt, &counts, b"attention", true);
+    expect_keyword(rt, &counts, b"a n.e.t. of nests", false);
+    expect_first(rt, alloc, &counts, (2, 1))
+}
+
+fn expect_one(rt: &impl Abort, alloc: Global) -> Result<(), Fail> {
+    let single = with_one(alloc, "a")?;
+    expect_number(rt, &single, b"a", Some((1, 1)));
+    Ok(())
+}
+
+fn expect_none(rt: &impl Abort, alloc: Global) -> Result<(), Fail> {
+    let lexicon = Lexicon::<512, Global>::new(alloc)?;
+    assert!(rt; !lexicon.has("a"));
+    assert!(rt; slots(&lexicon.words) == 256);
+    Ok(())
+}
+
 #[test]
 fn words(rt: HostRuntime) -> Result<(), Fail> {
-    let counts = count(rt.alloc(), &["net", "ten", "net", "nets"])?;
-    assert_eq!(rt; search(&counts, b"net"), Some((2, 3)));
-    assert_eq!(rt; search(&counts, b"ne"), None);
-    let found = complete(&counts, rt.alloc(), "ne", 1)?;
-    assert_eq!(rt; found.as_slice(), [(2, 1)].as_slice());
-    assert!(rt; has_keyword(&counts, b"attention"));
-    assert!(rt; !has_keyword(&counts, b"a n.e.t. of nests"));
-    let single = with_one(rt.alloc(), "a")?;
-    assert_eq!(rt; search(&single, b"a"), Some((1, 1)));
-    let lexicon = Lexicon::<512, Global>::new(rt.alloc())?;
-    assert!(rt; !lexicon.has("a"));
-    assert_eq!(rt; slots(&lexicon.words), 256);
+    expect_counted(&rt, rt.alloc())?;
+    expect_one(&rt, rt.alloc())?;
+    expect_none(&rt, rt.alloc())
+}
+
+fn saved(alloc: Global, words: &Cedar<Global>) -> Result<Vec<u8>, CedarPersistenceError> {
+    let mut writer = Watched::new(Vec::new(alloc));
+    words.save_to_writer(&mut writer)?;
+    Ok(writer.into_inner())
+}
+
+fn loaded(alloc: Global, file: &[u8]) -> Result<Tokenizer, CedarPersistenceError> {
+    Tokenizer::load(alloc, &mut Watched::new(file))
+}
+
+fn expect_tokens(rt: &impl Abort, alloc: Global, tokenizer: &Tokenizer) -> Result<(), Fail> {
+    let tokens = tokenizer.cut(alloc, "a net")?;
+    let wanted = [(0, 1, None), (1, 1, None), (2, 3, Some(1))];
+    assert!(rt; tokens.as_slice() == wanted.as_slice());
     Ok(())
 }
 
 #[test]
 fn tokens(rt: HostRuntime) -> Result<(), Fail> {
     let counts = count(rt.alloc(), &["net", "nets"])?;
-    let mut saved = Watched::new(Vec::new(rt.alloc()));
-    counts.save_to_writer(&mut saved)?;
-    let saved = saved.into_inner();
-    let tokenizer = Tokenizer::load(rt.alloc(), &mut Watched::new(saved.as_slice()))?;
-    let tokens = tokenizer.cut(rt.alloc(), "a net")?;
-    let wanted = [(0, 1, None), (1, 1, None), (2, 3, Some(1))];
-    assert_eq!(rt; tokens.as_slice(), wanted.as_slice());
-    Ok(())
+    let file = saved(rt.alloc(), &counts)?;
+    let tokenizer = loaded(rt.alloc(), &file)?;
+    expect_tokens(&rt, rt.alloc(), &tokenizer)
+}
+
+type Live<'a> = Trie<DefaultLayout, 512, &'a Refusing<Global>>;
+
+fn expect_len(rt: &impl Abort, live: &Live<'_>, keys: usize) {
+    assert!(rt; live.len() == keys);
+}
+
+fn is_published(live: &mut Live<'_>, pairs: &[(&str, i32)]) -> bool {
+    publish(live, pairs).is_ok()
+}
+
+// Each request is refused in turn, till there are no more: so long the dictionary keeps what it had.
+fn expect_kept(rt: &impl Abort, memory: &Refusing<Global>, live: &mut Live<'_>) {
+    for refused in 0..8 {
+        memory.refuse(refused + 1, refused + 1);
+        if is_published(live, &[("ten", 2), ("network", 3)]) {
+            break;
+        }
+        expect_len(rt, live, 1);
+    }
+    memory.refuse_none();
+    expect_len(rt, live, 3);
+}
+
+fn expect_fault(rt: &impl Abort, live: &mut Live<'_>) {
+    assert!(rt; publish(live, &[("a", 1), ("", 2)]) == Err(CedarError::EmptyKey));
+    assert!(rt; live.exact_match_search("a").is_none());
+    expect_len(rt, live, 3);
 }
 
 // Where any request for memory is refused, or a pair has a fault, the dictionary keeps what it had.
 #[test]
 fn updates(rt: HostRuntime) -> Result<(), Fail> {
     let memory = Refusing::new(rt.alloc());
-    let mut live = Trie::<DefaultLayout, 512, &Refusing<Global>>::with(
-        &memory,
-        CedarBuilder::new(),
-    )?;
+    let mut live = Live::with(&memory, CedarBuilder::new())?;
     publish(&mut live, &[("net", 1)])?;
-    for refused in 0..8 {
-        memory.refuse(refused + 1, refused + 1);
-        if publish(&mut live, &[("ten", 2), ("network", 3)]).is_ok() {
-            break;
-        }
-        assert_eq!(rt; live.len(), 1);
-    }
-    memory.refuse_none();
-    assert_eq!(rt; live.len(), 3);
-    assert_eq!(rt;
-        publish(&mut live, &[("a", 1), ("", 2)]),
-        Err(CedarError::EmptyKey)
-    );
-    assert!(rt; live.exact_match_search("a").is_none());
+    expect_kept(&rt, &memory, &mut live);
+    expect_fault(&rt, &mut live);
     Ok(())
 }

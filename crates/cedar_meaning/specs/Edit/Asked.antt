@@ -1,5 +1,5 @@
 -- What the steps of an edit ask of a table, each as one fact: a caller's check is dear for each part of a clause list.
-use Rattle.std.specs.Prelude.{◌≡◌, ◌≢◌, ◌<◌, ◌^◌, ℕ, List, length, pos}
+use Rattle.std.specs.Prelude.{◌≢◌, ◌<◌, ◌^◌, ℕ, List, length, pos}
 use Rattle.cedar_slots.specs.Places.{IsTable}
 use Rattle.cedar_meaning.specs.Table.Cells.{Held}
 use Rattle.cedar_meaning.specs.Table.TableFields.{Fields, size_of}

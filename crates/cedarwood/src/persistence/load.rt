@@ -4,19 +4,15 @@ ghost use Rattle.std.specs.Prelude.{◌≡◌, ℕ, ◌+◌, ◌*◌, false, tru
 ghost use Rattle.std.specs.Io.KnownBytes.{Consumes};
 ghost use Rattle.cedar_meaning.specs.Table.Layouts.{layout_byte};
 ghost use Rattle.cedar_slots.specs.Places.{IsSlotLimit};
-ghost use Rattle.cedar_table.specs.Table.Views.{fields};
 ghost use Rattle.cedar_meaning.specs.Meaning.WellFormed.{IsWellFormed};
-ghost use Rattle.cedar_format.specs.Format.{need, trial_refusal, CountsWithin, IsVersion, Passes};
-ghost use Rattle.cedar_format.specs.Reading.{IsIo, IsLack, LacksNoMore};
-ghost use Rattle.cedar_format.specs.Refusal.{refusal, refusal_of, CorruptData};
+ghost use Rattle.cedar_format.specs.Format.{need, CountsWithin, IsVersion, Passes};
+ghost use Rattle.cedar_format.specs.Reading.{IsIo, LacksNoMore};
 ghost use Rattle.cedar_format.specs.Tables.{table_bytes};
 ghost use Rattle.cedarwood.specs.Loading.{LoadAnswers};
 
 use crate::persistence::uncounted::uncounted;
 use crate::{CedarPersistenceError, DEFAULT_LOAD_MEMORY_LIMIT, Layout, Source, Ticks, Trie};
-use cedar_check::check_well_formed;
-use cedar_format::{Header, decode_counted, table_of};
-use cedar_table::Corrupt;
+use cedar_file::load_table;
 use std::alloc::Allocator;
 use std::marker::Brand;
 use std::sync::ledger::{Blank, Ledger};
@@ -56,13 +52,8 @@ impl<L: Layout, const SLOTS: usize, A: Allocator + Copy> Trie<L, SLOTS, A> {
         ensures asked { CountsWithin (layout_byte L.kind) SLOTS memory_limit (S.remaining reader.old) need asked.old asked.new }
         ensures reads { CountsWithin (layout_byte L.kind) SLOTS memory_limit (S.remaining reader.old) (λ h. 16 * h.capacity + 1024) reads.old reads.new }
     {
-        let decoded = decode_counted(alloc, reader, L::file_byte(), SLOTS, memory_limit, asked)?;
-        check_trials(&decoded.header)?;
-        let table = table_of(decoded, memory_limit);
-        match check_well_formed(&table, reads) {
-            Ok(()) => Ok(Trie { table }),
-            Err(corrupt) => Err(refused(corrupt)),
-        }
+        let table = load_table(alloc, reader, memory_limit, asked, reads)?;
+        Ok(Trie { table })
     }
 
     /// Loads the dictionary that was saved, if that asks for `memory_limit` bytes at most. A reader is handed over in a
@@ -122,32 +113,5 @@ impl<L: Layout, const SLOTS: usize, A: Allocator + Copy> Trie<L, SLOTS, A> {
         ensures lacks { IfErr result (LacksNoMore (Passes (layout_byte L.kind) SLOTS 536870912 (S.remaining reader.old))) }
     {
         Self::load_from_reader_with_limit(alloc, reader, DEFAULT_LOAD_MEMORY_LIMIT)
-    }
-}
-
-/// Tests the number of trials that a header gives.
-fn check_trials(header: &Header) -> Result<(), CedarPersistenceError>
-    ensures refusal { refusal result ≡ trial_refusal header.now }
-    ensures io { IfErr result (λ e. IsIo e → ⊥) }
-    ensures room { IfErr result (λ e. IsLack e → ⊥) }
-{
-    if header.max_trial > 0 {
-        return Ok(());
-    }
-    Err(CedarPersistenceError::InvalidHeader {
-        field: "max_trial",
-        value: u64::from(u32::from_le_bytes(header.max_trial.to_le_bytes())),
-    })
-}
-
-/// The answer to a table that isn't well-formed.
-fn refused(corrupt: Corrupt) -> CedarPersistenceError
-    ensures refusal { refusal_of result ≡ CorruptData }
-    ensures room { IsLack result → ⊥ }
-{
-    CedarPersistenceError::CorruptData {
-        section: corrupt.section,
-        index: corrupt.index,
-        reason: corrupt.reason,
     }
 }

@@ -9,7 +9,8 @@ ghost use Rattle.cedar_meaning.specs.Table.Layouts.{layout_byte};
 ghost use Rattle.cedar_format.specs.WatchedDevice.{device_of, has_failed};
 
 use crate::{CedarPersistenceError, Layout, Trie, Watched};
-use cedar_format::{FULL_MINOR, MINOR, write_table};
+use cedar_file::write_table;
+use cedar_format::{FULL_MINOR, MINOR};
 use std::alloc::Allocator;
 use std::io::Write;
 

@@ -1,4 +1,4 @@
-use Rattle.std.proofs.Common.{rules, ◌≡◌, ◌∙◌, ◌<◌, ◌^◌, None, ap, sym, subst, length, arith}
+use Rattle.std.proofs.Common.{rules, ◌≡◌, ◌∙◌, None, ap, sym}
 use Rattle.cedarwood.specs.Queries.{predict}
 use Rattle.cedar_c.specs.Content.{content}
 use Rattle.cedar_c.specs.Matches.{filled}
@@ -6,8 +6,8 @@ use Rattle.cedar_c.proofs.ClosedLemmas.{closed_is_empty}
 use Rattle.cedar_c.proofs.MatchLemmas.{nothing_filled}
 use Rattle.cedar_c.proofs.walks.cedar_predictions.Goals as goal
 
-pub returns-in_default-clause-filled : goal.returns-in_default-clause-filled
-returns-in_default-clause-filled c =
+pub returns-then-not-is_open-clause-filled : goal.returns-then-not-is_open-clause-filled
+returns-then-not-is_open-clause-filled c =
     let closed : content c.args.handle.now ≡ None = search rules in
     let matches = c.args.matches.now in
     sym (ap (λ t. filled matches (predict t c.args.text.now)) (closed_is_empty c.args.handle.now closed) ∙ nothing_filled matches)

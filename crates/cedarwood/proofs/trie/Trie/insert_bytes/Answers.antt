@@ -1,4 +1,4 @@
-use Rattle.std.proofs.Common.{rules, ◌≡◌, ℕ, ℤ, ◌<◌, ◌≤◌, None, Some, Option, IfOk, IsSome, IfSome, true, false, Err, arith, get_or, length, refl, subst, sym, w32, to_z, of_z, FitsSigned}
+use Rattle.std.proofs.Common.{rules, ◌≡◌, ℕ, ℤ, ◌<◌, None, Some, Option, IfOk, IsSome, IfSome, true, false, Err, arith, get_or, subst, sym, w32, to_z, of_z, FitsSigned}
 use Rattle.std.proofs.lemmas.Int.{to_z-of_z}
 use Rattle.std.proofs.lemmas.Result.{err_from_is_err_and}
 use Rattle.cedar_tree.specs.Tree.{IsSound, number_at}
@@ -13,7 +13,6 @@ use Rattle.cedarwood.specs.Fault.{fault, value_fault}
 use Rattle.cedarwood.specs.Updates.{IsUpdate}
 use Rattle.cedarwood.proofs.DictionaryLemmas.{held_in_range, is_sound, is_value_of}
 use Rattle.cedarwood.proofs.FaultLemmas.{no_fault, key_of, in_range_of}
-use Rattle.cedarwood.proofs.GrowthLemmas.{grows_none}
 use Rattle.cedarwood.proofs.MarkedLemmas.{is_marked}
 use Rattle.cedarwood.proofs.OutcomeLemmas.{answer_has, error_out, fault_updates, if_err_out, is_ok_or_out, is_ok_out, on_err_out, on_ok_out}
 use Rattle.cedarwood.proofs.UpdateLemmas.{why_refused, at_one_byte, fault_of, grows_by, is_refused, is_spare, marks_follow, marks_remain, over_held, state_stays, stored_is}

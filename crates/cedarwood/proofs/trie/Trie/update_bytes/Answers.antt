@@ -1,4 +1,4 @@
-use Rattle.std.proofs.Common.{rules, ◌≡◌, ℤ, Ok, Err, Result, subst, w32, FitsSigned}
+use Rattle.std.proofs.Common.{rules, ℤ, Ok, Err, Result, subst, w32, FitsSigned}
 use Rattle.std.proofs.lemmas.Int.{to_z-of_z}
 use Rattle.cedar_error.specs.declared.error.CedarError.{CedarError}
 use Rattle.cedarwood.specs.Updates.{IsUpdate}

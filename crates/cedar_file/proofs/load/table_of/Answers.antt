@@ -1,6 +1,6 @@
 use Rattle.std.proofs.Common.{rules, ◌≡◌, to_z, of_z, w32}
 use Rattle.cedar_format.proofs.FileTable.{file_rejects, file_shaped}
-use Rattle.cedar_format.proofs.table.table_of.Goals as goal
+use Rattle.cedar_file.proofs.load.table_of.Goals as goal
 
 pub from_records-requires : goal.from_records-requires
 from_records-requires g c =

@@ -1,5 +1,5 @@
 use Rattle.std.proofs.Common.{rules, ◌≡◌, to_z, of_z, w32}
-use Rattle.cedar_format.proofs.table.header_of.Goals as goal
+use Rattle.cedar_file.proofs.save.header_of.Goals as goal
 
 pub returns : goal.returns
 returns g c =

@@ -4,7 +4,7 @@ use Rattle.std.proofs.lemmas.Result.{on_ok_weaker}
 use Rattle.std.specs.Io.KnownBytes.{Appends}
 use Rattle.cedar_table.specs.Table.Views.{fields}
 use Rattle.cedar_format.proofs.Writing.{blocks_within, infos_within, nodes_within, written, written_fits}
-use Rattle.cedar_format.proofs.table.write_table.Goals as goal
+use Rattle.cedar_file.proofs.save.write_table.Goals as goal
 
 pub slice_bounds-nodes-end : goal.slice_bounds-nodes-end
 slice_bounds-nodes-end g c = rw c.node_records.ensures (nodes_within c.args.minor (fields c.args.table.now) c.header_of-header.result c.header_of-header.ensures c.args.table.now.shaped)

@@ -1,0 +1,116 @@
+//! How a table is loaded, and tested before anybody has it.
+
+ghost use Rattle.std.specs.Prelude.{◌≡◌, ◌≤◌, ◌^◌, ℕ, ◌+◌, ◌*◌, false, true, IfErr, IfOk, IfSome};
+ghost use Rattle.std.specs.Io.KnownBytes.{Consumes};
+ghost use Rattle.cedar_meaning.specs.Table.Layouts.{layout_byte};
+ghost use Rattle.cedar_slots.specs.Places.{IsSlotLimit};
+ghost use Rattle.cedar_table.specs.Table.Views.{fields};
+ghost use Rattle.cedar_meaning.specs.Meaning.WellFormed.{IsWellFormed};
+ghost use Rattle.cedar_format.specs.Format.{need, trial_refusal, CountsWithin, IsFile, IsVersion, Passes};
+ghost use Rattle.cedar_format.specs.Reading.{IsIo, IsLack, LacksNoMore};
+ghost use Rattle.cedar_format.specs.Refusal.{refusal, refusal_of, CorruptData};
+ghost use Rattle.cedar_format.specs.Tables.{file_fields, table_bytes};
+ghost use Rattle.cedar_file.specs.Loading.{LoadAnswers};
+
+use cedar_check::check_well_formed;
+use cedar_format::{CedarPersistenceError, Decoded, Header, Source, decode_counted};
+use cedar_table::{Corrupt, Layout, Parts, Table, Ticks};
+use std::alloc::Allocator;
+use std::sync::ledger::Ledger;
+
+/// Loads the table that was saved. The bytes that are asked of memory are counted, and the records that are read to test the
+/// table.
+///
+/// # Errors
+/// The first refusal of the header and of the input's length, if there is one; `CorruptData` where the bytes are of no
+/// well-formed table; `AllocationFailed` with the number of elements where a request was refused, once the header has
+/// passed; `Io` where the reader failed, which bytes in memory never do.
+pub fn load_table<
+    L: Layout,
+    const SLOTS: usize,
+    A: Allocator + Copy,
+    S: Source,
+    C: Ledger,
+    D: Ledger,
+>(
+    alloc: A,
+    reader: &mut S,
+    memory_limit: usize,
+    asked: &mut Ticks<C>,
+    reads: &mut Ticks<D>,
+) -> Result<Table<L, SLOTS, A>, CedarPersistenceError>
+    requires limit { IsSlotLimit SLOTS }
+
+    // Whatever the reader does, a table comes only with just its bytes, and it is well-formed.
+    ensures bytes { IfOk result (λ t. (version : ℕ) × IsVersion version × Consumes (S.remaining reader.old) (S.remaining reader.new) (table_bytes version (fields t))) }
+    ensures formed { IfOk result (λ t. IsWellFormed SLOTS (fields t)) }
+
+    // A reader that tells its bytes and does not fail, as bytes in memory, gets the answer that they decide.
+    ensures answer { IfSome (S.remaining reader.old) (λ bytes. S.failed reader.new ≡ false → LoadAnswers (λ t. fields t) L.kind SLOTS memory_limit bytes result) }
+    ensures io { IfErr result (λ e. IsIo e → S.failed reader.new ≡ true) }
+    ensures lacks { IfErr result (LacksNoMore (Passes (layout_byte L.kind) SLOTS memory_limit (S.remaining reader.old))) }
+
+    // Before the header has passed nothing is asked of memory and no record is read for the test.
+    ensures asked { CountsWithin (layout_byte L.kind) SLOTS memory_limit (S.remaining reader.old) need asked.old asked.new }
+    ensures reads { CountsWithin (layout_byte L.kind) SLOTS memory_limit (S.remaining reader.old) (λ h. 16 * h.capacity + 1024) reads.old reads.new }
+{
+    let decoded = decode_counted(alloc, reader, L::file_byte(), SLOTS, memory_limit, asked)?;
+    check_trials(&decoded.header)?;
+    let table = table_of(decoded, memory_limit);
+    match check_well_formed(&table, reads) {
+        Ok(()) => Ok(table),
+        Err(corrupt) => Err(refused(corrupt)),
+    }
+}
+
+/// The table of a file's fields. Its lists are moved and not copied; whether it is well-formed isn't tested.
+fn table_of<L: Layout, const SLOTS: usize, A: Allocator>(
+    decoded: Decoded<A>,
+    memory_limit: usize,
+) -> Table<L, SLOTS, A>
+    requires slots { SLOTS ≤ 2 ^ 30 }
+    requires file { IsFile SLOTS memory_limit decoded.header decoded.nodes.items decoded.n_infos.items decoded.blocks.items decoded.reject.items }
+    ensures { fields result ≡ file_fields L.kind decoded.header decoded.nodes.items decoded.n_infos.items decoded.blocks.items decoded.reject.items }
+{
+    let header = decoded.header;
+    Table::from_records(Parts {
+        ordered: header.ordered,
+        entries: header.entries,
+        size: header.size,
+        max_trial: header.max_trial,
+        full_head: header.full_head,
+        closed_head: header.closed_head,
+        open_head: header.open_head,
+        nodes: decoded.nodes,
+        n_infos: decoded.n_infos,
+        blocks: decoded.blocks,
+        reject: decoded.reject,
+    })
+}
+
+/// Tests the number of trials that a header gives.
+fn check_trials(header: &Header) -> Result<(), CedarPersistenceError>
+    ensures refusal { refusal result ≡ trial_refusal header.now }
+    ensures io { IfErr result (λ e. IsIo e → ⊥) }
+    ensures room { IfErr result (λ e. IsLack e → ⊥) }
+{
+    if header.max_trial > 0 {
+        return Ok(());
+    }
+    Err(CedarPersistenceError::InvalidHeader {
+        field: "max_trial",
+        value: u64::from(u32::from_le_bytes(header.max_trial.to_le_bytes())),
+    })
+}
+
+/// The answer to a table that isn't well-formed.
+fn refused(corrupt: Corrupt) -> CedarPersistenceError
+    ensures refusal { refusal_of result ≡ CorruptData }
+    ensures room { IsLack result → ⊥ }
+{
+    CedarPersistenceError::CorruptData {
+        section: corrupt.section,
+        index: corrupt.index,
+        reason: corrupt.reason,
+    }
+}

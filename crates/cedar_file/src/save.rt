@@ -1,0 +1,60 @@
+//! How a table is written.
+
+ghost use Rattle.std.specs.Prelude.{◌≡◌, true, IfErr, OnOk};
+ghost use Rattle.std.specs.Io.KnownBytes.{Appends};
+ghost use Rattle.cedar_table.specs.Table.Views.{fields};
+ghost use Rattle.cedar_format.specs.Reading.{IsIo};
+ghost use Rattle.cedar_format.specs.Tables.{header_of, table_bytes, FitsTable};
+ghost use Rattle.cedar_format.specs.WatchedDevice.{device_of, has_failed};
+
+use cedar_format::{CedarPersistenceError, Header, Watched, listed, write_header, write_lists};
+use cedar_table::{BLOCK_SIZE, Layout, Table};
+use std::alloc::Allocator;
+use std::io::Write;
+
+/// What the header of a table's file says, in a minor version.
+fn header_of<L: Layout, const SLOTS: usize, A: Allocator>(
+    table: &Table<L, SLOTS, A>,
+    minor: u16,
+) -> Header
+    ensures { result ≡ header_of minor (fields table.now) }
+{
+    let slots_listed = listed(minor, table.capacity(), table.size());
+    Header {
+        minor,
+        ordered: table.ordered(),
+        max_trial: table.max_trial(),
+        full_head: table.full_head(),
+        closed_head: table.closed_head(),
+        open_head: table.open_head(),
+        array_len: slots_listed,
+        n_infos_len: slots_listed,
+        blocks_len: slots_listed / BLOCK_SIZE,
+        reject_len: table.reject_values().len(),
+        capacity: table.capacity(),
+        size: table.size(),
+        entries: table.entries(),
+    }
+}
+
+/// Writes the bytes of a table in a minor version. It takes no memory.
+///
+/// # Errors
+/// `Io` where the writer failed.
+pub fn write_table<L: Layout, const SLOTS: usize, A: Allocator, W: Write>(
+    table: &Table<L, SLOTS, A>,
+    minor: u16,
+    writer: &mut Watched<W>,
+) -> Result<(), CedarPersistenceError>
+    ensures bytes { OnOk result (Appends (W.contents (device_of writer.old)) (W.contents (device_of writer.new)) (table_bytes minor (fields table.now))) }
+    ensures fits { OnOk result (FitsTable minor (fields table.now)) }
+    ensures err { IfErr result (λ e. IsIo e × (has_failed writer.new ≡ true)) }
+    ensures failed { has_failed writer.old ≡ true → has_failed writer.new ≡ true }
+{
+    let header = header_of(table, minor);
+    write_header(writer, L::file_byte(), header)?;
+    let nodes = &table.node_records()[..header.array_len];
+    let n_infos = &table.info_records()[..header.n_infos_len];
+    let blocks = &table.block_records()[..header.blocks_len];
+    write_lists(writer, nodes, n_infos, blocks, table.reject_values())
+}
