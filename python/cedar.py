@@ -23,7 +23,7 @@ from pathlib import Path
 
 
 class _Handle(ctypes.Structure):
-    _fields_ = [("held", c_void_p), ("is_open", c_size_t)]
+    _fields_ = [("held", c_void_p), ("is_open", c_uint32), ("is_default", c_uint32)]
 
 
 class _Match(ctypes.Structure):

@@ -2,10 +2,10 @@
 
 ghost use Rattle.std.specs.Prelude.{◌≡◌, ◌↔◌, ◌+◌, ◌-◌, ◌/◌, IfOk, IfSome, IsSome, IsTrue, length};
 ghost use Rattle.cedar_meaning.specs.Table.Layouts.{default_layout, reduced_layout};
-ghost use Rattle.cedar_tree.specs.Queries.{exact, prefixes, used, walk};
+ghost use Rattle.cedar_tree.specs.Queries.{prefixes, used, walk};
 ghost use Rattle.cedarwood.specs.Builds.{outcome};
 ghost use Rattle.cedarwood.specs.State.{erased};
-ghost use Rattle.cedarwood.specs.Tree.{empty_tree, number_at, IsSound};
+ghost use Rattle.cedarwood.specs.Tree.{empty_tree, number_at};
 ghost use Rattle.cedarwood.specs.Updates.{IsUpdate};
 ghost use Rattle.cedar_c.specs.Layouts.{dictionary_in, layout_if, layout_of};
 
@@ -78,13 +78,33 @@ impl AnyCedar {
         }
     }
 
-    pub(crate) fn exact_match_search_bytes(&self, key: &[u8]) -> Option<(i32, usize)>
-        ensures answer { result ≡ exact (dictionary_in self.now).state.tree key.now }
-        ensures sound { IsSound (dictionary_in self.now).state.tree }
+    /// The dictionary, where the caller knows that it is of the default layout: which variant is there isn't read.
+    pub(crate) fn by_default(&self) -> &Cedar<Global>
+        requires { layout_of self.now ≡ default_layout }
+        ensures { result.now ≡ dictionary_in self.now }
     {
         match self {
-            AnyCedar::Default(cedar) => cedar.exact_match_search_bytes(key),
-            AnyCedar::Reduced(cedar) => cedar.exact_match_search_bytes(key),
+            AnyCedar::Default(cedar) => cedar,
+            AnyCedar::Reduced(_) => {
+                // Never taken. `unreachable!()` is compiled to a trap, and the test before it would stay. A shift by 64 has no value, so
+                // LLVM takes the other arm's without a test.
+                let none: &[Cedar<Global>] = &[];
+                &none[1 << 64]
+            }
+        }
+    }
+
+    /// The same for the reduced layout.
+    pub(crate) fn reduced(&self) -> &ReducedCedar<Global>
+        requires { layout_of self.now ≡ reduced_layout }
+        ensures { result.now ≡ dictionary_in self.now }
+    {
+        match self {
+            AnyCedar::Default(_) => {
+                let none: &[ReducedCedar<Global>] = &[];
+                &none[1 << 64]
+            }
+            AnyCedar::Reduced(cedar) => cedar,
         }
     }
 

@@ -12,7 +12,7 @@ ghost use Rattle.cedar_c.specs.Status.{status_of, position_of};
 use crate::any::AnyCedar;
 use crate::handle::Handle;
 use crate::status::{CLOSED, INVALID_MAX_TRIAL, MEMORY, OK, tell};
-use cedarwood::CedarBuilder;
+use cedarwood::{CedarBuilder, Layout, Trie};
 use std::alloc::Global;
 
 /// An empty dictionary with these settings on the heap.
@@ -228,11 +228,31 @@ pub extern "C" fn cedar_get(handle: &mut Handle, key: &[u8], value: &mut i32) ->
     ensures absent { number_at (tree_in handle.old) key.now ≡ None → value.new ≡ value.old }
     ensures kept { content handle.new ≡ content handle.old }
 {
-    if !handle.is_open() {
-        return false;
+    if !handle.is_default() {
+        if !handle.is_open() {
+            return false;
+        }
+        return get(handle.held.lend().reduced(), key, value);
     }
-    let found = handle.held.lend().exact_match_search_bytes(key);
-    match found {
+    get(handle.held.lend().by_default(), key, value)
+}
+
+/// Tells the value at a key, and says whether the key is held.
+fn get<L: Layout, const SLOTS: usize>(
+    trie: &Trie<L, SLOTS, Global>,
+    key: &[u8],
+    value: &mut i32,
+) -> bool
+    ensures answer { IsTrue result ↔ IsSome (number_at trie.now.state.tree key.now) }
+    ensures value { IfSome (number_at trie.now.state.tree key.now) (λ v. value.new ≡ v) }
+    ensures absent { number_at trie.now.state.tree key.now ≡ None → value.new ≡ value.old }
+{
+    // The empty key, which is never held, is asked for by itself: else LLVM keeps a way for it into the code behind the others' loop, and
+    // a hit takes a jump more.
+    if key.is_empty() {
+        return trie.exact_match_search_bytes(key).is_some();
+    }
+    match trie.exact_match_search_bytes(key) {
         Some((number, _)) => {
             *value = number;
             true

@@ -14,6 +14,39 @@ memory_no_read same = cc
 pub memory_no_limit : {P : Type 0} → ◌≡◌ {A = Result (Unit {0}) ScriptError} (Err Memory) (Err SlotLimit) → P
 memory_no_limit same = absurd (cc)
 
+-- nor was a fault of the writer one of the others, nor one of the reader
+pub write_no_read : {P : Type 0} → ◌≡◌ {A = Result (Unit {0}) ScriptError} (Err Write) (Err Read) → P
+write_no_read same = absurd (cc)
+
+pub write_no_memory : {P : Type 0} → ◌≡◌ {A = Result (Unit {0}) ScriptError} (Err Write) (Err Memory) → P
+write_no_memory same = absurd (cc)
+
+pub write_no_limit : {P : Type 0} → ◌≡◌ {A = Result (Unit {0}) ScriptError} (Err Write) (Err SlotLimit) → P
+write_no_limit same = absurd (cc)
+
+pub read_no_write : {P : Type 0} → ◌≡◌ {A = Result (Unit {0}) ScriptError} (Err Read) (Err Write) → P
+read_no_write same = absurd (cc)
+
+pub read_no_memory : {P : Type 0} → ◌≡◌ {A = Result (Unit {0}) ScriptError} (Err Read) (Err Memory) → P
+read_no_memory same = absurd (cc)
+
+pub read_no_limit : {P : Type 0} → ◌≡◌ {A = Result (Unit {0}) ScriptError} (Err Read) (Err SlotLimit) → P
+read_no_limit same = absurd (cc)
+
+-- nor was want of slots
+pub limit_no_write : {P : Type 0} → ◌≡◌ {A = Result (Unit {0}) ScriptError} (Err SlotLimit) (Err Write) → P
+limit_no_write same = absurd (cc)
+
+pub limit_no_read : ◌≡◌ {A = Result (Unit {0}) ScriptError} (Err SlotLimit) (Err Read) → ⊥
+limit_no_read same = cc
+
+pub limit_no_memory : {P : Type 0} → ◌≡◌ {A = Result (Unit {0}) ScriptError} (Err SlotLimit) (Err Memory) → P
+limit_no_memory same = absurd (cc)
+
+-- what went well says nothing of any fault
+pub ok_no_fault : {T : Type 0} {P : Type 0} (x : T) (e : ScriptError) → ◌≡◌ {A = Result T ScriptError} (Ok x) (Err e) → P
+ok_no_fault x e same = absurd (cc)
+
 -- what failed says nothing of success
 pub no_success : {T E : Type 0} (P : Type 0) (r : Result T E) (e : E) → r ≡ Err e → OnOk r P
 no_success P (Ok x) e is = absurd (cc)

@@ -1,7 +1,8 @@
 //! What tests compare again and again. Each comparison in a test makes its proof longer with all that the test holds, a call
 //! of these hardly.
 use cedarwood::{CedarError, Layout, Trie};
-use std::alloc::Allocator;
+use std::alloc::{Allocator, Global};
+use std::fmt::Display;
 use std::process::Abort;
 use std::test::Fail;
 
@@ -90,5 +91,17 @@ pub(crate) fn expect_predicted<L: Layout, const SLOTS: usize, A: Allocator + Cop
 ) -> Result<(), Fail> {
     let found = trie.common_prefix_predict_bytes(query)?;
     assert!(rt; found.as_slice() == wanted, "at {query:?}");
+    Ok(())
+}
+
+/// An error has to be told so.
+pub(crate) fn expect_text<E: Display>(
+    rt: &impl Abort,
+    alloc: Global,
+    error: &E,
+    wanted: &str,
+) -> Result<(), Fail> {
+    let told = format!(in alloc; "{error}")?;
+    assert!(rt; told.as_str() == wanted);
     Ok(())
 }

@@ -1,4 +1,4 @@
-//! Tests of the dictionary and the program: what no clause says, and that their calls succeed.
+//! Tests of the dictionary and its files: what no clause says, and that their calls succeed.
 #![tactic(auto)]
 
 #[cfg(test)]
@@ -12,9 +12,9 @@ mod dictionary;
 #[cfg(test)]
 mod expect;
 #[cfg(test)]
-mod layouts;
+mod files;
 #[cfg(test)]
-mod program;
+mod layouts;
 #[cfg(test)]
 mod queries;
 #[cfg(test)]

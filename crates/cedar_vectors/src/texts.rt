@@ -1,7 +1,6 @@
 //! The texts of the errors, as a user reads them.
+use crate::expect::expect_text;
 use cedarwood::CedarError;
-use std::alloc::Global;
-use std::process::Abort;
 use std::test::Fail;
 
 const TEXTS: [(CedarError, &str); 10] = [
@@ -37,17 +36,6 @@ const TEXTS: [(CedarError, &str); 10] = [
     (CedarError::Memory, "out of memory"),
     (CedarError::SlotLimit, "cedar trie has no slot left"),
 ];
-
-fn expect_text(
-    rt: &impl Abort,
-    alloc: Global,
-    error: &CedarError,
-    wanted: &str,
-) -> Result<(), Fail> {
-    let told = format!(in alloc; "{error}")?;
-    assert!(rt; told.as_str() == wanted);
-    Ok(())
-}
 
 #[test]
 fn texts_of_the_errors(rt: HostRuntime) -> Result<(), Fail> {

@@ -1,9 +1,12 @@
-//! Calls of a dictionary without their clauses. A test has nothing to prove of what they answer, and each statement behind
-//! a call carries what its clauses say: so their contracts are met here alone.
+//! Calls of a dictionary and of the plain tree without their clauses. A test has nothing to prove of what they answer, and
+//! each statement behind a call carries what its clauses say: so their contracts are met here alone.
 ghost use Rattle.cedar_slots.specs.Places.{IsSlotLimit};
 
-use cedarwood::{CedarBuilder, CedarError, Layout, Trie};
+use cedar_words::LongestPrefix;
+use cedarwood::{CedarBuilder, CedarError, CedarPersistenceError, Layout, Trie};
+use plain_tree::PlainTree;
 use std::alloc::{AllocError, Allocator, Global};
+use std::rt::Files;
 
 /// A dictionary of 2^30 slots at most, over an allocator that refuses or not.
 pub type Full<L, A> = Trie<L, 1073741824, A>;
@@ -123,4 +126,56 @@ pub fn below<L: Layout, const SLOTS: usize, A: Allocator + Copy>(
     query: &[u8],
 ) -> Result<Vec<(i32, usize), A>, CedarError> {
     trie.common_prefix_predict_bytes(query)
+}
+
+/// The longest key that a text begins with.
+pub fn longest<L: Layout, const SLOTS: usize, A: Allocator + Copy>(
+    trie: &Trie<L, SLOTS, A>,
+    text: &[u8],
+) -> Option<(i32, usize)> {
+    trie.longest_prefix(text)
+}
+
+/// Saves a dictionary in a minor version of the format to a path.
+pub fn save_at_path<L: Layout, const SLOTS: usize, A: Allocator + Copy, F: Files>(
+    trie: &Trie<L, SLOTS, A>,
+    minor: u8,
+    files: &F,
+) -> Result<(), CedarPersistenceError> {
+    if minor == 0 {
+        trie.save_v1_0_to_path(files, "a.cedar")
+    } else {
+        trie.save_to_path(files, "a.cedar")
+    }
+}
+
+/// Loads a dictionary from a path.
+pub fn load_at_path<L: Layout, const SLOTS: usize, A: Allocator + Copy, F: Files>(
+    alloc: A,
+    files: &F,
+) -> Result<Trie<L, SLOTS, A>, CedarPersistenceError>
+    requires { IsSlotLimit SLOTS }
+{
+    Trie::load_from_path(alloc, files, "a.cedar")
+}
+
+/// Stores a pair in a tree.
+pub fn put(
+    alloc: Global,
+    tree: &mut PlainTree<Global>,
+    ordered: bool,
+    key: &[u8],
+    value: i32,
+) -> Result<(), AllocError> {
+    tree.put(alloc, ordered, key, value)
+}
+
+/// Takes a key from a tree, and says whether it was there.
+pub fn cut(tree: &mut PlainTree<Global>, key: &[u8]) -> bool {
+    tree.cut(key)
+}
+
+/// The number of a key in a tree, and the key's length.
+pub fn exact(tree: &PlainTree<Global>, key: &[u8]) -> Option<(i32, usize)> {
+    tree.exact(key)
 }

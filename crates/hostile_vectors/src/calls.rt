@@ -1,9 +1,8 @@
 //! Calls of which no other test makes use, at values made by hand.
 ghost use Rattle.std.specs.Prelude.{◌≡◌, ◌<◌};
 
-use crate::bare::{empty, update};
+use crate::bare::{empty, longest, update};
 use crate::state::saved;
-use cedar_words::LongestPrefix;
 use cedarwood::persistence::v1;
 use cedarwood::{
     Cedar, CedarError, CedarPersistenceError, DEFAULT_LOAD_MEMORY_LIMIT, DefaultLayout, Ticks,
@@ -31,10 +30,6 @@ fn fronts(alloc: Global, cedar: &Cedar<Global>, query: &[u8]) -> Result<Pairs, A
 
 fn below(alloc: Global, cedar: &Cedar<Global>, query: &[u8]) -> Result<Pairs, AllocError> {
     cedar.common_prefix_predict_iter_bytes(query).collect(alloc)
-}
-
-fn longest(cedar: &Cedar<Global>, text: &[u8]) -> Option<(i32, usize)> {
-    cedar.longest_prefix(text)
 }
 
 fn expect_pairs(rt: &impl Abort, found: &[(i32, usize)], wanted: [(i32, usize); 2]) {

@@ -1,5 +1,5 @@
 //! Hostile use: memory that is refused at each request, devices that end early, tables with no slot left, and keys of a
-//! million bytes. Each answer is the one that is named, what was held stays, and the same call then succeeds.
+//! million bytes. Each answer is the one that is named, what was held stays, and the same call then succeeds. And forged files.
 #![tactic(auto)]
 
 #[cfg(test)]
@@ -8,6 +8,8 @@ mod attempts;
 mod bare;
 #[cfg(test)]
 mod calls;
+#[cfg(test)]
+mod forged;
 #[cfg(test)]
 mod full;
 #[cfg(test)]
@@ -19,10 +21,10 @@ mod long;
 #[cfg(test)]
 mod making;
 #[cfg(test)]
-mod runs;
-#[cfg(test)]
-mod scripts;
+mod sequence;
 #[cfg(test)]
 mod state;
+#[cfg(test)]
+mod verdict;
 #[cfg(test)]
 mod walks;

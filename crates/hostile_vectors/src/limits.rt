@@ -1,7 +1,8 @@
 //! Mixed calls on dictionaries of few slots beside the plain tree, most of the time with no slot left.
 ghost use Rattle.cedar_slots.specs.Places.{IsSlotLimit};
 
-use crate::bare::{erase, made, room, update};
+use crate::bare::{cut, erase, made, put, room, update};
+use crate::sequence::next;
 use crate::state::{loads_again, state_of};
 use cedarwood::{CedarError, DefaultLayout, Layout, ReducedLayout, Trie};
 use plain_tree::PlainTree;
@@ -27,12 +28,6 @@ struct Beside<L: Layout, const SLOTS: usize> {
     refused: u32,
 }
 
-// The next number of a fixed sequence.
-fn next(seed: &mut u32) -> u32 {
-    *seed = seed.wrapping_mul(1664525).wrapping_add(1013904223);
-    *seed >> 8
-}
-
 // A key of one to six of four bytes, of one to three of all bytes, or of one byte eight to forty times.
 fn key(alloc: Global, seed: &mut u32) -> Result<Vec<u8>, AllocError> {
     let mut key = Vec::new(alloc);
@@ -49,20 +44,6 @@ fn key(alloc: Global, seed: &mut u32) -> Result<Vec<u8>, AllocError> {
 
 fn is_held(tree: &PlainTree<Global>, key: &[u8]) -> bool {
     tree.number_at(key).is_some()
-}
-
-fn put(
-    alloc: Global,
-    tree: &mut PlainTree<Global>,
-    ordered: bool,
-    key: &[u8],
-    value: i32,
-) -> Result<(), AllocError> {
-    tree.put(alloc, ordered, key, value)
-}
-
-fn cut(tree: &mut PlainTree<Global>, key: &[u8]) -> bool {
-    tree.cut(key)
 }
 
 // Whether a key or a longer one is held.

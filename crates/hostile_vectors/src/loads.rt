@@ -3,6 +3,7 @@ ghost use Rattle.cedar_slots.specs.Places.{IsSlotLimit};
 
 use crate::bare::{build, empty};
 use crate::state::{loaded, saved, saves};
+use crate::verdict::{Answer, LOADS, Verdict, refusal};
 use cedarwood::{CedarPersistenceError, DefaultLayout, Layout, ReducedLayout, Trie, Watched};
 use std::alloc::{AllocError, Allocator, Global};
 use std::process::Abort;
@@ -17,56 +18,23 @@ fn file_of<L: Layout>(alloc: Global) -> Result<Vec<u8>, Fail> {
     Ok(saved(alloc, &trie)?)
 }
 
-// What a load answers, as far as it is compared, and how many requests it made.
-#[derive(Clone, Copy, Debug, PartialEq, Eq)]
-enum Loaded {
-    // It loads, and saves the same bytes.
-    Same,
-    // Want of memory for so many elements.
-    Lacks(usize),
-    Truncated,
-    Io,
-    Limit(usize),
-    Header(&'static str, u64),
-    Other,
-}
-
-fn refusal(error: &CedarPersistenceError) -> Loaded {
-    match error {
-        CedarPersistenceError::AllocationFailed { requested } => Loaded::Lacks(*requested),
-        CedarPersistenceError::Truncated => Loaded::Truncated,
-        CedarPersistenceError::Io(_) => Loaded::Io,
-        CedarPersistenceError::AllocationLimitExceeded { requested, .. } => {
-            Loaded::Limit(*requested)
-        }
-        CedarPersistenceError::InvalidHeader { field, value } => Loaded::Header(field, *value),
-        _ => Loaded::Other,
-    }
-}
-
-type Answer<'a, L, const SLOTS: usize> = Result<
+type Loading<'a, L, const SLOTS: usize> = Result<
     Trie<L, SLOTS, &'a Refusing<Global>>,
     CedarPersistenceError,
 >;
 
-fn compared<L: Layout, const SLOTS: usize, A: Allocator + Copy>(
-    alloc: Global,
-    trie: &Trie<L, SLOTS, A>,
-    file: &[u8],
-) -> Result<Loaded, Fail> {
-    let is_same = saves(alloc, trie, file)?;
-    Ok(if is_same { Loaded::Same } else { Loaded::Other })
-}
+// What a load answered, whether what loads saves the same bytes, and how many requests there were.
+type Loaded = (Answer, bool, u64);
 
-// What a load of this file answered.
-fn answered<L: Layout, const SLOTS: usize, A: Allocator + Copy>(
+fn compared<L: Layout, const SLOTS: usize, A: Allocator + Copy>(
     alloc: Global,
     file: &[u8],
     answer: Result<Trie<L, SLOTS, A>, CedarPersistenceError>,
+    requests: u64,
 ) -> Result<Loaded, Fail> {
     match answer {
-        Ok(trie) => compared(alloc, &trie, file),
-        Err(error) => Ok(refusal(&error)),
+        Ok(trie) => Ok((LOADS, saves(alloc, &trie, file)?, requests)),
+        Err(error) => Ok((refusal(&error), true, requests)),
     }
 }
 
@@ -78,13 +46,13 @@ fn load<L: Layout>(
     comes: usize,
     ending: Ending,
     request: u64,
-) -> Result<(Loaded, u64), Fail> {
+) -> Result<Loaded, Fail> {
     let memory = Refusing::new(alloc);
     memory.refuse(request, request);
     let mut reader = Watched::new(FailingReader::new(file, comes, 1, ending));
-    let answer: Answer<'_, L, 1073741824> = loaded(&memory, &mut reader);
+    let answer: Loading<'_, L, 1073741824> = loaded(&memory, &mut reader);
     let requests = memory.requests();
-    Ok((answered(alloc, file, answer)?, requests))
+    compared(alloc, file, answer, requests)
 }
 
 // A load of a whole file has to answer this.
@@ -93,10 +61,10 @@ fn expect<L: Layout>(
     alloc: Global,
     file: &[u8],
     asked: (Ending, u64),
-    wanted: (Loaded, u64),
+    wanted: (Answer, u64),
 ) -> Result<(), Fail> {
     let answer = load::<L>(alloc, file, file.len(), asked.0, asked.1)?;
-    let is_wanted = answer.0 == wanted.0 && answer.1 == wanted.1;
+    let is_wanted = answer == (wanted.0, true, wanted.1);
     assert!(rt; is_wanted, "{:?} {}", asked.0, asked.1);
     Ok(())
 }
@@ -106,12 +74,12 @@ fn refuse_each<L: Layout>(rt: &impl Abort, alloc: Global) -> Result<(), Fail> {
     let file = file_of::<L>(alloc)?;
     for ending in [Ending::Quiet, Ending::UnexpectedEof] {
         for (request, elements) in [(1, 512), (2, 512), (3, 2), (4, 257)] {
-            let wanted = (Loaded::Lacks(elements), request);
+            let wanted = ((Verdict::Memory, elements), request);
             expect::<L>(rt, alloc, &file, (ending, request), wanted)?;
         }
-        expect::<L>(rt, alloc, &file, (ending, 5), (Loaded::Same, 4))?;
+        expect::<L>(rt, alloc, &file, (ending, 5), (LOADS, 4))?;
     }
-    expect::<L>(rt, alloc, &file, (Ending::Fault, 0), (Loaded::Io, 4))
+    expect::<L>(rt, alloc, &file, (Ending::Fault, 0), ((Verdict::Io, 0), 4))
 }
 
 #[test]
@@ -125,13 +93,13 @@ fn cut_each<L: Layout>(rt: &impl Abort, alloc: Global) -> Result<(), Fail> {
     let file = file_of::<L>(alloc)?;
     for comes in 0..file.len() {
         let requests = if comes < 88 { 0 } else { 4 };
-        for (ending, answer) in [
-            (Ending::Quiet, Loaded::Truncated),
-            (Ending::UnexpectedEof, Loaded::Truncated),
-            (Ending::Fault, Loaded::Io),
+        for (ending, verdict) in [
+            (Ending::Quiet, Verdict::Truncated),
+            (Ending::UnexpectedEof, Verdict::Truncated),
+            (Ending::Fault, Verdict::Io),
         ] {
             let loaded = load::<L>(alloc, &file, comes, ending, 0)?;
-            assert!(rt; loaded == (answer, requests), "at {comes}");
+            assert!(rt; loaded == ((verdict, 0), true, requests), "at {comes}");
         }
     }
     Ok(())
@@ -155,14 +123,14 @@ fn large_header(alloc: Global) -> Result<Vec<u8>, AllocError> {
 
 // A load of a table that is larger than is allowed, with the first request refused.
 #[tactic(auto, using(crate::proofs::SlotLimits::limit_256))]
-fn load_small(alloc: Global) -> Result<(Loaded, u64), Fail> {
+fn load_small(alloc: Global) -> Result<Loaded, Fail> {
     let file = file_of::<DefaultLayout>(alloc)?;
     let memory = Refusing::new(alloc);
     memory.refuse(1, 1);
     let mut reader = Watched::new(file.as_slice());
-    let answer: Answer<'_, DefaultLayout, 256> = loaded(&memory, &mut reader);
+    let answer: Loading<'_, DefaultLayout, 256> = loaded(&memory, &mut reader);
     let requests = memory.requests();
-    Ok((answered(alloc, &file, answer)?, requests))
+    compared(alloc, &file, answer, requests)
 }
 
 // What the header refuses is refused before anything is asked of memory.
@@ -170,8 +138,16 @@ fn load_small(alloc: Global) -> Result<(Loaded, u64), Fail> {
 fn refusals_before_memory(rt: HostRuntime) -> Result<(), Fail> {
     let header = large_header(rt.alloc())?;
     let answer = load::<DefaultLayout>(rt.alloc(), &header, 88, Ending::Quiet, 1)?;
-    assert!(&rt; answer == (Loaded::Limit(21646808580), 0));
+    let refusal = Verdict::Limit {
+        requested: 21646808580,
+        limit: 536870912,
+    };
+    assert!(&rt; answer == ((refusal, 0), true, 0));
     let answer = load_small(rt.alloc())?;
-    assert!(&rt; answer == (Loaded::Header("capacity", 512), 0));
+    let refusal = Verdict::Header {
+        field: "capacity",
+        value: 512,
+    };
+    assert!(&rt; answer == ((refusal, 0), true, 0));
     Ok(())
 }

@@ -1,15 +1,11 @@
-//! A key of a million bytes and its first half, through each call, through files and through a script: a chain of a million nodes.
+//! A key of a million bytes and its first half, through each call and through files: a chain of a million nodes.
 use crate::bare::{
-    Full, below, build, copied, counts, empty, erase, found, fronts, insert, of_sorted, update,
+    Full, below, build, copied, counts, erase, found, fronts, insert, load_at_path, longest,
+    of_sorted, save_at_path, update,
 };
-use crate::runs::{change, one, run};
 use crate::state::{loads_again, saved};
-use cedar_calls::{Answer, Change, Changed};
-use cedar_cli::{ScriptError, run_script};
-use cedar_words::{LongestPrefix, segment};
-use cedarwood::{
-    CedarError, CedarPersistenceError, DefaultLayout, Entries, Layout, ReducedLayout, Watched,
-};
+use cedar_words::segment;
+use cedarwood::{CedarError, CedarPersistenceError, DefaultLayout, Entries, Layout, ReducedLayout};
 use std::alloc::{AllocError, Global};
 use std::cell::Cell;
 use std::process::Abort;
@@ -73,10 +69,6 @@ fn text_len<L: Layout>(trie: &Long<L>) -> Result<usize, CedarError> {
     }
 }
 
-fn longest<L: Layout>(trie: &Long<L>, text: &[u8]) -> Option<(i32, usize)> {
-    trie.longest_prefix(text)
-}
-
 type Tokens = Vec<(usize, usize, Option<i32>)>;
 
 fn tokens<L: Layout>(alloc: Global, trie: &Long<L>, text: &[u8]) -> Result<Tokens, AllocError> {
@@ -113,43 +105,8 @@ fn expect_changes<L: Layout>(rt: &impl Abort, trie: &mut Long<L>, key: &[u8]) {
     assert!(rt; update(trie, key, 2) == Ok(()));
 }
 
-// The key stored and erased by calls in a list.
-#[tactic(auto, using(cedarwood::proofs::DictionaryLemmas::default_limit))]
-fn expect_calls<L: Layout>(rt: &impl Abort, alloc: Global, key: &[u8]) -> Result<(), Fail> {
-    let mut tries = one::<L, 1073741824, Global>(alloc)?;
-    let calls = [
-        change(Change::Update { key, value: 2 }),
-        change(Change::Erase { key }),
-    ];
-    let answers = run(alloc, &mut tries, &calls)?;
-    assert!(rt;
-        matches!(
-            answers.as_slice(),
-            [
-                Answer::Changed(Changed::Updated(Ok(()))),
-                Answer::Changed(Changed::Erased(true))
-            ]
-        )
-    );
-    Ok(())
-}
-
-fn save_at_path<L: Layout>(
-    trie: &Long<L>,
-    files: &FakeFiles<'_>,
-) -> Result<(), CedarPersistenceError> {
-    trie.save_to_path(files, "long.cedar")
-}
-
-#[tactic(auto, using(cedarwood::proofs::DictionaryLemmas::default_limit))]
-fn load_at_path<L: Layout>(
-    alloc: Global,
-    files: &FakeFiles<'_>,
-) -> Result<Long<L>, CedarPersistenceError> {
-    Long::<L>::load_from_path(alloc, files, "long.cedar")
-}
-
 // A dictionary saved to a file of these bytes, and the one that is loaded from there.
+#[tactic(auto, using(cedarwood::proofs::DictionaryLemmas::default_limit))]
 fn through_path<L: Layout>(
     rt: &impl Abort,
     alloc: Global,
@@ -163,7 +120,7 @@ fn through_path<L: Layout>(
     };
     let uses = Cell::new(FileUse::NONE);
     let files = FakeFiles::new(bytes, plan, &uses);
-    save_at_path(trie, &files)?;
+    save_at_path(trie, 1, &files)?;
     assert!(rt; (uses.get().as_expected, uses.get().written) == (true, bytes.len()));
     load_at_path(alloc, &files)
 }
@@ -189,7 +146,6 @@ fn expect_each_call<L: Layout>(rt: &impl Abort, alloc: Global, used: usize) -> R
     expect_found(rt, alloc, &trie, &key)?;
     expect_files(rt, alloc, &trie, &key)?;
     expect_changes(rt, &mut trie, &key);
-    expect_calls::<L>(rt, alloc, &key)?;
     expect_found(rt, alloc, &trie, &key)?;
     expect_files(rt, alloc, &trie, &key)
 }
@@ -198,51 +154,4 @@ fn expect_each_call<L: Layout>(rt: &impl Abort, alloc: Global, used: usize) -> R
 fn each_call(rt: HostRuntime) -> Result<(), Fail> {
     expect_each_call::<DefaultLayout>(&rt, rt.alloc(), LEN + 3)?;
     expect_each_call::<ReducedLayout>(&rt, rt.alloc(), LEN + 2)
-}
-
-// A line of a key whose digits are `61` each time.
-fn push_line(script: &mut Vec<u8>, command: &[u8], value: &[u8]) -> Result<(), AllocError> {
-    script.extend_from_slice(command)?;
-    for _ in 0..LEN {
-        script.extend_from_slice(b"61")?;
-    }
-    script.extend_from_slice(value)
-}
-
-// Each form of a line with such a key.
-fn script_of(alloc: Global) -> Result<Vec<u8>, AllocError> {
-    let mut script = Vec::from_slice(alloc, b"+ 61 1\n")?;
-    push_line(&mut script, b"+ ", b" 2\n")?;
-    for command in [b"= ", b"< ", b"> ", b"/ ", b"- ", b"- "] {
-        push_line(&mut script, command, b"\n")?;
-    }
-    Ok(script)
-}
-
-// What a script is answered.
-fn answers_to<L: Layout>(
-    alloc: Global,
-    trie: &mut Long<L>,
-    script: &[u8],
-) -> Result<Vec<u8>, ScriptError> {
-    let mut reader = Watched::new(script);
-    let mut writer = Watched::new(Vec::new(alloc));
-    run_script(alloc, trie, &mut reader, &mut writer)?;
-    Ok(writer.into_inner())
-}
-
-fn expect_script<L: Layout>(rt: &impl Abort, alloc: Global) -> Result<(), Fail> {
-    let script = script_of(alloc)?;
-    let mut trie = empty::<L>(alloc)?;
-    let answers = answers_to(alloc, &mut trie, &script)?;
-    let wanted = b"ok\nok\n2 1000000\n1:0 2:999999\n2:0\n0:1000000:2\nerased\nabsent\n";
-    assert!(rt; answers.as_slice() == wanted.as_slice());
-    assert!(rt; counts(&trie).0 == 1);
-    Ok(())
-}
-
-#[test]
-fn a_script(rt: HostRuntime) -> Result<(), Fail> {
-    expect_script::<DefaultLayout>(&rt, rt.alloc())?;
-    expect_script::<ReducedLayout>(&rt, rt.alloc())
 }

@@ -25,14 +25,27 @@ pub fn state_of<L: Layout, const SLOTS: usize, A: Allocator + Copy>(
     })
 }
 
+/// The bytes of a dictionary that is saved in a minor version of the format.
+pub fn saved_as<L: Layout, const SLOTS: usize, A: Allocator + Copy>(
+    alloc: Global,
+    trie: &Trie<L, SLOTS, A>,
+    minor: u64,
+) -> Result<Vec<u8>, CedarPersistenceError> {
+    let mut writer = Watched::new(Vec::new(alloc));
+    if minor == 0 {
+        trie.save_v1_0_to_writer(&mut writer)?;
+    } else {
+        trie.save_to_writer(&mut writer)?;
+    }
+    Ok(writer.into_inner())
+}
+
 /// The bytes of a saved dictionary.
 pub fn saved<L: Layout, const SLOTS: usize, A: Allocator + Copy>(
     alloc: Global,
     trie: &Trie<L, SLOTS, A>,
 ) -> Result<Vec<u8>, CedarPersistenceError> {
-    let mut writer = Watched::new(Vec::new(alloc));
-    trie.save_to_writer(&mut writer)?;
-    Ok(writer.into_inner())
+    saved_as(alloc, trie, 1)
 }
 
 /// The dictionary of what a reader gives.

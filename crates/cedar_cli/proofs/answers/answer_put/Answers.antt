@@ -1,4 +1,4 @@
-use Rattle.std.proofs.Common.{arith, length, sym, Some, ap, subst, ◌∙◌, ◌++◌, ◌∷◌, [], ◌≡◌, None, ℤ, to_z, of_z, w32, Err}
+use Rattle.std.proofs.Common.{refl, arith, length, sym, Some, ap, subst, ◌∙◌, ◌++◌, ◌∷◌, [], ◌≡◌, None, ℤ, to_z, of_z, w32, Err}
 use Rattle.std.proofs.lemmas.Int.{to_z-of_z}
 use Rattle.cedar_tree.specs.State.{stored}
 use Rattle.cedar_cli.specs.Script.{refusal}
@@ -12,6 +12,7 @@ use Rattle.cedar_cli.specs.declared.command.Verb.TheVariants.{Put}
 use Rattle.cedarwood.specs.WatchedDevice.{device_of}
 use Rattle.cedar_cli.proofs.BlockCounts.{within_further, back_blocks, held_after}
 use Rattle.cedar_cli.proofs.Bytes.{Leaves-on_err, Obeys-on_ok}
+use Rattle.cedar_cli.proofs.Faults.{memory_no_write, memory_no_read, memory_no_limit, limit_no_write, limit_no_read, limit_no_memory}
 use Rattle.cedar_cli.proofs.Orders.{no_fault, pair_kind, refused_by, taken_back, Leaves-if_err, Leaves-unanswered, no_shortage, on_not_ok, on_not_err, write_failed, write_alone, never_memory}
 use Rattle.cedar_cli.proofs.SlotsSeen.{put_obeyed, put_refused, seen_same}
 use Rattle.cedar_cli.proofs.answers.answer_put.Goals as goal
@@ -138,3 +139,69 @@ returns-then-is_err-clause-memory g c = λ m. absurd (never_memory _ c.write_who
 
 pub returns-else-is_err-clause-memory : goal.returns-else-is_err-clause-memory
 returns-else-is_err-clause-memory g c = λ m. absurd (never_memory _ c.write_whole-written.result c.write_whole-written.ensures.cause m)
+
+pub returns-then-is_err-clause-cause : goal.returns-then-is_err-clause-cause
+returns-then-is_err-clause-cause g c = λ failed. write_failed _ c.write_whole-written.result Write c.write_whole-written.ensures.cause failed
+
+pub returns-then-is_err-clause-unfailed : goal.returns-then-is_err-clause-unfailed
+returns-then-is_err-clause-unfailed g c = c.write_whole-written.ensures.unfailed
+
+pub returns-then-is_err-clause-never_read : goal.returns-then-is_err-clause-never_read
+returns-then-is_err-clause-never_read g c = let alone = write_alone _ c.write_whole-written.result c.write_whole-written.ensures.cause in alone.0
+
+pub returns-then-is_err-clause-limit : goal.returns-then-is_err-clause-limit
+returns-then-is_err-clause-limit g c = λ full. let alone = write_alone _ c.write_whole-written.result c.write_whole-written.ensures.cause in absurd (alone.1 full)
+
+pub returns-then-is_err-clause-starved : goal.returns-then-is_err-clause-starved
+returns-then-is_err-clause-starved g c = λ m. absurd (never_memory _ c.write_whole-written.result c.write_whole-written.ensures.cause m)
+
+pub returns-then-is_err-clause-full : goal.returns-then-is_err-clause-full
+returns-then-is_err-clause-full g c = λ full. let alone = write_alone _ c.write_whole-written.result c.write_whole-written.ensures.cause in absurd (alone.1 full)
+
+pub returns-else-is_err-clause-cause : goal.returns-else-is_err-clause-cause
+returns-else-is_err-clause-cause g c = λ failed. write_failed _ c.write_whole-written.result Write c.write_whole-written.ensures.cause failed
+
+pub returns-else-is_err-clause-unfailed : goal.returns-else-is_err-clause-unfailed
+returns-else-is_err-clause-unfailed g c = c.write_whole-written.ensures.unfailed
+
+pub returns-else-is_err-clause-never_read : goal.returns-else-is_err-clause-never_read
+returns-else-is_err-clause-never_read g c = let alone = write_alone _ c.write_whole-written.result c.write_whole-written.ensures.cause in alone.0
+
+pub returns-else-is_err-clause-limit : goal.returns-else-is_err-clause-limit
+returns-else-is_err-clause-limit g c = λ full. let alone = write_alone _ c.write_whole-written.result c.write_whole-written.ensures.cause in absurd (alone.1 full)
+
+pub returns-else-is_err-clause-starved : goal.returns-else-is_err-clause-starved
+returns-else-is_err-clause-starved g c = λ m. absurd (never_memory _ c.write_whole-written.result c.write_whole-written.ensures.cause m)
+
+pub returns-else-is_err-clause-full : goal.returns-else-is_err-clause-full
+returns-else-is_err-clause-full g c = λ full. let alone = write_alone _ c.write_whole-written.result c.write_whole-written.ensures.cause in absurd (alone.1 full)
+
+pub returns-in-Memory-clause-cause : goal.returns-in-Memory-clause-cause
+returns-in-Memory-clause-cause g c = λ same. memory_no_write same
+
+pub returns-in-Memory-clause-never_read : goal.returns-in-Memory-clause-never_read
+returns-in-Memory-clause-never_read g c = λ same. memory_no_read same
+
+pub returns-in-Memory-clause-limit : goal.returns-in-Memory-clause-limit
+returns-in-Memory-clause-limit g c = λ same. memory_no_limit same
+
+pub returns-in-Memory-clause-starved : goal.returns-in-Memory-clause-starved
+returns-in-Memory-clause-starved g c = λ _. refl
+
+pub returns-in-Memory-clause-full : goal.returns-in-Memory-clause-full
+returns-in-Memory-clause-full g c = λ _. refl
+
+pub returns-in-SlotLimit-clause-cause : goal.returns-in-SlotLimit-clause-cause
+returns-in-SlotLimit-clause-cause g c = λ same. limit_no_write same
+
+pub returns-in-SlotLimit-clause-never_read : goal.returns-in-SlotLimit-clause-never_read
+returns-in-SlotLimit-clause-never_read g c = λ same. limit_no_read same
+
+pub returns-in-SlotLimit-clause-memory : goal.returns-in-SlotLimit-clause-memory
+returns-in-SlotLimit-clause-memory g c = λ same. limit_no_memory same
+
+pub returns-in-SlotLimit-clause-starved : goal.returns-in-SlotLimit-clause-starved
+returns-in-SlotLimit-clause-starved g c = λ _. refl
+
+pub returns-in-SlotLimit-clause-full : goal.returns-in-SlotLimit-clause-full
+returns-in-SlotLimit-clause-full g c = λ _. refl

@@ -1,3 +1,5 @@
+use Rattle.std.proofs.lemmas.Result.{err_from_is_err_and}
+use Rattle.cedar_cli.proofs.Faults.{no_success}
 use Rattle.cedarwood.specs.WatchedDevice.{device_of}
 use Rattle.cedar_cli.specs.Options.{empty, shown}
 use Rattle.cedar_cli.specs.Seen.{seen}
@@ -20,3 +22,19 @@ returns-in-Ok-clause-ok g c = on_ok c.save.result (seen g.L.Layout.kind c.in_ok-
 
 pub returns-in-Ok-clause-unfailed : goal.returns-in-Ok-clause-unfailed
 returns-in-Ok-clause-unfailed g c = on_ok c.save.result c.in-Ok.ensures.unfailed
+
+pub returns-in_err-trie-clause-ok : goal.returns-in_err-trie-clause-ok
+returns-in_err-trie-clause-ok g c =
+    let p = err_from_is_err_and c.from_residual.result c.from_residual.ensures.1 in
+    no_success _ c.from_residual.result p.0 p.1
+
+pub returns-in_err-trie-clause-unfailed : goal.returns-in_err-trie-clause-unfailed
+returns-in_err-trie-clause-unfailed g c =
+    let p = err_from_is_err_and c.from_residual.result c.from_residual.ensures.1 in
+    no_success _ c.from_residual.result p.0 p.1
+
+pub returns-in-Ok-clause-begun : goal.returns-in-Ok-clause-begun
+returns-in-Ok-clause-begun g c = (seen g.L.Layout.kind c.in_ok-trie.trie, c.in_ok-trie.ensures, c.answer_script.ensures.begun)
+
+pub returns-clause-begun : goal.returns-clause-begun
+returns-clause-begun g c = (seen g.L.Layout.kind c.in_ok-trie.trie, c.in_ok-trie.ensures, c.answer_script.ensures.begun)

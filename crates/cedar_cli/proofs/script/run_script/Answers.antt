@@ -1,5 +1,5 @@
 use Rattle.std.proofs.lemmas.Result.{err_from_is_err_and}
-use Rattle.cedar_cli.specs.declared.script.ScriptError.TheVariants.{Memory, SlotLimit}
+use Rattle.cedar_cli.specs.declared.script.ScriptError.TheVariants.{Read, Write, Memory, SlotLimit}
 use Rattle.std.proofs.Common.{rules, Err, refl, arith, sym, subst, ◌∙◌, ◌≡◌, ◌<◌, ℕ, List, [], ◌++◌, length, length-append, ◌≤◌, take, inl, inr}
 use Rattle.std.specs.Prelude.{◌⊎◌}
 use Rattle.std.specs.Io.KnownBytes.{Consumes, IsAtEnd}
@@ -13,6 +13,7 @@ use Rattle.cedar_cli.specs.Seen.{seen}
 use Rattle.cedar_cli.proofs.BlockCounts.{chunk_taken, chunk_left, last_blocks, so_far_blocks, came_blocks}
 use Rattle.cedar_cli.proofs.Bytes.{unfailed_call, failed_call, bytes_on, Advances-append, Advances-kept, Stops-append, on_err}
 use Rattle.cedar_cli.proofs.Runs.{Consumes-append, Consumes-none, Consumes-kept, end_found, whole_came, of_script, ended_early, Stops-from_advances, all_finished, last_finished, last_left, of_known, long_line, short_line}
+use Rattle.cedar_cli.proofs.Faults.{write_no_read, write_no_memory, write_no_limit, read_no_write, read_no_memory, read_no_limit, ok_no_fault, no_success}
 use Rattle.cedar_cli.proofs.script.run_script.Goals as goal
 use Rattle.cedar_cli.proofs.script.run_script.Goals.{else-loop-turn-test, then-loop-turn-test+in-Ok+in-Ok-read+then-count-eq0}
 use Rattle.cedar_cli.proofs.script.run_script.Goals.{then-not-is_empty+in_ok-answer_line, else-not-is_empty}
@@ -312,3 +313,120 @@ returns-clause-blocks g c =
           (last_blocks before.0 line c.args.trie.now c.loop-turn.trie w.answer_line.new.trie before.8 answered))
       | else-not-is_empty w ↦ rw w.trie-is (came_blocks start rest before.0 c.args.trie.now c.loop-turn.trie before.1 (so_far_blocks before.0 line c.args.trie.now c.loop-turn.trie before.8))
     ]
+
+pub returns-in_default-clause-read : goal.returns-in_default-clause-read
+returns-in_default-clause-read g c = λ same. write_no_read same
+
+pub returns-in_default-clause-read_cause : goal.returns-in_default-clause-read_cause
+returns-in_default-clause-read_cause g c = λ same. write_no_read same
+
+pub returns-in_default-clause-limit : goal.returns-in_default-clause-limit
+returns-in_default-clause-limit g c = λ same. write_no_limit same
+
+pub returns-in_default-clause-starved : goal.returns-in_default-clause-starved
+returns-in_default-clause-starved g c = λ same. write_no_memory same
+
+pub returns-in_default-clause-full : goal.returns-in_default-clause-full
+returns-in_default-clause-full g c = λ same. write_no_limit same
+
+pub returns-in_default-clause-max_trial : goal.returns-in_default-clause-max_trial
+returns-in_default-clause-max_trial g c = let before = c.loop-turn.invariant in before.7
+
+pub returns-in_default-read-clause-write_cause : goal.returns-in_default-read-clause-write_cause
+returns-in_default-read-clause-write_cause g c = λ same. read_no_write same
+
+pub returns-in_default-read-clause-limit : goal.returns-in_default-read-clause-limit
+returns-in_default-read-clause-limit g c = λ same. read_no_limit same
+
+pub returns-in_default-read-clause-starved : goal.returns-in_default-read-clause-starved
+returns-in_default-read-clause-starved g c = λ same. read_no_memory same
+
+pub returns-in_default-read-clause-full : goal.returns-in_default-read-clause-full
+returns-in_default-read-clause-full g c = λ same. read_no_limit same
+
+pub returns-in_default-read-clause-max_trial : goal.returns-in_default-read-clause-max_trial
+returns-in_default-read-clause-max_trial g c = let before = c.loop-turn.invariant in before.7
+
+pub returns-in_err-take_bytes-clause-ok : goal.returns-in_err-take_bytes-clause-ok
+returns-in_err-take_bytes-clause-ok g c =
+    let p = err_from_is_err_and c.from_residual.result c.from_residual.ensures.1 in
+    no_success _ c.from_residual.result p.0 p.1
+
+pub returns-in_err-take_bytes-clause-unfailed : goal.returns-in_err-take_bytes-clause-unfailed
+returns-in_err-take_bytes-clause-unfailed g c =
+    let p = err_from_is_err_and c.from_residual.result c.from_residual.ensures.1 in
+    no_success _ c.from_residual.result p.0 p.1
+
+pub returns-in_err-take_bytes-clause-read : goal.returns-in_err-take_bytes-clause-read
+returns-in_err-take_bytes-clause-read g c = λ is.
+    let p = err_from_is_err_and c.from_residual.result c.from_residual.ensures.1 in
+    let was : c.take_bytes.result ≡ Err Read = cc (p.1, p.2, c.in_err-take_bytes.was, is) in absurd (c.take_bytes.ensures.never_read was)
+
+pub returns-in_err-take_bytes-clause-read_cause : goal.returns-in_err-take_bytes-clause-read_cause
+returns-in_err-take_bytes-clause-read_cause g c = λ is.
+    let p = err_from_is_err_and c.from_residual.result c.from_residual.ensures.1 in
+    let was : c.take_bytes.result ≡ Err Read = cc (p.1, p.2, c.in_err-take_bytes.was, is) in absurd (c.take_bytes.ensures.never_read was)
+
+pub returns-in_err-take_bytes-clause-write_cause : goal.returns-in_err-take_bytes-clause-write_cause
+returns-in_err-take_bytes-clause-write_cause g c = λ is.
+    let p = err_from_is_err_and c.from_residual.result c.from_residual.ensures.1 in
+    let was : c.take_bytes.result ≡ Err Write = cc (p.1, p.2, c.in_err-take_bytes.was, is) in c.take_bytes.ensures.cause was
+
+pub returns-in_err-take_bytes-clause-limit : goal.returns-in_err-take_bytes-clause-limit
+returns-in_err-take_bytes-clause-limit g c = λ is.
+    let p = err_from_is_err_and c.from_residual.result c.from_residual.ensures.1 in
+    let was : c.take_bytes.result ≡ Err SlotLimit = cc (p.1, p.2, c.in_err-take_bytes.was, is) in c.take_bytes.ensures.limit was
+
+pub returns-in_err-take_bytes-clause-max_trial : goal.returns-in_err-take_bytes-clause-max_trial
+returns-in_err-take_bytes-clause-max_trial g c = let before = c.loop-turn.invariant in c.take_bytes.ensures.max_trial ∙ before.7
+
+pub returns-in_err-answer_line-clause-ok : goal.returns-in_err-answer_line-clause-ok
+returns-in_err-answer_line-clause-ok g c =
+    let p = err_from_is_err_and c.from_residual-in_err-answer_line.result c.from_residual-in_err-answer_line.ensures.1 in
+    no_success _ c.from_residual-in_err-answer_line.result p.0 p.1
+
+pub returns-in_err-answer_line-clause-unfailed : goal.returns-in_err-answer_line-clause-unfailed
+returns-in_err-answer_line-clause-unfailed g c =
+    let p = err_from_is_err_and c.from_residual-in_err-answer_line.result c.from_residual-in_err-answer_line.ensures.1 in
+    no_success _ c.from_residual-in_err-answer_line.result p.0 p.1
+
+pub returns-in_err-answer_line-clause-read : goal.returns-in_err-answer_line-clause-read
+returns-in_err-answer_line-clause-read g c = λ is.
+    let p = err_from_is_err_and c.from_residual-in_err-answer_line.result c.from_residual-in_err-answer_line.ensures.1 in
+    let was : c.answer_line.result ≡ Err Read = cc (p.1, p.2, c.in_err-answer_line.was, is) in absurd (c.answer_line.ensures.never_read was)
+
+pub returns-in_err-answer_line-clause-read_cause : goal.returns-in_err-answer_line-clause-read_cause
+returns-in_err-answer_line-clause-read_cause g c = λ is.
+    let p = err_from_is_err_and c.from_residual-in_err-answer_line.result c.from_residual-in_err-answer_line.ensures.1 in
+    let was : c.answer_line.result ≡ Err Read = cc (p.1, p.2, c.in_err-answer_line.was, is) in absurd (c.answer_line.ensures.never_read was)
+
+pub returns-in_err-answer_line-clause-write_cause : goal.returns-in_err-answer_line-clause-write_cause
+returns-in_err-answer_line-clause-write_cause g c = λ is.
+    let p = err_from_is_err_and c.from_residual-in_err-answer_line.result c.from_residual-in_err-answer_line.ensures.1 in
+    let was : c.answer_line.result ≡ Err Write = cc (p.1, p.2, c.in_err-answer_line.was, is) in c.answer_line.ensures.cause was
+
+pub returns-in_err-answer_line-clause-limit : goal.returns-in_err-answer_line-clause-limit
+returns-in_err-answer_line-clause-limit g c = λ is.
+    let p = err_from_is_err_and c.from_residual-in_err-answer_line.result c.from_residual-in_err-answer_line.ensures.1 in
+    let was : c.answer_line.result ≡ Err SlotLimit = cc (p.1, p.2, c.in_err-answer_line.was, is) in c.answer_line.ensures.limit was
+
+pub returns-in_err-answer_line-clause-max_trial : goal.returns-in_err-answer_line-clause-max_trial
+returns-in_err-answer_line-clause-max_trial g c = let before = c.loop-turn.invariant in c.answer_line.ensures.max_trial ∙ before.7
+
+pub returns-clause-read : goal.returns-clause-read
+returns-clause-read g c = λ same. ok_no_fault _ _ same
+
+pub returns-clause-read_cause : goal.returns-clause-read_cause
+returns-clause-read_cause g c = λ same. ok_no_fault _ _ same
+
+pub returns-clause-write_cause : goal.returns-clause-write_cause
+returns-clause-write_cause g c = λ same. ok_no_fault _ _ same
+
+pub returns-clause-limit : goal.returns-clause-limit
+returns-clause-limit g c = λ same. ok_no_fault _ _ same
+
+pub returns-clause-starved : goal.returns-clause-starved
+returns-clause-starved g c = λ same. ok_no_fault _ _ same
+
+pub returns-clause-full : goal.returns-clause-full
+returns-clause-full g c = λ same. ok_no_fault _ _ same

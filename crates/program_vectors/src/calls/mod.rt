@@ -1,0 +1,4 @@
+//! Lists of calls: that their calls succeed with memory at hand, and answers at values made by hand.
+
+mod files;
+mod runs;

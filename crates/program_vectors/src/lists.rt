@@ -1,0 +1,30 @@
+//! Lists of calls, made without their clauses.
+ghost use Rattle.cedar_slots.specs.Places.{IsSlotLimit};
+
+use cedar_calls::{Answer, Call, Change, Question, run_calls};
+use cedarwood::{Layout, Trie};
+use std::alloc::{AllocError, Allocator};
+
+/// A change of one of the dictionaries.
+pub(crate) fn change(index: usize, change: Change<'_>) -> Call<'_> {
+    Call::Change { index, change }
+}
+
+/// A question to one of them.
+pub(crate) fn ask(index: usize, question: Question<'_>) -> Call<'_> {
+    Call::Ask { index, question }
+}
+
+/// Dictionaries, and their list, over one allocator.
+pub(crate) type Tries<L, const SLOTS: usize, A> = Vec<Trie<L, SLOTS, A>, A>;
+
+/// Makes some calls.
+pub(crate) fn run<L: Layout, const SLOTS: usize, A: Allocator + Copy>(
+    alloc: A,
+    tries: &mut Tries<L, SLOTS, A>,
+    calls: &[Call<'_>],
+) -> Result<Vec<Answer<A>, A>, AllocError>
+    requires { IsSlotLimit SLOTS }
+{
+    run_calls(tries, alloc, calls)
+}
