@@ -1,6 +1,7 @@
 //! The texts of the numbers that C is answered.
 
-ghost use Rattle.std.specs.Prelude.{◌≡◌, ◌++◌, ◌<◌, ℕ, List, length, take, drop};
+ghost use Rattle.std.specs.Prelude.{◌≡◌, ◌++◌, length, take, drop};
+ghost use Rattle.cedar_c.specs.Status.{status_text};
 
 use crate::save::copy_front;
 
@@ -8,14 +9,15 @@ use crate::save::copy_front;
 /// no byte 0 at its end.
 #[unsafe(no_mangle)]
 pub extern "C" fn cedar_status_text(status: u32, text: &mut [u8]) -> usize
-    ensures { (bytes : List ℕ) × (0 < length bytes) × (result ≡ length bytes) × (text.new ≡ take (length text.old) bytes ++ drop (length bytes) text.old) }
+    ensures count { result ≡ length (status_text status) }
+    ensures written { text.new ≡ take (length text.old) (status_text status) ++ drop (length (status_text status)) text.old }
 {
     copy_front(text_of(status).as_bytes(), text)
 }
 
 /// The text of a status.
 fn text_of(status: u32) -> &'static str
-    ensures { 0 < length result.now }
+    ensures { result.now ≡ status_text status }
 {
     match status {
         0 => "done",

@@ -1,5 +1,5 @@
 -- That two runs of the same calls agree.
-use Rattle.std.proofs.Common.{◌≡◌, ◌⊎◌, inl, inr, Bool, true, ℕ, List, [], ◌∷◌, ◌++◌, take, Option, Some, None, is_some, Ok, Err, IfOk, refl, ap, sym, subst, ◌∙◌, append-nil, slice_set}
+use Rattle.std.proofs.Common.{◌≡◌, ◌⊎◌, inl, inr, Bool, true, ℕ, List, [], ◌∷◌, ◌++◌, map, take, Option, Some, None, is_some, Ok, Err, IfOk, refl, ap, sym, subst, ◌∙◌, append-nil, slice_set}
 use Rattle.std.specs.Prelude.{MatchOption}
 use Rattle.std.specs.List.{slice_get, AllByRecursion}
 use Rattle.std.specs.declared.result.Result.{Result}
@@ -26,7 +26,7 @@ use Rattle.cedarwood.specs.OnTable.{IsOnTable}
 use Rattle.cedarwood.specs.SortedInput.{fault_from}
 use Rattle.cedar_calls.specs.Agreement.{AreSameCalls, IsSameCall, IsSameChange, IsSameQuestion}
 use Rattle.cedar_calls.specs.Making.{IsLoad, Joins}
-use Rattle.cedar_calls.specs.Plain.{Said, all_said, at_state, call_says, change_says, changed_state, done, found, held, listed, IsLoadless, IsMet, kept_at_fault, missing, reply_says, said, said_load, states_after, states_of, unless_fault, unloaded, was}
+use Rattle.cedar_calls.specs.Plain.{Said, all_said, at_state, call_says, change_says, changed_state, done, found, held, listed, IsLoadless, IsMet, kept_at_fault, matched, missing, reply_says, said, said_load, states_after, states_of, unless_fault, unloaded, was}
 use Rattle.cedar_calls.specs.Runs.{IsRun, IsStep}
 use Rattle.cedar_calls.specs.declared.call.Call.{Call}
 use Rattle.cedar_calls.specs.declared.call.Call.TheVariants as call
@@ -62,6 +62,7 @@ change_alike s c d h = absurd h
 
 reply_alike : (b : Bool) (s : State) (q r : Question) → IsSameQuestion q r → reply_says b s q ≡ reply_says b s r
 reply_alike b s (question.Exact k) (question.Exact l) h = ap (λ x. found (exact s.tree x)) h
+reply_alike b s (question.Batch k) (question.Batch l) h = ap (λ keys. matched (map (exact s.tree) keys)) h
 reply_alike b s (question.Prefixes k) (question.Prefixes l) h = ap (λ x. listed (front s.tree x)) h
 reply_alike b s (question.Predictions k) (question.Predictions l) h = ap (λ x. listed (predict s.tree x)) h
 reply_alike b s question.Entries question.Entries h = refl

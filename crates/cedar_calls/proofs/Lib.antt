@@ -1,3 +1,4 @@
+mod BatchLemmas
 mod TextLemmas
 mod MakingLemmas
 mod PlaceLemmas

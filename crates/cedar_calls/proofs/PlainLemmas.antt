@@ -14,7 +14,7 @@ use Rattle.cedarwood.specs.Fault.{fault, IsShortage}
 use Rattle.cedarwood.specs.Updates.{IsUpdate}
 use Rattle.cedar_calls.specs.Changes.{IsChange, IsWholeBuild}
 use Rattle.cedar_calls.specs.Replies.{IsReply}
-use Rattle.cedar_calls.specs.Plain.{compared, counted, done, found, held, in_use, listed, measured, walked, was, worded, change_says, changed_state, is_none_left, IsMet, kept_at_fault, reply_says, said_change, said_reply, said_result, unless_fault}
+use Rattle.cedar_calls.specs.Plain.{compared, counted, done, found, held, in_use, listed, matched, measured, walked, was, worded, change_says, changed_state, is_none_left, IsMet, kept_at_fault, reply_says, said_change, said_reply, said_result, unless_fault}
 use Rattle.cedar_calls.specs.declared.call.Change.{Change}
 use Rattle.cedar_calls.specs.declared.call.Change.TheVariants as change
 use Rattle.cedar_calls.specs.declared.call.Figure.TheVariants.{AllocatedBytes, Capacity, SpareBlocks, UsedSlots}
@@ -98,6 +98,8 @@ same_use false layout n m h same = refl
 pub reply_goes : {A : Type 0} (by_default : Bool) (layout : LayoutKind) (slots : ℕ) (d : Dictionary) (q : Question) (a : Reply A) → (by_default ≡ true → layout ≡ default_layout)
     → IsReply layout slots d q a → IsMet (said_reply by_default q a) → said_reply by_default q a ≡ reply_says by_default d.state q
 reply_goes b layout slots d (question.Exact key) (reply.Exact x) k h met = ap found h
+reply_goes b layout slots d (question.Batch keys) (reply.Batch (Ok v)) k h met = ap matched h
+reply_goes b layout slots d (question.Batch keys) (reply.Batch (Err e)) k h met = absurd (met (short e h))
 reply_goes b layout slots d (question.Prefixes query) (reply.Prefixes (Ok v)) k h met = ap listed h
 reply_goes b layout slots d (question.Prefixes query) (reply.Prefixes (Err e)) k h met = absurd (met (short e h))
 reply_goes b layout slots d (question.Predictions query) (reply.Predictions (Ok v)) k h met = ap listed h

@@ -3,6 +3,7 @@ use Rattle.std.specs.Prelude.{◌≡◌, ◌⊎◌, ℕ, Bool, true, List, [], �
 use Rattle.std.specs.List.{AllByRecursion}
 use Rattle.cedar_bulk.specs.Sorted.{entries_of}
 use Rattle.cedar_meaning.specs.Table.Layouts.{LayoutKind, default_layout}
+use Rattle.cedar_table.specs.Walk.Batch.{keys_of}
 use Rattle.cedarwood.specs.Dictionary.{Dictionary}
 use Rattle.cedar_calls.specs.Plain.{all_said, states_of, IsLoadless, IsMet}
 use Rattle.cedar_calls.specs.Runs.{IsRun}
@@ -26,6 +27,7 @@ IsSameChange c d = ⊥
 -- the same question, wherever its bytes lie
 abbrev pub IsSameQuestion : Question → Question → Type 0
 IsSameQuestion (question.Exact k) (question.Exact l) = k.now ≡ l.now
+IsSameQuestion (question.Batch k) (question.Batch l) = keys_of k.now ≡ keys_of l.now
 IsSameQuestion (question.Prefixes k) (question.Prefixes l) = k.now ≡ l.now
 IsSameQuestion (question.Predictions k) (question.Predictions l) = k.now ≡ l.now
 IsSameQuestion question.Entries question.Entries = Unit {0}

@@ -8,6 +8,7 @@ use Rattle.cedar_tree.specs.State.{State, erased, stored}
 use Rattle.cedar_error.specs.declared.error.CedarError.{CedarError}
 use Rattle.cedar_bulk.specs.Sorted.{entries_of}
 use Rattle.cedar_meaning.specs.Table.Layouts.{LayoutKind, default_layout}
+use Rattle.cedar_table.specs.Walk.Batch.{keys_of}
 use Rattle.cedar_format.specs.declared.error.CedarPersistenceError.{CedarPersistenceError}
 use Rattle.cedar_format.specs.Refusal.{Refusal, AllocationFailed, refusal_of}
 use Rattle.cedarwood.specs.Builds.{all_stored, first_fault}
@@ -38,6 +39,7 @@ pub data Said : Type 0 where
   was : Option ℤ → Said
   held : Bool → Said
   found : Option (ℤ × ℕ) → Said
+  matched : List (Option (ℤ × ℕ)) → Said
   listed : List (ℤ × ℕ) → Said
   walked : List Entry → Said
   worded : List (Option Entry) → Said
@@ -70,6 +72,7 @@ said_figure by_default q n = unsaid
 -- what a question was answered. The bytes of a file tell of places.
 abbrev pub said_reply : {A : Type 0} → Bool → Question → Reply A → Said
 said_reply by_default q (reply.Exact result) = found result
+said_reply by_default q (reply.Batch result) = said_result (λ v. matched v.items) result
 said_reply by_default q (reply.Prefixes result) = said_result (λ v. listed v.items) result
 said_reply by_default q (reply.Predictions result) = said_result (λ v. listed v.items) result
 said_reply by_default q (reply.Entries result) = said_result (λ v. walked (map (λ e. (e.0.items, e.1)) v.items)) result
@@ -149,6 +152,7 @@ texts_of es = map (λ e. if is_utf8 e.0 then Some e else None) es
 -- what a question is answered
 abbrev pub reply_says : Bool → State → Question → Said
 reply_says by_default s (question.Exact key) = found (exact s.tree key.now)
+reply_says by_default s (question.Batch keys) = matched (map (exact s.tree) (keys_of keys.now))
 reply_says by_default s (question.Prefixes query) = listed (front s.tree query.now)
 reply_says by_default s (question.Predictions query) = listed (predict s.tree query.now)
 reply_says by_default s question.Entries = walked (walk s.tree)

@@ -5,6 +5,7 @@ use Rattle.cedar_tree.specs.Queries.{Entry, exact, front, predict, prefixes, use
 use Rattle.cedar_error.specs.declared.error.CedarError.{CedarError}
 use Rattle.cedar_error.specs.declared.error.CedarError.TheVariants.{Memory}
 use Rattle.cedar_meaning.specs.Table.Layouts.{LayoutKind, default_layout}
+use Rattle.cedar_table.specs.Walk.Batch.{keys_of}
 use Rattle.cedar_format.specs.Tables.{IsTableFile}
 use Rattle.cedarwood.specs.Dictionary.{Dictionary}
 use Rattle.cedarwood.specs.declared.figures.MemoryStats.{MemoryStats}
@@ -51,6 +52,7 @@ pub record AreStats (layout : LayoutKind) (d : Dictionary) (stats : MemoryStats)
 -- what a dictionary of this layout that may have so many slots replies
 abbrev pub IsReply : {A : Type 0} → LayoutKind → ℕ → Dictionary → Question → Reply A → Type 0
 IsReply layout slots d (question.Exact key) (reply.Exact found) = found ≡ exact d.state.tree key.now
+IsReply layout slots d (question.Batch keys) (reply.Batch result) = Collects result (λ found. found.items ≡ map (exact d.state.tree) (keys_of keys.now))
 IsReply layout slots d (question.Prefixes query) (reply.Prefixes result) = Collects result (λ found. found.items ≡ front d.state.tree query.now)
 IsReply layout slots d (question.Predictions query) (reply.Predictions result) = Collects result (λ found. found.items ≡ predict d.state.tree query.now)
 IsReply layout slots d question.Entries (reply.Entries result) = Collects result (λ found. map (λ e. (e.0.items, e.1)) found.items ≡ walk d.state.tree)

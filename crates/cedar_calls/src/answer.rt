@@ -38,6 +38,8 @@ pub enum Changed {
 pub enum Reply<A: Allocator> {
     /// The key's value and its length.
     Exact(Option<(i32, usize)>),
+    /// The same of each key.
+    Batch(Result<Vec<Option<(i32, usize)>, A>, CedarError>),
     /// The fronts of the query that are held.
     Prefixes(Result<Vec<(i32, usize), A>, CedarError>),
     /// The keys that begin with the query.

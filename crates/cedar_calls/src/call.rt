@@ -66,6 +66,8 @@ pub enum Change<'a> {
 pub enum Question<'a> {
     /// Which value does the key hold?
     Exact { key: &'a [u8] },
+    /// Which values do the keys hold?
+    Batch { keys: &'a [&'a [u8]] },
     /// Which fronts of the query are held?
     Prefixes { query: &'a [u8] },
     /// Which keys begin with the query?

@@ -1,7 +1,8 @@
 //! Replies of a dictionary.
 
 ghost use Rattle.std.specs.Prelude.{◌≡◌, cond, map, option_map, string_bytes};
-ghost use Rattle.cedar_tree.specs.Queries.{walk};
+ghost use Rattle.cedar_tree.specs.Queries.{exact, walk};
+ghost use Rattle.cedar_table.specs.Walk.Batch.{keys_of};
 ghost use Rattle.cedar_format.specs.Tables.{IsTableFile};
 ghost use Rattle.cedar_calls.specs.Replies.{AreTexts, Collects, IsFigure, IsReply};
 
@@ -19,6 +20,7 @@ pub(crate) fn reply<L: Layout, const SLOTS: usize, A: Allocator + Copy>(
 {
     match question {
         Question::Exact { key } => Reply::Exact(trie.exact_match_search_bytes(key)),
+        Question::Batch { keys } => Reply::Batch(batch(trie, alloc, keys)),
         Question::Prefixes { query } => Reply::Prefixes(trie.common_prefix_search_bytes(query)),
         Question::Predictions { query } => {
             Reply::Predictions(trie.common_prefix_predict_bytes(query))
@@ -32,6 +34,19 @@ pub(crate) fn reply<L: Layout, const SLOTS: usize, A: Allocator + Copy>(
         Question::Save => Reply::Saved(saved(trie, alloc, false)),
         Question::SaveV1_0 => Reply::Saved(saved(trie, alloc, true)),
     }
+}
+
+/// The values that some keys hold, by one call.
+fn batch<L: Layout, const SLOTS: usize, A: Allocator + Copy>(
+    trie: &Trie<L, SLOTS, A>,
+    alloc: A,
+    keys: &[&[u8]],
+) -> Result<Vec<Option<(i32, usize)>, A>, CedarError>
+    ensures { Collects result (λ found. found.items ≡ map (exact trie.now.state.tree) (keys_of keys.now)) }
+{
+    let mut found = vec![in alloc; None; keys.len()]?;
+    trie.exact_match_search_batch(keys, &mut found);
+    Ok(found)
 }
 
 /// A figure.

@@ -20,7 +20,18 @@ pub(crate) fn is_made(answer: &Answer<Global>) -> bool {
     matches!(answer, Answer::Made(Ok(())) | Answer::Loaded(Ok(())))
 }
 
+// What was answered of several keys at once.
+fn batch(answer: &Answer<Global>) -> &[Option<(i32, usize)>] {
+    match answer {
+        Answer::Replied(Reply::Batch(Ok(found))) => found,
+        _ => &[],
+    }
+}
+
 const PAIRS: [(&[u8], i32); 2] = [(b"a", 3), (b"ab", 4)];
+
+// A key that is held, and one that isn't.
+const KEYS: [&[u8]; 2] = [b"ab", b"b"];
 
 const STORED: Change<'static> = Change::Update {
     key: b"ab",
@@ -30,7 +41,7 @@ const STORED: Change<'static> = Change::Update {
 const FAULTY: Change<'static> = Change::Update { key: b"", value: 2 };
 
 // Two dictionaries and a copy, changed apart from each other.
-fn calls() -> [Call<'static>; 10] {
+fn calls() -> [Call<'static>; 13] {
     let settings = CedarBuilder::new();
     let exact = Question::Exact { key: b"ab" };
     [
@@ -46,6 +57,9 @@ fn calls() -> [Call<'static>; 10] {
             pairs: &PAIRS,
         },
         ask(2, Question::Prefixes { query: b"abc" }),
+        ask(2, Question::Batch { keys: &KEYS }),
+        ask(2, exact),
+        ask(2, Question::Exact { key: b"b" }),
         ask(3, exact),
     ]
 }
@@ -61,6 +75,9 @@ fn expect_answers(rt: &impl Abort, answers: &[Answer<Global>]) {
         gone,
         sorted,
         fronts,
+        many,
+        one,
+        none,
         missing,
     ] = answers
     else {
@@ -78,6 +95,9 @@ fn expect_answers(rt: &impl Abort, answers: &[Answer<Global>]) {
     assert_eq!(rt; pairs(held), [(1, 2)].as_slice());
     assert_eq!(rt; pairs(gone).len(), 0);
     assert_eq!(rt; pairs(fronts), [(3, 0), (4, 1)].as_slice());
+    assert_eq!(rt; batch(many), [Some((4, 2)), None].as_slice());
+    assert_eq!(rt; pairs(one), [(4, 2)].as_slice());
+    assert_eq!(rt; pairs(none).len(), 0);
     assert!(rt; matches!(missing, Answer::Missing));
 }
 

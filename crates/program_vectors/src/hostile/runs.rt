@@ -3,8 +3,8 @@ ghost use Rattle.cedar_slots.specs.Places.{IsSlotLimit};
 
 use crate::hostile::state::{state_of, update};
 use crate::layouts::built;
-use crate::lists::{Tries, change, run};
-use cedar_calls::{Answer, Call, Change, Changed};
+use crate::lists::{Tries, ask, change, run};
+use cedar_calls::{Answer, Call, Change, Changed, Question, Reply};
 use cedarwood::{CedarBuilder, CedarError, DefaultLayout, Layout, ReducedLayout, Trie};
 use std::alloc::{Allocator, Global};
 use std::process::Abort;
@@ -19,8 +19,8 @@ fn update_call(key: &[u8], value: i32) -> Call<'_> {
     change(0, Change::Update { key, value })
 }
 
-// Updates that make blocks, and a new beginning in their midst.
-fn calls() -> [Call<'static>; 5] {
+// Updates that make blocks, a new beginning in their midst, and a question whose answer is collected.
+fn calls() -> [Call<'static>; 6] {
     let settings = CedarBuilder::new().ordered(false);
     [
         update_call(b"a", 2),
@@ -28,17 +28,22 @@ fn calls() -> [Call<'static>; 5] {
         change(0, Change::Renew { settings }),
         update_call(b"abc", 4),
         update_call(b"b", 5),
+        ask(0, Question::Batch { keys: &[b"b"] }),
     ]
 }
 
 // Whether a call was refused for want of memory.
 fn is_short<A: Allocator>(answer: &Answer<A>) -> bool {
-    matches!(
-        answer,
+    match answer {
         Answer::Changed(
-            Changed::Renewed(Err(CedarError::Memory)) | Changed::Updated(Err(CedarError::Memory))
-        )
-    )
+            Changed::Renewed(Err(CedarError::Memory)) | Changed::Updated(Err(CedarError::Memory)),
+        ) => true,
+        Answer::Replied(reply) => match reply {
+            Reply::Batch(found) => matches!(found, Err(CedarError::Memory)),
+            _ => false,
+        },
+        _ => false,
+    }
 }
 
 // One dictionary with one key.

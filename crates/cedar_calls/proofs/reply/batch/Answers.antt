@@ -1,0 +1,15 @@
+use Rattle.std.proofs.Common.{rules, ◌≡◌, length, sym, ◌∙◌}
+use Rattle.std.proofs.lemmas.List.{length-map}
+use Rattle.cedar_tree.specs.Queries.{exact}
+use Rattle.cedar_table.specs.Walk.Batch.{keys_of}
+use Rattle.cedar_calls.proofs.BatchLemmas.{all_filled}
+use Rattle.cedar_calls.proofs.reply.batch.Goals as goal
+
+pub returns : goal.returns
+returns g c =
+    let held = c.in_ok-found.found in
+    let count : length c.args.keys.now ≡ held.len = sym c.in_ok-found.ensures.len in
+    let size : length held.items ≡ held.len = search rules in
+    let keys : length (keys_of c.args.keys.now) ≡ length c.args.keys.now = length-map c.args.keys.now (λ key. key.now) in
+    all_filled (exact c.args.trie.now.state.tree) (keys_of c.args.keys.now) held.len c.deref_mut.result.now c.exact_match_search_batch.new.answers held.items
+    (keys ∙ count) c.deref_mut.ensures.len size (rw (sym count) c.exact_match_search_batch.ensures)
