@@ -13,10 +13,12 @@
 """
 
 import ctypes
+import mmap
 import os
 import struct
 from bisect import bisect_right
 from collections.abc import Sequence
+from contextlib import suppress
 from ctypes import POINTER, byref, c_bool, c_char_p, c_int32, c_size_t, c_uint32, c_void_p
 from itertools import accumulate, chain
 from pathlib import Path
@@ -99,9 +101,12 @@ _NUL_BYTE = 5
 _UNSORTED = (8, 9)
 _NO_ROOM = 11
 _OTHER_LAYOUT = 24
-_SHORTAGES = (2, 3)
+_NO_MEMORY = 2
+_SHORTAGES = (_NO_MEMORY, 3)
 _MAX_VALUE = 2147483645
 _MAX_SIZE = 2**63 - 1
+_LONG = 1 << 17  # bytes
+_MOST_AT_ONCE = 1 << 21  # places, of 24 bytes each
 
 
 def _text_of(status):
@@ -142,6 +147,20 @@ def _value(value):
     return value
 
 
+def _fresh_memory(size):
+    """Memory that isn't used yet, of which a long piece takes only the pages that are written to. These are of 2 MiB where the system
+    has such: to clear and map pages of 4 KiB takes longer than the walk over a text that fills them."""
+    if size < _LONG:
+        return bytearray(size)
+    try:
+        memory = mmap.mmap(-1, size, flags=mmap.MAP_PRIVATE | mmap.MAP_ANONYMOUS)
+    except OSError:
+        raise MemoryError(_text_of(_NO_MEMORY)) from None
+    with suppress(AttributeError, OSError):
+        memory.madvise(mmap.MADV_HUGEPAGE)
+    return memory
+
+
 class Matches(Sequence):
     """What stands in a text, in the order of places: for each where it begins, how many bytes it has, and its value, which is None
     for a token that is no key. They are read from C's numbers as they are asked for."""
@@ -149,9 +168,12 @@ class Matches(Sequence):
     _ENTRY = struct.Struct("NNi0N")
 
     def __init__(self, parts):
-        """`parts` has the numbers that each call wrote."""
+        """`parts` has the numbers that each call wrote, as bytes or views of them."""
         self._parts = parts
         self._ends = list(accumulate(len(part) // self._ENTRY.size for part in parts))
+
+    def __reduce__(self):
+        return Matches, ([bytes(part) for part in self._parts],)
 
     def __len__(self):
         return self._ends[-1] if self._ends else 0
@@ -310,14 +332,15 @@ class Cedar:
         return self._piece(_CEDAR.cedar_predictions_from, text, start, most)
 
     def _everything(self, call, text):
-        text, place, parts, room = _bytes(text), c_size_t(0), [], 1 << 14
-        found = (_Found * room)()
-        while place.value < len(text):
-            count = call(self._this, text, len(text), byref(place), found, room)
-            parts.append(ctypes.string_at(found, count * ctypes.sizeof(_Found)))
+        text, place, parts, least = _bytes(text), c_size_t(0), [], 64
+        while place.value < len(text) and self._handle.is_open:
+            room = max(least, min(len(text) - place.value, _MOST_AT_ONCE))
+            memory = _fresh_memory(room * ctypes.sizeof(_Found))
+            count = call(self._this, text, len(text), byref(place), _Found.from_buffer(memory), room)
+            parts.append(memoryview(memory)[: count * ctypes.sizeof(_Found)])
+            # The keys at one place are told as a whole: those at this one are more than `room`.
             if count == 0:
-                room *= 4
-                found = (_Found * room)()
+                least = 4 * room
         return Matches(parts)
 
     def scan(self, text):

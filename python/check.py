@@ -1,5 +1,6 @@
 """100,000 random calls beside a dict, and times."""
 
+import pickle
 import random
 import sys
 import time
@@ -127,6 +128,12 @@ def whole_texts(cedar, plain):
         assert list(scanned) == found and len(scanned) == len(found)
         assert list(cut) == tokens and sum(length for _, length, _ in cut) == size
     assert scanned[0] == found[0] and scanned[-1] == found[-1] and scanned[2:4] == found[2:4]
+    assert list(pickle.loads(pickle.dumps(scanned))) == found
+    # More matches than bytes, so that a text takes many calls.
+    nested, text = Cedar({b"a" * n: n for n in range(1, 200)}), b"a" * 300
+    assert list(nested.scan(text)) == [(place, n, n) for place in range(300) for n in range(1, min(199, 300 - place) + 1)]
+    nested.close()
+    assert len(nested.scan(text)) == len(nested.segment(text)) == 0
 
 
 def loads(data, reduced):
