@@ -1,6 +1,7 @@
 #!/usr/bin/env bash
-# cedar [OPTIONS] < script: answers a script. Where the sources are newer than the program, it is proved and
-# built first; progress goes to standard error, what the prover prints to crates/cedar/out/build.log.
+# cedar [OPTIONS] < script: answers a script. Where the sources are newer than the program, it is proved and built first, crates side
+# by side: standard error shows how far it is, and crates/cedar/out/build.log has what the prover prints. A run that was interrupted
+# is gone on with.
 set -u
 top=$(cd "$(dirname "${BASH_SOURCE[0]}")" && pwd) || exit 127
 program=$top/crates/cedar/out/cedar
@@ -17,9 +18,8 @@ if is_stale; then
         echo "cedar: the command 'rt' of the Rattle kit is missing on this machine; it proves and builds the program" >&2
         exit 127
     fi
-    echo "cedar: proving and building the program (some minutes the first time) .." >&2
     mkdir -p "$top/crates/cedar/out"
-    if ! (cd "$top/crates/cedar" && rt run < /dev/null > "$log" 2>&1); then
+    if ! "$top/tools/prove" cedar test "$log"; then
         echo "cedar: the build failed; $log says why" >&2
         exit 127
     fi

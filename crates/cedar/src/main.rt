@@ -2,7 +2,7 @@
 #![tactic(auto)]
 
 use cedar_cli::{FAULT, USAGE, USAGE_LINE, run_program};
-use cedarwood::{DefaultLayout, Watched};
+use cedarwood::Watched;
 use std::alloc::{AllocError, Global};
 use std::env;
 use std::io::{BufWriter, Stderr, Write};
@@ -26,7 +26,7 @@ fn main(rt: HostRuntime) -> ExitCode {
     };
     let mut reader = Watched::new(rt.stdin());
     let mut writer = Watched::new(output);
-    let status = run_program::<DefaultLayout, 1073741824, _, _, _, _, _>(
+    let status = run_program::<1073741824, _, _, _, _, _>(
         rt.alloc(),
         &rt,
         &arguments,

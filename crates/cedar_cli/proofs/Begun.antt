@@ -4,7 +4,7 @@ use Rattle.std.specs.Prelude.{MatchOption, Result, Ok, Err, OnOk, bytes_eq, code
 use Rattle.cedar_tree.specs.Tree.{Tree, empty_tree}
 use Rattle.cedar_meaning.specs.Table.Layouts.{LayoutKind, default_layout, reduced_layout}
 use Rattle.cedarwood.specs.Dictionary.{Dictionary}
-use Rattle.cedar_cli.specs.Options.{Asked, BeginsWith, asked_besides, empty, in_v1_0, is_new, loading, saving, shown, unordered}
+use Rattle.cedar_cli.specs.Options.{Asked, BeginsWith, asked_besides, empty, in_reduced, in_v1_0, is_new, loading, saving, shown, unordered}
 use Rattle.cedar_cli.specs.declared.options.Options.{Options}
 use Rattle.cedar_cli.specs.Seen.{Seen, marked_in, seen}
 
@@ -73,12 +73,19 @@ pub v1_0_first : (a : Asked) (word : List ℕ) (rest : List (List ℕ)) → is_n
 v1_0_first a word [] other e new = rw (other, e, new) refl
 v1_0_first a word (path ∷ rest) other e new = rw (other, e, new) refl
 
-pub load_first : (a : Asked) (word path : List ℕ) (rest : List (List ℕ)) → is_new word (codes "--unordered") (not a.ordered) ≡ false
+pub reduced_first : (a : Asked) (word : List ℕ) (rest : List (List ℕ)) → is_new word (codes "--unordered") (not a.ordered) ≡ false
     → is_new word (codes "--v1-0") a.v1_0 ≡ false
+    → bytes_eq word (codes "--reduced") ≡ true → a.reduced ≡ false → asked_besides a (word ∷ rest) ≡ asked_besides (in_reduced a) rest
+reduced_first a word [] other full e new = rw (other, full, e, new) refl
+reduced_first a word (path ∷ rest) other full e new = rw (other, full, e, new) refl
+
+pub load_first : (a : Asked) (word path : List ℕ) (rest : List (List ℕ)) → is_new word (codes "--unordered") (not a.ordered) ≡ false
+    → is_new word (codes "--v1-0") a.v1_0 ≡ false → is_new word (codes "--reduced") a.reduced ≡ false
     → bytes_eq word (codes "--load") ≡ true → is_some a.load ≡ false → asked_besides a (word ∷ path ∷ rest) ≡ asked_besides (loading a path) rest
-load_first a word path rest other full e new = rw (other, full, e, new) refl
+load_first a word path rest other full wide e new = rw (other, full, wide, e, new) refl
 
 pub save_first : (a : Asked) (word path : List ℕ) (rest : List (List ℕ)) → is_new word (codes "--unordered") (not a.ordered) ≡ false
-    → is_new word (codes "--v1-0") a.v1_0 ≡ false → is_new word (codes "--load") (is_some a.load) ≡ false
+    → is_new word (codes "--v1-0") a.v1_0 ≡ false → is_new word (codes "--reduced") a.reduced ≡ false
+    → is_new word (codes "--load") (is_some a.load) ≡ false
     → bytes_eq word (codes "--save") ≡ true → is_some a.save ≡ false → asked_besides a (word ∷ path ∷ rest) ≡ asked_besides (saving a path) rest
-save_first a word path rest other full old e new = rw (other, full, old, e, new) refl
+save_first a word path rest other full wide old e new = rw (other, full, wide, old, e, new) refl

@@ -14,6 +14,8 @@ pub(crate) struct Options<'a> {
     pub save: Option<&'a str>,
     /// Whether it is saved in format 1.0.
     pub v1_0: bool,
+    /// Whether the dictionary and its files are of the reduced layout.
+    pub reduced: bool,
 }
 
 /// What the arguments ask for, or None where they are wrong.
@@ -25,6 +27,7 @@ pub(crate) fn options_of<'a>(arguments: &[&'a str]) -> Option<Options<'a>>
         load: None,
         save: None,
         v1_0: false,
+        reduced: false,
     };
     with_options(nothing, arguments)
 }
@@ -47,6 +50,10 @@ fn with_options<'a>(options: Options<'a>, arguments: &[&'a str]) -> Option<Optio
     if *word == "--v1-0" && !options.v1_0 {
         let v1_0 = true;
         return with_options(Options { v1_0, ..options }, after);
+    }
+    if *word == "--reduced" && !options.reduced {
+        let reduced = true;
+        return with_options(Options { reduced, ..options }, after);
     }
     let (path, after) = after.split_first()?;
     if *word == "--load" && options.load.is_none() {

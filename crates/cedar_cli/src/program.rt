@@ -5,14 +5,16 @@ ghost use Rattle.std.specs.Io.KnownBytes.{Appends};
 ghost use Rattle.cedar_slots.specs.Places.{IsSlotLimit};
 ghost use Rattle.cedarwood.specs.WatchedDevice.{device_of, has_failed};
 ghost use Rattle.cedar_cli.specs.Lines.{lines_of};
-ghost use Rattle.cedar_cli.specs.Options.{asked_by, shown, BeginsWith};
+ghost use Rattle.cedar_cli.specs.Options.{asked_by, layout_of, shown, BeginsWith};
 ghost use Rattle.cedar_cli.specs.Script.{answers, AppendsFront};
 ghost use Rattle.cedar_cli.specs.Seen.{Seen, seen};
 
 use crate::fits::fits;
 use crate::options::{Options, options_of};
 use crate::script::{ScriptError, run_script};
-use cedarwood::{CedarBuilder, CedarPersistenceError, Layout, Trie, Watched};
+use cedarwood::{
+    CedarBuilder, CedarPersistenceError, DefaultLayout, Layout, ReducedLayout, Trie, Watched,
+};
 use std::alloc::Allocator;
 use std::io::{Read, Write};
 use std::rt::Files;
@@ -30,7 +32,8 @@ pub const USAGE: u8 = 2;
 pub const REFUSED: u8 = 3;
 
 /// The line that wrong arguments are answered by.
-pub const USAGE_LINE: &str = "usage: cedar [--unordered] [--load PATH] [--save PATH] [--v1-0]\n";
+pub const USAGE_LINE: &str =
+    "usage: cedar [--reduced] [--unordered] [--load PATH] [--save PATH] [--v1-0]\n";
 
 /// What ends a run early.
 #[derive(Debug, Drop)]
@@ -41,9 +44,10 @@ enum Fault {
 }
 
 /// Answers the script on `reader` to `writer`, and says the status to end with: [`DONE`], [`FAULT`], [`USAGE`] or
-/// [`REFUSED`]. Where it isn't `DONE`, a line on `errors` says why; a fault of `errors` isn't told. The dictionary is of
-/// the layout `L` and has `SLOTS` slots at most. The options, each once at most and in any order:
+/// [`REFUSED`]. Where it isn't `DONE`, a line on `errors` says why; a fault of `errors` isn't told. The dictionary has
+/// `SLOTS` slots at most. The options, each once at most and in any order:
 ///
+/// - `--reduced`: the dictionary and its files are of the reduced layout;
 /// - `--unordered`: a new label goes before its siblings and not to its ascending place;
 /// - `--load PATH`: the dictionary is loaded from this file, and not empty at first; not beside `--unordered`, since a
 ///   file has its settings;
@@ -52,15 +56,7 @@ enum Fault {
 ///
 /// The first fault ends the run, so nothing is saved after one. After a fault of the script what was answered is still
 /// flushed, and a fault of that flush isn't told.
-pub fn run_program<
-    L: Layout,
-    const SLOTS: usize,
-    F: Files,
-    A: Allocator + Copy,
-    R: Read,
-    W: Write,
-    E: Write,
->(
+pub fn run_program<const SLOTS: usize, F: Files, A: Allocator + Copy, R: Read, W: Write, E: Write>(
     alloc: A,
     files: &F,
     arguments: &[&str],
@@ -74,22 +70,22 @@ pub fn run_program<
     ensures untouched { result ≡ 2 → (reader.new ≡ reader.old) × (writer.new ≡ writer.old) }
     ensures silent { result ≡ 0 → errors.new ≡ errors.old }
 
-    // All lines of the input are answered, and nothing else was written.
-    ensures done { result ≡ 0 → IfSome (asked_by arguments.now) (λ asked. (begun : Seen) × BeginsWith L.kind asked begun × IfSome (R.remaining (device_of reader.old)) (λ input. length input < 2 ^ 63 →
+    // All lines of the input are answered, from a dictionary of the layout that is asked for, and nothing else was written.
+    ensures done { result ≡ 0 → IfSome (asked_by arguments.now) (λ asked. (begun : Seen) × BeginsWith (layout_of asked) asked begun × IfSome (R.remaining (device_of reader.old)) (λ input. length input < 2 ^ 63 →
         Appends (W.contents (device_of writer.old)) (W.contents (device_of writer.new)) (answers begun (lines_of input)))) }
 
     // No call of the reader or the writer failed.
     ensures unfailed { result ≡ 0 → (has_failed reader.new ≡ has_failed reader.old) × (has_failed writer.new ≡ has_failed writer.old) }
 
     // Whatever happens, what was written begins the answers.
-    ensures begun { IfSome (asked_by arguments.now) (λ asked. (begun : Seen) × BeginsWith L.kind asked begun × IfSome (R.remaining (device_of reader.old)) (λ input. length input < 2 ^ 63 →
+    ensures begun { IfSome (asked_by arguments.now) (λ asked. (begun : Seen) × BeginsWith (layout_of asked) asked begun × IfSome (R.remaining (device_of reader.old)) (λ input. length input < 2 ^ 63 →
         AppendsFront (W.contents (device_of writer.old)) (W.contents (device_of writer.new)) (answers begun (lines_of input)))) }
 {
     let Some(options) = options_of(arguments) else {
         let _ = errors.write_all(USAGE_LINE.as_bytes());
         return USAGE;
     };
-    match run_options::<L, SLOTS, F, A, R, W>(alloc, files, options, reader, writer) {
+    match run_layout::<SLOTS, F, A, R, W>(alloc, files, options, reader, writer) {
         Ok(()) => DONE,
         Err(fault) => tell(fault, errors),
     }
@@ -114,6 +110,28 @@ fn tell<E: Write>(fault: Fault, errors: &mut Watched<E>) -> u8
             let _ = writeln!(errors, "cedar: save: {error}");
             REFUSED
         }
+    }
+}
+
+/// Does what the options ask for, over the layout that they name.
+fn run_layout<const SLOTS: usize, F: Files, A: Allocator + Copy, R: Read, W: Write>(
+    alloc: A,
+    files: &F,
+    options: Options<'_>,
+    reader: &mut Watched<R>,
+    writer: &mut Watched<W>,
+) -> Result<(), Fault>
+    requires limit { IsSlotLimit SLOTS }
+    ensures ok { OnOk result ((begun : Seen) × BeginsWith (layout_of (shown options.entry)) (shown options.entry) begun × IfSome (R.remaining (device_of reader.old)) (λ input. length input < 2 ^ 63 →
+        Appends (W.contents (device_of writer.old)) (W.contents (device_of writer.new)) (answers begun (lines_of input)))) }
+    ensures begun { (begun : Seen) × BeginsWith (layout_of (shown options.entry)) (shown options.entry) begun × IfSome (R.remaining (device_of reader.old)) (λ input. length input < 2 ^ 63 →
+        AppendsFront (W.contents (device_of writer.old)) (W.contents (device_of writer.new)) (answers begun (lines_of input))) }
+    ensures unfailed { OnOk result ((has_failed reader.new ≡ has_failed reader.old) × (has_failed writer.new ≡ has_failed writer.old)) }
+{
+    if options.reduced {
+        run_options::<ReducedLayout, SLOTS, F, A, R, W>(alloc, files, options, reader, writer)
+    } else {
+        run_options::<DefaultLayout, SLOTS, F, A, R, W>(alloc, files, options, reader, writer)
     }
 }
 

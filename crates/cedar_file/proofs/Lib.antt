@@ -1,1 +1,3 @@
+pub mod ChecksLemmas
 pub mod LoadLemmas
+pub mod TreeLemmas

@@ -2,8 +2,10 @@
 //! anybody has it.
 #![tactic(auto)]
 
+mod check;
 mod load;
 mod save;
 
+pub use check::{check_places, check_tree, check_well_formed};
 pub use load::load_table;
 pub use save::write_table;

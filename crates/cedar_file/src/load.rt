@@ -12,7 +12,7 @@ ghost use Rattle.cedar_format.specs.Refusal.{refusal, refusal_of, CorruptData};
 ghost use Rattle.cedar_format.specs.Tables.{file_fields, table_bytes};
 ghost use Rattle.cedar_file.specs.Loading.{LoadAnswers};
 
-use cedar_check::check_well_formed;
+use crate::check::check_well_formed;
 use cedar_format::{CedarPersistenceError, Decoded, Header, Source, decode_counted};
 use cedar_table::{Corrupt, Layout, Parts, Table, Ticks};
 use std::alloc::Allocator;

@@ -1,4 +1,3 @@
-pub mod ChecksLemmas
 pub mod ListsLemmas
 pub mod PlacementLemmas
 pub mod RingsLemmas

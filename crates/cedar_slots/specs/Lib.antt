@@ -1,5 +1,4 @@
 pub mod Blocks
-pub mod PlaceChecks
 pub mod Places
 pub mod Ring
 pub mod Slots

@@ -1,10 +1,8 @@
 //! The slots of a double-array trie and where new ones are found: the rings in which free slots stand, the blocks of 256
-//! slots, the three lists of blocks, and the test of all of these where nobody has vouched for them. Nothing here knows what
-//! the slots stand for.
+//! slots, and the three lists of blocks. Nothing here knows what the slots stand for.
 #![tactic(auto)]
 
 mod blocks;
-mod check;
 mod places;
 mod records;
 mod slots;
@@ -12,7 +10,7 @@ mod ticks;
 
 pub use blocks::{BlockType, Blocks, Counts};
 pub use cedar_error::{CedarError, Corrupt};
-pub use places::Places;
+pub use places::{Places, reserved};
 pub use records::{BlockRecord, NInfoRecord, NodeRecord};
 pub use slots::{BLOCK_SIZE, Slots};
 pub use ticks::Ticks;

@@ -22,7 +22,7 @@ pub struct Places<A: Allocator> {
 }
 
 /// How many slots of `block` are counted as free and stand in no ring: the root alone.
-pub(crate) fn reserved(block: usize) -> i16
+pub fn reserved(block: usize) -> i16
     ensures { result ≡ pos (if block == 0 then 1 else 0) }
 {
     if block == 0 { 1 } else { 0 }

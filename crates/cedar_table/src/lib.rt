@@ -1,14 +1,13 @@
-//! The table of slots of a double-array trie, whose held slots stand for a labelled tree: look-ups and walks, updates and
-//! erasures.
+//! The table of slots of a double-array trie, whose held slots stand for a labelled tree: its nodes read and written one at
+//! a time, and look-ups. Updates, erasures and walks stand above it.
 #![tactic(auto)]
 
+mod chain;
 mod clone;
-mod edit;
+mod nodes;
 mod parts;
-mod relocation;
+mod search;
 mod table;
-mod update;
-mod walk;
 
 pub use cedar_meaning::{
     DefaultLayout, Layout, ReducedLayout, Stored, full_blocks_are_counted, held_slots_are_counted,
@@ -18,6 +17,4 @@ pub use cedar_slots::{
     BLOCK_SIZE, BlockRecord, CedarError, Corrupt, NInfoRecord, NodeRecord, Ticks,
 };
 pub use parts::Parts;
-pub use table::Table;
-pub use walk::fronts::Front;
-pub use walk::visits::{Numbered, Visited};
+pub use table::{Labels, Table};

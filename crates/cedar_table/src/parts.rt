@@ -1,20 +1,16 @@
 //! A table as its parts: it is made of them when it is loaded, and gives them when it is saved.
 
-ghost use Rattle.std.specs.Prelude.{◌≡◌, ◌+◌, ◌*◌, ◌≤◌, ◌≤ℤ◌, length, pos};
-ghost use Rattle.std.specs.Result.{OkIff};
+ghost use Rattle.std.specs.Prelude.{◌≡◌, length};
 ghost use Rattle.cedar_table.specs.Table.Parts.{parts_fields};
-ghost use Rattle.cedar_slots.specs.Places.{IsPowerOfTwo, IsSlotLimit, IsTable, Shaped};
+ghost use Rattle.cedar_slots.specs.Places.{Shaped};
 ghost use Rattle.cedar_table.specs.Table.Views.{fields};
-ghost use Rattle.cedar_meaning.specs.Table.TableFields.{capacity_of};
+ghost use Rattle.cedar_slots.specs.Views.{places_of};
 
 use crate::table::Table;
 use cedar_meaning::Layout;
-use cedar_slots::{
-    BLOCK_SIZE, BlockRecord, Blocks, Corrupt, NInfoRecord, NodeRecord, Places, Slots, Ticks,
-};
+use cedar_slots::{BLOCK_SIZE, BlockRecord, Blocks, NInfoRecord, NodeRecord, Places, Slots};
 use std::alloc::Allocator;
 use std::marker::PhantomData;
-use std::sync::ledger::Ledger;
 
 /// What a table is made of. `size` is how many slots are in use.
 #[derive(Drop)]
@@ -61,18 +57,13 @@ impl<L: Layout, const SLOTS: usize, A: Allocator> Table<L, SLOTS, A> {
         }
     }
 
-    /// Whether slots, rings, blocks and lists that nobody has vouched for are those of a table. The sizes and `max_trial`
-    /// are tested before, and what the held slots stand for isn't tested. It takes no memory, and reads at most five records
-    /// a slot and 512 more.
-    pub fn check_places<C: Ledger>(&self, reads: &mut Ticks<C>) -> Result<(), Corrupt>
-        requires doubled { IsPowerOfTwo (length (fields self.now).places.blocks.records) }
-        requires limit { IsSlotLimit SLOTS }
-        requires within { capacity_of (fields self.now) ≤ SLOTS }
-        requires tried { pos 1 ≤ℤ (fields self.now).places.blocks.max_trial }
-        ensures answer { OkIff result (IsTable SLOTS (fields self.now).places) tt }
-        ensures cost { reads.new ≤ reads.old + 5 * capacity_of (fields self.now) + 512 }
+    /// Slots, blocks and reject values together, to be tested.
+    pub fn places(&self) -> &Places<A>
+        ensures places { places_of result.now ≡ (fields self.now).places }
+        ensures shaped { Shaped (fields self.now).places }
+        ensures rejects { length (fields self.now).places.reject ≡ 257 }
     {
-        self.places.check_places(reads)
+        &self.places
     }
 
     /// All slots, to be written out or tested. (A comparison of a check field goes by `check`, which counts it.)

@@ -42,6 +42,7 @@ impl<L: Layout, const SLOTS: usize, A: Allocator> Table<L, SLOTS, A> {
     ghost use Rattle.cedar_meaning.specs.Table.TableFields.{capacity_of, SameFrame, SameSettings, size_of};
     ghost use Rattle.cedar_meaning.specs.Meaning.WellFormed.{IsWellFormed, tree_of};
     ghost use Rattle.cedar_tree.specs.Tree.{empty_tree};
+    ghost use Rattle.cedar_meaning.specs.Edit.Steps.{MakesBlocks};
 
     /// A table with one block, in which the root alone is held. It stands for the empty tree.
     pub fn new(alloc: A, ordered: bool, max_trial: i32) -> Result<Self, CedarError>
@@ -100,7 +101,7 @@ impl<L: Layout, const SLOTS: usize, A: Allocator> Table<L, SLOTS, A> {
     }
 
     /// Takes the held slot `slot`, which is no part of the tree, for `owner`, with `base` in its base field and no labels.
-    pub(crate) fn claim(&mut self, slot: usize, base: i32, owner: usize)
+    pub fn claim(&mut self, slot: usize, base: i32, owner: usize)
         requires { MayClaim SLOTS (fields self.old) slot owner }
         ensures sound { IsTable SLOTS (fields self.new).places }
         ensures takes { Takes (freed (cells self.old) slot) (cells self.new) slot owner }
@@ -197,6 +198,28 @@ impl<L: Layout, const SLOTS: usize, A: Allocator> Table<L, SLOTS, A> {
         ensures same { OnErr result (SameSlots (fields self.old).places (fields self.new).places) }
     {
         self.places.find_places(labels, SLOTS)
+    }
+
+    /// A base from which there is room for all labels. A single label goes where the first free slot is. The move
+    /// of a set makes a block here or not at all.
+    #[inline(always)]
+    pub fn place_for(&mut self, labels: &[u8]) -> Result<usize, CedarError>
+        requires sound { IsTable SLOTS (fields self.old).places }
+        requires some { 0 < length labels.now }
+        requires few { length labels.now ≤ 256 }
+        ensures sound { IsTable SLOTS (fields self.new).places }
+        ensures found { IfOk result (λ base. HasPlaces (size_of (fields self.new)) (cells self.new) base labels.now) }
+        ensures refused { IfErr result (λ error. MayRefuse (fields self.old).places SLOTS error) }
+        ensures held { SameHeld (cells self.old) (cells self.new) }
+        ensures blocks { (n : ℕ) × (n ≤ 1) × MakesBlocks n (fields self.old) (fields self.new) }
+        ensures unchanged { OnErr result (SameSlots (fields self.old).places (fields self.new).places) }
+        ensures settings { SameSettings (fields self.old) (fields self.new) }
+    {
+        if labels.len() == 1 {
+            let slot = self.find_place()?;
+            return Ok(slot ^ usize::from(labels[0]));
+        }
+        self.find_places(labels)
     }
 
     /// How many slots are in use, free ones among them.

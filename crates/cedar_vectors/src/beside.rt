@@ -1,7 +1,8 @@
 //! Mixed calls on the dictionary beside the plain tree, in both layouts.
+use crate::bare::Full;
 use crate::expect::{expect_counts, expect_erased};
-use crate::layouts::{Full, built};
-use cedarwood::{CedarBuilder, DefaultLayout, Layout, ReducedLayout};
+use crate::sequence::next;
+use cedarwood::{CedarBuilder, CedarError, DefaultLayout, Layout, ReducedLayout, Trie};
 use plain_tree::PlainTree;
 use std::alloc::{AllocError, Global};
 use std::process::Abort;
@@ -59,15 +60,9 @@ struct Plan {
 // A dictionary, the tree that it has to answer from, and where the sequence of keys has come to.
 #[derive(Drop)]
 struct Beside<L: Layout> {
-    trie: Full<L>,
+    trie: Full<L, Global>,
     tree: PlainTree<Global>,
     seed: u32,
-}
-
-// The next number of a fixed sequence.
-fn next(seed: &mut u32) -> u32 {
-    *seed = seed.wrapping_mul(1664525).wrapping_add(1013904223);
-    *seed >> 8
 }
 
 // The next key.
@@ -110,7 +105,7 @@ fn call<L: Layout>(alloc: Global, both: &mut Beside<L>, plan: Plan) -> Result<bo
 }
 
 // Whether each of some pairs is found.
-fn finds_all<L: Layout>(trie: &Full<L>, pairs: &[(Vec<u8>, i32)]) -> bool {
+fn finds_all<L: Layout>(trie: &Full<L, Global>, pairs: &[(Vec<u8>, i32)]) -> bool {
     for (key, value) in pairs {
         if trie.exact_match_search_bytes(key) != Some((*value, key.len())) {
             return false;
@@ -173,7 +168,7 @@ fn make_calls<L: Layout>(
     Ok(())
 }
 
-fn erase_each<L: Layout>(rt: &impl Abort, trie: &mut Full<L>, pairs: &[(Vec<u8>, i32)]) {
+fn erase_each<L: Layout>(rt: &impl Abort, trie: &mut Full<L, Global>, pairs: &[(Vec<u8>, i32)]) {
     for (key, _) in pairs {
         expect_erased(rt, trie, key, true);
     }
@@ -189,6 +184,11 @@ fn erase_all<L: Layout>(
     erase_each(rt, &mut both.trie, &entries);
     expect_counts(rt, &both.trie, 0, 1);
     Ok(())
+}
+
+#[tactic(auto, using(cedarwood::proofs::DictionaryLemmas::default_limit))]
+fn built<L: Layout>(alloc: Global, builder: CedarBuilder) -> Result<Full<L, Global>, CedarError> {
+    Trie::with(alloc, builder)
 }
 
 fn begun<L: Layout>(alloc: Global, plan: Plan) -> Result<Beside<L>, Fail> {

@@ -1,33 +1,35 @@
-//! Tests of the dictionary and its files: what no clause says, and that their calls succeed.
+//! Tests of the dictionary and its files that are proved: long runs beside the plain tree, whole files byte by byte, and hostile use:
+//! memory that is refused at each request, devices that end early, tables with no slot left, and keys of a million bytes. Each
+//! answer is the one that is named, what was held stays, and the same call then succeeds.
 #![tactic(auto)]
 
 #[cfg(test)]
-mod batch;
+mod attempts;
+#[cfg(test)]
+mod bare;
 #[cfg(test)]
 mod beside;
-#[cfg(test)]
-mod builds;
-#[cfg(test)]
-mod dictionary;
 #[cfg(test)]
 mod expect;
 #[cfg(test)]
 mod files;
 #[cfg(test)]
-mod layouts;
+mod full;
 #[cfg(test)]
-mod queries;
+mod limits;
 #[cfg(test)]
-mod reduced;
+mod loads;
 #[cfg(test)]
-mod settings;
+mod long;
 #[cfg(test)]
-mod sorted;
+mod making;
 #[cfg(test)]
-mod sorted_texts;
+mod paths;
 #[cfg(test)]
-mod steps;
+mod sequence;
 #[cfg(test)]
-mod texts;
+mod state;
 #[cfg(test)]
-mod words;
+mod verdict;
+#[cfg(test)]
+mod walks;

@@ -8,6 +8,7 @@ ghost use Rattle.cedarwood.specs.Updates.{IsUpdate};
 
 use crate::pair::check_pair;
 use crate::{CedarError, Layout, Trie};
+use cedar_edit::update;
 use std::alloc::Allocator;
 
 impl<L: Layout, const SLOTS: usize, A: Allocator + Copy> Trie<L, SLOTS, A> {
@@ -27,7 +28,7 @@ impl<L: Layout, const SLOTS: usize, A: Allocator + Copy> Trie<L, SLOTS, A> {
         ensures in_range { IfOk result (λ held. IfSome held (λ v. value_fault v ≡ None)) }
     {
         check_pair(key, value)?;
-        self.table.update(key, value)
+        update(&mut self.table, key, value)
     }
 
     /// `insert_bytes` for a text key.

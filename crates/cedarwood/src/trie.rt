@@ -18,6 +18,7 @@ ghost use Rattle.cedarwood.specs.Updates.{IsUpdate};
 use crate::builder::CedarBuilder;
 use crate::queries::exact::uncounted;
 use crate::{CedarError, DefaultLayout, Layout, ReducedLayout, Ticks};
+use cedar_edit::erase;
 use cedar_table::Table;
 use std::alloc::Allocator;
 use std::marker::{Brand, Model};
@@ -341,7 +342,7 @@ impl<L: Layout, const SLOTS: usize, A: Allocator + Copy> Trie<L, SLOTS, A> {
         ensures size { (self.new.size ≡ self.old.size) × (self.new.capacity ≡ self.old.capacity) }
         ensures max_trial { self.new.max_trial ≡ self.old.max_trial }
     {
-        self.table.erase(key)
+        erase(&mut self.table, key)
     }
 
     /// `erase_bytes` for a text key.

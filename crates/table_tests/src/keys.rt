@@ -5,6 +5,7 @@ ghost use Rattle.cedar_tree.specs.Tree.{IsKey};
 ghost use Rattle.cedar_table.specs.Table.Views.{fields};
 ghost use Rattle.cedar_meaning.specs.Meaning.WellFormed.{IsWellFormed};
 
+use cedar_edit::{erase, update};
 use cedar_table::{CedarError, DefaultLayout, Table};
 use std::alloc::Global;
 use std::process::Abort;
@@ -35,7 +36,7 @@ pub fn put<const SLOTS: usize>(
     if !is_key(key) {
         return Err(CedarError::EmptyKey);
     }
-    table.update(key, i32::from(value))?;
+    update(table, key, i32::from(value))?;
     Ok(())
 }
 
@@ -48,5 +49,5 @@ pub fn erases<const SLOTS: usize>(
     requires { IsWellFormed SLOTS (fields table.old) }
     ensures { IsWellFormed SLOTS (fields table.new) }
 {
-    assert!(rt; table.erase(key));
+    assert!(rt; erase(table, key));
 }

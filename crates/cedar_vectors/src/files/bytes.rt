@@ -1,6 +1,6 @@
 //! Saved files byte by byte, and dictionaries that are saved and loaded.
+use crate::bare::Full;
 use crate::expect::{expect_found, expect_room};
-use crate::layouts::Full;
 use cedarwood::{
     Cedar, CedarBuilder, CedarError, CedarPersistenceError, DefaultLayout, Layout, Trie, Watched,
 };
@@ -11,7 +11,7 @@ use std::test::Fail;
 /// The bytes of a dictionary saved in format 1.0.
 pub fn saved_v1_0<L: Layout>(
     alloc: Global,
-    trie: &Full<L>,
+    trie: &Full<L, Global>,
 ) -> Result<Vec<u8>, CedarPersistenceError> {
     let mut writer = Watched::new(Vec::new(alloc));
     trie.save_v1_0_to_writer(&mut writer)?;
@@ -19,7 +19,10 @@ pub fn saved_v1_0<L: Layout>(
 }
 
 /// The bytes of a saved dictionary.
-pub fn saved<L: Layout>(alloc: Global, trie: &Full<L>) -> Result<Vec<u8>, CedarPersistenceError> {
+pub fn saved<L: Layout>(
+    alloc: Global,
+    trie: &Full<L, Global>,
+) -> Result<Vec<u8>, CedarPersistenceError> {
     let mut writer = Watched::new(Vec::new(alloc));
     trie.save_to_writer(&mut writer)?;
     Ok(writer.into_inner())
@@ -27,7 +30,10 @@ pub fn saved<L: Layout>(alloc: Global, trie: &Full<L>) -> Result<Vec<u8>, CedarP
 
 /// The dictionary of some bytes in memory, read as of a layout.
 #[tactic(auto, using(cedarwood::proofs::DictionaryLemmas::default_limit))]
-pub fn loaded_as<L: Layout>(alloc: Global, bytes: &[u8]) -> Result<Full<L>, CedarPersistenceError> {
+pub fn loaded_as<L: Layout>(
+    alloc: Global,
+    bytes: &[u8],
+) -> Result<Full<L, Global>, CedarPersistenceError> {
     Trie::load_from_reader(alloc, &mut &bytes[..])
 }
 
@@ -46,7 +52,11 @@ pub fn loaded_front(
 }
 
 /// Stores a pair. Of what the dictionary then holds nothing is said: so a test that stores pairs doesn't carry the clauses of the call.
-pub fn put<L: Layout>(trie: &mut Full<L>, key: &[u8], value: i32) -> Result<(), CedarError> {
+pub fn put<L: Layout>(
+    trie: &mut Full<L, Global>,
+    key: &[u8],
+    value: i32,
+) -> Result<(), CedarError> {
     trie.update_bytes(key, value)
 }
 
@@ -170,7 +180,7 @@ pub fn one_key_file(alloc: Global) -> Result<Vec<u8>, AllocError> {
 pub fn expect_saved<L: Layout>(
     rt: &impl Abort,
     alloc: Global,
-    trie: &Full<L>,
+    trie: &Full<L, Global>,
     file: &[u8],
 ) -> Result<(), Fail> {
     let mut wanted = Vec::from_slice(alloc, file)?;

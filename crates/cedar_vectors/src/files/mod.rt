@@ -1,8 +1,6 @@
 //! Files: whole ones byte by byte, each refusal, devices that fail and memory that is refused.
 
-mod bytes;
+pub mod bytes;
 mod devices;
-mod forged;
 mod reduced;
 mod refusals;
-mod texts;

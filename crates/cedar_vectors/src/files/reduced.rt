@@ -1,6 +1,6 @@
 //! Files of the reduced layout.
+use crate::bare::empty;
 use crate::files::bytes::{empty_file, expect_loaded, expect_saved, loaded_as, saved, set};
-use crate::layouts::empty;
 use cedarwood::{Cedar, CedarPersistenceError, DefaultLayout, Layout, ReducedLayout};
 use std::alloc::{AllocError, Global};
 use std::test::Fail;

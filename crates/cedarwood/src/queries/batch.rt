@@ -2,9 +2,10 @@
 
 ghost use Rattle.std.specs.Prelude.{◌≡◌, ◌<◌, ◌++◌, drop, length, map, take};
 ghost use Rattle.cedar_tree.specs.Queries.{exact};
-ghost use Rattle.cedar_table.specs.Walk.Batch.{keys_of};
+ghost use Rattle.cedar_walk.specs.Batch.{keys_of};
 
 use crate::{Layout, Ticks, Trie};
+use cedar_walk::exact_match_search_batch;
 use std::alloc::Allocator;
 use std::marker::Brand;
 use std::sync::ledger::{Blank, Ledger};
@@ -14,7 +15,7 @@ trait Batch {
     ghost use Rattle.std.specs.Prelude.{◌≡◌, ◌++◌, drop, length, map, take};
     ghost use Rattle.cedar_tree.specs.Tree.{Tree};
     ghost use Rattle.cedar_tree.specs.Queries.{exact};
-    ghost use Rattle.cedar_table.specs.Walk.Batch.{keys_of};
+    ghost use Rattle.cedar_walk.specs.Batch.{keys_of};
 
     ghost tree: { Self → Tree };
 
@@ -37,7 +38,7 @@ impl<L: Layout, const SLOTS: usize, A: Allocator + Copy> Batch for Trie<L, SLOTS
         answers: &mut [Option<(i32, usize)>],
         ticks: &mut Ticks<C>,
     ) {
-        self.table.exact_match_search_batch(keys, answers, ticks);
+        exact_match_search_batch(&self.table, keys, answers, ticks);
     }
 }
 

@@ -5,7 +5,7 @@ ghost use Rattle.std.specs.Iterator.{item_count, UpTo};
 ghost use Rattle.std.specs.Iterator.SizeHint.{IsWithinCount};
 ghost use Rattle.cedar_tree.specs.Queries.{Entry};
 ghost use Rattle.cedar_tree.specs.Walks.{entries_of};
-ghost use Rattle.cedar_table.specs.Walk.Visits.{left_at};
+ghost use Rattle.cedar_walk.specs.Visits.{left_at};
 ghost use Rattle.cedar_meaning.specs.Meaning.WellFormed.{IsWellFormed};
 ghost use Rattle.cedar_error.specs.declared.error.CedarError.TheVariants.{Memory};
 ghost use Rattle.cedarwood.specs.WalkPlaces.{ComesToEntry, IsEntriesPlace};

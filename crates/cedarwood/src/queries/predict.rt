@@ -7,7 +7,7 @@ ghost use Rattle.cedar_meaning.specs.Meaning.WellFormed.{IsWellFormed};
 ghost use Rattle.cedarwood.specs.WalkPlaces.{GoesOnTo, IsPredictPlace, predicted_from};
 
 use crate::queries::walked::Walked;
-use cedar_table::Numbered;
+use cedar_walk::Numbered;
 use std::alloc::AllocError;
 use std::iter::FusedIterator;
 use std::marker::Model;

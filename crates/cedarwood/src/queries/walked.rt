@@ -1,7 +1,9 @@
 //! What walks that are under way ask of a dictionary.
 
 use crate::{Layout, Ticks, Trie};
-use cedar_table::{Front, Numbered, Visited};
+use cedar_walk::{
+    Front, Numbered, Visited, first_numbered, next_held_front, node_after, numbered_after,
+};
 use std::alloc::Allocator;
 use std::sync::ledger::Ledger;
 
@@ -11,9 +13,9 @@ pub trait Walked {
     ghost use Rattle.std.specs.Prelude.{◌≡◌, ℕ, List, ◌∷◌, [], ◌+◌, ◌*◌, ◌-◌, ◌<◌, ◌≤◌, length, MatchOption};
     ghost use Rattle.cedar_tree.specs.Queries.{node_at, walk};
     ghost use Rattle.cedar_tree.specs.Walks.{entries_of, front_from};
-    ghost use Rattle.cedar_table.specs.Walk.Fronts.{IsOnQuery, passed};
+    ghost use Rattle.cedar_walk.specs.Fronts.{IsOnQuery, passed};
     ghost use Rattle.cedar_meaning.specs.Table.TableFields.{Fields};
-    ghost use Rattle.cedar_table.specs.Walk.Visits.{ComesTo, ComesToNumber, IsBelow, IsNumberedBelow, left_at, path_to};
+    ghost use Rattle.cedar_walk.specs.Visits.{ComesTo, ComesToNumber, IsBelow, IsNumberedBelow, left_at, path_to};
     ghost use Rattle.cedar_meaning.specs.Meaning.WellFormed.{cells_in, IsWellFormed, tree_of};
 
     /// How many slots it may have, and the table that it is kept in.
@@ -66,21 +68,21 @@ impl<L: Layout, const SLOTS: usize, A: Allocator + Copy> Walked for Trie<L, SLOT
         node: usize,
         ticks: &mut Ticks<C>,
     ) -> Option<Front> {
-        self.table.next_held_front(query, place, node, ticks)
+        next_held_front(&self.table, query, place, node, ticks)
     }
 
     #[inline(always)]
     fn first_numbered(&self, query: &[u8]) -> Option<Numbered> {
-        self.table.first_numbered(query)
+        first_numbered(&self.table, query)
     }
 
     #[inline(always)]
     fn next_numbered(&self, node: usize, depth: usize) -> Option<Numbered> {
-        self.table.numbered_after(node, depth)
+        numbered_after(&self.table, node, depth)
     }
 
     #[inline(always)]
     fn next_node(&self, node: usize, depth: usize) -> Option<Visited> {
-        self.table.node_after(node, depth)
+        node_after(&self.table, node, depth)
     }
 }

@@ -1,7 +1,7 @@
 use Rattle.std.proofs.Common.{◌≡◌, ◌∙◌, ◌++◌, [], ◌∷◌, ap, arith, FitsSigned, length, rules, w32}
 use Rattle.std.proofs.lemmas.Int.{to_z-of_z}
 use Rattle.cedar_tree.specs.Walks.{entries_of}
-use Rattle.cedar_table.specs.Walk.Visits.{left_at}
+use Rattle.cedar_walk.specs.Visits.{left_at}
 use Rattle.cedarwood.proofs.EntriesLemmas.{comes_here, comes_to, ends_here, passes, stepped}
 use Rattle.cedarwood.proofs.queries.entries.next_entry.Goals as goal
 

@@ -1,6 +1,6 @@
 use Rattle.std.proofs.Common.{◌≡◌, [], length}
 use Rattle.cedar_tree.specs.Walks.{entries_of}
-use Rattle.cedar_table.specs.Walk.Visits.{left_at}
+use Rattle.cedar_walk.specs.Visits.{left_at}
 use Rattle.cedarwood.specs.WalkPlaces.{IsEntriesPlace}
 use Rattle.cedarwood.proofs.queries.entries.next_entry.Given as goal
 

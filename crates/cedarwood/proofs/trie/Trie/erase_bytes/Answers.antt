@@ -6,7 +6,7 @@ use Rattle.cedarwood.proofs.MarkedLemmas.{is_marked}
 use Rattle.cedarwood.proofs.trie.Trie.erase_bytes.Goals as goal
 
 pub returns-clause-marks : goal.returns-clause-marks
-returns-clause-marks g c = subst (λ (d : Dictionary). MarksCut d.marked (marks (fields c.erase.new.self)) c.args.key.now) c.self.view_is c.erase.ensures.marks_cut
+returns-clause-marks g c = subst (λ (d : Dictionary). MarksCut d.marked (marks (fields c.erase.new.table)) c.args.key.now) c.self.view_is c.erase.ensures.marks_cut
 
 pub returns-clause-marked : goal.returns-clause-marked
-returns-clause-marked g c = is_marked g.row.SLOTS (fields c.erase.new.self) c.erase.ensures.well_formed
+returns-clause-marked g c = is_marked g.row.SLOTS (fields c.erase.new.table) c.erase.ensures.well_formed

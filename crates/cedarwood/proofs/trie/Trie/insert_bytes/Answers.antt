@@ -54,7 +54,7 @@ update-requires g c =
 pub returns-clause-updated : goal.returns-clause-updated
 returns-clause-updated g c =
     let old = fields c.self.inside.table in
-    let new = fields c.update.new.self in
+    let new = fields c.update.new.table in
     let d = c.args.self.now in
     let is = c.self.view_is in
     let r = c.update.result in

@@ -1,7 +1,7 @@
 use Rattle.std.proofs.Common.{arith}
 use Rattle.cedar_tree.proofs.FrontFromLemmas.{front_begins}
 use Rattle.cedar_meaning.specs.Meaning.WellFormed.{tree_of}
-use Rattle.cedar_table.proofs.WalkLemmas.NextFront.{front_begins_at}
+use Rattle.cedar_walk.proofs.WalkLemmas.NextFront.{front_begins_at}
 use Rattle.cedarwood.proofs.queries.prefix.PrefixIter.new.Goals as goal
 
 pub invariant_of-result : goal.invariant_of-result

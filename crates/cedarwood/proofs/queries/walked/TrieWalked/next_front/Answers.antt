@@ -1,5 +1,5 @@
 use Rattle.std.proofs.Common.{◌≤◌, ◌<◌, length, subst, MatchOption}
-use Rattle.cedar_table.specs.Walk.Fronts.{IsOnQuery}
+use Rattle.cedar_walk.specs.Fronts.{IsOnQuery}
 use Rattle.cedarwood.specs.Dictionary.{Dictionary}
 use Rattle.cedarwood.proofs.queries.walked.TrieWalked.next_front.Goals as goal
 

@@ -1,0 +1,77 @@
+use Rattle.std.proofs.Common.{◌≤◌, rules, ◌<◌, arith, inl, inr, refl, subst, sym}
+use Rattle.std.specs.Prelude.{bit_xor}
+use Rattle.cedar_meaning.specs.Table.Cells.{Held}
+use Rattle.cedar_meaning.specs.Relocation.Renaming.{Rebased}
+use Rattle.cedar_slots.specs.Views.{places_of}
+use Rattle.cedar_table.specs.Table.Views.{cells, fields}
+use Rattle.cedar_meaning.specs.Table.TableFields.{size_of}
+use Rattle.cedar_meaning.proofs.EditLemmas.AtPath.{held_node}
+use Rattle.cedar_meaning.proofs.UpdateLemmas.BlocksMade.{found_blocks, growth_framed, growth_nothing, made_framed, made_larger, made_nothing, refuses_still, slots_of_same}
+use Rattle.cedar_meaning.proofs.EditLemmas.FirstBase.{held_still, leaf_based, LeafBased}
+use Rattle.cedar_meaning.proofs.UpdateLemmas.StepAnswers.{refused_as}
+use Rattle.cedar_meaning.proofs.MeaningLemmas.ExclusiveOr.{xor_within}
+use Rattle.cedar_meaning.specs.Edit.Steps.{MayAddBlock}
+use Rattle.cedar_edit.proofs.keys.step.first_base.Goals as goal
+
+pub returns-in_err-slot-clause-refused : goal.returns-in_err-slot-clause-refused
+returns-in_err-slot-clause-refused g c =
+    refused_as c.from_residual.result c.in_err-slot.field-0.0 _ c.from_residual.ensures.1
+    (refuses_still (places_of c.args.table.now.places) (places_of c.find_place.new.self.places) _ _ (slots_of_same (fields c.args.table.now) (fields c.find_place.new.self) c.in_err-slot.ensures.unchanged) c.in_err-slot.ensures.refused.1)
+
+pub returns-in_err-slot-clause-growth : goal.returns-in_err-slot-clause-growth
+returns-in_err-slot-clause-growth g c = growth_nothing (fields c.args.table.now) (fields c.find_place.new.self) c.in_err-slot.ensures.unchanged
+
+pub set_base-requires : goal.set_base-requires
+set_base-requires g c =
+    let n = c.requires.node in
+    let found = found_blocks _ (fields c.args.table.now) (fields c.find_place.new.self) _ c.in_ok-slot.ensures.made in
+    let more : size_of (fields c.args.table.now) ≤ size_of (fields c.find_place.new.self) = made_larger found.0 (fields c.args.table.now) (fields c.find_place.new.self) found.2 in
+    let held : Held (cells c.find_place.new.self) c.args.node = held_still (cells c.args.table.now) (cells c.find_place.new.self) c.args.node c.in_ok-slot.ensures.held (held_node (cells c.args.table.now) n.1.path c.args.node n.1.at) in
+    let inside : bit_xor c.in_ok-slot.slot c.from.result < size_of (fields c.find_place.new.self) = subst (λ l. bit_xor c.in_ok-slot.slot l < size_of (fields c.find_place.new.self)) (sym c.from.ensures) (xor_within (size_of (fields c.find_place.new.self)) c.in_ok-slot.slot c.args.label (omega arith) c.in_ok-slot.ensures.found.in_use (omega (arith, c.ranges.label.fits))) in
+    (search rules, (c.in_ok-slot.ensures.sound, (omega (arith, c.requires.node_in, more), (inside, (held, c.requires.not_root)))))
+
+pub based : (g : _) (c : goal.After-set_base g) → LeafBased (size_of (fields c.args.table.now)) (size_of (fields c.set_base.new.self)) (cells c.args.table.now) (cells c.set_base.new.self) c.args.node c.args.label
+based g c =
+    let n = c.requires.node in
+    let size = size_of (fields c.args.table.now) in
+    let size' = size_of (fields c.find_place.new.self) in
+    let T = cells c.args.table.now in
+    let T₁ = cells c.find_place.new.self in
+    let T₂ = cells c.set_base.new.self in
+    let found = found_blocks _ (fields c.args.table.now) (fields c.find_place.new.self) _ c.in_ok-slot.ensures.made in
+    let more : size_of (fields c.args.table.now) ≤ size_of (fields c.find_place.new.self) = made_larger found.0 (fields c.args.table.now) (fields c.find_place.new.self) found.2 in
+    subst (λ s. LeafBased size s T T₂ c.args.node c.args.label) (sym c.set_base.ensures.frame.size)
+    (leaf_based size size' T T₁ T₂ n.0 n.1.path c.args.node c.in_ok-slot.slot c.args.label n.1.holds n.1.at c.requires.not_root c.requires.leaf more (omega arith) (omega (arith, c.ranges.label.fits))
+    c.in_ok-slot.ensures.held c.in_ok-slot.ensures.found (subst (λ l. Rebased T₁ T₂ c.args.node (bit_xor c.in_ok-slot.slot l)) c.from.ensures c.set_base.ensures.rebased))
+
+pub returns-clause-placed : goal.returns-clause-placed
+returns-clause-placed g c =
+    let k = based g c in
+    let found = found_blocks _ (fields c.args.table.now) (fields c.find_place.new.self) _ c.in_ok-slot.ensures.made in
+    let more : size_of (fields c.args.table.now) ≤ size_of (fields c.find_place.new.self) = made_larger found.0 (fields c.args.table.now) (fields c.find_place.new.self) found.2 in
+    record {
+      inside = omega (arith, c.requires.node_in, more, c.set_base.ensures.frame.size);
+      at = k.at;
+      root = λ z. z;
+      based = λ z. k.in_range;
+      free = k.free;
+      marks = k.marks;
+    }
+
+pub returns-clause-tree : goal.returns-clause-tree
+returns-clause-tree g c = (based g c).tree
+
+pub returns-clause-growth : goal.returns-clause-growth
+returns-clause-growth g c =
+    let found : MayAddBlock (fields c.args.table.now) (fields c.find_place.new.self) = record {
+      blocks = found_blocks _ (fields c.args.table.now) (fields c.find_place.new.self) _ c.in_ok-slot.ensures.made;
+      root_check = (c.in_ok-slot.ensures.held.other 0 (inl refl)).check;
+      settings = c.in_ok-slot.ensures.settings;
+    } in
+    growth_framed _ _ _ found c.set_base.ensures.frame (c.set_base.ensures.rebased.check 0)
+
+pub returns-clause-made : goal.returns-clause-made
+returns-clause-made g c = elim c.in_ok-slot.ensures.made [
+  | inl e ↦ inl (tt, made_framed 0 (fields c.args.table.now) (fields c.find_place.new.self) (fields c.set_base.new.self) (made_nothing (fields c.args.table.now) (fields c.find_place.new.self) e) c.set_base.ensures.frame)
+  | inr n ↦ inr n.0
+]

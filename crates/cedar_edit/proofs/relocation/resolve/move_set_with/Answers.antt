@@ -1,0 +1,57 @@
+use Rattle.std.proofs.Common.{arith, rules, subst, sym, ℕ, ◌≤◌, inl, refl}
+use Rattle.std.specs.Prelude.{bit_xor}
+use Rattle.cedar_meaning.specs.Meaning.Family.{Among, owned}
+use Rattle.cedar_meaning.specs.Meaning.StandsFor.{HoldsTree}
+use Rattle.cedar_meaning.specs.Relocation.Renaming.{Movable, SetMoved}
+use Rattle.cedar_meaning.specs.Relocation.Reserved.{freed}
+use Rattle.cedar_table.specs.Table.Views.{cells, fields}
+use Rattle.cedar_meaning.specs.Table.TableFields.{size_of}
+use Rattle.cedar_meaning.proofs.UpdateLemmas.BlocksMade.{growth_framed, made_larger}
+use Rattle.cedar_meaning.proofs.RelocationLemmas.Movable.{relocated_holds}
+use Rattle.cedar_meaning.proofs.RelocationLemmas.PlacesFirst.{can_relocate, place_of, same_holds, set_moved}
+use Rattle.cedar_meaning.specs.Edit.Steps.{MayAddBlock}
+use Rattle.cedar_edit.proofs.relocation.resolve.move_set_with.Goals as goal
+
+pub relocate_with-requires : goal.relocate_with-requires
+relocate_with-requires g c =
+    let T = cells c.args.table.now in
+    let T₁ = cells c.place_for.new.self in
+    let blocks = c.place_for.ensures.blocks in
+    let more : size_of (fields c.args.table.now) ≤ size_of (fields c.place_for.new.self) = made_larger blocks.0 (fields c.args.table.now) (fields c.place_for.new.self) blocks.2 in
+    let n = c.requires.owned in
+    let p = c.requires.node.on_path in
+    let b = c.in_ok-base.base in
+    let all : (l : ℕ) → Among (owned n.head n.labels) l → Among c.args.wanted.now l = λ l a. c.requires.all l (subst (λ xs. Among xs l) (sym n.owns) a) in
+    let m = can_relocate _ _ T T₁ c.requires.node.holds.0 c.args.node b p.0 n.head n.labels c.args.wanted.now more (omega arith) c.place_for.ensures.held c.requires.node.holds.1 p.1 p.2 c.requires.node.not_root n.family c.requires.node.based all (λ i. omega (arith, c.type_inv.wanted i)) c.requires.some c.in_ok-base.ensures.found in
+    (search rules, (c.place_for.ensures.sound, (omega (arith, c.requires.node.node_in, more), (subst (λ xs. Movable (size_of (fields c.place_for.new.self)) T₁ c.args.node b xs) (sym n.owns) m, (c.requires.new, place_of _ T₁ b c.args.wanted.now c.in_ok-base.ensures.found c.args.label c.requires.listed)))))
+
+pub returns-clause-moved : goal.returns-clause-moved
+returns-clause-moved g c =
+    let T = cells c.args.table.now in
+    let T₁ = cells c.place_for.new.self in
+    let blocks = c.place_for.ensures.blocks in
+    let more : size_of (fields c.args.table.now) ≤ size_of (fields c.place_for.new.self) = made_larger blocks.0 (fields c.args.table.now) (fields c.place_for.new.self) blocks.2 in
+    let n = c.requires.owned in
+    let p = c.requires.node.on_path in
+    let b = c.in_ok-base.base in
+    let all : (l : ℕ) → Among (owned n.head n.labels) l → Among c.args.wanted.now l = λ l a. c.requires.all l (subst (λ xs. Among xs l) (sym n.owns) a) in
+    let T' = cells c.relocate_with.new.table in
+    let k : ℕ = bit_xor b c.args.label in
+    let moved = set_moved _ _ T T₁ c.requires.node.holds.0 c.args.node b p.0 n.head n.labels c.args.wanted.now more (omega arith) c.place_for.ensures.held c.requires.node.holds.1 p.1 p.2 c.requires.node.not_root n.family c.requires.node.based all (λ i. omega (arith, c.type_inv.wanted i)) c.requires.some c.in_ok-base.ensures.found (freed T' k) c.relocate_with.ensures.relocated in
+    record {
+      set = subst (λ s. SetMoved (size_of (fields c.args.table.now)) s T (freed T' k) c.args.node b c.args.labels.now c.args.wanted.now) (sym c.relocate_with.ensures.frame.size)
+          (subst (λ xs. SetMoved (size_of (fields c.args.table.now)) (size_of (fields c.place_for.new.self)) T (freed T' k) c.args.node b xs c.args.wanted.now) (sym n.owns) moved);
+      reserved = c.relocate_with.ensures.reserved;
+      tree = λ f h.
+          let made = same_holds _ _ T T₁ more c.place_for.ensures.held f h in
+          subst (λ n. HoldsTree n (freed T' k) f) (sym c.relocate_with.ensures.frame.size) (relocated_holds _ T₁ (freed T' k) c.args.node b f c.relocate_with.ensures.relocated made);
+    }
+
+pub returns-clause-growth : goal.returns-clause-growth
+returns-clause-growth g c =
+    let placed : MayAddBlock (fields c.args.table.now) (fields c.place_for.new.self) = record {
+      blocks = c.place_for.ensures.blocks;
+      root_check = (c.place_for.ensures.held.other 0 (inl refl)).check;
+      settings = c.place_for.ensures.settings;
+    } in
+    growth_framed _ _ _ placed c.relocate_with.ensures.frame c.relocate_with.ensures.root_check

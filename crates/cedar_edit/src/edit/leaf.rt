@@ -1,0 +1,202 @@
+//! A label added to a node, and one taken away.
+
+ghost use Rattle.std.specs.Prelude.{◌≡◌, ◌≢◌, ℕ, List, ◌++◌, [], ◌∷◌, ◌<◌, MatchOption, None, pos, true};
+ghost use Rattle.cedar_tree.specs.Tree.{Forest, IsAscending, without};
+ghost use Rattle.cedar_tree.specs.Edits.{add_leaf, edit_at};
+ghost use Rattle.cedar_meaning.specs.Table.Cells.{Held};
+ghost use Rattle.cedar_meaning.specs.Edit.Asked.{SeeksBehind, SeeksPlace};
+ghost use Rattle.cedar_meaning.specs.Edit.NodeEdits.{AddsLabel, GoesBehind, GoesFirst, HasChain, IsAt, IsNodeOf, LeadsTo, Removes, SetsChild, SetsSibling};
+ghost use Rattle.cedar_meaning.specs.Meaning.Family.{base_of, below, InRange, Node};
+ghost use Rattle.cedar_meaning.specs.Meaning.StandsFor.{HoldsTree};
+ghost use Rattle.cedar_slots.specs.Places.{IsTable};
+ghost use Rattle.cedar_meaning.specs.Relocation.Reserved.{freed};
+ghost use Rattle.cedar_table.specs.Table.Views.{cells, fields};
+ghost use Rattle.cedar_meaning.specs.Table.TableFields.{SameFrame, size_of};
+ghost use Rattle.cedar_meaning.specs.Edit.Steps.{HasNode};
+ghost use Rattle.cedar_meaning.specs.Meaning.WellFormed.{TableHolds};
+
+use cedar_meaning::Layout;
+use cedar_slots::BLOCK_SIZE;
+use cedar_table::Table;
+use std::alloc::Allocator;
+
+/// The last slot of the chain from `start` on before `label` comes.
+fn last_before<L: Layout, const SLOTS: usize, A: Allocator>(
+    table: &Table<L, SLOTS, A>,
+    node: usize,
+    start: usize,
+    label: u8,
+) -> usize
+    requires { SeeksBehind (fields table.now) node start label }
+    ensures { GoesBehind (size_of (fields table.now)) (cells table.now) (fields table.now).ordered node label result }
+{
+    let mut before = start;
+    for _step in 0..BLOCK_SIZE {
+        let next = table.sibling(before);
+        if !table.ordered() || next == 0 || label < next {
+            return before;
+        }
+        before = table.child_slot(node, next);
+    }
+    unreachable!()
+}
+
+/// The slot that a new label goes behind, unless it begins the node's chain: the first slot of an ordered chain
+/// whose next label is greater, or else what stands before all labels.
+#[inline(always)]
+fn slot_before<L: Layout, const SLOTS: usize, A: Allocator>(
+    table: &Table<L, SLOTS, A>,
+    node: usize,
+    label: u8,
+) -> Option<usize>
+    requires { SeeksPlace (fields table.now) node label }
+    ensures { MatchOption result (GoesFirst (cells table.now) (fields table.now).ordered node label) (λ slot. GoesBehind (size_of (fields table.now)) (cells table.now) (fields table.now).ordered node label slot) }
+{
+    if node == 0 || table.has_number_slot(node) {
+        let lead = table.child_slot(node, 0);
+        return Some(last_before(table, node, lead, label));
+    }
+    let first = table.child(node);
+    if !table.ordered() || first == 0 || label < first {
+        return None;
+    }
+    let start = table.child_slot(node, first);
+    Some(last_before(table, node, start, label))
+}
+
+/// Takes the slot of `label` below `node`, and answers it. The new leaf stands at its ascending place if the table
+/// is ordered, and first if not, behind the slot of the node's number. The node has a base, unless it is the root,
+/// and its slot for the label is free.
+pub(crate) fn add_label<L: Layout, const SLOTS: usize, A: Allocator>(
+    table: &mut Table<L, SLOTS, A>,
+    node: usize,
+    label: u8,
+) -> usize
+    requires sound { IsTable SLOTS (fields table.old).places }
+    requires node_in { node < size_of (fields table.old) }
+    requires node { (f : Forest) × HasNode (fields table.old) f node }
+    requires positive { 0 < label }
+    requires based { (node ≡ 0 → ⊥) → InRange (size_of (fields table.old)) ((cells table.old).stored node) }
+    requires free { Held (cells table.old) (below (cells table.old) node label) → ⊥ }
+    ensures sound { IsTable SLOTS (fields table.new).places }
+    ensures slot { result ≡ below (cells table.new) node label }
+    ensures added { AddsLabel (size_of (fields table.old)) (fields table.old).ordered (cells table.old) (cells table.new) node label }
+    ensures tree { (f : Forest) (w : List ℕ) → TableHolds (fields table.old) f → ((fields table.old).ordered ≡ true → IsAscending f) → IsAt (cells table.old) w node
+        → TableHolds (fields table.new) (edit_at w (λ n. n) (add_leaf (fields table.old).ordered label) f) }
+    ensures leaf { (w : List ℕ) → IsAt (cells table.old) w node → IsAt (cells table.new) (w ++ label ∷ []) result }
+    ensures paths { (w : List ℕ) (s : ℕ) → IsAt (cells table.old) w s → IsAt (cells table.new) w s }
+    ensures root_check { (cells table.new).check 0 ≡ (cells table.old).check 0 }
+    ensures frame { SameFrame (fields table.old) (fields table.new) }
+{
+    let slot = table.slot_below(node, label);
+    let before = slot_before(table, node, label);
+    table.pop_e_node(slot, L::base_field(0), node);
+    table.link(before, node, slot, label);
+    slot
+}
+
+/// Takes the slot of `label` below `node`, which is reserved for it, and answers it. The new leaf stands where
+/// `add_label` puts one.
+pub(crate) fn add_reserved<L: Layout, const SLOTS: usize, A: Allocator>(
+    table: &mut Table<L, SLOTS, A>,
+    node: usize,
+    label: u8,
+) -> usize
+    requires sound { IsTable SLOTS (fields table.old).places }
+    requires node_in { node < size_of (fields table.old) }
+    requires not_root { node ≢ 0 }
+    requires node { (f : Forest) × IsNodeOf (size_of (fields table.old)) (freed (cells table.old) (below (cells table.old) node label)) (fields table.old).ordered f node }
+    requires positive { 0 < label }
+    requires based { InRange (size_of (fields table.old)) ((cells table.old).stored node) }
+    requires reserved { (cells table.old).check (below (cells table.old) node label) ≡ pos 0 }
+    ensures sound { IsTable SLOTS (fields table.new).places }
+    ensures slot { result ≡ below (cells table.new) node label }
+    ensures added { AddsLabel (size_of (fields table.old)) (fields table.old).ordered (freed (cells table.old) (below (cells table.old) node label)) (cells table.new) node label }
+    ensures tree { (f : Forest) (w : List ℕ) → HoldsTree (size_of (fields table.old)) (freed (cells table.old) (below (cells table.old) node label)) f → ((fields table.old).ordered ≡ true → IsAscending f) → IsAt (freed (cells table.old) (below (cells table.old) node label)) w node
+        → TableHolds (fields table.new) (edit_at w (λ n. n) (add_leaf (fields table.old).ordered label) f) }
+    ensures leaf { (w : List ℕ) → IsAt (freed (cells table.old) (below (cells table.old) node label)) w node → IsAt (cells table.new) (w ++ label ∷ []) result }
+    ensures root_check { (cells table.new).check 0 ≡ (cells table.old).check 0 }
+    ensures frame { SameFrame (fields table.old) (fields table.new) }
+{
+    let slot = table.child_slot(node, label);
+    let before = slot_before(table, node, label);
+    table.claim(slot, L::base_field(0), node);
+    table.link(before, node, slot, label);
+    slot
+}
+
+/// The slot whose chain goes on with `label`, unless the node's own slot leads to it.
+fn slot_to<L: Layout, const SLOTS: usize, A: Allocator>(
+    table: &Table<L, SLOTS, A>,
+    node: usize,
+    label: u8,
+) -> Option<usize>
+    requires node_in { node < size_of (fields table.now) }
+    requires based { base_of (cells table.now) node < size_of (fields table.now) }
+    requires chain { HasChain (size_of (fields table.now)) (cells table.now) (fields table.now).ordered node }
+    requires root { (c : ℕ) → (cells table.now).check 0 ≢ pos c }
+    requires positive { 0 < label }
+    requires owned { (cells table.now).check (below (cells table.now) node label) ≡ pos node }
+    ensures { MatchOption result ((cells table.now).child node ≡ label) (LeadsTo (size_of (fields table.now)) (cells table.now) node label) }
+{
+    let first = table.child(node);
+    if first == label {
+        return None;
+    }
+    let mut before = table.child_slot(node, first);
+    for _step in 0..BLOCK_SIZE {
+        let next = table.sibling(before);
+        if next == label {
+            return Some(before);
+        }
+        before = table.child_slot(node, next);
+    }
+    unreachable!()
+}
+
+/// Makes `next` follow the slot `before`, or else begin the chain of `node`.
+fn lead_to<L: Layout, const SLOTS: usize, A: Allocator>(
+    table: &mut Table<L, SLOTS, A>,
+    before: Option<usize>,
+    node: usize,
+    next: u8,
+)
+    requires sound { IsTable SLOTS (fields table.old).places }
+    requires before { MatchOption before (Unit {0}) (λ b. (b < size_of (fields table.old)) × Held (cells table.old) b) }
+    requires node_in { node < size_of (fields table.old) }
+    requires node_held { Held (cells table.old) node }
+    ensures sound { IsTable SLOTS (fields table.new).places }
+    ensures set { MatchOption before (SetsChild (cells table.old) (cells table.new) node next) (λ b. SetsSibling (cells table.old) (cells table.new) b next) }
+    ensures frame { SameFrame (fields table.old) (fields table.new) }
+{
+    match before {
+        Some(before) => table.set_sibling(before, next),
+        None => table.set_child(node, next),
+    }
+}
+
+/// Takes the leaf of `label`, which has no number, out of the chain of `node`, and gives its slot back.
+pub(crate) fn remove_label<L: Layout, const SLOTS: usize, A: Allocator>(
+    table: &mut Table<L, SLOTS, A>,
+    node: usize,
+    label: u8,
+)
+    requires sound { IsTable SLOTS (fields table.old).places }
+    requires node_in { node < size_of (fields table.old) }
+    requires node { (f : Forest) × HasNode (fields table.old) f node }
+    requires positive { 0 < label }
+    requires owned { (cells table.old).check (below (cells table.old) node label) ≡ pos node }
+    requires bare { Node (size_of (fields table.old)) (cells table.old) (below (cells table.old) node label) None [] }
+    ensures sound { IsTable SLOTS (fields table.new).places }
+    ensures removed { Removes (size_of (fields table.old)) (cells table.old) (cells table.new) node label }
+    ensures tree { (f : Forest) (w : List ℕ) → TableHolds (fields table.old) f → IsAt (cells table.old) w node
+        → TableHolds (fields table.new) (edit_at w (λ n. n) (λ u. without u label) f) }
+    ensures root_check { (cells table.new).check 0 ≡ (cells table.old).check 0 }
+    ensures frame { SameFrame (fields table.old) (fields table.new) }
+{
+    let slot = table.child_slot(node, label);
+    let next = table.sibling(slot);
+    let before = slot_to(table, node, label);
+    lead_to(table, before, node, next);
+    table.push_e_node(slot);
+}

@@ -1,0 +1,105 @@
+//! A node's number set, and taken away.
+
+ghost use Rattle.std.specs.Prelude.{◌≡◌, ◌⊎◌, ℕ, List, ◌<◌, None, pos, Some};
+ghost use Rattle.cedar_tree.specs.Tree.{Forest};
+ghost use Rattle.cedar_tree.specs.Edits.{edit_at};
+ghost use Rattle.cedar_meaning.specs.Table.Cells.{Held};
+ghost use Rattle.cedar_meaning.specs.Edit.NodeEdits.{DropsNumber, IsAt, IsNodeOf, SetsNumber};
+ghost use Rattle.cedar_meaning.specs.Meaning.Family.{below, InRange};
+ghost use Rattle.cedar_meaning.specs.Meaning.StandsFor.{HoldsTree};
+ghost use Rattle.cedar_slots.specs.Places.{IsTable};
+ghost use Rattle.cedar_meaning.specs.Relocation.Reserved.{freed};
+ghost use Rattle.cedar_table.specs.Table.Views.{cells, fields};
+ghost use Rattle.cedar_meaning.specs.Table.TableFields.{SameFrame, size_of};
+ghost use Rattle.cedar_meaning.specs.Edit.Steps.{HasNode};
+ghost use Rattle.cedar_meaning.specs.Meaning.WellFormed.{TableHolds};
+
+use cedar_meaning::Layout;
+use cedar_slots::NodeRecord;
+use cedar_table::Table;
+use std::alloc::Allocator;
+
+/// Sets the number of a node that has a base: over the one in its slot, or else in its slot for one, which is free.
+#[inline(always)]
+pub(crate) fn set_number<L: Layout, const SLOTS: usize, A: Allocator>(
+    table: &mut Table<L, SLOTS, A>,
+    node: usize,
+    value: i32,
+)
+    requires sound { IsTable SLOTS (fields table.old).places }
+    requires node_in { node < size_of (fields table.old) }
+    requires not_root { 0 < node }
+    requires node { (f : Forest) × HasNode (fields table.old) f node }
+    requires based { InRange (size_of (fields table.old)) ((cells table.old).stored node) }
+    requires place { ((cells table.old).check (below (cells table.old) node 0) ≡ pos node) ⊎ (Held (cells table.old) (below (cells table.old) node 0) → ⊥) }
+    ensures sound { IsTable SLOTS (fields table.new).places }
+    ensures set { SetsNumber (size_of (fields table.old)) (cells table.old) (cells table.new) node value }
+    ensures tree { (f : Forest) (w : List ℕ) → TableHolds (fields table.old) f → IsAt (cells table.old) w node
+        → TableHolds (fields table.new) (edit_at w (λ _. Some value) (λ u. u) f) }
+    ensures root_check { (cells table.new).check 0 ≡ (cells table.old).check 0 }
+    ensures frame { SameFrame (fields table.old) (fields table.new) }
+{
+    let slot = table.slot_below(node, 0);
+    if table.is_owned_by(slot, node) {
+        let record = NodeRecord {
+            base: value,
+            check: node as i32,
+        };
+        table.write_node(slot, record);
+        return;
+    }
+    table.pop_e_node(slot, value, node);
+    let first = table.child(node);
+    table.set_sibling(slot, first);
+    table.set_child(node, 0);
+}
+
+/// Sets the number of a node whose slot for one is reserved for it.
+pub(crate) fn set_reserved<L: Layout, const SLOTS: usize, A: Allocator>(
+    table: &mut Table<L, SLOTS, A>,
+    node: usize,
+    value: i32,
+)
+    requires sound { IsTable SLOTS (fields table.old).places }
+    requires node_in { node < size_of (fields table.old) }
+    requires not_root { 0 < node }
+    requires node { (f : Forest) × IsNodeOf (size_of (fields table.old)) (freed (cells table.old) (below (cells table.old) node 0)) (fields table.old).ordered f node }
+    requires based { InRange (size_of (fields table.old)) ((cells table.old).stored node) }
+    requires reserved { (cells table.old).check (below (cells table.old) node 0) ≡ pos 0 }
+    ensures sound { IsTable SLOTS (fields table.new).places }
+    ensures set { SetsNumber (size_of (fields table.old)) (freed (cells table.old) (below (cells table.old) node 0)) (cells table.new) node value }
+    ensures tree { (f : Forest) (w : List ℕ) → HoldsTree (size_of (fields table.old)) (freed (cells table.old) (below (cells table.old) node 0)) f → IsAt (freed (cells table.old) (below (cells table.old) node 0)) w node
+        → TableHolds (fields table.new) (edit_at w (λ _. Some value) (λ u. u) f) }
+    ensures root_check { (cells table.new).check 0 ≡ (cells table.old).check 0 }
+    ensures frame { SameFrame (fields table.old) (fields table.new) }
+{
+    let slot = table.child_slot(node, 0);
+    table.claim(slot, value, node);
+    let next = table.child(node);
+    table.set_sibling(slot, next);
+    table.set_child(node, 0);
+}
+
+/// Drops the number of a node that has a slot for it, and gives the slot back.
+pub(crate) fn drop_number<L: Layout, const SLOTS: usize, A: Allocator>(
+    table: &mut Table<L, SLOTS, A>,
+    node: usize,
+)
+    requires sound { IsTable SLOTS (fields table.old).places }
+    requires node_in { node < size_of (fields table.old) }
+    requires not_root { 0 < node }
+    requires node { (f : Forest) × HasNode (fields table.old) f node }
+    requires based { InRange (size_of (fields table.old)) ((cells table.old).stored node) }
+    requires owned { (cells table.old).check (below (cells table.old) node 0) ≡ pos node }
+    ensures sound { IsTable SLOTS (fields table.new).places }
+    ensures dropped { DropsNumber (size_of (fields table.old)) (cells table.old) (cells table.new) node }
+    ensures tree { (f : Forest) (w : List ℕ) → TableHolds (fields table.old) f → IsAt (cells table.old) w node
+        → TableHolds (fields table.new) (edit_at w (λ _. None) (λ u. u) f) }
+    ensures root_check { (cells table.new).check 0 ≡ (cells table.old).check 0 }
+    ensures frame { SameFrame (fields table.old) (fields table.new) }
+{
+    let slot = table.child_slot(node, 0);
+    let first = table.sibling(slot);
+    table.set_child(node, first);
+    table.push_e_node(slot);
+}

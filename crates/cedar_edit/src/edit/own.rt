@@ -1,0 +1,98 @@
+//! Numbers in the base fields of their own nodes: in a layout that keeps them there, that of each node which owns no slot.
+
+ghost use Rattle.std.specs.Prelude.{◌≡◌, ◌≢◌, ℕ, List, ◌<◌, ◌↔◌, IfErr, is_some, IsTrue, None, OnErr, OnOk, pos};
+ghost use Rattle.cedar_tree.specs.Tree.{Forest};
+ghost use Rattle.cedar_tree.specs.Edits.{edit_at};
+ghost use Rattle.cedar_tree.specs.Queries.{node_at};
+ghost use Rattle.cedar_meaning.specs.declared.layout.Stored.TheVariants.{AtBase, OwnNumber};
+ghost use Rattle.cedar_meaning.specs.Edit.NodeEdits.{IsAt};
+ghost use Rattle.cedar_meaning.specs.Meaning.Family.{base_of, below};
+ghost use Rattle.cedar_meaning.specs.Table.Layouts.{reduced_layout};
+ghost use Rattle.cedar_meaning.specs.Meaning.Marks.{KeepsOtherMarks};
+ghost use Rattle.cedar_meaning.specs.Edit.Own.{FieldSet};
+ghost use Rattle.cedar_slots.specs.Places.{IsTable, MayRefuse, SameSlots};
+ghost use Rattle.cedar_meaning.specs.Relocation.Renaming.{OwnsNothing};
+ghost use Rattle.cedar_meaning.specs.Edit.Steps.{HasNode, MayAddBlock, root_of};
+ghost use Rattle.cedar_table.specs.Table.Views.{cells, fields};
+ghost use Rattle.cedar_meaning.specs.Table.TableFields.{SameFrame, size_of};
+ghost use Rattle.cedar_meaning.specs.Meaning.WellFormed.{TableHolds};
+
+use crate::edit::number::set_number;
+use cedar_meaning::{Layout, Stored};
+use cedar_slots::CedarError;
+use cedar_table::Table;
+use std::alloc::Allocator;
+
+/// Whether a node below the root owns no slot and keeps its number, if it gets one, in its own base field.
+pub(crate) fn keeps_own<L: Layout, const SLOTS: usize, A: Allocator>(
+    table: &Table<L, SLOTS, A>,
+    node: usize,
+) -> bool
+    requires { node < size_of (fields table.now) }
+    ensures { IsTrue result ↔ (((fields table.now).layout ≡ reduced_layout) × (base_of (cells table.now) node ≡ 0)) }
+{
+    L::keeps_numbers() && table.base_of(node) == 0
+}
+
+/// Whether a node has a number, in its own base field or in a slot.
+pub(crate) fn has_number<L: Layout, const SLOTS: usize, A: Allocator>(
+    table: &Table<L, SLOTS, A>,
+    node: usize,
+) -> bool
+    requires sound { IsTable SLOTS (fields table.now).places }
+    requires node_in { node < size_of (fields table.now) }
+    requires node { (f : Forest) × HasNode (fields table.now) f node }
+    ensures { (f : Forest) (w : List ℕ) → TableHolds (fields table.now) f → IsAt (cells table.now) w node → result ≡ is_some (node_at (root_of f) w).number }
+{
+    match table.stored(node) {
+        Stored::AtBase(base) => table.is_owned_by(base, node),
+        Stored::OwnNumber(_) => true,
+        Stored::Nothing => false,
+    }
+}
+
+/// Drops the number that a node keeps in its own base field. The node has no base then.
+pub(crate) fn drop_own_number<L: Layout, const SLOTS: usize, A: Allocator>(
+    table: &mut Table<L, SLOTS, A>,
+    node: usize,
+)
+    requires sound { IsTable SLOTS (fields table.old).places }
+    requires node_in { node < size_of (fields table.old) }
+    requires not_root { node ≢ 0 }
+    requires node { (f : Forest) × HasNode (fields table.old) f node }
+    requires alone { OwnsNothing (cells table.old) node }
+    ensures sound { IsTable SLOTS (fields table.new).places }
+    ensures set { FieldSet (cells table.old) (cells table.new) node (AtBase 0) }
+    ensures tree { (f : Forest) (w : List ℕ) → TableHolds (fields table.old) f → IsAt (cells table.old) w node
+        → TableHolds (fields table.new) (edit_at w (λ _. None) (λ u. u) f) }
+    ensures frame { SameFrame (fields table.old) (fields table.new) }
+{
+    table.set_base(node, 0);
+}
+
+/// Moves a number from its node's own base field into a slot, so that labels can be added below the node. Where memory
+/// or slots are refused, all slots are as before.
+pub(crate) fn move_number<L: Layout, const SLOTS: usize, A: Allocator>(
+    table: &mut Table<L, SLOTS, A>,
+    node: usize,
+    value: i32,
+) -> Result<(), CedarError>
+    requires sound { IsTable SLOTS (fields table.old).places }
+    requires node_in { node < size_of (fields table.old) }
+    requires not_root { node ≢ 0 }
+    requires node { (f : Forest) × HasNode (fields table.old) f node }
+    requires own { (cells table.old).stored node ≡ OwnNumber value }
+    ensures sound { IsTable SLOTS (fields table.new).places }
+    ensures tree { (f : Forest) → TableHolds (fields table.old) f → TableHolds (fields table.new) f }
+    ensures at { (w : List ℕ) (s : ℕ) → IsAt (cells table.old) w s → IsAt (cells table.new) w s }
+    ensures others { OnOk result (KeepsOtherMarks (cells table.old) (cells table.new) node) }
+    ensures moved { OnOk result ((cells table.new).check (below (cells table.new) node 0) ≡ pos node) }
+    ensures refused { IfErr result (λ error. MayRefuse (fields table.new).places SLOTS error) }
+    ensures unchanged { OnErr result (SameSlots (fields table.old).places (fields table.new).places) }
+    ensures growth { MayAddBlock (fields table.old) (fields table.new) }
+{
+    let slot = table.find_place()?;
+    table.set_base(node, slot);
+    set_number(table, node, value);
+    Ok(())
+}

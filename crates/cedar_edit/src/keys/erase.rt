@@ -1,0 +1,157 @@
+//! A key taken away, and nodes that are left with neither number nor child.
+
+ghost use Rattle.std.specs.Prelude.{◌≡◌, ℕ, List, ◌<◌, ◌↔◌, is_some, IsTrue, None, true};
+ghost use Rattle.cedar_tree.specs.Tree.{Forest, cut, is_bare, number_at};
+ghost use Rattle.cedar_tree.specs.Edits.{edit_at};
+ghost use Rattle.cedar_tree.specs.Queries.{node_at};
+ghost use Rattle.cedar_meaning.specs.Edit.NodeEdits.{IsAt};
+ghost use Rattle.cedar_meaning.specs.Meaning.Marks.{KeepsMarks, KeepsOtherMarks, marks, MarksCut};
+ghost use Rattle.cedar_slots.specs.Places.{IsTable};
+ghost use Rattle.cedar_meaning.specs.Edit.Steps.{HasNode, root_of, SameModes, trimmed};
+ghost use Rattle.cedar_table.specs.Table.Views.{cells, fields};
+ghost use Rattle.cedar_meaning.specs.Table.TableFields.{capacity_of, SameFrame, size_of};
+ghost use Rattle.cedar_meaning.specs.Edit.Trims.{LosesLeaf, TellsBare};
+ghost use Rattle.cedar_meaning.specs.Meaning.WellFormed.{IsWellFormed, TableHolds, tree_of};
+
+use crate::edit::leaf::remove_label;
+use crate::edit::number::drop_number;
+use crate::edit::own::{drop_own_number, has_number};
+use cedar_meaning::{Layout, Stored};
+use cedar_table::Table;
+use std::alloc::Allocator;
+
+/// Whether a node has neither number nor child and isn't the root.
+fn is_bare<L: Layout, const SLOTS: usize, A: Allocator>(
+    table: &Table<L, SLOTS, A>,
+    node: usize,
+) -> bool
+    requires node_in { node < size_of (fields table.now) }
+    requires sound { IsTable SLOTS (fields table.now).places }
+    requires node { (f : Forest) × HasNode (fields table.now) f node }
+    ensures { TellsBare (size_of (fields table.now)) (cells table.now) node result }
+{
+    if node == 0 {
+        return false;
+    }
+    match table.stored(node) {
+        Stored::AtBase(base) => !table.is_owned_by(base, node) && table.child(node) == 0,
+        Stored::OwnNumber(_) => false,
+        Stored::Nothing => false,
+    }
+}
+
+/// Whether a node's chain has one label, that of `slot`, and no number's slot before it.
+fn has_one_label<L: Layout, const SLOTS: usize, A: Allocator>(
+    table: &Table<L, SLOTS, A>,
+    node: usize,
+    slot: usize,
+    label: u8,
+) -> bool
+    requires node_in { node < size_of (fields table.now) }
+    requires slot_in { slot < size_of (fields table.now) }
+    ensures { IsTrue result ↔ (((cells table.now).child node ≡ label) × ((cells table.now).sibling slot ≡ 0)) }
+{
+    table.child(node) == label && table.sibling(slot) == 0
+}
+
+/// Takes away a node below the root that has neither number nor child. Answers the node above it, and whether that has
+/// neither now and isn't the root: its labels say so before, so that the slot of its number needn't be read.
+fn remove_bare<L: Layout, const SLOTS: usize, A: Allocator>(
+    table: &mut Table<L, SLOTS, A>,
+    node: usize,
+) -> (usize, bool)
+    requires sound { IsTable SLOTS (fields table.old).places }
+    requires node_in { node < size_of (fields table.old) }
+    requires not_root { 0 < node }
+    requires node { (f : Forest) × (n : HasNode (fields table.old) f node) × (is_bare (node_at (root_of f) n.path) ≡ true) }
+    ensures sound { IsTable SLOTS (fields table.new).places }
+    ensures inside { result.0 < size_of (fields table.old) }
+    ensures bare { TellsBare (size_of (fields table.new)) (cells table.new) result.0 result.1 }
+    ensures tree { (f : Forest) (w : List ℕ) → TableHolds (fields table.old) f → IsAt (cells table.old) w node → LosesLeaf (size_of (fields table.new)) (cells table.new) f w result.0 }
+    ensures marks { KeepsMarks (cells table.old) (cells table.new) }
+    ensures root_check { (cells table.new).check 0 ≡ (cells table.old).check 0 }
+    ensures frame { SameFrame (fields table.old) (fields table.new) }
+{
+    let owner = table.owner(node);
+    // The step from a base to a slot turns a slot into its label too.
+    let label = (table.base_of(owner) ^ node) as u8;
+    let is_last = has_one_label(table, owner, node, label);
+    remove_label(table, owner, label);
+    (owner, is_last)
+}
+
+/// Takes away a node that has neither number nor child, and then each node above it that is left so. The root stays,
+/// and any other node with a number or a child.
+pub(crate) fn trim<L: Layout, const SLOTS: usize, A: Allocator>(
+    table: &mut Table<L, SLOTS, A>,
+    node: usize,
+)
+    requires sound { IsTable SLOTS (fields table.old).places }
+    requires node_in { node < size_of (fields table.old) }
+    requires node { (f : Forest) × HasNode (fields table.old) f node }
+    ensures sound { IsTable SLOTS (fields table.new).places }
+    ensures tree { (f : Forest) (w : List ℕ) → TableHolds (fields table.old) f → IsAt (cells table.old) w node
+        → TableHolds (fields table.new) (trimmed (root_of f) w).children }
+    ensures marks { KeepsMarks (cells table.old) (cells table.new) }
+    ensures root_check { (cells table.new).check 0 ≡ (cells table.old).check 0 }
+    ensures frame { SameFrame (fields table.old) (fields table.new) }
+{
+    let mut node = node;
+    let mut bare = is_bare(table, node);
+    while bare {
+        let (owner, is_left_bare) = remove_bare(table, node);
+        node = owner;
+        bare = is_left_bare;
+    }
+}
+
+/// Drops the number of a node, wherever it stands.
+fn drop_any_number<L: Layout, const SLOTS: usize, A: Allocator>(
+    table: &mut Table<L, SLOTS, A>,
+    node: usize,
+)
+    requires sound { IsTable SLOTS (fields table.old).places }
+    requires node_in { node < size_of (fields table.old) }
+    requires not_root { 0 < node }
+    requires node { (f : Forest) × (n : HasNode (fields table.old) f node) × (is_some (node_at (root_of f) n.path).number ≡ true) }
+    ensures sound { IsTable SLOTS (fields table.new).places }
+    ensures tree { (f : Forest) (w : List ℕ) → TableHolds (fields table.old) f → IsAt (cells table.old) w node
+        → TableHolds (fields table.new) (edit_at w (λ _. None) (λ u. u) f) }
+    ensures at { (w : List ℕ) → IsAt (cells table.old) w node → IsAt (cells table.new) w node }
+    ensures others { KeepsOtherMarks (cells table.old) (cells table.new) node }
+    ensures root_check { (cells table.new).check 0 ≡ (cells table.old).check 0 }
+    ensures frame { SameFrame (fields table.old) (fields table.new) }
+{
+    match table.stored(node) {
+        Stored::AtBase(_) => drop_number(table, node),
+        _ => drop_own_number(table, node),
+    }
+}
+
+/// Takes a key's number away, and then each node that is left with neither number nor child. Answers whether the key
+/// was held. It takes no memory.
+pub fn erase<L: Layout, const SLOTS: usize, A: Allocator>(
+    table: &mut Table<L, SLOTS, A>,
+    key: &[u8],
+) -> bool
+    requires well_formed { IsWellFormed SLOTS (fields table.old) }
+    ensures well_formed { IsWellFormed SLOTS (fields table.new) }
+    ensures tree { tree_of (fields table.new) ≡ cut (tree_of (fields table.old)) key.now }
+    ensures marks { (s : ℕ) → IsAt (cells table.old) key.now s → KeepsOtherMarks (cells table.old) (cells table.new) s }
+    ensures marks_cut { MarksCut (marks (fields table.old)) (marks (fields table.new)) key.now }
+    ensures held { result ≡ is_some (number_at (tree_of (fields table.old)) key.now) }
+    ensures size { size_of (fields table.new) ≡ size_of (fields table.old) }
+    ensures capacity { capacity_of (fields table.new) ≡ capacity_of (fields table.old) }
+    ensures modes { SameModes (fields table.old) (fields table.new) }
+{
+    let Some(node) = table.node_of(key) else {
+        return false;
+    };
+    if !has_number(table, node) {
+        return false;
+    }
+    drop_any_number(table, node);
+    trim(table, node);
+    table.set_entries(table.entries() - 1);
+    true
+}

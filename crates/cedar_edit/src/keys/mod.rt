@@ -1,0 +1,6 @@
+//! Keys put and taken away.
+
+pub(crate) mod erase;
+pub(crate) mod put;
+mod step;
+mod way;

@@ -1,0 +1,144 @@
+//! A key's number put.
+
+ghost use Rattle.std.specs.Prelude.{◌≡◌, ◌⊎◌, ℕ, ◌+◌, ◌<◌, ◌≤◌, IfErr, IfOk, drop, is_some, length, take, OnErr, OnOk, true, false, [], ◌∷◌};
+ghost use Rattle.cedar_tree.specs.Tree.{IsKey, has_label, number_at, put};
+ghost use Rattle.cedar_meaning.specs.Table.Cells.{NoPlace};
+ghost use Rattle.cedar_meaning.specs.Edit.KeyWalk.{TakenBack, Walked};
+ghost use Rattle.cedar_meaning.specs.Table.Layouts.{default_layout, reduced_layout};
+ghost use Rattle.cedar_meaning.specs.Meaning.Marks.{KeepsMarks, marks, MarksPut, NewMark, PutsMarks};
+ghost use Rattle.cedar_meaning.specs.Edit.Own.{HasWay, LacksNode};
+ghost use Rattle.cedar_slots.specs.Places.{MayRefuse};
+ghost use Rattle.cedar_meaning.specs.Edit.Steps.{MakesBlocks, SameModes};
+ghost use Rattle.cedar_table.specs.Table.Views.{cells, fields};
+ghost use Rattle.cedar_meaning.specs.Table.TableFields.{size_of};
+ghost use Rattle.cedar_meaning.specs.Meaning.WellFormed.{IsWellFormed, is_value, tree_of};
+
+use crate::keys::erase::trim;
+use crate::keys::step::{follow_or_add, put_number};
+use crate::keys::way::{close_way, make_way};
+use cedar_meaning::Layout;
+use cedar_slots::CedarError;
+use cedar_table::Table;
+use std::alloc::Allocator;
+
+/// The slot of the last node that a key leads to, and how many of its labels lead there.
+fn known_front<L: Layout, const SLOTS: usize, A: Allocator>(
+    table: &Table<L, SLOTS, A>,
+    key: &[u8],
+) -> (usize, usize)
+    requires well_formed { IsWellFormed SLOTS (fields table.now) }
+    requires key { IsKey key.now }
+    requires way { HasWay (cells table.now) 0 key.now }
+    ensures within { result.1 ≤ length key.now }
+    ensures walked { Walked SLOTS (fields table.now) (fields table.now) key.now (take result.1 key.now) (drop result.1 key.now) result.0 }
+{
+    let mut node = 0;
+    for length in 0..key.len() {
+        let slot = table.slot_below(node, key[length]);
+        if !table.is_owned_by(slot, node) {
+            return (node, length);
+        }
+        node = slot;
+    }
+    (node, key.len())
+}
+
+/// Goes along a key from the root, adds the nodes that it lacks as bare leaves, and answers the slot of its node. Where
+/// memory or slots are refused, the leaves are taken back.
+fn walk_in<L: Layout, const SLOTS: usize, A: Allocator>(
+    table: &mut Table<L, SLOTS, A>,
+    key: &[u8],
+) -> Result<usize, CedarError>
+    requires well_formed { IsWellFormed SLOTS (fields table.old) }
+    requires key { IsKey key.now }
+    requires way { HasWay (cells table.old) 0 key.now }
+    ensures walked { IfOk result (Walked SLOTS (fields table.old) (fields table.new) key.now key.now []) }
+    ensures refused { IfErr result (TakenBack SLOTS (fields table.old) (fields table.new) key.now) }
+{
+    let (front, length) = known_front(table, key);
+    let mut node = front;
+    for index in length..key.len() {
+        match follow_or_add(table, node, key[index]) {
+            Ok(child) => node = child,
+            Err(error) => {
+                trim(table, node);
+                return Err(error);
+            }
+        }
+    }
+    Ok(node)
+}
+
+/// Puts the number `value` at a key below none of whose fronts a number stands in its node's own base field, and answers the
+/// number there before. Where memory or slots are refused, the tree is as before.
+fn put_along<L: Layout, const SLOTS: usize, A: Allocator>(
+    table: &mut Table<L, SLOTS, A>,
+    key: &[u8],
+    value: i32,
+) -> Result<Option<i32>, CedarError>
+    requires well_formed { IsWellFormed SLOTS (fields table.old) }
+    requires key { IsKey key.now }
+    requires value { is_value value ≡ true }
+    requires way { HasWay (cells table.old) 0 key.now }
+    ensures well_formed { IsWellFormed SLOTS (fields table.new) }
+    ensures put { OnOk result (tree_of (fields table.new) ≡ put (tree_of (fields table.old)) (fields table.old).ordered key.now value) }
+    ensures held { IfOk result (λ held. held ≡ number_at (tree_of (fields table.old)) key.now) }
+    ensures taken_back { OnErr result (tree_of (fields table.new) ≡ tree_of (fields table.old)) }
+    ensures refused { IfErr result (λ error. MayRefuse (fields table.new).places SLOTS error) }
+    ensures blocks { (n : ℕ) × (n ≤ length key.now) × OnErr result (n < length key.now) × MakesBlocks n (fields table.old) (fields table.new) }
+    ensures over { is_some (number_at (tree_of (fields table.old)) key.now) ≡ true → OnErr result ⊥ × MakesBlocks 0 (fields table.old) (fields table.new) }
+    ensures one_byte { (b : ℕ) → key.now ≡ b ∷ [] → has_label (tree_of (fields table.old)).children b ≡ false
+        → (OnErr result ⊥ × MakesBlocks 0 (fields table.old) (fields table.new)) ⊎ ((fields table.old).layout ≡ default_layout) × NoPlace (size_of (fields table.old)) (cells table.old) }
+    ensures marks { KeepsMarks (cells table.old) (cells table.new) }
+    ensures new_mark { OnOk result (NewMark (fields table.old) (fields table.new) key.now) }
+    ensures lacking { (fields table.old).layout ≡ reduced_layout → LacksNode (cells table.old) key.now → (n : ℕ) × (n < length key.now) × OnErr result (n + 1 < length key.now) × MakesBlocks n (fields table.old) (fields table.new) }
+    ensures modes { SameModes (fields table.old) (fields table.new) }
+{
+    let end = walk_in(table, key)?;
+    let held = table.number_of(end);
+    let is_new = held.is_none();
+    if let Err(error) = put_number(table, end, value) {
+        trim(table, end);
+        return Err(error);
+    }
+    if is_new {
+        table.set_entries(table.entries() + 1);
+    }
+    Ok(held)
+}
+
+/// Puts the number `value` at a key, and answers the number there before, if the key was held. Where memory or slots are
+/// refused, the tree is as before, though blocks may have come. An update of a key of n bytes makes n blocks at most, and tries no further one; over a number none is made; and a
+/// new first byte alone makes one only where no slot outside block 0 is free.
+pub fn update<L: Layout, const SLOTS: usize, A: Allocator>(
+    table: &mut Table<L, SLOTS, A>,
+    key: &[u8],
+    value: i32,
+) -> Result<Option<i32>, CedarError>
+    requires well_formed { IsWellFormed SLOTS (fields table.old) }
+    requires key { IsKey key.now }
+    requires value { is_value value ≡ true }
+    ensures well_formed { IsWellFormed SLOTS (fields table.new) }
+    ensures put { OnOk result (tree_of (fields table.new) ≡ put (tree_of (fields table.old)) (fields table.old).ordered key.now value) }
+    ensures held { IfOk result (λ held. held ≡ number_at (tree_of (fields table.old)) key.now) }
+    ensures taken_back { OnErr result (tree_of (fields table.new) ≡ tree_of (fields table.old)) }
+    ensures refused { IfErr result (λ error. MayRefuse (fields table.new).places SLOTS error) }
+    ensures blocks { (n : ℕ) × (n ≤ length key.now) × OnErr result (n < length key.now) × MakesBlocks n (fields table.old) (fields table.new) }
+    ensures over { is_some (number_at (tree_of (fields table.old)) key.now) ≡ true → OnErr result ⊥ × MakesBlocks 0 (fields table.old) (fields table.new) }
+    ensures one_byte { (b : ℕ) → key.now ≡ b ∷ [] → has_label (tree_of (fields table.old)).children b ≡ false
+        → (OnErr result ⊥ × MakesBlocks 0 (fields table.old) (fields table.new)) ⊎ ((fields table.old).layout ≡ default_layout) × NoPlace (size_of (fields table.old)) (cells table.old) }
+    ensures marks { OnErr result (KeepsMarks (cells table.old) (cells table.new)) }
+    ensures marks_stay { OnErr result (marks (fields table.new) ≡ marks (fields table.old)) }
+    ensures new_marks { OnOk result (PutsMarks (fields table.old) (fields table.new) key.now) }
+    ensures marks_put { OnOk result ((fields table.old).layout ≡ reduced_layout → MarksPut (tree_of (fields table.old)) (marks (fields table.old)) (marks (fields table.new)) key.now) }
+    ensures modes { SameModes (fields table.old) (fields table.new) }
+{
+    let moved = make_way(table, key)?;
+    match put_along(table, key, value) {
+        Ok(held) => Ok(held),
+        Err(error) => {
+            close_way(table, key, moved);
+            Err(error)
+        }
+    }
+}

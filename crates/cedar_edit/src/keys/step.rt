@@ -1,0 +1,232 @@
+//! One step of an update: to the child under a label, which is added where there is none, or to the number.
+
+ghost use Rattle.std.specs.Prelude.{◌≡◌, ◌≢◌, ◌⊎◌, ℕ, ℤ, List, ◌<◌, false, IfErr, IfOk, IsTrue, OnErr, OnOk, pos, Some, true};
+ghost use Rattle.cedar_tree.specs.Tree.{Forest};
+ghost use Rattle.cedar_tree.specs.Edits.{edit_at};
+ghost use Rattle.cedar_meaning.specs.declared.layout.Stored.TheVariants.{AtBase, OwnNumber};
+ghost use Rattle.cedar_meaning.specs.Table.Cells.{Held, NoPlace};
+ghost use Rattle.cedar_meaning.specs.Edit.NodeEdits.{IsAt};
+ghost use Rattle.cedar_meaning.specs.Relocation.Asked.{WantsRoom, WantsSlot};
+ghost use Rattle.cedar_meaning.specs.Meaning.Family.{base_of, below};
+ghost use Rattle.cedar_meaning.specs.Table.Layouts.{default_layout, reduced_layout};
+ghost use Rattle.cedar_meaning.specs.Meaning.Marks.{PutsMark};
+ghost use Rattle.cedar_slots.specs.Places.{IsTable, MayRefuse, SameSlots};
+ghost use Rattle.cedar_meaning.specs.Edit.Steps.{HasNode, MakesBlocks, MayAddBlock, Placed, StepsTo};
+ghost use Rattle.cedar_table.specs.Table.Views.{cells, fields};
+ghost use Rattle.cedar_meaning.specs.Table.TableFields.{size_of};
+ghost use Rattle.cedar_meaning.specs.Meaning.WellFormed.{is_value, TableHolds};
+
+use crate::edit::leaf::{add_label, add_reserved};
+use crate::edit::number::{set_number, set_reserved};
+use crate::edit::own::keeps_own;
+use crate::relocation::resolve::resolve;
+use cedar_meaning::Layout;
+use cedar_slots::CedarError;
+use cedar_table::Table;
+use std::alloc::Allocator;
+
+/// Gives a leaf that has no base yet the first one: where the first free slot is that of `label`. A block is made only
+/// where no slot outside block 0 is free.
+fn first_base<L: Layout, const SLOTS: usize, A: Allocator>(
+    table: &mut Table<L, SLOTS, A>,
+    node: usize,
+    label: u8,
+) -> Result<(), CedarError>
+    requires sound { IsTable SLOTS (fields table.old).places }
+    requires node_in { node < size_of (fields table.old) }
+    requires not_root { node ≢ 0 }
+    requires node { (f : Forest) × HasNode (fields table.old) f node }
+    requires leaf { (cells table.old).stored node ≡ AtBase 0 }
+    ensures sound { IsTable SLOTS (fields table.new).places }
+    ensures placed { OnOk result (Placed (fields table.old) (fields table.new) node label node) }
+    ensures tree { (f : Forest) → TableHolds (fields table.old) f → TableHolds (fields table.new) f }
+    ensures refused { IfErr result (λ error. MayRefuse (fields table.new).places SLOTS error) }
+    ensures unchanged { OnErr result (SameSlots (fields table.old).places (fields table.new).places) }
+    ensures growth { MayAddBlock (fields table.old) (fields table.new) }
+    ensures made { (OnErr result ⊥ × MakesBlocks 0 (fields table.old) (fields table.new)) ⊎ NoPlace (size_of (fields table.old)) (cells table.old) }
+{
+    let slot = table.find_place()?;
+    table.set_base(node, slot ^ usize::from(label));
+    Ok(())
+}
+
+/// Whether a slot that the base of a node below the root has for a label is held. A leaf may have no base yet.
+fn is_taken<L: Layout, const SLOTS: usize, A: Allocator>(
+    table: &Table<L, SLOTS, A>,
+    node: usize,
+    slot: usize,
+) -> bool
+    requires node_in { node < size_of (fields table.now) }
+    requires slot_in { slot < size_of (fields table.now) }
+    requires apart { base_of (cells table.now) node ≢ 0 → slot ≢ 0 }
+    ensures taken { IsTrue result → (base_of (cells table.now) node ≢ 0) × ((Held (cells table.now) slot → ⊥) → ⊥) }
+    ensures open { (IsTrue result → ⊥) → base_of (cells table.now) node ≢ 0 → Held (cells table.now) slot → ⊥ }
+{
+    if table.base_of(node) == 0 {
+        return false;
+    }
+    !table.is_free_slot(slot)
+}
+
+/// Gives a node below the root a base, if it has none yet, so that its slot for a label which it doesn't own yet is
+/// free. That slot isn't held where it has a base. A block is made only for a first
+/// base.
+fn room_for<L: Layout, const SLOTS: usize, A: Allocator>(
+    table: &mut Table<L, SLOTS, A>,
+    node: usize,
+    label: u8,
+) -> Result<(), CedarError>
+    requires { WantsRoom SLOTS (fields table.old) node label }
+    ensures sound { IsTable SLOTS (fields table.new).places }
+    ensures placed { OnOk result (Placed (fields table.old) (fields table.new) node label node) }
+    ensures tree { (f : Forest) → TableHolds (fields table.old) f → TableHolds (fields table.new) f }
+    ensures refused { IfErr result (λ error. MayRefuse (fields table.new).places SLOTS error) }
+    ensures unchanged { OnErr result (SameSlots (fields table.old).places (fields table.new).places) }
+    ensures growth { MayAddBlock (fields table.old) (fields table.new) }
+    ensures leaf { node ≢ 0 → (cells table.old).stored node ≡ AtBase 0 → (OnErr result ⊥ × MakesBlocks 0 (fields table.old) (fields table.new)) ⊎ NoPlace (size_of (fields table.old)) (cells table.old) }
+    ensures at_root { node ≡ 0 → OnErr result ⊥ × MakesBlocks 0 (fields table.old) (fields table.new) }
+    ensures root_same { node ≡ 0 → fields table.new ≡ fields table.old }
+{
+    let base = table.base_of(node);
+    if base == 0 && node != 0 {
+        return first_base(table, node, label);
+    }
+    Ok(())
+}
+
+/// Adds a child under a label whose slot another node owns, and answers the child's slot.
+fn add_over<L: Layout, const SLOTS: usize, A: Allocator>(
+    table: &mut Table<L, SLOTS, A>,
+    node: usize,
+    label: u8,
+) -> Result<usize, CedarError>
+    requires wants { WantsSlot SLOTS (fields table.old) node label }
+    requires positive { 0 < label }
+    ensures sound { IsTable SLOTS (fields table.new).places }
+    ensures stepped { IfOk result (StepsTo (fields table.old) (fields table.new) node label) }
+    ensures refused { IfErr result (λ error. MayRefuse (fields table.new).places SLOTS error) }
+    ensures unchanged { OnErr result (SameSlots (fields table.old).places (fields table.new).places) }
+    ensures growth { MayAddBlock (fields table.old) (fields table.new) }
+{
+    let node = resolve(table, node, label)?;
+    Ok(add_reserved(table, node, label))
+}
+
+/// Sets the number of a node where another node owns the slot for it.
+fn put_over<L: Layout, const SLOTS: usize, A: Allocator>(
+    table: &mut Table<L, SLOTS, A>,
+    node: usize,
+    value: i32,
+) -> Result<(), CedarError>
+    requires { WantsSlot SLOTS (fields table.old) node 0 }
+    ensures sound { IsTable SLOTS (fields table.new).places }
+    ensures set { OnOk result ((f : Forest) (w : List ℕ) → TableHolds (fields table.old) f → IsAt (cells table.old) w node
+        → TableHolds (fields table.new) (edit_at w (λ _. Some value) (λ u. u) f)) }
+    ensures marks { OnOk result (PutsMark (cells table.old) (cells table.new) node true) }
+    ensures refused { IfErr result (λ error. MayRefuse (fields table.new).places SLOTS error) }
+    ensures unchanged { OnErr result (SameSlots (fields table.old).places (fields table.new).places) }
+    ensures growth { MayAddBlock (fields table.old) (fields table.new) }
+{
+    let node = resolve(table, node, 0)?;
+    set_reserved(table, node, value);
+    Ok(())
+}
+
+/// Goes from a node to its child under a label, and answers the child's slot. Where there is no such child, it is added
+/// as a leaf without number: at its ascending place if the table is ordered, and first if not. Where memory or
+/// slots are refused, all slots are as before.
+pub(crate) fn follow_or_add<L: Layout, const SLOTS: usize, A: Allocator>(
+    table: &mut Table<L, SLOTS, A>,
+    node: usize,
+    label: u8,
+) -> Result<usize, CedarError>
+    requires sound { IsTable SLOTS (fields table.old).places }
+    requires node_in { node < size_of (fields table.old) }
+    requires node { (f : Forest) × HasNode (fields table.old) f node }
+    requires positive { 0 < label }
+    requires no_own_number { (v : ℤ) → (cells table.old).stored node ≢ OwnNumber v }
+    ensures sound { IsTable SLOTS (fields table.new).places }
+    ensures stepped { IfOk result (StepsTo (fields table.old) (fields table.new) node label) }
+    ensures refused { IfErr result (λ error. MayRefuse (fields table.new).places SLOTS error) }
+    ensures unchanged { OnErr result (SameSlots (fields table.old).places (fields table.new).places) }
+    ensures growth { MayAddBlock (fields table.old) (fields table.new) }
+    ensures owned { (cells table.old).check (below (cells table.old) node label) ≡ pos node → OnErr result ⊥ × MakesBlocks 0 (fields table.old) (fields table.new) }
+    ensures stays { (cells table.old).check (below (cells table.old) node label) ≡ pos node → cells table.new ≡ cells table.old }
+    ensures at_root { node ≡ 0 → OnErr result ⊥ × MakesBlocks 0 (fields table.old) (fields table.new) }
+{
+    let slot = table.slot_below(node, label);
+    if table.is_owned_by(slot, node) {
+        return Ok(slot);
+    }
+    if is_taken(table, node, slot) {
+        return add_over(table, node, label);
+    }
+    room_for(table, node, label)?;
+    Ok(add_label(table, node, label))
+}
+
+/// Sets the number of a node below the root in a slot, over the one that it has there. Where memory or slots are
+/// refused, all slots are as before.
+fn put_in_slot<L: Layout, const SLOTS: usize, A: Allocator>(
+    table: &mut Table<L, SLOTS, A>,
+    node: usize,
+    value: i32,
+) -> Result<(), CedarError>
+    requires sound { IsTable SLOTS (fields table.old).places }
+    requires node_in { node < size_of (fields table.old) }
+    requires not_root { node ≢ 0 }
+    requires node { (f : Forest) × HasNode (fields table.old) f node }
+    requires no_own_number { (v : ℤ) → (cells table.old).stored node ≢ OwnNumber v }
+    ensures sound { IsTable SLOTS (fields table.new).places }
+    ensures set { OnOk result ((f : Forest) (w : List ℕ) → TableHolds (fields table.old) f → IsAt (cells table.old) w node
+        → TableHolds (fields table.new) (edit_at w (λ _. Some value) (λ u. u) f)) }
+    ensures marks { OnOk result (PutsMark (cells table.old) (cells table.new) node true) }
+    ensures refused { IfErr result (λ error. MayRefuse (fields table.new).places SLOTS error) }
+    ensures unchanged { OnErr result (SameSlots (fields table.old).places (fields table.new).places) }
+    ensures growth { MayAddBlock (fields table.old) (fields table.new) }
+    ensures owned { (cells table.old).check (below (cells table.old) node 0) ≡ pos node → OnErr result ⊥ × MakesBlocks 0 (fields table.old) (fields table.new) }
+    ensures leaf { (cells table.old).stored node ≡ AtBase 0 → (OnErr result ⊥ × MakesBlocks 0 (fields table.old) (fields table.new)) ⊎ NoPlace (size_of (fields table.old)) (cells table.old) }
+{
+    let slot = table.slot_below(node, 0);
+    if table.is_owned_by(slot, node) {
+        set_number(table, node, value);
+        return Ok(());
+    }
+    if is_taken(table, node, slot) {
+        return put_over(table, node, value);
+    }
+    room_for(table, node, 0)?;
+    set_number(table, node, value);
+    Ok(())
+}
+
+/// Sets the number of a node below the root, over the one that it has: in its own base field, where the layout keeps that
+/// of a node which owns no slot, and else in a slot. Where memory or slots are refused, all slots are as before.
+pub(crate) fn put_number<L: Layout, const SLOTS: usize, A: Allocator>(
+    table: &mut Table<L, SLOTS, A>,
+    node: usize,
+    value: i32,
+) -> Result<(), CedarError>
+    requires sound { IsTable SLOTS (fields table.old).places }
+    requires node_in { node < size_of (fields table.old) }
+    requires not_root { node ≢ 0 }
+    requires node { (f : Forest) × HasNode (fields table.old) f node }
+    requires value { is_value value ≡ true }
+    ensures sound { IsTable SLOTS (fields table.new).places }
+    ensures set { OnOk result ((f : Forest) (w : List ℕ) → TableHolds (fields table.old) f → IsAt (cells table.old) w node
+        → TableHolds (fields table.new) (edit_at w (λ _. Some value) (λ u. u) f)) }
+    ensures marks { OnOk result (((fields table.old).layout ≡ reduced_layout → base_of (cells table.old) node ≢ 0) → PutsMark (cells table.old) (cells table.new) node true) }
+    ensures marks_own { OnOk result ((fields table.old).layout ≡ reduced_layout → base_of (cells table.old) node ≡ 0 → PutsMark (cells table.old) (cells table.new) node false) }
+    ensures refused { IfErr result (λ error. MayRefuse (fields table.new).places SLOTS error) }
+    ensures unchanged { OnErr result (SameSlots (fields table.old).places (fields table.new).places) }
+    ensures growth { MayAddBlock (fields table.old) (fields table.new) }
+    ensures owned { (cells table.old).check (below (cells table.old) node 0) ≡ pos node → OnErr result ⊥ × MakesBlocks 0 (fields table.old) (fields table.new) }
+    ensures own { (v : ℤ) → (cells table.old).stored node ≡ OwnNumber v → OnErr result ⊥ × MakesBlocks 0 (fields table.old) (fields table.new) }
+    ensures leaf { (cells table.old).stored node ≡ AtBase 0 → (OnErr result ⊥ × MakesBlocks 0 (fields table.old) (fields table.new)) ⊎ ((fields table.old).layout ≡ default_layout) × NoPlace (size_of (fields table.old)) (cells table.old) }
+{
+    if keeps_own(table, node) {
+        table.set_own_number(node, value);
+        return Ok(());
+    }
+    put_in_slot(table, node, value)
+}

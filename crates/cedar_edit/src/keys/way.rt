@@ -1,0 +1,161 @@
+//! A number that stands in the way of a new label: it moves from its node's own base field into a slot, and back where the
+//! label is refused.
+
+ghost use Rattle.std.specs.Prelude.{◌≡◌, ℕ, List, ◌<◌, ◌≤◌, IfErr, IfOk, is_some, length, MatchOption, None, OnErr, OnOk, pos, Some, take, true, false};
+ghost use Rattle.cedar_tree.specs.Tree.{Forest, IsKey, number_at};
+ghost use Rattle.cedar_meaning.specs.Edit.NodeEdits.{IsAt};
+ghost use Rattle.cedar_meaning.specs.Meaning.Family.{below};
+ghost use Rattle.cedar_meaning.specs.Table.Layouts.{reduced_layout};
+ghost use Rattle.cedar_meaning.specs.Meaning.Marks.{KeepsMarks, KeepsOtherMarks, mark, MovesOut};
+ghost use Rattle.cedar_meaning.specs.Edit.Own.{HasWay, IsOwnAt, LacksNode};
+ghost use Rattle.cedar_slots.specs.Places.{MayRefuse};
+ghost use Rattle.cedar_meaning.specs.Meaning.Reading.{first_in};
+ghost use Rattle.cedar_meaning.specs.Edit.Steps.{HasNode, MakesBlocks, root_of, SameModes};
+ghost use Rattle.cedar_table.specs.Table.Views.{cells, fields};
+ghost use Rattle.cedar_meaning.specs.Table.TableFields.{SameFrame, size_of};
+ghost use Rattle.cedar_meaning.specs.Meaning.WellFormed.{IsWellFormed, tree_of};
+
+use crate::edit::number::drop_number;
+use crate::edit::own::move_number;
+use cedar_meaning::{Layout, Stored};
+use cedar_slots::CedarError;
+use cedar_table::Table;
+use std::alloc::Allocator;
+
+/// How long the proper front of a key is whose node keeps its number in its own base field, if there is one.
+fn own_front<L: Layout, const SLOTS: usize, A: Allocator>(
+    table: &Table<L, SLOTS, A>,
+    key: &[u8],
+) -> Option<usize>
+    requires well_formed { IsWellFormed SLOTS (fields table.now) }
+    requires key { IsKey key.now }
+    ensures { MatchOption result (HasWay (cells table.now) 0 key.now) (λ n. (n < length key.now) × IsOwnAt (cells table.now) (take n key.now)) }
+{
+    let mut node = 0;
+    for length in 0..key.len() {
+        if let Stored::OwnNumber(_) = table.stored(node) {
+            return Some(length);
+        }
+        let slot = table.child_slot(node, key[length]);
+        if !table.is_owned_by(slot, node) {
+            return None;
+        }
+        node = slot;
+    }
+    None
+}
+
+/// Moves the number of a key from its node's own base field into a slot. Where memory or slots are refused, all is as
+/// before.
+fn move_out<L: Layout, const SLOTS: usize, A: Allocator>(
+    table: &mut Table<L, SLOTS, A>,
+    key: &[u8],
+) -> Result<(), CedarError>
+    requires well_formed { IsWellFormed SLOTS (fields table.old) }
+    requires own { IsOwnAt (cells table.old) key.now }
+    ensures well_formed { IsWellFormed SLOTS (fields table.new) }
+    ensures tree { tree_of (fields table.new) ≡ tree_of (fields table.old) }
+    ensures at { (w : List ℕ) (s : ℕ) → IsAt (cells table.old) w s → IsAt (cells table.new) w s }
+    ensures moved { OnOk result ((s : ℕ) → IsAt (cells table.new) key.now s → (cells table.new).check (below (cells table.new) s 0) ≡ pos s) }
+    ensures others { OnOk result ((s : ℕ) → IsAt (cells table.old) key.now s → KeepsOtherMarks (cells table.old) (cells table.new) s) }
+    ensures stays { OnErr result (KeepsMarks (cells table.old) (cells table.new)) }
+    ensures refused { IfErr result (λ error. MayRefuse (fields table.new).places SLOTS error) }
+    ensures blocks { (n : ℕ) × (n ≤ 1) × OnErr result (n < 1) × MakesBlocks n (fields table.old) (fields table.new) }
+    ensures modes { SameModes (fields table.old) (fields table.new) }
+{
+    let Some(node) = table.node_of(key) else {
+        return Ok(());
+    };
+    if let Stored::OwnNumber(value) = table.stored(node) {
+        move_number(table, node, value)?;
+    }
+    Ok(())
+}
+
+/// The number of a node that owns the slot for it and no other.
+fn lone_number<L: Layout, const SLOTS: usize, A: Allocator>(
+    table: &Table<L, SLOTS, A>,
+    node: usize,
+) -> Option<i32>
+    requires node_in { node < size_of (fields table.now) }
+    requires node { (f : Forest) × HasNode (fields table.now) f node }
+    ensures { MatchOption result ((cells table.now).check (below (cells table.now) node 0) ≡ pos node → first_in (cells table.now) node ≡ 0 → ⊥) (λ v. ((cells table.now).check (below (cells table.now) node 0) ≡ pos node) × ((cells table.now).base (below (cells table.now) node 0) ≡ v) × (first_in (cells table.now) node ≡ 0)) }
+{
+    let slot = table.base_of(node);
+    if table.is_owned_by(slot, node) && table.sibling(slot) == 0 {
+        return Some(table.base(slot));
+    }
+    None
+}
+
+/// Moves the number of a key from its slot into its node's own base field, if the node owns no other slot.
+fn move_in<L: Layout, const SLOTS: usize, A: Allocator>(table: &mut Table<L, SLOTS, A>, key: &[u8])
+    requires well_formed { IsWellFormed SLOTS (fields table.old) }
+    requires layout { (fields table.old).layout ≡ reduced_layout }
+    ensures well_formed { IsWellFormed SLOTS (fields table.new) }
+    ensures tree { tree_of (fields table.new) ≡ tree_of (fields table.old) }
+    ensures here { (s : ℕ) → IsAt (cells table.old) key.now s → mark (cells table.old) s ≡ Some true → first_in (cells table.old) s ≡ 0 → IsAt (cells table.new) key.now s × (mark (cells table.new) s ≡ Some false) }
+    ensures others { (s : ℕ) → IsAt (cells table.old) key.now s → KeepsOtherMarks (cells table.old) (cells table.new) s }
+    ensures frame { SameFrame (fields table.old) (fields table.new) }
+{
+    let Some(node) = table.node_of(key) else {
+        return;
+    };
+    let Some(value) = lone_number(table, node) else {
+        return;
+    };
+    drop_number(table, node);
+    table.set_own_number(node, value);
+}
+
+/// Moves the number of a key's front that stands in the way of the next label, and answers the front's length. Where
+/// memory or slots are refused, all is as before.
+pub(crate) fn make_way<L: Layout, const SLOTS: usize, A: Allocator>(
+    table: &mut Table<L, SLOTS, A>,
+    key: &[u8],
+) -> Result<Option<usize>, CedarError>
+    requires well_formed { IsWellFormed SLOTS (fields table.old) }
+    requires key { IsKey key.now }
+    ensures well_formed { IsWellFormed SLOTS (fields table.new) }
+    ensures tree { tree_of (fields table.new) ≡ tree_of (fields table.old) }
+    ensures way { OnOk result (HasWay (cells table.new) 0 key.now) }
+    ensures none { IfOk result (λ moved. moved ≡ None → fields table.new ≡ fields table.old) }
+    ensures moved { IfOk result (λ moved. (n : ℕ) → moved ≡ Some n → (n < length key.now) × ((fields table.new).layout ≡ reduced_layout) × LacksNode (cells table.new) key.now) }
+    ensures moves { IfOk result (λ moved. (n : ℕ) → moved ≡ Some n → MovesOut (cells table.old) (cells table.new) (root_of (tree_of (fields table.old)).children) (take n key.now)) }
+    ensures stays { OnErr result (KeepsMarks (cells table.old) (cells table.new)) }
+    ensures over { is_some (number_at (tree_of (fields table.old)) key.now) ≡ true → IfOk result (λ moved. moved ≡ None) × OnErr result ⊥ }
+    ensures one_byte { length key.now ≡ 1 → IfOk result (λ moved. moved ≡ None) × OnErr result ⊥ }
+    ensures refused { IfErr result (λ error. MayRefuse (fields table.new).places SLOTS error) }
+    ensures blocks { (n : ℕ) × (n ≤ 1) × OnErr result (n < 1) × MakesBlocks n (fields table.old) (fields table.new) }
+    ensures modes { SameModes (fields table.old) (fields table.new) }
+{
+    if !L::keeps_numbers() {
+        return Ok(None);
+    }
+    let Some(length) = own_front(table, key) else {
+        return Ok(None);
+    };
+    move_out(table, &key[..length])?;
+    Ok(Some(length))
+}
+
+/// Puts the number back that was moved for a key.
+pub(crate) fn close_way<L: Layout, const SLOTS: usize, A: Allocator>(
+    table: &mut Table<L, SLOTS, A>,
+    key: &[u8],
+    moved: Option<usize>,
+)
+    requires well_formed { IsWellFormed SLOTS (fields table.old) }
+    requires moved { MatchOption moved (Unit {0}) (λ n. (n < length key.now) × ((fields table.old).layout ≡ reduced_layout)) }
+    ensures well_formed { IsWellFormed SLOTS (fields table.new) }
+    ensures tree { tree_of (fields table.new) ≡ tree_of (fields table.old) }
+    ensures none { moved ≡ None → cells table.new ≡ cells table.old }
+    ensures here { (n : ℕ) (s : ℕ) → moved ≡ Some n → IsAt (cells table.old) (take n key.now) s → mark (cells table.old) s ≡ Some true → first_in (cells table.old) s ≡ 0
+        → IsAt (cells table.new) (take n key.now) s × (mark (cells table.new) s ≡ Some false) }
+    ensures others { (n : ℕ) (s : ℕ) → moved ≡ Some n → IsAt (cells table.old) (take n key.now) s → KeepsOtherMarks (cells table.old) (cells table.new) s }
+    ensures frame { SameFrame (fields table.old) (fields table.new) }
+{
+    if let Some(length) = moved {
+        move_in(table, &key[..length]);
+    }
+}

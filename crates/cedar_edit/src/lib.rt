@@ -1,0 +1,10 @@
+//! Keys put into a table and taken away: labels and numbers of its nodes, and sets of slots moved to another base where a new
+//! label finds no room.
+#![tactic(auto)]
+
+mod edit;
+mod keys;
+mod relocation;
+
+pub use keys::erase::erase;
+pub use keys::put::update;

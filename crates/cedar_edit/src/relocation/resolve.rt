@@ -1,0 +1,212 @@
+//! Room for a new label below a node: one of two sets of slots is moved to another base, and the slot for the label is
+//! kept back meanwhile.
+
+ghost use Rattle.std.specs.Prelude.{bit_xor, ◌≡◌, ◌≢◌, ℕ, List, ◌<◌, ◌≤◌, ◌↔◌, IfErr, IfOk, IsTrue, length, OnErr, OnOk, pos};
+ghost use Rattle.cedar_meaning.specs.Meaning.Family.{Among, below, Family, Head, Links, owned};
+ghost use Rattle.cedar_slots.specs.Places.{IsTable, MayRefuse, SameSlots};
+ghost use Rattle.cedar_meaning.specs.Relocation.Asked.{StandsBelow, WantsSlot};
+ghost use Rattle.cedar_meaning.specs.Relocation.Renaming.{IsNode, OwnsLabels};
+ghost use Rattle.cedar_meaning.specs.Relocation.Reserved.{Reserves, SetReserved};
+ghost use Rattle.cedar_meaning.specs.Edit.Steps.{MayAddBlock};
+ghost use Rattle.cedar_table.specs.Table.Views.{cells, fields};
+ghost use Rattle.cedar_meaning.specs.Table.TableFields.{size_of};
+ghost use Rattle.cedar_meaning.specs.Relocation.Wanted.{rest_of, with_label};
+
+use crate::relocation::moving::{goes_before, relocate_around, relocate_with};
+use arrayvec::ArrayVec;
+use cedar_meaning::Layout;
+use cedar_slots::CedarError;
+use cedar_table::{Labels, Table};
+use std::alloc::Allocator;
+
+/// Moves the slots that `node` owns, which stand under `labels`, to a base from which there is room for `wanted`
+/// too, and keeps the slot there for the new label back. Where no room is found the tree is as it was, slot by slot.
+fn move_set_with<L: Layout, const SLOTS: usize, A: Allocator>(
+    table: &mut Table<L, SLOTS, A>,
+    node: usize,
+    labels: &[u8],
+    wanted: &[u8],
+    label: u8,
+) -> Result<usize, CedarError>
+    requires node { StandsBelow SLOTS (fields table.old) node }
+    requires owned { OwnsLabels (size_of (fields table.old)) (cells table.old) node labels.now }
+    requires all { (l : ℕ) → Among labels.now l → Among wanted.now l }
+    requires some { 0 < length wanted.now }
+    requires few { length wanted.now ≤ 256 }
+    requires listed { Among wanted.now label }
+    requires new { Among labels.now label → ⊥ }
+    ensures sound { IsTable SLOTS (fields table.new).places }
+    ensures moved { IfOk result (λ base. SetReserved (fields table.old) (fields table.new) node base (bit_xor base label) labels.now wanted.now) }
+    ensures refused { IfErr result (λ error. MayRefuse (fields table.new).places SLOTS error) }
+    ensures unchanged { OnErr result (SameSlots (fields table.old).places (fields table.new).places) }
+    ensures growth { MayAddBlock (fields table.old) (fields table.new) }
+{
+    let base = table.place_for(wanted)?;
+    relocate_with(table, node, base, labels, label);
+    Ok(base)
+}
+
+/// Moves the slots that `node` owns, which stand under `labels`, to another base, and keeps back the one of them that
+/// another node wants. Where no room is found the tree is as it was, slot by slot.
+fn move_set_around<L: Layout, const SLOTS: usize, A: Allocator>(
+    table: &mut Table<L, SLOTS, A>,
+    node: usize,
+    labels: &[u8],
+    slot: usize,
+) -> Result<usize, CedarError>
+    requires node { StandsBelow SLOTS (fields table.old) node }
+    requires owned { OwnsLabels (size_of (fields table.old)) (cells table.old) node labels.now }
+    requires mine { (cells table.old).check slot ≡ pos node }
+    requires some { 0 < length labels.now }
+    requires few { length labels.now ≤ 256 }
+    ensures sound { IsTable SLOTS (fields table.new).places }
+    ensures moved { IfOk result (λ base. SetReserved (fields table.old) (fields table.new) node base slot labels.now labels.now) }
+    ensures refused { IfErr result (λ error. MayRefuse (fields table.new).places SLOTS error) }
+    ensures unchanged { OnErr result (SameSlots (fields table.old).places (fields table.new).places) }
+    ensures growth { MayAddBlock (fields table.old) (fields table.new) }
+{
+    let base = table.place_for(labels)?;
+    relocate_around(table, node, base, labels, slot);
+    Ok(base)
+}
+
+/// The second label of the slots that a node owns, its number's label being 0, or 0 where there is none.
+fn second_label<L: Layout, const SLOTS: usize, A: Allocator>(
+    table: &Table<L, SLOTS, A>,
+    node: usize,
+) -> u8
+    requires node_in { node < size_of (fields table.now) }
+    requires not_root { node ≢ 0 }
+    requires node { IsNode (size_of (fields table.now)) (cells table.now) node }
+    ensures { (h : Head) (ls : List ℕ) → Family (size_of (fields table.now)) (cells table.now) node h ls → Links (cells table.now) node result (rest_of (owned h ls)) }
+{
+    let base = table.base_of(node);
+    if table.has_number_slot(node) {
+        return table.sibling(base);
+    }
+    let first = table.child(node);
+    if first == 0 {
+        return 0;
+    }
+    table.sibling(base ^ usize::from(first))
+}
+
+/// Whether one node owns more slots than another that owns some. Both sets are walked in step, so no more of the
+/// longer one is read than the other has.
+fn is_longer<L: Layout, const SLOTS: usize, A: Allocator>(
+    table: &Table<L, SLOTS, A>,
+    one: usize,
+    other: usize,
+) -> bool
+    requires one_in { one < size_of (fields table.now) }
+    requires other_in { other < size_of (fields table.now) }
+    requires one_not_root { one ≢ 0 }
+    requires other_not_root { other ≢ 0 }
+    requires one_node { IsNode (size_of (fields table.now)) (cells table.now) one }
+    requires other_node { IsNode (size_of (fields table.now)) (cells table.now) other }
+    ensures { (h k : Head) (ls ms : List ℕ) → Family (size_of (fields table.now)) (cells table.now) one h ls → Family (size_of (fields table.now)) (cells table.now) other k ms
+        → IsTrue result ↔ (length (rest_of (owned k ms)) < length (rest_of (owned h ls))) }
+{
+    let mut left = second_label(table, one);
+    let mut right = second_label(table, other);
+    let left_base = table.base_of(one);
+    let right_base = table.base_of(other);
+    while left != 0 && right != 0 {
+        left = table.sibling(left_base ^ usize::from(left));
+        right = table.sibling(right_base ^ usize::from(right));
+    }
+    left != 0
+}
+
+/// The labels that a node owns with a new one at its place among them. It takes no memory.
+fn labels_with<L: Layout, const SLOTS: usize, A: Allocator>(
+    table: &Table<L, SLOTS, A>,
+    labels: &[u8],
+    label: u8,
+) -> Labels
+    requires few { length labels.now < 256 }
+    ensures { result.items ≡ with_label (fields table.now).ordered label labels.now }
+{
+    let mut wanted = ArrayVec::new();
+    let mut placed = false;
+    for other in labels {
+        if !placed && goes_before(table, label, *other) {
+            wanted.push(label);
+            placed = true;
+        }
+        wanted.push(*other);
+    }
+    if !placed {
+        wanted.push(label);
+    }
+    wanted
+}
+
+/// Moves the slots that `node` owns to a base from which there is room for a new label too, and keeps that one back.
+fn move_with<L: Layout, const SLOTS: usize, A: Allocator>(
+    table: &mut Table<L, SLOTS, A>,
+    node: usize,
+    label: u8,
+) -> Result<(), CedarError>
+    requires node { StandsBelow SLOTS (fields table.old) node }
+    requires absent { (cells table.old).check (below (cells table.old) node label) ≢ pos node }
+    ensures sound { IsTable SLOTS (fields table.new).places }
+    ensures moved { OnOk result ((base : ℕ) × (ls : List ℕ) × (ws : List ℕ) × (256 ≤ bit_xor base label) × (bit_xor base label < size_of (fields table.new))
+        × SetReserved (fields table.old) (fields table.new) node base (bit_xor base label) ls ws) }
+    ensures refused { IfErr result (λ error. MayRefuse (fields table.new).places SLOTS error) }
+    ensures unchanged { OnErr result (SameSlots (fields table.old).places (fields table.new).places) }
+    ensures growth { MayAddBlock (fields table.old) (fields table.new) }
+{
+    let labels = table.labels_of(node);
+    let wanted = labels_with(table, &labels, label);
+    move_set_with(table, node, &labels, &wanted, label)?;
+    Ok(())
+}
+
+/// Moves the slots that `node` owns, of which `slot` is one, to another base, and answers that. The slot is kept back.
+fn move_away<L: Layout, const SLOTS: usize, A: Allocator>(
+    table: &mut Table<L, SLOTS, A>,
+    node: usize,
+    slot: usize,
+) -> Result<usize, CedarError>
+    requires node { StandsBelow SLOTS (fields table.old) node }
+    requires mine { (cells table.old).check slot ≡ pos node }
+    ensures sound { IsTable SLOTS (fields table.new).places }
+    ensures moved { IfOk result (λ base. (ls : List ℕ) × SetReserved (fields table.old) (fields table.new) node base slot ls ls) }
+    ensures refused { IfErr result (λ error. MayRefuse (fields table.new).places SLOTS error) }
+    ensures unchanged { OnErr result (SameSlots (fields table.old).places (fields table.new).places) }
+    ensures growth { MayAddBlock (fields table.old) (fields table.new) }
+{
+    let labels = table.labels_of(node);
+    move_set_around(table, node, &labels, slot)
+}
+
+/// Keeps the slot back that the node's base has for a label, where another node owns it, and answers where the node
+/// is then. That owner's set of slots is moved, or the node's own set where the owner's is longer. Where no room is
+/// found, all slots are as before.
+pub(crate) fn resolve<L: Layout, const SLOTS: usize, A: Allocator>(
+    table: &mut Table<L, SLOTS, A>,
+    node: usize,
+    label: u8,
+) -> Result<usize, CedarError>
+    requires { WantsSlot SLOTS (fields table.old) node label }
+    ensures sound { IsTable SLOTS (fields table.new).places }
+    ensures reserved { IfOk result (Reserves (fields table.old) (fields table.new) node label) }
+    ensures refused { IfErr result (λ error. MayRefuse (fields table.new).places SLOTS error) }
+    ensures unchanged { OnErr result (SameSlots (fields table.old).places (fields table.new).places) }
+    ensures growth { MayAddBlock (fields table.old) (fields table.new) }
+{
+    let slot = table.child_slot(node, label);
+    let owner = table.owner(slot);
+    if is_longer(table, owner, node) {
+        move_with(table, node, label)?;
+        return Ok(node);
+    }
+    let moves = table.is_owned_by(node, owner);
+    let old_base = table.base_of(owner);
+    let new_base = move_away(table, owner, slot)?;
+    if moves {
+        return Ok(new_base ^ old_base ^ node);
+    }
+    Ok(node)
+}

@@ -1,0 +1,28 @@
+use Rattle.std.proofs.Common.{sym, ◌∙◌}
+use Rattle.cedar_table.specs.Table.Views.{fields}
+use Rattle.cedar_file.proofs.TreeLemmas.WalkEnds.{root_looks, well_formed_met, well_formed_walked}
+use Rattle.cedar_file.proofs.TreeLemmas.Turns.{on_err}
+use Rattle.cedar_file.proofs.TreeLemmas.Complete.{walked_well_formed}
+use Rattle.cedar_file.proofs.check.tree.check_tree.Goals as goal
+
+pub returns-in_err-start-clause-faulty : goal.returns-in_err-start-clause-faulty
+returns-in_err-start-clause-faulty g c =
+    on_err c.from_residual.result (λ w. c.in_err-start.ensures.faulty (root_looks g.row.SLOTS (fields c.args.table.now) w))
+
+pub returns-in_err-walk-clause-faulty : goal.returns-in_err-walk-clause-faulty
+returns-in_err-walk-clause-faulty g c =
+    on_err c.from_residual-in_err-walk.result (λ w. c.in_err-walk.ensures.faulty _ _ (well_formed_walked g.row.SLOTS (fields c.args.table.now) c.in_ok-start.start c.in_ok-start.ensures.root.1 w))
+
+pub returns-then-walk-used_node_slots-clause-faulty : goal.returns-then-walk-used_node_slots-clause-faulty
+returns-then-walk-used_node_slots-clause-faulty g c = λ w.
+    let all = well_formed_met g.row.SLOTS (fields c.args.table.now) c.in_ok-start.start _ _ c.in_ok-start.ensures.root.1 c.in_ok-walk.ensures.ended w in
+    c.if-walk-used_node_slots.true (all.0 ∙ sym c.used_node_slots.ensures.count)
+
+pub returns-then-walk-entries-clause-faulty : goal.returns-then-walk-entries-clause-faulty
+returns-then-walk-entries-clause-faulty g c = λ w.
+    let all = well_formed_met g.row.SLOTS (fields c.args.table.now) c.in_ok-start.start _ _ c.in_ok-start.ensures.root.1 c.in_ok-walk.ensures.ended w in
+    c.if-walk-entries.true (all.1 ∙ sym c.entries.ensures)
+
+pub returns-clause-well_formed : goal.returns-clause-well_formed
+returns-clause-well_formed g c =
+    walked_well_formed g.row.SLOTS (fields c.args.table.now) c.in_ok-start.start _ _ _ c.in_ok-start.ensures.root.1 c.requires c.in_ok-start.ensures.root.0 c.in_ok-walk.ensures.ended (c.if-walk-used_node_slots.false ∙ c.used_node_slots.ensures.count) (c.if-walk-entries.false ∙ c.entries.ensures)

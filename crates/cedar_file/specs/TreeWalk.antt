@@ -1,0 +1,88 @@
+-- A walk over the nodes of a table of which it isn't known yet whether it stands for a tree.
+use Rattle.std.specs.Prelude.{◌≡◌, ◌≢◌, ℕ, zero, suc, ◌+◌, ◌<◌, ◌≤◌, ◌⊎◌, Bool, true, ℤ, negsuc, pos, None, IfSome, is_some, cond}
+use Rattle.cedar_file.specs.declared.check.tree.Walk.{Walk}
+use Rattle.cedar_meaning.specs.declared.layout.Stored.{Stored}
+use Rattle.cedar_meaning.specs.declared.layout.Stored.TheVariants.{AtBase, OwnNumber, Nothing}
+use Rattle.cedar_meaning.specs.Table.Cells.{Cells}
+use Rattle.cedar_meaning.specs.Meaning.Family.{base_of, below}
+use Rattle.cedar_meaning.specs.Meaning.Reading.{first_in, has_number_slot, number_in}
+use Rattle.cedar_meaning.specs.Meaning.WellFormed.{is_value}
+
+-- a base outside block 0, or a number in its place
+abbrev pub IsOfNode : ℕ → Stored → Type 0
+IsOfNode size (AtBase b) = (256 ≤ b) × (b < size)
+IsOfNode size (OwnNumber v) = Unit {0}
+IsOfNode size Nothing = ⊥
+
+-- slot s looks like that of a node below the root: of its labels only the first is looked at
+pub record LooksLikeNode (size : ℕ) (T : Cells) (s : ℕ) : Type 0 where
+  pub stored : IsOfNode size (T.stored s)
+  pub own : (v : ℤ) → T.stored s ≡ OwnNumber v → T.child s ≡ 0
+  pub in_slot : has_number_slot T s ≡ true → (T.child s ≡ 0) × (T.child (below T s 0) ≡ 0)
+  pub value : IfSome (number_in T s) (λ v. is_value v ≡ true)
+  pub some : number_in T s ≡ None → first_in T s ≢ 0
+
+-- the root's slot looks like it: it has no owner, and its slots begin at 0
+pub record LooksLikeRoot (T : Cells) : Type 0 where
+  pub check : T.check 0 ≡ negsuc 0
+  pub stored : T.stored 0 ≡ AtBase 0
+  pub child : T.child 0 ≡ 0
+
+-- how many slots and numbers the node at slot s has itself
+abbrev pub slots_at : Cells → ℕ → ℕ
+slots_at T s = 1 + cond (has_number_slot T s) 1 0
+
+abbrev pub numbers_at : Cells → ℕ → ℕ
+numbers_at T s = cond (is_some (number_in T s)) 1 0
+
+-- the walk once it has come to slot s, and to the label c below it
+abbrev pub walk_at : Cells → ℕ → ℕ → ℕ → ℕ → Walk
+walk_at T s c met numbers = record { node = s; base = base_of T s; label = c; met = met; numbers = numbers }
+
+-- where a walk begins: the root's slot was met
+abbrev pub walk_start : Cells → Walk
+walk_start T = walk_at T 0 (T.sibling 0) 1 0
+
+-- a walk goes on to the child under its label, where that is the node's and looks like a node
+pub record GoesDown (size : ℕ) (T : Cells) (w : Walk) : Type 0 where
+  pub positive : 0 < w.label
+  pub small : w.label < 256
+  pub owned : T.check (below T w.node w.label) ≡ pos w.node
+  pub looks : LooksLikeNode size T (below T w.node w.label)
+
+-- the walk once it has met the node at slot s
+abbrev pub walk_met : Cells → Walk → ℕ → Walk
+walk_met T w s = walk_at T s (first_in T s) (w.met + slots_at T s) (w.numbers + numbers_at T s)
+
+abbrev pub walk_down : Cells → Walk → Walk
+walk_down T w = walk_met T w (below T w.node w.label)
+
+-- at the end of a chain it goes back up to the node's owner c, and on to the next label below that, which is a higher
+-- one if labels have to ascend
+pub record GoesUp (size : ℕ) (ordered : Bool) (T : Cells) (w : Walk) (c : ℕ) : Type 0 where
+  pub ended : w.label ≡ 0
+  pub not_root : w.node ≢ 0
+  pub owner : T.check w.node ≡ pos c
+  pub inside : c < size
+  pub ascends : ordered ≡ true → 0 < T.sibling w.node → below T c w.node < T.sibling w.node
+
+abbrev pub walk_up : Cells → Walk → ℕ → Walk
+walk_up T w c = walk_at T c (T.sibling w.node) w.met w.numbers
+
+-- it is back at the root
+pub record IsBack (w : Walk) (m e : ℕ) : Type 0 where
+  pub ended : w.label ≡ 0
+  pub root : w.node ≡ 0
+  pub met : w.met ≡ m
+  pub numbers : w.numbers ≡ e
+
+-- the next step of a walk
+abbrev pub GoesOn : ℕ → Bool → Cells → Walk → Walk → Type 0
+GoesOn size ordered T w next =
+    (GoesDown size T w × (next ≡ walk_down T w)) ⊎ ((c : ℕ) × GoesUp size ordered T w c × (next ≡ walk_up T w c))
+
+-- in fewer than n steps the walk comes back to the root, and it has met so many slots and numbers then
+unfoldable pub Ends : ℕ → ℕ → Bool → Cells → Walk → ℕ → ℕ → Type 0
+Ends zero size ordered T w met numbers = ⊥
+Ends (suc n) size ordered T w met numbers =
+    IsBack w met numbers ⊎ ((next : Walk) × GoesOn size ordered T w next × Ends n size ordered T next met numbers)

@@ -1,0 +1,49 @@
+//! Whether a table that comes from a file has its slots, rings, blocks and lists as they must be, and stands for a tree.
+
+ghost use Rattle.std.specs.Prelude.{◌+◌, ◌*◌, ◌≤◌, ◌≤ℤ◌, length, pos};
+ghost use Rattle.std.specs.Result.{OkIff};
+ghost use Rattle.cedar_slots.specs.Places.{IsPowerOfTwo, IsSlotLimit, IsTable};
+ghost use Rattle.cedar_meaning.specs.Meaning.WellFormed.{IsWellFormed};
+ghost use Rattle.cedar_table.specs.Table.Views.{fields};
+ghost use Rattle.cedar_meaning.specs.Table.TableFields.{capacity_of};
+
+use crate::check::places::check_sound;
+use crate::check::tree::check_tree;
+use cedar_slots::{Corrupt, Ticks};
+use cedar_table::{Layout, Table};
+use std::alloc::Allocator;
+use std::sync::ledger::Ledger;
+
+/// Whether slots, rings, blocks and lists that nobody has vouched for are those of a table. The sizes and `max_trial`
+/// are tested before, and what the held slots stand for isn't tested. It takes no memory, and reads at most five records
+/// a slot and 512 more.
+pub fn check_places<L: Layout, const SLOTS: usize, A: Allocator, C: Ledger>(
+    table: &Table<L, SLOTS, A>,
+    reads: &mut Ticks<C>,
+) -> Result<(), Corrupt>
+    requires doubled { IsPowerOfTwo (length (fields table.now).places.blocks.records) }
+    requires limit { IsSlotLimit SLOTS }
+    requires within { capacity_of (fields table.now) ≤ SLOTS }
+    requires tried { pos 1 ≤ℤ (fields table.now).places.blocks.max_trial }
+    ensures answer { OkIff result (IsTable SLOTS (fields table.now).places) tt }
+    ensures cost { reads.new ≤ reads.old + 5 * capacity_of (fields table.now) + 512 }
+{
+    check_sound(table.places(), reads)
+}
+
+/// Whether records that nobody has vouched for are those of a well-formed table. The sizes and `max_trial` are tested
+/// before. It takes no memory, and reads at most sixteen records a slot and 1024 more.
+pub fn check_well_formed<L: Layout, const SLOTS: usize, A: Allocator, C: Ledger>(
+    table: &Table<L, SLOTS, A>,
+    reads: &mut Ticks<C>,
+) -> Result<(), Corrupt>
+    requires doubled { IsPowerOfTwo (length (fields table.now).places.blocks.records) }
+    requires limit { IsSlotLimit SLOTS }
+    requires within { capacity_of (fields table.now) ≤ SLOTS }
+    requires tried { pos 1 ≤ℤ (fields table.now).places.blocks.max_trial }
+    ensures answer { OkIff result (IsWellFormed SLOTS (fields table.now)) tt }
+    ensures cost { reads.new ≤ reads.old + 16 * capacity_of (fields table.now) + 1024 }
+{
+    check_places(table, reads)?;
+    check_tree(table, reads)
+}

@@ -1,9 +1,0 @@
-use Rattle.std.proofs.Common.{◌≡◌, ℕ, ◌<◌, ◌≤◌, ◌+◌, ◌-◌, ◌*◌}
-use Rattle.cedar_slots.specs.Slots.{blank_info, blank_node, info_at, node_at}
-use Rattle.cedar_slots.proofs.places.Places.check_idle_slots.Given as goal
-
-abbrev pub invariant-loop-slot : goal.invariant-loop-slot
-invariant-loop-slot g l = record {
-  blank : (s : ℕ) → 256 * l.self.blocks.active ≤ s → s < l.slot → (node_at l.self.slots.nodes.items s ≡ blank_node) × (info_at l.self.slots.infos.items s ≡ blank_info);
-  cost : l.reads ≤ l.initial.reads + 2 * (l.slot - 256 * l.self.blocks.active);
-}

@@ -1,7 +1,0 @@
-use Rattle.std.proofs.Common.{drop, take}
-use Rattle.cedar_meaning.specs.Edit.KeyWalk.{Walked}
-use Rattle.cedar_table.specs.Table.Views.{fields}
-use Rattle.cedar_table.proofs.table.Table.walk_in.Given as goal
-
-abbrev pub invariant-loop-index : goal.invariant-loop-index
-invariant-loop-index g l = Walked g.row.SLOTS (fields l.initial.self) (fields l.self) l.key (take l.index l.key) (drop l.index l.key) l.node

@@ -1,0 +1,238 @@
+//! One node of a table, read and written: its base, its owner, its slots for labels, its labels, and the node of a key.
+
+use crate::table::{Labels, Table};
+use arrayvec::ArrayVec;
+use cedar_meaning::{Layout, Stored};
+use cedar_slots::NodeRecord;
+use std::alloc::Allocator;
+
+impl<L: Layout, const SLOTS: usize, A: Allocator> Table<L, SLOTS, A> {
+    ghost use Rattle.cedar_meaning.specs.Edit.NodeEdits.{IsAt};
+    ghost use Rattle.cedar_meaning.specs.Meaning.Family.{Family, Head, Links, base_of, below, owned};
+    ghost use Rattle.cedar_meaning.specs.Meaning.WellFormed.{IsWellFormed, tree_of, is_value, TableHolds};
+    ghost use Rattle.cedar_meaning.specs.Relocation.Renaming.{ChecksAt, IsNode, Rebased, OwnsNothing};
+    ghost use Rattle.cedar_meaning.specs.Table.Cells.{Held};
+    ghost use Rattle.cedar_meaning.specs.Table.TableFields.{SameFrame, size_of};
+    ghost use Rattle.cedar_meaning.specs.declared.layout.Stored.TheVariants.{Nothing, OwnNumber};
+    ghost use Rattle.cedar_slots.specs.Places.{IsTable};
+    ghost use Rattle.cedar_table.specs.Table.Views.{cells, fields};
+    ghost use Rattle.cedar_tree.specs.Edits.{HasPath, edit_at};
+    ghost use Rattle.cedar_tree.specs.Queries.{node_at};
+    ghost use Rattle.cedar_tree.specs.Tree.{empty_tree, number_at, Forest};
+    ghost use Rattle.std.specs.Prelude.{◌<◌, ◌^◌, ◌↔◌, ◌≡◌, ◌≢◌, IsTrue, List, MatchOption, None, [], false, pos, ℕ, Some, true};
+    ghost use Rattle.cedar_meaning.specs.Table.Layouts.{reduced_layout};
+    ghost use Rattle.cedar_meaning.specs.Edit.Own.{FieldSet};
+    ghost use Rattle.cedar_meaning.specs.Edit.Steps.{HasNode};
+
+    /// What the base field of a node says. In the layout by default that is a base, with no test.
+    pub fn stored_at_node(&self, node: usize) -> Stored
+        requires node_in { node < size_of (fields self.now) }
+        requires says { (cells self.now).stored node ≢ Nothing }
+        ensures { result ≡ (cells self.now).stored node }
+    {
+        L::read_node(self.base(node))
+    }
+
+    /// Where a node's slots begin, and 0 if its base field says nothing of that.
+    pub fn base_of(&self, node: usize) -> usize
+        requires { node < size_of (fields self.now) }
+        ensures { result ≡ base_of (cells self.now) node }
+    {
+        match self.stored(node) {
+            Stored::AtBase(base) => base,
+            Stored::OwnNumber(_) => 0,
+            Stored::Nothing => 0,
+        }
+    }
+
+    /// Where a node's slots begin, and 0 if its base field has its own number. In the layout by default there is no test.
+    pub(crate) fn node_base(&self, node: usize) -> usize
+        requires node_in { node < size_of (fields self.now) }
+        requires says { (cells self.now).stored node ≢ Nothing }
+        ensures { result ≡ base_of (cells self.now) node }
+    {
+        match self.stored_at_node(node) {
+            Stored::AtBase(base) => base,
+            Stored::OwnNumber(_) => 0,
+            Stored::Nothing => 0,
+        }
+    }
+
+    /// The slot for a label below a node.
+    pub fn child_slot(&self, node: usize, label: u8) -> usize
+        requires { node < size_of (fields self.now) }
+        ensures { result ≡ below (cells self.now) node label }
+    {
+        self.base_of(node) ^ usize::from(label)
+    }
+
+    /// The slot for a label below a slot that is known to be a node's.
+    pub fn slot_below(&self, node: usize, label: u8) -> usize
+        requires node_in { node < size_of (fields self.now) }
+        requires says { (cells self.now).stored node ≢ Nothing }
+        ensures { result ≡ below (cells self.now) node label }
+    {
+        self.node_base(node) ^ usize::from(label)
+    }
+
+    /// The owner of a held slot that isn't the root's.
+    pub fn owner(&self, slot: usize) -> usize
+        requires slot_in { slot < size_of (fields self.now) }
+        requires owned { (c : ℕ) × ((cells self.now).check slot ≡ pos c) }
+        ensures { (cells self.now).check slot ≡ pos result }
+    {
+        self.places.slots.nodes[slot].check as usize
+    }
+
+    /// Whether a slot belongs to an owner. The read isn't counted.
+    pub fn is_owned_by(&self, slot: usize, owner: usize) -> bool
+        requires slot_in { slot < size_of (fields self.now) }
+        requires owner_in { owner < size_of (fields self.now) }
+        ensures { IsTrue result ↔ ((cells self.now).check slot ≡ pos owner) }
+    {
+        self.places.slots.nodes[slot].check == owner as i32
+    }
+
+    /// Whether a slot other than the root's is free.
+    pub fn is_free_slot(&self, slot: usize) -> bool
+        requires slot_in { slot < size_of (fields self.now) }
+        requires not_root { slot ≢ 0 }
+        ensures { IsTrue result ↔ (Held (cells self.now) slot → ⊥) }
+    {
+        self.places.slots.nodes[slot].check < 0
+    }
+
+    /// Whether a node has a slot for its number. Only a node that names no first label can have one, so the check of that
+    /// slot, which mostly lies far off, is seldom read.
+    pub fn has_number_slot(&self, node: usize) -> bool
+        requires node_in { node < size_of (fields self.now) }
+        requires not_root { node ≢ 0 }
+        requires node { IsNode (size_of (fields self.now)) (cells self.now) node }
+        ensures { IsTrue result ↔ ((cells self.now).check (below (cells self.now) node 0) ≡ pos node) }
+    {
+        if self.child(node) != 0 {
+            return false;
+        }
+        self.is_owned_by(self.node_base(node), node)
+    }
+
+    /// The first label of a node's chain, which begins after its number's slot, if it has one.
+    pub fn first_label(&self, node: usize) -> u8
+        requires node_in { node < size_of (fields self.now) }
+        requires not_root { node ≢ 0 }
+        requires node { IsNode (size_of (fields self.now)) (cells self.now) node }
+        ensures { (h : Head) (ls : List ℕ) → Family (size_of (fields self.now)) (cells self.now) node h ls → Links (cells self.now) node result ls }
+    {
+        if self.has_number_slot(node) {
+            return self.sibling(self.base_of(node));
+        }
+        self.child(node)
+    }
+
+    /// The label 0 alone if the node has a slot for its number, and else no label.
+    fn number_label(&self, node: usize) -> Labels
+        requires node_in { node < size_of (fields self.now) }
+        requires not_root { node ≢ 0 }
+        requires node { IsNode (size_of (fields self.now)) (cells self.now) node }
+        ensures { (h : Head) (ls : List ℕ) → Family (size_of (fields self.now)) (cells self.now) node h ls → result.items ≡ owned h [] }
+    {
+        let mut labels = ArrayVec::new();
+        if self.has_number_slot(node) {
+            labels.push(0);
+            return labels;
+        }
+        labels
+    }
+
+    /// The labels under which a node owns slots: 0 first, if it has a slot for its number, and then along its chain. It
+    /// takes no memory.
+    pub fn labels_of(&self, node: usize) -> Labels
+        requires node_in { node < size_of (fields self.now) }
+        requires not_root { node ≢ 0 }
+        requires node { IsNode (size_of (fields self.now)) (cells self.now) node }
+        ensures { (h : Head) (ls : List ℕ) → Family (size_of (fields self.now)) (cells self.now) node h ls → result.items ≡ owned h ls }
+    {
+        let mut labels = self.number_label(node);
+        let base = self.base_of(node);
+        let mut label = self.first_label(node);
+        while label != 0 {
+            labels.push(label);
+            label = self.sibling(base ^ usize::from(label));
+        }
+        labels
+    }
+
+    /// The slot of a key's node, if there is one.
+    pub fn node_of(&self, key: &[u8]) -> Option<usize>
+        requires { IsWellFormed SLOTS (fields self.now) }
+        ensures { MatchOption result ((number_at (tree_of (fields self.now)) key.now ≡ None) × (node_at (tree_of (fields self.now)) key.now ≡ empty_tree)) (λ s. (s < size_of (fields self.now)) × HasPath (tree_of (fields self.now)) key.now × IsAt (cells self.now) key.now s) }
+    {
+        let mut node = 0;
+        for &label in key {
+            let slot = self.slot_below(node, label);
+            // Label 0 leads to the slot of a number, which is no node.
+            if label == 0 || !self.is_owned_by(slot, node) {
+                return None;
+            }
+            node = slot;
+        }
+        Some(node)
+    }
+
+    /// Makes `owner` the owner of the held slot `slot`.
+    pub fn set_check(&mut self, slot: usize, owner: usize)
+        requires sound { IsTable SLOTS (fields self.old).places }
+        requires slot_in { slot < size_of (fields self.old) }
+        requires slot_held { Held (cells self.old) slot }
+        requires owner_in { owner < 2 ^ 31 }
+        ensures sound { IsTable SLOTS (fields self.new).places }
+        ensures at { ChecksAt (cells self.old) (cells self.new) slot owner }
+        ensures frame { SameFrame (fields self.old) (fields self.new) }
+    {
+        let node = NodeRecord {
+            base: self.base(slot),
+            check: owner as i32,
+        };
+        self.write_node(slot, node);
+    }
+
+    /// Sets where the slots of `node` begin.
+    pub fn set_base(&mut self, node: usize, base: usize)
+        requires sound { IsTable SLOTS (fields self.old).places }
+        requires node_in { node < size_of (fields self.old) }
+        requires base_in { base < size_of (fields self.old) }
+        requires node_held { Held (cells self.old) node }
+        requires not_root { node ≢ 0 }
+        ensures sound { IsTable SLOTS (fields self.new).places }
+        ensures rebased { Rebased (cells self.old) (cells self.new) node base }
+        ensures frame { SameFrame (fields self.old) (fields self.new) }
+    {
+        let record = NodeRecord {
+            base: L::base_field(base),
+            check: self.places.slots.nodes[node].check,
+        };
+        self.write_node(node, record);
+    }
+
+    /// Sets the number of a node that owns no slot, in its own base field.
+    pub fn set_own_number(&mut self, node: usize, value: i32)
+        requires sound { IsTable SLOTS (fields self.old).places }
+        requires node_in { node < size_of (fields self.old) }
+        requires not_root { node ≢ 0 }
+        requires node { (f : Forest) × HasNode (fields self.old) f node }
+        requires alone { OwnsNothing (cells self.old) node }
+        requires layout { (fields self.old).layout ≡ reduced_layout }
+        requires value { is_value value ≡ true }
+        ensures sound { IsTable SLOTS (fields self.new).places }
+        ensures set { FieldSet (cells self.old) (cells self.new) node (OwnNumber value) }
+        ensures tree { (f : Forest) (w : List ℕ) → TableHolds (fields self.old) f → IsAt (cells self.old) w node
+            → TableHolds (fields self.new) (edit_at w (λ _. Some value) (λ u. u) f) }
+        ensures frame { SameFrame (fields self.old) (fields self.new) }
+    {
+        let record = NodeRecord {
+            base: value,
+            check: self.places.slots.nodes[node].check,
+        };
+        self.write_node(node, record);
+    }
+}

@@ -1,4 +1,0 @@
-//! Sets of slots moved to another base, so that a new label finds room.
-
-mod moving;
-mod resolve;

@@ -1,0 +1,112 @@
+//! Exact search: from a node to its child under a label, and to its number.
+
+use crate::table::Table;
+use cedar_meaning::{Layout, Stored};
+use cedar_slots::Ticks;
+use std::alloc::Allocator;
+use std::sync::ledger::Ledger;
+
+impl<L: Layout, const SLOTS: usize, A: Allocator> Table<L, SLOTS, A> {
+    ghost use Rattle.std.specs.Prelude.{◌≡◌, ◌+◌, ◌<◌, ◌≤◌, ◌↔◌, IsTrue, false, MatchOption, pos, length};
+    ghost use Rattle.cedar_tree.specs.Tree.{Tree, has_label, subtree};
+    ghost use Rattle.cedar_tree.specs.Queries.{exact};
+    ghost use Rattle.cedar_meaning.specs.declared.layout.Stored.TheVariants.{Nothing};
+    ghost use Rattle.cedar_meaning.specs.Meaning.StandsFor.{Stands};
+    ghost use Rattle.cedar_table.specs.Table.Views.{cells, fields};
+    ghost use Rattle.cedar_meaning.specs.Table.TableFields.{size_of};
+    ghost use Rattle.cedar_meaning.specs.Meaning.WellFormed.{IsWellFormed, tree_of};
+
+    /// Whether a slot belongs to an owner: one comparison of a check field with a slot's number.
+    pub fn belongs<C: Ledger>(&self, slot: usize, owner: usize, ticks: &mut Ticks<C>) -> bool
+        requires slot_in { slot < size_of (fields self.now) }
+        requires owner_in { owner < size_of (fields self.now) }
+        ensures answer { IsTrue result ↔ ((cells self.now).check slot ≡ pos owner) }
+        ensures cost { ticks.new ≡ ticks.old + 1 }
+    {
+        let check = self.check(slot, ticks);
+        check == owner as i32
+    }
+
+    /// The slot of a node's child under a label.
+    pub fn follow<C: Ledger>(&self, node: usize, label: u8, ticks: &mut Ticks<C>) -> Option<usize>
+        requires node_in { node < size_of (fields self.now) }
+        requires node { (t : Tree) × Stands (size_of (fields self.now)) (cells self.now) node t }
+        ensures answer { (t : Tree) → Stands (size_of (fields self.now)) (cells self.now) node t → MatchOption result (has_label t.children label ≡ false) (λ s. (s < size_of (fields self.now)) × Stands (size_of (fields self.now)) (cells self.now) s (subtree t.children label)) }
+        ensures cost { ticks.new ≤ ticks.old + 1 }
+    {
+        if label == 0 {
+            return None;
+        }
+        let Stored::AtBase(base) = self.stored_at_node(node) else {
+            return None;
+        };
+        let slot = base ^ usize::from(label);
+        if self.belongs(slot, node, ticks) {
+            Some(slot)
+        } else {
+            None
+        }
+    }
+
+    /// The number of a node.
+    pub fn number<C: Ledger>(&self, node: usize, ticks: &mut Ticks<C>) -> Option<i32>
+        requires node_in { node < size_of (fields self.now) }
+        requires node { (t : Tree) × Stands (size_of (fields self.now)) (cells self.now) node t }
+        ensures answer { (t : Tree) → Stands (size_of (fields self.now)) (cells self.now) node t → result ≡ t.number }
+        ensures cost { ticks.new ≤ ticks.old + 1 }
+    {
+        match self.stored_at_node(node) {
+            Stored::OwnNumber(value) => Some(value),
+            Stored::AtBase(base) => {
+                if self.belongs(base, node, ticks) {
+                    Some(self.base(base))
+                } else {
+                    None
+                }
+            }
+            Stored::Nothing => None,
+        }
+    }
+
+    /// The number of a node. The read isn't counted. A node that names a first label has none, so the slot that its number would
+    /// have, which mostly lies far off, is seldom read.
+    #[inline(always)]
+    pub fn number_of(&self, node: usize) -> Option<i32>
+        requires node_in { node < size_of (fields self.now) }
+        requires node { (t : Tree) × Stands (size_of (fields self.now)) (cells self.now) node t }
+        ensures { (t : Tree) → Stands (size_of (fields self.now)) (cells self.now) node t → result ≡ t.number }
+    {
+        if self.child(node) != 0 {
+            return None;
+        }
+        match self.stored_at_node(node) {
+            Stored::OwnNumber(value) => Some(value),
+            Stored::AtBase(base) => {
+                if self.is_owned_by(base, node) {
+                    Some(self.base(base))
+                } else {
+                    None
+                }
+            }
+            Stored::Nothing => None,
+        }
+    }
+
+    /// The number of a key, and the key's length. It takes no memory.
+    pub fn exact_match_search_counted<C: Ledger>(
+        &self,
+        key: &[u8],
+        ticks: &mut Ticks<C>,
+    ) -> Option<(i32, usize)>
+        requires { IsWellFormed SLOTS (fields self.now) }
+        ensures answer { result ≡ exact (tree_of (fields self.now)) key.now }
+        ensures cost { ticks.new ≤ ticks.old + length key.now + 1 }
+    {
+        let mut node = 0;
+        for label in key {
+            node = self.follow(node, *label, ticks)?;
+        }
+        let value = self.number(node, ticks)?;
+        Some((value, key.len()))
+    }
+}

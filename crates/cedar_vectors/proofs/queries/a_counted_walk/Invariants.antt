@@ -1,4 +1,0 @@
-use Rattle.cedar_vectors.proofs.queries.a_counted_walk.Given as goal
-
-abbrev pub ghosts-expect_counted : goal.ghosts-expect_counted
-ghosts-expect_counted g a = record { name = a.blank.name; parts = a.blank.parts }

@@ -1,0 +1,18 @@
+-- Where a walk along a query stands in a table.
+use Rattle.std.specs.Prelude.{ℕ, ◌<◌, ◌≤◌, List, length, take, Option, Some, None}
+use Rattle.cedar_tree.specs.Queries.{node_at}
+use Rattle.cedar_walk.specs.declared.fronts.Front.{Front}
+use Rattle.cedar_meaning.specs.Meaning.StandsFor.{Stands}
+use Rattle.cedar_meaning.specs.Table.TableFields.{Fields, size_of}
+use Rattle.cedar_meaning.specs.Meaning.WellFormed.{cells_in, tree_of}
+
+-- the first bytes of the query, `place` of them, lead to slot s
+pub record IsOnQuery (T : Fields) (query : List ℕ) (place s : ℕ) : Type 0 where
+  pub within : place ≤ length query
+  pub inside : s < size_of T
+  pub stands : Stands (size_of T) (cells_in T) s (node_at (tree_of T) (take place query))
+
+-- how many bytes of a query were looked at
+abbrev pub passed : List ℕ → Option Front → ℕ
+passed query (Some front) = front.len
+passed query None = length query

@@ -1,0 +1,78 @@
+-- Where a walk over the nodes of a tree stands in a table.
+use Rattle.std.specs.Prelude.{◌≡◌, ℕ, ℤ, zero, suc, ◌+◌, ◌-◌, ◌<◌, ◌≤◌, List, [], ◌∷◌, ◌++◌, length, Option, Some, take, unsigned_abs}
+use Rattle.cedar_tree.specs.Tree.{Forest, none, child}
+use Rattle.cedar_tree.specs.Queries.{Entry, node_at}
+use Rattle.cedar_tree.specs.Walks.{Visit, entries_of, forwards, visits_after, visits_left}
+use Rattle.cedar_walk.specs.declared.visits.Numbered.{Numbered}
+use Rattle.cedar_walk.specs.declared.visits.Place.{Place}
+use Rattle.cedar_walk.specs.declared.visits.Visited.{Visited}
+use Rattle.cedar_meaning.specs.Table.Cells.{Cells}
+use Rattle.cedar_meaning.specs.Meaning.Family.{below}
+use Rattle.cedar_meaning.specs.Edit.NodeEdits.{IsAt}
+use Rattle.cedar_meaning.specs.Table.TableFields.{Fields}
+use Rattle.cedar_meaning.specs.Meaning.WellFormed.{cells_in, tree_of}
+
+-- the slot that owns a slot
+abbrev pub owner_of : Cells → ℕ → ℕ
+owner_of T s = unsigned_abs (T.check s)
+
+-- the last n labels on the way to slot s, from the last one to the first: as they are read by climbing
+abbrev pub way_up : Cells → ℕ → ℕ → List ℕ
+way_up T zero s = []
+way_up T (suc n) s = below T (owner_of T s) s ∷ way_up T n (owner_of T s)
+
+-- slot s is a node, n labels below the one at the path `start`
+abbrev pub IsBelow : Cells → List ℕ → ℕ → ℕ → Type 0
+IsBelow T start n s = IsAt T (start ++ forwards (way_up T n s)) s
+
+-- the first label of some siblings, and 0 if there is none
+abbrev pub first_of : Forest → ℕ
+first_of none = 0
+first_of (child l n below rest) = l
+
+-- what a walk below the path `start` has left where it has been at slot s, n labels below, and not yet below it
+abbrev pub left_at : Fields → List ℕ → ℕ → ℕ → List Visit
+left_at T start n s = visits_left (node_at (tree_of T) start) (way_up (cells_in T) n s)
+
+-- and what it has left once it is through with all below s
+abbrev pub left_after : Fields → List ℕ → ℕ → ℕ → List Visit
+left_after T start n s = visits_after (node_at (tree_of T) start) (way_up (cells_in T) n s)
+
+-- the path to slot s from the node n labels above it
+abbrev pub path_to : Fields → ℕ → ℕ → List ℕ
+path_to T n s = forwards (way_up (cells_in T) n s)
+
+-- a walk below the path `start` that had these nodes left, and stood at a path, comes to a node: the first of those left, whose path
+-- has one label of its own after a front of the one before
+pub record ComesTo (T : Fields) (start : List ℕ) (left : List Visit) (path : List ℕ) (next : Visited) : Type 0 where
+  pub below : IsBelow (cells_in T) start next.depth next.slot
+  pub visits : left ≡ (path_to T next.depth next.slot, next.number) ∷ left_at T start next.depth next.slot
+  pub way : path_to T next.depth next.slot ≡ take (next.depth - 1) path ++ next.label ∷ []
+  pub deep : (0 < next.depth) × (next.depth ≤ length path + 1)
+
+-- the number of the node at slot s, n labels below the path `start`
+abbrev pub number_below : Fields → List ℕ → ℕ → ℕ → Option ℤ
+number_below T start n s = (node_at (tree_of T) (start ++ path_to T n s)).number
+
+-- slot s is a node with a number there
+abbrev pub IsNumberedBelow : Fields → List ℕ → ℕ → ℕ → Type 0
+IsNumberedBelow T start n s = IsBelow (cells_in T) start n s × (v : ℤ) × (number_below T start n s ≡ Some v)
+
+-- the node at a place, with its number
+abbrev pub visited_at : Fields → List ℕ → Place → Visited
+visited_at T start place = record {
+  slot = place.slot;
+  depth = place.depth;
+  label = place.label;
+  number = number_below T start place.depth place.slot;
+}
+
+-- the entries that a walk below the path `start` has left where it has come to slot s, n labels below, and not yet been at it
+abbrev pub entries_at : Fields → List ℕ → ℕ → ℕ → List Entry
+entries_at T start n s = entries_of ((path_to T n s, number_below T start n s) ∷ left_at T start n s)
+
+-- a walk below the path `start` that had these entries left comes to a node with a number: the first of those left
+pub record ComesToNumber (T : Fields) (start : List ℕ) (left : List Entry) (next : Numbered) : Type 0 where
+  pub below : IsBelow (cells_in T) start next.depth next.slot
+  pub number : number_below T start next.depth next.slot ≡ Some next.number
+  pub entries : left ≡ (path_to T next.depth next.slot, next.number) ∷ entries_of (left_at T start next.depth next.slot)

@@ -1,0 +1,52 @@
+//! The next front of a query that is held.
+
+ghost use Rattle.std.specs.Prelude.{◌≡◌, ◌∷◌, [], ◌+◌, ◌*◌, ◌-◌, ◌<◌, ◌≤◌, length, MatchOption};
+ghost use Rattle.cedar_tree.specs.Walks.{front_from};
+ghost use Rattle.cedar_walk.specs.Fronts.{IsOnQuery, passed};
+ghost use Rattle.cedar_table.specs.Table.Views.{fields};
+ghost use Rattle.cedar_meaning.specs.Meaning.WellFormed.{IsWellFormed, tree_of};
+
+use cedar_meaning::Layout;
+use cedar_slots::Ticks;
+use cedar_table::Table;
+use std::alloc::Allocator;
+use std::sync::ledger::Ledger;
+
+/// A front of a query that is held.
+#[derive(Clone, Copy, Debug, PartialEq, Eq)]
+pub struct Front {
+    /// How many bytes the front has.
+    pub len: usize,
+    /// The slot of its node.
+    pub slot: usize,
+    /// Its number.
+    pub number: i32,
+}
+
+/// The next front of a query that is held, behind the first `place` bytes, which lead to `node`. Each byte costs two comparisons
+/// of a check field at most. It takes no memory.
+pub fn next_held_front<L: Layout, const SLOTS: usize, A: Allocator, C: Ledger>(
+    table: &Table<L, SLOTS, A>,
+    query: &[u8],
+    place: usize,
+    node: usize,
+    ticks: &mut Ticks<C>,
+) -> Option<Front>
+    requires well_formed { IsWellFormed SLOTS (fields table.now) }
+    requires on { IsOnQuery (fields table.now) query.now place node }
+    ensures answer { MatchOption result (front_from (tree_of (fields table.now)) query.now place ≡ []) (λ front.
+        (0 < front.len) × (front_from (tree_of (fields table.now)) query.now place ≡ (front.number, front.len - 1) ∷ front_from (tree_of (fields table.now)) query.now front.len)) }
+    ensures on { MatchOption result (place ≤ length query.now) (λ front. (place < front.len) × IsOnQuery (fields table.now) query.now front.len front.slot) }
+    ensures cost { ticks.new ≤ ticks.old + 2 * (passed query.now result - place) }
+{
+    let mut slot = node;
+    let mut len = place;
+    while len < query.len() {
+        slot = table.follow(slot, query[len], ticks)?;
+        len += 1;
+        if let Some(number) = table.number(slot, ticks) {
+            return Some(Front { len, slot, number });
+        }
+    }
+    None
+}

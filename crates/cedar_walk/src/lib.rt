@@ -1,0 +1,10 @@
+//! Walks over a table: the nodes one after another, the fronts of a query, and look-ups of many keys in step.
+#![tactic(auto)]
+
+mod batch;
+mod fronts;
+mod visits;
+
+pub use batch::exact_match_search_batch;
+pub use fronts::{Front, next_held_front};
+pub use visits::{Numbered, Visited, first_numbered, node_after, numbered_after};

@@ -1,0 +1,287 @@
+//! A walk over the nodes of a tree, each before its children: from a node to the next one, by the slots alone.
+
+ghost use Rattle.std.specs.Prelude.{◌≡◌, ◌≢◌, ℕ, ℤ, List, [], ◌∷◌, ◌++◌, ◌+◌, ◌<◌, MatchOption, pos, Some, true};
+ghost use Rattle.cedar_tree.specs.Tree.{has_label, Tree};
+ghost use Rattle.cedar_tree.specs.Queries.{node_at, walk};
+ghost use Rattle.cedar_tree.specs.Walks.{behind, entries_of};
+ghost use Rattle.cedar_meaning.specs.Edit.NodeEdits.{IsAt};
+ghost use Rattle.cedar_meaning.specs.Meaning.Family.{below};
+ghost use Rattle.cedar_meaning.specs.Meaning.StandsFor.{Stands};
+ghost use Rattle.cedar_table.specs.Table.Views.{cells, fields};
+ghost use Rattle.cedar_meaning.specs.Table.TableFields.{size_of};
+ghost use Rattle.cedar_walk.specs.Visits.{ComesTo, ComesToNumber, entries_at, first_of, IsBelow, IsNumberedBelow, left_after, left_at, path_to, visited_at};
+ghost use Rattle.cedar_meaning.specs.Meaning.WellFormed.{IsWellFormed, tree_of};
+
+use cedar_meaning::{Layout, Stored};
+use cedar_table::Table;
+use std::alloc::Allocator;
+
+/// A node that a walk comes to.
+#[derive(Clone, Copy, Debug, PartialEq, Eq)]
+pub struct Visited {
+    /// The node's slot.
+    pub slot: usize,
+    /// How many labels it is below the node where the walk began.
+    pub depth: usize,
+    /// The last of these labels.
+    pub label: u8,
+    /// The node's number, if it has one.
+    pub number: Option<i32>,
+}
+
+/// A node with a number that a walk comes to.
+#[derive(Clone, Copy, Debug, PartialEq, Eq)]
+pub struct Numbered {
+    /// The node's slot.
+    pub slot: usize,
+    /// How many labels it is below the node where the walk began.
+    pub depth: usize,
+    /// Its number.
+    pub number: i32,
+}
+
+/// Where a walk comes to, before anything is read of the node there: its slot, how many labels it is below the node where the walk
+/// began, and the last of these.
+#[derive(Clone, Copy)]
+pub(crate) struct Place {
+    slot: usize,
+    depth: usize,
+    label: u8,
+}
+
+/// The label of a node's first child, or 0.
+#[inline(always)]
+fn first_child<L: Layout, const SLOTS: usize, A: Allocator>(
+    table: &Table<L, SLOTS, A>,
+    node: usize,
+) -> u8
+    requires well_formed { IsWellFormed SLOTS (fields table.now) }
+    requires at { (w : List ℕ) × IsAt (cells table.now) w node }
+    ensures { (w : List ℕ) → IsAt (cells table.now) w node → result ≡ first_of (node_at (tree_of (fields table.now)) w).children }
+{
+    // Most nodes name their first label, and neither the root nor one with a number does.
+    let label = table.child(node);
+    if label != 0 {
+        return label;
+    }
+    if node == 0 {
+        return table.sibling(node);
+    }
+    table.first_label(node)
+}
+
+/// The label of the sibling after a node, or 0.
+#[inline(always)]
+fn next_sibling<L: Layout, const SLOTS: usize, A: Allocator>(
+    table: &Table<L, SLOTS, A>,
+    node: usize,
+) -> u8
+    requires well_formed { IsWellFormed SLOTS (fields table.now) }
+    requires at { (w : List ℕ) × (l : ℕ) × IsAt (cells table.now) (w ++ l ∷ []) node }
+    ensures { (w : List ℕ) (l : ℕ) → IsAt (cells table.now) (w ++ l ∷ []) node → result ≡ first_of (behind (node_at (tree_of (fields table.now)) w).children l) }
+{
+    table.sibling(node)
+}
+
+/// The node above a node.
+#[inline(always)]
+fn parent<L: Layout, const SLOTS: usize, A: Allocator>(
+    table: &Table<L, SLOTS, A>,
+    node: usize,
+) -> usize
+    requires well_formed { IsWellFormed SLOTS (fields table.now) }
+    requires at { (w : List ℕ) × (l : ℕ) × IsAt (cells table.now) (w ++ l ∷ []) node }
+    ensures above { (w : List ℕ) (l : ℕ) → IsAt (cells table.now) (w ++ l ∷ []) node → IsAt (cells table.now) w result }
+    ensures check { (cells table.now).check node ≡ pos result }
+{
+    table.owner(node)
+}
+
+/// The number of a node that is known to have one: where the layout keeps each in a slot of its own there is no test.
+#[inline(always)]
+fn number_held<L: Layout, const SLOTS: usize, A: Allocator>(
+    table: &Table<L, SLOTS, A>,
+    node: usize,
+) -> i32
+    requires node_in { node < size_of (fields table.now) }
+    requires held { (t : Tree) × (v : ℤ) × Stands (size_of (fields table.now)) (cells table.now) node t × (t.number ≡ Some v) }
+    ensures { (t : Tree) → Stands (size_of (fields table.now)) (cells table.now) node t → t.number ≡ Some result }
+{
+    match table.stored_at_node(node) {
+        Stored::OwnNumber(value) => value,
+        Stored::AtBase(base) => table.base(base),
+        Stored::Nothing => 0,
+    }
+}
+
+/// The label of the first child of a node that is known to have a number, or 0. It is the sibling of the number's slot.
+#[inline(always)]
+fn label_after_number<L: Layout, const SLOTS: usize, A: Allocator>(
+    table: &Table<L, SLOTS, A>,
+    node: usize,
+) -> u8
+    requires well_formed { IsWellFormed SLOTS (fields table.now) }
+    requires held { (w : List ℕ) × (v : ℤ) × IsAt (cells table.now) w node × ((node_at (tree_of (fields table.now)) w).number ≡ Some v) }
+    ensures { (w : List ℕ) → IsAt (cells table.now) w node → result ≡ first_of (node_at (tree_of (fields table.now)) w).children }
+{
+    match table.stored_at_node(node) {
+        Stored::AtBase(base) => table.sibling(base),
+        Stored::OwnNumber(_) => 0,
+        Stored::Nothing => 0,
+    }
+}
+
+/// The child of a node under a label that it has.
+#[inline(always)]
+fn child_under<L: Layout, const SLOTS: usize, A: Allocator>(
+    table: &Table<L, SLOTS, A>,
+    node: usize,
+    label: u8,
+    depth: usize,
+) -> Place
+    requires well_formed { IsWellFormed SLOTS (fields table.now) }
+    requires at { (w : List ℕ) × IsAt (cells table.now) w node × (has_label (node_at (tree_of (fields table.now)) w).children label ≡ true) }
+    ensures slot { result.slot ≡ below (cells table.now) node label }
+    ensures depth { result.depth ≡ depth }
+    ensures label { result.label ≡ label }
+{
+    Place {
+        slot: table.slot_below(node, label),
+        depth,
+        label,
+    }
+}
+
+/// The next node of a walk that is through with all below a node: the sibling after it, or the one after the nearest node above
+/// it that has one, short of the node `depth` labels above, where the walk began.
+#[inline(always)]
+fn next_after<L: Layout, const SLOTS: usize, A: Allocator>(
+    table: &Table<L, SLOTS, A>,
+    node: usize,
+    depth: usize,
+) -> Option<Place>
+    requires well_formed { IsWellFormed SLOTS (fields table.now) }
+    requires below { (start : List ℕ) × IsBelow (cells table.now) start depth node }
+    ensures { (start : List ℕ) → IsBelow (cells table.now) start depth node → MatchOption result (left_after (fields table.now) start depth node ≡ []) (λ place. ComesTo (fields table.now) start (left_after (fields table.now) start depth node) (path_to (fields table.now) depth node) (visited_at (fields table.now) start place)) }
+{
+    let mut slot = node;
+    let mut steps = depth;
+    while steps != 0 {
+        let label = next_sibling(table, slot);
+        let parent = parent(table, slot);
+        if label != 0 {
+            return Some(child_under(table, parent, label, steps));
+        }
+        slot = parent;
+        steps -= 1;
+    }
+    None
+}
+
+/// Where a walk goes on that has been at a node, whose first child has this label: to that child, or else to the sibling after the
+/// node, or else to the one after the nearest node above it that has one.
+#[inline(always)]
+fn place_after<L: Layout, const SLOTS: usize, A: Allocator>(
+    table: &Table<L, SLOTS, A>,
+    node: usize,
+    depth: usize,
+    label: u8,
+) -> Option<Place>
+    requires well_formed { IsWellFormed SLOTS (fields table.now) }
+    requires below { (start : List ℕ) × IsBelow (cells table.now) start depth node }
+    requires first { (w : List ℕ) → IsAt (cells table.now) w node → label ≡ first_of (node_at (tree_of (fields table.now)) w).children }
+    ensures { (start : List ℕ) → IsBelow (cells table.now) start depth node → MatchOption result (left_at (fields table.now) start depth node ≡ []) (λ place. ComesTo (fields table.now) start (left_at (fields table.now) start depth node) (path_to (fields table.now) depth node) (visited_at (fields table.now) start place)) }
+{
+    if label != 0 {
+        return Some(child_under(table, node, label, depth + 1));
+    }
+    next_after(table, node, depth)
+}
+
+/// The next node of a walk that has been at a node, `depth` labels below the one where it began, and not yet below it: its first
+/// child, or else the sibling after it, or else the one after the nearest node above it that has one. It takes no memory.
+#[inline(always)]
+pub fn node_after<L: Layout, const SLOTS: usize, A: Allocator>(
+    table: &Table<L, SLOTS, A>,
+    node: usize,
+    depth: usize,
+) -> Option<Visited>
+    requires well_formed { IsWellFormed SLOTS (fields table.now) }
+    requires below { (start : List ℕ) × IsBelow (cells table.now) start depth node }
+    ensures { (start : List ℕ) → IsBelow (cells table.now) start depth node → MatchOption result (left_at (fields table.now) start depth node ≡ []) (ComesTo (fields table.now) start (left_at (fields table.now) start depth node) (path_to (fields table.now) depth node)) }
+{
+    let label = first_child(table, node);
+    let place = place_after(table, node, depth, label)?;
+    Some(Visited {
+        slot: place.slot,
+        depth: place.depth,
+        label: place.label,
+        number: table.number_of(place.slot),
+    })
+}
+
+/// The first node with a number of those that begin at a node other than the root, `depth` labels below the one where the walk
+/// began, and go on below it. A node that names a first label has no number, and each other one has: nothing else is asked on the
+/// way down.
+#[inline(always)]
+fn numbered_from<L: Layout, const SLOTS: usize, A: Allocator>(
+    table: &Table<L, SLOTS, A>,
+    node: usize,
+    depth: usize,
+) -> Numbered
+    requires well_formed { IsWellFormed SLOTS (fields table.now) }
+    requires below { (start : List ℕ) × IsBelow (cells table.now) start depth node }
+    requires not_root { node ≢ 0 }
+    ensures { (start : List ℕ) → IsBelow (cells table.now) start depth node → ComesToNumber (fields table.now) start (entries_at (fields table.now) start depth node) result }
+{
+    let mut slot = node;
+    let mut steps = depth;
+    let mut label = table.child(slot);
+    while label != 0 {
+        slot = table.slot_below(slot, label);
+        steps += 1;
+        label = table.child(slot);
+    }
+    Numbered {
+        slot,
+        depth: steps,
+        number: number_held(table, slot),
+    }
+}
+
+/// The next node with a number of a walk that has been at one, `depth` labels below the node where it began, and not yet below
+/// it. It takes no memory.
+#[inline(always)]
+pub fn numbered_after<L: Layout, const SLOTS: usize, A: Allocator>(
+    table: &Table<L, SLOTS, A>,
+    node: usize,
+    depth: usize,
+) -> Option<Numbered>
+    requires well_formed { IsWellFormed SLOTS (fields table.now) }
+    requires below { (start : List ℕ) × IsNumberedBelow (fields table.now) start depth node }
+    ensures { (start : List ℕ) → IsBelow (cells table.now) start depth node → MatchOption result (entries_of (left_at (fields table.now) start depth node) ≡ []) (ComesToNumber (fields table.now) start (entries_of (left_at (fields table.now) start depth node))) }
+{
+    let label = label_after_number(table, node);
+    let place = place_after(table, node, depth, label)?;
+    Some(numbered_from(table, place.slot, place.depth))
+}
+
+/// The first node with a number of those that begin at a query's node, and go on below it.
+pub fn first_numbered<L: Layout, const SLOTS: usize, A: Allocator>(
+    table: &Table<L, SLOTS, A>,
+    query: &[u8],
+) -> Option<Numbered>
+    requires { IsWellFormed SLOTS (fields table.now) }
+    ensures { MatchOption result (walk (node_at (tree_of (fields table.now)) query.now) ≡ []) (ComesToNumber (fields table.now) query.now (walk (node_at (tree_of (fields table.now)) query.now))) }
+{
+    let node = table.node_of(query)?;
+    if node != 0 {
+        return Some(numbered_from(table, node, 0));
+    }
+    let label = first_child(table, node);
+    if label == 0 {
+        return None;
+    }
+    let place = child_under(table, node, label, 1);
+    Some(numbered_from(table, place.slot, place.depth))
+}
