@@ -41,7 +41,8 @@ class _Pair(ctypes.Structure):
 
 
 def _library(path=os.environ.get("CEDAR_LIBRARY", Path(__file__).parent / "libcedar.so")):
-    # PyDLL keeps the interpreter's lock during a call, so that one call at a time works on a dictionary.
+    # PyDLL keeps the interpreter's lock during a call, so that one call at a time works on a dictionary. Between calls other threads run:
+    # what C writes to is each call's own.
     library = ctypes.PyDLL(str(path))
     handle = POINTER(_Handle)
     for name, result, arguments in [
@@ -199,9 +200,6 @@ class Cedar:
     def __init__(self, pairs=(), ordered=True, max_trial=1, reduced=False):
         self._handle = _Handle()
         self._this = byref(self._handle)
-        self._value = c_int32()
-        self._position = c_size_t()
-        self._room = 64
         new = _CEDAR.cedar_new_reduced if reduced else _CEDAR.cedar_new_with
         _check(new(self._this, ordered, _trials(max_trial)))
         self.update(pairs)
@@ -209,16 +207,16 @@ class Cedar:
     def update(self, pairs):
         """Stores the pairs of a mapping or of a sequence in one call: a key's last value stands. Where a pair is refused for itself,
         nothing is stored; where memory is wanted, the pairs before it are."""
-        array = _pairs(pairs)
-        _check(_CEDAR.cedar_update_all(self._this, array, len(array), byref(self._position)), self._position)
+        array, position = _pairs(pairs), c_size_t()
+        _check(_CEDAR.cedar_update_all(self._this, array, len(array), byref(position)), position)
 
     @classmethod
     def from_sorted(cls, pairs, ordered=True, max_trial=1, reduced=False):
         """The dictionary of the pairs of a mapping or of a sequence, whose keys ascend by bytes, made at once. A key that isn't above the
         one before it is refused, and its index is told."""
-        cedar, array = cls(), _pairs(pairs)
+        cedar, array, position = cls(), _pairs(pairs), c_size_t()
         build = _CEDAR.cedar_build_reduced if reduced else _CEDAR.cedar_build
-        _check(build(cedar._this, ordered, _trials(max_trial), array, len(array), byref(cedar._position)), cedar._position)
+        _check(build(cedar._this, ordered, _trials(max_trial), array, len(array), byref(position)), position)
         return cedar
 
     def save(self, is_full=False):
@@ -233,7 +231,7 @@ class Cedar:
 
     def load(self, data, memory_limit=2**29):
         """Becomes the dictionary that a file's bytes are of, of the layout that they are of. Where they are refused, it stays as it was."""
-        data = bytes(data)
+        data = bytes(memoryview(data))
         status = _CEDAR.cedar_load(self._this, data, len(data), memory_limit)
         if status == _OTHER_LAYOUT:
             status = _CEDAR.cedar_load_reduced(self._this, data, len(data), memory_limit)
@@ -260,13 +258,13 @@ class Cedar:
     __deepcopy__ = __reduce__ = lambda self, *_: self.__copy__()
 
     def __setitem__(self, key, value):
-        key = _bytes(key)
-        _check(_CEDAR.cedar_update(self._this, key, len(key), _value(value), byref(self._position)), self._position)
+        key, position = _bytes(key), c_size_t()
+        _check(_CEDAR.cedar_update(self._this, key, len(key), _value(value), byref(position)), position)
 
     def get(self, key, default=None):
-        key = _bytes(key)
-        if _CEDAR.cedar_get(self._this, key, len(key), byref(self._value)):
-            return self._value.value
+        key, value = _bytes(key), c_int32()
+        if _CEDAR.cedar_get(self._this, key, len(key), byref(value)):
+            return value.value
         return default
 
     def __getitem__(self, key):
@@ -300,13 +298,13 @@ class Cedar:
         return (key for key, _ in self.items())
 
     def _walk(self, walk, text):
-        text = _bytes(text)
+        text, room = _bytes(text), 64
         while True:
-            matches = (_Match * self._room)()
-            count = walk(self._this, text, len(text), matches, self._room)
-            if count <= self._room:
+            matches = (_Match * room)()
+            count = walk(self._this, text, len(text), matches, room)
+            if count <= room:
                 return [(match.value, match.length) for match in matches[:count]]
-            self._room = count
+            room = count
 
     def prefixes(self, text):
         """The keys that a text begins with, shortest first: for each its value, and how many bytes it has."""

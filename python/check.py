@@ -3,6 +3,7 @@
 import pickle
 import random
 import sys
+import threading
 import time
 
 from cedar import Cedar, CedarError
@@ -58,6 +59,8 @@ def check(reduced):
     assert Cedar.loaded(cedar.save()).predictions(b"") == cedar.predictions(b"")
     many()
     from_sorted(plain, reduced)
+    threads(reduced)
+    refuses(TypeError, lambda: Cedar.loaded(5))
     whole_texts(cedar, {**plain, "käse".encode(): 3})
     cedar.close()
     assert len(cedar) == 0 and refuses(CedarError, lambda: cedar.__setitem__(b"a", 1)) == "the dictionary is closed"
@@ -147,6 +150,27 @@ def loads(data, reduced):
         assert refuses(CedarError, lambda: cedar.load(damaged)) == why and cedar["old"] == 5
     cedar.load(data)
     assert cedar.predictions(b"") == [(1, 3), (3, 4), (2, 3)] and cedar.get("old") is None and cedar.is_reduced() == reduced
+
+
+def threads(reduced):
+    """Threads that read one dictionary, each of whose steps the interpreter may leave for another thread."""
+    plain = {f"{i}".encode(): i for i in range(2000)}
+    cedar, wrong, interval = Cedar(plain, reduced=reduced), [], sys.getswitchinterval()
+
+    def read(seed):
+        keys = random.Random(seed).choices(list(plain), k=3000)
+        wrong.extend(key for key in keys if cedar[key] != plain[key])
+        wrong.extend(key for key in keys[:30] if len(cedar.predictions(key[:1])) != sum(k[:1] == key[:1] for k in plain))
+        wrong.extend(["all"] * (len(cedar.predictions(b"")) != len(plain)))
+
+    readers = [threading.Thread(target=read, args=(seed,)) for seed in range(8)]
+    sys.setswitchinterval(1e-6)
+    for reader in readers:
+        reader.start()
+    for reader in readers:
+        reader.join()
+    sys.setswitchinterval(interval)
+    assert not wrong, wrong[:3]
 
 
 def times(count):

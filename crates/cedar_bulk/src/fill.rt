@@ -13,7 +13,7 @@ ghost use Rattle.cedar_meaning.specs.Meaning.WellFormed.{is_value};
 ghost use Rattle.cedar_bulk.specs.Asked.{WantsBase, WantsChain, WantsNumber, WantsSlots};
 
 use crate::append::{append_labels, slot_at};
-use cedar_slots::CedarError;
+use cedar_slots::Shortage;
 use cedar_table::{Layout, Table};
 use std::alloc::Allocator;
 
@@ -24,7 +24,7 @@ fn give_base<L: Layout, const SLOTS: usize, A: Allocator>(
     table: &mut Table<L, SLOTS, A>,
     node: usize,
     wanted: &[u8],
-) -> Result<usize, CedarError>
+) -> Result<usize, Shortage>
     requires { WantsBase SLOTS (fields table.old) node wanted.now }
     ensures sound { IsTable SLOTS (fields table.new).places }
     ensures based { OnOk result (GetsBase (size_of (fields table.old)) (size_of (fields table.new)) (cells table.old) (cells table.new) node wanted.now) }
@@ -94,7 +94,7 @@ fn place_node<L: Layout, const SLOTS: usize, A: Allocator>(
     number: Option<i32>,
     wanted: &[u8],
     labels: &[u8],
-) -> Result<usize, CedarError>
+) -> Result<usize, Shortage>
     requires { WantsSlots SLOTS (fields table.old) node number wanted.now labels.now }
     ensures sound { IsTable SLOTS (fields table.new).places }
     ensures fills { OnOk result (Fills (size_of (fields table.old)) (size_of (fields table.new)) (cells table.old) (cells table.new) node number labels.now) }
@@ -131,7 +131,7 @@ pub(crate) fn fill_node<L: Layout, const SLOTS: usize, A: Allocator>(
     number: Option<i32>,
     wanted: &[u8],
     labels: &[u8],
-) -> Result<usize, CedarError>
+) -> Result<usize, Shortage>
     requires wants { WantsSlots SLOTS (fields table.old) node number wanted.now labels.now }
     requires value { IfSome number (λ v. is_value v ≡ true) }
     ensures sound { IsTable SLOTS (fields table.new).places }

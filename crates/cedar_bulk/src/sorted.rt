@@ -5,7 +5,7 @@ ghost use Rattle.std.specs.List.{AllByRecursion};
 ghost use Rattle.cedar_tree.specs.Tree.{empty_tree, Forest, none, Tree};
 ghost use Rattle.cedar_tree.specs.Laws.{ArePathsAscending, ArePathsKeys};
 ghost use Rattle.cedar_tree.specs.Queries.{asc, prefixes, prefixes_forest};
-ghost use Rattle.cedar_error.specs.declared.error.CedarError.TheVariants.{Memory, SlotLimit};
+ghost use Rattle.cedar_slots.specs.declared.shortage.Shortage.TheVariants.{Memory, SlotLimit};
 ghost use Rattle.cedar_meaning.specs.declared.layout.Stored.TheVariants.{AtBase};
 ghost use Rattle.cedar_meaning.specs.Meaning.Family.{base_of};
 ghost use Rattle.cedar_meaning.specs.Meaning.StandsFor.{HoldsTree, labels};
@@ -24,7 +24,7 @@ use crate::append::slot_at;
 use crate::fill::fill_node;
 use crate::spans::{Labels, Span, are_alike, deeper, list_spans, move_spans, number_at};
 use arrayvec::ArrayVec;
-use cedar_slots::CedarError;
+use cedar_slots::Shortage;
 use cedar_table::{Layout, Table};
 use std::alloc::Allocator;
 use std::convert::AsSlice;
@@ -35,7 +35,7 @@ fn fill_span<'a, L: Layout, const SLOTS: usize, A: Allocator, K: AsSlice<u8>>(
     span: Span<'a, K>,
     wanted: &mut Labels,
     pending: &mut Vec<Span<'a, K>, A>,
-) -> Result<(), CedarError>
+) -> Result<(), Shortage>
     requires bare { IsUnfilled SLOTS (fields table.old) span.node }
     requires tree { (t : Tree) × IsTreeOfSpan span.depth (entries_by K.items span.pairs.now) t × (span.node ≡ 0 → t.number ≡ None) }
     ensures sound { IsTable SLOTS (fields table.new).places }
@@ -64,7 +64,7 @@ fn fill_span<'a, L: Layout, const SLOTS: usize, A: Allocator, K: AsSlice<u8>>(
 fn fill_alone<'a, L: Layout, const SLOTS: usize, A: Allocator, K: AsSlice<u8>>(
     table: &mut Table<L, SLOTS, A>,
     span: Span<'a, K>,
-) -> Result<Option<Span<'a, K>>, CedarError>
+) -> Result<Option<Span<'a, K>>, Shortage>
     requires bare { IsUnfilled SLOTS (fields table.old) span.node }
     requires not_root { span.node ≢ 0 }
     requires some { 0 < length span.pairs.now }
@@ -101,7 +101,7 @@ fn fill_next<'a, L: Layout, const SLOTS: usize, A: Allocator, K: AsSlice<u8>>(
     span: Span<'a, K>,
     wanted: &mut Labels,
     pending: &mut Vec<Span<'a, K>, A>,
-) -> Result<Option<Span<'a, K>>, CedarError>
+) -> Result<Option<Span<'a, K>>, Shortage>
     requires bare { IsUnfilled SLOTS (fields table.old) span.node }
     requires not_root { span.node ≢ 0 }
     requires tree { (t : Tree) × IsTreeOfSpan span.depth (entries_by K.items span.pairs.now) t }
@@ -131,7 +131,7 @@ fn fill_pending<'a, L: Layout, const SLOTS: usize, A: Allocator, K: AsSlice<u8>>
     table: &mut Table<L, SLOTS, A>,
     wanted: &mut Labels,
     pending: &mut Vec<Span<'a, K>, A>,
-) -> Result<(), CedarError>
+) -> Result<(), Shortage>
     requires filling { (g : Forest) × (most : ℕ) × Filling SLOTS (fields table.old) (parts_of K.items pending.old.items) g most }
     ensures filled { OnOk result ((g : Forest) (most : ℕ) → Filling SLOTS (fields table.old) (parts_of K.items pending.old.items) g most → Filling SLOTS (fields table.new) [] g most) }
     ensures refused { IfErr result (λ error. (error ≡ Memory) ⊎ ((error ≡ SlotLimit) × ((g : Forest) (most : ℕ) → Filling SLOTS (fields table.old) (parts_of K.items pending.old.items) g most → SLOTS < 256 * most))) }
@@ -151,7 +151,7 @@ fn fill<L: Layout, const SLOTS: usize, A: Allocator, K: AsSlice<u8>>(
     table: &mut Table<L, SLOTS, A>,
     alloc: A,
     pairs: &[(K, i32)],
-) -> Result<(), CedarError>
+) -> Result<(), Shortage>
     requires new { IsTable SLOTS (fields table.old).places }
     requires root_base { (cells table.old).stored 0 ≡ AtBase 0 }
     requires empty { HoldsTree (size_of (fields table.old)) (cells table.old) none }
@@ -179,7 +179,7 @@ fn fill_sorted<L: Layout, const SLOTS: usize, A: Allocator, K: AsSlice<u8>>(
     table: &mut Table<L, SLOTS, A>,
     alloc: A,
     pairs: &[(K, i32)],
-) -> Result<(), CedarError>
+) -> Result<(), Shortage>
     requires well_formed { IsWellFormed SLOTS (fields table.old) }
     requires empty { tree_of (fields table.old) ≡ empty_tree }
     requires root_base { (cells table.old).stored 0 ≡ AtBase 0 }
@@ -214,7 +214,7 @@ pub fn build_sorted<L: Layout, const SLOTS: usize, A: Allocator + Copy, K: AsSli
     ordered: bool,
     max_trial: i32,
     pairs: &[(K, i32)],
-) -> Result<Table<L, SLOTS, A>, CedarError>
+) -> Result<Table<L, SLOTS, A>, Shortage>
     requires tried { pos 1 ≤ℤ max_trial }
     requires limit { IsSlotLimit SLOTS }
     requires keys { ArePathsKeys (entries_by K.items pairs.now) }

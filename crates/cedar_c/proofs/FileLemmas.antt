@@ -1,17 +1,17 @@
 -- What a load tells of a file.
-use Rattle.std.proofs.Common.{arith, ◌≡◌, ◌≢◌, ℕ, inl, inr, List, take, Option, None, Some, IfSome, MatchOption, Ok, Err, refl, ap, ◌∙◌}
+use Rattle.std.proofs.Common.{arith, ◌≡◌, ◌≢◌, ℕ, inl, inr, List, [], ◌∷◌, take, Option, None, Some, IfSome, MatchOption, Ok, Err, refl, ap, sym, subst, ◌∙◌}
 use Rattle.std.specs.Prelude.{◌⊎◌}
 use Rattle.cedar_meaning.specs.Table.Layouts.{LayoutKind, layout_byte}
 use Rattle.cedar_meaning.specs.Table.TableFields.{Fields}
 use Rattle.cedar_format.specs.declared.error.CedarPersistenceError.{CedarPersistenceError}
 use Rattle.cedar_format.specs.declared.error.CedarPersistenceError.TheVariants as errors
-use Rattle.cedar_format.specs.Format.{header_answer, header_at}
+use Rattle.cedar_format.specs.Format.{body_refusal, header_answer, header_at, header_refusal, size_refusal, trial_refusal}
 use Rattle.cedar_format.specs.declared.header.Header.{Header}
 use Rattle.cedar_format.specs.Reading.{IsIo, LacksTable}
-use Rattle.cedar_format.specs.Refusal.{Refusal, refusal_of}
+use Rattle.cedar_format.specs.Refusal.{Refusal, first_refusal, refusal_of}
 use Rattle.cedarwood.specs.Loading.{IsDecided, LoadAnswers}
 use Rattle.cedar_format.specs.Tables.{IsTableFile}
-use Rattle.cedar_c.specs.Files.{file_status, TellsHeader}
+use Rattle.cedar_c.specs.Files.{early_refusal, file_status, IsOfNoTable, TellsHeader}
 
 none_some : {X : Type 0} (x : X) → ◌≡◌ {A = Option X} None (Some x) → ⊥
 none_some x h = cc
@@ -65,6 +65,60 @@ module _ {X : Type 0} (table : X → Fields) (kind : LayoutKind) (slots limit : 
       of : (o : Option Refusal) → MatchOption o (IsDecided table slots bytes (Err e)) (λ r. ◌≡◌ {A = Option Refusal} (Some (refusal_of e)) (Some r)) → IfSome o (λ r. (file_status (refusal_of e) ≡ file_status r) ⊎ (file_status (refusal_of e) ≡ 2))
       of None decided = tt
       of (Some r) is = let same : refusal_of e ≡ r = cc in inl (ap file_status same)
+
+  early_first : (a b c d : Option Refusal) (r : Refusal) → first_refusal (a ∷ b ∷ []) ≡ Some r → first_refusal (first_refusal (a ∷ b ∷ c ∷ []) ∷ d ∷ []) ≡ Some r
+  early_first (Some x) b c d r h = h
+  early_first None (Some y) c d r h = h
+  early_first None None c d r h = absurd cc
+
+  early_answer : (r : Refusal) → early_refusal (layout_byte kind) slots limit bytes ≡ Some r → header_answer (layout_byte kind) slots limit bytes ≡ Some r
+  early_answer r h =
+      early_first (header_refusal (layout_byte kind) (take 88 bytes)) (size_refusal slots limit (header_at (take 88 bytes))) (body_refusal (header_at (take 88 bytes)) bytes) (trial_refusal (header_at (take 88 bytes))) r h
+
+  -- before memory is asked for, the refusal is told
+  pub refused_at_once : (e : CedarPersistenceError) → LoadAnswers table kind slots limit bytes (Err e) → IfSome (early_refusal (layout_byte kind) slots limit bytes) (λ r. file_status (refusal_of e) ≡ file_status r)
+  refused_at_once e told = each (early_refusal (layout_byte kind) slots limit bytes) refl
+    where
+      here : (r : Refusal) → early_refusal (layout_byte kind) slots limit bytes ≡ Some r → LoadAnswers table kind slots limit bytes (Err e) → file_status (refusal_of e) ≡ file_status r
+      here r h (inl lacks) =
+          let none : early_refusal (layout_byte kind) slots limit bytes ≡ None =
+          ap (λ a. first_refusal (a ∷ size_refusal slots limit (header_at (take 88 bytes)) ∷ [])) lacks.1 ∙ ap (λ b. first_refusal (None ∷ b ∷ [])) lacks.2 in
+          absurd (none_some r (sym none ∙ h))
+      here r h (inr told) =
+          let is : ◌≡◌ {A = Option Refusal} (Some (refusal_of e)) (Some r) =
+          subst (λ (o : Option Refusal). MatchOption o (IsDecided table slots bytes (Err e)) (λ r. ◌≡◌ {A = Option Refusal} (Some (refusal_of e)) (Some r))) (early_answer r h) told in
+          let same : refusal_of e ≡ r = cc in ap file_status same
+
+      each : (o : Option Refusal) → early_refusal (layout_byte kind) slots limit bytes ≡ o → IfSome o (λ r. file_status (refusal_of e) ≡ file_status r)
+      each None h = tt
+      each (Some r) h = here r h told
+
+  -- and nothing is loaded
+  pub loaded_early : (P : Refusal → Type 0) (x : X) → LoadAnswers table kind slots limit bytes (Ok x) → IfSome (early_refusal (layout_byte kind) slots limit bytes) P
+  loaded_early P x told = each (early_refusal (layout_byte kind) slots limit bytes) refl
+    where
+      each : (o : Option Refusal) → early_refusal (layout_byte kind) slots limit bytes ≡ o → IfSome o P
+      each None h = tt
+      each (Some r) h = absurd (subst (λ (o : Option Refusal). IfSome o (λ _. ⊥)) (early_answer r h) (loaded_header (λ _. ⊥) x told))
+
+  -- behind a header that passes, memory was wanted, or the bytes are of no table
+  pub refused_behind : (e : CedarPersistenceError) → LoadAnswers table kind slots limit bytes (Err e) → header_answer (layout_byte kind) slots limit bytes ≡ None
+      → (file_status (refusal_of e) ≡ 2) ⊎ ((file_status (refusal_of e) ≡ 27) × IsOfNoTable slots bytes)
+  refused_behind e (inl lacks) none = inl (lack_is_memory (header_at (take 88 bytes)) e lacks.0)
+  refused_behind e (inr told) none =
+      let decided : IsDecided table slots bytes (Err e) = subst (λ (o : Option Refusal). MatchOption o (IsDecided table slots bytes (Err e)) (λ r. ◌≡◌ {A = Option Refusal} (Some (refusal_of e)) (Some r))) none told in
+      inr (ap file_status decided.0, decided.1)
+
+-- an early refusal's number is what is told
+pub told_early : (o : Option Refusal) (e : CedarPersistenceError) (n : ℕ) → n ≡ file_status (refusal_of e) → IfSome o (λ r. file_status (refusal_of e) ≡ file_status r) → IfSome o (λ r. n ≡ file_status r)
+told_early None e n is h = tt
+told_early (Some r) e n is h = is ∙ h
+
+-- the number that is told behind a header that passes
+pub told_behind : (slots : ℕ) (bytes : List ℕ) (e : CedarPersistenceError) (n : ℕ) → n ≡ file_status (refusal_of e)
+    → (file_status (refusal_of e) ≡ 2) ⊎ ((file_status (refusal_of e) ≡ 27) × IsOfNoTable slots bytes) → (n ≡ 2) ⊎ ((n ≡ 27) × IsOfNoTable slots bytes)
+told_behind slots bytes e n is (inl two) = inl (is ∙ two)
+told_behind slots bytes e n is (inr none) = inr (is ∙ none.0, none.1)
 
 -- a refused header's number is what is told
 pub told_status : (o : Option Refusal) (e : CedarPersistenceError) (n : ℕ) → n ≡ file_status (refusal_of e)

@@ -1,7 +1,7 @@
 -- Pairs of C's.
 use Rattle.std.specs.Prelude.{ℕ, ℤ, List, [], ◌∷◌, ◌++◌, map, Option}
 use Rattle.std.specs.Borrow.{Bor}
-use Rattle.cedar_error.specs.declared.error.CedarError.{CedarError}
+use Rattle.cedarwood.specs.declared.error.CedarError.{CedarError}
 use Rattle.cedar_tree.specs.Queries.{Entry}
 use Rattle.cedarwood.specs.SortedInput.{fault_from}
 use Rattle.cedar_c.specs.declared.pairs.Pair.{Pair}

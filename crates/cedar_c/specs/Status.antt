@@ -1,7 +1,7 @@
 -- The numbers that C is answered.
 use Rattle.std.specs.Prelude.{ℕ, List, [], ◌∷◌, ◌==◌, codes, if◌then◌else◌}
-use Rattle.cedar_error.specs.declared.error.CedarError.{CedarError}
-use Rattle.cedar_error.specs.declared.error.CedarError.TheVariants.{EmptyKey, NulByte, InvalidValue, InvalidMaxTrial, DuplicateKey, KeysNotSorted, Memory, SlotLimit}
+use Rattle.cedarwood.specs.declared.error.CedarError.{CedarError}
+use Rattle.cedarwood.specs.declared.error.CedarError.TheVariants.{EmptyKey, NulByte, InvalidValue, InvalidMaxTrial, DuplicateKey, KeysNotSorted, Memory, SlotLimit}
 
 -- the number of an error. 0 is none, and 1 says that the handle is closed
 abbrev pub status_of : CedarError → ℕ

@@ -4,6 +4,7 @@ ghost use Rattle.std.specs.Prelude.{◌≡◌, ◌↔◌, ◌+◌, ◌-◌, ◌/
 ghost use Rattle.cedar_meaning.specs.Table.Layouts.{default_layout, reduced_layout};
 ghost use Rattle.cedar_tree.specs.Queries.{prefixes, used, walk};
 ghost use Rattle.cedarwood.specs.Builds.{outcome};
+ghost use Rattle.cedarwood.specs.Fault.{fault};
 ghost use Rattle.cedarwood.specs.State.{erased};
 ghost use Rattle.cedarwood.specs.Tree.{empty_tree, number_at};
 ghost use Rattle.cedarwood.specs.Updates.{IsUpdate};
@@ -47,6 +48,7 @@ impl AnyCedar {
 
     pub(crate) fn update_bytes(&mut self, key: &[u8], value: i32) -> Result<(), CedarError>
         ensures updated { IsUpdate (layout_of self.old) 1073741824 (dictionary_in self.old) (dictionary_in self.new) key.now value result }
+        ensures unchanged { IsSome (fault key.now value) → self.new ≡ self.old }
         ensures layout { layout_of self.new ≡ layout_of self.old }
     {
         match self {
@@ -57,6 +59,7 @@ impl AnyCedar {
 
     pub(crate) fn insert_bytes(&mut self, key: &[u8], value: i32) -> Result<Option<i32>, CedarError>
         ensures updated { IsUpdate (layout_of self.old) 1073741824 (dictionary_in self.old) (dictionary_in self.new) key.now value (outcome result) }
+        ensures unchanged { IsSome (fault key.now value) → self.new ≡ self.old }
         ensures held { IfOk result (λ held. held ≡ number_at (dictionary_in self.old).state.tree key.now) }
         ensures layout { layout_of self.new ≡ layout_of self.old }
     {
@@ -70,6 +73,7 @@ impl AnyCedar {
         ensures answer { IsTrue result ↔ IsSome (number_at (dictionary_in self.old).state.tree key.now) }
         ensures after { (dictionary_in self.new).state ≡ erased (dictionary_in self.old).state key.now }
         ensures size { ((dictionary_in self.new).size ≡ (dictionary_in self.old).size) × ((dictionary_in self.new).capacity ≡ (dictionary_in self.old).capacity) }
+        ensures max_trial { (dictionary_in self.new).max_trial ≡ (dictionary_in self.old).max_trial }
         ensures layout { layout_of self.new ≡ layout_of self.old }
     {
         match self {

@@ -144,12 +144,17 @@ pub extern "C" fn cedar_update(
     ensures closed { (result ≡ 1) ↔ (content handle.old ≡ None) }
     ensures ok { result ≡ 0 → state_in handle.new ≡ option_map (λ s. stored s key.now value) (state_in handle.old) }
     ensures err { (result ≡ 0) ⊎ (state_in handle.new ≡ state_in handle.old) }
+    ensures unchanged { IsSome (fault key.now value) → content handle.new ≡ content handle.old }
     ensures layout { layout_in handle.new ≡ layout_in handle.old }
     ensures faulty { IsSome (content handle.old) → IfSome (fault key.now value) (λ e. (result ≡ status_of e) × (position.new ≡ position_of position.old e)) }
     ensures memory { result ≡ 2 → (size_in handle.new ≡ capacity_in handle.new) × (capacity_in handle.new < 2 ^ 30) }
     ensures limit { result ≡ 3 → size_in handle.new ≡ 2 ^ 30 }
     ensures spare { IsSome (content handle.old) → fault key.now value ≡ None
         → 256 * length key.now ≤ capacity_in handle.old - size_in handle.old → result ≡ 0 }
+
+    // Only an error that tells a position writes it, and the settings stay.
+    ensures stays { (result ≡ 5) ⊎ (result ≡ 8) ⊎ (result ≡ 9) ⊎ (position.new ≡ position.old) }
+    ensures trials { trials_in handle.new ≡ trials_in handle.old }
     ensures refused { IsSome (content handle.old) → fault key.now value ≡ None →
         (result ≡ 0) ⊎ (((result ≡ 2) ⊎ (result ≡ 3)) × (number_at (tree_in handle.old) key.now ≡ None)) }
 {
@@ -179,6 +184,7 @@ pub extern "C" fn cedar_insert(
     ensures closed { (result ≡ 1) ↔ (content handle.old ≡ None) }
     ensures ok { result ≡ 0 → state_in handle.new ≡ option_map (λ s. stored s key.now value) (state_in handle.old) }
     ensures err { (result ≡ 0) ⊎ (state_in handle.new ≡ state_in handle.old) }
+    ensures unchanged { IsSome (fault key.now value) → content handle.new ≡ content handle.old }
     ensures layout { layout_in handle.new ≡ layout_in handle.old }
     ensures held { result ≡ 0 → IsTrue held.new ↔ IsSome (number_at (tree_in handle.old) key.now) }
     ensures before { result ≡ 0 → IfSome (number_at (tree_in handle.old) key.now) (λ v. before.new ≡ v) }
@@ -187,6 +193,11 @@ pub extern "C" fn cedar_insert(
     ensures limit { result ≡ 3 → size_in handle.new ≡ 2 ^ 30 }
     ensures spare { IsSome (content handle.old) → fault key.now value ≡ None
         → 256 * length key.now ≤ capacity_in handle.old - size_in handle.old → result ≡ 0 }
+
+    // Only an error that tells a position writes it, and the settings stay.
+    ensures stays { (result ≡ 5) ⊎ (result ≡ 8) ⊎ (result ≡ 9) ⊎ (position.new ≡ position.old) }
+    ensures trials { trials_in handle.new ≡ trials_in handle.old }
+    ensures untold { (result ≡ 0) ⊎ ((held.new ≡ held.old) × (before.new ≡ before.old)) }
     ensures refused { IsSome (content handle.old) → fault key.now value ≡ None →
         (result ≡ 0) ⊎ (((result ≡ 2) ⊎ (result ≡ 3)) × (number_at (tree_in handle.old) key.now ≡ None)) }
 {
@@ -213,6 +224,7 @@ pub extern "C" fn cedar_erase(handle: &mut Handle, key: &[u8]) -> bool
     ensures after { state_in handle.new ≡ option_map (λ s. erased s key.now) (state_in handle.old) }
     ensures size { (size_in handle.new ≡ size_in handle.old) × (capacity_in handle.new ≡ capacity_in handle.old) }
     ensures layout { layout_in handle.new ≡ layout_in handle.old }
+    ensures trials { trials_in handle.new ≡ trials_in handle.old }
 {
     if !handle.is_open() {
         return false;

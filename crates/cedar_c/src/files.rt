@@ -1,13 +1,14 @@
 //! A dictionary's file, in memory of the caller's.
 
-ghost use Rattle.std.specs.Prelude.{◌≡◌, ◌≢◌, ◌⊎◌, ◌<◌, ℕ, Some, IfOk, IfErr, IfSome, IsErrAnd};
+ghost use Rattle.std.specs.Prelude.{◌≡◌, ◌≢◌, ◌⊎◌, ◌<◌, ℕ, Some, None, IfOk, IfErr, IfSome, IsErrAnd};
 ghost use Rattle.cedar_format.specs.Format.{header_answer};
 ghost use Rattle.cedar_format.specs.Refusal.{refusal_of};
 ghost use Rattle.cedar_format.specs.Tables.{IsTableFile};
 ghost use Rattle.cedar_slots.specs.Places.{IsSlotLimit};
 ghost use Rattle.cedar_meaning.specs.Table.Layouts.{default_layout, layout_byte, reduced_layout};
 ghost use Rattle.cedar_c.specs.Content.{content, layout_in};
-ghost use Rattle.cedar_c.specs.Files.{file_status, IsFileOf, TellsHeader};
+ghost use Rattle.cedar_c.specs.Files.{early_refusal, file_status, IsFileOf, IsOfNoTable, TellsHeader};
+ghost use Rattle.cedarwood.specs.OnTable.{IsOnTable};
 ghost use Rattle.cedar_c.specs.Layouts.{dictionary_in, layout_if, layout_of};
 ghost use Rattle.cedar_c.specs.declared.any.AnyCedar.{AnyCedar};
 
@@ -35,6 +36,13 @@ pub extern "C" fn cedar_load(
 
     // Behind a header that is refused nothing else is told, but for want of memory.
     ensures header { IfSome (header_answer 0 1073741824 memory_limit bytes.now) (λ r. (result ≡ file_status r) ⊎ (result ≡ 2)) }
+
+    // Before memory is asked for just this refusal's number is told.
+    ensures early { IfSome (early_refusal 0 1073741824 memory_limit bytes.now) (λ r. result ≡ file_status r) }
+
+    // Behind one that passes they are of this table, or of no well-formed one, or memory was wanted.
+    ensures behind { header_answer 0 1073741824 memory_limit bytes.now ≡ None → (result ≡ 0) ⊎ (result ≡ 2) ⊎ ((result ≡ 27) × IsOfNoTable 1073741824 bytes.now) }
+    ensures stands { result ≡ 0 → (a : AnyCedar) × (content handle.new ≡ Some a) × IsOnTable 1073741824 (dictionary_in a) }
     ensures read { result ≢ 29 }
 {
     renew(handle, alloc, false, bytes, memory_limit)
@@ -57,6 +65,13 @@ pub extern "C" fn cedar_load_reduced(
 
     // Behind a header that is refused nothing else is told, but for want of memory.
     ensures header { IfSome (header_answer 1 1073741824 memory_limit bytes.now) (λ r. (result ≡ file_status r) ⊎ (result ≡ 2)) }
+
+    // Before memory is asked for just this refusal's number is told.
+    ensures early { IfSome (early_refusal 1 1073741824 memory_limit bytes.now) (λ r. result ≡ file_status r) }
+
+    // Behind one that passes they are of this table, or of no well-formed one, or memory was wanted.
+    ensures behind { header_answer 1 1073741824 memory_limit bytes.now ≡ None → (result ≡ 0) ⊎ (result ≡ 2) ⊎ ((result ≡ 27) × IsOfNoTable 1073741824 bytes.now) }
+    ensures stands { result ≡ 0 → (a : AnyCedar) × (content handle.new ≡ Some a) × IsOnTable 1073741824 (dictionary_in a) }
     ensures read { result ≢ 29 }
 {
     renew(handle, alloc, true, bytes, memory_limit)
@@ -74,6 +89,9 @@ fn renew(
     ensures layout { result ≡ 0 → layout_in handle.new ≡ Some (layout_if is_reduced) }
     ensures refused { (result ≡ 0) ⊎ (content handle.new ≡ content handle.old) }
     ensures header { IfSome (header_answer (layout_byte (layout_if is_reduced)) 1073741824 memory_limit bytes.now) (λ r. (result ≡ file_status r) ⊎ (result ≡ 2)) }
+    ensures early { IfSome (early_refusal (layout_byte (layout_if is_reduced)) 1073741824 memory_limit bytes.now) (λ r. result ≡ file_status r) }
+    ensures behind { header_answer (layout_byte (layout_if is_reduced)) 1073741824 memory_limit bytes.now ≡ None → (result ≡ 0) ⊎ (result ≡ 2) ⊎ ((result ≡ 27) × IsOfNoTable 1073741824 bytes.now) }
+    ensures stands { result ≡ 0 → (a : AnyCedar) × (content handle.new ≡ Some a) × IsOnTable 1073741824 (dictionary_in a) }
     ensures read { result ≢ 29 }
 {
     match boxed(alloc, is_reduced, bytes, memory_limit) {
@@ -97,6 +115,9 @@ fn boxed(
     ensures layout { IfOk result (λ b. layout_of b.value ≡ layout_if is_reduced) }
     ensures refused { IfErr result (λ status. 0 < status) }
     ensures header { IfSome (header_answer (layout_byte (layout_if is_reduced)) 1073741824 memory_limit bytes.now) (λ r. IsErrAnd result (TellsHeader r)) }
+    ensures early { IfSome (early_refusal (layout_byte (layout_if is_reduced)) 1073741824 memory_limit bytes.now) (λ r. IsErrAnd result (λ status. status ≡ file_status r)) }
+    ensures behind { header_answer (layout_byte (layout_if is_reduced)) 1073741824 memory_limit bytes.now ≡ None → IfErr result (λ status. (status ≡ 2) ⊎ ((status ≡ 27) × IsOfNoTable 1073741824 bytes.now)) }
+    ensures stands { IfOk result (λ b. IsOnTable 1073741824 (dictionary_in b.value)) }
     ensures read { IfErr result (λ status. status ≢ 29) }
 {
     match AnyCedar::loaded(alloc, is_reduced, bytes, memory_limit) {
@@ -121,6 +142,9 @@ impl AnyCedar {
         ensures layout { IfOk result (λ a. layout_of a ≡ layout_if is_reduced) }
         ensures refused { IfErr result (λ status. 0 < status) }
         ensures header { IfSome (header_answer (layout_byte (layout_if is_reduced)) 1073741824 memory_limit bytes.now) (λ r. IsErrAnd result (TellsHeader r)) }
+        ensures early { IfSome (early_refusal (layout_byte (layout_if is_reduced)) 1073741824 memory_limit bytes.now) (λ r. IsErrAnd result (λ status. status ≡ file_status r)) }
+        ensures behind { header_answer (layout_byte (layout_if is_reduced)) 1073741824 memory_limit bytes.now ≡ None → IfErr result (λ status. (status ≡ 2) ⊎ ((status ≡ 27) × IsOfNoTable 1073741824 bytes.now)) }
+        ensures stands { IfOk result (λ a. IsOnTable 1073741824 (dictionary_in a)) }
         ensures read { IfErr result (λ status. status ≢ 29) }
     {
         if is_reduced {
@@ -147,11 +171,17 @@ fn load<L: Layout, const SLOTS: usize>(
     ensures loaded { IfOk result (λ d. (version : ℕ) × IsTableFile version SLOTS d.table bytes.now) }
     ensures refused { IfErr result (λ status. 0 < status) }
     ensures header { IfSome (header_answer (layout_byte L.kind) SLOTS memory_limit bytes.now) (λ r. IsErrAnd result (TellsHeader r)) }
+    ensures early { IfSome (early_refusal (layout_byte L.kind) SLOTS memory_limit bytes.now) (λ r. IsErrAnd result (λ status. status ≡ file_status r)) }
+    ensures behind { header_answer (layout_byte L.kind) SLOTS memory_limit bytes.now ≡ None → IfErr result (λ status. (status ≡ 2) ⊎ ((status ≡ 27) × IsOfNoTable SLOTS bytes.now)) }
+    ensures stands { IfOk result (IsOnTable SLOTS) }
     ensures read { IfErr result (λ status. status ≢ 29) }
 {
     let mut left = bytes;
     match Trie::load_from_reader_with_limit(alloc, &mut left, memory_limit) {
-        Ok(trie) => Ok(trie),
+        Ok(trie) => {
+            trie.stands_on_its_table();
+            Ok(trie)
+        }
         Err(error) => Err(tell_refusal(error)),
     }
 }

@@ -1,9 +1,10 @@
 //! Many pairs in one call.
 
-ghost use Rattle.std.specs.Prelude.{◌≡◌, ◌⊎◌, ◌≤◌, ◌↔◌, ℕ, length, map, take, None, Err, IsSome, IfSome, IfErr, OnOk, option_map};
+ghost use Rattle.std.specs.Prelude.{◌≡◌, ◌⊎◌, ◌<◌, ◌≤◌, ◌^◌, ◌↔◌, ℕ, length, map, take, None, Err, IsSome, IfSome, IfErr, OnOk, OnErr, option_map};
+ghost use Rattle.cedarwood.specs.Tree.{number_at};
 ghost use Rattle.cedarwood.specs.Fault.{IsShortage};
-ghost use Rattle.cedarwood.specs.Builds.{all_stored, first_fault};
-ghost use Rattle.cedar_c.specs.Content.{content, layout_in, state_in};
+ghost use Rattle.cedarwood.specs.Builds.{all_stored, first_fault, path_at};
+ghost use Rattle.cedar_c.specs.Content.{content, layout_in, size_in, state_in, tree_in, trials_in};
 ghost use Rattle.cedar_c.specs.Layouts.{dictionary_in, layout_of};
 ghost use Rattle.cedar_c.specs.Pairs.{entries_in, taken_pair};
 ghost use Rattle.cedar_c.specs.Status.{status_of, position_of};
@@ -44,6 +45,9 @@ fn store_all<L: Layout, const SLOTS: usize>(
     ensures faulty { IfSome (first_fault (entries_in pairs.now)) (λ e. ((result ≡ Err e) ⊎ (result ≡ Err CedarError.Memory)) × (trie.new ≡ trie.old)) }
     ensures front { (m : ℕ) × (m ≤ length (entries_in pairs.now)) × (trie.new.state ≡ all_stored trie.old.state (take m (entries_in pairs.now))) }
     ensures refused { first_fault (entries_in pairs.now) ≡ None → IfErr result IsShortage }
+    ensures limit { result ≡ Err CedarError.SlotLimit → trie.new.size ≡ SLOTS }
+    ensures part { OnErr result ((trie.new ≡ trie.old) ⊎ ((m : ℕ) × (m < length (entries_in pairs.now)) × (trie.new.state ≡ all_stored trie.old.state (take m (entries_in pairs.now))) × (number_at trie.new.state.tree (path_at (entries_in pairs.now) m) ≡ None))) }
+    ensures max_trial { trie.new.max_trial ≡ trie.old.max_trial }
 {
     match taken(alloc, pairs) {
         Some(taken) => trie.build_bytes(taken.as_slice()),
@@ -58,6 +62,9 @@ impl AnyCedar {
         ensures front { (m : ℕ) × (m ≤ length (entries_in pairs.now)) × ((dictionary_in self.new).state ≡ all_stored (dictionary_in self.old).state (take m (entries_in pairs.now))) }
         ensures refused { first_fault (entries_in pairs.now) ≡ None → IfErr result IsShortage }
         ensures layout { layout_of self.new ≡ layout_of self.old }
+        ensures limit { result ≡ Err CedarError.SlotLimit → (dictionary_in self.new).size ≡ 1073741824 }
+        ensures part { OnErr result ((self.new ≡ self.old) ⊎ ((m : ℕ) × (m < length (entries_in pairs.now)) × ((dictionary_in self.new).state ≡ all_stored (dictionary_in self.old).state (take m (entries_in pairs.now))) × (number_at (dictionary_in self.new).state.tree (path_at (entries_in pairs.now) m) ≡ None))) }
+        ensures max_trial { (dictionary_in self.new).max_trial ≡ (dictionary_in self.old).max_trial }
     {
         match self {
             AnyCedar::Default(cedar) => store_all(cedar, alloc, pairs),
@@ -87,6 +94,14 @@ pub extern "C" fn cedar_update_all(
     ensures front { (m : ℕ) × (m ≤ length (entries_in pairs.now)) × (state_in handle.new ≡ option_map (λ s. all_stored s (take m (entries_in pairs.now))) (state_in handle.old)) }
     ensures layout { layout_in handle.new ≡ layout_in handle.old }
     ensures refused { IsSome (content handle.old) → first_fault (entries_in pairs.now) ≡ None → (result ≡ 0) ⊎ (result ≡ 2) ⊎ (result ≡ 3) }
+
+    // Slots are wanted only where all are in use. After an error nothing has changed, or the pairs before one whose key isn't held then
+    // are stored.
+    ensures limit { result ≡ 3 → size_in handle.new ≡ 2 ^ 30 }
+    ensures part { (result ≡ 0) ⊎ (content handle.new ≡ content handle.old) ⊎ ((m : ℕ) × (m < length (entries_in pairs.now))
+        × (state_in handle.new ≡ option_map (λ s. all_stored s (take m (entries_in pairs.now))) (state_in handle.old)) × (number_at (tree_in handle.new) (path_at (entries_in pairs.now) m) ≡ None)) }
+    ensures stays { (result ≡ 5) ⊎ (result ≡ 8) ⊎ (result ≡ 9) ⊎ (position.new ≡ position.old) }
+    ensures trials { trials_in handle.new ≡ trials_in handle.old }
 {
     if !handle.is_open() {
         return CLOSED;

@@ -104,6 +104,7 @@ fn scan<T: Scanned>(trie: &T, text: &[u8], next: &mut usize, found: &mut [Found]
     ensures told { spots_from (T.scanned trie.now) next.old (drop next.old text.now) ≡ take result found.new ++ spots_from (T.scanned trie.now) next.new (drop next.new text.now) }
     ensures full { (length text.now ≤ next.new) ⊎ (length found.new < result + length (front (T.scanned trie.now) (drop next.new text.now))) }
     ensures within { (result ≤ length found.new) × (next.old ≤ next.new) }
+    ensures ends { (next.new ≤ length text.now) ⊎ (next.new ≡ next.old) }
 {
     let mut count = 0;
     while *next < text.len() {
@@ -121,6 +122,7 @@ fn cut<T: LongestPrefix>(trie: &T, text: &[u8], next: &mut usize, found: &mut [F
     ensures told { tokens_from (T.tree trie.now) next.old (drop next.old text.now) ≡ take result found.new ++ tokens_from (T.tree trie.now) next.new (drop next.new text.now) }
     ensures full { (length text.now ≤ next.new) ⊎ (result ≡ length found.new) }
     ensures within { (result ≤ length found.new) × (next.old ≤ next.new) }
+    ensures ends { (next.new ≤ length text.now) ⊎ (next.new ≡ next.old) }
 {
     let mut count = 0;
     while *next < text.len() && count < found.len() {
@@ -157,6 +159,7 @@ impl AnyCedar {
         ensures told { spots_from (dictionary_in self.now).state.tree next.old (drop next.old text.now) ≡ take result found.new ++ spots_from (dictionary_in self.now).state.tree next.new (drop next.new text.now) }
         ensures full { (length text.now ≤ next.new) ⊎ (length found.new < result + length (front (dictionary_in self.now).state.tree (drop next.new text.now))) }
         ensures within { (result ≤ length found.new) × (next.old ≤ next.new) }
+        ensures ends { (next.new ≤ length text.now) ⊎ (next.new ≡ next.old) }
     {
         match self {
             AnyCedar::Default(cedar) => scan(cedar, text, next, found),
@@ -168,6 +171,7 @@ impl AnyCedar {
         ensures told { tokens_from (dictionary_in self.now).state.tree next.old (drop next.old text.now) ≡ take result found.new ++ tokens_from (dictionary_in self.now).state.tree next.new (drop next.new text.now) }
         ensures full { (length text.now ≤ next.new) ⊎ (result ≡ length found.new) }
         ensures within { (result ≤ length found.new) × (next.old ≤ next.new) }
+        ensures ends { (next.new ≤ length text.now) ⊎ (next.new ≡ next.old) }
     {
         match self {
             AnyCedar::Default(cedar) => cut(cedar, text, next, found),
@@ -192,6 +196,7 @@ pub extern "C" fn cedar_scan(
     // It ends where the text does, or where the keys of a place don't fit in the room that is left.
     ensures full { (length text.now ≤ next.new) ⊎ (length found.new < result + length (front (tree_in handle.old) (drop next.new text.now))) }
     ensures within { (result ≤ length found.new) × (next.old ≤ next.new) }
+    ensures ends { (next.new ≤ length text.now) ⊎ (next.new ≡ next.old) }
     ensures closed { content handle.old ≡ None → result ≡ 0 }
     ensures kept { content handle.new ≡ content handle.old }
 {
@@ -215,6 +220,7 @@ pub extern "C" fn cedar_segment(
     ensures told { IsSome (content handle.old) → tokens_from (tree_in handle.old) next.old (drop next.old text.now) ≡ take result found.new ++ tokens_from (tree_in handle.old) next.new (drop next.new text.now) }
     ensures full { (length text.now ≤ next.new) ⊎ (result ≡ length found.new) }
     ensures within { (result ≤ length found.new) × (next.old ≤ next.new) }
+    ensures ends { (next.new ≤ length text.now) ⊎ (next.new ≡ next.old) }
     ensures closed { content handle.old ≡ None → result ≡ 0 }
     ensures kept { content handle.new ≡ content handle.old }
 {

@@ -101,6 +101,7 @@ fn renew(
     ensures faulty { IfSome (fault_in pairs.now) (λ e. (result ≡ 2) ⊎ ((result ≡ status_of e) × (position.new ≡ position_of position.old e))) }
     ensures refused { fault_in pairs.now ≡ None → (result ≡ 0) ⊎ (result ≡ 2) ⊎ ((result ≡ 3) × (1073741824 ≤ 256 * length (prefixes (asc (entries_in pairs.now))))) }
     ensures kept { (result ≡ 0) ⊎ (content handle.new ≡ content handle.old) }
+    ensures stays { (result ≡ 5) ⊎ (result ≡ 8) ⊎ (result ≡ 9) ⊎ (position.new ≡ position.old) }
 {
     match boxed(alloc, is_reduced, settings, pairs) {
         Ok(cedar) => {
@@ -131,6 +132,7 @@ fn renew_with(
     ensures refused { pos 1 ≤ℤ max_trial → fault_in pairs.now ≡ None →
         (result ≡ 0) ⊎ (result ≡ 2) ⊎ ((result ≡ 3) × (1073741824 ≤ 256 * length (prefixes (asc (entries_in pairs.now))))) }
     ensures kept { (result ≡ 0) ⊎ (content handle.new ≡ content handle.old) }
+    ensures stays { (result ≡ 5) ⊎ (result ≡ 8) ⊎ (result ≡ 9) ⊎ (position.new ≡ position.old) }
 {
     match CedarBuilder::new().ordered(ordered).max_trial(max_trial) {
         Ok(settings) => renew(handle, alloc, is_reduced, settings, pairs, position),
@@ -163,6 +165,7 @@ pub extern "C" fn cedar_build(
     ensures refused { pos 1 ≤ℤ max_trial → fault_in pairs.now ≡ None →
         (result ≡ 0) ⊎ (result ≡ 2) ⊎ ((result ≡ 3) × (1073741824 ≤ 256 * length (prefixes (asc (entries_in pairs.now))))) }
     ensures kept { (result ≡ 0) ⊎ (content handle.new ≡ content handle.old) }
+    ensures stays { (result ≡ 5) ⊎ (result ≡ 8) ⊎ (result ≡ 9) ⊎ (position.new ≡ position.old) }
 {
     renew_with(handle, alloc, false, ordered, max_trial, pairs, position)
 }
@@ -189,6 +192,7 @@ pub extern "C" fn cedar_build_reduced(
     ensures refused { pos 1 ≤ℤ max_trial → fault_in pairs.now ≡ None →
         (result ≡ 0) ⊎ (result ≡ 2) ⊎ ((result ≡ 3) × (1073741824 ≤ 256 * length (prefixes (asc (entries_in pairs.now))))) }
     ensures kept { (result ≡ 0) ⊎ (content handle.new ≡ content handle.old) }
+    ensures stays { (result ≡ 5) ⊎ (result ≡ 8) ⊎ (result ≡ 9) ⊎ (position.new ≡ position.old) }
 {
     renew_with(handle, alloc, true, ordered, max_trial, pairs, position)
 }

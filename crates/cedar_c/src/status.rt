@@ -1,6 +1,6 @@
 //! The numbers that C is answered: those of `cedar.h`.
 
-ghost use Rattle.std.specs.Prelude.{◌≡◌};
+ghost use Rattle.std.specs.Prelude.{◌≡◌, ◌⊎◌};
 ghost use Rattle.cedar_c.specs.Status.{status_of, position_of};
 
 use cedarwood::CedarError;
@@ -40,6 +40,7 @@ pub(crate) const NO_ROOM: u32 = 11;
 pub(crate) fn tell(error: CedarError, position: &mut usize) -> u32
     ensures status { result ≡ status_of error }
     ensures position { position.new ≡ position_of position.old error }
+    ensures stays { (result ≡ 5) ⊎ (result ≡ 8) ⊎ (result ≡ 9) ⊎ (position.new ≡ position.old) }
 {
     match error {
         CedarError::Memory => MEMORY,

@@ -1,5 +1,5 @@
 -- What dictionaries hold at a key after some calls.
-use Rattle.std.proofs.Common.{◌≡◌, ℕ, ℤ, List, [], ◌∷◌, ◌++◌, take, Option, option_map, Some, None, Ok, Err, IfOk, OnOk, IsSome, refl, ap, sym, subst, ◌∙◌}
+use Rattle.std.proofs.Common.{◌≡◌, ◌<◌, ℕ, ℤ, List, [], ◌∷◌, ◌++◌, arith, length, take, Option, option_map, Some, None, Ok, Err, IfOk, OnOk, IsSome, refl, ap, sym, subst, ◌∙◌}
 use Rattle.std.specs.List.{slice_get}
 use Rattle.std.specs.declared.result.Result.{Result}
 use Rattle.std.proofs.lemmas.Bool.{false≢true}
@@ -9,7 +9,7 @@ use Rattle.cedar_tree.specs.Tree.{IsSoundBelow, number_at}
 use Rattle.cedar_tree.specs.Queries.{Entry, is_path, last_at}
 use Rattle.cedar_tree.proofs.BuildLemmas.{number_at-asc}
 use Rattle.cedar_tree.proofs.TreeLemmas.{number_at-empty}
-use Rattle.cedar_error.specs.declared.error.CedarError.{CedarError}
+use Rattle.cedarwood.specs.declared.error.CedarError.{CedarError}
 use Rattle.cedar_bulk.specs.Sorted.{Pair, entries_of}
 use Rattle.cedar_meaning.specs.Table.Layouts.{LayoutKind}
 use Rattle.cedar_format.specs.declared.error.CedarPersistenceError.{CedarPersistenceError}
@@ -31,6 +31,11 @@ use Rattle.cedar_calls.specs.declared.answer.Changed.{Changed}
 use Rattle.cedar_calls.specs.declared.answer.Changed.TheVariants as changed
 use Rattle.cedar_calls.proofs.KeyLemmas.{all_go, cut_goes, put_goes}
 
+-- pairs with a fault among them aren't none
+some_pairs : (es : List Entry) (x : CedarError) → first_fault es ≡ Some x → 0 < length es
+some_pairs [] x h = absurd cc
+some_pairs (e ∷ es) x h = omega arith
+
 module _ (key : List ℕ) where
   abbrev number_in : Dictionary → Option ℤ
   number_in d = number_at d.state.tree key
@@ -38,11 +43,11 @@ module _ (key : List ℕ) where
   -- ---- a change
 
   refused_build : (layout : LayoutKind) (slots : ℕ) (d e : Dictionary) (es : List Entry) (f : Option CedarError) → first_fault es ≡ f → (x : CedarError) → IsWholeBuild layout slots d e es (Err x)
-      → (n : ℕ) × (IsSome (first_fault es) → n ≡ 0) × (number_in e ≡ last_at key (number_in d) (take n es))
-  refused_build layout slots d e es (Some y) same x h = (0, (λ _. refl), ap number_in (h.unchanged (subst (λ o. IsSome o) (sym same) refl)))
+      → (n : ℕ) × (n < length es) × (IsSome (first_fault es) → n ≡ 0) × (number_in e ≡ last_at key (number_in d) (take n es))
+  refused_build layout slots d e es (Some y) same x h = (0, some_pairs es y same, (λ _. refl), ap number_in (h.unchanged (subst (λ o. IsSome o) (sym same) refl)))
   refused_build layout slots d e es None same x h =
       let front = (h.refused same).front in
-      (front.0, (λ faulty. absurd (false≢true (subst (λ o. IsSome o) same faulty))), ap (λ s. number_at s.tree key) front.2 ∙ all_go d.state (take front.0 es) key)
+      (front.0, front.1, (λ faulty. absurd (false≢true (subst (λ o. IsSome o) same faulty))), ap (λ s. number_at s.tree key) front.2 ∙ all_go d.state (take front.0 es) key)
 
   held_goes : (layout : LayoutKind) (slots : ℕ) (d e : Dictionary) (c : Change) (a : Changed) → IsSoundBelow d.state.tree.children → IsChange layout slots d c a e
       → IsHeldAfter key (number_in d) c a (number_in e)

@@ -8,3 +8,4 @@ mod PlainRunLemmas
 mod KeyLemmas
 mod AgreeLemmas
 mod KeyRunLemmas
+mod FileLemmas

@@ -2,7 +2,7 @@
 use Rattle.std.proofs.Common.{◌≡◌, ℕ, ◌+◌, ◌*◌, ◌≤◌, List, length, IfOk, Ok, Err}
 use Rattle.std.specs.declared.result.Result.{Result}
 use Rattle.cedar_tree.specs.Queries.{Entry, asc, prefixes}
-use Rattle.cedar_error.specs.declared.error.CedarError.{CedarError}
+use Rattle.cedarwood.specs.declared.error.CedarError.{CedarError}
 use Rattle.cedar_bulk.specs.SortedMarks.{SortedMarks}
 use Rattle.cedar_meaning.specs.Table.Layouts.{LayoutKind}
 use Rattle.cedarwood.specs.declared.builder.CedarBuilder.{CedarBuilder}

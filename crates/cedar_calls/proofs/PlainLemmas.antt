@@ -4,8 +4,8 @@ use Rattle.std.specs.declared.result.Result.{Result}
 use Rattle.cedar_tree.specs.Tree.{Tree, empty_tree, number_at}
 use Rattle.cedar_tree.specs.Queries.{Entry, used, walk}
 use Rattle.cedar_tree.specs.State.{State, stored}
-use Rattle.cedar_error.specs.declared.error.CedarError.{CedarError}
-use Rattle.cedar_error.specs.declared.error.CedarError.TheVariants.{Memory}
+use Rattle.cedarwood.specs.declared.error.CedarError.{CedarError}
+use Rattle.cedarwood.specs.declared.error.CedarError.TheVariants.{Memory}
 use Rattle.cedar_bulk.specs.Sorted.{entries_of}
 use Rattle.cedar_meaning.specs.Table.Layouts.{LayoutKind, default_layout}
 use Rattle.cedarwood.specs.Builds.{all_stored, first_fault, outcome}

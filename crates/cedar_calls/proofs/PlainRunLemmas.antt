@@ -7,8 +7,8 @@ use Rattle.std.proofs.lemmas.Option.{slice_get-map}
 use Rattle.cedar_tree.specs.Tree.{empty_tree}
 use Rattle.cedar_tree.specs.Queries.{asc, prefixes}
 use Rattle.cedar_tree.specs.State.{State}
-use Rattle.cedar_error.specs.declared.error.CedarError.{CedarError}
-use Rattle.cedar_error.specs.declared.error.CedarError.TheVariants.{Memory, SlotLimit}
+use Rattle.cedarwood.specs.declared.error.CedarError.{CedarError}
+use Rattle.cedarwood.specs.declared.error.CedarError.TheVariants.{Memory, SlotLimit}
 use Rattle.cedar_bulk.specs.Sorted.{Pair, entries_of}
 use Rattle.cedar_meaning.specs.Table.Layouts.{LayoutKind, default_layout}
 use Rattle.cedarwood.specs.declared.builder.CedarBuilder.{CedarBuilder}
@@ -90,7 +90,7 @@ step_goes b layout slots before (call.Change i c) answer.Missing after k h loadl
       ap states_of h.1 ∙ ap (λ o. at_state o (states_of before) (λ x. slice_set (states_of before) i (changed_state x c))) (sym s),
     )
 step_goes b layout slots before (call.Ask i q) (answer.Replied a) after k h loadless met =
-    let s = found_state before i h.0 h.1 in (reply_goes b layout slots h.0 q a k h.2 met ∙ ap (λ o. at_state o missing (λ x. reply_says b x q)) (sym s), ap states_of h.3)
+    let s = found_state before i h.0 h.1 in (reply_goes b layout slots h.0 q a k h.2.1 met ∙ ap (λ o. at_state o missing (λ x. reply_says b x q)) (sym s), ap states_of h.3)
 step_goes b layout slots before (call.Ask i q) answer.Missing after k h loadless met =
     let s = missed_state before i h.0 in (ap (λ o. at_state o missing (λ x. reply_says b x q)) (sym s), ap states_of h.1)
 step_goes b layout slots before (call.Load bytes limit) a after k h loadless met = absurd loadless

@@ -3,8 +3,8 @@ use Rattle.std.specs.Prelude.{◌≡◌, ℕ, List, IfErr, IfOk, IfSome, IsSome,
 use Rattle.cedar_tree.specs.Tree.{number_at}
 use Rattle.cedar_tree.specs.Queries.{Entry}
 use Rattle.cedar_tree.specs.State.{erased}
-use Rattle.cedar_error.specs.declared.error.CedarError.{CedarError}
-use Rattle.cedar_error.specs.declared.error.CedarError.TheVariants.{Memory}
+use Rattle.cedarwood.specs.declared.error.CedarError.{CedarError}
+use Rattle.cedarwood.specs.declared.error.CedarError.TheVariants.{Memory}
 use Rattle.cedar_bulk.specs.Sorted.{entries_of}
 use Rattle.cedar_meaning.specs.Meaning.Marks.{MarksCut}
 use Rattle.cedar_meaning.specs.Table.Layouts.{LayoutKind}

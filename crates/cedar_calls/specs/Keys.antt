@@ -1,5 +1,5 @@
 -- What a key holds after some changes of a dictionary: only changes of that key have a part in it, the last of them decides.
-use Rattle.std.specs.Prelude.{◌≡◌, ℕ, ℤ, List, [], ◌∷◌, ◌++◌, take, map, slice_get, slice_set, Option, Some, None, IsSome, fold, if◌then◌else◌, Result, Ok, Err, OnOk, MatchResult}
+use Rattle.std.specs.Prelude.{◌≡◌, ◌<◌, ℕ, ℤ, List, [], ◌∷◌, ◌++◌, length, take, map, slice_get, slice_set, Option, Some, None, IsSome, fold, if◌then◌else◌, Result, Ok, Err, OnOk, MatchResult}
 use Rattle.cedar_tree.specs.Tree.{number_at, IsSoundBelow}
 use Rattle.cedar_tree.specs.Queries.{is_path, last_at}
 use Rattle.cedar_tree.specs.State.{State}
@@ -61,7 +61,7 @@ IsHeldAfter key now (change.Erase k) (changed.Erased held) after = after ≡ (if
 IsHeldAfter key now (change.Renew settings) (changed.Renewed result) after = after ≡ if_made result None now
 IsHeldAfter key now (change.Build pairs) (changed.Built result) after =
     MatchResult result (λ _. after ≡ last_at key now (entries_of pairs.now))
-    (λ _. (n : ℕ) × (IsSome (first_fault (entries_of pairs.now)) → n ≡ 0) × (after ≡ last_at key now (take n (entries_of pairs.now))))
+    (λ _. (n : ℕ) × (n < length (entries_of pairs.now)) × (IsSome (first_fault (entries_of pairs.now)) → n ≡ 0) × (after ≡ last_at key now (take n (entries_of pairs.now))))
 IsHeldAfter key now c result after = ⊥
 
 -- a well-formed table whose bytes these are holds this number at the key

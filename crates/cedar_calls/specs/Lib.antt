@@ -5,3 +5,4 @@ pub mod Runs
 pub mod Plain
 pub mod Agreement
 pub mod Keys
+pub mod Files

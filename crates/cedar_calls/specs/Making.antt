@@ -2,8 +2,8 @@
 use Rattle.std.specs.Prelude.{◌≡◌, ◌⊎◌, ℕ, ◌+◌, ◌*◌, ◌≤◌, List, [], ◌∷◌, ◌++◌, length, None, IfErr, IfOk, IfSome, MatchResult, Result, Ok, Err}
 use Rattle.cedar_tree.specs.Tree.{empty_tree}
 use Rattle.cedar_tree.specs.Queries.{Entry, asc, prefixes}
-use Rattle.cedar_error.specs.declared.error.CedarError.{CedarError}
-use Rattle.cedar_error.specs.declared.error.CedarError.TheVariants.{Memory, SlotLimit}
+use Rattle.cedarwood.specs.declared.error.CedarError.{CedarError}
+use Rattle.cedarwood.specs.declared.error.CedarError.TheVariants.{Memory, SlotLimit}
 use Rattle.cedar_bulk.specs.Sorted.{Pair, entries_of}
 use Rattle.cedar_bulk.specs.SortedMarks.{SortedMarks}
 use Rattle.cedar_meaning.specs.Table.Layouts.{LayoutKind}

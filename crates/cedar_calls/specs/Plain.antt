@@ -5,7 +5,7 @@ use Rattle.std.specs.Str.{is_utf8}
 use Rattle.cedar_tree.specs.Tree.{empty_tree, number_at}
 use Rattle.cedar_tree.specs.Queries.{Entry, asc, exact, front, predict, used, walk}
 use Rattle.cedar_tree.specs.State.{State, erased, stored}
-use Rattle.cedar_error.specs.declared.error.CedarError.{CedarError}
+use Rattle.cedarwood.specs.declared.error.CedarError.{CedarError}
 use Rattle.cedar_bulk.specs.Sorted.{entries_of}
 use Rattle.cedar_meaning.specs.Table.Layouts.{LayoutKind, default_layout}
 use Rattle.cedar_walk.specs.Batch.{keys_of}

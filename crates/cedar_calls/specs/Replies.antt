@@ -2,8 +2,8 @@
 use Rattle.std.specs.Prelude.{◌≡◌, ℕ, ℤ, ◌+◌, ◌-◌, ◌*◌, ◌/◌, List, [], ◌∷◌, length, map, Option, option_map, Some, None, IsTrue, ◌↔◌, MatchResult, Result, string_bytes}
 use Rattle.std.specs.Str.{IsUtf8}
 use Rattle.cedar_tree.specs.Queries.{Entry, exact, front, predict, prefixes, used, walk}
-use Rattle.cedar_error.specs.declared.error.CedarError.{CedarError}
-use Rattle.cedar_error.specs.declared.error.CedarError.TheVariants.{Memory}
+use Rattle.cedarwood.specs.declared.error.CedarError.{CedarError}
+use Rattle.cedarwood.specs.declared.error.CedarError.TheVariants.{Memory}
 use Rattle.cedar_meaning.specs.Table.Layouts.{LayoutKind, default_layout}
 use Rattle.cedar_walk.specs.Batch.{keys_of}
 use Rattle.cedar_format.specs.Tables.{IsTableFile}

@@ -2,6 +2,7 @@
 use Rattle.std.specs.Prelude.{◌≡◌, ℕ, List, [], ◌∷◌, slice_get, slice_set, Some, None}
 use Rattle.cedar_meaning.specs.Table.Layouts.{LayoutKind}
 use Rattle.cedarwood.specs.Dictionary.{Dictionary, IsValid}
+use Rattle.cedarwood.specs.OnTable.{IsOnTable}
 use Rattle.cedar_calls.specs.Making.{IsCopy, IsLoad, IsNew, IsSortedBuild, Makes}
 use Rattle.cedar_calls.specs.Changes.{IsChange}
 use Rattle.cedar_calls.specs.Replies.{IsReply}
@@ -33,7 +34,7 @@ IsStep layout slots before (call.Clone index) (answer.Made result) after = (d : 
 IsStep layout slots before (call.Clone index) answer.Missing after = MissesAt before index after
 IsStep layout slots before (call.Change index change) (answer.Changed result) after = ChangesAt before index (λ d changed. IsValid slots d × IsChange layout slots d change result changed) after
 IsStep layout slots before (call.Change index change) answer.Missing after = MissesAt before index after
-IsStep layout slots before (call.Ask index question) (answer.Replied reply) after = AsksAt before index (λ d. IsReply layout slots d question reply) after
+IsStep layout slots before (call.Ask index question) (answer.Replied reply) after = AsksAt before index (λ d. IsOnTable slots d × IsReply layout slots d question reply) after
 IsStep layout slots before (call.Ask index question) answer.Missing after = MissesAt before index after
 IsStep layout slots before c a after = ⊥
 

@@ -1,10 +1,11 @@
 //! What follows from a run's steps alone.
 
 ghost use Rattle.cedar_calls.specs.Agreement.{RunsAgree};
+ghost use Rattle.cedar_calls.specs.Files.{SavesLoadAgain};
 ghost use Rattle.cedar_calls.specs.Keys.{KeysStandAlone, KeysStandAloneInRuns};
 ghost use Rattle.cedar_calls.specs.Plain.{TreesDecide};
 
-use crate::{Answer, Call};
+use crate::{Answer, Call, Reply};
 use std::alloc::Allocator;
 
 /// Trees alone decide what a run says: whatever the layout, the limit of slots, `max_trial`, the marks and the tables, calls without a load, none of
@@ -38,4 +39,10 @@ pub fn keys_stand_alone()
 /// copies; from then on the last accepted change of this key in this dictionary decides.
 pub fn keys_stand_alone_in_runs<A: Allocator>(calls: &[Call<'_>], answers: &[Answer<A>])
     ensures { KeysStandAloneInRuns calls.now answers.now }
+{}
+
+/// What was saved of a dictionary loads as one with its tree and its order, in any run of the same layout and limit of slots, whatever calls were made
+/// between, if the load answers `Ok`.
+pub fn saves_load_again<A: Allocator>(saved: &Reply<A>)
+    ensures { SavesLoadAgain saved.now }
 {}

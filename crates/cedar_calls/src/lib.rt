@@ -15,5 +15,7 @@ mod run;
 
 pub use answer::{Answer, Changed, Reply};
 pub use call::{Call, Change, Figure, Question};
-pub use laws::{keys_stand_alone, keys_stand_alone_in_runs, runs_agree, trees_decide};
+pub use laws::{
+    keys_stand_alone, keys_stand_alone_in_runs, runs_agree, saves_load_again, trees_decide,
+};
 pub use run::run_calls;

@@ -10,7 +10,8 @@ use crate::{Figure, Question, Reply};
 use cedarwood::{CedarError, EntryError, Layout, Trie, Watched};
 use std::alloc::Allocator;
 
-/// Asks a dictionary. What is collected takes its memory from `alloc`.
+/// Asks a dictionary. The lists of a batch and of entries, and the bytes of a file, take their memory from `alloc`; the lists of
+/// prefixes and predictions, and each entry's key, from the dictionary's own allocator.
 pub(crate) fn reply<L: Layout, const SLOTS: usize, A: Allocator + Copy>(
     trie: &Trie<L, SLOTS, A>,
     alloc: A,

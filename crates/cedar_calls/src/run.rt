@@ -12,7 +12,9 @@ use crate::{Answer, Call};
 use cedarwood::{Layout, Trie};
 use std::alloc::{AllocError, Allocator};
 
-/// Makes some calls one after another, and collects their answers.
+/// Makes some calls one after another, and collects their answers. The answers' list, new dictionaries, those that are loaded, and
+/// those that are renewed take their memory from `alloc`; a copy, and one that is changed, from the dictionary's own allocator. So do
+/// lists of prefixes and predictions and the keys of entries; all else that a reply holds is from `alloc`.
 ///
 /// # Errors
 /// `AllocError` where there is no memory for the answers, or for as many further dictionaries as there are calls. Then no call was
@@ -68,7 +70,10 @@ fn make_call<L: Layout, const SLOTS: usize, A: Allocator + Copy>(
             None => Answer::Missing,
         },
         Call::Ask { index, question } => match tries.get(*index) {
-            Some(trie) => Answer::Replied(reply(trie, alloc, question)),
+            Some(trie) => {
+                trie.stands_on_its_table();
+                Answer::Replied(reply(trie, alloc, question))
+            }
             None => Answer::Missing,
         },
     }

@@ -2,12 +2,13 @@
 use Rattle.std.proofs.Common.{◌≡◌, ℕ, List, [], ◌∷◌, ◌++◌, Option, Some, None, refl, sym, ap, ◌∙◌, append_assoc, append-nil, take, drop, length, ◌-◌, arith, take-append-drop, length-drop, length-append, Bool, true, false, ◌||◌, ◌&&◌, ◌==◌, subst}
 use Rattle.std.proofs.lemmas.List.{take_all}
 use Rattle.std.proofs.lemmas.Bool.{eqb-true}
-use Rattle.std.specs.Prelude.{Result, Ok, Err, OnOk, OnErr}
-use Rattle.cedar_tree.specs.State.{State}
+use Rattle.std.specs.Prelude.{Result, Ok, Err, IfErr, OnOk, OnErr}
 use Rattle.cedar_cli.specs.Command.{Order, order_of}
 use Rattle.cedar_cli.specs.Lines.{lines_of, onto_first, IsOpen}
 use Rattle.cedar_cli.specs.Seen.{Seen}
-use Rattle.cedar_cli.specs.Script.{WritesFront, reply, answer, answers, obeyed, seen_after, IsCutShort, Leaves, Obeys, Finishes, Splits, Advances, Stops}
+use Rattle.cedar_cli.specs.Script.{WritesFront, reply, answer, answers, obeyed, seen_after, IsCutShort, Stays, Leaves, Obeys, Finishes, Splits, Advances, Stops}
+use Rattle.cedar_cli.specs.declared.script.ScriptError.{ScriptError}
+use Rattle.cedar_cli.specs.declared.script.ScriptError.TheVariants.{Read, Write, Memory, SlotLimit}
 use Rattle.std.specs.Io.KnownBytes.{Appends, Keeps}
 
 -- bytes appended in two parts
@@ -124,25 +125,32 @@ pub Advances-append : (old mid new : Seen) (a b c : Option (List ℕ)) (text lef
 Advances-append old mid new a b c text left more left' p q =
     (p.0 ++ q.0, Splits-append text more left left' p.0 q.0 p.1 q.1, Finishes-append old mid new a b c p.0 q.0 p.2 q.2)
 
-pub Stops-append : (old mid : Seen) (new : State) (a b c : Option (List ℕ)) (text left more : List ℕ)
-    → Advances old mid a b text left → Stops mid new b c (left ++ more) → Stops old new a c (text ++ more)
-Stops-append old mid new a b c text left more p q =
+-- what is the same stays, whatever the fault
+pub all_stays : (fault : ScriptError) (old new : Seen) → new ≡ old → Stays fault old new
+all_stays Read old new same = same
+all_stays Write old new same = ap (λ (t : Seen). t.state) same
+all_stays Memory old new same = same
+all_stays SlotLimit old new same = same
+
+pub Stops-append : (fault : ScriptError) (old mid new : Seen) (a b c : Option (List ℕ)) (text left more : List ℕ)
+    → Advances old mid a b text left → Stops fault mid new b c (left ++ more) → Stops fault old new a c (text ++ more)
+Stops-append fault old mid new a b c text left more p q =
     let same : seen_after mid q.0 ≡ seen_after old (p.0 ++ q.0) = seen_further old mid a b p.0 q.0 p.2 in (
       p.0 ++ q.0,
       q.1,
       q.2,
       Splits-append text more left q.1 p.0 q.0 p.1 q.3,
-      q.4 ∙ ap (λ (t : Seen). t.state) same,
+      subst (λ (t : Seen). Stays fault t new) same q.4,
       front_further old mid a b c p.0 q.0 q.2 p.2 q.5,
       (λ rest. subst (λ (t : Seen). IsCutShort t (lines_of (q.1 ++ rest)) q.2) same (q.6 rest)),
     )
 
 -- an answer that wasn't written whole leaves its order
-pub Leaves-on_err : {T E : Type 0} (r : Result T E) (order : Option Order) (old : Seen) (new : State) (held holds : Option (List ℕ)) (bytes : List ℕ)
-    → new ≡ old.state → bytes ≡ reply old order ++ 10 ∷ []
-    → OnErr r (WritesFront held holds bytes) → OnErr r (Leaves order old new held holds)
+pub Leaves-on_err : {T : Type 0} (r : Result T ScriptError) (order : Option Order) (old new : Seen) (held holds : Option (List ℕ)) (bytes : List ℕ)
+    → new ≡ old → bytes ≡ reply old order ++ 10 ∷ []
+    → OnErr r (WritesFront held holds bytes) → IfErr r (λ fault. Leaves fault order old new held holds)
 Leaves-on_err (Ok x) order old new held holds bytes same e h = tt
-Leaves-on_err (Err x) order old new held holds bytes same e h = (same, subst (WritesFront held holds) e h)
+Leaves-on_err (Err fault) order old new held holds bytes same e h = (all_stays fault old new same, subst (WritesFront held holds) e h)
 
 -- one written whole obeys it
 pub Obeys-on_ok : {T E : Type 0} (r : Result T E) (order : Option Order) (old new : Seen) (held holds : Option (List ℕ)) (bytes : List ℕ)
@@ -163,8 +171,9 @@ line_done old new held holds line o h =
     (line ∷ [], (λ rest. line_then line rest o), line_finished old new held holds line h)
 
 -- in a line whose answer was not written whole the run stops
-pub line_left : (old : Seen) (new : State) (held holds : Option (List ℕ)) (line : List ℕ) → IsOpen line → Leaves (order_of line) old new held holds → Stops old new held holds (line ++ 10 ∷ [])
-line_left old new held holds line o h =
+pub line_left : (fault : ScriptError) (old new : Seen) (held holds : Option (List ℕ)) (line : List ℕ)
+    → IsOpen line → Leaves fault (order_of line) old new held holds → Stops fault old new held holds (line ++ 10 ∷ [])
+line_left fault old new held holds line o h =
     let front = h.1 in
     ([], line ++ 10 ∷ [], front.0, (λ rest. refl), h.0, front.4, (λ rest. rw (line_then line rest o) (front.1, front.2, front.3)))
 
@@ -173,16 +182,26 @@ pub bytes_on : (t : Seen) (held : Option (List ℕ)) (text : List ℕ) → Advan
 bytes_on t held text = ([], (λ rest. refl), (refl, Appends-none held))
 
 -- a run that stops before it answers
-pub not_begun : (t : Seen) (held : Option (List ℕ)) (text : List ℕ) → Stops t t.state held held text
-not_begun t held text = ([], text, [], (λ rest. refl), refl, Appends-none held, (λ rest. cut_short_none t (lines_of (text ++ rest))))
+pub not_begun : (fault : ScriptError) (t : Seen) (held : Option (List ℕ)) (text : List ℕ) → Stops fault t t held held text
+not_begun fault t held text =
+    ([], text, [], (λ rest. refl), all_stays fault t t refl, Appends-none held, (λ rest. cut_short_none t (lines_of (text ++ rest))))
 
 pub on_err : {T E P : Type 0} (r : Result T E) → P → OnErr r P
 on_err (Ok x) p = tt
 on_err (Err e) p = p
 
+-- what holds of each fault, and what holds of the one that a call was handed
+pub each_fault : {T : Type 0} (P : ScriptError → Type 0) (r : Result T ScriptError) → ((fault : ScriptError) → P fault) → IfErr r P
+each_fault P (Ok x) h = tt
+each_fault P (Err fault) h = h fault
+
+pub that_fault : {T : Type 0} (P : ScriptError → Type 0) (r : Result T ScriptError) (fault : ScriptError) → r ≡ Err fault → P fault → IfErr r P
+that_fault P (Ok x) fault is h = tt
+that_fault P (Err other) fault is h = let same : fault ≡ other = cc in subst P same h
+
 -- a run that stopped in a text stopped in it however the text goes on
-pub Stops-more : (old : Seen) (new : State) (a c : Option (List ℕ)) (text more : List ℕ) → Stops old new a c text → Stops old new a c (text ++ more)
-Stops-more old new a c text more h = (
+pub Stops-more : (fault : ScriptError) (old new : Seen) (a c : Option (List ℕ)) (text more : List ℕ) → Stops fault old new a c text → Stops fault old new a c (text ++ more)
+Stops-more fault old new a c text more h = (
   h.0,
   h.1 ++ more,
   h.2,

@@ -4,15 +4,15 @@ use Rattle.std.proofs.lemmas.Bool.{eqb-true}
 use Rattle.memchr.specs.Find.{IsFirstByte, is_byte}
 use Rattle.std.proofs.lemmas.List.Sums.{position_or_len_is, split_at_first, passes_at_first}
 use Rattle.std.proofs.lemmas.Grind.{common_steps}
-use Rattle.std.specs.Prelude.{Result, Ok, Err, OnOk, OnErr}
+use Rattle.std.specs.Prelude.{Result, Ok, Err, IfErr, OnOk}
 use Rattle.std.proofs.lemmas.List.Quantifiers.{position-Some}
 use Rattle.std.specs.Prelude.{IfSome}
 use Rattle.std.specs.List.{position, position_or_len, before_first, after_first}
-use Rattle.cedar_tree.specs.State.{State}
 use Rattle.cedar_cli.specs.Command.{order_of}
 use Rattle.cedar_cli.specs.Lines.{IsOpen, is_newline}
 use Rattle.cedar_cli.specs.Script.{Obeys, Leaves, Advances, Stops}
 use Rattle.cedar_cli.specs.Seen.{Seen}
+use Rattle.cedar_cli.specs.declared.script.ScriptError.{ScriptError}
 use Rattle.cedar_cli.proofs.Bytes.{line_done, line_left, bytes_on, not_begun, Advances-append, Stops-append, Stops-more}
 use Rattle.cedar_cli.proofs.Text.{before_at, after_at, before_none}
 
@@ -67,10 +67,10 @@ taken_on_ok (Ok x) old new held holds line o h = line_done old new held holds li
 taken_on_ok (Err e) old new held holds line o h = tt
 
 -- and the run stops in it where it was not
-pub stopped_on_err : {T E : Type 0} (r : Result T E) (old : Seen) (new : State) (held holds : Option (List ℕ)) (line : List ℕ)
-    → IsOpen line → OnErr r (Leaves (order_of line) old new held holds) → OnErr r (Stops old new held holds (line ++ 10 ∷ []))
+pub stopped_on_err : {T : Type 0} (r : Result T ScriptError) (old new : Seen) (held holds : Option (List ℕ)) (line : List ℕ)
+    → IsOpen line → IfErr r (λ fault. Leaves fault (order_of line) old new held holds) → IfErr r (λ fault. Stops fault old new held holds (line ++ 10 ∷ []))
 stopped_on_err (Ok x) old new held holds line o h = tt
-stopped_on_err (Err e) old new held holds line o h = line_left old new held holds line o h
+stopped_on_err (Err fault) old new held holds line o h = line_left fault old new held holds line o h
 
 -- a further line of a chunk was taken
 pub line_taken : (old mid new : Seen) (a b c : Option (List ℕ)) (begun gone line piece left : List ℕ)
@@ -80,12 +80,13 @@ line_taken old mid new a b c begun gone line piece left p q empty =
     rw (empty, ← append_assoc begun gone (piece ++ 10 ∷ [])) (Advances-append old mid new a b c (begun ++ gone) line (piece ++ 10 ∷ []) [] p q)
 
 -- the run stopped in a line of a chunk
-pub line_stopped : (old mid : Seen) (new : State) (a b c : Option (List ℕ)) (begun gone line piece after chunk : List ℕ)
-    → Advances old mid a b (begun ++ gone) line → Stops mid new b c (line ++ (piece ++ 10 ∷ []))
+pub line_stopped : (fault : ScriptError) (old mid new : Seen) (a b c : Option (List ℕ)) (begun gone line piece after chunk : List ℕ)
+    → Advances old mid a b (begun ++ gone) line → Stops fault mid new b c (line ++ (piece ++ 10 ∷ []))
     → chunk ≡ (gone ++ (piece ++ 10 ∷ [])) ++ after
-    → Stops old new a c (begun ++ chunk)
-line_stopped old mid new a b c begun gone line piece after chunk p q whole =
-    subst (Stops old new a c) same (Stops-more old new a c ((begun ++ gone) ++ (piece ++ 10 ∷ [])) after (Stops-append old mid new a b c (begun ++ gone) line (piece ++ 10 ∷ []) p q)) where
+    → Stops fault old new a c (begun ++ chunk)
+line_stopped fault old mid new a b c begun gone line piece after chunk p q whole =
+    subst (Stops fault old new a c) same
+    (Stops-more fault old new a c ((begun ++ gone) ++ (piece ++ 10 ∷ [])) after (Stops-append fault old mid new a b c (begun ++ gone) line (piece ++ 10 ∷ []) p q)) where
       same : ((begun ++ gone) ++ (piece ++ 10 ∷ [])) ++ after ≡ begun ++ chunk
       same =
           ap (λ l. l ++ after) (append_assoc begun gone (piece ++ 10 ∷ []))
@@ -100,11 +101,11 @@ rest_taken old new a b begun gone line rest chunk p whole =
     (Advances-append old new new a b b (begun ++ gone) line rest (line ++ rest) p (bytes_on new b (line ++ rest)))
 
 -- or the run stops before it
-pub rest_left : (old new : Seen) (a b : Option (List ℕ)) (begun gone line rest chunk : List ℕ)
-    → Advances old new a b (begun ++ gone) line → chunk ≡ gone ++ rest → Stops old new.state a b (begun ++ chunk)
-rest_left old new a b begun gone line rest chunk p whole =
-    subst (Stops old new.state a b) (append_assoc begun gone rest ∙ ap (λ l. begun ++ l) (sym whole))
-    (Stops-append old new new.state a b b (begun ++ gone) line rest p (not_begun new b (line ++ rest)))
+pub rest_left : (fault : ScriptError) (old new : Seen) (a b : Option (List ℕ)) (begun gone line rest chunk : List ℕ)
+    → Advances old new a b (begun ++ gone) line → chunk ≡ gone ++ rest → Stops fault old new a b (begun ++ chunk)
+rest_left fault old new a b begun gone line rest chunk p whole =
+    subst (Stops fault old new a b) (append_assoc begun gone rest ∙ ap (λ l. begun ++ l) (sym whole))
+    (Stops-append fault old new new a b b (begun ++ gone) line rest p (not_begun fault new b (line ++ rest)))
 
 -- what was taken of a chunk, once its next line is
 pub gone_further : (chunk gone rest : List ℕ) (at : ℕ) → chunk ≡ gone ++ rest → position is_newline rest ≡ Some at

@@ -8,8 +8,8 @@ use Rattle.cedar_tree.specs.State.{State, stored, erased}
 use Rattle.cedar_tree.specs.Tree.{Tree, number_at, IsSound}
 use Rattle.cedar_tree.specs.Queries.{exact}
 use Rattle.cedar_tree.proofs.TreeLemmas.{cut-put, put-put, put_held, number_at-put_same}
-use Rattle.cedar_error.specs.declared.error.CedarError.{CedarError}
-use Rattle.cedar_error.specs.declared.error.CedarError.TheVariants.{EmptyKey, NulByte, InvalidValue, InvalidMaxTrial, DuplicateKey, KeysNotSorted, Memory, SlotLimit}
+use Rattle.cedarwood.specs.declared.error.CedarError.{CedarError}
+use Rattle.cedarwood.specs.declared.error.CedarError.TheVariants.{EmptyKey, NulByte, InvalidValue, InvalidMaxTrial, DuplicateKey, KeysNotSorted, Memory, SlotLimit}
 use Rattle.cedar_cli.specs.Command.{Order}
 use Rattle.cedarwood.specs.Fault.{fault, key_fault, or_else, value_fault, IsShortage}
 use Rattle.cedar_cli.specs.Seen.{Seen}
@@ -18,7 +18,7 @@ use Rattle.cedar_cli.specs.declared.command.Verb.TheVariants.{Erase}
 use Rattle.cedar_cli.specs.declared.script.ScriptError.{ScriptError}
 use Rattle.cedar_cli.specs.declared.script.ScriptError.TheVariants.{Read, Write, Memory as NoMemory, SlotLimit as NoSlot}
 use Rattle.std.specs.Io.KnownBytes.{Appends}
-use Rattle.cedar_cli.proofs.Bytes.{Appends-none}
+use Rattle.cedar_cli.proofs.Bytes.{Appends-none, all_stays}
 
 -- what an exact search that missed says
 pub exact_missed : (t : Tree) (key : List ℕ) → None ≡ exact t key → number_at t key ≡ None
@@ -115,9 +115,9 @@ taken_back (Some w) old mid new key v answer sound range none done back =
       held = rw (done, number_at-put_same old.tree old.ordered key v) refl
 
 -- nothing of the answer is written, and the order is left
-pub Leaves-unanswered : (order : Option Order) (old : Seen) (new : State) (held : Option (List ℕ)) → new ≡ old.state → Leaves order old new held held
-Leaves-unanswered order old new held same =
-    (same, ([], reply old order ++ 10 ∷ [], omega (arith, length-append (reply old order) (10 ∷ [])), refl, Appends-none held))
+pub Leaves-unanswered : (fault : ScriptError) (order : Option Order) (old new : Seen) (held : Option (List ℕ)) → new ≡ old → Leaves fault order old new held held
+Leaves-unanswered fault order old new held same =
+    (all_stays fault old new same, ([], reply old order ++ 10 ∷ [], omega (arith, length-append (reply old order) (10 ∷ [])), refl, Appends-none held))
 
 -- a value is put back over the one that its key holds
 pub put_back : (r : Result (Unit {0}) CedarError) (old new : State) (key : List ℕ) (v : ℤ)
@@ -130,16 +130,19 @@ put_back (Err e) old new key v done refused fine held = absurd (not_held (number
   not_held (Some x) h e = absurd (cc)
 
 -- an answer of which a front alone was written leaves its order
-pub Leaves-front : (order : Option Order) (s : Seen) (held holds : Option (List ℕ)) (line : List ℕ)
-    → line ≡ reply s order → WritesFront held holds (line ++ 10 ∷ []) → Leaves order s s.state held holds
-Leaves-front order s held holds line e h = (refl, subst (λ l. WritesFront held holds (l ++ 10 ∷ [])) e h)
+pub Leaves-front : (fault : ScriptError) (order : Option Order) (s : Seen) (held holds : Option (List ℕ)) (line : List ℕ)
+    → line ≡ reply s order → WritesFront held holds (line ++ 10 ∷ []) → Leaves fault order s s held holds
+Leaves-front fault order s held holds line e h = (all_stays fault s s refl, subst (λ l. WritesFront held holds (l ++ 10 ∷ [])) e h)
 
--- an answer that wasn't written whole leaves its order, where the tree is then the old one
-pub Leaves-if_err : {T E : Type 0} (r : Result T E) (order : Option Order) (old : Seen) (new : State) (held holds : Option (List ℕ)) (bytes : List ℕ)
-    → (is_err r ≡ true → new ≡ old.state) → bytes ≡ reply old order ++ 10 ∷ []
-    → OnErr r (WritesFront held holds bytes) → OnErr r (Leaves order old new held holds)
-Leaves-if_err (Ok x) order old new held holds bytes same e h = tt
-Leaves-if_err (Err x) order old new held holds bytes same e h = (same refl, subst (WritesFront held holds) e h)
+-- an answer that the writer didn't take whole leaves its order, where the state is then the old one
+pub Leaves-if_err : (P : Type 0) (r : Result (Unit {0}) ScriptError) (order : Option Order) (old new : Seen) (held holds : Option (List ℕ)) (bytes : List ℕ)
+    → OnErr r ((r ≡ Err Write) × P) → (is_err r ≡ true → new.state ≡ old.state) → bytes ≡ reply old order ++ 10 ∷ []
+    → OnErr r (WritesFront held holds bytes) → IfErr r (λ fault. Leaves fault order old new held holds)
+Leaves-if_err P (Ok x) order old new held holds bytes cause same e h = tt
+Leaves-if_err P (Err fault) order old new held holds bytes cause same e h =
+    let is = cause.0 in
+    let written : Write ≡ fault = cc in
+    subst (λ (f : ScriptError). Leaves f order old new held holds) written (same refl, subst (WritesFront held holds) e h)
 
 -- neither memory nor slots were wanting
 pub no_shortage : (e : CedarError) → (e ≡ Memory → ⊥) → (e ≡ SlotLimit → ⊥) → IsShortage e → ⊥
@@ -157,9 +160,9 @@ pub on_not_ok : {T E : Type 0} (P : Type 0) (r : Result T E) → is_err r ≡ tr
 on_not_ok P (Ok x) h = absurd (false≢true h)
 on_not_ok P (Err e) h = tt
 
-pub on_not_err : {T E : Type 0} (P : Type 0) (r : Result T E) → is_err r ≡ false → OnErr r P
-on_not_err P (Ok x) h = tt
-on_not_err P (Err e) h = absurd (false≢true (sym h))
+pub if_not_err : {T E : Type 0} (P : E → Type 0) (r : Result T E) → is_err r ≡ false → IfErr r P
+if_not_err P (Ok x) h = tt
+if_not_err P (Err e) h = absurd (false≢true (sym h))
 
 -- a call that fails only by its writer, where it fails
 pub write_failed : (P : Type 0) (r : Result (Unit {0}) ScriptError) (e : ScriptError)

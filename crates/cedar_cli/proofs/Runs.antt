@@ -4,12 +4,12 @@ use Rattle.std.proofs.lemmas.Bool.{eqb-true, eqb-false}
 use Rattle.std.proofs.lemmas.List.{nil_from_length}
 use Rattle.std.specs.Prelude.{IfSome, ◌⊎◌}
 use Rattle.std.specs.Io.KnownBytes.{Consumes, Appends, Keeps, IsAtEnd}
-use Rattle.cedar_tree.specs.State.{State}
 use Rattle.cedar_cli.specs.Command.{order_of}
 use Rattle.cedar_cli.specs.Lines.{lines_of, IsOpen}
-use Rattle.cedar_cli.specs.Script.{Obeys, Leaves, Finishes, Splits, Advances, Stops, EndsEarly, IsCutShort, AppendsFront, answers, obeyed, seen_after}
+use Rattle.cedar_cli.specs.Script.{Obeys, Stays, Leaves, Finishes, Splits, Advances, Stops, EndsEarly, IsCutShort, AppendsFront, answers, obeyed, seen_after}
 use Rattle.cedar_cli.specs.Seen.{Seen}
-use Rattle.cedar_cli.proofs.Bytes.{Appends-append, Appends-kept, Appends-none, answers-append, cut_short_none, lines_of-last, Finishes-append, line_finished}
+use Rattle.cedar_cli.specs.declared.script.ScriptError.{ScriptError}
+use Rattle.cedar_cli.proofs.Bytes.{all_stays, Appends-append, Appends-kept, Appends-none, answers-append, cut_short_none, lines_of-last, Finishes-append, line_finished}
 
 -- bytes consumed in two parts
 pub Consumes-append : (a b c : Option (List ℕ)) (x y : List ℕ) → Consumes a b x → Consumes b c y → Consumes a c (x ++ y)
@@ -50,22 +50,22 @@ of_script None h f = tt
 of_script (Some input) h f = f input h
 
 -- a run that stopped in what came ended early
-pub ended_early : (old : Seen) (new : State) (held holds a b : Option (List ℕ)) (came : List ℕ)
-    → Consumes a b came → Stops old new held holds came → IfSome a (λ input. length input < 9223372036854775808 → EndsEarly old new held holds input)
-ended_early old new held holds None b came p h = tt
-ended_early old new held holds (Some input) None came p h = absurd p
-ended_early old new held holds (Some input) (Some rest) came p h = λ _.
+pub ended_early : (fault : ScriptError) (old new : Seen) (held holds a b : Option (List ℕ)) (came : List ℕ)
+    → Consumes a b came → Stops fault old new held holds came → IfSome a (λ input. length input < 9223372036854775808 → EndsEarly fault old new held holds input)
+ended_early fault old new held holds None b came p h = tt
+ended_early fault old new held holds (Some input) None came p h = absurd p
+ended_early fault old new held holds (Some input) (Some rest) came p h = λ _.
     (h.0, lines_of (h.1 ++ rest), ap lines_of p ∙ h.3 rest, (h.2, h.4, h.5, h.6 rest))
 
 -- a run that has only advanced can stop
-pub Stops-from_advances : (old new : Seen) (held holds : Option (List ℕ)) (text left : List ℕ)
-    → Advances old new held holds text left → Stops old new.state held holds text
-Stops-from_advances old new held holds text left h = (
+pub Stops-from_advances : (fault : ScriptError) (old new : Seen) (held holds : Option (List ℕ)) (text left : List ℕ)
+    → Advances old new held holds text left → Stops fault old new held holds text
+Stops-from_advances fault old new held holds text left h = (
   h.0,
   left,
   [],
   h.1,
-  ap (λ (t : Seen). t.state) h.2.0,
+  all_stays fault (seen_after old h.0) new h.2.0,
   rw (append-nil (answers old h.0)) h.2.1,
   (λ rest. cut_short_none (seen_after old h.0) (lines_of (left ++ rest))),
 )
@@ -94,10 +94,10 @@ last_finished old mid new a b c text line o long h k =
     (Finishes-append old mid new a b c h.0 (line ∷ []) h.2 (line_finished mid new b c line k))
 
 -- the answer to the last piece was not written whole
-pub last_left : (old mid : Seen) (new : State) (a b c : Option (List ℕ)) (text line : List ℕ)
-    → IsOpen line → 0 < length line → Advances old mid a b text line → Leaves (order_of line) mid new b c
-    → EndsEarly old new a c text
-last_left old mid new a b c text line o long h k =
+pub last_left : (fault : ScriptError) (old mid new : Seen) (a b c : Option (List ℕ)) (text line : List ℕ)
+    → IsOpen line → 0 < length line → Advances old mid a b text line → Leaves fault (order_of line) mid new b c
+    → EndsEarly fault old new a c text
+last_left fault old mid new a b c text line o long h k =
     let front = k.1 in
     let same : mid ≡ seen_after old h.0 = h.2.0 in (
       h.0,
@@ -105,7 +105,7 @@ last_left old mid new a b c text line o long h k =
       whole text line h.0 h.1 ∙ ap (λ l. h.0 ++ l) (last_line line o long),
       (
         front.0,
-        k.0 ∙ ap (λ (t : Seen). t.state) same,
+        subst (λ (t : Seen). Stays fault t new) same k.0,
         Appends-append a b c (answers old h.0) front.0 h.2.1 front.4,
         subst (λ (t : Seen). IsCutShort t (line ∷ []) front.0) same (front.1, front.2, front.3),
       ),
@@ -132,9 +132,9 @@ cut_front s (line ∷ lines) part cut = (
 )
 
 -- a run that ended early wrote a front of its script's answers
-pub ended_front : (old : Seen) (new : State) (held holds kept : Option (List ℕ)) (script : List ℕ)
-    → EndsEarly old new held holds script → Keeps holds kept → AppendsFront held kept (answers old (lines_of script))
-ended_front old new held holds kept script h k =
+pub ended_front : (fault : ScriptError) (old new : Seen) (held holds kept : Option (List ℕ)) (script : List ℕ)
+    → EndsEarly fault old new held holds script → Keeps holds kept → AppendsFront held kept (answers old (lines_of script))
+ended_front fault old new held holds kept script h k =
     let finished = h.0 in
     let others = h.1 in
     let part = h.3.0 in
@@ -154,11 +154,11 @@ finished_front old new held holds kept lines h k =
     (answers old lines, [], sym (append-nil (answers old lines)), Appends-kept held holds kept (answers old lines) h.1 k)
 
 -- what a program's run that ended early wrote
-pub ended_fronts : (old : Seen) (new : State) (held holds kept input : Option (List ℕ)) → Keeps holds kept
-    → IfSome input (λ script. length script < 9223372036854775808 → EndsEarly old new held holds script)
+pub ended_fronts : (fault : ScriptError) (old new : Seen) (held holds kept input : Option (List ℕ)) → Keeps holds kept
+    → IfSome input (λ script. length script < 9223372036854775808 → EndsEarly fault old new held holds script)
     → IfSome input (λ script. length script < 9223372036854775808 → AppendsFront held kept (answers old (lines_of script)))
-ended_fronts old new held holds kept None k h = tt
-ended_fronts old new held holds kept (Some script) k h = λ few. ended_front old new held holds kept script (h few) k
+ended_fronts fault old new held holds kept None k h = tt
+ended_fronts fault old new held holds kept (Some script) k h = λ few. ended_front fault old new held holds kept script (h few) k
 
 -- what a program's run that answered its whole script wrote, where the writer keeps its bytes
 pub finished_whole : (old new : Seen) (held holds kept input : Option (List ℕ)) → Keeps holds kept

@@ -8,7 +8,7 @@ use Rattle.cedar_tree.specs.Tree.{IsSound, Tree, is_bare, number_at}
 use Rattle.cedar_tree.specs.Queries.{IsFront, is_path, node_at, prefixes, used, walk}
 use Rattle.cedar_tree.proofs.BuildLemmas.{is_path_itself, same_path}
 use Rattle.cedar_tree.proofs.PrefixLemmas.{front_of_node, node_of_held}
-use Rattle.cedar_error.specs.declared.error.CedarError.{CedarError}
+use Rattle.cedarwood.specs.declared.error.CedarError.{CedarError}
 use Rattle.cedar_meaning.specs.Meaning.Marks.{HasMark, IsProperFront, MarksCut, MarksPut}
 use Rattle.cedar_meaning.specs.Table.Layouts.{LayoutKind, default_layout, reduced_layout}
 use Rattle.cedarwood.specs.Dictionary.{Dictionary, IsMarked, some_numbers}

@@ -5,10 +5,11 @@ use Rattle.std.specs.Fmt.{signed_decimal}
 use Rattle.std.specs.Io.KnownBytes.{Appends}
 use Rattle.cedar_tree.specs.Tree.{number_at}
 use Rattle.cedar_tree.specs.Queries.{Entry, front, predict, walk}
-use Rattle.cedar_tree.specs.State.{State}
 use Rattle.cedar_cli.specs.declared.command.Verb.TheVariants.{Put, Erase, Exact, Segment, Prefixes, Predict, Entries, Figures}
-use Rattle.cedar_error.specs.declared.error.CedarError.{CedarError}
-use Rattle.cedar_error.specs.declared.error.CedarError.TheVariants.{EmptyKey, NulByte, InvalidValue}
+use Rattle.cedar_cli.specs.declared.script.ScriptError.{ScriptError}
+use Rattle.cedar_cli.specs.declared.script.ScriptError.TheVariants.{Write}
+use Rattle.cedarwood.specs.declared.error.CedarError.{CedarError}
+use Rattle.cedarwood.specs.declared.error.CedarError.TheVariants.{EmptyKey, NulByte, InvalidValue}
 use Rattle.cedarwood.specs.Fault.{fault}
 use Rattle.hex.specs.Hex.{encode_lower}
 use Rattle.cedar_words.specs.Words.{Token, segments}
@@ -118,9 +119,15 @@ AppendsFront held holds bytes = (part : List ℕ) × (rest : List ℕ) × (bytes
 abbrev pub Obeys : Option Order → Seen → Seen → Option (List ℕ) → Option (List ℕ) → Type 0
 Obeys order old new held holds = (new ≡ obeyed old order) × Appends held holds (reply old order ++ 10 ∷ [])
 
--- an order was not obeyed: its answer was not written whole, and the state stays
-abbrev pub Leaves : Option Order → Seen → State → Option (List ℕ) → Option (List ℕ) → Type 0
-Leaves order old new held holds = (new ≡ old.state) × WritesFront held holds (reply old order ++ 10 ∷ [])
+-- What stays when this fault ends a run: all that is seen, but after one of the writer the state alone. A value whose answer can't be
+-- written is taken back, and in the reduced layout the numbers that moved into slots for its key stay there.
+abbrev pub Stays : ScriptError → Seen → Seen → Type 0
+Stays Write old new = new.state ≡ old.state
+Stays fault old new = new ≡ old
+
+-- an order was not obeyed: its answer was not written whole, and what is seen stays as far as the fault lets it
+abbrev pub Leaves : ScriptError → Option Order → Seen → Seen → Option (List ℕ) → Option (List ℕ) → Type 0
+Leaves fault order old new held holds = Stays fault old new × WritesFront held holds (reply old order ++ 10 ∷ [])
 
 -- the answer to a line, with its byte 10
 abbrev pub answer : Seen → List ℕ → List ℕ
@@ -146,18 +153,18 @@ IsCutShort s [] part = part ≡ []
 IsCutShort s (line ∷ lines) part = (rest : List ℕ) × (0 < length rest) × (answer s line ≡ part ++ rest)
 
 -- Some lines of a script were finished, and no other: their answers were written whole, the next one's was
--- not, and the state is theirs.
-abbrev pub StopsAfter : Seen → State → Option (List ℕ) → Option (List ℕ) → List (List ℕ) → List (List ℕ) → Type 0
-StopsAfter old new held holds finished others =
-    (part : List ℕ) × (new ≡ (seen_after old finished).state)
+-- not, and what is seen is theirs as far as the fault lets it stay.
+abbrev pub StopsAfter : ScriptError → Seen → Seen → Option (List ℕ) → Option (List ℕ) → List (List ℕ) → List (List ℕ) → Type 0
+StopsAfter fault old new held holds finished others =
+    (part : List ℕ) × Stays fault (seen_after old finished) new
     × Appends held holds (answers old finished ++ part) × IsCutShort (seen_after old finished) others part
 
--- A run ended before its script did: the script's first lines are finished, and no other. Here nothing follows
+-- This fault ended a run before its script did: the script's first lines are finished, and no other. Here nothing follows
 -- the script, so its last piece is a line without a byte 10 too.
-abbrev pub EndsEarly : Seen → State → Option (List ℕ) → Option (List ℕ) → List ℕ → Type 0
-EndsEarly old new held holds script =
+abbrev pub EndsEarly : ScriptError → Seen → Seen → Option (List ℕ) → Option (List ℕ) → List ℕ → Type 0
+EndsEarly fault old new held holds script =
     (finished : List (List ℕ)) × (others : List (List ℕ)) × (lines_of script ≡ finished ++ others)
-    × StopsAfter old new held holds finished others
+    × StopsAfter fault old new held holds finished others
 
 -- However a text goes on, its lines are these, and then those of what is left of it. So the finished lines all
 -- have their byte 10 in the text: a line that could still grow is not among them.
@@ -169,9 +176,9 @@ abbrev pub Advances : Seen → Seen → Option (List ℕ) → Option (List ℕ) 
 Advances old new held holds text left =
     (finished : List (List ℕ)) × Splits text finished left × Finishes old new held holds finished
 
--- the run stopped in a text: some of its lines are finished, and the next one's answer was not written whole
-abbrev pub Stops : Seen → State → Option (List ℕ) → Option (List ℕ) → List ℕ → Type 0
-Stops old new held holds text =
+-- this fault stopped the run in a text: some of its lines are finished, and the next one's answer was not written whole
+abbrev pub Stops : ScriptError → Seen → Seen → Option (List ℕ) → Option (List ℕ) → List ℕ → Type 0
+Stops fault old new held holds text =
     (finished : List (List ℕ)) × (left : List ℕ) × (part : List ℕ) × Splits text finished left
-    × (new ≡ (seen_after old finished).state) × Appends held holds (answers old finished ++ part)
+    × Stays fault (seen_after old finished) new × Appends held holds (answers old finished ++ part)
     × ((rest : List ℕ) → IsCutShort (seen_after old finished) (lines_of (left ++ rest)) part)

@@ -1,6 +1,6 @@
-//! The answer to one line. A line whose answer isn't written whole changes nothing.
+//! The answer to one line. A line whose answer isn't written whole changes no key and no value.
 
-ghost use Rattle.std.specs.Prelude.{◌≡◌, ◌<◌, ◌++◌, ◌∷◌, [], length, true, Some, None, MatchOption, IsSome, OnOk, OnErr};
+ghost use Rattle.std.specs.Prelude.{◌≡◌, ◌⊎◌, ◌<◌, ◌++◌, ◌∷◌, [], length, true, Some, None, MatchOption, IfErr, IsSome, OnOk, OnErr};
 ghost use Rattle.std.specs.Io.KnownBytes.{Appends};
 ghost use Rattle.cedar_tree.specs.State.{stored, erased};
 ghost use Rattle.cedar_tree.specs.Tree.{number_at};
@@ -23,7 +23,7 @@ use itoa::Buffer;
 use std::alloc::Allocator;
 use std::io::Write;
 
-/// Does what a line asks, and writes the answer. A line whose answer isn't written whole changes nothing.
+/// Does what a line asks, and writes the answer. A line whose answer isn't written whole changes no key and no value.
 pub(crate) fn answer_line<L: Layout, const SLOTS: usize, A: Allocator + Copy, W: Write>(
     alloc: A,
     trie: &mut Trie<L, SLOTS, A>,
@@ -32,7 +32,7 @@ pub(crate) fn answer_line<L: Layout, const SLOTS: usize, A: Allocator + Copy, W:
 ) -> Result<(), ScriptError>
     ensures ok { OnOk result (Obeys (order_of line.now) (seen L.kind trie.old) (seen L.kind trie.new)
         (W.contents (device_of writer.old)) (W.contents (device_of writer.new))) }
-    ensures err { OnErr result (Leaves (order_of line.now) (seen L.kind trie.old) trie.new.state
+    ensures err { IfErr result (λ fault. Leaves fault (order_of line.now) (seen L.kind trie.old) (seen L.kind trie.new)
         (W.contents (device_of writer.old)) (W.contents (device_of writer.new))) }
     ensures cause { result ≡ Err ScriptError.Write → has_failed writer.new ≡ true }
     ensures unfailed { OnOk result (has_failed writer.new ≡ has_failed writer.old) }
@@ -61,11 +61,14 @@ fn answer_command<L: Layout, const SLOTS: usize, A: Allocator + Copy, W: Write>(
 ) -> Result<(), ScriptError>
     ensures ok { OnOk result (Obeys (Some (verb, key.now)) (seen L.kind trie.old) (seen L.kind trie.new)
         (W.contents (device_of writer.old)) (W.contents (device_of writer.new))) }
-    ensures err { OnErr result (Leaves (Some (verb, key.now)) (seen L.kind trie.old) trie.new.state
+    ensures err { IfErr result (λ fault. Leaves fault (Some (verb, key.now)) (seen L.kind trie.old) (seen L.kind trie.new)
         (W.contents (device_of writer.old)) (W.contents (device_of writer.new))) }
     ensures cause { result ≡ Err ScriptError.Write → has_failed writer.new ≡ true }
     ensures unfailed { OnOk result (has_failed writer.new ≡ has_failed writer.old) }
     ensures never_read { result ≡ Err ScriptError.Read → ⊥ }
+
+    // Want of memory is told where the dictionary was refused a block that it may have, or where a walk over all entries was refused its own.
+    ensures memory { result ≡ Err ScriptError.Memory → (verb ≡ Verb.Entries) ⊎ ((trie.new.size ≡ trie.new.capacity) × (trie.new.capacity < SLOTS)) }
     ensures limit { result ≡ Err ScriptError.SlotLimit → trie.new.size ≡ SLOTS }
     ensures starved { result ≡ Err ScriptError.Memory → has_failed writer.new ≡ has_failed writer.old }
     ensures full { result ≡ Err ScriptError.SlotLimit → has_failed writer.new ≡ has_failed writer.old }
@@ -94,7 +97,7 @@ fn answer_put<L: Layout, const SLOTS: usize, A: Allocator + Copy, W: Write>(
 ) -> Result<(), ScriptError>
     ensures ok { OnOk result (Obeys (Some (Verb.Put value, key.now)) (seen L.kind trie.old) (seen L.kind trie.new)
         (W.contents (device_of writer.old)) (W.contents (device_of writer.new))) }
-    ensures err { OnErr result (Leaves (Some (Verb.Put value, key.now)) (seen L.kind trie.old) trie.new.state
+    ensures err { IfErr result (λ fault. Leaves fault (Some (Verb.Put value, key.now)) (seen L.kind trie.old) (seen L.kind trie.new)
         (W.contents (device_of writer.old)) (W.contents (device_of writer.new))) }
     ensures cause { result ≡ Err ScriptError.Write → has_failed writer.new ≡ true }
     ensures unfailed { OnOk result (has_failed writer.new ≡ has_failed writer.old) }
@@ -130,7 +133,7 @@ fn answer_erase<L: Layout, const SLOTS: usize, A: Allocator + Copy, W: Write>(
 ) -> Result<(), ScriptError>
     ensures ok { OnOk result (Obeys (Some (Verb.Erase, key.now)) (seen L.kind trie.old) (seen L.kind trie.new)
         (W.contents (device_of writer.old)) (W.contents (device_of writer.new))) }
-    ensures err { OnErr result (Leaves (Some (Verb.Erase, key.now)) (seen L.kind trie.old) trie.new.state
+    ensures err { IfErr result (λ fault. Leaves fault (Some (Verb.Erase, key.now)) (seen L.kind trie.old) (seen L.kind trie.new)
         (W.contents (device_of writer.old)) (W.contents (device_of writer.new))) }
     ensures cause { OnErr result ((result ≡ Err ScriptError.Write) × (has_failed writer.new ≡ true)) }
     ensures unfailed { OnOk result (has_failed writer.new ≡ has_failed writer.old) }
@@ -153,7 +156,7 @@ fn answer_exact<L: Layout, const SLOTS: usize, A: Allocator + Copy, W: Write>(
 ) -> Result<(), ScriptError>
     ensures ok { OnOk result (Obeys (Some (Verb.Exact, key.now)) (seen L.kind trie.now) (seen L.kind trie.now)
         (W.contents (device_of writer.old)) (W.contents (device_of writer.new))) }
-    ensures err { OnErr result (Leaves (Some (Verb.Exact, key.now)) (seen L.kind trie.now) trie.now.state
+    ensures err { IfErr result (λ fault. Leaves fault (Some (Verb.Exact, key.now)) (seen L.kind trie.now) (seen L.kind trie.now)
         (W.contents (device_of writer.old)) (W.contents (device_of writer.new))) }
     ensures cause { OnErr result ((result ≡ Err ScriptError.Write) × (has_failed writer.new ≡ true)) }
     ensures unfailed { OnOk result (has_failed writer.new ≡ has_failed writer.old) }
@@ -172,7 +175,7 @@ fn answer_prefixes<L: Layout, const SLOTS: usize, A: Allocator + Copy, W: Write>
 ) -> Result<(), ScriptError>
     ensures ok { OnOk result (Obeys (Some (Verb.Prefixes, key.now)) (seen L.kind trie.now) (seen L.kind trie.now)
         (W.contents (device_of writer.old)) (W.contents (device_of writer.new))) }
-    ensures err { OnErr result (Leaves (Some (Verb.Prefixes, key.now)) (seen L.kind trie.now) trie.now.state
+    ensures err { IfErr result (λ fault. Leaves fault (Some (Verb.Prefixes, key.now)) (seen L.kind trie.now) (seen L.kind trie.now)
         (W.contents (device_of writer.old)) (W.contents (device_of writer.new))) }
     ensures cause { OnErr result ((result ≡ Err ScriptError.Write) × (has_failed writer.new ≡ true)) }
     ensures unfailed { OnOk result (has_failed writer.new ≡ has_failed writer.old) }
@@ -188,7 +191,7 @@ fn answer_predict<L: Layout, const SLOTS: usize, A: Allocator + Copy, W: Write>(
 ) -> Result<(), ScriptError>
     ensures ok { OnOk result (Obeys (Some (Verb.Predict, key.now)) (seen L.kind trie.now) (seen L.kind trie.now)
         (W.contents (device_of writer.old)) (W.contents (device_of writer.new))) }
-    ensures err { OnErr result (Leaves (Some (Verb.Predict, key.now)) (seen L.kind trie.now) trie.now.state
+    ensures err { IfErr result (λ fault. Leaves fault (Some (Verb.Predict, key.now)) (seen L.kind trie.now) (seen L.kind trie.now)
         (W.contents (device_of writer.old)) (W.contents (device_of writer.new))) }
     ensures cause { OnErr result ((result ≡ Err ScriptError.Write) × (has_failed writer.new ≡ true)) }
     ensures unfailed { OnOk result (has_failed writer.new ≡ has_failed writer.old) }
@@ -204,7 +207,7 @@ fn answer_entries<L: Layout, const SLOTS: usize, A: Allocator + Copy, W: Write>(
 ) -> Result<(), ScriptError>
     ensures ok { OnOk result (Obeys (Some (Verb.Entries, key.now)) (seen L.kind trie.now) (seen L.kind trie.now)
         (W.contents (device_of writer.old)) (W.contents (device_of writer.new))) }
-    ensures err { OnErr result (Leaves (Some (Verb.Entries, key.now)) (seen L.kind trie.now) trie.now.state
+    ensures err { IfErr result (λ fault. Leaves fault (Some (Verb.Entries, key.now)) (seen L.kind trie.now) (seen L.kind trie.now)
         (W.contents (device_of writer.old)) (W.contents (device_of writer.new))) }
     ensures cause { result ≡ Err ScriptError.Write → has_failed writer.new ≡ true }
     ensures starved { result ≡ Err ScriptError.Memory → has_failed writer.new ≡ has_failed writer.old }
@@ -226,7 +229,7 @@ fn answer_figures<L: Layout, const SLOTS: usize, A: Allocator + Copy, W: Write>(
 ) -> Result<(), ScriptError>
     ensures ok { OnOk result (Obeys (Some (Verb.Figures, key.now)) (seen L.kind trie.now) (seen L.kind trie.now)
         (W.contents (device_of writer.old)) (W.contents (device_of writer.new))) }
-    ensures err { OnErr result (Leaves (Some (Verb.Figures, key.now)) (seen L.kind trie.now) trie.now.state
+    ensures err { IfErr result (λ fault. Leaves fault (Some (Verb.Figures, key.now)) (seen L.kind trie.now) (seen L.kind trie.now)
         (W.contents (device_of writer.old)) (W.contents (device_of writer.new))) }
     ensures cause { OnErr result ((result ≡ Err ScriptError.Write) × (has_failed writer.new ≡ true)) }
     ensures unfailed { OnOk result (has_failed writer.new ≡ has_failed writer.old) }
@@ -242,7 +245,7 @@ fn answer_segment<L: Layout, const SLOTS: usize, A: Allocator + Copy, W: Write>(
 ) -> Result<(), ScriptError>
     ensures ok { OnOk result (Obeys (Some (Verb.Segment, text.now)) (seen L.kind trie.now) (seen L.kind trie.now)
         (W.contents (device_of writer.old)) (W.contents (device_of writer.new))) }
-    ensures err { OnErr result (Leaves (Some (Verb.Segment, text.now)) (seen L.kind trie.now) trie.now.state
+    ensures err { IfErr result (λ fault. Leaves fault (Some (Verb.Segment, text.now)) (seen L.kind trie.now) (seen L.kind trie.now)
         (W.contents (device_of writer.old)) (W.contents (device_of writer.new))) }
     ensures cause { OnErr result ((result ≡ Err ScriptError.Write) × (has_failed writer.new ≡ true)) }
     ensures unfailed { OnOk result (has_failed writer.new ≡ has_failed writer.old) }

@@ -1,6 +1,6 @@
 //! A run of a script: lines in, answers out.
 
-ghost use Rattle.std.specs.Prelude.{◌≡◌, ◌<◌, ◌^◌, ◌+◌, List, ℕ, [], ◌∷◌, ◌++◌, length, true, OnOk, OnErr, IfSome, position};
+ghost use Rattle.std.specs.Prelude.{◌≡◌, ◌<◌, ◌^◌, ◌+◌, List, ℕ, [], ◌∷◌, ◌++◌, length, true, OnOk, OnErr, IfErr, IfSome, position};
 ghost use Rattle.std.specs.Io.KnownBytes.{Consumes};
 ghost use Rattle.cedarwood.specs.WatchedDevice.{device_of, has_failed};
 ghost use Rattle.cedar_cli.specs.Blocks.{GrowsBefore, GrowsWithin};
@@ -37,7 +37,8 @@ const CHUNK: usize = 8192;
 /// is flushed before each read, so that one who waits for an answer before the next line gets it.
 ///
 /// A line is the bytes up to byte 10 (`\n`); a last nonempty piece without it is a line too. A line is
-/// finished when its answer has been written whole, and the dictionary is always that of the finished lines.
+/// finished when its answer has been written whole, and keys and values are always those of the finished lines. So are the slots that are in use,
+/// but after a fault of the writer: in the reduced layout a value that was taken back may leave those of shorter keys in slots of their own.
 ///
 /// # Errors
 /// The first fault ends the run: `Read` or `Write` where the device failed (an interrupted call is a fault),
@@ -54,9 +55,9 @@ pub fn run_script<L: Layout, const SLOTS: usize, A: Allocator + Copy, R: Read, W
         Finishes (seen L.kind trie.old) (seen L.kind trie.new)
         (W.contents (device_of writer.old)) (W.contents (device_of writer.new)) (lines_of input))) }
 
-    // The first lines are finished, the next one's answer was not written whole, and the state is theirs.
-    ensures err { OnErr result (IfSome (R.remaining (device_of reader.old)) (λ input. length input < 2 ^ 63 →
-        EndsEarly (seen L.kind trie.old) trie.new.state
+    // The first lines are finished, the next one's answer was not written whole, and the state is theirs; after any fault but `Write` so are the marks.
+    ensures err { IfErr result (λ fault. IfSome (R.remaining (device_of reader.old)) (λ input. length input < 2 ^ 63 →
+        EndsEarly fault (seen L.kind trie.old) (seen L.kind trie.new)
         (W.contents (device_of writer.old)) (W.contents (device_of writer.new)) input)) }
 
     // After a fault of the reader the finished lines are those that came whole.
@@ -115,7 +116,7 @@ fn take_bytes<L: Layout, const SLOTS: usize, A: Allocator + Copy, W: Write>(
     ensures still_open { OnOk result (IsOpen line.new.items) }
     ensures ok { OnOk result (Advances (seen L.kind trie.old) (seen L.kind trie.new)
         (W.contents (device_of writer.old)) (W.contents (device_of writer.new)) (line.old.items ++ bytes.now) line.new.items) }
-    ensures err { OnErr result (Stops (seen L.kind trie.old) trie.new.state
+    ensures err { IfErr result (λ fault. Stops fault (seen L.kind trie.old) (seen L.kind trie.new)
         (W.contents (device_of writer.old)) (W.contents (device_of writer.new)) (line.old.items ++ bytes.now)) }
     ensures cause { result ≡ Err ScriptError.Write → has_failed writer.new ≡ true }
     ensures unfailed { OnOk result (has_failed writer.new ≡ has_failed writer.old) }
@@ -159,7 +160,7 @@ fn end_line<L: Layout, const SLOTS: usize, A: Allocator + Copy, W: Write>(
     ensures empty { OnOk result (line.new.items ≡ []) }
     ensures ok { OnOk result (Advances (seen L.kind trie.old) (seen L.kind trie.new)
         (W.contents (device_of writer.old)) (W.contents (device_of writer.new)) (line.old.items ++ (piece.now ++ 10 ∷ [])) []) }
-    ensures err { OnErr result (Stops (seen L.kind trie.old) trie.new.state
+    ensures err { IfErr result (λ fault. Stops fault (seen L.kind trie.old) (seen L.kind trie.new)
         (W.contents (device_of writer.old)) (W.contents (device_of writer.new)) (line.old.items ++ (piece.now ++ 10 ∷ []))) }
     ensures cause { result ≡ Err ScriptError.Write → has_failed writer.new ≡ true }
     ensures unfailed { OnOk result (has_failed writer.new ≡ has_failed writer.old) }

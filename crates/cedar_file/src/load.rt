@@ -7,7 +7,7 @@ ghost use Rattle.cedar_slots.specs.Places.{IsSlotLimit};
 ghost use Rattle.cedar_table.specs.Table.Views.{fields};
 ghost use Rattle.cedar_meaning.specs.Meaning.WellFormed.{IsWellFormed};
 ghost use Rattle.cedar_format.specs.Format.{need, trial_refusal, CountsWithin, IsFile, IsVersion, Passes};
-ghost use Rattle.cedar_format.specs.Reading.{IsIo, IsLack, LacksNoMore};
+ghost use Rattle.cedar_format.specs.Reading.{IsIo, IsLack, LacksNoMore, TellsBreaks};
 ghost use Rattle.cedar_format.specs.Refusal.{refusal, refusal_of, CorruptData};
 ghost use Rattle.cedar_format.specs.Tables.{file_fields, table_bytes};
 ghost use Rattle.cedar_file.specs.Loading.{LoadAnswers};
@@ -48,6 +48,9 @@ pub fn load_table<
     // A reader that tells its bytes and does not fail, as bytes in memory, gets the answer that they decide.
     ensures answer { IfSome (S.remaining reader.old) (λ bytes. S.failed reader.new ≡ false → LoadAnswers (λ t. fields t) L.kind SLOTS memory_limit bytes result) }
     ensures io { IfErr result (λ e. IsIo e → S.failed reader.new ≡ true) }
+
+    // A read that was broken off is told as no success and no end of the input.
+    ensures told { TellsBreaks (S.broken reader.old) (S.broken reader.new) result }
     ensures lacks { IfErr result (LacksNoMore (Passes (layout_byte L.kind) SLOTS memory_limit (S.remaining reader.old))) }
 
     // Before the header has passed nothing is asked of memory and no record is read for the test.

@@ -1,5 +1,5 @@
 -- What reads and writes tell of the bytes that a reader has left and a writer holds, where those are known.
-use Rattle.std.specs.Prelude.{ℕ, ◌≡◌, ◌<◌, ◌/◌, ◌⊎◌, Bool, true, false, List, length, take, Option, Some, None, ⊤}
+use Rattle.std.specs.Prelude.{ℕ, ◌≡◌, ◌<◌, ◌/◌, ◌⊎◌, Bool, true, false, List, length, take, Option, Some, None, ⊤, Result, MatchResult}
 use Rattle.cedar_format.specs.declared.error.CedarPersistenceError.{CedarPersistenceError}
 use Rattle.cedar_format.specs.declared.error.CedarPersistenceError.TheVariants.{Io, Truncated, AllocationFailed, TrailingData}
 use Rattle.cedar_format.specs.declared.header.Header.{Header}
@@ -19,6 +19,10 @@ Misses left failed n _ = ⊥
 abbrev pub IsIo : CedarPersistenceError → Type 0
 IsIo (Io cause) = ⊤
 IsIo _ = ⊥
+
+-- where a success or an end of the input is answered, no read was broken off
+abbrev pub TellsBreaks : {X : Type 0} → Bool → Bool → Result X CedarPersistenceError → Type 0
+TellsBreaks old new answer = MatchResult answer (λ x. new ≡ old) (λ e. e ≡ Truncated → new ≡ old)
 
 -- memory was refused
 abbrev pub IsLack : CedarPersistenceError → Type 0

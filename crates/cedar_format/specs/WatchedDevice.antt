@@ -10,6 +10,10 @@ device_of w = w.device
 abbrev pub has_failed : {D : Type 0} → Watched D → Bool
 has_failed w = w.failed
 
+-- whether one of its reads was broken off so far: by a fault that is neither an end of the input nor an interruption
+abbrev pub is_broken : {D : Type 0} → Watched D → Bool
+is_broken w = w.broken
+
 -- a write of these bytes answered a fault, or took none of some bytes
 abbrev pub is_write_fault : {E : Type 0} → Result ℕ E → List ℕ → Bool
 is_write_fault (Ok n) bytes = n == 0 && not (length bytes == 0)

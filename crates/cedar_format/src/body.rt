@@ -7,7 +7,7 @@ ghost use Rattle.cedar_slots.specs.Places.{IsSlotLimit};
 ghost use Rattle.cedar_slots.specs.Slots.{blank_info, blank_node};
 ghost use Rattle.cedar_format.specs.Format.{body_len, filled, listed_bytes, listed_in, need, tables_len, CountsWithin, DecodeAnswers, IsFile, IsHeader, Passes};
 ghost use Rattle.cedar_format.specs.Records.{body_bytes, FitsBody};
-ghost use Rattle.cedar_format.specs.Reading.{IsIo, LacksNoMore, LacksTable, Misses, Trails};
+ghost use Rattle.cedar_format.specs.Reading.{IsIo, LacksNoMore, LacksTable, Misses, TellsBreaks, Trails};
 ghost use Rattle.cedar_format.specs.WatchedDevice.{device_of, has_failed};
 
 use crate::buffer::BUFFER_LEN;
@@ -46,8 +46,11 @@ fn reserve_tables<A: Allocator + Copy, C: Ledger>(
     ensures n_infos { IfOk result (λ d. (d.n_infos.items ≡ []) × (header.capacity ≤ vec_capacity d.n_infos)) }
     ensures blocks { IfOk result (λ d. (d.blocks.items ≡ []) × (header.capacity / 256 ≤ vec_capacity d.blocks)) }
     ensures reject { IfOk result (λ d. (d.reject.items ≡ []) × (header.reject_len ≤ vec_capacity d.reject)) }
+    // Just the room that was counted.
+    ensures room { IfOk result (λ d. (vec_capacity d.nodes ≡ header.capacity) × (vec_capacity d.n_infos ≡ header.capacity) × (vec_capacity d.blocks ≡ header.capacity / 256) × (vec_capacity d.reject ≡ header.reject_len)) }
     ensures err { IfErr result (LacksTable header) }
     ensures asked { asked.new ≤ asked.old + tables_len header }
+    ensures counted { OnOk result (asked.new ≡ asked.old + tables_len header) }
 {
     let mut nodes = Vec::new(alloc);
     reserve_counted(&mut nodes, header.capacity, asked)?;
@@ -85,6 +88,7 @@ fn read_lists<S: Source, A: Allocator>(
     ensures len { IfOk result (λ d. length (body_bytes d.nodes.items d.n_infos.items d.blocks.items d.reject.items) ≡ body_len tables.header) }
     ensures misses { IfErr result (Misses (S.remaining reader.old) (S.failed reader.new) (body_len tables.header)) }
     ensures failed { S.failed reader.old ≡ true → S.failed reader.new ≡ true }
+    ensures told { TellsBreaks (S.broken reader.old) (S.broken reader.new) result }
 {
     let Decoded {
         header,
@@ -147,6 +151,7 @@ fn read_end<S: Source>(reader: &mut S) -> Result<(), CedarPersistenceError>
     ensures at_end { OnOk result (S.failed reader.new ≡ false → IsAtEnd (S.remaining reader.new)) }
     ensures trailing { IfErr result (Trails (S.remaining reader.old) (S.failed reader.new)) }
     ensures failed { S.failed reader.old ≡ true → S.failed reader.new ≡ true }
+    ensures told { TellsBreaks (S.broken reader.old) (S.broken reader.new) result }
 {
     let mut byte = [0u8; 1];
     let (count, fault) = reader.read_available(&mut byte);
@@ -183,6 +188,7 @@ pub fn decode<S: Source, A: Allocator + Copy>(
     ensures answer { IfSome (S.remaining reader.old) (λ bytes. S.failed reader.new ≡ false → DecodeAnswers layout slots memory_limit bytes result) }
     ensures at_end { OnOk result (S.failed reader.new ≡ false → IsAtEnd (S.remaining reader.new)) }
     ensures io { IfErr result (λ e. IsIo e → S.failed reader.new ≡ true) }
+    ensures told { TellsBreaks (S.broken reader.old) (S.broken reader.new) result }
     ensures lacks { IfErr result (LacksNoMore (Passes layout slots memory_limit (S.remaining reader.old))) }
 {
     uncounted::<Brand, S, A>(alloc, reader, layout, slots, memory_limit, Blank::new(1))
@@ -207,6 +213,7 @@ fn uncounted<C: Ledger, S: Source, A: Allocator + Copy>(
     ensures answer { IfSome (S.remaining reader.old) (λ bytes. S.failed reader.new ≡ false → DecodeAnswers layout slots memory_limit bytes result) }
     ensures at_end { OnOk result (S.failed reader.new ≡ false → IsAtEnd (S.remaining reader.new)) }
     ensures io { IfErr result (λ e. IsIo e → S.failed reader.new ≡ true) }
+    ensures told { TellsBreaks (S.broken reader.old) (S.broken reader.new) result }
     ensures lacks { IfErr result (LacksNoMore (Passes layout slots memory_limit (S.remaining reader.old))) }
 {
     let mut asked = Ticks::<C>::new(blank);
@@ -237,6 +244,7 @@ pub fn decode_counted<S: Source, A: Allocator + Copy, C: Ledger>(
     ensures answer { IfSome (S.remaining reader.old) (λ bytes. S.failed reader.new ≡ false → DecodeAnswers layout slots memory_limit bytes result) }
     ensures at_end { OnOk result (S.failed reader.new ≡ false → IsAtEnd (S.remaining reader.new)) }
     ensures io { IfErr result (λ e. IsIo e → S.failed reader.new ≡ true) }
+    ensures told { TellsBreaks (S.broken reader.old) (S.broken reader.new) result }
     ensures lacks { IfErr result (LacksNoMore (Passes layout slots memory_limit (S.remaining reader.old))) }
 
     // Nothing is asked of memory before the header has passed, and then at most the need that it was tested for.

@@ -1,8 +1,10 @@
 //! The header of a file.
 
-ghost use Rattle.std.specs.Prelude.{◌≡◌, ◌≤◌, ◌+◌, ◌<◌, ◌^◌, length, nat_eq, slice_index, take, List, ℕ, true, false, ◌⊎◌, IfErr, IfOk, IfNone, IfSome, IsSome, OnOk, None, Ok, Err};
+ghost use Rattle.std.specs.IoError.{error_kind};
+ghost use Rattle.cedar_format.specs.declared.error.CedarPersistenceError.TheVariants.{Io, Truncated};
+ghost use Rattle.std.specs.Prelude.{◌≢◌, ◌≡◌, ◌≤◌, ◌+◌, ◌<◌, ◌^◌, length, nat_eq, slice_index, take, List, ℕ, true, false, ◌⊎◌, IfErr, IfOk, IfNone, IfSome, IsSome, OnOk, None, Ok, Err};
 ghost use Rattle.cedar_format.specs.Format.{u16_at, i32_at, u64_at, header_at, header_refusal, header_bytes, kind_refusal, listed, magic, version_refusal, size_refusal, FitsHeader, IsHeader, IsVersion};
-ghost use Rattle.cedar_format.specs.Reading.{IsIo, IsLack};
+ghost use Rattle.cedar_format.specs.Reading.{IsIo, IsLack, TellsBreaks};
 ghost use Rattle.cedar_format.specs.Refusal.{refusal, refusal_of, InvalidHeader};
 ghost use Rattle.cedar_format.specs.WatchedDevice.{device_of, has_failed};
 ghost use Rattle.std.specs.List.{starts_with};
@@ -11,7 +13,7 @@ ghost use Rattle.std.specs.Io.KnownBytes.{Appends, Consumes};
 use crate::buffer::{Buffer, put_bytes, put_i32, put_u16, put_usize};
 use crate::error::CedarPersistenceError;
 use crate::numbers::write_bytes;
-use crate::source::Source;
+use crate::source::{Source, fault_of};
 use crate::watched::Watched;
 use std::io;
 use std::io::{ErrorKind, Write};
@@ -209,6 +211,7 @@ pub fn read_header<S: Source>(reader: &mut S, layout: u8) -> Result<Header, Ceda
     ensures io { IfErr result (λ e. IsIo e → S.failed reader.new ≡ true) }
     ensures room { IfErr result (λ e. IsLack e → ⊥) }
     ensures failed { S.failed reader.old ≡ true → S.failed reader.new ≡ true }
+    ensures told { TellsBreaks (S.broken reader.old) (S.broken reader.new) result }
 {
     let mut buf = [0u8; HEADER_LEN];
     let (count, fault) = reader.read_available(&mut buf);
@@ -222,23 +225,14 @@ fn with_fault<X>(
 ) -> Result<X, CedarPersistenceError>
     ensures ok { IfOk result (λ x. answer ≡ Ok x) }
     ensures no_fault { IfNone fault (result ≡ answer) }
+    ensures other { (answer ≡ Err Truncated → ⊥) → result ≡ answer }
+    ensures told { IfSome fault (λ e. answer ≡ Err Truncated → error_kind e ≢ ErrorKind.UnexpectedEof → result ≡ Err (Io e)) }
     ensures io { IfErr result (λ e. IsIo e → IsSome fault ⊎ (answer ≡ Err e)) }
     ensures room { IfErr result (λ e. IsLack e → answer ≡ Err e) }
 {
     match (answer, fault) {
         (Err(CedarPersistenceError::Truncated), Some(error)) => Err(fault_of(error)),
         (answer, _) => answer,
-    }
-}
-
-/// The answer to a fault of the reader: its own end of input is an end of input.
-fn fault_of(error: io::Error) -> CedarPersistenceError
-    ensures room { IsLack result → ⊥ }
-{
-    if error.kind() == ErrorKind::UnexpectedEof {
-        CedarPersistenceError::Truncated
-    } else {
-        CedarPersistenceError::Io(error)
     }
 }
 

@@ -11,6 +11,7 @@ mod listing;
 mod numbers;
 mod record;
 mod reserve;
+mod retries;
 mod source;
 mod watched;
 

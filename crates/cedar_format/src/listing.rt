@@ -4,7 +4,7 @@ ghost use Rattle.std.specs.Prelude.{◌≡◌, ◌+◌, ◌*◌, ◌≤◌, true
 ghost use Rattle.std.specs.List.{flat_map};
 ghost use Rattle.std.specs.Io.KnownBytes.{Appends, Consumes};
 ghost use Rattle.cedar_format.specs.Format.{filled};
-ghost use Rattle.cedar_format.specs.Reading.{IsIo, Misses};
+ghost use Rattle.cedar_format.specs.Reading.{IsIo, Misses, TellsBreaks};
 ghost use Rattle.cedar_format.specs.WatchedDevice.{device_of, has_failed};
 
 use crate::buffer::BUFFER_LEN;
@@ -31,6 +31,7 @@ pub(crate) fn read_records<S: Source, T: Record, A: Allocator>(
     ensures len { OnOk result (length (flat_map T.bytes_of records.new.items) ≡ count * T.LEN) }
     ensures misses { IfErr result (Misses (S.remaining reader.old) (S.failed reader.new) (count * T.LEN)) }
     ensures failed { S.failed reader.old ≡ true → S.failed reader.new ≡ true }
+    ensures told { TellsBreaks (S.broken reader.old) (S.broken reader.new) result }
 {
     let mut buffer = [0u8; BUFFER_LEN];
     let most = BUFFER_LEN / T::LEN;
@@ -57,6 +58,7 @@ fn read_piece<S: Source, T: Record, A: Allocator>(
     ensures fits { OnOk result (All T.Fits records.new.items) }
     ensures misses { IfErr result (Misses (S.remaining reader.old) (S.failed reader.new) (count * T.LEN)) }
     ensures failed { S.failed reader.old ≡ true → S.failed reader.new ≡ true }
+    ensures told { TellsBreaks (S.broken reader.old) (S.broken reader.new) result }
 {
     let bytes = &mut buffer[..count * T::LEN];
     reader.fill(bytes)?;

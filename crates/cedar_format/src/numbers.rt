@@ -3,7 +3,7 @@
 ghost use Rattle.std.specs.Prelude.{◌≡◌, true, [], ◌∷◌, IfErr, IfOk, OnOk};
 ghost use Rattle.std.specs.Io.KnownBytes.{Appends, Consumes};
 ghost use Rattle.cedar_format.specs.Numbers.{u16_bytes, u64_bytes, i16_bytes, i32_bytes};
-ghost use Rattle.cedar_format.specs.Reading.{IsIo, Misses};
+ghost use Rattle.cedar_format.specs.Reading.{IsIo, Misses, TellsBreaks};
 ghost use Rattle.cedar_format.specs.WatchedDevice.{device_of, has_failed};
 
 use crate::buffer::{i16_of, i32_of, u16_of, u64_of};
@@ -30,6 +30,7 @@ pub fn read_u8<S: Source>(reader: &mut S) -> Result<u8, CedarPersistenceError>
     ensures bytes { IfOk result (λ x. Consumes (S.remaining reader.old) (S.remaining reader.new) (x ∷ [])) }
     ensures misses { IfErr result (Misses (S.remaining reader.old) (S.failed reader.new) 1) }
     ensures failed { S.failed reader.old ≡ true → S.failed reader.new ≡ true }
+    ensures told { TellsBreaks (S.broken reader.old) (S.broken reader.new) result }
 {
     let mut buf = [0u8; 1];
     reader.fill(&mut buf)?;
@@ -41,6 +42,7 @@ pub fn read_u16<S: Source>(reader: &mut S) -> Result<u16, CedarPersistenceError>
     ensures bytes { IfOk result (λ x. Consumes (S.remaining reader.old) (S.remaining reader.new) (u16_bytes x)) }
     ensures misses { IfErr result (Misses (S.remaining reader.old) (S.failed reader.new) 2) }
     ensures failed { S.failed reader.old ≡ true → S.failed reader.new ≡ true }
+    ensures told { TellsBreaks (S.broken reader.old) (S.broken reader.new) result }
 {
     let mut buf = [0u8; 2];
     reader.fill(&mut buf)?;
@@ -52,6 +54,7 @@ pub fn read_i16<S: Source>(reader: &mut S) -> Result<i16, CedarPersistenceError>
     ensures bytes { IfOk result (λ x. Consumes (S.remaining reader.old) (S.remaining reader.new) (i16_bytes x)) }
     ensures misses { IfErr result (Misses (S.remaining reader.old) (S.failed reader.new) 2) }
     ensures failed { S.failed reader.old ≡ true → S.failed reader.new ≡ true }
+    ensures told { TellsBreaks (S.broken reader.old) (S.broken reader.new) result }
 {
     let mut buf = [0u8; 2];
     reader.fill(&mut buf)?;
@@ -63,6 +66,7 @@ pub fn read_i32<S: Source>(reader: &mut S) -> Result<i32, CedarPersistenceError>
     ensures bytes { IfOk result (λ x. Consumes (S.remaining reader.old) (S.remaining reader.new) (i32_bytes x)) }
     ensures misses { IfErr result (Misses (S.remaining reader.old) (S.failed reader.new) 4) }
     ensures failed { S.failed reader.old ≡ true → S.failed reader.new ≡ true }
+    ensures told { TellsBreaks (S.broken reader.old) (S.broken reader.new) result }
 {
     let mut buf = [0u8; 4];
     reader.fill(&mut buf)?;
@@ -74,6 +78,7 @@ pub fn read_u64<S: Source>(reader: &mut S) -> Result<u64, CedarPersistenceError>
     ensures bytes { IfOk result (λ x. Consumes (S.remaining reader.old) (S.remaining reader.new) (u64_bytes x)) }
     ensures misses { IfErr result (Misses (S.remaining reader.old) (S.failed reader.new) 8) }
     ensures failed { S.failed reader.old ≡ true → S.failed reader.new ≡ true }
+    ensures told { TellsBreaks (S.broken reader.old) (S.broken reader.new) result }
 {
     let mut buf = [0u8; 8];
     reader.fill(&mut buf)?;
@@ -121,6 +126,7 @@ pub fn read_usize<S: Source>(
     ensures bytes { IfOk result (λ x. Consumes (S.remaining reader.old) (S.remaining reader.new) (u64_bytes x)) }
     ensures misses { IfErr result (Misses (S.remaining reader.old) (S.failed reader.new) 8) }
     ensures failed { S.failed reader.old ≡ true → S.failed reader.new ≡ true }
+    ensures told { TellsBreaks (S.broken reader.old) (S.broken reader.new) result }
 {
     Ok(read_u64(reader)? as usize)
 }

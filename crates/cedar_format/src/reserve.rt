@@ -19,6 +19,7 @@ pub fn reserve_exact<T, A: Allocator>(
 ) -> Result<(), CedarPersistenceError>
     ensures items { vec.new.items ≡ vec.old.items }
     ensures ok { OnOk result (vec_len vec.new + len ≤ vec_capacity vec.new) }
+    ensures exact { OnOk result (vec_capacity vec.old ≤ vec_len vec.old + len → vec_capacity vec.new ≡ vec_len vec.old + len) }
     ensures err { IfErr result (λ e. refusal_of e ≡ AllocationFailed len) }
 {
     match vec.reserve_exact(len) {
@@ -36,6 +37,7 @@ pub(crate) fn reserve_counted<T: Record, A: Allocator, C: Ledger>(
     requires { len * T.LEN < 2 ^ 64 }
     ensures items { vec.new.items ≡ vec.old.items }
     ensures ok { OnOk result (vec_len vec.new + len ≤ vec_capacity vec.new) }
+    ensures exact { OnOk result (vec_capacity vec.old ≤ vec_len vec.old + len → vec_capacity vec.new ≡ vec_len vec.old + len) }
     ensures err { IfErr result (λ e. refusal_of e ≡ AllocationFailed len) }
     ensures counted { asked.new ≡ asked.old + len * T.LEN }
 {

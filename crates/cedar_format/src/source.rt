@@ -1,25 +1,33 @@
 //! What a file is loaded from: a watched reader, or bytes in memory.
 
-ghost use Rattle.std.specs.Prelude.{false, Some};
+ghost use Rattle.std.specs.IoError.{error_kind};
+ghost use Rattle.std.specs.Prelude.{◌≡◌, ◌≢◌, false, Some};
+ghost use Rattle.cedar_format.specs.declared.error.CedarPersistenceError.TheVariants.{Io, Truncated};
+ghost use Rattle.cedar_format.specs.Reading.{IsLack};
 
 use crate::buffer::take_bytes;
 use crate::error::CedarPersistenceError;
 use std::io;
+use std::io::ErrorKind;
 
 /// What a file is loaded from, and whether its reading has failed.
 ///
 /// The calls that load know of it only what stands here. A [`Watched`](crate::Watched) reader has failed where one of its calls
 /// did. Bytes in memory, `&[u8]`, never fail, and begin behind what was taken.
 pub trait Source {
-    ghost use Rattle.std.specs.Prelude.{◌≡◌, ◌<◌, ◌≤◌, true, Bool, length, take, List, ℕ, Option, IfErr, IfNone, OnOk, OnSome};
+    ghost use Rattle.std.specs.Prelude.{◌≡◌, ◌<◌, ◌≤◌, true, Bool, length, take, List, ℕ, Option, IfErr, IfNone, IfSome, OnOk, OnSome};
+    ghost use Rattle.std.specs.IoError.{error_kind};
     ghost use Rattle.std.specs.Io.KnownBytes.{Consumes, IsAtEnd};
-    ghost use Rattle.cedar_format.specs.Reading.{Misses};
+    ghost use Rattle.cedar_format.specs.Reading.{Misses, TellsBreaks};
 
     /// The bytes that are left, where they are known.
     ghost remaining: { Self → Option (List ℕ) };
 
     /// Whether a read failed so far.
     ghost failed: { Self → Bool };
+
+    /// Whether a read was broken off so far: by a fault that is neither an end of the input nor an interruption.
+    ghost broken: { Self → Bool };
 
     /// Fills the buffer.
     ///
@@ -28,7 +36,8 @@ pub trait Source {
     fn fill(&mut self, buf: &mut [u8]) -> Result<(), CedarPersistenceError>
         ensures bytes { OnOk result (Consumes (remaining self.old) (remaining self.new) buf.new) }
         ensures misses { IfErr result (Misses (remaining self.old) (failed self.new) (length buf.old)) }
-        ensures stays { failed self.old ≡ true → failed self.new ≡ true };
+        ensures stays { failed self.old ≡ true → failed self.new ≡ true }
+        ensures told { TellsBreaks (broken self.old) (broken self.new) result };
 
     /// Fills the buffer as far as the input goes. Answers how many bytes came, and the fault that ended them.
     fn read_available(&mut self, buf: &mut [u8]) -> (usize, Option<io::Error>)
@@ -36,13 +45,18 @@ pub trait Source {
         ensures bytes { Consumes (remaining self.old) (remaining self.new) (take result.0 buf.new) }
         ensures ended { IfNone result.1 (result.0 < length buf.new → IsAtEnd (remaining self.new)) }
         ensures fault { OnSome result.1 (failed self.new ≡ true) }
-        ensures stays { failed self.old ≡ true → failed self.new ≡ true };
+        ensures short { OnSome result.1 (result.0 < length buf.new) }
+        ensures stays { failed self.old ≡ true → failed self.new ≡ true }
+        ensures whole { IfNone result.1 (broken self.new ≡ broken self.old) }
+        ensures early { IfSome result.1 (λ e. error_kind e ≡ ErrorKind.UnexpectedEof → broken self.new ≡ broken self.old) };
 }
 
 impl Source for &[u8] {
     ghost remaining = { λ bytes. Some bytes.now };
 
     ghost failed = { λ bytes. false };
+
+    ghost broken = { λ bytes. false };
 
     fn fill(&mut self, buf: &mut [u8]) -> Result<(), CedarPersistenceError> {
         if self.len() < buf.len() {
@@ -56,5 +70,18 @@ impl Source for &[u8] {
         let count = self.len().min(buf.len());
         take_bytes(self, &mut buf[..count]);
         (count, None)
+    }
+}
+
+/// The answer to a fault of the reader: its own end of input is an end of input.
+pub(crate) fn fault_of(error: io::Error) -> CedarPersistenceError
+    ensures end { error_kind error ≡ ErrorKind.UnexpectedEof → result ≡ Truncated }
+    ensures other { error_kind error ≢ ErrorKind.UnexpectedEof → result ≡ Io error }
+    ensures room { IsLack result → ⊥ }
+{
+    if error.kind() == ErrorKind::UnexpectedEof {
+        CedarPersistenceError::Truncated
+    } else {
+        CedarPersistenceError::Io(error)
     }
 }

@@ -3,8 +3,8 @@ use Rattle.std.specs.Prelude.{bit_xor, ◌≡◌, ℕ, ◌+◌, ◌*◌, ◌/◌
 use Rattle.cedar_slots.specs.Blocks.{blank_block, block_at, BlockFields, counts_at, HasLists, head_of, kind_of, Sized}
 use Rattle.cedar_slots.specs.declared.blocks.BlockType.{BlockType}
 use Rattle.cedar_slots.specs.declared.blocks.BlockType.TheVariants.{Open}
-use Rattle.cedar_error.specs.declared.error.CedarError.{CedarError}
-use Rattle.cedar_error.specs.declared.error.CedarError.TheVariants.{Memory, SlotLimit}
+use Rattle.cedar_slots.specs.declared.shortage.Shortage.{Shortage}
+use Rattle.cedar_slots.specs.declared.shortage.Shortage.TheVariants.{Memory, SlotLimit}
 use Rattle.cedar_slots.specs.declared.blocks.Counts.{Counts}
 use Rattle.cedar_slots.specs.declared.records.BlockRecord.{BlockRecord}
 use Rattle.cedar_slots.specs.declared.records.NodeRecord.{NodeRecord}
@@ -132,10 +132,9 @@ pub record IsTable (slots : ℕ) (table : PlaceFields) : Type 0 where
   pub within : 256 * length table.blocks.records ≤ slots
 
 -- when a table may refuse a new block: memory only where the tables have to grow, the limit only where all slots are in use
-abbrev pub MayRefuse : PlaceFields → ℕ → CedarError → Type 0
+abbrev pub MayRefuse : PlaceFields → ℕ → Shortage → Type 0
 MayRefuse table slots Memory = (table.blocks.active ≡ length table.blocks.records) × (256 * table.blocks.active < slots)
 MayRefuse table slots SlotLimit = 256 * table.blocks.active ≡ slots
-MayRefuse table slots _ = ⊥
 
 -- a free slot outside block 0
 pub record IsFreePlace (table : PlaceFields) (slot : ℕ) : Type 0 where

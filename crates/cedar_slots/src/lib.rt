@@ -3,14 +3,17 @@
 #![tactic(auto)]
 
 mod blocks;
+mod corrupt;
 mod places;
 mod records;
+mod shortage;
 mod slots;
 mod ticks;
 
 pub use blocks::{BlockType, Blocks, Counts};
-pub use cedar_error::{CedarError, Corrupt};
+pub use corrupt::Corrupt;
 pub use places::{Places, reserved};
 pub use records::{BlockRecord, NInfoRecord, NodeRecord};
+pub use shortage::Shortage;
 pub use slots::{BLOCK_SIZE, Slots};
 pub use ticks::Ticks;

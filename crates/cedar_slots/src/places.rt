@@ -1,7 +1,7 @@
 //! The slots and their blocks together: which slots are free, and where free ones are found.
 
 ghost use Rattle.std.specs.List.{range_with_len};
-ghost use Rattle.std.specs.Prelude.{◌+◌, count_by, not, slice_set, IfErr, IfNone, IfOk, IfSome, length, OnErr, OnOk, ◌≡◌, ◌≤◌, ◌⊎◌, ℕ, ◌==◌, if◌then◌else◌, ◌<◌, ◌*◌, ◌/◌, ◌≤ℤ◌, false, int_lt, pos, true};
+ghost use Rattle.std.specs.Prelude.{◌+◌, count_by, not, slice_set, IfErr, IfNone, IfOk, IfSome, length, OnErr, OnOk, ◌≡◌, ◌≤◌, ◌⊎◌, ℕ, ◌==◌, if◌then◌else◌, ◌<◌, ◌*◌, ◌/◌, ◌^◌, ◌≤ℤ◌, false, int_lt, pos, true};
 ghost use Rattle.cedar_slots.specs.Blocks.{counts_at};
 ghost use Rattle.cedar_slots.specs.Slots.{is_free, node_at};
 ghost use Rattle.cedar_slots.specs.Views.{blocks_of, places_of, slots_of};
@@ -9,8 +9,8 @@ ghost use Rattle.cedar_slots.specs.Places.{AddsBlock, FreesSlot, Grown, IsFreePl
 
 use crate::blocks::{BlockType, Blocks};
 use crate::records::{BlockRecord, NInfoRecord, NodeRecord};
+use crate::shortage::Shortage;
 use crate::slots::{BLOCK_SIZE, Slots};
-use cedar_error::CedarError;
 use std::alloc::{AllocError, Allocator};
 
 #[derive(Drop)]
@@ -187,6 +187,31 @@ impl<A: Allocator> Places<A> {
         None
     }
 
+    /// Makes the tables as long as `room` blocks need. All memory is asked for before the first of them grows.
+    pub fn grow(&mut self, room: usize) -> Result<(), AllocError>
+        requires sound { Sound (places_of self.old) }
+        requires doubled { IsPowerOfTwo room }
+        requires more { length self.old.blocks.records.items ≤ room }
+        requires most { room ≤ 2 ^ 22 }
+        ensures sound { Sound (places_of self.new) }
+        ensures grown { Grown (places_of self.old) (places_of self.new) }
+        ensures len { OnOk result (length self.new.blocks.records.items ≡ room) }
+        ensures err { OnErr result (places_of self.new ≡ places_of self.old) }
+    {
+        let more = room - self.blocks.records.len();
+        self.slots.nodes.reserve(BLOCK_SIZE * more)?;
+        self.slots.infos.reserve(BLOCK_SIZE * more)?;
+        self.blocks.records.reserve(more)?;
+        self.slots
+            .nodes
+            .resize(BLOCK_SIZE * room, NodeRecord::BLANK)?;
+        self.slots
+            .infos
+            .resize(BLOCK_SIZE * room, NInfoRecord::BLANK)?;
+        self.blocks.records.resize(room, BlockRecord::BLANK)?;
+        Ok(())
+    }
+
     /// Makes room for one more block, if there is none: the tables double.
     fn make_room(&mut self, slots: usize) -> Result<(), AllocError>
         requires sound { Sound (places_of self.old) }
@@ -206,22 +231,12 @@ impl<A: Allocator> Places<A> {
         if self.blocks.active < blocks {
             return Ok(());
         }
-        self.slots.nodes.reserve(BLOCK_SIZE * blocks)?;
-        self.slots.infos.reserve(BLOCK_SIZE * blocks)?;
-        self.blocks.records.reserve(blocks)?;
-        self.slots
-            .nodes
-            .resize(2 * BLOCK_SIZE * blocks, NodeRecord::BLANK)?;
-        self.slots
-            .infos
-            .resize(2 * BLOCK_SIZE * blocks, NInfoRecord::BLANK)?;
-        self.blocks.records.resize(2 * blocks, BlockRecord::BLANK)?;
-        Ok(())
+        self.grow(2 * blocks)
     }
 
     /// Puts one more block into use, and answers its number. The tables double if all of their
     /// blocks are in use, up to `slots` slots.
-    pub fn add_block(&mut self, slots: usize) -> Result<usize, CedarError>
+    pub fn add_block(&mut self, slots: usize) -> Result<usize, Shortage>
         requires sound { Sound (places_of self.old) }
         requires limit { IsSlotLimit slots }
         requires within { 256 * length self.old.blocks.records.items ≤ slots }
@@ -233,7 +248,7 @@ impl<A: Allocator> Places<A> {
         ensures unchanged { OnErr result (places_of self.new ≡ places_of self.old) }
     {
         if BLOCK_SIZE * self.blocks.active == slots {
-            return Err(CedarError::SlotLimit);
+            return Err(Shortage::SlotLimit);
         }
         self.make_room(slots)?;
         let block = self.blocks.active;
@@ -243,7 +258,7 @@ impl<A: Allocator> Places<A> {
     }
 
     /// A free slot outside block 0. A block is made only where there is none.
-    pub fn find_place(&mut self, slots: usize) -> Result<usize, CedarError>
+    pub fn find_place(&mut self, slots: usize) -> Result<usize, Shortage>
         requires sound { Sound (places_of self.old) }
         requires limit { IsSlotLimit slots }
         requires within { 256 * length self.old.blocks.records.items ≤ slots }
@@ -372,7 +387,7 @@ impl<A: Allocator> Places<A> {
 
     /// A base from which all labels have free slots, outside block 0: in an open block that fits
     /// them all, as far as rejections and trials allow a search, else in a new one. No clause says which.
-    pub fn find_places(&mut self, labels: &[u8], slots: usize) -> Result<usize, CedarError>
+    pub fn find_places(&mut self, labels: &[u8], slots: usize) -> Result<usize, Shortage>
         requires sound { Sound (places_of self.old) }
         requires some { 0 < length labels.now }
         requires few { length labels.now ≤ 256 }

@@ -1,3 +1,4 @@
 -- A table and its parts as their fields.
 pub mod Parts
+pub mod Room
 pub mod Views

@@ -6,6 +6,7 @@ mod chain;
 mod clone;
 mod nodes;
 mod parts;
+mod room;
 mod search;
 mod table;
 
@@ -13,8 +14,6 @@ pub use cedar_meaning::{
     DefaultLayout, Layout, ReducedLayout, Stored, full_blocks_are_counted, held_slots_are_counted,
     held_slots_are_named, marks_are_read, one_path, one_tree, slots_stay,
 };
-pub use cedar_slots::{
-    BLOCK_SIZE, BlockRecord, CedarError, Corrupt, NInfoRecord, NodeRecord, Ticks,
-};
+pub use cedar_slots::{BLOCK_SIZE, BlockRecord, Corrupt, NInfoRecord, NodeRecord, Shortage, Ticks};
 pub use parts::Parts;
 pub use table::{Labels, Table};

@@ -7,7 +7,7 @@ use std::alloc::Allocator;
 use std::sync::ledger::Ledger;
 
 impl<L: Layout, const SLOTS: usize, A: Allocator> Table<L, SLOTS, A> {
-    ghost use Rattle.std.specs.Prelude.{◌≡◌, ◌+◌, ◌<◌, ◌≤◌, ◌↔◌, IsTrue, false, MatchOption, pos, length};
+    ghost use Rattle.std.specs.Prelude.{◌≡◌, ◌+◌, ◌<◌, ◌≤◌, ◌↔◌, IsTrue, false, MatchOption, OnSome, pos, length};
     ghost use Rattle.cedar_tree.specs.Tree.{Tree, has_label, subtree};
     ghost use Rattle.cedar_tree.specs.Queries.{exact};
     ghost use Rattle.cedar_meaning.specs.declared.layout.Stored.TheVariants.{Nothing};
@@ -33,6 +33,7 @@ impl<L: Layout, const SLOTS: usize, A: Allocator> Table<L, SLOTS, A> {
         requires node { (t : Tree) × Stands (size_of (fields self.now)) (cells self.now) node t }
         ensures answer { (t : Tree) → Stands (size_of (fields self.now)) (cells self.now) node t → MatchOption result (has_label t.children label ≡ false) (λ s. (s < size_of (fields self.now)) × Stands (size_of (fields self.now)) (cells self.now) s (subtree t.children label)) }
         ensures cost { ticks.new ≤ ticks.old + 1 }
+        ensures found { OnSome result (ticks.new ≡ ticks.old + 1) }
     {
         if label == 0 {
             return None;
@@ -54,6 +55,7 @@ impl<L: Layout, const SLOTS: usize, A: Allocator> Table<L, SLOTS, A> {
         requires node { (t : Tree) × Stands (size_of (fields self.now)) (cells self.now) node t }
         ensures answer { (t : Tree) → Stands (size_of (fields self.now)) (cells self.now) node t → result ≡ t.number }
         ensures cost { ticks.new ≤ ticks.old + 1 }
+        ensures grows { ticks.old ≤ ticks.new }
     {
         match self.stored_at_node(node) {
             Stored::OwnNumber(value) => Some(value),
@@ -101,6 +103,8 @@ impl<L: Layout, const SLOTS: usize, A: Allocator> Table<L, SLOTS, A> {
         requires { IsWellFormed SLOTS (fields self.now) }
         ensures answer { result ≡ exact (tree_of (fields self.now)) key.now }
         ensures cost { ticks.new ≤ ticks.old + length key.now + 1 }
+        // A hit has compared once for each byte at least.
+        ensures least { OnSome result (ticks.old + length key.now ≤ ticks.new) }
     {
         let mut node = 0;
         for label in key {

@@ -6,7 +6,7 @@ ghost use Rattle.cedar_slots.specs.Views.{places_of};
 
 use arrayvec::ArrayVec;
 use cedar_meaning::{Layout, Stored};
-use cedar_slots::{BLOCK_SIZE, BlockRecord, CedarError, NInfoRecord, NodeRecord, Places, Ticks};
+use cedar_slots::{BLOCK_SIZE, BlockRecord, NInfoRecord, NodeRecord, Places, Shortage, Ticks};
 use std::alloc::Allocator;
 use std::marker::PhantomData;
 use std::sync::ledger::Ledger;
@@ -30,7 +30,7 @@ pub struct Table<L: Layout, const SLOTS: usize, A: Allocator> {
 impl<L: Layout, const SLOTS: usize, A: Allocator> Table<L, SLOTS, A> {
     ghost use Rattle.std.specs.Prelude.{ℕ, ◌<◌, ◌^◌, ◌⊎◌, ◌+◌, ◌-◌, ◌/◌, ◌↔◌, count_by, IfErr, IfOk, IsTrue, negsuc, OnErr};
     ghost use Rattle.std.specs.List.{range_with_len};
-    ghost use Rattle.cedar_error.specs.declared.error.CedarError.TheVariants.{Memory};
+    ghost use Rattle.cedar_slots.specs.declared.shortage.Shortage.TheVariants.{Memory};
     ghost use Rattle.cedar_slots.specs.Blocks.{block_at};
     ghost use Rattle.cedar_meaning.specs.Table.Cells.{Gives, HasPlaces, Held, InfoWritten, is_held, IsPlace, NodeWritten, NoPlace, SameHeld, Takes};
     ghost use Rattle.cedar_meaning.specs.Table.Layouts.{reading};
@@ -45,7 +45,7 @@ impl<L: Layout, const SLOTS: usize, A: Allocator> Table<L, SLOTS, A> {
     ghost use Rattle.cedar_meaning.specs.Edit.Steps.{MakesBlocks};
 
     /// A table with one block, in which the root alone is held. It stands for the empty tree.
-    pub fn new(alloc: A, ordered: bool, max_trial: i32) -> Result<Self, CedarError>
+    pub fn new(alloc: A, ordered: bool, max_trial: i32) -> Result<Self, Shortage>
     where
         A: Copy,
         requires tried { pos 1 ≤ℤ max_trial }
@@ -157,7 +157,7 @@ impl<L: Layout, const SLOTS: usize, A: Allocator> Table<L, SLOTS, A> {
     }
 
     /// Puts one more block into use, and answers its number. The table doubles if all of its blocks are in use.
-    pub fn add_block(&mut self) -> Result<usize, CedarError>
+    pub fn add_block(&mut self) -> Result<usize, Shortage>
         requires { IsTable SLOTS (fields self.old).places }
         ensures sound { IsTable SLOTS (fields self.new).places }
         ensures added { IfOk result (λ block. AddsBlock (fields self.old).places (fields self.new).places block) }
@@ -170,7 +170,7 @@ impl<L: Layout, const SLOTS: usize, A: Allocator> Table<L, SLOTS, A> {
     }
 
     /// A free slot outside block 0. A block is made only where there is none.
-    pub fn find_place(&mut self) -> Result<usize, CedarError>
+    pub fn find_place(&mut self) -> Result<usize, Shortage>
         requires { IsTable SLOTS (fields self.old).places }
         ensures sound { IsTable SLOTS (fields self.new).places }
         ensures found { IfOk result (IsPlace (size_of (fields self.new)) (cells self.new)) }
@@ -185,7 +185,7 @@ impl<L: Layout, const SLOTS: usize, A: Allocator> Table<L, SLOTS, A> {
 
     /// A base outside block 0 from which each label's slot is free: in an open block, as far as rejections and trials
     /// allow a search, else in a new block. What a search learns of blocks is kept, also where it is refused.
-    pub fn find_places(&mut self, labels: &[u8]) -> Result<usize, CedarError>
+    pub fn find_places(&mut self, labels: &[u8]) -> Result<usize, Shortage>
         requires sound { IsTable SLOTS (fields self.old).places }
         requires some { 0 < length labels.now }
         requires few { length labels.now ≤ 256 }
@@ -203,7 +203,7 @@ impl<L: Layout, const SLOTS: usize, A: Allocator> Table<L, SLOTS, A> {
     /// A base from which there is room for all labels. A single label goes where the first free slot is. The move
     /// of a set makes a block here or not at all.
     #[inline(always)]
-    pub fn place_for(&mut self, labels: &[u8]) -> Result<usize, CedarError>
+    pub fn place_for(&mut self, labels: &[u8]) -> Result<usize, Shortage>
         requires sound { IsTable SLOTS (fields self.old).places }
         requires some { 0 < length labels.now }
         requires few { length labels.now ≤ 256 }
@@ -213,6 +213,7 @@ impl<L: Layout, const SLOTS: usize, A: Allocator> Table<L, SLOTS, A> {
         ensures held { SameHeld (cells self.old) (cells self.new) }
         ensures blocks { (n : ℕ) × (n ≤ 1) × MakesBlocks n (fields self.old) (fields self.new) }
         ensures unchanged { OnErr result (SameSlots (fields self.old).places (fields self.new).places) }
+        ensures single { length labels.now ≡ 1 → (OnErr result ⊥ × MakesBlocks 0 (fields self.old) (fields self.new)) ⊎ NoPlace (size_of (fields self.old)) (cells self.old) }
         ensures settings { SameSettings (fields self.old) (fields self.new) }
     {
         if labels.len() == 1 {

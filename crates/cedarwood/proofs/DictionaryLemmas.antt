@@ -8,8 +8,8 @@ use Rattle.cedar_slots.specs.Places.{IsSlotLimit}
 use Rattle.cedar_meaning.specs.Table.TableFields.{Fields}
 use Rattle.cedar_meaning.specs.Meaning.WellFormed.{IsWellFormed, tree_of, is_value}
 use Rattle.cedar_meaning.proofs.MeaningLemmas.TreeOf.{tree_of_is}
-use Rattle.cedar_error.specs.declared.error.CedarError.{CedarError}
-use Rattle.cedar_error.specs.declared.error.CedarError.TheVariants.{InvalidValue}
+use Rattle.cedarwood.specs.declared.error.CedarError.{CedarError}
+use Rattle.cedarwood.specs.declared.error.CedarError.TheVariants.{InvalidValue}
 use Rattle.cedarwood.specs.Fault.{value_fault}
 
 some_or_none : {T : Type 0} (x : T) → ◌≡◌ {A = Option T} (Some x) None → ⊥

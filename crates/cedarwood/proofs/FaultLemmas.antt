@@ -3,8 +3,8 @@ use Rattle.std.proofs.Common.{Bool, ltb, ◌≡◌, ℕ, suc, not, ◌+◌, ◌<
 use Rattle.std.proofs.lemmas.Bool.{eqb-false, ltb-false}
 use Rattle.std.specs.List.{position_or_len}
 use Rattle.cedar_tree.specs.Tree.{IsPath, IsKey}
-use Rattle.cedar_error.specs.declared.error.CedarError.{CedarError}
-use Rattle.cedar_error.specs.declared.error.CedarError.TheVariants.{EmptyKey, NulByte}
+use Rattle.cedarwood.specs.declared.error.CedarError.{CedarError}
+use Rattle.cedarwood.specs.declared.error.CedarError.TheVariants.{EmptyKey, NulByte}
 use Rattle.cedarwood.specs.Fault.{key_fault, value_fault, fault, or_else, IsInRange}
 
 ok_or_err : {T : Type 0} (r : Result T CedarError) (x : T) (e : CedarError) → r ≡ Ok x → r ≡ Err e → ⊥

@@ -10,5 +10,6 @@ pub mod EntriesLemmas
 pub mod LoadLemmas
 pub mod MarkedLemmas
 mod OutcomeLemmas
+pub mod RoomLemmas
 pub mod SaveLemmas
 mod ValidLemmas

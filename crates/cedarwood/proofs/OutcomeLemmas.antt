@@ -1,38 +1,68 @@
--- What is said of a call's result, said of it without its answer; and what a pair at fault leaves.
-use Rattle.std.proofs.Common.{◌≡◌, ℕ, ℤ, Option, Some, None, IfSome, IfOk, IfErr, IsOk, OnOk, OnErr, Result, Ok, Err, refl, ap, sym, subst, arith, ◌∙◌, List, ◌⊎◌, inl, inr}
-use Rattle.cedar_error.specs.declared.error.CedarError.{CedarError}
-use Rattle.cedar_error.specs.declared.error.CedarError.TheVariants.{Memory, SlotLimit}
+-- What is said of an edit of the table, said of the call on a dictionary that made it; and what a pair at fault leaves.
+use Rattle.std.proofs.Common.{◌≡◌, ℕ, ℤ, Option, Some, None, IfSome, IfOk, IfErr, IsOk, IsErrAnd, MatchResult, OnOk, OnErr, Result, Ok, Err, refl, ap, sym, subst, arith, ◌∙◌, List, ◌⊎◌, inl, inr}
+use Rattle.cedarwood.specs.declared.error.CedarError.{CedarError}
+use Rattle.cedarwood.specs.declared.error.CedarError.TheVariants.{Memory, SlotLimit}
+use Rattle.cedar_slots.specs.declared.shortage.Shortage.{Shortage}
+use Rattle.cedar_slots.specs.declared.shortage.Shortage.TheVariants as shortage
 use Rattle.cedar_meaning.specs.Table.Layouts.{LayoutKind}
 use Rattle.cedarwood.specs.Builds.{outcome}
 use Rattle.cedarwood.specs.Dictionary.{Dictionary}
 use Rattle.cedarwood.specs.Fault.{fault}
+use Rattle.cedarwood.specs.Told.{told}
 use Rattle.cedarwood.specs.Updates.{IsUpdate}
 use Rattle.cedarwood.proofs.GrowthLemmas.{grows_none}
 use Rattle.cedarwood.proofs.UpdateLemmas.{fault_no_shortage}
 
-pub on_ok_out : {X : Type 0} (P : Type 0) (r : Result X CedarError) → OnOk r P → OnOk (outcome r) P
+-- what a call answers, without its answer, whose edit of the table answered r
+abbrev pub told_outcome : {X : Type 0} → Result X Shortage → Result (Unit {0}) CedarError
+told_outcome (Ok x) = Ok tt
+told_outcome (Err e) = Err (told e)
+
+-- the call hands on what the edit answered, and tells what the table lacked
+abbrev pub HandsOn : {X : Type 0} → Result X Shortage → Result X CedarError → Type 0
+HandsOn r told_as = MatchResult r (λ x. told_as ≡ Ok x) (λ e. IsErrAnd told_as (λ error. error ≡ told e))
+
+pub outcome_is_told : {X : Type 0} (r : Result X Shortage) (r' : Result X CedarError) → HandsOn r r' → told_outcome r ≡ outcome r'
+outcome_is_told (Ok x) r' h = sym (ap outcome h)
+outcome_is_told (Err e) (Ok x) h = absurd h
+outcome_is_told (Err e) (Err error) h = ap Err (sym h)
+
+-- what holds of an edit's answer holds of the call's
+pub answer_handed_on : {X : Type 0} (P : X → Type 0) (r : Result X Shortage) (r' : Result X CedarError) → HandsOn r r' → IfOk r P → IfOk r' P
+answer_handed_on P (Ok x) r' h p = subst (λ o. IfOk o P) (sym h) p
+answer_handed_on P (Err e) (Ok x) h p = absurd h
+answer_handed_on P (Err e) (Err error) h p = tt
+
+pub on_ok_out : {X : Type 0} (P : Type 0) (r : Result X Shortage) → OnOk r P → OnOk (told_outcome r) P
 on_ok_out P (Ok x) p = p
 on_ok_out P (Err e) p = tt
 
-pub on_err_out : {X : Type 0} (P : Type 0) (r : Result X CedarError) → OnErr r P → OnErr (outcome r) P
+pub on_err_out : {X : Type 0} (P : Type 0) (r : Result X Shortage) → OnErr r P → OnErr (told_outcome r) P
 on_err_out P (Ok x) p = tt
 on_err_out P (Err e) p = p
 
-pub if_err_out : {X : Type 0} (P : CedarError → Type 0) (r : Result X CedarError) → IfErr r P → IfErr (outcome r) P
+pub if_err_out : {X : Type 0} (P : CedarError → Type 0) (r : Result X Shortage) → IfErr r (λ e. P (told e)) → IfErr (told_outcome r) P
 if_err_out P (Ok x) p = tt
 if_err_out P (Err e) p = p
 
-pub is_ok_out : {X : Type 0} (r : Result X CedarError) → IsOk r → IsOk (outcome r)
+pub is_ok_out : {X : Type 0} (r : Result X Shortage) → IsOk r → IsOk (told_outcome r)
 is_ok_out (Ok x) p = p
 is_ok_out (Err e) p = p
 
-pub is_ok_or_out : {X : Type 0} (P Q : Type 0) (r : Result X CedarError) → (IsOk r × P) ⊎ Q → (IsOk (outcome r) × P) ⊎ Q
+pub is_ok_or_out : {X : Type 0} (P Q : Type 0) (r : Result X Shortage) → (IsOk r × P) ⊎ Q → (IsOk (told_outcome r) × P) ⊎ Q
 is_ok_or_out P Q r (inl h) = inl (is_ok_out r h.0, h.1)
 is_ok_or_out P Q r (inr h) = inr h
 
-pub error_out : {X : Type 0} (r : Result X CedarError) (e : CedarError) → outcome r ≡ Err e → r ≡ Err e
-error_out (Ok x) e h = absurd (cc)
-error_out (Err y) e h = let same : y ≡ e = cc in ap Err same
+-- what was told as want of memory was one, and so for slots
+pub memory_out : {X : Type 0} (r : Result X Shortage) → told_outcome r ≡ Err Memory → r ≡ Err shortage.Memory
+memory_out (Ok x) h = absurd (cc)
+memory_out (Err shortage.Memory) h = refl
+memory_out (Err shortage.SlotLimit) h = absurd (cc)
+
+pub limit_out : {X : Type 0} (r : Result X Shortage) → told_outcome r ≡ Err SlotLimit → r ≡ Err shortage.SlotLimit
+limit_out (Ok x) h = absurd (cc)
+limit_out (Err shortage.Memory) h = absurd (cc)
+limit_out (Err shortage.SlotLimit) h = refl
 
 -- what holds of a number holds of the answer that it is
 pub answer_has : {E : Type 0} (P : Option ℤ → Type 0) (n : Option ℤ) (r : Result (Option ℤ) E) → IfOk r (λ held. held ≡ n) → P n → IfOk r P
@@ -49,7 +79,7 @@ pub fault_updates : (layout : LayoutKind) (slots : ℕ) (d : Dictionary) (key : 
     → IsUpdate layout slots d d key v (Err e)
 fault_updates layout slots d key v e why = record {
   faulty = subst (λ (o : Option CedarError). IfSome o (λ x. ◌≡◌ {A = Result (Unit {0}) CedarError} (Err e) (Err x))) (sym why) refl;
-  unmoved = λ _. grows_none d;
+  unchanged = λ _. refl;
   ok = tt;
   err = refl;
   by_default = tt;

@@ -14,8 +14,8 @@ use Rattle.std.proofs.lemmas.Cmp.{nat_list_cmp_total}
 use Rattle.cedar_tree.specs.Queries.{Entry}
 use Rattle.cedar_tree.specs.Laws.{ArePathsAscending, ArePathsKeys}
 use Rattle.cedar_tree.specs.Tree.{IsKey, IsPath}
-use Rattle.cedar_error.specs.declared.error.CedarError.{CedarError}
-use Rattle.cedar_error.specs.declared.error.CedarError.TheVariants.{DuplicateKey, KeysNotSorted, NulByte}
+use Rattle.cedarwood.specs.declared.error.CedarError.{CedarError}
+use Rattle.cedarwood.specs.declared.error.CedarError.TheVariants.{DuplicateKey, KeysNotSorted, NulByte}
 use Rattle.cedar_meaning.specs.Meaning.WellFormed.{is_value}
 use Rattle.cedar_bulk.specs.Sorted.{entries_by}
 use Rattle.cedarwood.specs.Fault.{fault, IsInRange, key_fault, or_else, value_fault}

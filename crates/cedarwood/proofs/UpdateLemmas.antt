@@ -4,18 +4,21 @@ use Rattle.std.proofs.lemmas.Result.{on_ok_weaker, on_err_weaker}
 use Rattle.cedar_tree.specs.Tree.{Tree, has_label, number_at, put}
 use Rattle.cedar_tree.specs.Queries.{used}
 use Rattle.cedar_tree.specs.State.{State, stored}
-use Rattle.cedar_error.specs.declared.error.CedarError.{CedarError}
-use Rattle.cedar_error.specs.declared.error.CedarError.TheVariants.{EmptyKey, NulByte, InvalidValue, Memory, SlotLimit}
+use Rattle.cedarwood.specs.declared.error.CedarError.{CedarError}
+use Rattle.cedarwood.specs.declared.error.CedarError.TheVariants.{EmptyKey, NulByte, InvalidValue}
 use Rattle.cedar_meaning.specs.Table.Cells.{NoPlace}
 use Rattle.cedar_meaning.specs.Table.Layouts.{default_layout}
 use Rattle.cedar_meaning.specs.Meaning.Marks.{marks, MarksPut}
-use Rattle.cedar_slots.specs.Places.{MayRefuse, PlaceFields}
+use Rattle.cedar_slots.specs.Places.{MayRefuse}
 use Rattle.cedar_meaning.specs.Edit.Steps.{MakesBlocks, SameModes, blocks_after}
 use Rattle.cedar_meaning.specs.Table.TableFields.{Fields, capacity_of, size_of}
 use Rattle.cedar_meaning.specs.Meaning.WellFormed.{IsWellFormed, cells_in, tree_of}
 use Rattle.cedar_meaning.proofs.MeaningLemmas.FullBlocks.{full_blocks_counted}
 use Rattle.cedarwood.specs.Dictionary.{Dictionary, Grows, first_bytes}
+use Rattle.cedar_slots.specs.declared.shortage.Shortage.{Shortage}
+use Rattle.cedar_slots.specs.declared.shortage.Shortage.TheVariants as shortage
 use Rattle.cedarwood.specs.Fault.{fault, key_fault, value_fault, or_else, IsShortage}
+use Rattle.cedarwood.specs.Told.{told}
 use Rattle.cedarwood.proofs.GrowthLemmas.{dictionary_of, blocks_stay, grows}
 
 -- ---- a pair with a fault
@@ -72,7 +75,7 @@ always_on_err (Ok x) p = tt
 always_on_err (Err e) p = p
 
 -- what is said of a refusal's error
-pub why_refused : {X : Type 0} (P : CedarError → Type 0) (r : Result X CedarError) (e : CedarError) → IfErr r P → r ≡ Err e → P e
+pub why_refused : {X E : Type 0} (P : E → Type 0) (r : Result X E) (e : E) → IfErr r P → r ≡ Err e → P e
 why_refused P r e h is = subst (λ x. IfErr x P) is h
 
 -- ---- a pair without one
@@ -85,23 +88,20 @@ unheld : (o : Option ℤ) → (is_some o ≡ true → ⊥) → o ≡ None
 unheld None h = refl
 unheld (Some v) h = absurd (h refl)
 
-shortage : (table : PlaceFields) (slots : ℕ) (e : CedarError) → MayRefuse table slots e → IsShortage e
-shortage table slots Memory h = tt
-shortage table slots SlotLimit h = tt
-shortage table slots e h = absurd h
+is_shortage : (e : Shortage) → IsShortage (told e)
+is_shortage shortage.Memory = tt
+is_shortage shortage.SlotLimit = tt
 
-refusals : {X : Type 0} (table : PlaceFields) (slots : ℕ) (r : Result X CedarError) (o : Option ℤ)
-    → IfErr r (λ e. MayRefuse table slots e) → (is_some o ≡ true → OnErr r ⊥) → IfErr r (λ e. IsShortage e × (o ≡ None))
-refusals table slots (Ok x) o h over = tt
-refusals table slots (Err e) o h over = (shortage table slots e h, unheld o over)
+refusals : {X : Type 0} (r : Result X Shortage) (o : Option ℤ) → (is_some o ≡ true → OnErr r ⊥) → IfErr r (λ e. IsShortage (told e) × (o ≡ None))
+refusals (Ok x) o over = tt
+refusals (Err e) o over = (is_shortage e, unheld o over)
 
 -- a refusal with fewer blocks made than there are bytes, once all blocks are in use, leaves too few spare ones before
-in_use : (T' : Fields) (slots : ℕ) (e : CedarError) → 256 * length T'.places.blocks.records ≤ slots → MayRefuse T'.places slots e → length T'.places.blocks.records ≤ T'.places.blocks.active
-in_use T' slots Memory within h = omega (arith, h.0)
-in_use T' slots SlotLimit within h = omega arith
-in_use T' slots e within h = absurd h
+in_use : (T' : Fields) (slots : ℕ) (e : Shortage) → 256 * length T'.places.blocks.records ≤ slots → MayRefuse T'.places slots e → length T'.places.blocks.records ≤ T'.places.blocks.active
+in_use T' slots shortage.Memory within h = omega (arith, h.0)
+in_use T' slots shortage.SlotLimit within h = omega arith
 
-enough : {X : Type 0} (n k slots : ℕ) (T T' : Fields) (r : Result X CedarError) → 256 * length T'.places.blocks.records ≤ slots
+enough : {X : Type 0} (n k slots : ℕ) (T T' : Fields) (r : Result X Shortage) → 256 * length T'.places.blocks.records ≤ slots
     → IfErr r (λ e. MayRefuse T'.places slots e) → OnErr r (n < k) → MakesBlocks n T T' → 256 * k ≤ capacity_of T - size_of T → IsOk r
 enough n k slots T T' (Ok x) within h few made room = search rules
 enough n k slots T T' (Err e) within h few made room =
@@ -113,7 +113,7 @@ same_stored : (t : Tree) (ordered o : Bool) (old : State) (key : List ℕ) (v w 
     → ◌≡◌ {A = State} (record { tree = put t o key w; ordered = ordered }) (stored old key v)
 same_stored t ordered o old key v w e f g h = cc
 
-module _ {X : Type 0} (slots : ℕ) (T T' : Fields) (d : Dictionary) (same : dictionary_of T ≡ d) (r : Result X CedarError) (key : List ℕ) where
+module _ {X : Type 0} (slots : ℕ) (T T' : Fields) (d : Dictionary) (same : dictionary_of T ≡ d) (r : Result X Shortage) (key : List ℕ) where
   same_tree : d.state.tree ≡ tree_of T
   same_tree = ap (λ (x : Dictionary). x.state.tree) (sym same)
 
@@ -138,10 +138,10 @@ module _ {X : Type 0} (slots : ℕ) (T T' : Fields) (d : Dictionary) (same : dic
   state_stays modes =
       on_err_weaker r (λ (kept : tree_of T' ≡ tree_of T). let tree : d.state.tree ≡ tree_of T = same_tree in let order : d.state.ordered ≡ T.ordered = same_order in let now : T'.ordered ≡ T.ordered = modes.ordered in cc)
 
-  pub is_refused : IfErr r (λ e. MayRefuse T'.places slots e) → (is_some (number_at (tree_of T) key) ≡ true → OnErr r ⊥ × MakesBlocks 0 T T')
-      → IfErr r (λ e. IsShortage e × (number_at d.state.tree key ≡ None))
-  is_refused h over =
-      refusals T'.places slots r (number_at d.state.tree key) h (λ held. (over (subst (λ t. is_some (number_at t key) ≡ true) same_tree held)).0)
+  pub is_refused : (is_some (number_at (tree_of T) key) ≡ true → OnErr r ⊥ × MakesBlocks 0 T T')
+      → IfErr r (λ e. IsShortage (told e) × (number_at d.state.tree key ≡ None))
+  is_refused over =
+      refusals r (number_at d.state.tree key) (λ held. (over (subst (λ t. is_some (number_at t key) ≡ true) same_tree held)).0)
 
   pub grows_by : (n : ℕ) → MakesBlocks n T T' → Grows n d (dictionary_of T')
   grows_by n made = subst (λ x. Grows n x (dictionary_of T')) same (grows n T T' made)

@@ -6,10 +6,13 @@ pub mod Dictionary
 pub mod Fault
 pub mod Memory
 pub mod OnTable
+pub mod Shown
+pub mod Room
 pub mod SortedInput
 pub mod WalkPlaces
 pub mod Walks
 pub mod TableCode
+pub mod Told
 pub mod Loading
 pub use Rattle.cedar_format.specs.WatchedDevice
 pub mod Updates

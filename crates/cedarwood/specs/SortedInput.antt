@@ -4,8 +4,8 @@ use Rattle.std.specs.Cmp.Lexicographic.{slice_cmp}
 use Rattle.std.specs.Ordering.{nat_cmp}
 use Rattle.std.specs.declared.cmp.Ordering.{Ordering}
 use Rattle.std.specs.declared.cmp.Ordering.TheVariants.{Equal, Greater, Less}
-use Rattle.cedar_error.specs.declared.error.CedarError.{CedarError}
-use Rattle.cedar_error.specs.declared.error.CedarError.TheVariants.{DuplicateKey, KeysNotSorted}
+use Rattle.cedarwood.specs.declared.error.CedarError.{CedarError}
+use Rattle.cedarwood.specs.declared.error.CedarError.TheVariants.{DuplicateKey, KeysNotSorted}
 use Rattle.cedar_tree.specs.Queries.{Entry}
 use Rattle.cedar_bulk.specs.Sorted.{Pair, entries_of}
 use Rattle.cedarwood.specs.Fault.{fault, or_else}

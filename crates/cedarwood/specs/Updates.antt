@@ -3,8 +3,8 @@ use Rattle.std.specs.Prelude.{◌≡◌, ◌⊎◌, ℕ, ℤ, ◌+◌, ◌-◌, 
 use Rattle.cedar_tree.specs.Tree.{has_label, number_at}
 use Rattle.cedar_tree.specs.Queries.{used}
 use Rattle.cedar_tree.specs.State.{stored}
-use Rattle.cedar_error.specs.declared.error.CedarError.{CedarError}
-use Rattle.cedar_error.specs.declared.error.CedarError.TheVariants.{Memory, SlotLimit}
+use Rattle.cedarwood.specs.declared.error.CedarError.{CedarError}
+use Rattle.cedarwood.specs.declared.error.CedarError.TheVariants.{Memory, SlotLimit}
 use Rattle.cedar_meaning.specs.Meaning.Marks.{MarksPut}
 use Rattle.cedar_meaning.specs.Table.Layouts.{LayoutKind, default_layout, reduced_layout}
 use Rattle.cedarwood.specs.Dictionary.{Dictionary, Grows, IsMarked, first_bytes}
@@ -13,7 +13,7 @@ use Rattle.cedarwood.specs.Fault.{fault, IsShortage}
 -- an update of the key with the value v in a dictionary of this layout that may have `slots` slots
 pub record IsUpdate (layout : LayoutKind) (slots : ℕ) (before after : Dictionary) (key : List ℕ) (v : ℤ) (result : Result (Unit {0}) CedarError) : Type 0 where
   pub faulty : IfSome (fault key v) (λ e. result ≡ Err e)
-  pub unmoved : IsSome (fault key v) → Grows 0 before after
+  pub unchanged : IsSome (fault key v) → after ≡ before
   pub ok : OnOk result (after.state ≡ stored before.state key v)
   pub err : OnErr result (after.state ≡ before.state)
   -- which numbers have slots of their own: by default all

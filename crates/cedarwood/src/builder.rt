@@ -52,6 +52,7 @@ impl CedarBuilder {
     /// let builder = CedarBuilder::new().ordered(false);
     /// let cedar = builder.build(rt.alloc())?;
     /// ```
+    #[must_use]
     pub fn ordered(self, ordered: bool) -> Self
         ensures ordered { result.ordered ≡ ordered }
         ensures max_trial { result.max_trial ≡ self.max_trial }
@@ -194,6 +195,11 @@ impl CedarBuilder {
 }
 
 impl Default for CedarBuilder {
+    ghost use Rattle.std.specs.Prelude.{◌≡◌, pos, true};
+
+    // As `new` makes it.
+    ghost is_default = { λ builder. (builder.ordered ≡ true) × (builder.max_trial ≡ pos 1) };
+
     fn default() -> Self {
         CedarBuilder::new()
     }

@@ -4,7 +4,7 @@ use crate::{Layout, Trie};
 use std::alloc::{AllocError, Allocator};
 
 /// A copy has an equal table, field by field, with the same settings: so it answers as the original does, and saves the same bytes.
-/// A change of the one doesn't show in the other.
+/// A change of the one doesn't show in the other. It takes its memory from the dictionary's own allocator.
 ///
 /// ```
 /// let copy = cedar.clone()?;

@@ -9,6 +9,7 @@ use std::alloc::Allocator;
 use std::fmt;
 
 /// The figures of a dictionary, all from one moment.
+#[non_exhaustive]
 #[derive(Clone, Copy, Debug, PartialEq, Eq)]
 pub struct MemoryStats {
     /// How many keys are held.
@@ -28,6 +29,7 @@ impl<L: Layout, const SLOTS: usize, A: Allocator + Copy> Trie<L, SLOTS, A> {
     /// ```
     /// assert_eq!(rt; cedar.allocated_bytes(), 3094);
     /// ```
+    #[must_use]
     pub fn allocated_bytes(&self) -> usize
         ensures { result ≡ 10 * self.now.capacity + 20 * (self.now.capacity / 256) + 514 }
     {
@@ -42,6 +44,7 @@ impl<L: Layout, const SLOTS: usize, A: Allocator + Copy> Trie<L, SLOTS, A> {
     /// let figures = cedar.memory_stats();
     /// assert_eq!(rt; (figures.entries, figures.used_node_slots), (1, 5));
     /// ```
+    #[must_use]
     pub fn memory_stats(&self) -> MemoryStats
         ensures entries { result.entries ≡ length (walk self.now.state.tree) }
         ensures used { result.used_node_slots ≡ 1 + length (prefixes self.now.state.tree) + length (walk self.now.marked) }
@@ -67,6 +70,11 @@ impl<L: Layout, const SLOTS: usize, A: Allocator + Copy> Trie<L, SLOTS, A> {
 /// assert_eq!(rt; text.as_str(), "Cedar(entries=1, node_slots=512, ordered=true)");
 /// ```
 impl<L: Layout, const SLOTS: usize, A: Allocator> fmt::Debug for Trie<L, SLOTS, A> {
+    ghost use Rattle.std.specs.Prelude.{Some};
+    ghost use Rattle.cedarwood.specs.Shown.{shown};
+
+    ghost debug_output = { λ trie. Some (shown trie) };
+
     fn fmt<W: fmt::Write>(&self, f: &mut fmt::Formatter<W>) -> fmt::Result {
         let entries = self.table.entries();
         let node_slots = self.table.size();

@@ -1,10 +1,12 @@
 //! Laws of the dictionary's states and files.
 
-ghost use Rattle.std.specs.Prelude.{◌≡◌, List, true};
+ghost use Rattle.std.specs.Prelude.{◌≡◌, ◌↔◌, IsTrue, List, true};
 ghost use Rattle.cedar_tree.specs.Queries.{asc, Entry};
 ghost use Rattle.cedar_tree.specs.State.{new_state, State};
 ghost use Rattle.cedarwood.specs.Builds.{all_stored};
 ghost use Rattle.cedarwood.specs.Loading.{LoadedFilesSaveAgain, OwnFilesLoad};
+
+use crate::MemoryStats;
 
 /// The state of a sorted input is that which storing its pairs one after another in a new dictionary gives, where labels
 /// ascend: so what `from_sorted_bytes` makes answers as what `build_bytes` of the same pairs makes of a new dictionary.
@@ -24,3 +26,12 @@ pub fn saved_tables_load_again()
 pub fn loaded_files_save_again()
     ensures { LoadedFilesSaveAgain }
 {}
+
+/// Figures are equal exactly where all four of them are: so a caller can prove by `==` of what `memory_stats` gives.
+#[must_use]
+pub fn figures_are_equal_by_their_fields(one: MemoryStats, other: MemoryStats) -> bool
+    ensures { IsTrue result ↔ ((one.entries ≡ other.entries) × (one.used_node_slots ≡ other.used_node_slots)
+        × (one.node_capacity ≡ other.node_capacity) × (one.allocated_bytes ≡ other.allocated_bytes)) }
+{
+    one == other
+}

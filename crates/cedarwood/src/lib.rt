@@ -13,12 +13,13 @@
 //!
 //! In the examples `rt` is the program's runtime, `cedar` a new [`Cedar`] if it isn't made there, `saved` the bytes that a save of it
 //! wrote, and `files` where such a file lies by the name `words.cedar`. `blank`, `ticks`, `asked` and `reads` are for counts, whose
-//! ledgers are `C` and `D`. The tests of `uses` have the lines of each example, and run them.
+//! ledgers are `C` and `D`. `examples/calls.txt` has the lines of each example in tests, and `tests/run` runs them.
 #![tactic(auto)]
 
 mod build;
 mod builder;
 mod clone;
+mod error;
 mod figures;
 mod fits;
 mod insert;
@@ -26,21 +27,27 @@ mod laws;
 mod pair;
 pub mod persistence;
 mod queries;
+mod room;
 mod sorted;
+mod texts;
 mod trie;
 
 pub use builder::CedarBuilder;
 pub use cedar_format::{
     CedarPersistenceError, Source, Watched, one_table_for_its_bytes, well_formed_tables_pass,
 };
-pub use cedar_table::{CedarError, DefaultLayout, Layout, ReducedLayout, Ticks};
+pub use cedar_table::{DefaultLayout, Layout, ReducedLayout, Ticks};
 // Laws of the tree that all answers come from, for whoever proves something of a dictionary's callers.
 pub use cedar_tree::{
     cut_undoes_put, front_is_exact, keys_come_before_extensions, predict_is_part_of_walk,
     walk_ascends, walk_is_map,
 };
+pub use error::CedarError;
 pub use figures::MemoryStats;
-pub use laws::{loaded_files_save_again, saved_tables_load_again, sorted_is_stored_in_turn};
+pub use laws::{
+    figures_are_equal_by_their_fields, loaded_files_save_again, saved_tables_load_again,
+    sorted_is_stored_in_turn,
+};
 pub use queries::counted::CountedPrefixIter;
 pub use queries::entries::{Entries, EntryError, Utf8Entries};
 pub use queries::predict::PrefixPredictIter;

@@ -150,7 +150,7 @@ impl<A: Allocator + Copy> Trie<DefaultLayout, 1073741824, A> {
 }
 
 impl<L: Layout, const SLOTS: usize, A: Allocator + Copy> Trie<L, SLOTS, A> {
-    /// An empty dictionary with the settings of a builder, of any layout and limit of slots.
+    /// An empty dictionary with the settings of a builder, of any layout and limit of slots. It takes its memory from `alloc`.
     ///
     /// ```
     /// let small = Trie::<DefaultLayout, 512, Global>::with(rt.alloc(), CedarBuilder::new())?;
@@ -174,7 +174,8 @@ impl<L: Layout, const SLOTS: usize, A: Allocator + Copy> Trie<L, SLOTS, A> {
     }
 
     /// A dictionary of some pairs, whose keys ascend by bytes, with the settings of a builder, of any layout and limit of
-    /// slots. Each node gets all of its slots at once. Its labels ascend at first, whatever the settings.
+    /// slots. Each node gets all of its slots at once. Its labels ascend at first, whatever the settings. It takes its memory from
+    /// `alloc`.
     ///
     /// ```
     /// let builder = CedarBuilder::new();
@@ -238,7 +239,8 @@ impl<L: Layout, const SLOTS: usize, A: Allocator + Copy> Trie<L, SLOTS, A> {
         Self::from_sorted_keys(alloc, builder, pairs)
     }
 
-    /// Puts an empty dictionary with the settings of a builder in the place of this one.
+    /// Puts an empty dictionary with the settings of a builder in the place of this one. It takes its memory from `alloc`, now and
+    /// as it grows; that of the present one goes back to where it came from.
     ///
     /// ```
     /// cedar.update("net", 7)?;
@@ -276,7 +278,7 @@ impl<L: Layout, const SLOTS: usize, A: Allocator + Copy> Trie<L, SLOTS, A> {
     /// error the dictionary holds what it held. A key that is held takes no memory.
     pub fn update_bytes(&mut self, key: &[u8], value: i32) -> Result<(), CedarError>
         ensures faulty { IfSome (fault key.now value) (λ e. result ≡ Err e) }
-        ensures unmoved { IsSome (fault key.now value) → Grows 0 self.old self.new }
+        ensures unchanged { IsSome (fault key.now value) → self.new ≡ self.old }
         ensures ok { OnOk result (self.new.state ≡ stored self.old.state key.now value) }
         ensures err { OnErr result (self.new.state ≡ self.old.state) }
 
@@ -420,6 +422,7 @@ impl<L: Layout, const SLOTS: usize, A: Allocator + Copy> Trie<L, SLOTS, A> {
     /// cedar.update("net", 7)?;
     /// assert_eq!(rt; cedar.len(), 1);
     /// ```
+    #[must_use]
     pub fn len(&self) -> usize
         ensures count { result ≡ length (walk self.now.state.tree) }
         ensures valid { IsValid SLOTS self.now }
@@ -433,6 +436,7 @@ impl<L: Layout, const SLOTS: usize, A: Allocator + Copy> Trie<L, SLOTS, A> {
     /// cedar.update("net", 7)?;
     /// assert!(rt; !cedar.is_empty());
     /// ```
+    #[must_use]
     pub fn is_empty(&self) -> bool
         ensures { IsTrue result ↔ (walk self.now.state.tree ≡ []) }
     {
@@ -446,6 +450,7 @@ impl<L: Layout, const SLOTS: usize, A: Allocator + Copy> Trie<L, SLOTS, A> {
     /// cedar.update("net", 7)?;
     /// assert_eq!(rt; cedar.used_node_slots(), 5);
     /// ```
+    #[must_use]
     pub fn used_node_slots(&self) -> usize
         ensures marked { result ≡ 1 + length (prefixes self.now.state.tree) + length (walk self.now.marked) }
         ensures by_default { L.kind ≡ default_layout → result ≡ used self.now.state.tree }
@@ -459,6 +464,7 @@ impl<L: Layout, const SLOTS: usize, A: Allocator + Copy> Trie<L, SLOTS, A> {
     /// ```
     /// assert_eq!(rt; cedar.node_capacity(), 256);
     /// ```
+    #[must_use]
     pub fn node_capacity(&self) -> usize
         ensures { result ≡ self.now.capacity }
     {
@@ -470,6 +476,7 @@ impl<L: Layout, const SLOTS: usize, A: Allocator + Copy> Trie<L, SLOTS, A> {
     /// ```
     /// assert_eq!(rt; cedar.spare_blocks(), 0);
     /// ```
+    #[must_use]
     pub fn spare_blocks(&self) -> usize
         ensures { result ≡ (self.now.capacity - self.now.size) / 256 }
     {

@@ -8,7 +8,7 @@ ghost use Rattle.cedar_meaning.specs.Meaning.WellFormed.{IsWellFormed};
 use crate::keys::{erases, put};
 use crate::steps::takes;
 use cedar_file::check_tree;
-use cedar_table::{CedarError, DefaultLayout, NInfoRecord, NodeRecord, Table, Ticks};
+use cedar_table::{DefaultLayout, NInfoRecord, NodeRecord, Shortage, Table, Ticks};
 use std::alloc::Global;
 use std::marker::Brand;
 use std::process::Abort;
@@ -31,7 +31,7 @@ fn fault<C: Ledger>(
 }
 
 /// Puts a number at each of some keys.
-fn put_all(table: &mut Small, keys: &[&[u8]]) -> Result<(), CedarError>
+fn put_all(table: &mut Small, keys: &[&[u8]]) -> Result<(), Shortage>
     requires { IsWellFormed 1024 (fields table.old) }
     ensures { IsWellFormed 1024 (fields table.new) }
 {
@@ -42,7 +42,7 @@ fn put_all(table: &mut Small, keys: &[&[u8]]) -> Result<(), CedarError>
 }
 
 /// A table of some keys.
-fn table_of(alloc: Global, ordered: bool, keys: &[&[u8]]) -> Result<Small, CedarError>
+fn table_of(alloc: Global, ordered: bool, keys: &[&[u8]]) -> Result<Small, Shortage>
     ensures { IfOk result (λ table. IsWellFormed 1024 (fields table)) }
 {
     let mut table = Table::<DefaultLayout, 1024, Global>::new(alloc, ordered, 1)?;

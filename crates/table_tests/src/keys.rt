@@ -6,7 +6,7 @@ ghost use Rattle.cedar_table.specs.Table.Views.{fields};
 ghost use Rattle.cedar_meaning.specs.Meaning.WellFormed.{IsWellFormed};
 
 use cedar_edit::{erase, update};
-use cedar_table::{CedarError, DefaultLayout, Table};
+use cedar_table::{DefaultLayout, Shortage, Table};
 use std::alloc::Global;
 use std::process::Abort;
 
@@ -24,19 +24,18 @@ fn nul_position(bytes: &[u8]) -> Option<usize>
     bytes.iter().position(|byte| *byte == 0)
 }
 
-/// Puts a number of two digits at a key.
+/// Puts a number of two digits at some bytes, where they are a key; elsewhere it does nothing.
 pub fn put<const SLOTS: usize>(
     table: &mut Table<DefaultLayout, SLOTS, Global>,
     key: &[u8],
     value: u8,
-) -> Result<(), CedarError>
+) -> Result<(), Shortage>
     requires { IsWellFormed SLOTS (fields table.old) }
     ensures { IsWellFormed SLOTS (fields table.new) }
 {
-    if !is_key(key) {
-        return Err(CedarError::EmptyKey);
+    if is_key(key) {
+        update(table, key, i32::from(value))?;
     }
-    update(table, key, i32::from(value))?;
     Ok(())
 }
 

@@ -5,7 +5,7 @@ ghost use Rattle.cedar_slots.specs.Places.{IsTable};
 ghost use Rattle.cedar_table.specs.Table.Views.{fields};
 
 use crate::steps::{all_fields, take};
-use cedar_table::{CedarError, DefaultLayout, Table, Ticks};
+use cedar_table::{DefaultLayout, Shortage, Table, Ticks};
 use std::alloc::Global;
 use std::marker::Brand;
 use std::process::Abort;
@@ -16,7 +16,7 @@ use test_devices::Refusing;
 type Refused<'a> = Table<DefaultLayout, 1024, &'a Refusing<Global>>;
 
 /// A block more has to be answered so.
-fn adds(rt: &impl Abort, table: &mut Refused<'_>, wanted: Result<usize, CedarError>)
+fn adds(rt: &impl Abort, table: &mut Refused<'_>, wanted: Result<usize, Shortage>)
     requires { IsTable 1024 (fields table.old).places }
     ensures { IsTable 1024 (fields table.new).places }
 {
@@ -37,7 +37,7 @@ fn one_request<C: Ledger>(
 {
     let before = all_fields(table, alloc, ticks)?;
     memory.refuse(request, request);
-    adds(rt, table, Err(CedarError::Memory));
+    adds(rt, table, Err(Shortage::Memory));
     assert!(rt; memory.requests() == request);
     memory.refuse_none();
     let after = all_fields(table, alloc, ticks)?;
@@ -55,7 +55,7 @@ fn up_to_the_limit(rt: &impl Abort, memory: &Refusing<Global>, table: &mut Refus
     assert!(rt; (table.size(), table.capacity()) == (768, 1024));
     memory.refuse(1, u64::MAX);
     adds(rt, table, Ok(3));
-    adds(rt, table, Err(CedarError::SlotLimit));
+    adds(rt, table, Err(Shortage::SlotLimit));
     assert!(rt; memory.requests() == 0);
     memory.refuse_none();
 }

@@ -5,7 +5,7 @@ ghost use Rattle.cedar_slots.specs.Places.{IsTable};
 ghost use Rattle.cedar_table.specs.Table.Views.{fields};
 
 use crate::steps::{give, take};
-use cedar_table::{CedarError, DefaultLayout, Table, Ticks};
+use cedar_table::{DefaultLayout, Shortage, Table, Ticks};
 use std::alloc::Global;
 use std::marker::Brand;
 use std::process::Abort;
@@ -32,7 +32,7 @@ fn place_one<C: Ledger>(table: &mut Small, held: &mut [bool], ticks: &mut Ticks<
 {
     match table.find_place() {
         Ok(slot) => slot >= 256 && take(table, slot, -1, 0, ticks) && note(held, slot),
-        Err(CedarError::SlotLimit) => held.iter().skip(256).all(|&place| place),
+        Err(Shortage::SlotLimit) => held.iter().skip(256).all(|&place| place),
         Err(_) => false,
     }
 }
@@ -55,7 +55,7 @@ fn place_two<C: Ledger>(
             let fits = take(table, one, 0, 1, ticks) && note(held, one);
             fits && (first == second || take(table, two, 0, 1, ticks) && note(held, two))
         }
-        Err(CedarError::SlotLimit) => table.size() == 4096,
+        Err(Shortage::SlotLimit) => table.size() == 4096,
         Err(_) => false,
     }
 }

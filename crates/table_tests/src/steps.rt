@@ -4,7 +4,7 @@ ghost use Rattle.std.specs.Prelude.{◌≡◌};
 ghost use Rattle.cedar_slots.specs.Places.{IsTable};
 ghost use Rattle.cedar_table.specs.Table.Views.{fields};
 
-use cedar_table::{CedarError, DefaultLayout, Table, Ticks};
+use cedar_table::{DefaultLayout, Shortage, Table, Ticks};
 use std::alloc::{AllocError, Allocator, Global};
 use std::process::Abort;
 use std::sync::ledger::Ledger;
@@ -82,7 +82,7 @@ pub fn gives<const SLOTS: usize, C: Ledger>(
 /// Takes one free slot outside block 0.
 pub fn take_one<const SLOTS: usize, A: Allocator>(
     table: &mut Table<DefaultLayout, SLOTS, A>,
-) -> Result<usize, CedarError>
+) -> Result<usize, Shortage>
     requires { IsTable SLOTS (fields table.old).places }
     ensures { IsTable SLOTS (fields table.new).places }
 {
@@ -95,7 +95,7 @@ pub fn take_one<const SLOTS: usize, A: Allocator>(
 pub fn take_some<const SLOTS: usize, A: Allocator>(
     table: &mut Table<DefaultLayout, SLOTS, A>,
     count: usize,
-) -> Result<(), CedarError>
+) -> Result<(), Shortage>
     requires { IsTable SLOTS (fields table.old).places }
     ensures { IsTable SLOTS (fields table.new).places }
 {

@@ -1,7 +1,7 @@
 -- A table on the way to the tree of sorted pairs, one node after another.
 use Rattle.std.proofs.Common.{◌≡◌, ℕ, ◌+◌, ◌*◌, ◌<◌, ◌≤◌, ◌∙◌, sym, ap, subst, refl, inl, inr, arith, false, Option, Some, None, List, [], ◌∷◌, ◌++◌, length, Result, Ok, Err}
 use Rattle.std.proofs.lemmas.Bool.{true≢false}
-use Rattle.cedar_error.specs.declared.error.CedarError.{CedarError}
+use Rattle.cedar_slots.specs.declared.shortage.Shortage.{Shortage}
 use Rattle.std.specs.Prelude.{ℤ, IfErr, OnOk}
 use Rattle.cedar_tree.specs.Tree.{child, empty_tree, Forest, is_bare, none, Tree, IsAscending}
 use Rattle.cedar_tree.specs.Queries.{node_at, prefixes_forest}
@@ -147,11 +147,11 @@ filling_begins slots T T' t d ps cs table holds tree number fills covers one = r
 pub filling_ends : (slots : ℕ) (T : Fields) (g : Forest) (most : ℕ) → Filling slots T [] g most → HoldsTree (size_of T) (cells_in T) g × (T.places.blocks.active ≤ most)
 filling_ends slots T g most k = (subst (HoldsTree (size_of T) (cells_in T)) k.pending.0 k.holds, omega (arith, k.blocks))
 
-pub on_ok : {X : Type 0} {P Q : Type 0} (r : Result X CedarError) → OnOk r P → (P → Q) → OnOk r Q
+pub on_ok : {X : Type 0} {P Q : Type 0} (r : Result X Shortage) → OnOk r P → (P → Q) → OnOk r Q
 on_ok (Ok x) p f = f p
 on_ok (Err e) p f = tt
 
-pub if_err : {X : Type 0} {P Q : CedarError → Type 0} (r : Result X CedarError) → IfErr r P → ((e : CedarError) → P e → Q e) → IfErr r Q
+pub if_err : {X : Type 0} {P Q : Shortage → Type 0} (r : Result X Shortage) → IfErr r P → ((e : Shortage) → P e → Q e) → IfErr r Q
 if_err (Ok x) p f = tt
 if_err (Err e) p f = f e p
 

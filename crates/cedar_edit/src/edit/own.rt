@@ -19,7 +19,7 @@ ghost use Rattle.cedar_meaning.specs.Meaning.WellFormed.{TableHolds};
 
 use crate::edit::number::set_number;
 use cedar_meaning::{Layout, Stored};
-use cedar_slots::CedarError;
+use cedar_slots::Shortage;
 use cedar_table::Table;
 use std::alloc::Allocator;
 
@@ -76,7 +76,7 @@ pub(crate) fn move_number<L: Layout, const SLOTS: usize, A: Allocator>(
     table: &mut Table<L, SLOTS, A>,
     node: usize,
     value: i32,
-) -> Result<(), CedarError>
+) -> Result<(), Shortage>
     requires sound { IsTable SLOTS (fields table.old).places }
     requires node_in { node < size_of (fields table.old) }
     requires not_root { node ≢ 0 }

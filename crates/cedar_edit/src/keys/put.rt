@@ -17,7 +17,7 @@ use crate::keys::erase::trim;
 use crate::keys::step::{follow_or_add, put_number};
 use crate::keys::way::{close_way, make_way};
 use cedar_meaning::Layout;
-use cedar_slots::CedarError;
+use cedar_slots::Shortage;
 use cedar_table::Table;
 use std::alloc::Allocator;
 
@@ -48,7 +48,7 @@ fn known_front<L: Layout, const SLOTS: usize, A: Allocator>(
 fn walk_in<L: Layout, const SLOTS: usize, A: Allocator>(
     table: &mut Table<L, SLOTS, A>,
     key: &[u8],
-) -> Result<usize, CedarError>
+) -> Result<usize, Shortage>
     requires well_formed { IsWellFormed SLOTS (fields table.old) }
     requires key { IsKey key.now }
     requires way { HasWay (cells table.old) 0 key.now }
@@ -75,7 +75,7 @@ fn put_along<L: Layout, const SLOTS: usize, A: Allocator>(
     table: &mut Table<L, SLOTS, A>,
     key: &[u8],
     value: i32,
-) -> Result<Option<i32>, CedarError>
+) -> Result<Option<i32>, Shortage>
     requires well_formed { IsWellFormed SLOTS (fields table.old) }
     requires key { IsKey key.now }
     requires value { is_value value ≡ true }
@@ -114,7 +114,7 @@ pub fn update<L: Layout, const SLOTS: usize, A: Allocator>(
     table: &mut Table<L, SLOTS, A>,
     key: &[u8],
     value: i32,
-) -> Result<Option<i32>, CedarError>
+) -> Result<Option<i32>, Shortage>
     requires well_formed { IsWellFormed SLOTS (fields table.old) }
     requires key { IsKey key.now }
     requires value { is_value value ≡ true }

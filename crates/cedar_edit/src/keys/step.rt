@@ -21,7 +21,7 @@ use crate::edit::number::{set_number, set_reserved};
 use crate::edit::own::keeps_own;
 use crate::relocation::resolve::resolve;
 use cedar_meaning::Layout;
-use cedar_slots::CedarError;
+use cedar_slots::Shortage;
 use cedar_table::Table;
 use std::alloc::Allocator;
 
@@ -31,7 +31,7 @@ fn first_base<L: Layout, const SLOTS: usize, A: Allocator>(
     table: &mut Table<L, SLOTS, A>,
     node: usize,
     label: u8,
-) -> Result<(), CedarError>
+) -> Result<(), Shortage>
     requires sound { IsTable SLOTS (fields table.old).places }
     requires node_in { node < size_of (fields table.old) }
     requires not_root { node ≢ 0 }
@@ -75,7 +75,7 @@ fn room_for<L: Layout, const SLOTS: usize, A: Allocator>(
     table: &mut Table<L, SLOTS, A>,
     node: usize,
     label: u8,
-) -> Result<(), CedarError>
+) -> Result<(), Shortage>
     requires { WantsRoom SLOTS (fields table.old) node label }
     ensures sound { IsTable SLOTS (fields table.new).places }
     ensures placed { OnOk result (Placed (fields table.old) (fields table.new) node label node) }
@@ -99,7 +99,7 @@ fn add_over<L: Layout, const SLOTS: usize, A: Allocator>(
     table: &mut Table<L, SLOTS, A>,
     node: usize,
     label: u8,
-) -> Result<usize, CedarError>
+) -> Result<usize, Shortage>
     requires wants { WantsSlot SLOTS (fields table.old) node label }
     requires positive { 0 < label }
     ensures sound { IsTable SLOTS (fields table.new).places }
@@ -117,7 +117,7 @@ fn put_over<L: Layout, const SLOTS: usize, A: Allocator>(
     table: &mut Table<L, SLOTS, A>,
     node: usize,
     value: i32,
-) -> Result<(), CedarError>
+) -> Result<(), Shortage>
     requires { WantsSlot SLOTS (fields table.old) node 0 }
     ensures sound { IsTable SLOTS (fields table.new).places }
     ensures set { OnOk result ((f : Forest) (w : List ℕ) → TableHolds (fields table.old) f → IsAt (cells table.old) w node
@@ -139,7 +139,7 @@ pub(crate) fn follow_or_add<L: Layout, const SLOTS: usize, A: Allocator>(
     table: &mut Table<L, SLOTS, A>,
     node: usize,
     label: u8,
-) -> Result<usize, CedarError>
+) -> Result<usize, Shortage>
     requires sound { IsTable SLOTS (fields table.old).places }
     requires node_in { node < size_of (fields table.old) }
     requires node { (f : Forest) × HasNode (fields table.old) f node }
@@ -171,7 +171,7 @@ fn put_in_slot<L: Layout, const SLOTS: usize, A: Allocator>(
     table: &mut Table<L, SLOTS, A>,
     node: usize,
     value: i32,
-) -> Result<(), CedarError>
+) -> Result<(), Shortage>
     requires sound { IsTable SLOTS (fields table.old).places }
     requires node_in { node < size_of (fields table.old) }
     requires not_root { node ≢ 0 }
@@ -206,7 +206,7 @@ pub(crate) fn put_number<L: Layout, const SLOTS: usize, A: Allocator>(
     table: &mut Table<L, SLOTS, A>,
     node: usize,
     value: i32,
-) -> Result<(), CedarError>
+) -> Result<(), Shortage>
     requires sound { IsTable SLOTS (fields table.old).places }
     requires node_in { node < size_of (fields table.old) }
     requires not_root { node ≢ 0 }

@@ -18,7 +18,7 @@ ghost use Rattle.cedar_meaning.specs.Meaning.WellFormed.{IsWellFormed, tree_of};
 use crate::edit::number::drop_number;
 use crate::edit::own::move_number;
 use cedar_meaning::{Layout, Stored};
-use cedar_slots::CedarError;
+use cedar_slots::Shortage;
 use cedar_table::Table;
 use std::alloc::Allocator;
 
@@ -50,7 +50,7 @@ fn own_front<L: Layout, const SLOTS: usize, A: Allocator>(
 fn move_out<L: Layout, const SLOTS: usize, A: Allocator>(
     table: &mut Table<L, SLOTS, A>,
     key: &[u8],
-) -> Result<(), CedarError>
+) -> Result<(), Shortage>
     requires well_formed { IsWellFormed SLOTS (fields table.old) }
     requires own { IsOwnAt (cells table.old) key.now }
     ensures well_formed { IsWellFormed SLOTS (fields table.new) }
@@ -113,7 +113,7 @@ fn move_in<L: Layout, const SLOTS: usize, A: Allocator>(table: &mut Table<L, SLO
 pub(crate) fn make_way<L: Layout, const SLOTS: usize, A: Allocator>(
     table: &mut Table<L, SLOTS, A>,
     key: &[u8],
-) -> Result<Option<usize>, CedarError>
+) -> Result<Option<usize>, Shortage>
     requires well_formed { IsWellFormed SLOTS (fields table.old) }
     requires key { IsKey key.now }
     ensures well_formed { IsWellFormed SLOTS (fields table.new) }

@@ -15,7 +15,7 @@ ghost use Rattle.cedar_meaning.specs.Relocation.Wanted.{rest_of, with_label};
 use crate::relocation::moving::{goes_before, relocate_around, relocate_with};
 use arrayvec::ArrayVec;
 use cedar_meaning::Layout;
-use cedar_slots::CedarError;
+use cedar_slots::Shortage;
 use cedar_table::{Labels, Table};
 use std::alloc::Allocator;
 
@@ -27,7 +27,7 @@ fn move_set_with<L: Layout, const SLOTS: usize, A: Allocator>(
     labels: &[u8],
     wanted: &[u8],
     label: u8,
-) -> Result<usize, CedarError>
+) -> Result<usize, Shortage>
     requires node { StandsBelow SLOTS (fields table.old) node }
     requires owned { OwnsLabels (size_of (fields table.old)) (cells table.old) node labels.now }
     requires all { (l : ℕ) → Among labels.now l → Among wanted.now l }
@@ -53,7 +53,7 @@ fn move_set_around<L: Layout, const SLOTS: usize, A: Allocator>(
     node: usize,
     labels: &[u8],
     slot: usize,
-) -> Result<usize, CedarError>
+) -> Result<usize, Shortage>
     requires node { StandsBelow SLOTS (fields table.old) node }
     requires owned { OwnsLabels (size_of (fields table.old)) (cells table.old) node labels.now }
     requires mine { (cells table.old).check slot ≡ pos node }
@@ -147,7 +147,7 @@ fn move_with<L: Layout, const SLOTS: usize, A: Allocator>(
     table: &mut Table<L, SLOTS, A>,
     node: usize,
     label: u8,
-) -> Result<(), CedarError>
+) -> Result<(), Shortage>
     requires node { StandsBelow SLOTS (fields table.old) node }
     requires absent { (cells table.old).check (below (cells table.old) node label) ≢ pos node }
     ensures sound { IsTable SLOTS (fields table.new).places }
@@ -168,7 +168,7 @@ fn move_away<L: Layout, const SLOTS: usize, A: Allocator>(
     table: &mut Table<L, SLOTS, A>,
     node: usize,
     slot: usize,
-) -> Result<usize, CedarError>
+) -> Result<usize, Shortage>
     requires node { StandsBelow SLOTS (fields table.old) node }
     requires mine { (cells table.old).check slot ≡ pos node }
     ensures sound { IsTable SLOTS (fields table.new).places }
@@ -188,7 +188,7 @@ pub(crate) fn resolve<L: Layout, const SLOTS: usize, A: Allocator>(
     table: &mut Table<L, SLOTS, A>,
     node: usize,
     label: u8,
-) -> Result<usize, CedarError>
+) -> Result<usize, Shortage>
     requires { WantsSlot SLOTS (fields table.old) node label }
     ensures sound { IsTable SLOTS (fields table.new).places }
     ensures reserved { IfOk result (Reserves (fields table.old) (fields table.new) node label) }

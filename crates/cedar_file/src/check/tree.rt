@@ -1,6 +1,9 @@
 //! Whether the held slots of a table stand for a tree.
 
-ghost use Rattle.std.specs.Prelude.{◌≡◌, ◌≢◌, ℕ, ◌+◌, ◌*◌, ◌<◌, ◌≤◌, ◌^◌, ◌/◌, ◌↔◌, IfOk, IsTrue, MatchOption, OnErr, OnOk, pos};
+ghost use Rattle.std.specs.List.{range_with_len};
+ghost use Rattle.cedar_slots.specs.Blocks.{block_at};
+ghost use Rattle.cedar_meaning.specs.Table.Cells.{is_held};
+ghost use Rattle.std.specs.Prelude.{count_by, ◌≡◌, ◌≢◌, ℕ, ◌+◌, ◌*◌, ◌<◌, ◌≤◌, ◌^◌, ◌/◌, ◌↔◌, IfOk, IsTrue, MatchOption, OnErr, OnOk, pos};
 ghost use Rattle.cedar_file.specs.TreeWalk.{Ends, GoesDown, GoesOn, GoesUp, LooksLikeNode, LooksLikeRoot, walk_down, walk_met, walk_start, walk_up};
 ghost use Rattle.cedar_slots.specs.Places.{IsTable};
 ghost use Rattle.cedar_meaning.specs.declared.layout.Stored.TheVariants.{AtBase, OwnNumber};
@@ -10,7 +13,7 @@ ghost use Rattle.cedar_meaning.specs.Table.Layouts.{reading};
 ghost use Rattle.cedar_table.specs.Table.Views.{cells, fields};
 ghost use Rattle.cedar_meaning.specs.Table.TableFields.{size_of};
 
-use cedar_slots::{BLOCK_SIZE, Corrupt, NInfoRecord, NodeRecord, Ticks};
+use cedar_slots::{BLOCK_SIZE, BlockRecord, Corrupt, NInfoRecord, NodeRecord, Ticks};
 use cedar_table::{Layout, Stored, Table};
 use std::alloc::Allocator;
 use std::sync::ledger::Ledger;
@@ -344,6 +347,36 @@ fn walk_tree<L: Layout, const SLOTS: usize, A: Allocator, C: Ledger>(
     Err(Corrupt::siblings(walk.node, "sibling chain contains a cycle"))
 }
 
+/// The record of a block in use. The read is counted.
+fn read_block<L: Layout, const SLOTS: usize, A: Allocator, C: Ledger>(
+    table: &Table<L, SLOTS, A>,
+    block: usize,
+    reads: &mut Ticks<C>,
+) -> BlockRecord
+    requires { 256 * block < size_of (fields table.now) }
+    ensures value { result ≡ block_at (fields table.now).places.blocks.records block }
+    ensures counted { reads.new ≡ reads.old + 1 }
+{
+    reads.tick();
+    table.block(block)
+}
+
+/// How many slots are held, by what the blocks count as free. Each block's record is a counted read.
+fn count_held<L: Layout, const SLOTS: usize, A: Allocator, C: Ledger>(
+    table: &Table<L, SLOTS, A>,
+    reads: &mut Ticks<C>,
+) -> usize
+    requires { IsTable SLOTS (fields table.now).places }
+    ensures count { result ≡ count_by (is_held (cells table.now)) (range_with_len 0 (size_of (fields table.now))) }
+    ensures cost { reads.new ≡ reads.old + size_of (fields table.now) / 256 }
+{
+    let mut free: usize = 0;
+    for block in 0..table.size() / BLOCK_SIZE {
+        free += read_block(table, block, reads).num as usize;
+    }
+    1 + table.size() - free
+}
+
 /// Whether the held slots stand for a tree: just those of its nodes and numbers, with values in range, labels in their
 /// order and as many entries as the table says. A slot is met once on the walk over the nodes, since it has one owner:
 /// so if as many were met as are held, these are all. It takes no memory.
@@ -358,9 +391,7 @@ pub fn check_tree<L: Layout, const SLOTS: usize, A: Allocator, C: Ledger>(
 {
     let start = begin_walk(table, reads)?;
     let walk = walk_tree(table, start, reads)?;
-    // A count of held slots reads a number of each block.
-    reads.add((table.size() / BLOCK_SIZE) as u64);
-    if walk.met != table.used_node_slots() {
+    if walk.met != count_held(table, reads) {
         return Err(Corrupt::trie(0, "occupied node is unreachable"));
     }
     if walk.numbers != table.entries() {

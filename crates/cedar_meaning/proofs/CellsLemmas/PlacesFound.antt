@@ -3,7 +3,7 @@ use Rattle.std.proofs.Common.{◌≡◌, ℕ, ◌*◌, ◌/◌, ◌<◌, ◌⊎�
 use Rattle.std.specs.Prelude.{IfOk, IfErr, OnErr}
 use Rattle.std.specs.List.{count_by, range_with_len}
 use Rattle.std.proofs.lemmas.Bool.{cases_Bool, cases_eq, eq-eqb, ne_eqb, false≢true}
-use Rattle.cedar_error.specs.declared.error.CedarError.{CedarError}
+use Rattle.cedar_slots.specs.declared.shortage.Shortage.{Shortage}
 use Rattle.cedar_meaning.specs.Table.Layouts.{LayoutKind}
 use Rattle.cedar_slots.specs.Slots.{blank_info, check_at, info_at, is_free}
 use Rattle.cedar_slots.specs.Places.{AddsBlock, IsBase, IsFreePlace, MayRefuse, NoneFree, PlaceFields, SameSlots, Sound}
@@ -19,33 +19,33 @@ free_blank places s sound inside free =
     here.1.ring.cleared s (omega (arith, free_member places.slots.nodes places.slots.infos (s / 256) here.0 here.1.ring s free refl))
 
 module _ (k : LayoutKind) (old new : PlaceFields) (some : 0 < old.blocks.active) where
-  pub held-added : (r : Result ℕ CedarError) → IfOk r (λ block. AddsBlock old new block) → OnErr r (new ≡ old) → SameHeld (cells_of k old) (cells_of k new)
+  pub held-added : (r : Result ℕ Shortage) → IfOk r (λ block. AddsBlock old new block) → OnErr r (new ≡ old) → SameHeld (cells_of k old) (cells_of k new)
   held-added (Ok block) added same = SameHeld-added k old new block some added
   held-added (Err error) added same = SameHeld-same k old new some (ap (λ (v : PlaceFields). v.slots) same) (ap (λ (v : PlaceFields). v.blocks.active) same)
 
-  pub held-found : (r : Result ℕ CedarError) → IfOk r (λ slot. (new ≡ old) ⊎ (NoneFree old × AddsBlock old new (slot / 256))) → OnErr r (new ≡ old) → SameHeld (cells_of k old) (cells_of k new)
+  pub held-found : (r : Result ℕ Shortage) → IfOk r (λ slot. (new ≡ old) ⊎ (NoneFree old × AddsBlock old new (slot / 256))) → OnErr r (new ≡ old) → SameHeld (cells_of k old) (cells_of k new)
   held-found (Ok slot) (inl same) unchanged = SameHeld-same k old new some (ap (λ (v : PlaceFields). v.slots) same) (ap (λ (v : PlaceFields). v.blocks.active) same)
   held-found (Ok slot) (inr (none, added)) unchanged = SameHeld-added k old new (slot / 256) some added
   held-found (Err error) made unchanged = SameHeld-same k old new some (ap (λ (v : PlaceFields). v.slots) unchanged) (ap (λ (v : PlaceFields). v.blocks.active) unchanged)
 
-  pub held-searched : (r : Result ℕ CedarError) → IfOk r (λ base. SameSlots old new ⊎ AddsBlock old new (base / 256)) → OnErr r (SameSlots old new) → SameHeld (cells_of k old) (cells_of k new)
+  pub held-searched : (r : Result ℕ Shortage) → IfOk r (λ base. SameSlots old new ⊎ AddsBlock old new (base / 256)) → OnErr r (SameSlots old new) → SameHeld (cells_of k old) (cells_of k new)
   held-searched (Ok base) (inl same) err = SameHeld-same k old new some same.slots same.active
   held-searched (Ok base) (inr added) err = SameHeld-added k old new (base / 256) some added
   held-searched (Err error) made err = SameHeld-same k old new some err.slots err.active
 
-pub place-found : (k : LayoutKind) (new : PlaceFields) (r : Result ℕ CedarError) → IfOk r (λ slot. IsFreePlace new slot) → IfOk r (IsPlace (256 * new.blocks.active) (cells_of k new))
+pub place-found : (k : LayoutKind) (new : PlaceFields) (r : Result ℕ Shortage) → IfOk r (λ slot. IsFreePlace new slot) → IfOk r (IsPlace (256 * new.blocks.active) (cells_of k new))
 place-found k new (Ok slot) found = IsPlace-of k new slot found
 place-found k new (Err error) found = tt
 
-pub none-found : (k : LayoutKind) (old : PlaceFields) (slots : ℕ) (r : Result ℕ CedarError) → IfErr r (λ error. NoneFree old × MayRefuse old slots error) → IfErr r (λ error. NoPlace (256 * old.blocks.active) (cells_of k old) × MayRefuse old slots error)
+pub none-found : (k : LayoutKind) (old : PlaceFields) (slots : ℕ) (r : Result ℕ Shortage) → IfErr r (λ error. NoneFree old × MayRefuse old slots error) → IfErr r (λ error. NoPlace (256 * old.blocks.active) (cells_of k old) × MayRefuse old slots error)
 none-found k old slots (Ok slot) refused = tt
 none-found k old slots (Err error) refused = (NoPlace-of k old refused.0, refused.1)
 
-pub places-found : (k : LayoutKind) (new : PlaceFields) (labels : List ℕ) (r : Result ℕ CedarError) → ((i : ℕ) → get_or labels i 0 < 256) → IfOk r (λ base. IsBase new base labels) → IfOk r (λ base. HasPlaces (256 * new.blocks.active) (cells_of k new) base labels)
+pub places-found : (k : LayoutKind) (new : PlaceFields) (labels : List ℕ) (r : Result ℕ Shortage) → ((i : ℕ) → get_or labels i 0 < 256) → IfOk r (λ base. IsBase new base labels) → IfOk r (λ base. HasPlaces (256 * new.blocks.active) (cells_of k new) base labels)
 places-found k new labels (Ok base) bytes found = HasPlaces-of k new base labels bytes found
 places-found k new labels (Err error) bytes found = tt
 
-pub made-found : {X : Type 0} (k : LayoutKind) (old new : PlaceFields) (f : PlaceFields → X) (r : Result ℕ CedarError) → IfOk r (λ slot. (new ≡ old) ⊎ (NoneFree old × AddsBlock old new (slot / 256))) → IfOk r (λ slot. (f new ≡ f old) ⊎ (NoPlace (256 * old.blocks.active) (cells_of k old) × AddsBlock old new (slot / 256)))
+pub made-found : {X : Type 0} (k : LayoutKind) (old new : PlaceFields) (f : PlaceFields → X) (r : Result ℕ Shortage) → IfOk r (λ slot. (new ≡ old) ⊎ (NoneFree old × AddsBlock old new (slot / 256))) → IfOk r (λ slot. (f new ≡ f old) ⊎ (NoPlace (256 * old.blocks.active) (cells_of k old) × AddsBlock old new (slot / 256)))
 made-found k old new f (Ok slot) (inl same) = inl (ap f same)
 made-found k old new f (Ok slot) (inr (none, added)) = inr (NoPlace-of k old none, added)
 made-found k old new f (Err error) made = tt

@@ -1,8 +1,8 @@
 -- How many blocks a call has made.
 use Rattle.std.proofs.Common.{◌≡◌, ◌⊎◌, ◌+◌, ◌*◌, ◌/◌, Result, Ok, Err, ℕ, zero, suc, ◌≤◌, length, refl, subst, sym, ◌∙◌, ap, inl, inr, arith}
 use Rattle.std.specs.Prelude.{◌==◌, cond, IfErr, IfOk, OnErr}
-use Rattle.cedar_error.specs.declared.error.CedarError.{CedarError}
-use Rattle.cedar_error.specs.declared.error.CedarError.TheVariants.{Memory, SlotLimit}
+use Rattle.cedar_slots.specs.declared.shortage.Shortage.{Shortage}
+use Rattle.cedar_slots.specs.declared.shortage.Shortage.TheVariants.{Memory, SlotLimit}
 use Rattle.cedar_slots.specs.Places.{AddsBlock, MayRefuse, PlaceFields, SameSlots}
 use Rattle.cedar_meaning.specs.Edit.Steps.{blocks_after, MakesBlocks, MayAddBlock}
 use Rattle.cedar_meaning.specs.Table.TableFields.{Fields, SameFrame, size_of}
@@ -99,7 +99,7 @@ pub found_blocks : (X : Type 0) (old new : Fields) (b : ℕ) → (new ≡ old) �
 found_blocks X old new b (inl e) = (0, omega arith, made_nothing old new e)
 found_blocks X old new b (inr (x, added)) = (1, omega arith, made_one old new b added)
 
-pub searched_blocks : (old new : Fields) (r : Result ℕ CedarError) → IfOk r (λ base. SameSlots old.places new.places ⊎ AddsBlock old.places new.places (base / 256)) → OnErr r (SameSlots old.places new.places) → (n : ℕ) × (n ≤ 1) × MakesBlocks n old new
+pub searched_blocks : (old new : Fields) (r : Result ℕ Shortage) → IfOk r (λ base. SameSlots old.places new.places ⊎ AddsBlock old.places new.places (base / 256)) → OnErr r (SameSlots old.places new.places) → (n : ℕ) × (n ≤ 1) × MakesBlocks n old new
 searched_blocks old new (Ok base) (inl same) err = (0, omega arith, made_none old new same)
 searched_blocks old new (Ok base) (inr added) err = (1, omega arith, made_one old new (base / 256) added)
 searched_blocks old new (Err error) made same = (0, omega arith, made_none old new same)
@@ -118,11 +118,10 @@ slots_of_same a b e = record {
 }
 
 -- what was refused in a table is refused in the one with the same slots
-pub refuses_still : (a b : PlaceFields) (slots : ℕ) (error : CedarError) → SameSlots a b → MayRefuse a slots error → MayRefuse b slots error
+pub refuses_still : (a b : PlaceFields) (slots : ℕ) (error : Shortage) → SameSlots a b → MayRefuse a slots error → MayRefuse b slots error
 refuses_still a b slots Memory same h = (same.active ∙ h.0 ∙ sym same.len, omega (arith, same.active, h.1))
 refuses_still a b slots SlotLimit same h = omega (arith, same.active, h)
-refuses_still a b slots _ same h = absurd h
 
-pub refused_still : {X : Type 0} (a b : PlaceFields) (slots : ℕ) (r : Result X CedarError) → OnErr r (SameSlots a b) → IfErr r (λ error. MayRefuse a slots error) → IfErr r (λ error. MayRefuse b slots error)
+pub refused_still : {X : Type 0} (a b : PlaceFields) (slots : ℕ) (r : Result X Shortage) → OnErr r (SameSlots a b) → IfErr r (λ error. MayRefuse a slots error) → IfErr r (λ error. MayRefuse b slots error)
 refused_still a b slots (Ok x) same refused = tt
 refused_still a b slots (Err error) same refused = refuses_still a b slots error same refused

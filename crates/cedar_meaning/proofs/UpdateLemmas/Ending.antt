@@ -13,8 +13,8 @@ use Rattle.cedar_tree.proofs.EditLemmas.{put-with_number}
 use Rattle.cedar_tree.proofs.OrderLemmas.{ascending-put}
 use Rattle.cedar_tree.proofs.PutLemmas.{number_of_node}
 use Rattle.cedar_tree.proofs.TreeLemmas.{all-put, sound-put}
-use Rattle.cedar_error.specs.declared.error.CedarError.{CedarError}
-use Rattle.cedar_error.specs.declared.error.CedarError.TheVariants.{Memory, SlotLimit}
+use Rattle.cedar_slots.specs.declared.shortage.Shortage.{Shortage}
+use Rattle.cedar_slots.specs.declared.shortage.Shortage.TheVariants.{Memory, SlotLimit}
 use Rattle.cedar_meaning.specs.declared.layout.Stored.TheVariants.{AtBase, OwnNumber}
 use Rattle.cedar_meaning.specs.Table.Cells.{is_held, NoPlace}
 use Rattle.cedar_meaning.specs.Edit.NodeEdits.{IsAt}
@@ -60,10 +60,9 @@ tree_kept slots T T' w table root holds same =
       tree_of_is T' f holds ∙ sym old,
     )
 
-pub refuses_on : (a b : Fields) (slots : ℕ) (error : CedarError) → SameFrame a b → MayRefuse a.places slots error → MayRefuse b.places slots error
+pub refuses_on : (a b : Fields) (slots : ℕ) (error : Shortage) → SameFrame a b → MayRefuse a.places slots error → MayRefuse b.places slots error
 refuses_on a b slots Memory frame h = let full = h.0 in let room = h.1 in (omega (arith, frame.size, frame.capacity, full), omega (arith, frame.size, room))
 refuses_on a b slots SlotLimit frame h = omega (arith, frame.size, h)
-refuses_on a b slots _ frame h = absurd h
 
 -- the blocks that were made on the way are fewer than the key's bytes
 pub fewer : (slots : ℕ) (before after : Fields) (key w rest : List ℕ) (a : ℕ) → Walked slots before after key w rest a → 0 < length key → (n : ℕ) × (n < length key) × MakesBlocks n before after
@@ -98,7 +97,7 @@ pub record Trims (slots : ℕ) (mid after : Fields) (a : ℕ) : Type 0 where
   pub frame : SameFrame mid after
   pub marks : KeepsMarks (cells_in mid) (cells_in after)
 
-taken_back : (slots : ℕ) (before mid after : Fields) (key w rest : List ℕ) (a : ℕ) (error : CedarError) → IsWellFormed slots before → Walked slots before mid key w rest a → Trims slots mid after a → MayRefuse mid.places slots error
+taken_back : (slots : ℕ) (before mid after : Fields) (key w rest : List ℕ) (a : ℕ) (error : Shortage) → IsWellFormed slots before → Walked slots before mid key w rest a → Trims slots mid after a → MayRefuse mid.places slots error
     → (n : ℕ) × (n < length key) × (before.layout ≡ reduced_layout → LacksNode (cells_in before) key → n + 1 < length key) × MakesBlocks n before mid
     → (is_some (number_at (tree_of before) key) ≡ true → ⊥)
     → ((b : ℕ) → key ≡ b ∷ [] → has_label (tree_of before).children b ≡ false → (before.layout ≡ default_layout) × NoPlace (size_of before) (cells_in before))
@@ -119,7 +118,7 @@ taken_back slots before mid after key w rest a error well k trims refused made o
     }
 
 -- a call that was refused: the slots are as they were
-pub record Refuses (slots : ℕ) (mid after : Fields) (error : CedarError) : Type 0 where
+pub record Refuses (slots : ℕ) (mid after : Fields) (error : Shortage) : Type 0 where
   pub layout : after.layout ≡ mid.layout
   pub table : IsTable slots after.places
   pub unchanged : SameSlots mid.places after.places
@@ -127,7 +126,7 @@ pub record Refuses (slots : ℕ) (mid after : Fields) (error : CedarError) : Typ
   pub refused : MayRefuse after.places slots error
 
 -- a step that was refused
-pub step_refused : (slots : ℕ) (before mid failed after : Fields) (key w rest : List ℕ) (l a : ℕ) (error : CedarError) → IsWellFormed slots before → IsKey key → Walked slots before mid key w (l ∷ rest) a → Refuses slots mid failed error → Trims slots failed after a
+pub step_refused : (slots : ℕ) (before mid failed after : Fields) (key w rest : List ℕ) (l a : ℕ) (error : Shortage) → IsWellFormed slots before → IsKey key → Walked slots before mid key w (l ∷ rest) a → Refuses slots mid failed error → Trims slots failed after a
     → ((cells_in mid).check (below (cells_in mid) a l) ≡ pos a → ⊥) → (a ≡ 0 → ⊥) → TakenBack slots before after key error
 step_refused slots before mid failed after key w rest l a error well is_key k refuses trims owned at_root =
     let same = walked_same slots before mid failed key w (l ∷ rest) a k refuses.layout refuses.table refuses.unchanged refuses.settings in
@@ -278,7 +277,7 @@ module _ (slots : ℕ) (before mid : Fields) (key : List ℕ) (a : ℕ) (well : 
       by_leaf b e (inr full) = inr (full.0, no_place b e full.1)
 
   -- the number was refused
-  pub put_refused : (failed after : Fields) (error : CedarError) → Refuses slots mid failed error → Trims slots failed after a
+  pub put_refused : (failed after : Fields) (error : Shortage) → Refuses slots mid failed error → Trims slots failed after a
       → ((cells_in mid).check (below (cells_in mid) a 0) ≡ pos a → ⊥) → ((v : ℤ) → (cells_in mid).stored a ≡ OwnNumber v → ⊥)
       → ((cells_in mid).stored a ≡ AtBase 0 → (before.layout ≡ default_layout) × NoPlace (size_of mid) (cells_in mid)) → TakenBack slots before after key error
   put_refused failed after error refuses trims owned own leaf =

@@ -1,7 +1,7 @@
 -- A table on the way of an update along a key, and one from which the way was taken back.
 use Rattle.std.specs.Prelude.{◌≡◌, ◌⊎◌, ℕ, ◌+◌, ◌<◌, ◌≤◌, true, false, ℤ, List, [], ◌∷◌, ◌++◌, length, is_some}
 use Rattle.cedar_tree.specs.Tree.{Forest, IsAscending, IsPath, has_label, number_at, put}
-use Rattle.cedar_error.specs.declared.error.CedarError.{CedarError}
+use Rattle.cedar_slots.specs.declared.shortage.Shortage.{Shortage}
 use Rattle.cedar_meaning.specs.declared.layout.Stored.TheVariants.{AtBase}
 use Rattle.cedar_meaning.specs.Table.Cells.{Held, NoPlace}
 use Rattle.cedar_meaning.specs.Edit.NodeEdits.{IsAt}
@@ -41,7 +41,7 @@ pub record Walked (slots : ℕ) (before after : Fields) (key w rest : List ℕ) 
   pub fresh : IsAt (cells_in before) w a × (cells_in after ≡ cells_in before) ⊎ ((a ≡ 0 → ⊥) × ((cells_in after).stored a ≡ AtBase 0))
 
 -- an update of a key was refused, and the tree is as before
-pub record TakenBack (slots : ℕ) (before after : Fields) (key : List ℕ) (error : CedarError) : Type 0 where
+pub record TakenBack (slots : ℕ) (before after : Fields) (key : List ℕ) (error : Shortage) : Type 0 where
   pub well_formed : IsWellFormed slots after
   pub tree : tree_of after ≡ tree_of before
   pub refused : MayRefuse after.places slots error

@@ -6,7 +6,7 @@ ghost use Rattle.cedar_meaning.specs.Table.Layouts.{layout_byte};
 ghost use Rattle.cedar_slots.specs.Places.{IsSlotLimit};
 ghost use Rattle.cedar_meaning.specs.Meaning.WellFormed.{IsWellFormed};
 ghost use Rattle.cedar_format.specs.Format.{need, CountsWithin, IsVersion, Passes};
-ghost use Rattle.cedar_format.specs.Reading.{IsIo, LacksNoMore};
+ghost use Rattle.cedar_format.specs.Reading.{IsIo, LacksNoMore, TellsBreaks};
 ghost use Rattle.cedar_format.specs.Tables.{table_bytes};
 ghost use Rattle.cedarwood.specs.Loading.{LoadAnswers};
 
@@ -18,8 +18,8 @@ use std::marker::Brand;
 use std::sync::ledger::{Blank, Ledger};
 
 impl<L: Layout, const SLOTS: usize, A: Allocator + Copy> Trie<L, SLOTS, A> {
-    /// Loads the dictionary that was saved. The bytes that are asked of memory are counted, and the records that are read
-    /// to test the table.
+    /// Loads the dictionary that was saved. It takes its memory from `alloc`. The bytes that are asked of memory are counted, and the
+    /// records that are read to test the table.
     ///
     /// ```
     /// let mut file = Watched::new(saved);
@@ -46,6 +46,8 @@ impl<L: Layout, const SLOTS: usize, A: Allocator + Copy> Trie<L, SLOTS, A> {
         // A reader that tells its bytes and does not fail, as bytes in memory, gets the answer that they decide.
         ensures answer { IfSome (S.remaining reader.old) (λ bytes. S.failed reader.new ≡ false → LoadAnswers (λ trie. trie.table) L.kind SLOTS memory_limit bytes result) }
         ensures io { IfErr result (λ e. IsIo e → S.failed reader.new ≡ true) }
+        // A read that was broken off is told as no success and no end of the input.
+        ensures told { TellsBreaks (S.broken reader.old) (S.broken reader.new) result }
         ensures lacks { IfErr result (LacksNoMore (Passes (layout_byte L.kind) SLOTS memory_limit (S.remaining reader.old))) }
 
         // Before the header has passed nothing is asked of memory and no record is read for the test.
@@ -56,8 +58,8 @@ impl<L: Layout, const SLOTS: usize, A: Allocator + Copy> Trie<L, SLOTS, A> {
         Ok(Trie { table })
     }
 
-    /// Loads the dictionary that was saved, if that asks for `memory_limit` bytes at most. A reader is handed over in a
-    /// `Watched`, and bytes in memory as they are.
+    /// Loads the dictionary that was saved, if that asks for `memory_limit` bytes at most. It takes its memory from `alloc`. A reader is
+    /// handed over in a `Watched`, and bytes in memory as they are.
     ///
     /// ```
     /// let mut file = Watched::new(saved);
@@ -77,6 +79,7 @@ impl<L: Layout, const SLOTS: usize, A: Allocator + Copy> Trie<L, SLOTS, A> {
         ensures formed { IfOk result (λ trie. IsWellFormed SLOTS trie.table) }
         ensures answer { IfSome (S.remaining reader.old) (λ bytes. S.failed reader.new ≡ false → LoadAnswers (λ trie. trie.table) L.kind SLOTS memory_limit bytes result) }
         ensures io { IfErr result (λ e. IsIo e → S.failed reader.new ≡ true) }
+        ensures told { TellsBreaks (S.broken reader.old) (S.broken reader.new) result }
         ensures lacks { IfErr result (LacksNoMore (Passes (layout_byte L.kind) SLOTS memory_limit (S.remaining reader.old))) }
     {
         uncounted::<Brand, Brand, Self, A, S>(
@@ -110,6 +113,7 @@ impl<L: Layout, const SLOTS: usize, A: Allocator + Copy> Trie<L, SLOTS, A> {
         ensures formed { IfOk result (λ trie. IsWellFormed SLOTS trie.table) }
         ensures answer { IfSome (S.remaining reader.old) (λ bytes. S.failed reader.new ≡ false → LoadAnswers (λ trie. trie.table) L.kind SLOTS 536870912 bytes result) }
         ensures io { IfErr result (λ e. IsIo e → S.failed reader.new ≡ true) }
+        ensures told { TellsBreaks (S.broken reader.old) (S.broken reader.new) result }
         ensures lacks { IfErr result (LacksNoMore (Passes (layout_byte L.kind) SLOTS 536870912 (S.remaining reader.old))) }
     {
         Self::load_from_reader_with_limit(alloc, reader, DEFAULT_LOAD_MEMORY_LIMIT)

@@ -22,7 +22,7 @@ const BUFFER_LEN: usize = 8192;
 
 impl<L: Layout, const SLOTS: usize, A: Allocator + Copy> Trie<L, SLOTS, A> {
     /// Makes the file or cuts it, and writes the dictionary's table to it as `save_to_writer` does, through a buffer of 8192 bytes,
-    /// which is flushed.
+    /// which is flushed. The buffer is from the dictionary's own allocator.
     ///
     /// ```
     /// cedar.save_to_path(files, "words.cedar")?;
@@ -68,7 +68,8 @@ impl<L: Layout, const SLOTS: usize, A: Allocator + Copy> Trie<L, SLOTS, A> {
         Ok(())
     }
 
-    /// Loads the dictionary that was saved in a file, through a buffer of 8192 bytes and with the limit by default.
+    /// Loads the dictionary that was saved in a file, through a buffer of 8192 bytes and with the limit by default. Both take their
+    /// memory from `alloc`.
     ///
     /// ```
     /// let again = Cedar::load_from_path(rt.alloc(), files, "words.cedar")?;

@@ -6,7 +6,7 @@ ghost use Rattle.cedar_slots.specs.Places.{IsSlotLimit};
 ghost use Rattle.cedar_meaning.specs.Meaning.WellFormed.{IsWellFormed};
 ghost use Rattle.cedar_meaning.specs.Table.Layouts.{layout_byte};
 ghost use Rattle.cedar_format.specs.Format.{IsVersion, Passes};
-ghost use Rattle.cedar_format.specs.Reading.{IsIo, LacksNoMore};
+ghost use Rattle.cedar_format.specs.Reading.{IsIo, LacksNoMore, TellsBreaks};
 ghost use Rattle.cedar_format.specs.Tables.{table_bytes};
 ghost use Rattle.cedarwood.specs.Loading.{LoadAnswers};
 
@@ -23,7 +23,7 @@ pub(crate) trait Loaded<A: Allocator + Copy> {
     ghost use Rattle.cedar_meaning.specs.Table.TableFields.{Fields};
     ghost use Rattle.cedar_meaning.specs.Meaning.WellFormed.{IsWellFormed};
     ghost use Rattle.cedar_format.specs.Format.{IsVersion, Passes};
-    ghost use Rattle.cedar_format.specs.Reading.{IsIo, LacksNoMore};
+    ghost use Rattle.cedar_format.specs.Reading.{IsIo, LacksNoMore, TellsBreaks};
     ghost use Rattle.cedar_format.specs.Tables.{table_bytes};
     ghost use Rattle.cedarwood.specs.Loading.{LoadAnswers};
 
@@ -46,6 +46,7 @@ pub(crate) trait Loaded<A: Allocator + Copy> {
         ensures formed { IfOk result (λ x. IsWellFormed slots (table x)) }
         ensures answer { IfSome (S.remaining reader.old) (λ bytes. S.failed reader.new ≡ false → LoadAnswers table kind slots memory_limit bytes result) }
         ensures io { IfErr result (λ e. IsIo e → S.failed reader.new ≡ true) }
+        ensures told { TellsBreaks (S.broken reader.old) (S.broken reader.new) result }
         ensures lacks { IfErr result (LacksNoMore (Passes (layout_byte kind) slots memory_limit (S.remaining reader.old))) };
 }
 
@@ -87,6 +88,7 @@ pub(crate) fn uncounted<C: Ledger, D: Ledger, T: Loaded<A>, A: Allocator + Copy,
     ensures formed { IfOk result (λ x. IsWellFormed T.slots (T.table x)) }
     ensures answer { IfSome (S.remaining reader.old) (λ bytes. S.failed reader.new ≡ false → LoadAnswers T.table T.kind T.slots memory_limit bytes result) }
     ensures io { IfErr result (λ e. IsIo e → S.failed reader.new ≡ true) }
+    ensures told { TellsBreaks (S.broken reader.old) (S.broken reader.new) result }
     ensures lacks { IfErr result (LacksNoMore (Passes (layout_byte T.kind) T.slots memory_limit (S.remaining reader.old))) }
 {
     let asked = &mut Ticks::<C>::new(asked_blank);

@@ -68,7 +68,7 @@ impl<L: Layout, const SLOTS: usize, A: Allocator + Copy> Trie<L, SLOTS, A> {
         CountedPrefixIter::new(self.common_prefix_iter_bytes(query), blank)
     }
 
-    /// What `common_prefix_iter_bytes` gives, in a vector.
+    /// What `common_prefix_iter_bytes` gives, in a vector, whose memory is from the dictionary's own allocator.
     ///
     /// ```
     /// cedar.build(&[("ne", 1), ("net", 7)])?;
@@ -140,7 +140,7 @@ impl<L: Layout, const SLOTS: usize, A: Allocator + Copy> Trie<L, SLOTS, A> {
         self.common_prefix_predict_iter_bytes(query.as_bytes())
     }
 
-    /// What `common_prefix_predict_iter_bytes` gives, in a vector.
+    /// What `common_prefix_predict_iter_bytes` gives, in a vector, whose memory is from the dictionary's own allocator.
     ///
     /// ```
     /// cedar.build(&[("ne", 1), ("net", 7)])?;
@@ -180,7 +180,8 @@ impl<L: Layout, const SLOTS: usize, A: Allocator + Copy> Trie<L, SLOTS, A> {
         self.common_prefix_predict_bytes(query.as_bytes())
     }
 
-    /// All keys with their values, in the order of the walk. Each key is copied for its item.
+    /// All keys with their values, in the order of the walk. Each key is copied for its item, in memory of the dictionary's own
+    /// allocator.
     ///
     /// ```
     /// cedar.build(&[("net", 7), ("ten", 2)])?;

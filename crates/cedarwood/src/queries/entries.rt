@@ -7,7 +7,7 @@ ghost use Rattle.cedar_tree.specs.Queries.{Entry};
 ghost use Rattle.cedar_tree.specs.Walks.{entries_of};
 ghost use Rattle.cedar_walk.specs.Visits.{left_at};
 ghost use Rattle.cedar_meaning.specs.Meaning.WellFormed.{IsWellFormed};
-ghost use Rattle.cedar_error.specs.declared.error.CedarError.TheVariants.{Memory};
+ghost use Rattle.cedarwood.specs.declared.error.CedarError.TheVariants.{Memory};
 ghost use Rattle.cedarwood.specs.WalkPlaces.{ComesToEntry, IsEntriesPlace};
 ghost use Rattle.cedarwood.specs.Walks.{IsEntryError};
 
@@ -91,6 +91,7 @@ impl<'a, T: Walked, A: Allocator + Copy> Entries<'a, T, A> {
     /// cedar.update("net", 7)?;
     /// assert_eq!(rt; cedar.entries()?.len(), 1);
     /// ```
+    #[must_use]
     pub fn len(&self) -> usize
         ensures { result ≡ length self.now }
     {
@@ -103,6 +104,7 @@ impl<'a, T: Walked, A: Allocator + Copy> Entries<'a, T, A> {
     /// cedar.update("net", 7)?;
     /// assert!(rt; !cedar.entries()?.is_empty());
     /// ```
+    #[must_use]
     pub fn is_empty(&self) -> bool
         ensures { IsTrue result ↔ (self.now ≡ []) }
     {

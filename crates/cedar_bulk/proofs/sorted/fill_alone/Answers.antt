@@ -2,7 +2,7 @@ use Rattle.std.proofs.Common.{◌≡◌, suc, ◌<◌, ◌∙◌, arith, rules, 
 use Rattle.std.specs.Prelude.{bit_xor, IfSome, OnErr, true}
 use Rattle.std.proofs.lemmas.Int.{to_z-of_z}
 use Rattle.cedar_tree.specs.Queries.{Entry}
-use Rattle.cedar_error.specs.declared.error.CedarError.{CedarError}
+use Rattle.cedar_slots.specs.declared.shortage.Shortage.{Shortage}
 use Rattle.cedar_bulk.specs.Sorted.{entries_by, Fills}
 use Rattle.cedar_bulk.specs.SortedMarks.{KeepsOwn}
 use Rattle.cedar_bulk.specs.Spans.{IsAlike, IsTreeOfSpan}
@@ -14,7 +14,7 @@ use Rattle.cedar_meaning.specs.Table.TableFields.{size_of}
 use Rattle.cedar_bulk.proofs.BulkLemmas.OnePair.{covers_same, ends_alone, ends_here, first_then, goes_on}
 use Rattle.cedar_bulk.proofs.sorted.fill_alone.Goals as goal
 
-on_err_always : {X : Type 0} {P : Type 0} (r : Result X CedarError) → P → OnErr r P
+on_err_always : {X : Type 0} {P : Type 0} (r : Result X Shortage) → P → OnErr r P
 on_err_always (Ok x) p = tt
 on_err_always (Err e) p = p
 

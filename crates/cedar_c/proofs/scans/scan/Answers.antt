@@ -1,4 +1,4 @@
-use Rattle.std.proofs.Common.{rules, ◌≡◌, ◌∙◌, ◌<◌, ◌≤◌, ◌++◌, ap, drop, length, map, take, arith}
+use Rattle.std.proofs.Common.{rules, inl, ◌≡◌, ◌∙◌, ◌<◌, ◌≤◌, ◌++◌, ap, drop, length, map, take, arith}
 use Rattle.std.proofs.lemmas.List.{length-drop}
 use Rattle.cedar_tree.specs.Queries.{front}
 use Rattle.cedar_c.specs.Scans.{spot}
@@ -18,4 +18,5 @@ loop-next-preserved g c =
       within,
       (let before : c.args.next.now ≤ next = kept.2 in omega (arith, before)),
       c.tell_fronts.ensures.room ∙ kept.3,
+      inl (omega (arith, c.loop-next-test.true)),
     )

@@ -1,5 +1,5 @@
 use Rattle.std.proofs.Common.{rules, ◌≡◌, ◌∙◌, ◌⊎◌, ◌*◌, ◌≤◌, List, [], None, Err, IfSome, IfErr, length, map, subst, ap}
-use Rattle.cedar_error.specs.declared.error.CedarError.TheVariants.{Memory, SlotLimit}
+use Rattle.cedarwood.specs.declared.error.CedarError.TheVariants.{Memory, SlotLimit}
 use Rattle.cedar_tree.specs.Queries.{Entry, asc, prefixes}
 use Rattle.cedar_bulk.specs.Sorted.{entries_of}
 use Rattle.cedarwood.specs.SortedInput.{fault_from}

@@ -1,6 +1,7 @@
-use Rattle.std.proofs.Common.{arith, length, rules, ◌≡◌, to_z, of_z, w32}
+use Rattle.std.proofs.Common.{arith, inl, inr, length, rules, ◌≡◌, to_z, of_z, w32}
 use Rattle.cedar_cli.specs.declared.command.Verb.TheVariants.{Put, Erase, Exact, Segment, Prefixes, Predict, Entries, Figures}
 use Rattle.cedar_cli.proofs.BlockCounts.{no_blocks}
+use Rattle.cedar_cli.proofs.Orders.{never_memory}
 use Rattle.cedar_cli.proofs.answers.answer_command.Goals as goal
 
 pub returns-in-Put-clause-ok : goal.returns-in-Put-clause-ok
@@ -59,3 +60,28 @@ returns-in-Segment-clause-err g c =
 
 pub returns-in-Segment-clause-blocks : goal.returns-in-Segment-clause-blocks
 returns-in-Segment-clause-blocks g c = no_blocks (length c.args.key.now) c.args.trie.now
+
+pub returns-in-Put-clause-memory : goal.returns-in-Put-clause-memory
+returns-in-Put-clause-memory g c = λ starved. inr (c.answer_put.ensures.memory starved)
+
+pub returns-in-Entries-clause-memory : goal.returns-in-Entries-clause-memory
+returns-in-Entries-clause-memory g c =
+    let e : c.args.verb ≡ Entries = search rules in λ _. inl e
+
+pub returns-in-Erase-clause-memory : goal.returns-in-Erase-clause-memory
+returns-in-Erase-clause-memory g c = λ starved. absurd (never_memory _ c.answer_erase.result c.answer_erase.ensures.cause starved)
+
+pub returns-in-Exact-clause-memory : goal.returns-in-Exact-clause-memory
+returns-in-Exact-clause-memory g c = λ starved. absurd (never_memory _ c.answer_exact.result c.answer_exact.ensures.cause starved)
+
+pub returns-in-Prefixes-clause-memory : goal.returns-in-Prefixes-clause-memory
+returns-in-Prefixes-clause-memory g c = λ starved. absurd (never_memory _ c.answer_prefixes.result c.answer_prefixes.ensures.cause starved)
+
+pub returns-in-Predict-clause-memory : goal.returns-in-Predict-clause-memory
+returns-in-Predict-clause-memory g c = λ starved. absurd (never_memory _ c.answer_predict.result c.answer_predict.ensures.cause starved)
+
+pub returns-in-Figures-clause-memory : goal.returns-in-Figures-clause-memory
+returns-in-Figures-clause-memory g c = λ starved. absurd (never_memory _ c.answer_figures.result c.answer_figures.ensures.cause starved)
+
+pub returns-in-Segment-clause-memory : goal.returns-in-Segment-clause-memory
+returns-in-Segment-clause-memory g c = λ starved. absurd (never_memory _ c.answer_segment.result c.answer_segment.ensures.cause starved)

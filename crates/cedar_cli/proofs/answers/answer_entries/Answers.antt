@@ -20,5 +20,5 @@ returns-clause-err g c =
     let s = seen g.L.Layout.kind c.args.trie.now in
     let held = g.W.Write.contents (device_of c.args.writer.now) in
     let holds = g.W.Write.contents (device_of c.write_entries.new.writer) in
-    Leaves-on_err c.write_entries.result (Some (Entries, c.args.key.now)) s s.state held holds ((entry_lines c.in-Ok.entries ++ codes "end") ++ 10 ∷ []) refl
+    Leaves-on_err c.write_entries.result (Some (Entries, c.args.key.now)) s s held holds ((entry_lines c.in-Ok.entries ++ codes "end") ++ 10 ∷ []) refl
     (ap (λ entries. (entry_lines entries ++ codes "end") ++ 10 ∷ []) c.in-Ok.ensures.entries) c.write_entries.ensures.err

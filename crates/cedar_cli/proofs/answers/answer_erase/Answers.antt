@@ -5,7 +5,7 @@ use Rattle.cedar_cli.specs.declared.command.Verb.TheVariants.{Erase}
 use Rattle.cedarwood.proofs.GrowthLemmas.{grows_none}
 use Rattle.cedar_cli.specs.Seen.{seen}
 use Rattle.cedar_cli.proofs.BlockCounts.{same_blocks}
-use Rattle.cedar_cli.proofs.Bytes.{on_err}
+use Rattle.cedar_cli.proofs.Bytes.{each_fault}
 use Rattle.cedar_cli.proofs.Orders.{erased_reply, absent_reply, Leaves-front, erased_written, absent_written}
 use Rattle.cedar_cli.proofs.SlotsSeen.{cut_obeyed}
 use Rattle.cedar_cli.proofs.answers.answer_erase.Goals as goal
@@ -15,16 +15,16 @@ pub returns-in_err-write_whole-in-Some-clause-err : goal.returns-in_err-write_wh
 returns-in_err-write_whole-in-Some-clause-err g c =
     let s = seen g.L.Layout.kind c.args.trie.now in
     let key = c.args.key.now in
-    on_err c.from_residual.result
-    (Leaves-front (Some (Erase, key)) s (g.W.Write.contents (device_of c.args.writer.now)) (g.W.Write.contents (device_of c.write_whole.new.writer)) (codes "erased")
+    each_fault _ c.from_residual.result
+    (λ fault. Leaves-front fault (Some (Erase, key)) s (g.W.Write.contents (device_of c.args.writer.now)) (g.W.Write.contents (device_of c.write_whole.new.writer)) (codes "erased")
     (erased_reply s key c.in-Some.field-0 c.in-Some.ensures.answer) c.in_err-write_whole-in-Some.ensures.err)
 
 pub returns-in_err-write_whole-in-None-clause-err : goal.returns-in_err-write_whole-in-None-clause-err
 returns-in_err-write_whole-in-None-clause-err g c =
     let s = seen g.L.Layout.kind c.args.trie.now in
     let key = c.args.key.now in
-    on_err c.from_residual-in_err-write_whole-in-None.result
-    (Leaves-front (Some (Erase, key)) s (g.W.Write.contents (device_of c.args.writer.now)) (g.W.Write.contents (device_of c.write_whole-in-None.new.writer)) (codes "absent")
+    each_fault _ c.from_residual-in_err-write_whole-in-None.result
+    (λ fault. Leaves-front fault (Some (Erase, key)) s (g.W.Write.contents (device_of c.args.writer.now)) (g.W.Write.contents (device_of c.write_whole-in-None.new.writer)) (codes "absent")
     (absent_reply s key c.in-None.ensures.answer) c.in_err-write_whole-in-None.ensures.err)
 
 pub returns-clause-ok : goal.returns-clause-ok

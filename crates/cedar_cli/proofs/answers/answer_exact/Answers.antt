@@ -14,7 +14,7 @@ returns-in-Some-clause-err g c =
     let s = seen g.L.Layout.kind c.args.trie.now in
     let fits : FitsSigned w32 c.in-Some.value = search rules in
     let v = c.in-Some.value in
-    Leaves-on_err c.write_found.result (Some (Exact, c.args.key.now)) s s.state (g.W.Write.contents (device_of c.args.writer.now)) (g.W.Write.contents (device_of c.write_found.new.writer)) (found_text (Some (to_z w32 (of_z w32 v))) c.in-Some.length ++ 10 ∷ []) refl
+    Leaves-on_err c.write_found.result (Some (Exact, c.args.key.now)) s s (g.W.Write.contents (device_of c.args.writer.now)) (g.W.Write.contents (device_of c.write_found.new.writer)) (found_text (Some (to_z w32 (of_z w32 v))) c.in-Some.length ++ 10 ∷ []) refl
     (ap (λ x. found_text (Some x) c.in-Some.length ++ 10 ∷ []) (to_z-of_z w32 v fits) ∙ ap (λ l. l ++ 10 ∷ []) (found_reply s.state.tree c.args.key.now v c.in-Some.length c.in-Some.ensures.answer))
     c.write_found.ensures.err
 
@@ -30,7 +30,7 @@ returns-in-Some-clause-ok g c =
 pub returns-in-None-clause-err : goal.returns-in-None-clause-err
 returns-in-None-clause-err g c =
     let s = seen g.L.Layout.kind c.args.trie.now in
-    Leaves-on_err c.write_whole.result (Some (Exact, c.args.key.now)) s s.state (g.W.Write.contents (device_of c.args.writer.now)) (g.W.Write.contents (device_of c.write_whole.new.writer)) (codes "none" ++ 10 ∷ []) refl
+    Leaves-on_err c.write_whole.result (Some (Exact, c.args.key.now)) s s (g.W.Write.contents (device_of c.args.writer.now)) (g.W.Write.contents (device_of c.write_whole.new.writer)) (codes "none" ++ 10 ∷ []) refl
     (ap (λ l. l ++ 10 ∷ []) (none_reply s.state.tree c.args.key.now c.in-None.ensures.answer)) c.write_whole.ensures.err
 
 pub returns-in-None-clause-ok : goal.returns-in-None-clause-ok

@@ -20,5 +20,5 @@ returns-clause-err g c =
     let s = seen g.L.Layout.kind c.args.trie.now in
     let held = g.W.Write.contents (device_of c.args.writer.now) in
     let holds = g.W.Write.contents (device_of c.write_figures.new.writer) in
-    Leaves-on_err c.write_figures.result (Some (Figures, c.args.key.now)) s s.state held holds (figures_text c.len.result c.used_node_slots.result ++ 10 ∷ []) refl
+    Leaves-on_err c.write_figures.result (Some (Figures, c.args.key.now)) s s held holds (figures_text c.len.result c.used_node_slots.result ++ 10 ∷ []) refl
     (figures_seen g.L.Layout.kind c.args.trie.now c.args.key.now c.len.result c.used_node_slots.result c.len.ensures.count c.used_node_slots.ensures.by_default c.used_node_slots.ensures.marked) c.write_figures.ensures.err

@@ -3,7 +3,7 @@ use Rattle.std.specs.Prelude.{codes}
 use Rattle.cedarwood.specs.WatchedDevice.{device_of}
 use Rattle.cedar_cli.specs.Command.{Order, order_of}
 use Rattle.cedar_cli.specs.Seen.{seen}
-use Rattle.cedar_cli.specs.declared.script.ScriptError.TheVariants.{Write}
+use Rattle.cedar_cli.specs.declared.script.ScriptError.TheVariants.{Memory, Write}
 use Rattle.cedar_cli.proofs.BlockCounts.{no_blocks, key_blocks}
 use Rattle.cedar_cli.proofs.Bytes.{Leaves-on_err, Obeys-on_ok}
 use Rattle.cedar_cli.proofs.Orders.{Leaves-unanswered, never_memory, write_alone, write_failed}
@@ -13,7 +13,7 @@ use Rattle.cedar_cli.proofs.answers.answer_line.Goals as goal
 pub returns-in_default-clause-err : goal.returns-in_default-clause-err
 returns-in_default-clause-err g c =
     let s = seen g.L.Layout.kind c.args.trie.now in
-    Leaves-unanswered (order_of c.args.line.now) s s.state (g.W.Write.contents (device_of c.args.writer.now)) refl
+    Leaves-unanswered Memory (order_of c.args.line.now) s s (g.W.Write.contents (device_of c.args.writer.now)) refl
 
 pub returns-in_default-clause-cause : goal.returns-in_default-clause-cause
 returns-in_default-clause-cause g c = λ same. memory_no_write same
@@ -43,7 +43,7 @@ pub returns-in-None-clause-err : goal.returns-in-None-clause-err
 returns-in-None-clause-err g c =
     let e : ◌≡◌ {A = Option Order} None (order_of c.args.line.now) = rw c.in-None.is at c.in-Ok.ensures in
     let s = seen g.L.Layout.kind c.args.trie.now in
-    rw (← e) (Leaves-on_err c.write_whole.result None s s.state (g.W.Write.contents (device_of c.args.writer.now)) (g.W.Write.contents (device_of c.write_whole.new.writer)) (codes "bad line\n") refl refl c.write_whole.ensures.err)
+    rw (← e) (Leaves-on_err c.write_whole.result None s s (g.W.Write.contents (device_of c.args.writer.now)) (g.W.Write.contents (device_of c.write_whole.new.writer)) (codes "bad line\n") refl refl c.write_whole.ensures.err)
 
 pub returns-in-None-clause-cause : goal.returns-in-None-clause-cause
 returns-in-None-clause-cause g c = λ failed. write_failed _ c.write_whole.result Write c.write_whole.ensures.cause failed

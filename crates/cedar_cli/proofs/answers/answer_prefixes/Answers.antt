@@ -19,5 +19,5 @@ returns-clause-err g c =
     let s = seen g.L.Layout.kind c.args.trie.now in
     let held = g.W.Write.contents (device_of c.args.writer.now) in
     let holds = g.W.Write.contents (device_of c.write_pairs.new.writer) in
-    Leaves-on_err c.write_pairs.result (Some (Prefixes, c.args.key.now)) s s.state held holds (pairs_text c.common_prefix_iter_bytes.result.rest ++ 10 ∷ []) refl
+    Leaves-on_err c.write_pairs.result (Some (Prefixes, c.args.key.now)) s s held holds (pairs_text c.common_prefix_iter_bytes.result.rest ++ 10 ∷ []) refl
     (ap (λ pairs. pairs_text pairs ++ 10 ∷ []) c.common_prefix_iter_bytes.ensures.rest) c.write_pairs.ensures.err

@@ -4,16 +4,16 @@ use Rattle.cedar_tree.specs.State.{stored}
 use Rattle.cedar_cli.specs.Script.{refusal}
 use Rattle.cedar_cli.specs.Seen.{seen}
 use Rattle.std.specs.Prelude.{Result}
-use Rattle.cedar_error.specs.declared.error.CedarError.{CedarError}
-use Rattle.cedar_error.specs.declared.error.CedarError.TheVariants.{Memory, SlotLimit}
-use Rattle.cedar_cli.specs.declared.script.ScriptError.TheVariants.{Write}
+use Rattle.cedarwood.specs.declared.error.CedarError.{CedarError}
+use Rattle.cedarwood.specs.declared.error.CedarError.TheVariants.{Memory, SlotLimit}
+use Rattle.cedar_cli.specs.declared.script.ScriptError.TheVariants.{Write, Memory as NoMemory, SlotLimit as NoSlot}
 use Rattle.cedarwood.specs.Fault.{fault, IsShortage}
 use Rattle.cedar_cli.specs.declared.command.Verb.TheVariants.{Put}
 use Rattle.cedarwood.specs.WatchedDevice.{device_of}
 use Rattle.cedar_cli.proofs.BlockCounts.{within_further, back_blocks, held_after}
 use Rattle.cedar_cli.proofs.Bytes.{Leaves-on_err, Obeys-on_ok}
 use Rattle.cedar_cli.proofs.Faults.{memory_no_write, memory_no_read, memory_no_limit, limit_no_write, limit_no_read, limit_no_memory}
-use Rattle.cedar_cli.proofs.Orders.{no_fault, pair_kind, refused_by, taken_back, Leaves-if_err, Leaves-unanswered, no_shortage, on_not_ok, on_not_err, write_failed, write_alone, never_memory}
+use Rattle.cedar_cli.proofs.Orders.{no_fault, pair_kind, refused_by, taken_back, Leaves-if_err, Leaves-unanswered, no_shortage, on_not_ok, if_not_err, write_failed, write_alone, never_memory}
 use Rattle.cedar_cli.proofs.SlotsSeen.{put_obeyed, put_refused, seen_same}
 use Rattle.cedar_cli.proofs.answers.answer_put.Goals as goal
 
@@ -25,7 +25,8 @@ returns-then-is_err-clause-err g c =
     let u = c.in-Ok.ensures.updated in
     let same = to_z-of_z w32 c.args.value c.ranges.value in
     let clean : fault key c.args.value ≡ None = subst (λ (v : ℤ). fault key v ≡ None) same (no_fault (fault key (to_z w32 (of_z w32 c.args.value))) tt u.faulty) in
-    Leaves-if_err c.write_whole-written.result (Some (Put c.args.value, key)) (seen g.L.Layout.kind before) c.take_back.new.trie.state (g.W.Write.contents (device_of c.args.writer.now)) (g.W.Write.contents (device_of c.write_whole-written.new.writer)) (111 ∷ 107 ∷ 10 ∷ [])
+    Leaves-if_err _ c.write_whole-written.result (Some (Put c.args.value, key)) (seen g.L.Layout.kind before) (seen g.L.Layout.kind c.take_back.new.trie) (g.W.Write.contents (device_of c.args.writer.now)) (g.W.Write.contents (device_of c.write_whole-written.new.writer)) (111 ∷ 107 ∷ 10 ∷ [])
+    c.write_whole-written.ensures.cause
     (λ _. taken_back c.in-Ok.before old c.insert_bytes.new.self.state c.take_back.new.trie.state key c.args.value
     c.in-Ok.ensures.held c.in-Ok.ensures.sound c.in-Ok.ensures.in_range clean
     (u.ok ∙ ap (λ v. stored old key v) same) c.take_back.ensures.state)
@@ -35,7 +36,7 @@ pub returns-then-is_err-clause-ok : goal.returns-then-is_err-clause-ok
 returns-then-is_err-clause-ok g c = on_not_ok _ c.write_whole-written.result (sym c.is_err.ensures.value ∙ c.if-is_err.true)
 
 pub returns-else-is_err-clause-err : goal.returns-else-is_err-clause-err
-returns-else-is_err-clause-err g c = on_not_err _ c.write_whole-written.result (sym c.is_err.ensures.value ∙ c.if-is_err.false)
+returns-else-is_err-clause-err g c = if_not_err _ c.write_whole-written.result (sym c.is_err.ensures.value ∙ c.if-is_err.false)
 
 pub returns-else-is_err-clause-ok : goal.returns-else-is_err-clause-ok
 returns-else-is_err-clause-ok g c =
@@ -63,11 +64,12 @@ returns-in_default g c =
     let held = g.W.Write.contents (device_of c.args.writer.now) in
     let holds = g.W.Write.contents (device_of c.write_refusal.new.writer) in
     let alone = write_alone _ c.write_refusal.result c.write_refusal.ensures.cause in
+    let same_seen = seen_same layout before after u.err u.marks_stay in
     record {
       ok = Obeys-on_ok c.write_refusal.result (Some (Put c.args.value, key)) (seen layout before) (seen layout after) held holds (refusal (Some c.in-Err.error) ++ 10 ∷ [])
-          (seen_same layout before after u.err u.marks_stay ∙ put_refused (seen layout before) key c.args.value c.in-Err.error why) (ap (λ f. refusal f ++ 10 ∷ []) (sym why)) c.write_refusal.ensures.ok;
-      err = Leaves-on_err c.write_refusal.result (Some (Put c.args.value, key)) (seen layout before) after.state held holds (refusal (Some c.in-Err.error) ++ 10 ∷ [])
-          u.err (ap (λ f. refusal f ++ 10 ∷ []) (sym why)) c.write_refusal.ensures.err;
+          (same_seen ∙ put_refused (seen layout before) key c.args.value c.in-Err.error why) (ap (λ f. refusal f ++ 10 ∷ []) (sym why)) c.write_refusal.ensures.ok;
+      err = Leaves-on_err c.write_refusal.result (Some (Put c.args.value, key)) (seen layout before) (seen layout after) held holds (refusal (Some c.in-Err.error) ++ 10 ∷ [])
+          same_seen (ap (λ f. refusal f ++ 10 ∷ []) (sym why)) c.write_refusal.ensures.err;
       cause = λ failed. write_failed _ c.write_refusal.result Write c.write_refusal.ensures.cause failed;
       unfailed = c.write_refusal.ensures.unfailed;
       never_read = alone.0;
@@ -88,11 +90,17 @@ write_refusal-requires g c =
 
 pub returns-in-Memory-clause-err : goal.returns-in-Memory-clause-err
 returns-in-Memory-clause-err g c =
-    Leaves-unanswered (Some (Put c.args.value, c.args.key.now)) (seen g.L.Layout.kind c.args.trie.now) c.insert_bytes.new.self.state (g.W.Write.contents (device_of c.args.writer.now)) c.in-Err.ensures.updated.err
+    let layout = g.L.Layout.kind in
+    let u = c.in-Err.ensures.updated in
+    Leaves-unanswered NoMemory (Some (Put c.args.value, c.args.key.now)) (seen layout c.args.trie.now) (seen layout c.insert_bytes.new.self) (g.W.Write.contents (device_of c.args.writer.now))
+    (seen_same layout c.args.trie.now c.insert_bytes.new.self u.err u.marks_stay)
 
 pub returns-in-SlotLimit-clause-err : goal.returns-in-SlotLimit-clause-err
 returns-in-SlotLimit-clause-err g c =
-    Leaves-unanswered (Some (Put c.args.value, c.args.key.now)) (seen g.L.Layout.kind c.args.trie.now) c.insert_bytes.new.self.state (g.W.Write.contents (device_of c.args.writer.now)) c.in-Err.ensures.updated.err
+    let layout = g.L.Layout.kind in
+    let u = c.in-Err.ensures.updated in
+    Leaves-unanswered NoSlot (Some (Put c.args.value, c.args.key.now)) (seen layout c.args.trie.now) (seen layout c.insert_bytes.new.self) (g.W.Write.contents (device_of c.args.writer.now))
+    (seen_same layout c.args.trie.now c.insert_bytes.new.self u.err u.marks_stay)
 
 pub returns-in-SlotLimit-clause-limit : goal.returns-in-SlotLimit-clause-limit
 returns-in-SlotLimit-clause-limit g c =

@@ -11,5 +11,5 @@ returns-clause-err g c =
     let s = seen g.L.Layout.kind c.args.trie.now in
     let held = g.W.Write.contents (device_of c.args.writer.now) in
     let holds = g.W.Write.contents (device_of c.write_tokens.new.writer) in
-    Leaves-on_err c.write_tokens.result (Some (Segment, c.args.text.now)) s s.state held holds (tokens_text c.segment.result ++ 10 ∷ []) refl
+    Leaves-on_err c.write_tokens.result (Some (Segment, c.args.text.now)) s s held holds (tokens_text c.segment.result ++ 10 ∷ []) refl
     (ap (λ tokens. tokens_text tokens ++ 10 ∷ []) c.segment.ensures) c.write_tokens.ensures.err

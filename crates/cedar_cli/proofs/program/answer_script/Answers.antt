@@ -7,7 +7,7 @@ use Rattle.cedar_cli.proofs.program.answer_script.Goals as goal
 
 pub returns-in_err-outcome-clause-begun : goal.returns-in_err-outcome-clause-begun
 returns-in_err-outcome-clause-begun g c =
-    ended_fronts (seen g.L.Layout.kind c.args.trie.now) c.run_script-outcome.new.trie.state (g.W.Write.contents (device_of c.args.writer.now)) (g.W.Write.contents (device_of c.run_script-outcome.new.writer)) (g.W.Write.contents (device_of c.flush-flushed.new.self))
+    ended_fronts c.in_err-outcome.field-0.0 (seen g.L.Layout.kind c.args.trie.now) (seen g.L.Layout.kind c.run_script-outcome.new.trie) (g.W.Write.contents (device_of c.args.writer.now)) (g.W.Write.contents (device_of c.run_script-outcome.new.writer)) (g.W.Write.contents (device_of c.flush-flushed.new.self))
     (g.R.Read.remaining (device_of c.args.reader.now)) c.flush-flushed.ensures.bytes c.in_err-outcome.ensures.err
 
 pub returns-in-Ok-clause-ok : goal.returns-in-Ok-clause-ok

@@ -7,7 +7,7 @@ use Rattle.cedar_cli.specs.Command.{order_of}
 use Rattle.cedar_cli.specs.Script.{Obeys, Leaves, Advances, Stops}
 use Rattle.cedar_cli.specs.Seen.{seen}
 use Rattle.cedar_cli.proofs.BlockCounts.{no_blocks, within_more}
-use Rattle.cedar_cli.proofs.Bytes.{line_done, line_left, not_begun, on_err}
+use Rattle.cedar_cli.proofs.Bytes.{line_done, line_left, not_begun, that_fault}
 use Rattle.cedar_cli.proofs.Runs.{short_line}
 use Rattle.cedar_cli.proofs.Newlines.{open_append, taken_on_ok, stopped_on_err}
 use Rattle.cedar_cli.proofs.Faults.{memory_no_write, memory_no_read, memory_no_limit, no_success}
@@ -24,25 +24,28 @@ pub returns-then-is_empty-clause-err : goal.returns-then-is_empty-clause-err
 returns-then-is_empty-clause-err g c =
     let len : length c.args.line.now.items ≡ c.args.line.now.len = omega (arith, c.args.line.now.ok.0) in
     let none : c.args.line.now.items ≡ [] = short_line c.args.line.now.items c.args.line.now.len len (sym c.is_empty.ensures ∙ c.if-is_empty.true) in
-    rw none (stopped_on_err c.answer_line.result (seen g.L.Layout.kind c.args.trie.now) c.answer_line.new.trie.state (g.W.Write.contents (device_of c.args.writer.now)) (g.W.Write.contents (device_of c.answer_line.new.writer)) c.args.piece.now
+    rw none (stopped_on_err c.answer_line.result (seen g.L.Layout.kind c.args.trie.now) (seen g.L.Layout.kind c.answer_line.new.trie) (g.W.Write.contents (device_of c.args.writer.now)) (g.W.Write.contents (device_of c.answer_line.new.writer)) c.args.piece.now
     c.requires.open_piece c.answer_line.ensures.err)
 
 pub returns-in_default-clause-err : goal.returns-in_default-clause-err
 returns-in_default-clause-err g c =
-    not_begun (seen g.L.Layout.kind c.args.trie.now) (g.W.Write.contents (device_of c.args.writer.now)) (c.args.line.now.items ++ (c.args.piece.now ++ 10 ∷ []))
+    not_begun Memory (seen g.L.Layout.kind c.args.trie.now) (g.W.Write.contents (device_of c.args.writer.now)) (c.args.line.now.items ++ (c.args.piece.now ++ 10 ∷ []))
 
 pub returns-in_err-answer_line-clause-err : goal.returns-in_err-answer_line-clause-err
 returns-in_err-answer_line-clause-err g c =
+    let fault = c.in_err-answer_line.field-0.0 in
     let old = seen g.L.Layout.kind c.args.trie.now in
-    let new = c.answer_line-2.new.trie.state in
+    let new = seen g.L.Layout.kind c.answer_line-2.new.trie in
     let held = g.W.Write.contents (device_of c.args.writer.now) in
     let holds = g.W.Write.contents (device_of c.answer_line-2.new.writer) in
     let line = c.args.line.now.items in
     let piece = c.args.piece.now in
     let whole : c.as_slice.result.now ≡ line ++ piece = c.as_slice.ensures.value ∙ c.in-Ok.ensures.items in
-    let left : Leaves (order_of (line ++ piece)) old new held holds = subst (λ (l : List ℕ). Leaves (order_of l) old new held holds) whole c.in_err-answer_line.ensures.err in
-    on_err c.from_residual.result (subst (Stops old new held holds) (append_assoc line piece (10 ∷ []))
-    (line_left old new held holds (line ++ piece) (open_append line piece c.requires.«open» c.requires.open_piece) left))
+    let left : Leaves fault (order_of (line ++ piece)) old new held holds = subst (λ (l : List ℕ). Leaves fault (order_of l) old new held holds) whole c.in_err-answer_line.ensures.err in
+    let p = err_from_is_err_and c.from_residual.result c.from_residual.ensures.1 in
+    let is : c.from_residual.result ≡ Err fault = cc (p.1, p.2) in
+    that_fault _ c.from_residual.result fault is (subst (Stops fault old new held holds) (append_assoc line piece (10 ∷ []))
+    (line_left fault old new held holds (line ++ piece) (open_append line piece c.requires.«open» c.requires.open_piece) left))
 
 pub returns-clause-ok : goal.returns-clause-ok
 returns-clause-ok g c =

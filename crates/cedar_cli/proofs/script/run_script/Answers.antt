@@ -11,7 +11,7 @@ use Rattle.cedar_cli.specs.Script.{Obeys, Leaves, Finishes, Advances, Stops, End
 use Rattle.cedarwood.proofs.GrowthLemmas.{grows_none}
 use Rattle.cedar_cli.specs.Seen.{seen}
 use Rattle.cedar_cli.proofs.BlockCounts.{chunk_taken, chunk_left, last_blocks, so_far_blocks, came_blocks}
-use Rattle.cedar_cli.proofs.Bytes.{unfailed_call, failed_call, bytes_on, Advances-append, Advances-kept, Stops-append, on_err}
+use Rattle.cedar_cli.proofs.Bytes.{unfailed_call, failed_call, bytes_on, Advances-append, Advances-kept, Stops-append, that_fault}
 use Rattle.cedar_cli.proofs.Runs.{Consumes-append, Consumes-none, Consumes-kept, end_found, whole_came, of_script, ended_early, Stops-from_advances, all_finished, last_finished, last_left, of_known, long_line, short_line}
 use Rattle.cedar_cli.proofs.Faults.{write_no_read, write_no_memory, write_no_limit, read_no_write, read_no_memory, read_no_limit, ok_no_fault, no_success}
 use Rattle.cedar_cli.proofs.script.run_script.Goals as goal
@@ -63,8 +63,8 @@ returns-in_default-clause-err g c =
     let new = seen g.L.Layout.kind c.loop-turn.trie in
     let first = g.W.Write.contents (device_of c.args.writer.now) in
     let held = g.W.Write.contents (device_of c.flush.new.self) in
-    ended_early old new.state first held (g.R.Read.remaining (device_of c.args.reader.now)) (g.R.Read.remaining (device_of c.loop-turn.reader)) before.0 before.1
-    (Stops-from_advances old new first held before.0 c.loop-turn.line.items
+    ended_early Write old new first held (g.R.Read.remaining (device_of c.args.reader.now)) (g.R.Read.remaining (device_of c.loop-turn.reader)) before.0 before.1
+    (Stops-from_advances Write old new first held before.0 c.loop-turn.line.items
     (Advances-kept old new first (g.W.Write.contents (device_of c.loop-turn.writer)) held before.0 c.loop-turn.line.items before.4 c.flush.ensures.bytes))
 
 pub returns-in_default-read-clause-err : goal.returns-in_default-read-clause-err
@@ -74,8 +74,8 @@ returns-in_default-read-clause-err g c =
     let new = seen g.L.Layout.kind c.loop-turn.trie in
     let first = g.W.Write.contents (device_of c.args.writer.now) in
     let held = g.W.Write.contents (device_of c.flush.new.self) in
-    ended_early old new.state first held (g.R.Read.remaining (device_of c.args.reader.now)) (g.R.Read.remaining (device_of c.loop-turn.reader)) before.0 before.1
-    (Stops-from_advances old new first held before.0 c.loop-turn.line.items
+    ended_early Read old new first held (g.R.Read.remaining (device_of c.args.reader.now)) (g.R.Read.remaining (device_of c.loop-turn.reader)) before.0 before.1
+    (Stops-from_advances Read old new first held before.0 c.loop-turn.line.items
     (Advances-kept old new first (g.W.Write.contents (device_of c.loop-turn.writer)) held before.0 c.loop-turn.line.items before.4 c.flush.ensures.bytes))
 
 pub returns-in_default-read-clause-read : goal.returns-in_default-read-clause-read
@@ -101,25 +101,29 @@ returns-in_err-take_bytes-clause-err g c =
     let before = c.loop-turn.invariant in
     let old = seen g.L.Layout.kind c.args.trie.now in
     let mid = seen g.L.Layout.kind c.loop-turn.trie in
-    let new = c.take_bytes.new.trie.state in
+    let new = seen g.L.Layout.kind c.take_bytes.new.trie in
+    let fault = c.in_err-take_bytes.field-0.0 in
     let first = g.W.Write.contents (device_of c.args.writer.now) in
     let held = g.W.Write.contents (device_of c.flush.new.self) in
     let holds = g.W.Write.contents (device_of c.take_bytes.new.writer) in
     let more = take c.in-Ok-read.count c.read.new.buf in
     let so_far : Advances old mid first held before.0 c.loop-turn.line.items =
     Advances-kept old mid first (g.W.Write.contents (device_of c.loop-turn.writer)) held before.0 c.loop-turn.line.items before.4 c.flush.ensures.bytes in
-    let step : Stops mid new held holds (c.loop-turn.line.items ++ more) = c.in_err-take_bytes.ensures.err in
-    on_err c.from_residual.result
-    (ended_early old new first holds (g.R.Read.remaining (device_of c.args.reader.now)) (g.R.Read.remaining (device_of c.read.new.self)) (before.0 ++ more)
+    let step : Stops fault mid new held holds (c.loop-turn.line.items ++ more) = c.in_err-take_bytes.ensures.err in
+    let p = err_from_is_err_and c.from_residual.result c.from_residual.ensures.1 in
+    let is : c.from_residual.result ≡ Err fault = cc (p.1, p.2) in
+    that_fault _ c.from_residual.result fault is
+    (ended_early fault old new first holds (g.R.Read.remaining (device_of c.args.reader.now)) (g.R.Read.remaining (device_of c.read.new.self)) (before.0 ++ more)
     (Consumes-append (g.R.Read.remaining (device_of c.args.reader.now)) (g.R.Read.remaining (device_of c.loop-turn.reader)) (g.R.Read.remaining (device_of c.read.new.self)) before.0 more before.1 c.in-Ok-read.ensures.bytes.0)
-    (Stops-append old mid new first held holds before.0 c.loop-turn.line.items more so_far step))
+    (Stops-append fault old mid new first held holds before.0 c.loop-turn.line.items more so_far step))
 
 pub returns-in_err-answer_line-clause-err : goal.returns-in_err-answer_line-clause-err
 returns-in_err-answer_line-clause-err g c =
     let before = c.loop-turn.invariant in
     let old = seen g.L.Layout.kind c.args.trie.now in
     let mid = seen g.L.Layout.kind c.loop-turn.trie in
-    let new = c.answer_line.new.trie.state in
+    let new = seen g.L.Layout.kind c.answer_line.new.trie in
+    let fault = c.in_err-answer_line.field-0.0 in
     let first = g.W.Write.contents (device_of c.args.writer.now) in
     let held = g.W.Write.contents (device_of c.loop-turn-test.writer) in
     let holds = g.W.Write.contents (device_of c.answer_line.new.writer) in
@@ -141,10 +145,12 @@ returns-in_err-answer_line-clause-err g c =
       | then-loop-turn-test+in-Ok+in-Ok-read+then-count-eq0 w ↦ rw w.writer-is (Advances-kept old mid first (g.W.Write.contents (device_of c.loop-turn.writer)) (g.W.Write.contents (device_of w.flush.new.self)) before.0 line before.4 w.flush.ensures.bytes)
     ] in
     let long : 0 < length line = long_line line c.loop-turn.line.len len (sym c.is_empty.ensures ∙ c.if-not-is_empty.true) in
-    let left : Leaves (order_of line) mid new held holds = subst (λ (l : List ℕ). Leaves (order_of l) mid new held holds) c.as_slice.ensures.value c.in_err-answer_line.ensures.err in
-    on_err c.from_residual-in_err-answer_line.result
+    let left : Leaves fault (order_of line) mid new held holds = subst (λ (l : List ℕ). Leaves fault (order_of l) mid new held holds) c.as_slice.ensures.value c.in_err-answer_line.ensures.err in
+    let p = err_from_is_err_and c.from_residual-in_err-answer_line.result c.from_residual-in_err-answer_line.ensures.1 in
+    let is : c.from_residual-in_err-answer_line.result ≡ Err fault = cc (p.1, p.2) in
+    that_fault _ c.from_residual-in_err-answer_line.result fault is
     (of_script start (whole_came start rest before.0 before.1 over)
-    (λ input same few. subst (EndsEarly old new first holds) (sym (same few)) (last_left old mid new first held holds before.0 line before.3 long so_far left)))
+    (λ input same few. subst (EndsEarly fault old new first holds) (sym (same few)) (last_left fault old mid new first held holds before.0 line before.3 long so_far left)))
 
 pub returns-clause-ok : goal.returns-clause-ok
 returns-clause-ok g c =

@@ -4,7 +4,7 @@ use Rattle.std.proofs.Common.{◌≡◌, Err, rules, refl, ◌∙◌, sym, ◌++
 use Rattle.cedarwood.specs.WatchedDevice.{device_of}
 use Rattle.cedar_cli.specs.Seen.{seen}
 use Rattle.cedar_cli.proofs.BlockCounts.{none_before, further_line, stopped_line, rest_begun, rest_lost}
-use Rattle.cedar_cli.proofs.Bytes.{on_err}
+use Rattle.cedar_cli.proofs.Bytes.{on_err, that_fault}
 use Rattle.cedar_cli.proofs.Newlines.{open_append, open_none, open_at, gone_further, line_taken, line_stopped, none_taken, rest_left, rest_taken}
 use Rattle.cedar_cli.proofs.Faults.{memory_no_write, memory_no_read, memory_no_limit, no_success}
 use Rattle.cedar_cli.proofs.script.take_bytes.Goals as goal
@@ -50,8 +50,11 @@ returns-in_err-end_line-clause-err g c =
     let before = c.loop-at.invariant in
     let rest = c.loop-at.rest.now in
     let at = c.in-Some.at in
-    on_err c.from_residual.result
-    (line_stopped (seen g.L.Layout.kind c.args.trie.now) (seen g.L.Layout.kind c.loop-at.trie) c.end_line.new.trie.state (g.W.Write.contents (device_of c.args.writer.now)) (g.W.Write.contents (device_of c.loop-at.writer)) (g.W.Write.contents (device_of c.end_line.new.writer))
+    let fault = c.in_err-end_line.field-0.0 in
+    let p = err_from_is_err_and c.from_residual.result c.from_residual.ensures.1 in
+    let is : c.from_residual.result ≡ Err fault = cc (p.1, p.2) in
+    that_fault _ c.from_residual.result fault is
+    (line_stopped fault (seen g.L.Layout.kind c.args.trie.now) (seen g.L.Layout.kind c.loop-at.trie) (seen g.L.Layout.kind c.end_line.new.trie) (g.W.Write.contents (device_of c.args.writer.now)) (g.W.Write.contents (device_of c.loop-at.writer)) (g.W.Write.contents (device_of c.end_line.new.writer))
     c.args.line.now.items before.0 c.loop-at.line.items (take at rest) (take (length rest - (at + 1)) (drop (at + 1) rest)) c.args.bytes.now before.3 c.in_err-end_line.ensures.err
     (gone_further c.args.bytes.now before.0 rest at before.1 (sym c.in-Some.ensures.first)))
 
@@ -64,7 +67,7 @@ returns-in-Ok-clause-still_open g c =
 pub returns-in-Err-clause-err : goal.returns-in-Err-clause-err
 returns-in-Err-clause-err g c =
     let before = c.loop-at.invariant in
-    rest_left (seen g.L.Layout.kind c.args.trie.now) (seen g.L.Layout.kind c.loop-at.trie) (g.W.Write.contents (device_of c.args.writer.now)) (g.W.Write.contents (device_of c.loop-at.writer))
+    rest_left Memory (seen g.L.Layout.kind c.args.trie.now) (seen g.L.Layout.kind c.loop-at.trie) (g.W.Write.contents (device_of c.args.writer.now)) (g.W.Write.contents (device_of c.loop-at.writer))
     c.args.line.now.items before.0 c.loop-at.line.items c.loop-at.rest.now c.args.bytes.now before.3 before.1
 
 pub returns-in_err-end_line-clause-blocks_left : goal.returns-in_err-end_line-clause-blocks_left

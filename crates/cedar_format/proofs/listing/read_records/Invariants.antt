@@ -12,6 +12,7 @@ invariant-loop-buffer g l = record {
   bytes : Consumes (g.S.Source.remaining l.initial.reader) (g.S.Source.remaining l.reader) (flat_map g.T.Record.bytes_of l.records.items);
   fits : All g.T.Record.Fits l.records.items;
   failed : g.S.Source.failed l.initial.reader ≡ true → g.S.Source.failed l.reader ≡ true;
+  broken : g.S.Source.broken l.reader ≡ g.S.Source.broken l.initial.reader;
 }
 
 abbrev pub decreases-loop-buffer : goal.decreases-loop-buffer

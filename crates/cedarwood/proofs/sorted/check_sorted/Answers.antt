@@ -1,6 +1,6 @@
 use Rattle.std.proofs.Common.{◌≡◌, ◌<◌, ◌+◌, ◌∙◌, ℕ, suc, arith, List, [], sym, ap, subst, get_or, drop, length, None, Option}
 use Rattle.std.proofs.lemmas.Result.{err_from_is_err_and}
-use Rattle.cedar_error.specs.declared.error.CedarError.{CedarError}
+use Rattle.cedarwood.specs.declared.error.CedarError.{CedarError}
 use Rattle.cedar_tree.specs.Queries.{Entry}
 use Rattle.cedar_bulk.specs.Sorted.{entries_by}
 use Rattle.cedarwood.specs.Fault.{or_else}

@@ -13,10 +13,10 @@ pub returns-in_err-walk-clause-faulty : goal.returns-in_err-walk-clause-faulty
 returns-in_err-walk-clause-faulty g c =
     on_err c.from_residual-in_err-walk.result (λ w. c.in_err-walk.ensures.faulty _ _ (well_formed_walked g.row.SLOTS (fields c.args.table.now) c.in_ok-start.start c.in_ok-start.ensures.root.1 w))
 
-pub returns-then-walk-used_node_slots-clause-faulty : goal.returns-then-walk-used_node_slots-clause-faulty
-returns-then-walk-used_node_slots-clause-faulty g c = λ w.
+pub returns-then-walk-count_held-clause-faulty : goal.returns-then-walk-count_held-clause-faulty
+returns-then-walk-count_held-clause-faulty g c = λ w.
     let all = well_formed_met g.row.SLOTS (fields c.args.table.now) c.in_ok-start.start _ _ c.in_ok-start.ensures.root.1 c.in_ok-walk.ensures.ended w in
-    c.if-walk-used_node_slots.true (all.0 ∙ sym c.used_node_slots.ensures.count)
+    c.if-walk-count_held.true (all.0 ∙ sym c.count_held.ensures.count)
 
 pub returns-then-walk-entries-clause-faulty : goal.returns-then-walk-entries-clause-faulty
 returns-then-walk-entries-clause-faulty g c = λ w.
@@ -25,4 +25,4 @@ returns-then-walk-entries-clause-faulty g c = λ w.
 
 pub returns-clause-well_formed : goal.returns-clause-well_formed
 returns-clause-well_formed g c =
-    walked_well_formed g.row.SLOTS (fields c.args.table.now) c.in_ok-start.start _ _ _ c.in_ok-start.ensures.root.1 c.requires c.in_ok-start.ensures.root.0 c.in_ok-walk.ensures.ended (c.if-walk-used_node_slots.false ∙ c.used_node_slots.ensures.count) (c.if-walk-entries.false ∙ c.entries.ensures)
+    walked_well_formed g.row.SLOTS (fields c.args.table.now) c.in_ok-start.start _ _ _ c.in_ok-start.ensures.root.1 c.requires c.in_ok-start.ensures.root.0 c.in_ok-walk.ensures.ended (c.if-walk-count_held.false ∙ c.count_held.ensures.count) (c.if-walk-entries.false ∙ c.entries.ensures)

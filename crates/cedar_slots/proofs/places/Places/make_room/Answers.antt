@@ -1,36 +1,27 @@
-use Rattle.std.proofs.Common.{◌∙◌, ap, arith, refl}
+use Rattle.std.proofs.Common.{◌*◌, ◌≡◌, ◌≤◌, ℕ, ap, arith, Err, length, Ok, OnErr, OnOk, Result}
+use Rattle.std.proofs.lemmas.Result.{on_err_weaker}
 use Rattle.cedar_slots.specs.Places.{PlaceFields}
-use Rattle.cedar_slots.specs.Slots.{blank_info, blank_node, info_at, node_at}
-use Rattle.cedar_slots.specs.Blocks.{blank_block, block_at}
-use Rattle.cedar_slots.proofs.PlacementLemmas.Growth.{doubled_within, grown_same, power-doubled, Shaped-doubled}
-use Rattle.cedar_slots.proofs.ListsLemmas.ThreeLists.{cases_list}
-use Rattle.cedar_slots.proofs.places.Places.make_room.Goals as goal
 use Rattle.cedar_slots.specs.Views.{places_of}
+use Rattle.cedar_slots.proofs.PlacementLemmas.Growth.{doubled_within, power-doubled}
+use Rattle.cedar_slots.proofs.places.Places.make_room.Goals as goal
+
+pub grow-requires-clause-doubled : goal.grow-requires-clause-doubled
+grow-requires-clause-doubled g c = power-doubled _ _ c.requires.sound.doubled (omega arith)
+
+pub grow-requires-clause-most : goal.grow-requires-clause-most
+grow-requires-clause-most g c =
+    let all = doubled_within (places_of c.args.self.now) c.args.slots c.requires.sound.shaped c.requires.sound.doubled c.requires.limit c.requires.below (λ below. absurd (omega arith)) in
+    omega (arith, all, c.requires.limit.most)
+
+within_both : {X E : Type 0} (r : Result X E) (n m slots : ℕ) → OnOk r (n ≡ 2 * m) → OnErr r (n ≡ m) → 256 * (2 * m) ≤ slots → 256 * n ≤ slots
+within_both (Ok x) n m slots doubled same all = omega (arith, doubled)
+within_both (Err e) n m slots doubled same all = omega (arith, same)
 
 pub returns-clause-within : goal.returns-clause-within
 returns-clause-within g c =
-    let all = doubled_within (places_of c.args.self.now) c.args.slots c.requires.sound.shaped c.requires.sound.doubled c.requires.limit c.requires.below (λ below. absurd (omega arith)) in
-    omega (arith, all, c.in_ok-resize-3.ensures.len)
-
-pub returns-clause-shaped : goal.returns-clause-shaped
-returns-clause-shaped g c =
-    let old = (places_of c.args.self.now) in
-    let shaped = c.requires.sound.shaped in
-    let new : PlaceFields = record old { slots = record old.slots { nodes = c.resize.new.self.items; infos = c.resize-2.new.self.items }; blocks = record old.blocks { records = c.resize-3.new.self.items } } in
-    Shaped-doubled old new c.args.slots shaped c.requires.limit (doubled_within old c.args.slots shaped c.requires.sound.doubled c.requires.limit c.requires.below (λ below. absurd (omega arith))) refl (omega (arith, c.in_ok-resize-3.ensures.len)) (omega (arith, c.in_ok-resize.ensures.len)) (omega (arith, c.in_ok-resize-2.ensures.len))
-
-pub returns-clause-doubled : goal.returns-clause-doubled
-returns-clause-doubled g c = power-doubled _ _ c.requires.sound.doubled (omega (arith, c.in_ok-resize-3.ensures.len))
-
-pub returns-clause-grown : goal.returns-clause-grown
-returns-clause-grown g c =
-    let shaped = c.requires.sound.shaped in
-    record {
-      nodes = λ s. grown_same c.reserve.new.self.items c.resize.new.self.items _ _ blank_node (omega (arith, shaped.nodes)) c.in_ok-resize.ensures.items s ∙ ap (λ xs. node_at xs s) c.reserve.ensures.items;
-      infos = λ s. grown_same c.reserve-2.new.self.items c.resize-2.new.self.items _ _ blank_info (omega (arith, shaped.infos, shaped.nodes)) c.in_ok-resize-2.ensures.items s ∙ ap (λ xs. info_at xs s) c.reserve-2.ensures.items;
-      records = λ b. grown_same c.reserve-3.new.self.items c.resize-3.new.self.items _ _ blank_block (omega arith) c.in_ok-resize-3.ensures.items b ∙ ap (λ xs. block_at xs b) c.reserve-3.ensures.items;
-      heads = cases_list _ refl refl refl;
-      active = refl;
-      max_trial = refl;
-      reject = refl;
-    }
+    let old = places_of c.args.self.now in
+    let all = doubled_within old c.args.slots c.requires.sound.shaped c.requires.sound.doubled c.requires.limit c.requires.below (λ below. absurd (omega arith)) in
+    let blocks = c.len-blocks.result in
+    let fits : 256 * (2 * blocks) ≤ c.args.slots = omega (arith, all) in
+    let same = on_err_weaker c.grow.result (λ (kept : places_of c.grow.new.self ≡ old). omega (arith, ap (λ (p : PlaceFields). length p.blocks.records) kept)) c.grow.ensures.err in
+    within_both c.grow.result (length c.grow.new.self.blocks.records.items) blocks c.args.slots c.grow.ensures.len same fits

@@ -22,7 +22,7 @@ pub loop-label-preserved : goal.loop-label-preserved
 loop-label-preserved g c =
     let i = c.loop-label.invariant in let k = c.args.key.now in let n = c.loop-label.label-index in
     let w = c.in_ok-node.ensures.answer i.2.0 i.2.1 in
-    (omega (arith, i.0, c.follow.ensures.cost), w.0, (_, w.1, i.2.2 ∙ step_down i.2.0 k n (get_or k n 0) c.loop-label-test.true refl))
+    (omega (arith, i.0, c.in_ok-node.ensures.found), w.0, (_, w.1, i.2.2 ∙ step_down i.2.0 k n (get_or k n 0) c.loop-label-test.true refl))
 
 pub returns-in_err-value-clause-answer : goal.returns-in_err-value-clause-answer
 returns-in_err-value-clause-answer g c =

@@ -9,5 +9,5 @@ use Rattle.cedar_table.proofs.table.Table.exact_match_search_counted.Given as go
 -- the node stands for what the labels so far lead to, after one comparison for each
 abbrev pub invariant-loop-label : goal.invariant-loop-label
 invariant-loop-label g l =
-    (l.ticks ≤ l.initial.ticks + l.label-index) × (l.node < size_of (fields l.self))
+    (l.ticks ≡ l.initial.ticks + l.label-index) × (l.node < size_of (fields l.self))
     × ((u : Tree) × Stands (size_of (fields l.self)) (cells l.self) l.node u × (number_at (tree_of (fields l.self)) l.key ≡ number_at u (drop l.label-index l.key)))

@@ -20,6 +20,7 @@ pub returns-in_default : goal.returns-in_default
 returns-in_default g c = record {
   answer = λ t k. unbased _ _ c.args.node t k (λ b e. c.in_default.not-AtBase b (c.stored_at_node.ensures ∙ e)) c.args.label;
   cost = omega arith;
+  found = search rules;
 }
 
 pub belongs-requires : goal.belongs-requires

@@ -1,4 +1,4 @@
-use Rattle.std.proofs.Common.{◌≡◌, arith, get_or, length, rules}
+use Rattle.std.proofs.Common.{◌≡◌, arith, get_or, inl, inr, length, rules}
 use Rattle.cedar_table.specs.Table.Views.{cells, fields}
 use Rattle.cedar_meaning.specs.Table.TableFields.{size_of}
 use Rattle.cedar_meaning.proofs.RelocationLemmas.PlacesFirst.{one_place}
@@ -19,3 +19,9 @@ returns-clause-blocks g c = searched_blocks (fields c.args.self.now) (fields c.f
 
 pub returns-in_err-slot-clause-blocks : goal.returns-in_err-slot-clause-blocks
 returns-in_err-slot-clause-blocks g c = (0, omega arith, made_nothing (fields c.args.self.now) (fields c.find_place.new.self) c.in_err-slot.ensures.unchanged)
+
+pub returns-then-labels-eq1-clause-single : goal.returns-then-labels-eq1-clause-single
+returns-then-labels-eq1-clause-single g c = λ one. elim c.in_ok-slot.ensures.made [
+  | inl same ↦ inl (tt, made_nothing (fields c.args.self.now) (fields c.find_place.new.self) same)
+  | inr added ↦ inr added.0
+]

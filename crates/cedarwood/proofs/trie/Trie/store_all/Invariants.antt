@@ -1,5 +1,5 @@
 use Rattle.std.proofs.Common.{drop, map, Result}
-use Rattle.cedar_error.specs.declared.error.CedarError.{CedarError}
+use Rattle.cedarwood.specs.declared.error.CedarError.{CedarError}
 use Rattle.cedarwood.specs.Builds.{IsBuild}
 use Rattle.cedarwood.specs.Dictionary.{Dictionary}
 use Rattle.cedarwood.proofs.trie.Trie.store_all.Given as goal

@@ -1,6 +1,6 @@
 use Rattle.std.proofs.Common.{rules, ℤ, Ok, Err, Result, subst, w32, FitsSigned}
 use Rattle.std.proofs.lemmas.Int.{to_z-of_z}
-use Rattle.cedar_error.specs.declared.error.CedarError.{CedarError}
+use Rattle.cedarwood.specs.declared.error.CedarError.{CedarError}
 use Rattle.cedarwood.specs.Updates.{IsUpdate}
 use Rattle.cedarwood.proofs.trie.Trie.update_bytes.Goals as goal
 
@@ -10,7 +10,7 @@ returns-in-Ok g c =
     let r : Result (Unit {0}) CedarError = Ok tt in
     let u = subst (λ (v : ℤ). IsUpdate g.L.Layout.kind g.row.SLOTS c.args.self.now c.insert_bytes.new.self c.args.key.now v r) (to_z-of_z w32 c.args.value fits) c.in-Ok.ensures.updated in record {
       faulty = u.faulty;
-      unmoved = u.unmoved;
+      unchanged = u.unchanged;
       ok = u.ok;
       err = u.err;
       marks = u.marks;
@@ -33,7 +33,7 @@ returns-in-Err g c =
     let r : Result (Unit {0}) CedarError = Err c.in-Err.error in
     let u = subst (λ (v : ℤ). IsUpdate g.L.Layout.kind g.row.SLOTS c.args.self.now c.insert_bytes.new.self c.args.key.now v r) (to_z-of_z w32 c.args.value fits) c.in-Err.ensures.updated in record {
       faulty = u.faulty;
-      unmoved = u.unmoved;
+      unchanged = u.unchanged;
       ok = u.ok;
       err = u.err;
       marks = u.marks;

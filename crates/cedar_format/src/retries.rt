@@ -1,0 +1,134 @@
+//! Reads and writes of a watched device: single ones, and those of whole buffers, which try again what was interrupted.
+//!
+//! The flags of `Watched` are out of reach here. So they are set only by a call of the device that answered a fault.
+
+ghost use Rattle.std.specs.Prelude.{◌≡◌, ◌≢◌, ◌||◌, true, false, length, is_err, IfErr, OnOk, OnErr};
+ghost use Rattle.std.specs.Io.KnownBytes.{Appends, Consumes, Keeps, ReadConsumes, WriteAppends};
+ghost use Rattle.std.specs.Io.{ReadsAtMost, WritesAtMost};
+ghost use Rattle.std.specs.IoError.{error_kind};
+ghost use Rattle.cedar_format.specs.Reading.{EndsWithin};
+ghost use Rattle.cedar_format.specs.WatchedDevice.{device_of, has_failed, is_broken, is_write_fault};
+
+use crate::error::CedarPersistenceError;
+use crate::source::{Source, fault_of};
+use crate::watched::Watched;
+use std::io;
+use std::io::{ErrorKind, Read, Write};
+
+impl<R: Read> Read for Watched<R> {
+    ghost remaining = { λ w. R.remaining (device_of w) };
+
+    fn read(&mut self, buf: &mut [u8]) -> io::Result<usize>
+        ensures bound { ReadsAtMost result buf.new }
+        ensures bytes { ReadConsumes (R.remaining (device_of self.old)) (R.remaining (device_of self.new)) result buf.new }
+        ensures failed { has_failed self.new ≡ (has_failed self.old || is_err result) }
+        ensures whole { OnOk result (is_broken self.new ≡ is_broken self.old) }
+        ensures interrupted { IfErr result (λ e. error_kind e ≡ ErrorKind.Interrupted → is_broken self.new ≡ is_broken self.old) }
+        ensures early { IfErr result (λ e. error_kind e ≡ ErrorKind.UnexpectedEof → is_broken self.new ≡ is_broken self.old) }
+        ensures broken { IfErr result (λ e. error_kind e ≢ ErrorKind.Interrupted → error_kind e ≢ ErrorKind.UnexpectedEof → is_broken self.new ≡ true) }
+    {
+        self.read_once(buf)
+    }
+
+    // An interrupted read is tried again; it counts as a fault all the same, but not as one that broke off.
+    fn read_exact(&mut self, buf: &mut [u8]) -> io::Result<()>
+        ensures bytes { OnOk result (Consumes (R.remaining (device_of self.old)) (R.remaining (device_of self.new)) buf.new) }
+        ensures ended { OnErr result (has_failed self.new ≡ false → EndsWithin (R.remaining (device_of self.old)) (length buf.old)) }
+        ensures kind { IfErr result (λ e. has_failed self.new ≡ false → error_kind e ≡ ErrorKind.UnexpectedEof) }
+        ensures failed { has_failed self.old ≡ true → has_failed self.new ≡ true }
+        ensures whole { OnOk result (is_broken self.new ≡ is_broken self.old) }
+        ensures early { IfErr result (λ e. error_kind e ≡ ErrorKind.UnexpectedEof → is_broken self.new ≡ is_broken self.old) }
+        ensures broken { IfErr result (λ e. error_kind e ≢ ErrorKind.Interrupted → error_kind e ≢ ErrorKind.UnexpectedEof → is_broken self.new ≡ true) }
+    {
+        let mut filled = 0;
+        let mut tries = u64::MAX;
+        while filled < buf.len() {
+            match self.read_once(&mut buf[filled..]) {
+                Ok(0) => return Err(io::Error::from(ErrorKind::UnexpectedEof)),
+                Ok(count) => filled += count,
+                Err(error) => {
+                    if error.kind() != ErrorKind::Interrupted || tries == 0 {
+                        return Err(error);
+                    }
+                    tries -= 1;
+                }
+            }
+        }
+        Ok(())
+    }
+}
+
+impl<R: Read> Source for Watched<R> {
+    ghost remaining = { λ w. R.remaining (device_of w) };
+
+    ghost failed = { has_failed };
+
+    ghost broken = { is_broken };
+
+    fn fill(&mut self, buf: &mut [u8]) -> Result<(), CedarPersistenceError> {
+        match self.read_exact(buf) {
+            Ok(()) => Ok(()),
+            Err(error) => Err(fault_of(error)),
+        }
+    }
+
+    fn read_available(&mut self, buf: &mut [u8]) -> (usize, Option<io::Error>) {
+        let mut filled = 0;
+        let mut tries = u64::MAX;
+        while filled < buf.len() {
+            match self.read_once(&mut buf[filled..]) {
+                Ok(0) => return (filled, None),
+                Ok(count) => filled += count,
+                Err(error) => {
+                    if error.kind() != ErrorKind::Interrupted || tries == 0 {
+                        return (filled, Some(error));
+                    }
+                    tries -= 1;
+                }
+            }
+        }
+        (filled, None)
+    }
+}
+
+impl<W: Write> Write for Watched<W> {
+    ghost contents = { λ w. W.contents (device_of w) };
+
+    fn write(&mut self, buf: &[u8]) -> io::Result<usize>
+        ensures bound { WritesAtMost result buf.now }
+        ensures bytes { WriteAppends (W.contents (device_of self.old)) (W.contents (device_of self.new)) result buf.now }
+        ensures failed { has_failed self.new ≡ (has_failed self.old || is_write_fault result buf.now) }
+    {
+        self.write_once(buf)
+    }
+
+    fn flush(&mut self) -> io::Result<()>
+        ensures bytes { Keeps (W.contents (device_of self.old)) (W.contents (device_of self.new)) }
+        ensures failed { has_failed self.new ≡ (has_failed self.old || is_err result) }
+    {
+        self.flush_once()
+    }
+
+    // A write that was interrupted is tried again; it counts as a fault all the same.
+    fn write_all(&mut self, buf: &[u8]) -> io::Result<()>
+        ensures bytes { OnOk result (Appends (W.contents (device_of self.old)) (W.contents (device_of self.new)) buf.now) }
+        ensures err { OnErr result (has_failed self.new ≡ true) }
+        ensures failed { has_failed self.old ≡ true → has_failed self.new ≡ true }
+    {
+        let mut rest = buf;
+        let mut tries = u64::MAX;
+        while !rest.is_empty() {
+            match self.write_once(rest) {
+                Ok(0) => return Err(io::Error::from(ErrorKind::WriteZero)),
+                Ok(count) => rest = &rest[count..],
+                Err(error) => {
+                    if error.kind() != ErrorKind::Interrupted || tries == 0 {
+                        return Err(error);
+                    }
+                    tries -= 1;
+                }
+            }
+        }
+        Ok(())
+    }
+}

@@ -1,0 +1,61 @@
+//! Room for blocks that are still to come into use.
+
+ghost use Rattle.std.specs.Prelude.{◌≡◌, ◌<◌, ◌≤◌, ◌+◌, ◌*◌, ◌^◌, IfErr, length, OnErr, OnOk};
+ghost use Rattle.cedar_meaning.specs.Edit.Steps.{blocks_after};
+
+use crate::table::Table;
+use cedar_meaning::Layout;
+use cedar_slots::{BLOCK_SIZE, Shortage};
+use std::alloc::Allocator;
+
+/// How many blocks a table of `blocks` has once `more` than the `active` ones are in use: it doubles until they have room.
+fn doubled_for(blocks: usize, active: usize, more: usize) -> usize
+    requires some { 0 < blocks }
+    requires active { active ≤ blocks }
+    requires fits { active + more ≤ 2 ^ 22 }
+    ensures room { result ≡ blocks_after more active blocks }
+    ensures no_less { blocks ≤ result }
+{
+    let mut room = blocks;
+    while room < active + more {
+        room *= 2;
+    }
+    room
+}
+
+impl<L: Layout, const SLOTS: usize, A: Allocator> Table<L, SLOTS, A> {
+    ghost use Rattle.cedar_meaning.specs.Meaning.Marks.{marks};
+    ghost use Rattle.cedar_meaning.specs.Meaning.WellFormed.{IsWellFormed, tree_of};
+    ghost use Rattle.cedar_meaning.specs.Table.TableFields.{capacity_of, SameSettings, size_of};
+    ghost use Rattle.cedar_slots.specs.Places.{Grown};
+    ghost use Rattle.cedar_table.specs.Table.Room.{LacksRoom};
+    ghost use Rattle.cedar_table.specs.Table.Views.{cells, fields};
+
+    /// Asks for the memory of `blocks` blocks more than are in use. The table doubles until they have room, as it would if they came
+    /// into use one after another; where they have room, nothing is asked for.
+    pub fn try_reserve(&mut self, blocks: usize) -> Result<(), Shortage>
+        requires { IsWellFormed SLOTS (fields self.old) }
+        ensures well_formed { IsWellFormed SLOTS (fields self.new) }
+        ensures grown { Grown (fields self.old).places (fields self.new).places }
+        ensures cells { cells self.new ≡ cells self.old }
+        ensures tree { tree_of (fields self.new) ≡ tree_of (fields self.old) }
+        ensures marks { marks (fields self.new) ≡ marks (fields self.old) }
+        ensures settings { SameSettings (fields self.old) (fields self.new) }
+        ensures capacity { OnOk result (length (fields self.new).places.blocks.records ≡ blocks_after blocks (fields self.old).places.blocks.active (length (fields self.old).places.blocks.records)) }
+        ensures spare { OnOk result (size_of (fields self.new) + 256 * blocks ≤ capacity_of (fields self.new)) }
+        ensures enough { size_of (fields self.old) + 256 * blocks ≤ capacity_of (fields self.old) → fields self.new ≡ fields self.old }
+        ensures refused { IfErr result (LacksRoom (fields self.old) SLOTS blocks) }
+        ensures unchanged { OnErr result (fields self.new ≡ fields self.old) }
+    {
+        if blocks <= self.spare_blocks() {
+            return Ok(());
+        }
+        let active = self.places.blocks.active;
+        if blocks > SLOTS / BLOCK_SIZE - active {
+            return Err(Shortage::SlotLimit);
+        }
+        let room = doubled_for(self.places.blocks.records.len(), active, blocks);
+        self.places.grow(room)?;
+        Ok(())
+    }
+}

@@ -1,0 +1,71 @@
+-- What a table's room for more blocks says of the dictionary.
+use Rattle.std.proofs.Common.{◌≡◌, ℕ, ◌+◌, ◌*◌, ◌-◌, ◌<◌, ◌≤◌, length, refl, ap, sym, subst, ◌∙◌, arith}
+use Rattle.cedar_tree.specs.State.{State}
+use Rattle.cedar_meaning.specs.Edit.Steps.{blocks_after}
+use Rattle.cedar_meaning.specs.Meaning.Marks.{marks}
+use Rattle.cedar_meaning.specs.Meaning.WellFormed.{IsWellFormed, tree_of}
+use Rattle.cedar_meaning.specs.Table.TableFields.{Fields, capacity_of, size_of}
+use Rattle.cedar_slots.specs.declared.shortage.Shortage.{Shortage}
+use Rattle.cedar_slots.specs.declared.shortage.Shortage.TheVariants as shortage
+use Rattle.cedar_table.specs.Table.Room as table
+use Rattle.cedarwood.specs.declared.error.CedarError.TheVariants.{SlotLimit}
+use Rattle.cedarwood.specs.Dictionary.{Dictionary, capacity_after}
+use Rattle.cedarwood.specs.Room.{LacksRoom}
+use Rattle.cedarwood.specs.Told.{told}
+use Rattle.cedarwood.proofs.GrowthLemmas.{capacity_by_blocks, dictionary_of}
+
+module _ (slots n : ℕ) (T T' : Fields) (d : Dictionary) (same : dictionary_of T ≡ d) where
+  pub size_seen : d.size ≡ size_of T
+  size_seen = ap (λ (x : Dictionary). x.size) (sym same)
+
+  pub capacity_seen : d.capacity ≡ capacity_of T
+  capacity_seen = ap (λ (x : Dictionary). x.capacity) (sym same)
+
+  pub state_kept : tree_of T' ≡ tree_of T → T'.ordered ≡ T.ordered → ◌≡◌ {A = State} (record { tree = tree_of T'; ordered = T'.ordered }) d.state
+  state_kept tree ordered =
+      ap (λ t. record { tree = t; ordered = T'.ordered }) tree
+      ∙ ap (λ o. record { tree = tree_of T; ordered = o }) ordered
+      ∙ ap (λ (x : Dictionary). x.state) same
+
+  pub marks_kept : marks T' ≡ marks T → marks T' ≡ d.marked
+  marks_kept kept = kept ∙ ap (λ (x : Dictionary). x.marked) same
+
+  pub capacity_then : length T'.places.blocks.records ≡ blocks_after n T.places.blocks.active (length T.places.blocks.records) → capacity_of T' ≡ capacity_after n d.size d.capacity
+  capacity_then grown =
+      ap (λ b. 256 * b) grown
+      ∙ sym (capacity_by_blocks n T.places.blocks.active (length T.places.blocks.records))
+      ∙ ap (λ (x : Dictionary). capacity_after n x.size x.capacity) same
+
+  pub all_kept : T' ≡ T → dictionary_of T' ≡ d
+  all_kept kept = ap dictionary_of kept ∙ same
+
+  pub has_room : IsWellFormed slots T → 256 * n ≤ d.capacity - d.size → size_of T + 256 * n ≤ capacity_of T
+  has_room well room =
+      let there : 256 * n ≤ capacity_of T - size_of T = subst (λ (x : Dictionary). 256 * n ≤ x.capacity - x.size) (sym same) room in
+      omega (arith, well.table.sound.shaped.blocks.active_in)
+
+  pub lacks : (e : Shortage) → table.LacksRoom T slots n e → LacksRoom slots d n (told e)
+  lacks e h = subst (λ (x : Dictionary). LacksRoom slots x n (told e)) same (by_error e h)
+    where
+      by_error : (e : Shortage) → table.LacksRoom T slots n e → LacksRoom slots (dictionary_of T) n (told e)
+      by_error shortage.Memory h = h
+      by_error shortage.SlotLimit h = h
+
+  pub never_with_room : IsWellFormed slots T → (e : Shortage) → table.LacksRoom T slots n e → 256 * n ≤ d.capacity - d.size → ⊥
+  never_with_room well e h room = no_lack e h (has_room well room)
+    where
+      no_lack : (e : Shortage) → table.LacksRoom T slots n e → size_of T + 256 * n ≤ capacity_of T → ⊥
+      no_lack shortage.Memory h enough = absurd (omega (arith, h.0))
+      no_lack shortage.SlotLimit h enough = absurd (omega (arith, well.table.within))
+
+  pub limit_is_told : (e : Shortage) → table.LacksRoom T slots n e → slots < d.size + 256 * n → told e ≡ SlotLimit
+  limit_is_told e h past = which e h (subst (λ (x : Dictionary). slots < x.size + 256 * n) (sym same) past)
+    where
+      which : (e : Shortage) → table.LacksRoom T slots n e → slots < size_of T + 256 * n → told e ≡ SlotLimit
+      which shortage.Memory h past = absurd (omega (arith, h.1))
+      which shortage.SlotLimit h past = refl
+
+  pub limit_is_kept : IsWellFormed slots T' → size_of T' ≡ size_of T → size_of T' + 256 * n ≤ capacity_of T' → slots < d.size + 256 * n → ⊥
+  limit_is_kept well size spare past =
+      let beyond : slots < size_of T + 256 * n = subst (λ (x : Dictionary). slots < x.size + 256 * n) (sym same) past in
+      absurd (omega (arith, well.table.within))

@@ -1,0 +1,12 @@
+-- Why a dictionary has no room for more blocks.
+use Rattle.std.specs.Prelude.{ℕ, ◌+◌, ◌*◌, ◌<◌, ◌≤◌}
+use Rattle.cedarwood.specs.Dictionary.{Dictionary}
+use Rattle.cedarwood.specs.declared.error.CedarError.{CedarError}
+use Rattle.cedarwood.specs.declared.error.CedarError.TheVariants.{Memory, SlotLimit}
+
+-- what a dictionary that may have `slots` slots lacks where room for n more blocks is refused: memory only where the slots have to
+-- double and may, slots where there may not be so many, and nothing else
+abbrev pub LacksRoom : ℕ → Dictionary → ℕ → CedarError → Type 0
+LacksRoom slots d n Memory = (d.capacity < d.size + 256 * n) × (d.size + 256 * n ≤ slots)
+LacksRoom slots d n SlotLimit = slots < d.size + 256 * n
+LacksRoom slots d n _ = ⊥

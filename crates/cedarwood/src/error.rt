@@ -1,0 +1,63 @@
+//! Why a call on a dictionary is refused.
+
+ghost use Rattle.std.specs.Prelude.{◌≡◌};
+ghost use Rattle.cedarwood.specs.declared.error.CedarError.TheVariants.{Memory};
+ghost use Rattle.cedarwood.specs.Told.{told};
+
+use cedar_slots::Shortage;
+use std::alloc::AllocError;
+
+/// Why a call on a dictionary was refused. After a refusal the dictionary holds what it held; only a build
+/// of many pairs has stored those before the refused one.
+#[non_exhaustive]
+#[derive(Clone, Debug, Drop, PartialEq, Eq)]
+pub enum CedarError {
+    /// A key to store has no byte.
+    EmptyKey,
+    /// A key to store holds byte 0.
+    NulByte {
+        /// Where the first one stands, counted in bytes from 0.
+        position: usize,
+    },
+    /// A value to store is below 0 or above 2147483645.
+    InvalidValue {
+        value: i32,
+    },
+    /// A setting of how often a block may fail to fit a set of labels is 0 or less.
+    InvalidMaxTrial {
+        value: i32,
+    },
+    /// A sorted input repeats a key.
+    DuplicateKey {
+        /// The place of the second of the two, counted from 0.
+        index: usize,
+    },
+    /// A sorted input isn't sorted.
+    KeysNotSorted {
+        /// The place of the smaller key, counted from 0.
+        index: usize,
+    },
+    /// A request for memory was refused.
+    Memory,
+    /// No slot is left, and the limit of slots allows no further block of them.
+    SlotLimit,
+}
+
+impl From<AllocError> for CedarError {
+    ghost from_gives = { λ _ error. error ≡ Memory };
+
+    fn from(_: AllocError) -> CedarError {
+        CedarError::Memory
+    }
+}
+
+impl From<Shortage> for CedarError {
+    ghost from_gives = { λ shortage error. error ≡ told shortage };
+
+    fn from(shortage: Shortage) -> CedarError {
+        match shortage {
+            Shortage::Memory => CedarError::Memory,
+            Shortage::SlotLimit => CedarError::SlotLimit,
+        }
+    }
+}

@@ -1,0 +1,45 @@
+//! Memory asked for ahead, so that updates needn't ask for it.
+
+use crate::{CedarError, Layout, Trie};
+use std::alloc::Allocator;
+
+impl<L: Layout, const SLOTS: usize, A: Allocator> Trie<L, SLOTS, A> {
+    ghost use Rattle.std.specs.Prelude.{◌≡◌, ◌+◌, ◌-◌, ◌*◌, ◌<◌, ◌≤◌, Err, IfErr, IsOk, OnErr, OnOk};
+    ghost use Rattle.cedarwood.specs.Dictionary.{capacity_after};
+    ghost use Rattle.cedarwood.specs.Room.{LacksRoom};
+
+    /// Asks for the memory of `blocks` blocks more than are in use, so that an update of a key of as many bytes, or of several keys of
+    /// as many bytes together, can't be refused. The slots double until there is room, as they would if these blocks came into use
+    /// one after another; while `spare_blocks()` is at least `blocks`, nothing changes.
+    ///
+    /// ```
+    /// cedar.try_reserve(3)?;
+    /// assert_eq!(rt; (cedar.spare_blocks(), cedar.node_capacity()), (3, 1024));
+    /// ```
+    ///
+    /// # Errors
+    /// `SlotLimit` where the limit of slots doesn't allow so many blocks, else `Memory` where a request was refused. After an error
+    /// nothing has changed.
+    pub fn try_reserve(&mut self, blocks: usize) -> Result<(), CedarError>
+        ensures state { self.new.state ≡ self.old.state }
+        ensures marked { self.new.marked ≡ self.old.marked }
+        ensures max_trial { self.new.max_trial ≡ self.old.max_trial }
+        ensures size { self.new.size ≡ self.old.size }
+        ensures capacity { OnOk result (self.new.capacity ≡ capacity_after blocks self.old.size self.old.capacity) }
+        ensures spare { OnOk result (256 * blocks ≤ self.new.capacity - self.new.size) }
+
+        // Where they are spare already.
+        ensures enough { 256 * blocks ≤ self.old.capacity - self.old.size → self.new ≡ self.old }
+        ensures asks_nothing { 256 * blocks ≤ self.old.capacity - self.old.size → IsOk result }
+
+        // Slots are wanted just where there may not be so many, memory only where there may.
+        ensures limit { SLOTS < self.old.size + 256 * blocks → result ≡ Err CedarError.SlotLimit }
+        ensures refused { IfErr result (LacksRoom SLOTS self.old blocks) }
+        ensures unchanged { OnErr result (self.new ≡ self.old) }
+    {
+        match self.table.try_reserve(blocks) {
+            Ok(()) => Ok(()),
+            Err(shortage) => Err(CedarError::from(shortage)),
+        }
+    }
+}
