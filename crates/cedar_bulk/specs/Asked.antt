@@ -2,12 +2,12 @@
 use Rattle.std.specs.Prelude.{◌≡◌, ◌≢◌, ◌<◌, ◌≤◌, ℕ, ℤ, List, length, Option, Some, None, true}
 use Rattle.cedar_tree.specs.Tree.{Forest}
 use Rattle.cedar_slots.specs.Places.{IsTable}
-use Rattle.cedar_meaning.specs.declared.layout.Stored.TheVariants.{AtBase}
-use Rattle.cedar_meaning.specs.Table.Cells.{Held}
-use Rattle.cedar_meaning.specs.Table.TableFields.{Fields, size_of}
-use Rattle.cedar_meaning.specs.Edit.NodeEdits.{Above, IsNodeOf}
-use Rattle.cedar_meaning.specs.Meaning.Family.{Among, base_of, below, InRange}
-use Rattle.cedar_meaning.specs.Meaning.WellFormed.{cells_in}
+use Rattle.cedar_model.specs.declared.layout.Stored.TheVariants.{AtBase}
+use Rattle.cedar_model.specs.Table.Cells.{Held}
+use Rattle.cedar_model.specs.Table.TableFields.{Fields, size_of}
+use Rattle.cedar_model.specs.Edit.NodeEdits.{Above, IsNodeOf}
+use Rattle.cedar_model.specs.Meaning.Family.{Among, base_of, below, InRange}
+use Rattle.cedar_model.specs.Meaning.WellFormed.{cells_in}
 use Rattle.cedar_bulk.specs.Sorted.{Ends, IsBareNode, IsChildless, with_number}
 
 -- the node s has neither number nor label, nor a base

@@ -4,12 +4,12 @@ use Rattle.std.specs.Borrow.{Bor}
 use Rattle.cedar_tree.specs.Tree.{Forest, none, child, empty_tree, IsAscending}
 use Rattle.cedar_tree.specs.Queries.{Entry, node_at}
 use Rattle.cedar_tree.specs.Edits.{edit_at}
-use Rattle.cedar_meaning.specs.declared.layout.Stored.TheVariants.{AtBase}
-use Rattle.cedar_meaning.specs.Table.Cells.{Cells, Held}
-use Rattle.cedar_meaning.specs.Edit.NodeEdits.{GoesBehind, GoesFirst, IsAt, IsNodeOf}
-use Rattle.cedar_meaning.specs.Meaning.Family.{Among, below, InRange}
-use Rattle.cedar_meaning.specs.Meaning.StandsFor.{HoldsTree}
-use Rattle.cedar_meaning.specs.Edit.Steps.{root_of}
+use Rattle.cedar_model.specs.declared.layout.Stored.TheVariants.{AtBase}
+use Rattle.cedar_model.specs.Table.Cells.{Cells, Held}
+use Rattle.cedar_model.specs.Edit.NodeEdits.{GoesBehind, GoesFirst, IsAt, IsNodeOf}
+use Rattle.cedar_model.specs.Meaning.Family.{Among, below, InRange}
+use Rattle.cedar_model.specs.Meaning.StandsFor.{HoldsTree}
+use Rattle.cedar_model.specs.Edit.Steps.{root_of}
 
 -- ---- pairs
 

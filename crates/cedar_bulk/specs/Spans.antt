@@ -3,18 +3,18 @@ use Rattle.std.specs.Prelude.{◌≡◌, ◌⊎◌, ℕ, ◌+◌, ◌≤◌, ◌
 use Rattle.cedar_tree.specs.Tree.{AllNumbers, Forest, none, child, Tree, is_bare, IsAscending, IsSoundBelow}
 use Rattle.cedar_tree.specs.Queries.{Entry, prefixes_forest, walk, walk_forest}
 use Rattle.cedar_tree.specs.Edits.{edit_at}
-use Rattle.cedar_meaning.specs.declared.layout.Stored.TheVariants.{AtBase}
+use Rattle.cedar_model.specs.declared.layout.Stored.TheVariants.{AtBase}
 use Rattle.cedar_bulk.specs.declared.spans.Span.{Span}
-use Rattle.cedar_meaning.specs.Table.Cells.{Cells}
-use Rattle.cedar_meaning.specs.Edit.NodeEdits.{IsAt}
-use Rattle.cedar_meaning.specs.Meaning.Family.{Among}
+use Rattle.cedar_model.specs.Table.Cells.{Cells}
+use Rattle.cedar_model.specs.Edit.NodeEdits.{IsAt}
+use Rattle.cedar_model.specs.Meaning.Family.{Among}
 use Rattle.cedar_slots.specs.Places.{IsTable}
-use Rattle.cedar_meaning.specs.Meaning.StandsFor.{HoldsTree}
+use Rattle.cedar_model.specs.Meaning.StandsFor.{HoldsTree}
 use Rattle.cedar_bulk.specs.Sorted.{entries_by, label_of, run}
 use Rattle.cedar_bulk.specs.SortedMarks.{KeepsLast}
-use Rattle.cedar_meaning.specs.Table.Layouts.{reduced_layout}
-use Rattle.cedar_meaning.specs.Table.TableFields.{Fields, size_of}
-use Rattle.cedar_meaning.specs.Meaning.WellFormed.{cells_in, is_value}
+use Rattle.cedar_model.specs.Table.Layouts.{reduced_layout}
+use Rattle.cedar_model.specs.Table.TableFields.{Fields, size_of}
+use Rattle.cedar_model.specs.Meaning.WellFormed.{cells_in, is_value}
 
 -- what a span says: the slot of a node, how many bytes lead to it, and the entries whose keys begin with these
 pub record Part : Type 0 where

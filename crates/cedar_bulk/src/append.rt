@@ -3,15 +3,15 @@
 ghost use Rattle.std.specs.Prelude.{◌≡◌, ◌⊎◌, ℕ, List, ◌++◌, [], ◌∷◌, bit_xor, pos, true};
 ghost use Rattle.cedar_tree.specs.Tree.{Forest, IsAscending, none};
 ghost use Rattle.cedar_tree.specs.Edits.{add_leaf, edit_at};
-ghost use Rattle.cedar_meaning.specs.declared.layout.Stored.TheVariants.{AtBase};
-ghost use Rattle.cedar_meaning.specs.Table.Cells.{Held};
-ghost use Rattle.cedar_meaning.specs.Edit.NodeEdits.{IsAt};
-ghost use Rattle.cedar_meaning.specs.Meaning.Family.{below};
-ghost use Rattle.cedar_meaning.specs.Meaning.StandsFor.{HoldsTree};
+ghost use Rattle.cedar_model.specs.declared.layout.Stored.TheVariants.{AtBase};
+ghost use Rattle.cedar_model.specs.Table.Cells.{Held};
+ghost use Rattle.cedar_model.specs.Edit.NodeEdits.{IsAt};
+ghost use Rattle.cedar_model.specs.Meaning.Family.{below};
+ghost use Rattle.cedar_model.specs.Meaning.StandsFor.{HoldsTree};
 ghost use Rattle.cedar_slots.specs.Places.{IsTable};
 ghost use Rattle.cedar_bulk.specs.Sorted.{GetsLabels};
 ghost use Rattle.cedar_table.specs.Table.Views.{cells, fields};
-ghost use Rattle.cedar_meaning.specs.Table.TableFields.{capacity_of, SameFrame, SameSettings, size_of};
+ghost use Rattle.cedar_model.specs.Table.TableFields.{capacity_of, SameFrame, SameSettings, size_of};
 ghost use Rattle.cedar_bulk.specs.Asked.{WantsLabel, WantsLabels};
 
 use cedar_table::{Layout, Table};

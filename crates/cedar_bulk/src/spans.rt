@@ -2,7 +2,7 @@
 
 ghost use Rattle.std.specs.Prelude.{◌≡◌, ◌↔◌, ◌<◌, ◌≤◌, ◌+◌, ◌++◌, ℕ, List, [], drop, get_or, IsTrue, length, map, OnOk, take};
 ghost use Rattle.cedar_tree.specs.Tree.{Forest, none, Tree};
-ghost use Rattle.cedar_meaning.specs.Meaning.StandsFor.{labels};
+ghost use Rattle.cedar_model.specs.Meaning.StandsFor.{labels};
 ghost use Rattle.cedar_bulk.specs.Sorted.{entries_by, run, with_number};
 ghost use Rattle.cedar_bulk.specs.Spans.{based_at, Covers, first_label, first_number, IsAlike, IsDeeper, IsTreeOfSpan, Lists, Part, parts_of};
 

@@ -1,8 +1,8 @@
 -- What a load tells of a file.
 use Rattle.std.proofs.Common.{arith, ◌≡◌, ◌≢◌, ℕ, inl, inr, List, [], ◌∷◌, take, Option, None, Some, IfSome, MatchOption, Ok, Err, refl, ap, sym, subst, ◌∙◌}
 use Rattle.std.specs.Prelude.{◌⊎◌}
-use Rattle.cedar_meaning.specs.Table.Layouts.{LayoutKind, layout_byte}
-use Rattle.cedar_meaning.specs.Table.TableFields.{Fields}
+use Rattle.cedar_model.specs.Table.Layouts.{LayoutKind, layout_byte}
+use Rattle.cedar_model.specs.Table.TableFields.{Fields}
 use Rattle.cedar_format.specs.declared.error.CedarPersistenceError.{CedarPersistenceError}
 use Rattle.cedar_format.specs.declared.error.CedarPersistenceError.TheVariants as errors
 use Rattle.cedar_format.specs.Format.{body_refusal, header_answer, header_at, header_refusal, size_refusal, trial_refusal}

@@ -1,6 +1,6 @@
 -- What a file's bytes are of, and the numbers that a refused one is answered by.
 use Rattle.std.specs.Prelude.{◌≡◌, ◌⊎◌, ℕ, Bool, true, false, List, [], ◌∷◌, take, Option}
-use Rattle.cedar_meaning.specs.Table.TableFields.{Fields}
+use Rattle.cedar_model.specs.Table.TableFields.{Fields}
 use Rattle.cedar_format.specs.Format.{header_at, header_refusal, size_refusal}
 use Rattle.cedar_format.specs.Tables.{IsTableFile}
 use Rattle.cedar_format.specs.Refusal.{Refusal, first_refusal, Truncated, InvalidMagic, UnsupportedVersion, UnsupportedByteOrder, LayoutMismatch, InvalidHeader, AllocationLimitExceeded, AllocationFailed, CorruptData, TrailingData, Failed}

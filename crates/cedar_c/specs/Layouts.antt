@@ -2,7 +2,7 @@
 use Rattle.std.specs.Prelude.{◌≡◌, Bool, true, false}
 use Rattle.std.specs.Coded.{Coded, code_by, coded×, coded_bool}
 use Rattle.std.proofs.Common.{refl}
-use Rattle.cedar_meaning.specs.Table.Layouts.{LayoutKind, default_layout, reduced_layout}
+use Rattle.cedar_model.specs.Table.Layouts.{LayoutKind, default_layout, reduced_layout}
 use Rattle.cedarwood.specs.Dictionary.{Dictionary, dictionary_code}
 use Rattle.cedar_c.specs.declared.any.AnyCedar.{AnyCedar}
 use Rattle.cedar_c.specs.declared.any.AnyCedar.TheVariants.{Default, Reduced}

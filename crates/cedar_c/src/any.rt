@@ -1,7 +1,7 @@
 //! A dictionary of either layout: each call goes to the one that is there.
 
 ghost use Rattle.std.specs.Prelude.{◌≡◌, ◌↔◌, ◌+◌, ◌-◌, ◌/◌, IfOk, IfSome, IsSome, IsTrue, length};
-ghost use Rattle.cedar_meaning.specs.Table.Layouts.{default_layout, reduced_layout};
+ghost use Rattle.cedar_model.specs.Table.Layouts.{default_layout, reduced_layout};
 ghost use Rattle.cedar_tree.specs.Queries.{prefixes, used, walk};
 ghost use Rattle.cedarwood.specs.Builds.{outcome};
 ghost use Rattle.cedarwood.specs.Fault.{fault};

@@ -4,7 +4,7 @@ ghost use Rattle.std.specs.Prelude.{◌≡◌, ◌⊎◌, ◌-◌, ◌*◌, ◌^
 ghost use Rattle.cedarwood.specs.Fault.{fault};
 ghost use Rattle.cedarwood.specs.State.{stored, erased};
 ghost use Rattle.cedarwood.specs.Tree.{empty_tree, number_at};
-ghost use Rattle.cedar_meaning.specs.Table.Layouts.{default_layout, reduced_layout};
+ghost use Rattle.cedar_model.specs.Table.Layouts.{default_layout, reduced_layout};
 ghost use Rattle.cedar_c.specs.Content.{content, layout_in, state_in, tree_in, trials_in, size_in, capacity_in};
 ghost use Rattle.cedar_c.specs.Layouts.{dictionary_in, layout_if, layout_of};
 ghost use Rattle.cedar_c.specs.Status.{status_of, position_of};

@@ -5,7 +5,7 @@ ghost use Rattle.cedar_format.specs.Format.{header_answer};
 ghost use Rattle.cedar_format.specs.Refusal.{refusal_of};
 ghost use Rattle.cedar_format.specs.Tables.{IsTableFile};
 ghost use Rattle.cedar_slots.specs.Places.{IsSlotLimit};
-ghost use Rattle.cedar_meaning.specs.Table.Layouts.{default_layout, layout_byte, reduced_layout};
+ghost use Rattle.cedar_model.specs.Table.Layouts.{default_layout, layout_byte, reduced_layout};
 ghost use Rattle.cedar_c.specs.Content.{content, layout_in};
 ghost use Rattle.cedar_c.specs.Files.{early_refusal, file_status, IsFileOf, IsOfNoTable, TellsHeader};
 ghost use Rattle.cedarwood.specs.OnTable.{IsOnTable};

@@ -8,9 +8,9 @@ use Rattle.cedar_tree.specs.Tree.{Tree, empty_tree, number_at}
 use Rattle.cedar_tree.specs.Queries.{asc, exact, front, predict}
 use Rattle.cedar_tree.specs.State.{State, erased, stored}
 use Rattle.cedar_bulk.specs.Sorted.{entries_of}
-use Rattle.cedar_meaning.specs.Meaning.WellFormed.{tree_of}
-use Rattle.cedar_meaning.specs.Table.Layouts.{LayoutKind, default_layout, layout_byte}
-use Rattle.cedar_meaning.specs.Table.TableFields.{Fields}
+use Rattle.cedar_model.specs.Meaning.WellFormed.{tree_of}
+use Rattle.cedar_model.specs.Table.Layouts.{LayoutKind, default_layout, layout_byte}
+use Rattle.cedar_model.specs.Table.TableFields.{Fields}
 use Rattle.cedar_format.specs.declared.error.CedarPersistenceError.{CedarPersistenceError}
 use Rattle.cedar_format.specs.declared.error.CedarPersistenceError.TheVariants as errors
 use Rattle.cedar_format.specs.declared.header.Header.{Header}

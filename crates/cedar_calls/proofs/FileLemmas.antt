@@ -4,9 +4,9 @@ use Rattle.std.specs.List.{slice_get}
 use Rattle.std.specs.Borrow.{Bor}
 use Rattle.std.specs.declared.result.Result.{Result}
 use Rattle.cedar_tree.specs.State.{State}
-use Rattle.cedar_meaning.specs.Meaning.WellFormed.{tree_of}
-use Rattle.cedar_meaning.specs.Table.Layouts.{LayoutKind}
-use Rattle.cedar_meaning.specs.Table.TableFields.{Fields}
+use Rattle.cedar_model.specs.Meaning.WellFormed.{tree_of}
+use Rattle.cedar_model.specs.Table.Layouts.{LayoutKind}
+use Rattle.cedar_model.specs.Table.TableFields.{Fields}
 use Rattle.cedar_format.specs.declared.error.CedarPersistenceError.{CedarPersistenceError}
 use Rattle.cedar_format.specs.Tables.{IsTableFile}
 use Rattle.cedar_format.proofs.OneTable.{one_formed_table}

@@ -11,7 +11,7 @@ use Rattle.cedar_tree.proofs.BuildLemmas.{number_at-asc}
 use Rattle.cedar_tree.proofs.TreeLemmas.{number_at-empty}
 use Rattle.cedarwood.specs.declared.error.CedarError.{CedarError}
 use Rattle.cedar_bulk.specs.Sorted.{Pair, entries_of}
-use Rattle.cedar_meaning.specs.Table.Layouts.{LayoutKind}
+use Rattle.cedar_model.specs.Table.Layouts.{LayoutKind}
 use Rattle.cedar_format.specs.declared.error.CedarPersistenceError.{CedarPersistenceError}
 use Rattle.cedarwood.specs.declared.builder.CedarBuilder.{CedarBuilder}
 use Rattle.cedarwood.specs.Builds.{first_fault}

@@ -6,8 +6,8 @@ use Rattle.cedar_tree.specs.State.{erased}
 use Rattle.cedarwood.specs.declared.error.CedarError.{CedarError}
 use Rattle.cedarwood.specs.declared.error.CedarError.TheVariants.{Memory}
 use Rattle.cedar_bulk.specs.Sorted.{entries_of}
-use Rattle.cedar_meaning.specs.Meaning.Marks.{MarksCut}
-use Rattle.cedar_meaning.specs.Table.Layouts.{LayoutKind}
+use Rattle.cedar_model.specs.Meaning.Marks.{MarksCut}
+use Rattle.cedar_model.specs.Table.Layouts.{LayoutKind}
 use Rattle.cedarwood.specs.Builds.{all_stored, first_fault, outcome, IsBuild, IsRefusedBuild}
 use Rattle.cedarwood.specs.Dictionary.{Dictionary}
 use Rattle.cedarwood.specs.Updates.{IsUpdate}

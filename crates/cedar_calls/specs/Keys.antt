@@ -4,9 +4,9 @@ use Rattle.cedar_tree.specs.Tree.{number_at, IsSoundBelow}
 use Rattle.cedar_tree.specs.Queries.{is_path, last_at}
 use Rattle.cedar_tree.specs.State.{State}
 use Rattle.cedar_bulk.specs.Sorted.{entries_of}
-use Rattle.cedar_meaning.specs.Meaning.WellFormed.{tree_of}
-use Rattle.cedar_meaning.specs.Table.Layouts.{LayoutKind}
-use Rattle.cedar_meaning.specs.Table.TableFields.{Fields}
+use Rattle.cedar_model.specs.Meaning.WellFormed.{tree_of}
+use Rattle.cedar_model.specs.Table.Layouts.{LayoutKind}
+use Rattle.cedar_model.specs.Table.TableFields.{Fields}
 use Rattle.cedar_format.specs.Tables.{IsTableFile}
 use Rattle.cedarwood.specs.Builds.{first_fault}
 use Rattle.cedarwood.specs.Dictionary.{Dictionary}

@@ -6,7 +6,7 @@ use Rattle.cedarwood.specs.declared.error.CedarError.{CedarError}
 use Rattle.cedarwood.specs.declared.error.CedarError.TheVariants.{Memory, SlotLimit}
 use Rattle.cedar_bulk.specs.Sorted.{Pair, entries_of}
 use Rattle.cedar_bulk.specs.SortedMarks.{SortedMarks}
-use Rattle.cedar_meaning.specs.Table.Layouts.{LayoutKind}
+use Rattle.cedar_model.specs.Table.Layouts.{LayoutKind}
 use Rattle.cedar_format.specs.declared.error.CedarPersistenceError.{CedarPersistenceError}
 use Rattle.cedarwood.specs.declared.builder.CedarBuilder.{CedarBuilder}
 use Rattle.cedarwood.specs.Dictionary.{capacity_after, Dictionary}

@@ -4,7 +4,7 @@ use Rattle.std.specs.Str.{IsUtf8}
 use Rattle.cedar_tree.specs.Queries.{Entry, exact, front, predict, prefixes, used, walk}
 use Rattle.cedarwood.specs.declared.error.CedarError.{CedarError}
 use Rattle.cedarwood.specs.declared.error.CedarError.TheVariants.{Memory}
-use Rattle.cedar_meaning.specs.Table.Layouts.{LayoutKind, default_layout}
+use Rattle.cedar_model.specs.Table.Layouts.{LayoutKind, default_layout}
 use Rattle.cedar_walk.specs.Batch.{keys_of}
 use Rattle.cedar_format.specs.Tables.{IsTableFile}
 use Rattle.cedarwood.specs.Dictionary.{Dictionary}

@@ -1,6 +1,6 @@
 -- Calls one after another on any number of dictionaries: what each answers, and the dictionaries after it.
 use Rattle.std.specs.Prelude.{◌≡◌, ℕ, List, [], ◌∷◌, slice_get, slice_set, Some, None}
-use Rattle.cedar_meaning.specs.Table.Layouts.{LayoutKind}
+use Rattle.cedar_model.specs.Table.Layouts.{LayoutKind}
 use Rattle.cedarwood.specs.Dictionary.{Dictionary, IsValid}
 use Rattle.cedarwood.specs.OnTable.{IsOnTable}
 use Rattle.cedar_calls.specs.Making.{IsCopy, IsLoad, IsNew, IsSortedBuild, Makes}

@@ -2,7 +2,7 @@
 use Rattle.std.proofs.Common.{◌≡◌, ℕ, Bool, true, false, List, [], ◌∷◌, Option, Some, None, Bor, not, ◌&&◌, ap, refl, ◌∙◌}
 use Rattle.std.specs.Prelude.{MatchOption, Result, Ok, Err, OnOk, bytes_eq, codes, is_some, option_map}
 use Rattle.cedar_tree.specs.Tree.{Tree, empty_tree}
-use Rattle.cedar_meaning.specs.Table.Layouts.{LayoutKind, default_layout, reduced_layout}
+use Rattle.cedar_model.specs.Table.Layouts.{LayoutKind, default_layout, reduced_layout}
 use Rattle.cedarwood.specs.Dictionary.{Dictionary}
 use Rattle.cedar_cli.specs.Options.{Asked, BeginsWith, asked_besides, empty, in_reduced, in_v1_0, is_new, loading, saving, shown, unordered}
 use Rattle.cedar_cli.specs.declared.options.Options.{Options}

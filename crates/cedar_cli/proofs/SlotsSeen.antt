@@ -9,8 +9,8 @@ use Rattle.cedar_tree.specs.Queries.{IsFront, is_path, node_at, prefixes, used, 
 use Rattle.cedar_tree.proofs.BuildLemmas.{is_path_itself, same_path}
 use Rattle.cedar_tree.proofs.PrefixLemmas.{front_of_node, node_of_held}
 use Rattle.cedarwood.specs.declared.error.CedarError.{CedarError}
-use Rattle.cedar_meaning.specs.Meaning.Marks.{HasMark, IsProperFront, MarksCut, MarksPut}
-use Rattle.cedar_meaning.specs.Table.Layouts.{LayoutKind, default_layout, reduced_layout}
+use Rattle.cedar_model.specs.Meaning.Marks.{HasMark, IsProperFront, MarksCut, MarksPut}
+use Rattle.cedar_model.specs.Table.Layouts.{LayoutKind, default_layout, reduced_layout}
 use Rattle.cedarwood.specs.Dictionary.{Dictionary, IsMarked, some_numbers}
 use Rattle.cedarwood.specs.Fault.{fault}
 use Rattle.cedarwood.proofs.MarkedLemmas.{same_numbers}

@@ -2,7 +2,7 @@
 use Rattle.std.specs.Prelude.{◌≡◌, ℕ, Bool, true, false, not, ◌&&◌, ◌||◌, List, [], ◌∷◌, codes, bytes_eq, map, Option, Some, None, MatchOption, is_some, option_map, if◌then◌else◌}
 use Rattle.std.specs.Borrow.{Bor}
 use Rattle.cedar_tree.specs.Tree.{empty_tree}
-use Rattle.cedar_meaning.specs.Table.Layouts.{LayoutKind, default_layout, reduced_layout}
+use Rattle.cedar_model.specs.Table.Layouts.{LayoutKind, default_layout, reduced_layout}
 use Rattle.cedar_cli.specs.Seen.{Seen}
 use Rattle.cedar_cli.specs.declared.options.Options.{Options}
 

@@ -3,7 +3,7 @@ use Rattle.std.specs.Prelude.{ℕ, ◌+◌, ℤ, Bool, true, false, not, ◌&&�
 use Rattle.cedar_tree.specs.Tree.{Tree, is_bare, number_at}
 use Rattle.cedar_tree.specs.Queries.{is_path, node_at, prefixes, used, walk}
 use Rattle.cedar_tree.specs.State.{State, stored, erased}
-use Rattle.cedar_meaning.specs.Table.Layouts.{LayoutKind, default_layout, reduced_layout}
+use Rattle.cedar_model.specs.Table.Layouts.{LayoutKind, default_layout, reduced_layout}
 use Rattle.cedarwood.specs.Dictionary.{Dictionary, some_numbers}
 
 -- its layout, the state that its answers come from, and the tree with just those numbers that have slots of their own

@@ -5,10 +5,10 @@ use Rattle.std.specs.Io.KnownBytes.{Consumes, IsAtEnd}
 use Rattle.cedar_slots.specs.declared.records.NodeRecord.{NodeRecord}
 use Rattle.cedar_slots.specs.declared.records.NInfoRecord.{NInfoRecord}
 use Rattle.cedar_slots.specs.declared.records.BlockRecord.{BlockRecord}
-use Rattle.cedar_meaning.specs.Table.Layouts.{LayoutKind, layout_byte}
+use Rattle.cedar_model.specs.Table.Layouts.{LayoutKind, layout_byte}
 use Rattle.cedar_slots.specs.Places.{IsPowerOfTwo}
-use Rattle.cedar_meaning.specs.Table.TableFields.{Fields, capacity_of}
-use Rattle.cedar_meaning.specs.Meaning.WellFormed.{IsWellFormed}
+use Rattle.cedar_model.specs.Table.TableFields.{Fields, capacity_of}
+use Rattle.cedar_model.specs.Meaning.WellFormed.{IsWellFormed}
 use Rattle.cedar_format.specs.declared.error.CedarPersistenceError.{CedarPersistenceError}
 use Rattle.cedar_format.specs.declared.header.Header.{Header}
 use Rattle.cedar_format.specs.Format.{decode_refusal, header_answer, header_at, listed_bytes, listed_in, trial_refusal, CountsWithin, DecodeAnswers, IsFile, IsHeader, IsVersion, Passes}

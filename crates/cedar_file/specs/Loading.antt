@@ -1,7 +1,7 @@
 -- What a load answers.
 use Rattle.std.specs.Prelude.{◌≡◌, ◌⊎◌, ℕ, List, take, Some, None, MatchOption, Result, Ok, Err, IsErrAnd}
-use Rattle.cedar_meaning.specs.Table.Layouts.{LayoutKind, layout_byte}
-use Rattle.cedar_meaning.specs.Table.TableFields.{Fields}
+use Rattle.cedar_model.specs.Table.Layouts.{LayoutKind, layout_byte}
+use Rattle.cedar_model.specs.Table.TableFields.{Fields}
 use Rattle.cedar_format.specs.declared.error.CedarPersistenceError.{CedarPersistenceError}
 use Rattle.cedar_format.specs.Format.{header_answer, header_at, header_refusal, size_refusal}
 use Rattle.cedar_format.specs.Reading.{LacksTable}

@@ -1,12 +1,12 @@
 -- A walk over the nodes of a table of which it isn't known yet whether it stands for a tree.
 use Rattle.std.specs.Prelude.{◌≡◌, ◌≢◌, ℕ, zero, suc, ◌+◌, ◌<◌, ◌≤◌, ◌⊎◌, Bool, true, ℤ, negsuc, pos, None, IfSome, is_some, cond}
 use Rattle.cedar_file.specs.declared.check.tree.Walk.{Walk}
-use Rattle.cedar_meaning.specs.declared.layout.Stored.{Stored}
-use Rattle.cedar_meaning.specs.declared.layout.Stored.TheVariants.{AtBase, OwnNumber, Nothing}
-use Rattle.cedar_meaning.specs.Table.Cells.{Cells}
-use Rattle.cedar_meaning.specs.Meaning.Family.{base_of, below}
-use Rattle.cedar_meaning.specs.Meaning.Reading.{first_in, has_number_slot, number_in}
-use Rattle.cedar_meaning.specs.Meaning.WellFormed.{is_value}
+use Rattle.cedar_model.specs.declared.layout.Stored.{Stored}
+use Rattle.cedar_model.specs.declared.layout.Stored.TheVariants.{AtBase, OwnNumber, Nothing}
+use Rattle.cedar_model.specs.Table.Cells.{Cells}
+use Rattle.cedar_model.specs.Meaning.Family.{base_of, below}
+use Rattle.cedar_model.specs.Meaning.Reading.{first_in, has_number_slot, number_in}
+use Rattle.cedar_model.specs.Meaning.WellFormed.{is_value}
 
 -- a base outside block 0, or a number in its place
 abbrev pub IsOfNode : ℕ → Stored → Type 0

@@ -2,10 +2,10 @@
 
 ghost use Rattle.std.specs.Prelude.{◌≡◌, ◌≤◌, ◌^◌, ℕ, ◌+◌, ◌*◌, false, true, IfErr, IfOk, IfSome};
 ghost use Rattle.std.specs.Io.KnownBytes.{Consumes};
-ghost use Rattle.cedar_meaning.specs.Table.Layouts.{layout_byte};
+ghost use Rattle.cedar_model.specs.Table.Layouts.{layout_byte};
 ghost use Rattle.cedar_slots.specs.Places.{IsSlotLimit};
 ghost use Rattle.cedar_table.specs.Table.Views.{fields};
-ghost use Rattle.cedar_meaning.specs.Meaning.WellFormed.{IsWellFormed};
+ghost use Rattle.cedar_model.specs.Meaning.WellFormed.{IsWellFormed};
 ghost use Rattle.cedar_format.specs.Format.{need, trial_refusal, CountsWithin, IsFile, IsVersion, Passes};
 ghost use Rattle.cedar_format.specs.Reading.{IsIo, IsLack, LacksNoMore, TellsBreaks};
 ghost use Rattle.cedar_format.specs.Refusal.{refusal, refusal_of, CorruptData};

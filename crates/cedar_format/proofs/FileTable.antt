@@ -3,11 +3,11 @@ use Rattle.std.proofs.Common.{◌≡◌, ℕ, ℤ, ◌/◌, ◌^◌, ◌≤◌, 
 use Rattle.cedar_slots.specs.declared.records.NodeRecord.{NodeRecord}
 use Rattle.cedar_slots.specs.declared.records.NInfoRecord.{NInfoRecord}
 use Rattle.cedar_slots.specs.declared.records.BlockRecord.{BlockRecord}
-use Rattle.cedar_meaning.specs.Table.Layouts.{LayoutKind, layout_byte}
+use Rattle.cedar_model.specs.Table.Layouts.{LayoutKind, layout_byte}
 use Rattle.cedar_slots.specs.Blocks.{blank_block}
 use Rattle.cedar_slots.specs.Places.{Shaped}
 use Rattle.cedar_slots.specs.Slots.{blank_info, blank_node}
-use Rattle.cedar_meaning.specs.Table.TableFields.{capacity_of, size_of}
+use Rattle.cedar_model.specs.Table.TableFields.{capacity_of, size_of}
 use Rattle.cedar_format.specs.declared.header.Header.{Header}
 use Rattle.cedar_format.specs.Format.{filled, header_bytes, listed, listed_bytes, listed_in, FitsHeader, IsFile, IsHeader}
 use Rattle.cedar_format.specs.Records.{FitsBody}

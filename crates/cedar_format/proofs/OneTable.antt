@@ -4,13 +4,13 @@ use Rattle.std.specs.List.{flat_map}
 use Rattle.cedar_slots.specs.declared.records.NodeRecord.{NodeRecord}
 use Rattle.cedar_slots.specs.declared.records.NInfoRecord.{NInfoRecord}
 use Rattle.cedar_slots.specs.declared.records.BlockRecord.{BlockRecord}
-use Rattle.cedar_meaning.specs.Table.Layouts.{LayoutKind, default_layout, reduced_layout, layout_byte}
+use Rattle.cedar_model.specs.Table.Layouts.{LayoutKind, default_layout, reduced_layout, layout_byte}
 use Rattle.std.specs.Prelude.{slice_index}
 use Rattle.cedar_slots.specs.Blocks.{blank_block, BlockFields}
 use Rattle.cedar_slots.specs.Places.{PlaceFields, Shaped}
 use Rattle.cedar_slots.specs.Slots.{blank_info, blank_node, SlotFields}
-use Rattle.cedar_meaning.specs.Table.TableFields.{capacity_of, size_of, Fields}
-use Rattle.cedar_meaning.specs.Meaning.WellFormed.{IsWellFormed}
+use Rattle.cedar_model.specs.Table.TableFields.{capacity_of, size_of, Fields}
+use Rattle.cedar_model.specs.Meaning.WellFormed.{IsWellFormed}
 use Rattle.cedar_format.specs.Numbers.{i16_bytes, length-i16_bytes, length-i32_bytes, IsI16}
 use Rattle.cedar_format.specs.Records.{node_bytes, info_bytes, block_bytes, FitsBlock, FitsInfo, FitsNode}
 use Rattle.cedar_format.specs.Format.{filled, header_at, header_bytes, listed_bytes}

@@ -10,13 +10,13 @@ use Rattle.std.specs.Prelude.{◌==◌, count_ones, int_lt, nat_eq, nat_le, nat_
 use Rattle.std.specs.Int.{is_power_of_two}
 use Rattle.std.specs.List.{flat_map, range_with_len, starts_with}
 use lib.Count.{ones_step}
-use Rattle.cedar_meaning.specs.Table.Cells.{is_held}
-use Rattle.cedar_meaning.specs.Table.Layouts.{layout_byte}
+use Rattle.cedar_model.specs.Table.Cells.{is_held}
+use Rattle.cedar_model.specs.Table.Layouts.{layout_byte}
 use Rattle.cedar_slots.specs.Places.{IsPowerOfTwo}
-use Rattle.cedar_meaning.specs.Meaning.Reading.{tree_read}
-use Rattle.cedar_meaning.specs.Table.TableFields.{Fields, size_of}
-use Rattle.cedar_meaning.specs.Meaning.WellFormed.{cells_in, IsWellFormed, tree_of}
-use Rattle.cedar_meaning.proofs.MeaningLemmas.HeldCount.{count_is_named, entries_named}
+use Rattle.cedar_model.specs.Meaning.Reading.{tree_read}
+use Rattle.cedar_model.specs.Table.TableFields.{Fields, size_of}
+use Rattle.cedar_model.specs.Meaning.WellFormed.{cells_in, IsWellFormed, tree_of}
+use Rattle.cedar_model.proofs.MeaningLemmas.HeldCount.{count_is_named, entries_named}
 use Rattle.cedar_format.specs.declared.header.Header.{Header}
 use Rattle.cedar_format.specs.Numbers.{i16_bytes, length-i16_bytes, u16_bytes}
 use Rattle.cedar_format.specs.Records.{block_bytes, info_bytes, node_bytes}

@@ -1,8 +1,8 @@
 -- What is written of a table.
 use Rattle.std.proofs.Common.{◌≡◌, ℕ, ◌/◌, ◌++◌, length, take, arith, ap, sym, subst, length-take-le}
-use Rattle.cedar_meaning.specs.Table.Layouts.{layout_byte}
+use Rattle.cedar_model.specs.Table.Layouts.{layout_byte}
 use Rattle.cedar_slots.specs.Places.{Shaped}
-use Rattle.cedar_meaning.specs.Table.TableFields.{Fields}
+use Rattle.cedar_model.specs.Table.TableFields.{Fields}
 use Rattle.cedar_format.specs.declared.header.Header.{Header}
 use Rattle.cedar_format.specs.Format.{header_bytes, FitsHeader}
 use Rattle.cedar_format.specs.Records.{body_bytes, FitsBody}

@@ -1,8 +1,8 @@
 -- The laws of the format.
 use Rattle.std.specs.Prelude.{◌≡◌, ◌≤◌, ℕ, None}
-use Rattle.cedar_meaning.specs.Table.Layouts.{layout_byte}
-use Rattle.cedar_meaning.specs.Table.TableFields.{Fields}
-use Rattle.cedar_meaning.specs.Meaning.WellFormed.{IsWellFormed}
+use Rattle.cedar_model.specs.Table.Layouts.{layout_byte}
+use Rattle.cedar_model.specs.Table.TableFields.{Fields}
+use Rattle.cedar_model.specs.Meaning.WellFormed.{IsWellFormed}
 use Rattle.cedar_format.specs.declared.header.Header.{Header}
 use Rattle.cedar_format.specs.Format.{header_answer, header_at, header_bytes, need, FitsHeader, IsVersion}
 use Rattle.cedar_format.specs.Tables.{header_of, table_bytes, FitsTable}

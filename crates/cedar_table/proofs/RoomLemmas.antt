@@ -3,14 +3,14 @@ use Rattle.std.proofs.Common.{◌≡◌, ◌⊎◌, ℕ, zero, suc, ◌+◌, ◌
 use Rattle.std.proofs.lemmas.Bool.{cases_eq, cond-false, cond-true, eq-eqb, ne_eqb}
 use Rattle.cedar_slots.specs.Places.{Grown, IsPowerOfTwo, IsTable, PlaceFields}
 use Rattle.cedar_slots.proofs.PlacementLemmas.Growth.{double_within, power-doubled}
-use Rattle.cedar_meaning.specs.Edit.Steps.{blocks_after}
-use Rattle.cedar_meaning.specs.Meaning.Marks.{marked, marks}
-use Rattle.cedar_meaning.specs.Meaning.WellFormed.{cells_in, IsWellFormed, tree_of}
-use Rattle.cedar_meaning.specs.Meaning.StandsFor.{HoldsTree}
-use Rattle.cedar_meaning.specs.Table.Cells.{Cells, cells_of}
-use Rattle.cedar_meaning.specs.Table.Layouts.{LayoutKind, reading}
-use Rattle.cedar_meaning.specs.Table.TableFields.{Fields, SameSettings, size_of}
-use Rattle.cedar_meaning.proofs.UpdateLemmas.Ending.{tree_kept}
+use Rattle.cedar_model.specs.Edit.Steps.{blocks_after}
+use Rattle.cedar_model.specs.Meaning.Marks.{marked, marks}
+use Rattle.cedar_model.specs.Meaning.WellFormed.{cells_in, IsWellFormed, tree_of}
+use Rattle.cedar_model.specs.Meaning.StandsFor.{HoldsTree}
+use Rattle.cedar_model.specs.Table.Cells.{Cells, cells_of}
+use Rattle.cedar_model.specs.Table.Layouts.{LayoutKind, reading}
+use Rattle.cedar_model.specs.Table.TableFields.{Fields, SameSettings, size_of}
+use Rattle.cedar_model.proofs.UpdateLemmas.Ending.{tree_kept}
 
 -- ---- how many blocks there are once n more are in use
 

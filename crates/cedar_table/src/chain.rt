@@ -1,17 +1,17 @@
 //! The chain of a node's labels: what a slot says of the next one, and a slot put into the chain.
 
 use crate::table::Table;
-use cedar_meaning::Layout;
+use cedar_model::Layout;
 use cedar_slots::NInfoRecord;
 use std::alloc::Allocator;
 
 impl<L: Layout, const SLOTS: usize, A: Allocator> Table<L, SLOTS, A> {
     ghost use Rattle.std.specs.Prelude.{◌≢◌, ◌<◌, MatchOption};
-    ghost use Rattle.cedar_meaning.specs.Table.Cells.{Held};
-    ghost use Rattle.cedar_meaning.specs.Edit.NodeEdits.{LinkedBehind, LinkedChild, SetsChild, SetsSibling};
+    ghost use Rattle.cedar_model.specs.Table.Cells.{Held};
+    ghost use Rattle.cedar_model.specs.Edit.NodeEdits.{LinkedBehind, LinkedChild, SetsChild, SetsSibling};
     ghost use Rattle.cedar_slots.specs.Places.{IsTable};
     ghost use Rattle.cedar_table.specs.Table.Views.{cells, fields};
-    ghost use Rattle.cedar_meaning.specs.Table.TableFields.{SameFrame, size_of};
+    ghost use Rattle.cedar_model.specs.Table.TableFields.{SameFrame, size_of};
 
     /// Makes `label` the one after that of the held slot `slot`.
     pub fn set_sibling(&mut self, slot: usize, label: u8)

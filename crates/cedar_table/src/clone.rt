@@ -4,7 +4,7 @@ ghost use Rattle.std.specs.Prelude.{◌≡◌, IfOk};
 ghost use Rattle.cedar_slots.specs.Views.{places_of};
 
 use crate::table::Table;
-use cedar_meaning::Layout;
+use cedar_model::Layout;
 use cedar_slots::{Blocks, Places, Slots};
 use std::alloc::{AllocError, Allocator};
 use std::marker::PhantomData;

@@ -10,7 +10,7 @@ mod room;
 mod search;
 mod table;
 
-pub use cedar_meaning::{
+pub use cedar_model::{
     DefaultLayout, Layout, ReducedLayout, Stored, full_blocks_are_counted, held_slots_are_counted,
     held_slots_are_named, marks_are_read, one_path, one_tree, slots_stay,
 };

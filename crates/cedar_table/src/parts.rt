@@ -7,7 +7,7 @@ ghost use Rattle.cedar_table.specs.Table.Views.{fields};
 ghost use Rattle.cedar_slots.specs.Views.{places_of};
 
 use crate::table::Table;
-use cedar_meaning::Layout;
+use cedar_model::Layout;
 use cedar_slots::{BLOCK_SIZE, BlockRecord, Blocks, NInfoRecord, NodeRecord, Places, Slots};
 use std::alloc::Allocator;
 use std::marker::PhantomData;

@@ -1,10 +1,10 @@
 //! Room for blocks that are still to come into use.
 
 ghost use Rattle.std.specs.Prelude.{◌≡◌, ◌<◌, ◌≤◌, ◌+◌, ◌*◌, ◌^◌, IfErr, length, OnErr, OnOk};
-ghost use Rattle.cedar_meaning.specs.Edit.Steps.{blocks_after};
+ghost use Rattle.cedar_model.specs.Edit.Steps.{blocks_after};
 
 use crate::table::Table;
-use cedar_meaning::Layout;
+use cedar_model::Layout;
 use cedar_slots::{BLOCK_SIZE, Shortage};
 use std::alloc::Allocator;
 
@@ -24,9 +24,9 @@ fn doubled_for(blocks: usize, active: usize, more: usize) -> usize
 }
 
 impl<L: Layout, const SLOTS: usize, A: Allocator> Table<L, SLOTS, A> {
-    ghost use Rattle.cedar_meaning.specs.Meaning.Marks.{marks};
-    ghost use Rattle.cedar_meaning.specs.Meaning.WellFormed.{IsWellFormed, tree_of};
-    ghost use Rattle.cedar_meaning.specs.Table.TableFields.{capacity_of, SameSettings, size_of};
+    ghost use Rattle.cedar_model.specs.Meaning.Marks.{marks};
+    ghost use Rattle.cedar_model.specs.Meaning.WellFormed.{IsWellFormed, tree_of};
+    ghost use Rattle.cedar_model.specs.Table.TableFields.{capacity_of, SameSettings, size_of};
     ghost use Rattle.cedar_slots.specs.Places.{Grown};
     ghost use Rattle.cedar_table.specs.Table.Room.{LacksRoom};
     ghost use Rattle.cedar_table.specs.Table.Views.{cells, fields};

@@ -5,7 +5,7 @@ ghost use Rattle.cedar_slots.specs.Places.{IsSlotLimit, IsTable, Shaped};
 ghost use Rattle.cedar_slots.specs.Views.{places_of};
 
 use arrayvec::ArrayVec;
-use cedar_meaning::{Layout, Stored};
+use cedar_model::{Layout, Stored};
 use cedar_slots::{BLOCK_SIZE, BlockRecord, NInfoRecord, NodeRecord, Places, Shortage, Ticks};
 use std::alloc::Allocator;
 use std::marker::PhantomData;
@@ -32,17 +32,17 @@ impl<L: Layout, const SLOTS: usize, A: Allocator> Table<L, SLOTS, A> {
     ghost use Rattle.std.specs.List.{range_with_len};
     ghost use Rattle.cedar_slots.specs.declared.shortage.Shortage.TheVariants.{Memory};
     ghost use Rattle.cedar_slots.specs.Blocks.{block_at};
-    ghost use Rattle.cedar_meaning.specs.Table.Cells.{Gives, HasPlaces, Held, InfoWritten, is_held, IsPlace, NodeWritten, NoPlace, SameHeld, Takes};
-    ghost use Rattle.cedar_meaning.specs.Table.Layouts.{reading};
+    ghost use Rattle.cedar_model.specs.Table.Cells.{Gives, HasPlaces, Held, InfoWritten, is_held, IsPlace, NodeWritten, NoPlace, SameHeld, Takes};
+    ghost use Rattle.cedar_model.specs.Table.Layouts.{reading};
     ghost use Rattle.cedar_slots.specs.Places.{AddsBlock, IsNew, MayRefuse, reject_at, SameSlots};
-    ghost use Rattle.cedar_meaning.specs.Edit.Asked.{MayClaim};
-    ghost use Rattle.cedar_meaning.specs.Relocation.Reserved.{freed};
+    ghost use Rattle.cedar_model.specs.Edit.Asked.{MayClaim};
+    ghost use Rattle.cedar_model.specs.Relocation.Reserved.{freed};
     ghost use Rattle.cedar_slots.specs.Slots.{check_at};
     ghost use Rattle.cedar_table.specs.Table.Views.{cells, fields};
-    ghost use Rattle.cedar_meaning.specs.Table.TableFields.{capacity_of, SameFrame, SameSettings, size_of};
-    ghost use Rattle.cedar_meaning.specs.Meaning.WellFormed.{IsWellFormed, tree_of};
+    ghost use Rattle.cedar_model.specs.Table.TableFields.{capacity_of, SameFrame, SameSettings, size_of};
+    ghost use Rattle.cedar_model.specs.Meaning.WellFormed.{IsWellFormed, tree_of};
     ghost use Rattle.cedar_tree.specs.Tree.{empty_tree};
-    ghost use Rattle.cedar_meaning.specs.Edit.Steps.{MakesBlocks};
+    ghost use Rattle.cedar_model.specs.Edit.Steps.{MakesBlocks};
 
     /// A table with one block, in which the root alone is held. It stands for the empty tree.
     pub fn new(alloc: A, ordered: bool, max_trial: i32) -> Result<Self, Shortage>

@@ -2,9 +2,9 @@
 use Rattle.std.specs.Prelude.{◌≡◌, ℕ, ◌<◌, List, [], drop, get_or, length, map, Option, Some, None}
 use Rattle.std.specs.Borrow.{Bor}
 use Rattle.cedar_tree.specs.Tree.{Tree, number_at}
-use Rattle.cedar_meaning.specs.Meaning.StandsFor.{Stands}
-use Rattle.cedar_meaning.specs.Table.TableFields.{Fields, size_of}
-use Rattle.cedar_meaning.specs.Meaning.WellFormed.{cells_in, tree_of}
+use Rattle.cedar_model.specs.Meaning.StandsFor.{Stands}
+use Rattle.cedar_model.specs.Table.TableFields.{Fields, size_of}
+use Rattle.cedar_model.specs.Meaning.WellFormed.{cells_in, tree_of}
 
 -- the bytes of some keys
 abbrev pub keys_of : List (Bor (List ℕ)) → List (List ℕ)

@@ -2,9 +2,9 @@
 use Rattle.std.specs.Prelude.{ℕ, ◌<◌, ◌≤◌, List, length, take, Option, Some, None}
 use Rattle.cedar_tree.specs.Queries.{node_at}
 use Rattle.cedar_walk.specs.declared.fronts.Front.{Front}
-use Rattle.cedar_meaning.specs.Meaning.StandsFor.{Stands}
-use Rattle.cedar_meaning.specs.Table.TableFields.{Fields, size_of}
-use Rattle.cedar_meaning.specs.Meaning.WellFormed.{cells_in, tree_of}
+use Rattle.cedar_model.specs.Meaning.StandsFor.{Stands}
+use Rattle.cedar_model.specs.Table.TableFields.{Fields, size_of}
+use Rattle.cedar_model.specs.Meaning.WellFormed.{cells_in, tree_of}
 
 -- the first bytes of the query, `place` of them, lead to slot s
 pub record IsOnQuery (T : Fields) (query : List ℕ) (place s : ℕ) : Type 0 where

@@ -4,9 +4,9 @@ ghost use Rattle.std.specs.Prelude.{◌≡◌, ◌+◌, ◌++◌, ◌<◌, ◌�
 ghost use Rattle.cedar_tree.specs.Queries.{exact};
 ghost use Rattle.cedar_walk.specs.Batch.{AreLanes, IsLane, keys_of};
 ghost use Rattle.cedar_table.specs.Table.Views.{fields};
-ghost use Rattle.cedar_meaning.specs.Meaning.WellFormed.{IsWellFormed, tree_of};
+ghost use Rattle.cedar_model.specs.Meaning.WellFormed.{IsWellFormed, tree_of};
 
-use cedar_meaning::Layout;
+use cedar_model::Layout;
 use cedar_slots::Ticks;
 use cedar_table::Table;
 use std::alloc::Allocator;

@@ -4,15 +4,15 @@ ghost use Rattle.std.specs.Prelude.{◌≡◌, ◌≢◌, ℕ, ℤ, List, [], �
 ghost use Rattle.cedar_tree.specs.Tree.{has_label, Tree};
 ghost use Rattle.cedar_tree.specs.Queries.{node_at, walk};
 ghost use Rattle.cedar_tree.specs.Walks.{behind, entries_of};
-ghost use Rattle.cedar_meaning.specs.Edit.NodeEdits.{IsAt};
-ghost use Rattle.cedar_meaning.specs.Meaning.Family.{below};
-ghost use Rattle.cedar_meaning.specs.Meaning.StandsFor.{Stands};
+ghost use Rattle.cedar_model.specs.Edit.NodeEdits.{IsAt};
+ghost use Rattle.cedar_model.specs.Meaning.Family.{below};
+ghost use Rattle.cedar_model.specs.Meaning.StandsFor.{Stands};
 ghost use Rattle.cedar_table.specs.Table.Views.{cells, fields};
-ghost use Rattle.cedar_meaning.specs.Table.TableFields.{size_of};
+ghost use Rattle.cedar_model.specs.Table.TableFields.{size_of};
 ghost use Rattle.cedar_walk.specs.Visits.{ComesTo, ComesToNumber, entries_at, first_of, IsBelow, IsNumberedBelow, left_after, left_at, path_to, visited_at};
-ghost use Rattle.cedar_meaning.specs.Meaning.WellFormed.{IsWellFormed, tree_of};
+ghost use Rattle.cedar_model.specs.Meaning.WellFormed.{IsWellFormed, tree_of};
 
-use cedar_meaning::{Layout, Stored};
+use cedar_model::{Layout, Stored};
 use cedar_table::Table;
 use std::alloc::Allocator;
 

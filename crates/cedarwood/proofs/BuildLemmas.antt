@@ -6,7 +6,7 @@ use Rattle.cedar_tree.specs.Queries.{Entry}
 use Rattle.cedar_tree.specs.State.{State}
 use Rattle.cedarwood.specs.declared.error.CedarError.{CedarError}
 use Rattle.cedarwood.specs.Builds.{all_stored, first_fault, IsBuild, IsRefusedBuild}
-use Rattle.cedar_meaning.specs.Table.Layouts.{LayoutKind}
+use Rattle.cedar_model.specs.Table.Layouts.{LayoutKind}
 use Rattle.cedarwood.specs.Dictionary.{Dictionary}
 use Rattle.cedarwood.specs.Fault.{fault, or_else}
 use Rattle.cedarwood.specs.Updates.{IsUpdate}

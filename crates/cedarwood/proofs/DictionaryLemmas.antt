@@ -5,9 +5,9 @@ use Rattle.cedar_tree.specs.Queries.{exact}
 use Rattle.cedar_tree.specs.Tree.{number_at}
 use Rattle.cedar_tree.proofs.TreeLemmas.{all-number_at}
 use Rattle.cedar_slots.specs.Places.{IsSlotLimit}
-use Rattle.cedar_meaning.specs.Table.TableFields.{Fields}
-use Rattle.cedar_meaning.specs.Meaning.WellFormed.{IsWellFormed, tree_of, is_value}
-use Rattle.cedar_meaning.proofs.MeaningLemmas.TreeOf.{tree_of_is}
+use Rattle.cedar_model.specs.Table.TableFields.{Fields}
+use Rattle.cedar_model.specs.Meaning.WellFormed.{IsWellFormed, tree_of, is_value}
+use Rattle.cedar_model.proofs.MeaningLemmas.TreeOf.{tree_of_is}
 use Rattle.cedarwood.specs.declared.error.CedarError.{CedarError}
 use Rattle.cedarwood.specs.declared.error.CedarError.TheVariants.{InvalidValue}
 use Rattle.cedarwood.specs.Fault.{value_fault}

@@ -7,9 +7,9 @@ use Rattle.cedar_tree.specs.Queries.{Entry, walk}
 use Rattle.cedar_tree.specs.Walks.{entries_of, visits_left}
 use Rattle.cedar_tree.proofs.VisitLemmas.{walk_visits}
 use Rattle.cedar_walk.specs.declared.visits.Visited.{Visited}
-use Rattle.cedar_meaning.specs.Table.TableFields.{Fields}
+use Rattle.cedar_model.specs.Table.TableFields.{Fields}
 use Rattle.cedar_walk.specs.Visits.{ComesTo, IsBelow, left_at, path_to}
-use Rattle.cedar_meaning.specs.Meaning.WellFormed.{cells_in, IsWellFormed, tree_of}
+use Rattle.cedar_model.specs.Meaning.WellFormed.{cells_in, IsWellFormed, tree_of}
 use Rattle.cedar_walk.proofs.WalkLemmas.NextNode.{path_length}
 use Rattle.cedarwood.specs.WalkPlaces.{ComesToEntry, entries_from, IsEntriesPlace}
 use Rattle.cedarwood.proofs.DictionaryLemmas.{no_number}

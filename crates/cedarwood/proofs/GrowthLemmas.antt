@@ -2,10 +2,10 @@
 use Rattle.std.proofs.Common.{◌≡◌, ℕ, zero, suc, ◌+◌, ◌*◌, ◌≤◌, ◌==◌, inl, inr, Bool, true, false, cond, length, refl, ap, sym, ◌∙◌, arith}
 use Rattle.std.proofs.lemmas.Bool.{cases_eq}
 use Rattle.std.proofs.lemmas.Bool.Decides.{nat_tests}
-use Rattle.cedar_meaning.specs.Meaning.Marks.{marks}
-use Rattle.cedar_meaning.specs.Edit.Steps.{blocks_after, MakesBlocks}
-use Rattle.cedar_meaning.specs.Table.TableFields.{Fields, capacity_of, size_of}
-use Rattle.cedar_meaning.specs.Meaning.WellFormed.{tree_of}
+use Rattle.cedar_model.specs.Meaning.Marks.{marks}
+use Rattle.cedar_model.specs.Edit.Steps.{blocks_after, MakesBlocks}
+use Rattle.cedar_model.specs.Table.TableFields.{Fields, capacity_of, size_of}
+use Rattle.cedar_model.specs.Meaning.WellFormed.{tree_of}
 use Rattle.cedarwood.specs.Dictionary.{Dictionary, Grows, capacity_after}
 
 -- the value of a dictionary over a table

@@ -2,8 +2,8 @@
 use Rattle.std.proofs.Common.{◌≡◌, ◌⊎◌, ℕ, ◌≤◌, List, Option, Some, None, Result, Ok, Err, inl, inr, sym, subst}
 use Rattle.std.specs.Prelude.{MatchOption}
 use Rattle.std.specs.Result.{IsOkAnd}
-use Rattle.cedar_meaning.specs.Table.Layouts.{LayoutKind, layout_byte}
-use Rattle.cedar_meaning.specs.Table.TableFields.{Fields}
+use Rattle.cedar_model.specs.Table.Layouts.{LayoutKind, layout_byte}
+use Rattle.cedar_model.specs.Table.TableFields.{Fields}
 use Rattle.cedar_format.specs.declared.error.CedarPersistenceError.{CedarPersistenceError}
 use Rattle.cedar_format.specs.declared.error.CedarPersistenceError.TheVariants as errors
 use Rattle.cedar_format.specs.declared.header.Header.{Header}

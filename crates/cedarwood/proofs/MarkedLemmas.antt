@@ -4,13 +4,13 @@ use Rattle.std.specs.Prelude.{is_some}
 use Rattle.std.proofs.lemmas.Bool.{false≢true}
 use Rattle.std.proofs.lemmas.Bool.Decides.{eqb_tells}
 use Rattle.cedar_tree.specs.Tree.{Forest, none, child, has_label, IsSoundBelow, number_at, subtree, Tree}
-use Rattle.cedar_meaning.specs.Table.Cells.{Cells}
-use Rattle.cedar_meaning.specs.Meaning.Family.{below}
-use Rattle.cedar_meaning.specs.Meaning.Marks.{marked}
-use Rattle.cedar_meaning.specs.Meaning.Reading.{has_number_slot}
-use Rattle.cedar_meaning.specs.Edit.Steps.{root_of}
-use Rattle.cedar_meaning.specs.Table.TableFields.{Fields}
-use Rattle.cedar_meaning.specs.Meaning.WellFormed.{cells_in, IsWellFormed, tree_of}
+use Rattle.cedar_model.specs.Table.Cells.{Cells}
+use Rattle.cedar_model.specs.Meaning.Family.{below}
+use Rattle.cedar_model.specs.Meaning.Marks.{marked}
+use Rattle.cedar_model.specs.Meaning.Reading.{has_number_slot}
+use Rattle.cedar_model.specs.Edit.Steps.{root_of}
+use Rattle.cedar_model.specs.Table.TableFields.{Fields}
+use Rattle.cedar_model.specs.Meaning.WellFormed.{cells_in, IsWellFormed, tree_of}
 use Rattle.cedarwood.specs.Dictionary.{IsMarked, with_some}
 use Rattle.cedarwood.proofs.GrowthLemmas.{dictionary_of}
 

@@ -1,10 +1,10 @@
 -- What a table's room for more blocks says of the dictionary.
 use Rattle.std.proofs.Common.{◌≡◌, ℕ, ◌+◌, ◌*◌, ◌-◌, ◌<◌, ◌≤◌, length, refl, ap, sym, subst, ◌∙◌, arith}
 use Rattle.cedar_tree.specs.State.{State}
-use Rattle.cedar_meaning.specs.Edit.Steps.{blocks_after}
-use Rattle.cedar_meaning.specs.Meaning.Marks.{marks}
-use Rattle.cedar_meaning.specs.Meaning.WellFormed.{IsWellFormed, tree_of}
-use Rattle.cedar_meaning.specs.Table.TableFields.{Fields, capacity_of, size_of}
+use Rattle.cedar_model.specs.Edit.Steps.{blocks_after}
+use Rattle.cedar_model.specs.Meaning.Marks.{marks}
+use Rattle.cedar_model.specs.Meaning.WellFormed.{IsWellFormed, tree_of}
+use Rattle.cedar_model.specs.Table.TableFields.{Fields, capacity_of, size_of}
 use Rattle.cedar_slots.specs.declared.shortage.Shortage.{Shortage}
 use Rattle.cedar_slots.specs.declared.shortage.Shortage.TheVariants as shortage
 use Rattle.cedar_table.specs.Table.Room as table

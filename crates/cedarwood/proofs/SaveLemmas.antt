@@ -1,8 +1,8 @@
 -- What was saved is the file of a well-formed table.
 use Rattle.std.proofs.Common.{◌≡◌, ℕ, ◌≤◌, None, refl, subst}
-use Rattle.cedar_meaning.specs.Table.Layouts.{LayoutKind, layout_byte}
-use Rattle.cedar_meaning.specs.Table.TableFields.{Fields}
-use Rattle.cedar_meaning.specs.Meaning.WellFormed.{IsWellFormed}
+use Rattle.cedar_model.specs.Table.Layouts.{LayoutKind, layout_byte}
+use Rattle.cedar_model.specs.Table.TableFields.{Fields}
+use Rattle.cedar_model.specs.Meaning.WellFormed.{IsWellFormed}
 use Rattle.cedar_format.specs.Format.{header_answer, need, IsVersion}
 use Rattle.cedar_format.specs.Tables.{header_of, table_bytes, FitsTable, IsTableFile}
 use Rattle.cedar_format.proofs.Passing.{tables_pass}

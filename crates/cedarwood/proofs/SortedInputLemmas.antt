@@ -16,7 +16,7 @@ use Rattle.cedar_tree.specs.Laws.{ArePathsAscending, ArePathsKeys}
 use Rattle.cedar_tree.specs.Tree.{IsKey, IsPath}
 use Rattle.cedarwood.specs.declared.error.CedarError.{CedarError}
 use Rattle.cedarwood.specs.declared.error.CedarError.TheVariants.{DuplicateKey, KeysNotSorted, NulByte}
-use Rattle.cedar_meaning.specs.Meaning.WellFormed.{is_value}
+use Rattle.cedar_model.specs.Meaning.WellFormed.{is_value}
 use Rattle.cedar_bulk.specs.Sorted.{entries_by}
 use Rattle.cedarwood.specs.Fault.{fault, IsInRange, key_fault, or_else, value_fault}
 use Rattle.cedarwood.specs.SortedInput.{AreBytes, fault_behind, fault_from, fault_of_order, HasNoNul, key_at}

@@ -6,14 +6,14 @@ use Rattle.cedar_tree.specs.Queries.{used}
 use Rattle.cedar_tree.specs.State.{State, stored}
 use Rattle.cedarwood.specs.declared.error.CedarError.{CedarError}
 use Rattle.cedarwood.specs.declared.error.CedarError.TheVariants.{EmptyKey, NulByte, InvalidValue}
-use Rattle.cedar_meaning.specs.Table.Cells.{NoPlace}
-use Rattle.cedar_meaning.specs.Table.Layouts.{default_layout}
-use Rattle.cedar_meaning.specs.Meaning.Marks.{marks, MarksPut}
+use Rattle.cedar_model.specs.Table.Cells.{NoPlace}
+use Rattle.cedar_model.specs.Table.Layouts.{default_layout}
+use Rattle.cedar_model.specs.Meaning.Marks.{marks, MarksPut}
 use Rattle.cedar_slots.specs.Places.{MayRefuse}
-use Rattle.cedar_meaning.specs.Edit.Steps.{MakesBlocks, SameModes, blocks_after}
-use Rattle.cedar_meaning.specs.Table.TableFields.{Fields, capacity_of, size_of}
-use Rattle.cedar_meaning.specs.Meaning.WellFormed.{IsWellFormed, cells_in, tree_of}
-use Rattle.cedar_meaning.proofs.MeaningLemmas.FullBlocks.{full_blocks_counted}
+use Rattle.cedar_model.specs.Edit.Steps.{MakesBlocks, SameModes, blocks_after}
+use Rattle.cedar_model.specs.Table.TableFields.{Fields, capacity_of, size_of}
+use Rattle.cedar_model.specs.Meaning.WellFormed.{IsWellFormed, cells_in, tree_of}
+use Rattle.cedar_model.proofs.MeaningLemmas.FullBlocks.{full_blocks_counted}
 use Rattle.cedarwood.specs.Dictionary.{Dictionary, Grows, first_bytes}
 use Rattle.cedar_slots.specs.declared.shortage.Shortage.{Shortage}
 use Rattle.cedar_slots.specs.declared.shortage.Shortage.TheVariants as shortage

@@ -1,7 +1,7 @@
 -- A dictionary over a well-formed table is valid.
 use Rattle.std.proofs.Common.{ℕ, ◌*◌, ap, arith, refl}
-use Rattle.cedar_meaning.specs.Table.TableFields.{Fields}
-use Rattle.cedar_meaning.specs.Meaning.WellFormed.{IsWellFormed}
+use Rattle.cedar_model.specs.Table.TableFields.{Fields}
+use Rattle.cedar_model.specs.Meaning.WellFormed.{IsWellFormed}
 use Rattle.cedarwood.specs.Dictionary.{IsValid}
 use Rattle.cedarwood.proofs.DictionaryLemmas.{is_sound}
 use Rattle.cedarwood.proofs.GrowthLemmas.{dictionary_of}

@@ -5,10 +5,10 @@ use Rattle.std.proofs.Common.{refl}
 use Rattle.cedar_tree.specs.State.{State, state_code}
 use Rattle.cedar_tree.specs.Stored.{coded_tree}
 use Rattle.cedar_tree.specs.Tree.{AllNumbers, Forest, none, child, IsAscending, IsSound, number_at, Tree}
-use Rattle.cedar_meaning.specs.Meaning.StandsFor.{labels}
-use Rattle.cedar_meaning.specs.Table.TableFields.{Fields}
+use Rattle.cedar_model.specs.Meaning.StandsFor.{labels}
+use Rattle.cedar_model.specs.Table.TableFields.{Fields}
 use Rattle.cedarwood.specs.TableCode.{fields_code}
-use Rattle.cedar_meaning.specs.Meaning.WellFormed.{is_value}
+use Rattle.cedar_model.specs.Meaning.WellFormed.{is_value}
 
 -- the state that its answers come from, the tree with just those numbers that have slots of their own, how many failed searches
 -- close a block, how many slots are in use and there are, and the table that it is kept in, which is what a file has of it

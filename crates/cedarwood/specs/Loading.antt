@@ -1,8 +1,8 @@
 -- What a load of a dictionary answers: of a table, as `cedar_file` says it, and what is a dictionary's own.
 use Rattle.std.specs.Prelude.{◌≡◌, ◌≤◌, ◌⊎◌, ℕ, List, None, Result, Ok}
 use Rattle.std.specs.Result.{IsOkAnd}
-use Rattle.cedar_meaning.specs.Table.Layouts.{LayoutKind, layout_byte}
-use Rattle.cedar_meaning.specs.Table.TableFields.{Fields}
+use Rattle.cedar_model.specs.Table.Layouts.{LayoutKind, layout_byte}
+use Rattle.cedar_model.specs.Table.TableFields.{Fields}
 use Rattle.cedar_format.specs.declared.error.CedarPersistenceError.{CedarPersistenceError}
 use Rattle.cedar_format.specs.declared.error.CedarPersistenceError.TheVariants.{AllocationFailed}
 use Rattle.cedar_format.specs.Format.{need, Passes}

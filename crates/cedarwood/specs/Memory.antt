@@ -3,8 +3,8 @@ use denote.Param.{number}
 use Rattle.std.specs.Borrow.{RattleType}
 use Rattle.std.specs.Mem.{FitsInMemory}
 use Rattle.std.specs.declared.alloc.Allocator.{Ghosts}
-use Rattle.cedar_meaning.specs.contracts.layout.DefaultLayout as layout
-use Rattle.cedar_meaning.specs.contracts.layout.DefaultLayoutLayout.TheImpl as default_layout
+use Rattle.cedar_model.specs.contracts.layout.DefaultLayout as layout
+use Rattle.cedar_model.specs.contracts.layout.DefaultLayoutLayout.TheImpl as default_layout
 use Rattle.cedarwood.specs.contracts.trie.Trie.{the_row}
 
 abbrev pub CedarFitsInMemory : (A : RattleType) → Ghosts A.Denot → Type 0

@@ -1,8 +1,8 @@
 -- That what a caller sees of a dictionary is what its table says.
 use Rattle.std.specs.Prelude.{◌≡◌, ℕ}
-use Rattle.cedar_meaning.specs.Meaning.Marks.{marks}
-use Rattle.cedar_meaning.specs.Meaning.WellFormed.{IsWellFormed, tree_of}
-use Rattle.cedar_meaning.specs.Table.TableFields.{capacity_of, size_of}
+use Rattle.cedar_model.specs.Meaning.Marks.{marks}
+use Rattle.cedar_model.specs.Meaning.WellFormed.{IsWellFormed, tree_of}
+use Rattle.cedar_model.specs.Table.TableFields.{capacity_of, size_of}
 use Rattle.cedarwood.specs.Dictionary.{Dictionary}
 
 -- its table is well-formed for `slots` slots, and state, marks, settings and sizes are those of this table

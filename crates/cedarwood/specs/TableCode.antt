@@ -6,10 +6,10 @@ use Rattle.cedar_slots.specs.declared.records.NodeRecord.{NodeRecord}
 use Rattle.cedar_slots.specs.declared.records.NInfoRecord.{NInfoRecord}
 use Rattle.cedar_slots.specs.declared.records.BlockRecord.{BlockRecord}
 use Rattle.cedar_slots.specs.Blocks.{BlockFields}
-use Rattle.cedar_meaning.specs.Table.Layouts.{LayoutKind, default_layout, reduced_layout}
+use Rattle.cedar_model.specs.Table.Layouts.{LayoutKind, default_layout, reduced_layout}
 use Rattle.cedar_slots.specs.Places.{PlaceFields}
 use Rattle.cedar_slots.specs.Slots.{SlotFields}
-use Rattle.cedar_meaning.specs.Table.TableFields.{Fields}
+use Rattle.cedar_model.specs.Table.TableFields.{Fields}
 
 abbrev pub node_code : Coded NodeRecord
 node_code = code_by (ℤ × ℤ) (coded× coded_ℤ coded_ℤ) (λ n. (n.base, n.check)) (λ p. record { base = p.0; check = p.1 }) (λ _. refl)

@@ -5,8 +5,8 @@ use Rattle.cedar_tree.specs.Queries.{used}
 use Rattle.cedar_tree.specs.State.{stored}
 use Rattle.cedarwood.specs.declared.error.CedarError.{CedarError}
 use Rattle.cedarwood.specs.declared.error.CedarError.TheVariants.{Memory, SlotLimit}
-use Rattle.cedar_meaning.specs.Meaning.Marks.{MarksPut}
-use Rattle.cedar_meaning.specs.Table.Layouts.{LayoutKind, default_layout, reduced_layout}
+use Rattle.cedar_model.specs.Meaning.Marks.{MarksPut}
+use Rattle.cedar_model.specs.Table.Layouts.{LayoutKind, default_layout, reduced_layout}
 use Rattle.cedarwood.specs.Dictionary.{Dictionary, Grows, IsMarked, first_bytes}
 use Rattle.cedarwood.specs.Fault.{fault, IsShortage}
 

@@ -4,9 +4,9 @@ use Rattle.cedar_tree.specs.Queries.{Entry, predict}
 use Rattle.cedar_tree.specs.Walks.{entries_of}
 use Rattle.cedar_walk.specs.declared.visits.Numbered.{Numbered}
 use Rattle.cedar_walk.specs.Fronts.{IsOnQuery}
-use Rattle.cedar_meaning.specs.Table.TableFields.{Fields}
+use Rattle.cedar_model.specs.Table.TableFields.{Fields}
 use Rattle.cedar_walk.specs.Visits.{IsBelow, IsNumberedBelow, left_at, path_to}
-use Rattle.cedar_meaning.specs.Meaning.WellFormed.{cells_in, IsWellFormed, tree_of}
+use Rattle.cedar_model.specs.Meaning.WellFormed.{cells_in, IsWellFormed, tree_of}
 use Rattle.cedarwood.specs.declared.queries.predict.PredictPlace.{PredictPlace}
 use Rattle.cedarwood.specs.declared.queries.predict.PredictPlace.TheVariants.{End, Node, Start}
 

@@ -2,7 +2,7 @@
 
 ghost use Rattle.std.specs.Prelude.{◌≡◌, ◌+◌, ◌*◌, ◌/◌, length};
 ghost use Rattle.cedar_tree.specs.Queries.{prefixes, used, walk};
-ghost use Rattle.cedar_meaning.specs.Table.Layouts.{default_layout};
+ghost use Rattle.cedar_model.specs.Table.Layouts.{default_layout};
 
 use crate::{Layout, Trie};
 use std::alloc::Allocator;

@@ -1,8 +1,8 @@
 //! The dictionary and its calls.
 
 ghost use Rattle.std.specs.Prelude.{◌≡◌, ◌⊎◌, ℕ, ◌+◌, ◌-◌, ◌*◌, ◌/◌, ◌<◌, ◌≤◌, ◌==◌, [], ◌∷◌, length, true, false, None, IsSome, IsOk, IfOk, IfErr, OnOk, OnErr, IfSome, IsTrue, ◌↔◌, pos};
-ghost use Rattle.cedar_meaning.specs.Table.Layouts.{default_layout, reduced_layout};
-ghost use Rattle.cedar_meaning.specs.Meaning.Marks.{MarksCut, MarksPut};
+ghost use Rattle.cedar_model.specs.Table.Layouts.{default_layout, reduced_layout};
+ghost use Rattle.cedar_model.specs.Meaning.Marks.{MarksCut, MarksPut};
 ghost use Rattle.cedar_slots.specs.Places.{IsSlotLimit};
 ghost use Rattle.cedar_bulk.specs.Sorted.{entries_of};
 ghost use Rattle.cedar_bulk.specs.SortedMarks.{SortedMarks};
@@ -43,10 +43,10 @@ pub type Cedar<A> = Trie<DefaultLayout, 1073741824, A>;
 pub type ReducedCedar<A> = Trie<ReducedLayout, 1073741824, A>;
 
 impl<L: Layout, const SLOTS: usize, A: Allocator> Model for Trie<L, SLOTS, A> {
-    ghost use Rattle.cedar_meaning.specs.Meaning.Marks.{marks};
+    ghost use Rattle.cedar_model.specs.Meaning.Marks.{marks};
     ghost use Rattle.cedar_table.specs.Table.Views.{fields};
-    ghost use Rattle.cedar_meaning.specs.Table.TableFields.{capacity_of, size_of};
-    ghost use Rattle.cedar_meaning.specs.Meaning.WellFormed.{IsWellFormed, tree_of};
+    ghost use Rattle.cedar_model.specs.Table.TableFields.{capacity_of, size_of};
+    ghost use Rattle.cedar_model.specs.Meaning.WellFormed.{IsWellFormed, tree_of};
     ghost use Rattle.cedarwood.specs.Dictionary.{Dictionary, dictionary_code};
 
     ghost Value = { Dictionary };

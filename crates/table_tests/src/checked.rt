@@ -3,7 +3,7 @@
 ghost use Rattle.std.specs.Prelude.{◌≡◌, ◌<◌, IfOk};
 ghost use Rattle.cedar_slots.specs.Places.{IsTable};
 ghost use Rattle.cedar_table.specs.Table.Views.{fields};
-ghost use Rattle.cedar_meaning.specs.Meaning.WellFormed.{IsWellFormed};
+ghost use Rattle.cedar_model.specs.Meaning.WellFormed.{IsWellFormed};
 
 use crate::keys::{erases, put};
 use crate::steps::takes;

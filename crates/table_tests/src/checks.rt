@@ -2,7 +2,7 @@
 
 ghost use Rattle.std.specs.Prelude.{◌≡◌, ◌<◌, IsTrue};
 ghost use Rattle.cedar_slots.specs.Places.{IsTable};
-ghost use Rattle.cedar_meaning.specs.Table.Layouts.{default_layout};
+ghost use Rattle.cedar_model.specs.Table.Layouts.{default_layout};
 ghost use Rattle.cedar_table.specs.Table.Parts.{parts_fields};
 ghost use Rattle.cedar_table.specs.Table.Views.{fields};
 ghost use Rattle.table_tests.specs.Fitting.{IsFitting};

@@ -3,7 +3,7 @@
 ghost use Rattle.std.specs.Prelude.{◌≡◌, ◌==◌, IsTrue, position};
 ghost use Rattle.cedar_tree.specs.Tree.{IsKey};
 ghost use Rattle.cedar_table.specs.Table.Views.{fields};
-ghost use Rattle.cedar_meaning.specs.Meaning.WellFormed.{IsWellFormed};
+ghost use Rattle.cedar_model.specs.Meaning.WellFormed.{IsWellFormed};
 
 use cedar_edit::{erase, update};
 use cedar_table::{DefaultLayout, Shortage, Table};

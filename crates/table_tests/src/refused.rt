@@ -11,7 +11,7 @@ use std::marker::Brand;
 use std::process::Abort;
 use std::sync::ledger::{Blank, Ledger};
 use std::test::Fail;
-use test_devices::Refusing;
+use test_support::Refusing;
 
 type Refused<'a> = Table<DefaultLayout, 1024, &'a Refusing<Global>>;
 

@@ -11,7 +11,7 @@ use cedarwood::{
 use std::alloc::Global;
 use std::process::Abort;
 use std::test::Fail;
-use test_devices::Refusing;
+use test_support::Refusing;
 
 fn expect_number(rt: &impl Abort, words: &Cedar<Global>, key: &[u8], wanted: Option<(i32, usize)>) {
     assert!(rt; search(words, key) == wanted);

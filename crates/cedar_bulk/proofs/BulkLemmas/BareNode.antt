@@ -3,16 +3,16 @@ use Rattle.std.proofs.Common.{◌≡◌, ℕ, ◌∙◌, sym, ap, subst, refl, O
 use Rattle.std.specs.Prelude.{ℤ, pos}
 use Rattle.cedar_tree.specs.Tree.{child, empty_tree, Forest, none, Tree}
 use Rattle.cedar_tree.specs.Queries.{node_at}
-use Rattle.cedar_meaning.specs.declared.layout.Stored.TheVariants.{AtBase}
-use Rattle.cedar_meaning.specs.Table.Cells.{Cells}
-use Rattle.cedar_meaning.specs.Edit.NodeEdits.{IsAt}
-use Rattle.cedar_meaning.specs.Meaning.Family.{Family, Head, number_of, own, plain, top, valued}
-use Rattle.cedar_meaning.specs.Meaning.StandsFor.{HoldsTree, labels, OnPath, slot_at}
-use Rattle.cedar_meaning.specs.Relocation.Renaming.{OwnsNothing}
-use Rattle.cedar_meaning.specs.Edit.Steps.{root_of}
-use Rattle.cedar_meaning.proofs.MeaningLemmas.NodeAtPath.{at_node}
-use Rattle.cedar_meaning.proofs.EditLemmas.FirstBase.{low_base, no_number}
-use Rattle.cedar_meaning.proofs.EditLemmas.LeafAtPlace.{below_root, ends}
+use Rattle.cedar_model.specs.declared.layout.Stored.TheVariants.{AtBase}
+use Rattle.cedar_model.specs.Table.Cells.{Cells}
+use Rattle.cedar_model.specs.Edit.NodeEdits.{IsAt}
+use Rattle.cedar_model.specs.Meaning.Family.{Family, Head, number_of, own, plain, top, valued}
+use Rattle.cedar_model.specs.Meaning.StandsFor.{HoldsTree, labels, OnPath, slot_at}
+use Rattle.cedar_model.specs.Relocation.Renaming.{OwnsNothing}
+use Rattle.cedar_model.specs.Edit.Steps.{root_of}
+use Rattle.cedar_model.proofs.MeaningLemmas.NodeAtPath.{at_node}
+use Rattle.cedar_model.proofs.EditLemmas.FirstBase.{low_base, no_number}
+use Rattle.cedar_model.proofs.EditLemmas.LeafAtPlace.{below_root, ends}
 
 -- only the empty path leads to the root
 pub root_path : (T : Cells) (w : List ℕ) → ((c : ℕ) → T.check 0 ≡ pos c → ⊥) → IsAt T w 0 → w ≡ []

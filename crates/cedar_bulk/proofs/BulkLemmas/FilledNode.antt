@@ -6,26 +6,26 @@ use lib.Bits.{xor_assoc, xor_zero_r}
 use Rattle.cedar_tree.specs.Tree.{empty_tree, Forest, IsAscending, none, Tree}
 use Rattle.cedar_tree.specs.Queries.{node_at}
 use Rattle.cedar_tree.specs.Edits.{edit_at}
-use Rattle.cedar_meaning.specs.declared.layout.Stored.TheVariants.{AtBase, OwnNumber}
-use Rattle.cedar_meaning.specs.Table.Cells.{Cells, HasPlaces, Held, SameHeld, Takes}
-use Rattle.cedar_meaning.specs.Edit.NodeEdits.{Above, IsAt, SetsNumber}
-use Rattle.cedar_meaning.specs.Meaning.Family.{Among, base_in, below, InRange}
-use Rattle.cedar_meaning.specs.Meaning.StandsFor.{HoldsTree}
-use Rattle.cedar_meaning.specs.Edit.Own.{FieldSet}
-use Rattle.cedar_meaning.specs.Relocation.Renaming.{Rebased}
+use Rattle.cedar_model.specs.declared.layout.Stored.TheVariants.{AtBase, OwnNumber}
+use Rattle.cedar_model.specs.Table.Cells.{Cells, HasPlaces, Held, SameHeld, Takes}
+use Rattle.cedar_model.specs.Edit.NodeEdits.{Above, IsAt, SetsNumber}
+use Rattle.cedar_model.specs.Meaning.Family.{Among, base_in, below, InRange}
+use Rattle.cedar_model.specs.Meaning.StandsFor.{HoldsTree}
+use Rattle.cedar_model.specs.Edit.Own.{FieldSet}
+use Rattle.cedar_model.specs.Relocation.Renaming.{Rebased}
 use Rattle.cedar_bulk.specs.Sorted.{Ends, Fills, GetsBase, GetsLabels, GetsNumber, IsBareNode, IsChildless, leaves, with_number}
-use Rattle.cedar_meaning.specs.Edit.Steps.{root_of}
-use Rattle.cedar_meaning.proofs.EditLemmas.AtPath.{held_node, number_set_at, paths_touched}
+use Rattle.cedar_model.specs.Edit.Steps.{root_of}
+use Rattle.cedar_model.proofs.EditLemmas.AtPath.{held_node, number_set_at, paths_touched}
 use Rattle.cedar_bulk.proofs.BulkLemmas.BareNode.{Empty, empty_node}
-use Rattle.cedar_meaning.proofs.EditLemmas.FirstBase.{held_still, leaf_based, leaf_paths}
+use Rattle.cedar_model.proofs.EditLemmas.FirstBase.{held_still, leaf_based, leaf_paths}
 use Rattle.std.proofs.lemmas.Bool.{cases_eq}
 use Rattle.cedar_bulk.proofs.BulkLemmas.OneAfterAnother.{ascending_edit, edit_alike, edit_children, edit_nothing, edit_twice}
-use Rattle.cedar_meaning.proofs.EditLemmas.OwnNumber.{field_paths}
-use Rattle.cedar_meaning.proofs.MeaningLemmas.ExclusiveOr.{xor_injective}
+use Rattle.cedar_model.proofs.EditLemmas.OwnNumber.{field_paths}
+use Rattle.cedar_model.proofs.MeaningLemmas.ExclusiveOr.{xor_injective}
 use Rattle.cedar_bulk.proofs.BulkLemmas.LabelByLabel.{above_all}
-use Rattle.cedar_meaning.proofs.RelocationLemmas.PlacesFirst.{place_of}
-use Rattle.cedar_meaning.proofs.EditLemmas.Room.{root_label_free}
-use Rattle.cedar_meaning.proofs.EditLemmas.NumberWritten.{number_taken}
+use Rattle.cedar_model.proofs.RelocationLemmas.PlacesFirst.{place_of}
+use Rattle.cedar_model.proofs.EditLemmas.Room.{root_label_free}
+use Rattle.cedar_model.proofs.EditLemmas.NumberWritten.{number_taken}
 
 -- ---- the base
 

@@ -8,15 +8,15 @@ use Rattle.cedar_tree.specs.Queries.{node_at}
 use Rattle.cedar_tree.specs.Edits.{edit_at, number_on}
 use Rattle.cedar_tree.proofs.EditLemmas.{changed, edit_is_replace}
 use Rattle.cedar_tree.proofs.TreeLemmas.{has_label-replace, subtree-replace_other, subtree-replace_same, subtree_absent}
-use Rattle.cedar_meaning.specs.declared.layout.Stored.TheVariants.{AtBase, OwnNumber}
-use Rattle.cedar_meaning.specs.Table.Cells.{Cells}
-use Rattle.cedar_meaning.specs.Table.Layouts.{LayoutKind, reduced_layout}
-use Rattle.cedar_meaning.specs.Edit.NodeEdits.{IsAt}
-use Rattle.cedar_meaning.specs.Edit.Steps.{root_of}
+use Rattle.cedar_model.specs.declared.layout.Stored.TheVariants.{AtBase, OwnNumber}
+use Rattle.cedar_model.specs.Table.Cells.{Cells}
+use Rattle.cedar_model.specs.Table.Layouts.{LayoutKind, reduced_layout}
+use Rattle.cedar_model.specs.Edit.NodeEdits.{IsAt}
+use Rattle.cedar_model.specs.Edit.Steps.{root_of}
 use Rattle.cedar_bulk.specs.Sorted.{Fills, leaves}
 use Rattle.cedar_bulk.specs.SortedMarks.{KeepsLast, KeepsOwn}
-use Rattle.cedar_meaning.proofs.EditLemmas.AtPath.{held_node}
-use Rattle.cedar_meaning.proofs.MeaningLemmas.KeyPath.{number_there}
+use Rattle.cedar_model.proofs.EditLemmas.AtPath.{held_node}
+use Rattle.cedar_model.proofs.MeaningLemmas.KeyPath.{number_there}
 
 -- ---- a node that was bare gets a number and leaves
 

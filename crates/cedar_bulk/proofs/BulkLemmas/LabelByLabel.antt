@@ -5,22 +5,22 @@ use Rattle.std.proofs.lemmas.Bool.Decides.{nat_tests}
 use Rattle.cedar_tree.specs.Tree.{AllAbove, child, Forest, IsAscending, none}
 use Rattle.cedar_tree.specs.Queries.{node_at}
 use Rattle.cedar_tree.specs.Edits.{add_leaf, edit_at}
-use Rattle.cedar_meaning.specs.declared.layout.Stored.TheVariants.{AtBase}
-use Rattle.cedar_meaning.specs.Table.Cells.{Cells, Held}
-use Rattle.cedar_meaning.specs.Edit.NodeEdits.{Above, IsAt, IsNodeOf}
-use Rattle.cedar_meaning.specs.Meaning.Family.{Among, base_in, base_of, below, InRange}
-use Rattle.cedar_meaning.specs.Meaning.StandsFor.{HoldsTree}
+use Rattle.cedar_model.specs.declared.layout.Stored.TheVariants.{AtBase}
+use Rattle.cedar_model.specs.Table.Cells.{Cells, Held}
+use Rattle.cedar_model.specs.Edit.NodeEdits.{Above, IsAt, IsNodeOf}
+use Rattle.cedar_model.specs.Meaning.Family.{Among, base_in, base_of, below, InRange}
+use Rattle.cedar_model.specs.Meaning.StandsFor.{HoldsTree}
 use Rattle.cedar_slots.specs.Places.{IsTable}
 use Rattle.cedar_bulk.specs.Asked.{WantsLabel}
 use Rattle.cedar_bulk.specs.Sorted.{Ends, GetsLabels, leaves}
-use Rattle.cedar_meaning.specs.Edit.Steps.{root_of}
-use Rattle.cedar_meaning.specs.Table.TableFields.{Fields, SameFrame, size_of}
-use Rattle.cedar_meaning.specs.Meaning.WellFormed.{cells_in}
-use Rattle.cedar_meaning.proofs.EditLemmas.AtPath.{held_node}
-use Rattle.cedar_meaning.proofs.UpdateLemmas.Frame.{frame_same, frame_then}
-use Rattle.cedar_meaning.proofs.MeaningLemmas.TreeOf.{in_use}
+use Rattle.cedar_model.specs.Edit.Steps.{root_of}
+use Rattle.cedar_model.specs.Table.TableFields.{Fields, SameFrame, size_of}
+use Rattle.cedar_model.specs.Meaning.WellFormed.{cells_in}
+use Rattle.cedar_model.proofs.EditLemmas.AtPath.{held_node}
+use Rattle.cedar_model.proofs.UpdateLemmas.Frame.{frame_same, frame_then}
+use Rattle.cedar_model.proofs.MeaningLemmas.TreeOf.{in_use}
 use Rattle.cedar_bulk.proofs.BulkLemmas.OneAfterAnother.{ascending_edit, edit_alike, edit_nothing, edit_twice}
-use Rattle.cedar_meaning.proofs.MeaningLemmas.ExclusiveOr.{xor_injective}
+use Rattle.cedar_model.proofs.MeaningLemmas.ExclusiveOr.{xor_injective}
 
 -- ---- ascending labels
 

@@ -2,10 +2,10 @@
 use Rattle.std.proofs.Common.{◌≡◌, ℕ, true, ◌⊎◌, ◌∙◌, sym, subst, refl, inl, inr, Option, Some, None}
 use Rattle.std.specs.Prelude.{MatchOption}
 use Rattle.std.proofs.lemmas.Bool.{cases_eq}
-use Rattle.cedar_meaning.specs.declared.layout.Stored.TheVariants.{AtBase}
-use Rattle.cedar_meaning.specs.Table.Cells.{Cells, Held, Takes}
-use Rattle.cedar_meaning.specs.Edit.NodeEdits.{GoesBehind, GoesFirst, LinkedBehind, LinkedChild}
-use Rattle.cedar_meaning.proofs.EditLemmas.SlotForLabel.{held_behind}
+use Rattle.cedar_model.specs.declared.layout.Stored.TheVariants.{AtBase}
+use Rattle.cedar_model.specs.Table.Cells.{Cells, Held, Takes}
+use Rattle.cedar_model.specs.Edit.NodeEdits.{GoesBehind, GoesFirst, LinkedBehind, LinkedChild}
+use Rattle.cedar_model.proofs.EditLemmas.SlotForLabel.{held_behind}
 
 -- what a label goes behind is held
 pub behind_held : (size : ℕ) (T : Cells) (a l : ℕ) (before : Option ℕ) → MatchOption before (GoesFirst T true a l) (λ b. GoesBehind size T true a l b) → (b : ℕ) → before ≡ Some b → Held T b

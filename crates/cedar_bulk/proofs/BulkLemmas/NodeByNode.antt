@@ -6,27 +6,27 @@ use Rattle.std.specs.Prelude.{ℤ, IfErr, OnOk}
 use Rattle.cedar_tree.specs.Tree.{child, empty_tree, Forest, is_bare, none, Tree, IsAscending}
 use Rattle.cedar_tree.specs.Queries.{node_at, prefixes_forest}
 use Rattle.cedar_tree.specs.Edits.{edit_at}
-use Rattle.cedar_meaning.specs.declared.layout.Stored.TheVariants.{AtBase}
-use Rattle.cedar_meaning.specs.Table.Cells.{Held}
-use Rattle.cedar_meaning.specs.Edit.NodeEdits.{Above, IsAt}
-use Rattle.cedar_meaning.specs.Meaning.Family.{Among, base_of}
-use Rattle.cedar_meaning.specs.Meaning.StandsFor.{HoldsTree, labels}
+use Rattle.cedar_model.specs.declared.layout.Stored.TheVariants.{AtBase}
+use Rattle.cedar_model.specs.Table.Cells.{Held}
+use Rattle.cedar_model.specs.Edit.NodeEdits.{Above, IsAt}
+use Rattle.cedar_model.specs.Meaning.Family.{Among, base_of}
+use Rattle.cedar_model.specs.Meaning.StandsFor.{HoldsTree, labels}
 use Rattle.cedar_slots.specs.Places.{IsTable}
 use Rattle.cedar_bulk.specs.Sorted.{Fills, IsBareNode, leaves}
 use Rattle.cedar_bulk.specs.Spans.{Covers, Distinct, Filling, IsTreeOfSpan, nodes_of, Part, Pending, work}
-use Rattle.cedar_meaning.specs.Edit.Steps.{MakesBlocks, root_of}
-use Rattle.cedar_meaning.specs.Table.TableFields.{Fields, size_of}
-use Rattle.cedar_meaning.specs.Meaning.WellFormed.{cells_in}
+use Rattle.cedar_model.specs.Edit.Steps.{MakesBlocks, root_of}
+use Rattle.cedar_model.specs.Table.TableFields.{Fields, size_of}
+use Rattle.cedar_model.specs.Meaning.WellFormed.{cells_in}
 use Rattle.cedar_bulk.specs.SortedMarks.{KeepsOwn}
-use Rattle.cedar_meaning.specs.Table.Layouts.{reduced_layout}
+use Rattle.cedar_model.specs.Table.Layouts.{reduced_layout}
 use Rattle.cedar_bulk.proofs.BulkLemmas.InnerKeys.{last_kept, leaves_keep}
 use Rattle.cedar_bulk.proofs.BulkLemmas.LabelByLabel.{ascending_leaves}
-use Rattle.cedar_meaning.proofs.EditLemmas.AtPath.{held_node}
+use Rattle.cedar_model.proofs.EditLemmas.AtPath.{held_node}
 use Rattle.cedar_bulk.proofs.BulkLemmas.BareNode.{bare_leaf}
 use Rattle.cedar_bulk.proofs.BulkLemmas.OneAfterAnother.{ascending_edit}
 use Rattle.cedar_bulk.proofs.BulkLemmas.Pending.{children_wait, distinct_first, distinct_on, last_apart, less_work, pending_at, pending_join, pending_kept, pending_split}
 use Rattle.cedar_bulk.proofs.BulkLemmas.Spans.{above_of, all_positive}
-use Rattle.cedar_meaning.proofs.MeaningLemmas.TreeOf.{in_use}
+use Rattle.cedar_model.proofs.MeaningLemmas.TreeOf.{in_use}
 
 -- ---- a node that was filled
 

@@ -5,7 +5,7 @@ use Rattle.std.specs.Prelude.{nat_lt, is_some, bit_xor, ℤ}
 use Rattle.std.proofs.lemmas.Bool.Decides.{nat_tests}
 use Rattle.cedar_tree.specs.Tree.{Forest, none, child, Tree, IsSoundBelow}
 use Rattle.cedar_tree.specs.Queries.{Entry, walk, walk_forest}
-use Rattle.cedar_meaning.specs.Meaning.StandsFor.{labels}
+use Rattle.cedar_model.specs.Meaning.StandsFor.{labels}
 use Rattle.cedar_bulk.specs.Sorted.{entries_by, label_of, run}
 use Rattle.cedar_bulk.specs.Spans.{Covers, IsAlike, IsTreeOfSpan, Lists, Part, stripped}
 use Rattle.cedar_bulk.proofs.BulkLemmas.Spans.{first_of, lists_none, number_first, walk_some}

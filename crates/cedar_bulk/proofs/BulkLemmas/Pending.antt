@@ -7,19 +7,19 @@ use Rattle.std.proofs.lemmas.List.{length-map}
 use Rattle.cedar_tree.specs.Tree.{AllNumbers, Forest, none, child, Tree, IsAscending, IsSoundBelow}
 use Rattle.cedar_tree.specs.Queries.{Entry, own_entry, prefixes_forest, under, walk, walk_forest}
 use Rattle.cedar_tree.specs.Edits.{edit_at}
-use Rattle.cedar_meaning.specs.declared.layout.Stored.TheVariants.{AtBase}
+use Rattle.cedar_model.specs.declared.layout.Stored.TheVariants.{AtBase}
 use Rattle.cedar_bulk.specs.declared.spans.Span.{Span}
-use Rattle.cedar_meaning.specs.Table.Cells.{Cells, Held}
-use Rattle.cedar_meaning.specs.Edit.NodeEdits.{IsAt}
-use Rattle.cedar_meaning.specs.Meaning.Family.{Among}
-use Rattle.cedar_meaning.specs.Meaning.StandsFor.{labels}
+use Rattle.cedar_model.specs.Table.Cells.{Cells, Held}
+use Rattle.cedar_model.specs.Edit.NodeEdits.{IsAt}
+use Rattle.cedar_model.specs.Meaning.Family.{Among}
+use Rattle.cedar_model.specs.Meaning.StandsFor.{labels}
 use Rattle.cedar_bulk.specs.Sorted.{leaves}
 use Rattle.cedar_bulk.specs.Spans.{bytes_in, Covers, Distinct, IsTreeOfSpan, nodes_of, Part, part_of, parts_of, Pending, stripped, work}
-use Rattle.cedar_meaning.specs.Meaning.WellFormed.{is_value}
-use Rattle.cedar_meaning.proofs.MeaningLemmas.SearchStep.{has_among}
+use Rattle.cedar_model.specs.Meaning.WellFormed.{is_value}
+use Rattle.cedar_model.proofs.MeaningLemmas.SearchStep.{has_among}
 use Rattle.cedar_bulk.proofs.BulkLemmas.OneAfterAnother.{edit_below, edit_twice}
 use Rattle.cedar_bulk.proofs.BulkLemmas.Spans.{walk_some}
-use Rattle.cedar_meaning.proofs.MeaningLemmas.ExclusiveOr.{xor_injective}
+use Rattle.cedar_model.proofs.MeaningLemmas.ExclusiveOr.{xor_injective}
 
 -- ---- spans as specs speak of them
 

@@ -11,31 +11,31 @@ use Rattle.cedar_tree.proofs.PrefixLemmas.{front_of_node}
 use Rattle.cedar_tree.proofs.TreeLemmas.{bare-subtree}
 use Rattle.cedar_tree.proofs.VisitLemmas.{has_here}
 use Rattle.cedar_slots.specs.Slots.{base_at}
-use Rattle.cedar_meaning.specs.declared.layout.Stored.TheVariants.{OwnNumber}
-use Rattle.cedar_meaning.specs.Table.Cells.{Cells}
-use Rattle.cedar_meaning.specs.Table.Layouts.{default_layout, reduced_layout}
-use Rattle.cedar_meaning.specs.Table.TableFields.{Fields, size_of}
-use Rattle.cedar_meaning.specs.Edit.NodeEdits.{IsAt}
-use Rattle.cedar_meaning.specs.Edit.Steps.{root_of}
-use Rattle.cedar_meaning.specs.Meaning.Family.{Among, below, top}
-use Rattle.cedar_meaning.specs.Meaning.Marks.{HasMark, marked, MarkedAt, marks}
-use Rattle.cedar_meaning.specs.Meaning.Reading.{has_number_slot, number_in, own_number}
-use Rattle.cedar_meaning.specs.Meaning.StandsFor.{ChildrenStand, labels}
-use Rattle.cedar_meaning.specs.Meaning.WellFormed.{cells_in, IsWellFormed, tree_of}
-use Rattle.cedar_meaning.specs.Relocation.Renaming.{OwnsNothing}
+use Rattle.cedar_model.specs.declared.layout.Stored.TheVariants.{OwnNumber}
+use Rattle.cedar_model.specs.Table.Cells.{Cells}
+use Rattle.cedar_model.specs.Table.Layouts.{default_layout, reduced_layout}
+use Rattle.cedar_model.specs.Table.TableFields.{Fields, size_of}
+use Rattle.cedar_model.specs.Edit.NodeEdits.{IsAt}
+use Rattle.cedar_model.specs.Edit.Steps.{root_of}
+use Rattle.cedar_model.specs.Meaning.Family.{Among, below, top}
+use Rattle.cedar_model.specs.Meaning.Marks.{HasMark, marked, MarkedAt, marks}
+use Rattle.cedar_model.specs.Meaning.Reading.{has_number_slot, number_in, own_number}
+use Rattle.cedar_model.specs.Meaning.StandsFor.{ChildrenStand, labels}
+use Rattle.cedar_model.specs.Meaning.WellFormed.{cells_in, IsWellFormed, tree_of}
+use Rattle.cedar_model.specs.Relocation.Renaming.{OwnsNothing}
 use Rattle.cedar_bulk.specs.SortedMarks.{IsInnerKey, KeepsLast, SortedMarks}
-use Rattle.cedar_meaning.proofs.EditLemmas.NumberMovesOut.{leaf_alone, own_base}
-use Rattle.cedar_meaning.proofs.MeaningLemmas.HeldCount.{default_own}
-use Rattle.cedar_meaning.proofs.MeaningLemmas.KeyPath.{tree_root}
-use Rattle.cedar_meaning.proofs.MeaningLemmas.NodeAtPath.{at_owner}
-use Rattle.cedar_meaning.proofs.MeaningLemmas.NumberSlots.{marked_slot}
-use Rattle.cedar_meaning.proofs.MeaningLemmas.OneNode.{labels_own, node_labels_own}
-use Rattle.cedar_meaning.proofs.MeaningLemmas.OneTree.{node_reads}
-use Rattle.cedar_meaning.proofs.UpdateLemmas.FreeWay.{at_same, own_no_root}
-use Rattle.cedar_meaning.proofs.UpdateLemmas.MarkedTree.{marked_held, marks_read}
-use Rattle.cedar_meaning.proofs.UpdateLemmas.MarksAfterPut.{marked_own}
-use Rattle.cedar_meaning.proofs.UpdateLemmas.MarksAfterUpdate.{held_marked}
-use Rattle.cedar_meaning.proofs.UpdateLemmas.OnTheWay.{held_on_way}
+use Rattle.cedar_model.proofs.EditLemmas.NumberMovesOut.{leaf_alone, own_base}
+use Rattle.cedar_model.proofs.MeaningLemmas.HeldCount.{default_own}
+use Rattle.cedar_model.proofs.MeaningLemmas.KeyPath.{tree_root}
+use Rattle.cedar_model.proofs.MeaningLemmas.NodeAtPath.{at_owner}
+use Rattle.cedar_model.proofs.MeaningLemmas.NumberSlots.{marked_slot}
+use Rattle.cedar_model.proofs.MeaningLemmas.OneNode.{labels_own, node_labels_own}
+use Rattle.cedar_model.proofs.MeaningLemmas.OneTree.{node_reads}
+use Rattle.cedar_model.proofs.UpdateLemmas.FreeWay.{at_same, own_no_root}
+use Rattle.cedar_model.proofs.UpdateLemmas.MarkedTree.{marked_held, marks_read}
+use Rattle.cedar_model.proofs.UpdateLemmas.MarksAfterPut.{marked_own}
+use Rattle.cedar_model.proofs.UpdateLemmas.MarksAfterUpdate.{held_marked}
+use Rattle.cedar_model.proofs.UpdateLemmas.OnTheWay.{held_on_way}
 
 -- ---- in the reduced layout
 

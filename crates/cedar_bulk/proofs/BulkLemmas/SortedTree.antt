@@ -10,15 +10,15 @@ use Rattle.cedar_tree.proofs.BuildLemmas.{numbers-asc}
 use Rattle.cedar_tree.proofs.PairLemmas.{asc_is_tree_of}
 use Rattle.cedar_slots.specs.Slots.{check_at}
 use Rattle.cedar_bulk.specs.Spans.{Filling, IsTreeOfSpan, stripped}
-use Rattle.cedar_meaning.specs.Table.TableFields.{Fields}
-use Rattle.cedar_meaning.specs.Table.Layouts.{reduced_layout}
+use Rattle.cedar_model.specs.Table.TableFields.{Fields}
+use Rattle.cedar_model.specs.Table.Layouts.{reduced_layout}
 use Rattle.cedar_bulk.specs.SortedMarks.{KeepsLast, SortedMarks}
-use Rattle.cedar_meaning.specs.Meaning.Marks.{marks}
+use Rattle.cedar_model.specs.Meaning.Marks.{marks}
 use Rattle.cedar_bulk.proofs.BulkLemmas.InnerKeys.{leaves_keep}
 use Rattle.cedar_bulk.proofs.BulkLemmas.SlotsOfNumbers.{sorted_marks}
-use Rattle.cedar_meaning.specs.Meaning.WellFormed.{cells_in, is_value, IsWellFormed, tree_of}
+use Rattle.cedar_model.specs.Meaning.WellFormed.{cells_in, is_value, IsWellFormed, tree_of}
 use Rattle.cedar_bulk.proofs.BulkLemmas.NodeByNode.{filling_ends}
-use Rattle.cedar_meaning.proofs.MeaningLemmas.TreeOf.{is_well_formed, tree_of_is}
+use Rattle.cedar_model.proofs.MeaningLemmas.TreeOf.{is_well_formed, tree_of_is}
 
 entries_stripped : (es : List Entry) → es ≡ stripped 0 es
 entries_stripped [] = refl

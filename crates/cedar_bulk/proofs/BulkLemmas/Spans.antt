@@ -7,10 +7,10 @@ use Rattle.std.proofs.lemmas.Bool.{or_parts, true≢false}
 use Rattle.std.proofs.lemmas.Bool.Decides.{eqb_tells, nat_tests}
 use Rattle.cedar_tree.specs.Tree.{AllAbove, Forest, none, child, Tree, has_label, is_bare, IsAscending, IsSoundBelow}
 use Rattle.cedar_tree.specs.Queries.{Entry, own_entry, under, walk, walk_forest}
-use Rattle.cedar_meaning.specs.Meaning.StandsFor.{labels}
+use Rattle.cedar_model.specs.Meaning.StandsFor.{labels}
 use Rattle.cedar_bulk.specs.Sorted.{entries_by, label_of, run, with_number}
 use Rattle.cedar_bulk.specs.Spans.{Covers, first_label, first_number, IsDeeper, IsTreeOfSpan, Lists, Part, stripped}
-use Rattle.cedar_meaning.specs.Edit.NodeEdits.{Above}
+use Rattle.cedar_model.specs.Edit.NodeEdits.{Above}
 
 -- ---- a key's bytes
 

@@ -3,18 +3,18 @@
 ghost use Rattle.std.specs.Prelude.{◌≡◌, ◌⊎◌, ℕ, List, ◌<◌, None, pos, Some};
 ghost use Rattle.cedar_tree.specs.Tree.{Forest};
 ghost use Rattle.cedar_tree.specs.Edits.{edit_at};
-ghost use Rattle.cedar_meaning.specs.Table.Cells.{Held};
-ghost use Rattle.cedar_meaning.specs.Edit.NodeEdits.{DropsNumber, IsAt, IsNodeOf, SetsNumber};
-ghost use Rattle.cedar_meaning.specs.Meaning.Family.{below, InRange};
-ghost use Rattle.cedar_meaning.specs.Meaning.StandsFor.{HoldsTree};
+ghost use Rattle.cedar_model.specs.Table.Cells.{Held};
+ghost use Rattle.cedar_model.specs.Edit.NodeEdits.{DropsNumber, IsAt, IsNodeOf, SetsNumber};
+ghost use Rattle.cedar_model.specs.Meaning.Family.{below, InRange};
+ghost use Rattle.cedar_model.specs.Meaning.StandsFor.{HoldsTree};
 ghost use Rattle.cedar_slots.specs.Places.{IsTable};
-ghost use Rattle.cedar_meaning.specs.Relocation.Reserved.{freed};
+ghost use Rattle.cedar_model.specs.Relocation.Reserved.{freed};
 ghost use Rattle.cedar_table.specs.Table.Views.{cells, fields};
-ghost use Rattle.cedar_meaning.specs.Table.TableFields.{SameFrame, size_of};
-ghost use Rattle.cedar_meaning.specs.Edit.Steps.{HasNode};
-ghost use Rattle.cedar_meaning.specs.Meaning.WellFormed.{TableHolds};
+ghost use Rattle.cedar_model.specs.Table.TableFields.{SameFrame, size_of};
+ghost use Rattle.cedar_model.specs.Edit.Steps.{HasNode};
+ghost use Rattle.cedar_model.specs.Meaning.WellFormed.{TableHolds};
 
-use cedar_meaning::Layout;
+use cedar_model::Layout;
 use cedar_slots::NodeRecord;
 use cedar_table::Table;
 use std::alloc::Allocator;

@@ -4,19 +4,19 @@ ghost use Rattle.std.specs.Prelude.{◌≡◌, ℕ, List, ◌<◌, ◌↔◌, is
 ghost use Rattle.cedar_tree.specs.Tree.{Forest, cut, is_bare, number_at};
 ghost use Rattle.cedar_tree.specs.Edits.{edit_at};
 ghost use Rattle.cedar_tree.specs.Queries.{node_at};
-ghost use Rattle.cedar_meaning.specs.Edit.NodeEdits.{IsAt};
-ghost use Rattle.cedar_meaning.specs.Meaning.Marks.{KeepsMarks, KeepsOtherMarks, marks, MarksCut};
+ghost use Rattle.cedar_model.specs.Edit.NodeEdits.{IsAt};
+ghost use Rattle.cedar_model.specs.Meaning.Marks.{KeepsMarks, KeepsOtherMarks, marks, MarksCut};
 ghost use Rattle.cedar_slots.specs.Places.{IsTable};
-ghost use Rattle.cedar_meaning.specs.Edit.Steps.{HasNode, root_of, SameModes, trimmed};
+ghost use Rattle.cedar_model.specs.Edit.Steps.{HasNode, root_of, SameModes, trimmed};
 ghost use Rattle.cedar_table.specs.Table.Views.{cells, fields};
-ghost use Rattle.cedar_meaning.specs.Table.TableFields.{capacity_of, SameFrame, size_of};
-ghost use Rattle.cedar_meaning.specs.Edit.Trims.{LosesLeaf, TellsBare};
-ghost use Rattle.cedar_meaning.specs.Meaning.WellFormed.{IsWellFormed, TableHolds, tree_of};
+ghost use Rattle.cedar_model.specs.Table.TableFields.{capacity_of, SameFrame, size_of};
+ghost use Rattle.cedar_model.specs.Edit.Trims.{LosesLeaf, TellsBare};
+ghost use Rattle.cedar_model.specs.Meaning.WellFormed.{IsWellFormed, TableHolds, tree_of};
 
 use crate::edit::leaf::remove_label;
 use crate::edit::number::drop_number;
 use crate::edit::own::{drop_own_number, has_number};
-use cedar_meaning::{Layout, Stored};
+use cedar_model::{Layout, Stored};
 use cedar_table::Table;
 use std::alloc::Allocator;
 

@@ -2,21 +2,21 @@
 
 ghost use Rattle.std.specs.Prelude.{◌≡◌, ◌⊎◌, ℕ, ◌+◌, ◌<◌, ◌≤◌, IfErr, IfOk, drop, is_some, length, take, OnErr, OnOk, true, false, [], ◌∷◌};
 ghost use Rattle.cedar_tree.specs.Tree.{IsKey, has_label, number_at, put};
-ghost use Rattle.cedar_meaning.specs.Table.Cells.{NoPlace};
-ghost use Rattle.cedar_meaning.specs.Edit.KeyWalk.{TakenBack, Walked};
-ghost use Rattle.cedar_meaning.specs.Table.Layouts.{default_layout, reduced_layout};
-ghost use Rattle.cedar_meaning.specs.Meaning.Marks.{KeepsMarks, marks, MarksPut, NewMark, PutsMarks};
-ghost use Rattle.cedar_meaning.specs.Edit.Own.{HasWay, LacksNode};
+ghost use Rattle.cedar_model.specs.Table.Cells.{NoPlace};
+ghost use Rattle.cedar_model.specs.Edit.KeyWalk.{TakenBack, Walked};
+ghost use Rattle.cedar_model.specs.Table.Layouts.{default_layout, reduced_layout};
+ghost use Rattle.cedar_model.specs.Meaning.Marks.{KeepsMarks, marks, MarksPut, NewMark, PutsMarks};
+ghost use Rattle.cedar_model.specs.Edit.Own.{HasWay, LacksNode};
 ghost use Rattle.cedar_slots.specs.Places.{MayRefuse};
-ghost use Rattle.cedar_meaning.specs.Edit.Steps.{MakesBlocks, SameModes};
+ghost use Rattle.cedar_model.specs.Edit.Steps.{MakesBlocks, SameModes};
 ghost use Rattle.cedar_table.specs.Table.Views.{cells, fields};
-ghost use Rattle.cedar_meaning.specs.Table.TableFields.{size_of};
-ghost use Rattle.cedar_meaning.specs.Meaning.WellFormed.{IsWellFormed, is_value, tree_of};
+ghost use Rattle.cedar_model.specs.Table.TableFields.{size_of};
+ghost use Rattle.cedar_model.specs.Meaning.WellFormed.{IsWellFormed, is_value, tree_of};
 
 use crate::keys::erase::trim;
 use crate::keys::step::{follow_or_add, put_number};
 use crate::keys::way::{close_way, make_way};
-use cedar_meaning::Layout;
+use cedar_model::Layout;
 use cedar_slots::Shortage;
 use cedar_table::Table;
 use std::alloc::Allocator;

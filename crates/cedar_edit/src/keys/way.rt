@@ -3,21 +3,21 @@
 
 ghost use Rattle.std.specs.Prelude.{◌≡◌, ℕ, List, ◌<◌, ◌≤◌, IfErr, IfOk, is_some, length, MatchOption, None, OnErr, OnOk, pos, Some, take, true, false};
 ghost use Rattle.cedar_tree.specs.Tree.{Forest, IsKey, number_at};
-ghost use Rattle.cedar_meaning.specs.Edit.NodeEdits.{IsAt};
-ghost use Rattle.cedar_meaning.specs.Meaning.Family.{below};
-ghost use Rattle.cedar_meaning.specs.Table.Layouts.{reduced_layout};
-ghost use Rattle.cedar_meaning.specs.Meaning.Marks.{KeepsMarks, KeepsOtherMarks, mark, MovesOut};
-ghost use Rattle.cedar_meaning.specs.Edit.Own.{HasWay, IsOwnAt, LacksNode};
+ghost use Rattle.cedar_model.specs.Edit.NodeEdits.{IsAt};
+ghost use Rattle.cedar_model.specs.Meaning.Family.{below};
+ghost use Rattle.cedar_model.specs.Table.Layouts.{reduced_layout};
+ghost use Rattle.cedar_model.specs.Meaning.Marks.{KeepsMarks, KeepsOtherMarks, mark, MovesOut};
+ghost use Rattle.cedar_model.specs.Edit.Own.{HasWay, IsOwnAt, LacksNode};
 ghost use Rattle.cedar_slots.specs.Places.{MayRefuse};
-ghost use Rattle.cedar_meaning.specs.Meaning.Reading.{first_in};
-ghost use Rattle.cedar_meaning.specs.Edit.Steps.{HasNode, MakesBlocks, root_of, SameModes};
+ghost use Rattle.cedar_model.specs.Meaning.Reading.{first_in};
+ghost use Rattle.cedar_model.specs.Edit.Steps.{HasNode, MakesBlocks, root_of, SameModes};
 ghost use Rattle.cedar_table.specs.Table.Views.{cells, fields};
-ghost use Rattle.cedar_meaning.specs.Table.TableFields.{SameFrame, size_of};
-ghost use Rattle.cedar_meaning.specs.Meaning.WellFormed.{IsWellFormed, tree_of};
+ghost use Rattle.cedar_model.specs.Table.TableFields.{SameFrame, size_of};
+ghost use Rattle.cedar_model.specs.Meaning.WellFormed.{IsWellFormed, tree_of};
 
 use crate::edit::number::drop_number;
 use crate::edit::own::move_number;
-use cedar_meaning::{Layout, Stored};
+use cedar_model::{Layout, Stored};
 use cedar_slots::Shortage;
 use cedar_table::Table;
 use std::alloc::Allocator;

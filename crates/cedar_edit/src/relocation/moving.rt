@@ -1,17 +1,17 @@
 //! Moving the slots of a node to another base.
 
 ghost use Rattle.std.specs.Prelude.{bit_xor, ◌≡◌, ◌≢◌, ℕ, List, ◌<◌, ◌^◌, pos, true};
-ghost use Rattle.cedar_meaning.specs.Table.Cells.{IsPlace, SameHeld};
-ghost use Rattle.cedar_meaning.specs.Meaning.Family.{Among, base_of, Family, Head, Links};
+ghost use Rattle.cedar_model.specs.Table.Cells.{IsPlace, SameHeld};
+ghost use Rattle.cedar_model.specs.Meaning.Family.{Among, base_of, Family, Head, Links};
 ghost use Rattle.cedar_slots.specs.Places.{IsTable};
-ghost use Rattle.cedar_meaning.specs.Relocation.Asked.{MayReserve, MovesSlot, Repoints, RepointsUnder};
-ghost use Rattle.cedar_meaning.specs.Relocation.Renaming.{Always, IsNode, IsNumber, Movable, Relocated, Renames, Repointed, single};
-ghost use Rattle.cedar_meaning.specs.Relocation.Reserved.{freed, seen};
+ghost use Rattle.cedar_model.specs.Relocation.Asked.{MayReserve, MovesSlot, Repoints, RepointsUnder};
+ghost use Rattle.cedar_model.specs.Relocation.Renaming.{Always, IsNode, IsNumber, Movable, Relocated, Renames, Repointed, single};
+ghost use Rattle.cedar_model.specs.Relocation.Reserved.{freed, seen};
 ghost use Rattle.cedar_table.specs.Table.Views.{cells, fields};
-ghost use Rattle.cedar_meaning.specs.Table.TableFields.{SameFrame, size_of};
-ghost use Rattle.cedar_meaning.specs.Relocation.Wanted.{goes_before};
+ghost use Rattle.cedar_model.specs.Table.TableFields.{SameFrame, size_of};
+ghost use Rattle.cedar_model.specs.Relocation.Wanted.{goes_before};
 
-use cedar_meaning::Layout;
+use cedar_model::Layout;
 use cedar_slots::NInfoRecord;
 use cedar_table::Table;
 use std::alloc::Allocator;

@@ -4,19 +4,19 @@ use Rattle.std.specs.Prelude.{nat_eq, pos}
 use Rattle.std.specs.List.{count_by, range_with_len}
 use Rattle.std.proofs.lemmas.Bool.{cases_eq, cond-true, ne_eqb}
 use Rattle.cedar_tree.specs.Tree.{Forest, none, child}
-use Rattle.cedar_meaning.specs.Table.Cells.{Cells, is_held}
-use Rattle.cedar_meaning.specs.Meaning.Family.{Among, base_of, below, Links}
-use Rattle.cedar_meaning.specs.Meaning.StandsFor.{labels, OnPath, slot_at}
-use Rattle.cedar_meaning.specs.Meaning.Reading.{first_in, has_number_slot}
+use Rattle.cedar_model.specs.Table.Cells.{Cells, is_held}
+use Rattle.cedar_model.specs.Meaning.Family.{Among, base_of, below, Links}
+use Rattle.cedar_model.specs.Meaning.StandsFor.{labels, OnPath, slot_at}
+use Rattle.cedar_model.specs.Meaning.Reading.{first_in, has_number_slot}
 use Rattle.cedar_slots.specs.Ring.{occurs}
-use Rattle.cedar_meaning.specs.Meaning.WellFormed.{number_slots, slots_below}
-use Rattle.cedar_meaning.proofs.CellsLemmas.PlacesFound.{held-is_held}
+use Rattle.cedar_model.specs.Meaning.WellFormed.{number_slots, slots_below}
+use Rattle.cedar_model.proofs.CellsLemmas.PlacesFound.{held-is_held}
 use Rattle.cedar_slots.proofs.ListsLemmas.FreeCounts.{count_by-total, total, total-occurs, yes}
-use Rattle.cedar_meaning.proofs.MeaningLemmas.NamedSlots.{ChildrenRead, either_list, first_or_later, in_number, none_of, once_below}
-use Rattle.cedar_meaning.proofs.MeaningLemmas.OneNode.{links_own}
+use Rattle.cedar_model.proofs.MeaningLemmas.NamedSlots.{ChildrenRead, either_list, first_or_later, in_number, none_of, once_below}
+use Rattle.cedar_model.proofs.MeaningLemmas.OneNode.{links_own}
 use Rattle.cedar_slots.proofs.RingsLemmas.Ring.{occurs_other, occurs_same}
-use Rattle.cedar_meaning.proofs.MeaningLemmas.ExclusiveOr.{pos_injective, xor_back}
-use Rattle.cedar_meaning.proofs.MeaningLemmas.OneTree.{links_distinct, links_unique, no_zero}
+use Rattle.cedar_model.proofs.MeaningLemmas.ExclusiveOr.{pos_injective, xor_back}
+use Rattle.cedar_model.proofs.MeaningLemmas.OneTree.{links_distinct, links_unique, no_zero}
 
 -- ---- sums
 

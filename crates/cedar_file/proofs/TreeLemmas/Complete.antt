@@ -5,23 +5,23 @@ use Rattle.std.specs.List.{count_by, range_with_len}
 use Rattle.std.proofs.lemmas.Bool.Decides.{Decides-int_eq}
 use Rattle.cedar_tree.specs.Tree.{AllNumbers, Forest, IsAscending, is_bare, IsSoundBelow, none, child}
 use Rattle.cedar_file.specs.declared.check.tree.Walk.{Walk}
-use Rattle.cedar_meaning.specs.Table.Cells.{Cells, is_held}
+use Rattle.cedar_model.specs.Table.Cells.{Cells, is_held}
 use Rattle.cedar_file.specs.TreeWalk.{Ends, LooksLikeRoot, walk_start}
-use Rattle.cedar_meaning.specs.Meaning.Family.{base_in, below, Family, Links, Node, top}
-use Rattle.cedar_meaning.specs.Meaning.StandsFor.{ChildrenStand, HoldsTree, labels}
-use Rattle.cedar_meaning.specs.Meaning.Reading.{first_in, has_number_slot, number_in}
+use Rattle.cedar_model.specs.Meaning.Family.{base_in, below, Family, Links, Node, top}
+use Rattle.cedar_model.specs.Meaning.StandsFor.{ChildrenStand, HoldsTree, labels}
+use Rattle.cedar_model.specs.Meaning.Reading.{first_in, has_number_slot, number_in}
 use Rattle.cedar_slots.specs.Places.{IsTable}
-use Rattle.cedar_meaning.specs.Table.TableFields.{Fields, size_of}
-use Rattle.cedar_meaning.specs.Meaning.WellFormed.{cells_in, is_value, IsWellFormed, slots_below}
-use Rattle.cedar_meaning.proofs.CellsLemmas.HeldSlots.{active_is}
+use Rattle.cedar_model.specs.Table.TableFields.{Fields, size_of}
+use Rattle.cedar_model.specs.Meaning.WellFormed.{cells_in, is_value, IsWellFormed, slots_below}
+use Rattle.cedar_model.proofs.CellsLemmas.HeldSlots.{active_is}
 use Rattle.cedar_file.proofs.TreeLemmas.AllMet.{all_listed, chain_of, chain_of-node, owned_of}
 use Rattle.cedar_file.proofs.TreeLemmas.LooksLikeNode.{looks_node, Owns}
 use Rattle.cedar_file.proofs.TreeLemmas.TreeRead.{Met, ReadTree, tree_walked}
-use Rattle.cedar_meaning.proofs.MeaningLemmas.SearchStep.{has_not}
-use Rattle.cedar_meaning.proofs.MeaningLemmas.NamedSlots.{ChildrenRead}
-use Rattle.cedar_meaning.proofs.MeaningLemmas.ExclusiveOr.{pos_injective}
-use Rattle.cedar_meaning.proofs.MeaningLemmas.TreeOf.{in_use, is_well_formed}
-use Rattle.cedar_meaning.proofs.MeaningLemmas.OneTree.{links_distinct}
+use Rattle.cedar_model.proofs.MeaningLemmas.SearchStep.{has_not}
+use Rattle.cedar_model.proofs.MeaningLemmas.NamedSlots.{ChildrenRead}
+use Rattle.cedar_model.proofs.MeaningLemmas.ExclusiveOr.{pos_injective}
+use Rattle.cedar_model.proofs.MeaningLemmas.TreeOf.{in_use, is_well_formed}
+use Rattle.cedar_model.proofs.MeaningLemmas.OneTree.{links_distinct}
 
 -- ---- what was met
 

@@ -4,16 +4,16 @@ use Rattle.std.proofs.Common.{◌≡◌, ℕ, ◌⊎◌, List, [], ◌∷◌, sy
 use Rattle.std.specs.Prelude.{bit_xor, IfSome, pos}
 use Rattle.std.proofs.lemmas.Bool.{cases_Bool, false≢true}
 use Rattle.cedar_tree.specs.Tree.{Forest, none, child, is_bare}
-use Rattle.cedar_meaning.specs.declared.layout.Stored.{Stored}
-use Rattle.cedar_meaning.specs.declared.layout.Stored.TheVariants.{AtBase, OwnNumber, Nothing}
-use Rattle.cedar_meaning.specs.Table.Cells.{Cells}
+use Rattle.cedar_model.specs.declared.layout.Stored.{Stored}
+use Rattle.cedar_model.specs.declared.layout.Stored.TheVariants.{AtBase, OwnNumber, Nothing}
+use Rattle.cedar_model.specs.Table.Cells.{Cells}
 use Rattle.cedar_file.specs.TreeWalk.{IsOfNode, LooksLikeNode}
-use Rattle.cedar_meaning.specs.Meaning.Family.{Among, base_in, base_of, Based, below, Family, Head, InRange, Links, Node, number_of, own, plain, top, valued}
-use Rattle.cedar_meaning.specs.Meaning.StandsFor.{labels}
-use Rattle.cedar_meaning.specs.Meaning.Reading.{first_in, has_number_slot, number_in, own_number}
-use Rattle.cedar_meaning.specs.Meaning.WellFormed.{is_value}
-use Rattle.cedar_meaning.proofs.MeaningLemmas.ExclusiveOr.{xor_back}
-use Rattle.cedar_meaning.proofs.MeaningLemmas.OneTree.{no_zero, node_reads}
+use Rattle.cedar_model.specs.Meaning.Family.{Among, base_in, base_of, Based, below, Family, Head, InRange, Links, Node, number_of, own, plain, top, valued}
+use Rattle.cedar_model.specs.Meaning.StandsFor.{labels}
+use Rattle.cedar_model.specs.Meaning.Reading.{first_in, has_number_slot, number_in, own_number}
+use Rattle.cedar_model.specs.Meaning.WellFormed.{is_value}
+use Rattle.cedar_model.proofs.MeaningLemmas.ExclusiveOr.{xor_back}
+use Rattle.cedar_model.proofs.MeaningLemmas.OneTree.{no_zero, node_reads}
 use Rattle.std.proofs.lemmas.Bool.Decides.{Decides-int_eq}
 
 -- ---- from what is looked at to a node

@@ -5,13 +5,13 @@ use Rattle.std.proofs.lemmas.Bool.{cases_eq}
 use Rattle.std.proofs.lemmas.List.{length-map}
 use Rattle.cedar_tree.specs.Tree.{AllAbove, Forest, none, child}
 use Rattle.cedar_tree.specs.Queries.{own_entry, under, walk_forest}
-use Rattle.cedar_meaning.specs.Table.Cells.{Cells}
+use Rattle.cedar_model.specs.Table.Cells.{Cells}
 use Rattle.cedar_file.specs.TreeWalk.{Ends, GoesDown, LooksLikeNode, numbers_at, slots_at, walk_at, walk_start}
-use Rattle.cedar_meaning.specs.Meaning.Family.{base_of, below, Links}
-use Rattle.cedar_meaning.specs.Meaning.StandsFor.{labels}
-use Rattle.cedar_meaning.specs.Meaning.Reading.{first_in, has_number_slot, number_in}
-use Rattle.cedar_meaning.specs.Meaning.WellFormed.{number_slots, slots_below}
-use Rattle.cedar_meaning.proofs.MeaningLemmas.ExclusiveOr.{pos_injective, xor_back}
+use Rattle.cedar_model.specs.Meaning.Family.{base_of, below, Links}
+use Rattle.cedar_model.specs.Meaning.StandsFor.{labels}
+use Rattle.cedar_model.specs.Meaning.Reading.{first_in, has_number_slot, number_in}
+use Rattle.cedar_model.specs.Meaning.WellFormed.{number_slots, slots_below}
+use Rattle.cedar_model.proofs.MeaningLemmas.ExclusiveOr.{pos_injective, xor_back}
 
 -- ---- what a node adds to the counts
 

@@ -2,11 +2,11 @@
 use Rattle.std.proofs.Common.{◌≡◌, ◌≢◌, ℕ, zero, suc, ◌+◌, ◌<◌, ◌≤◌, sym, ◌∙◌, ap, refl, subst, inl, inr, arith, Bool, true, false, cond, is_some, Result, Ok, Err}
 use Rattle.std.specs.Prelude.{IfOk, OnErr, pos}
 use Rattle.cedar_file.specs.declared.check.tree.Walk.{Walk}
-use Rattle.cedar_meaning.specs.Table.Cells.{Cells}
+use Rattle.cedar_model.specs.Table.Cells.{Cells}
 use Rattle.cedar_file.specs.TreeWalk.{Ends, GoesDown, GoesOn, GoesUp, numbers_at, slots_at, walk_down, walk_up}
-use Rattle.cedar_meaning.specs.Meaning.Family.{base_of, below}
-use Rattle.cedar_meaning.specs.Meaning.Reading.{has_number_slot, number_in}
-use Rattle.cedar_meaning.proofs.MeaningLemmas.ExclusiveOr.{pos_injective}
+use Rattle.cedar_model.specs.Meaning.Family.{base_of, below}
+use Rattle.cedar_model.specs.Meaning.Reading.{has_number_slot, number_in}
+use Rattle.cedar_model.proofs.MeaningLemmas.ExclusiveOr.{pos_injective}
 
 slots_few : (T : Cells) (s : ℕ) → slots_at T s ≤ 2
 slots_few T s = by_test (has_number_slot T s)

@@ -5,22 +5,22 @@ use Rattle.std.specs.List.{count_by, range_with_len}
 use Rattle.cedar_tree.specs.Tree.{AllAbove, AllNumbers, Forest, IsAscending, IsSoundBelow, none, child}
 use Rattle.cedar_tree.specs.Queries.{walk, walk_forest}
 use Rattle.cedar_file.specs.declared.check.tree.Walk.{Walk}
-use Rattle.cedar_meaning.specs.Table.Cells.{Cells, is_held}
+use Rattle.cedar_model.specs.Table.Cells.{Cells, is_held}
 use Rattle.cedar_file.specs.TreeWalk.{Ends, GoesDown, GoesOn, GoesUp, IsBack, LooksLikeRoot, numbers_at, slots_at, walk_at, walk_down, walk_start, walk_up}
-use Rattle.cedar_meaning.specs.Meaning.Family.{base_of, below, Links}
-use Rattle.cedar_meaning.specs.Meaning.StandsFor.{ChildrenStand, labels}
-use Rattle.cedar_meaning.specs.Meaning.Reading.{first_in}
-use Rattle.cedar_meaning.specs.Table.TableFields.{Fields, size_of}
-use Rattle.cedar_meaning.specs.Meaning.WellFormed.{cells_in, is_value, IsWellFormed, slots_below, tree_of}
-use Rattle.cedar_meaning.proofs.CellsLemmas.HeldSlots.{active_is}
+use Rattle.cedar_model.specs.Meaning.Family.{base_of, below, Links}
+use Rattle.cedar_model.specs.Meaning.StandsFor.{ChildrenStand, labels}
+use Rattle.cedar_model.specs.Meaning.Reading.{first_in}
+use Rattle.cedar_model.specs.Table.TableFields.{Fields, size_of}
+use Rattle.cedar_model.specs.Meaning.WellFormed.{cells_in, is_value, IsWellFormed, slots_below, tree_of}
+use Rattle.cedar_model.proofs.CellsLemmas.HeldSlots.{active_is}
 use Rattle.cedar_file.proofs.TreeLemmas.Turns.{one_step}
 use Rattle.cedar_file.proofs.TreeLemmas.LooksLikeNode.{node_looks}
 use Rattle.cedar_file.proofs.TreeLemmas.TreeRead.{numbers-more, same_counts, slots-more}
 use Rattle.cedar_slots.proofs.ListsLemmas.FreeCounts.{count_by-total, total, yes}
-use Rattle.cedar_meaning.proofs.MeaningLemmas.ExclusiveOr.{xor_back}
-use Rattle.cedar_meaning.proofs.MeaningLemmas.HeldCount.{count_is_named}
-use Rattle.cedar_meaning.proofs.MeaningLemmas.TreeOf.{in_use, tree_of_is}
-use Rattle.cedar_meaning.proofs.MeaningLemmas.OneTree.{node_reads}
+use Rattle.cedar_model.proofs.MeaningLemmas.ExclusiveOr.{xor_back}
+use Rattle.cedar_model.proofs.MeaningLemmas.HeldCount.{count_is_named}
+use Rattle.cedar_model.proofs.MeaningLemmas.TreeOf.{in_use, tree_of_is}
+use Rattle.cedar_model.proofs.MeaningLemmas.OneTree.{node_reads}
 
 -- how many steps a walk makes below a node: down to each node and up again
 unfoldable steps_below : Forest → ℕ

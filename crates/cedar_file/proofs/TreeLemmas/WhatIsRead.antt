@@ -4,13 +4,13 @@ use Rattle.std.specs.Prelude.{bit_xor, IfOk, IfSome, MatchOption, negsuc, OnErr,
 use lib.Bits.{xor_zero_r}
 use Rattle.std.proofs.lemmas.Bool.{false≢true}
 use Rattle.cedar_file.specs.declared.check.tree.Walk.{Walk}
-use Rattle.cedar_meaning.specs.declared.layout.Stored.TheVariants.{AtBase, OwnNumber, Nothing}
-use Rattle.cedar_meaning.specs.Table.Cells.{Cells}
+use Rattle.cedar_model.specs.declared.layout.Stored.TheVariants.{AtBase, OwnNumber, Nothing}
+use Rattle.cedar_model.specs.Table.Cells.{Cells}
 use Rattle.cedar_file.specs.TreeWalk.{GoesDown, IsOfNode, LooksLikeNode, LooksLikeRoot, numbers_at, slots_at, walk_down, walk_met}
-use Rattle.cedar_meaning.specs.Meaning.Family.{base_in, below}
-use Rattle.cedar_meaning.specs.Meaning.Reading.{first_in, has_number_slot, number_in, own_number}
-use Rattle.cedar_meaning.specs.Meaning.WellFormed.{is_value}
-use Rattle.cedar_meaning.proofs.MeaningLemmas.OneTree.{owns_no, owns_yes}
+use Rattle.cedar_model.specs.Meaning.Family.{base_in, below}
+use Rattle.cedar_model.specs.Meaning.Reading.{first_in, has_number_slot, number_in, own_number}
+use Rattle.cedar_model.specs.Meaning.WellFormed.{is_value}
+use Rattle.cedar_model.proofs.MeaningLemmas.OneTree.{owns_no, owns_yes}
 
 pub same_walk : (s b b' c c' m m' n n' : ℕ) → b ≡ b' → c ≡ c' → m ≡ m' → n ≡ n' → ◌≡◌ {A = Walk} (record { node = s; base = b; label = c; met = m; numbers = n }) (record { node = s; base = b'; label = c'; met = m'; numbers = n' })
 same_walk s b b' c c' m m' n n' p q r t = cc

@@ -2,16 +2,16 @@
 
 ghost use Rattle.std.specs.List.{range_with_len};
 ghost use Rattle.cedar_slots.specs.Blocks.{block_at};
-ghost use Rattle.cedar_meaning.specs.Table.Cells.{is_held};
+ghost use Rattle.cedar_model.specs.Table.Cells.{is_held};
 ghost use Rattle.std.specs.Prelude.{count_by, ◌≡◌, ◌≢◌, ℕ, ◌+◌, ◌*◌, ◌<◌, ◌≤◌, ◌^◌, ◌/◌, ◌↔◌, IfOk, IsTrue, MatchOption, OnErr, OnOk, pos};
 ghost use Rattle.cedar_file.specs.TreeWalk.{Ends, GoesDown, GoesOn, GoesUp, LooksLikeNode, LooksLikeRoot, walk_down, walk_met, walk_start, walk_up};
 ghost use Rattle.cedar_slots.specs.Places.{IsTable};
-ghost use Rattle.cedar_meaning.specs.declared.layout.Stored.TheVariants.{AtBase, OwnNumber};
-ghost use Rattle.cedar_meaning.specs.Meaning.Family.{base_in, base_of};
-ghost use Rattle.cedar_meaning.specs.Meaning.WellFormed.{is_value, IsWellFormed};
-ghost use Rattle.cedar_meaning.specs.Table.Layouts.{reading};
+ghost use Rattle.cedar_model.specs.declared.layout.Stored.TheVariants.{AtBase, OwnNumber};
+ghost use Rattle.cedar_model.specs.Meaning.Family.{base_in, base_of};
+ghost use Rattle.cedar_model.specs.Meaning.WellFormed.{is_value, IsWellFormed};
+ghost use Rattle.cedar_model.specs.Table.Layouts.{reading};
 ghost use Rattle.cedar_table.specs.Table.Views.{cells, fields};
-ghost use Rattle.cedar_meaning.specs.Table.TableFields.{size_of};
+ghost use Rattle.cedar_model.specs.Table.TableFields.{size_of};
 
 use cedar_slots::{BLOCK_SIZE, BlockRecord, Corrupt, NInfoRecord, NodeRecord, Ticks};
 use cedar_table::{Layout, Stored, Table};

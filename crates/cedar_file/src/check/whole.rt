@@ -3,9 +3,9 @@
 ghost use Rattle.std.specs.Prelude.{◌+◌, ◌*◌, ◌≤◌, ◌≤ℤ◌, length, pos};
 ghost use Rattle.std.specs.Result.{OkIff};
 ghost use Rattle.cedar_slots.specs.Places.{IsPowerOfTwo, IsSlotLimit, IsTable};
-ghost use Rattle.cedar_meaning.specs.Meaning.WellFormed.{IsWellFormed};
+ghost use Rattle.cedar_model.specs.Meaning.WellFormed.{IsWellFormed};
 ghost use Rattle.cedar_table.specs.Table.Views.{fields};
-ghost use Rattle.cedar_meaning.specs.Table.TableFields.{capacity_of};
+ghost use Rattle.cedar_model.specs.Table.TableFields.{capacity_of};
 
 use crate::check::places::check_sound;
 use crate::check::tree::check_tree;

@@ -1,8 +1,8 @@
 -- The parts of a table as its fields.
 use Rattle.std.specs.Prelude.{◌/◌}
 use Rattle.cedar_table.specs.declared.parts.Parts.{Parts}
-use Rattle.cedar_meaning.specs.Table.Layouts.{LayoutKind}
-use Rattle.cedar_meaning.specs.Table.TableFields.{Fields}
+use Rattle.cedar_model.specs.Table.Layouts.{LayoutKind}
+use Rattle.cedar_model.specs.Table.TableFields.{Fields}
 
 abbrev pub parts_fields : {A : _} → LayoutKind → Parts A → Fields
 parts_fields kind parts = record {

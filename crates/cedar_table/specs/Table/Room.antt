@@ -1,6 +1,6 @@
 -- Why a table has no room for more blocks.
 use Rattle.std.specs.Prelude.{ℕ, ◌+◌, ◌*◌, ◌<◌, ◌≤◌}
-use Rattle.cedar_meaning.specs.Table.TableFields.{capacity_of, Fields, size_of}
+use Rattle.cedar_model.specs.Table.TableFields.{capacity_of, Fields, size_of}
 use Rattle.cedar_slots.specs.declared.shortage.Shortage.{Shortage}
 use Rattle.cedar_slots.specs.declared.shortage.Shortage.TheVariants.{Memory, SlotLimit}
 

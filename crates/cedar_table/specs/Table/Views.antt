@@ -1,9 +1,9 @@
 -- The fields and the slots of a `Table`.
 use Rattle.cedar_slots.specs.Views.{places_of}
-use Rattle.cedar_meaning.specs.declared.layout.Layout.{Ghosts}
+use Rattle.cedar_model.specs.declared.layout.Layout.{Ghosts}
 use Rattle.cedar_table.specs.declared.table.Table.{Table}
-use Rattle.cedar_meaning.specs.Table.Cells.{Cells, cells_of}
-use Rattle.cedar_meaning.specs.Table.TableFields.{Fields}
+use Rattle.cedar_model.specs.Table.Cells.{Cells, cells_of}
+use Rattle.cedar_model.specs.Table.TableFields.{Fields}
 
 -- the fields, without what only memory has
 abbrev pub fields : {L A : _} {S : _} {g : Ghosts L} → Table L S A g → Fields

@@ -7,12 +7,12 @@ use Rattle.std.proofs.lemmas.Bool.{cases_lt}
 use Rattle.std.specs.Borrow.{Bor}
 use Rattle.cedar_tree.specs.Tree.{Tree, has_label, subtree, number_at}
 use Rattle.cedar_tree.specs.Queries.{exact}
-use Rattle.cedar_meaning.specs.Meaning.StandsFor.{Stands}
-use Rattle.cedar_meaning.specs.Meaning.WellFormed.{cells_in, IsWellFormed, tree_of}
-use Rattle.cedar_meaning.specs.Table.TableFields.{Fields, size_of}
+use Rattle.cedar_model.specs.Meaning.StandsFor.{Stands}
+use Rattle.cedar_model.specs.Meaning.WellFormed.{cells_in, IsWellFormed, tree_of}
+use Rattle.cedar_model.specs.Table.TableFields.{Fields, size_of}
 use Rattle.cedar_walk.specs.Batch.{AreLanes, IsLane, keys_of}
-use Rattle.cedar_meaning.proofs.MeaningLemmas.TreeOf.{root_place}
-use Rattle.cedar_meaning.proofs.MeaningLemmas.SearchStep.{step_down, step_off}
+use Rattle.cedar_model.proofs.MeaningLemmas.TreeOf.{root_place}
+use Rattle.cedar_model.proofs.MeaningLemmas.SearchStep.{step_down, step_off}
 
 -- one byte more
 pub lane_goes_on : (T : Fields) (key : List ℕ) (k : ℕ) (u : Tree) (o : Option ℕ) → k < length key → number_at (tree_of T) key ≡ number_at u (drop k key)

@@ -6,10 +6,10 @@ use Rattle.cedar_tree.specs.Queries.{node_at}
 use Rattle.cedar_tree.specs.Walks.{front_from}
 use Rattle.cedar_tree.proofs.FrontFromLemmas.{front_more, front_off, node_more, number_is}
 use Rattle.cedar_walk.specs.Fronts.{IsOnQuery}
-use Rattle.cedar_meaning.specs.Meaning.StandsFor.{Stands}
-use Rattle.cedar_meaning.specs.Table.TableFields.{Fields, size_of}
-use Rattle.cedar_meaning.specs.Meaning.WellFormed.{cells_in, IsWellFormed, tree_of}
-use Rattle.cedar_meaning.proofs.MeaningLemmas.TreeOf.{root_place}
+use Rattle.cedar_model.specs.Meaning.StandsFor.{Stands}
+use Rattle.cedar_model.specs.Table.TableFields.{Fields, size_of}
+use Rattle.cedar_model.specs.Meaning.WellFormed.{cells_in, IsWellFormed, tree_of}
+use Rattle.cedar_model.proofs.MeaningLemmas.TreeOf.{root_place}
 
 module _ (T : Fields) (q : List ℕ) (n s : ℕ) (on : IsOnQuery T q n s) (less : n < length q) where
   -- one byte more

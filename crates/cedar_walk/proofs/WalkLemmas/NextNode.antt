@@ -9,21 +9,21 @@ use Rattle.cedar_tree.specs.Walks.{behind, forwards, node_up, visits_after, visi
 use Rattle.cedar_tree.proofs.OrderLemmas.{sound_node_at}
 use Rattle.cedar_tree.proofs.VisitLemmas.{goes_down, goes_past_leaf, goes_right, goes_up, has_behind, has_here, next_behind, node_up_is, subtree_here}
 use Rattle.cedar_walk.specs.declared.visits.Visited.{Visited}
-use Rattle.cedar_meaning.specs.Table.Cells.{Cells}
-use Rattle.cedar_meaning.specs.Meaning.Family.{Among, base_of, below, Begins, Head, Links, own, plain, top, valued}
-use Rattle.cedar_meaning.specs.Meaning.StandsFor.{labels, OnPath, slot_at, Stands}
-use Rattle.cedar_meaning.specs.Edit.NodeEdits.{follow_on, IsAt}
-use Rattle.cedar_meaning.specs.Table.TableFields.{Fields, size_of}
+use Rattle.cedar_model.specs.Table.Cells.{Cells}
+use Rattle.cedar_model.specs.Meaning.Family.{Among, base_of, below, Begins, Head, Links, own, plain, top, valued}
+use Rattle.cedar_model.specs.Meaning.StandsFor.{labels, OnPath, slot_at, Stands}
+use Rattle.cedar_model.specs.Edit.NodeEdits.{follow_on, IsAt}
+use Rattle.cedar_model.specs.Table.TableFields.{Fields, size_of}
 use Rattle.cedar_walk.specs.Visits.{ComesTo, first_of, IsBelow, left_after, left_at, owner_of, path_to, way_up}
-use Rattle.cedar_meaning.specs.Meaning.WellFormed.{cells_in, IsWellFormed, tree_of}
-use Rattle.cedar_meaning.proofs.MeaningLemmas.NodeAtPath.{among_has, at_child, at_node, follow_last}
-use Rattle.cedar_meaning.proofs.MeaningLemmas.KeyPath.{tree_root}
-use Rattle.cedar_meaning.proofs.MeaningLemmas.SearchStep.{child_stands}
-use Rattle.cedar_meaning.proofs.MeaningLemmas.OneNode.{labels_own, owned_label}
-use Rattle.cedar_meaning.proofs.EditLemmas.LeafAtPlace.{below_root, ends}
-use Rattle.cedar_meaning.proofs.MeaningLemmas.ReadBack.{path_short}
-use Rattle.cedar_meaning.proofs.MeaningLemmas.ExclusiveOr.{pos_injective, xor_back}
-use Rattle.cedar_meaning.proofs.MeaningLemmas.TreeOf.{in_use}
+use Rattle.cedar_model.specs.Meaning.WellFormed.{cells_in, IsWellFormed, tree_of}
+use Rattle.cedar_model.proofs.MeaningLemmas.NodeAtPath.{among_has, at_child, at_node, follow_last}
+use Rattle.cedar_model.proofs.MeaningLemmas.KeyPath.{tree_root}
+use Rattle.cedar_model.proofs.MeaningLemmas.SearchStep.{child_stands}
+use Rattle.cedar_model.proofs.MeaningLemmas.OneNode.{labels_own, owned_label}
+use Rattle.cedar_model.proofs.EditLemmas.LeafAtPlace.{below_root, ends}
+use Rattle.cedar_model.proofs.MeaningLemmas.ReadBack.{path_short}
+use Rattle.cedar_model.proofs.MeaningLemmas.ExclusiveOr.{pos_injective, xor_back}
+use Rattle.cedar_model.proofs.MeaningLemmas.TreeOf.{in_use}
 
 -- ---- chains
 

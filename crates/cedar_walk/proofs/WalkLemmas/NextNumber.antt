@@ -13,18 +13,18 @@ use Rattle.cedar_tree.proofs.TreeLemmas.{bare-subtree}
 use Rattle.cedar_tree.proofs.VisitLemmas.{walk_visits}
 use Rattle.cedar_walk.specs.declared.visits.Numbered.{Numbered}
 use Rattle.cedar_walk.specs.declared.visits.Place.{Place}
-use Rattle.cedar_meaning.specs.declared.layout.Stored.TheVariants.{AtBase, OwnNumber}
-use Rattle.cedar_meaning.specs.Table.Cells.{Cells}
-use Rattle.cedar_meaning.specs.Meaning.Family.{Among, base_in, below, Family, Head, InRange, Links, number_of, own, plain, top, valued}
-use Rattle.cedar_meaning.specs.Meaning.StandsFor.{labels, Stands}
-use Rattle.cedar_meaning.specs.Edit.NodeEdits.{follow_on, IsAt}
-use Rattle.cedar_meaning.specs.Table.TableFields.{Fields, size_of}
-use Rattle.cedar_meaning.specs.Meaning.WellFormed.{cells_in, IsWellFormed, tree_of}
-use Rattle.cedar_meaning.proofs.MeaningLemmas.KeyPath.{tree_root}
-use Rattle.cedar_meaning.proofs.MeaningLemmas.OneNode.{owned_label}
-use Rattle.cedar_meaning.proofs.MeaningLemmas.Paths.{one_path}
-use Rattle.cedar_meaning.proofs.MeaningLemmas.SearchStep.{has_among, number_named}
-use Rattle.cedar_meaning.proofs.UpdateLemmas.MarksAfterUpdate.{follow_one}
+use Rattle.cedar_model.specs.declared.layout.Stored.TheVariants.{AtBase, OwnNumber}
+use Rattle.cedar_model.specs.Table.Cells.{Cells}
+use Rattle.cedar_model.specs.Meaning.Family.{Among, base_in, below, Family, Head, InRange, Links, number_of, own, plain, top, valued}
+use Rattle.cedar_model.specs.Meaning.StandsFor.{labels, Stands}
+use Rattle.cedar_model.specs.Edit.NodeEdits.{follow_on, IsAt}
+use Rattle.cedar_model.specs.Table.TableFields.{Fields, size_of}
+use Rattle.cedar_model.specs.Meaning.WellFormed.{cells_in, IsWellFormed, tree_of}
+use Rattle.cedar_model.proofs.MeaningLemmas.KeyPath.{tree_root}
+use Rattle.cedar_model.proofs.MeaningLemmas.OneNode.{owned_label}
+use Rattle.cedar_model.proofs.MeaningLemmas.Paths.{one_path}
+use Rattle.cedar_model.proofs.MeaningLemmas.SearchStep.{has_among, number_named}
+use Rattle.cedar_model.proofs.UpdateLemmas.MarksAfterUpdate.{follow_one}
 use Rattle.cedar_walk.specs.Visits.{ComesTo, ComesToNumber, entries_at, first_of, IsBelow, left_at, number_below, path_to, visited_at}
 use Rattle.cedar_walk.proofs.WalkLemmas.NextNode.{at_root, child_owned, comes_down, first_there, last_of, links_first, named_first, node_stands, path_length, way_one_more}
 

@@ -2,8 +2,8 @@
 
 ghost use Rattle.std.specs.Prelude.{◌≡◌, ◌≤◌, ◌⊎◌, ℕ, IfErr, IfOk, None, OnOk};
 ghost use Rattle.cedar_slots.specs.Places.{IsSlotLimit};
-ghost use Rattle.cedar_meaning.specs.Table.Layouts.{layout_byte};
-ghost use Rattle.cedar_meaning.specs.Meaning.WellFormed.{IsWellFormed};
+ghost use Rattle.cedar_model.specs.Table.Layouts.{layout_byte};
+ghost use Rattle.cedar_model.specs.Meaning.WellFormed.{IsWellFormed};
 ghost use Rattle.cedar_format.specs.declared.error.CedarPersistenceError.TheVariants.{AllocationFailed};
 ghost use Rattle.cedar_format.specs.Format.{header_answer, need};
 ghost use Rattle.cedar_format.specs.Reading.{IsIo};

@@ -5,7 +5,7 @@ ghost use Rattle.std.specs.Io.KnownBytes.{Appends};
 ghost use Rattle.cedar_format.specs.Reading.{IsIo};
 ghost use Rattle.cedar_format.specs.Format.{header_answer, need};
 ghost use Rattle.cedar_format.specs.Tables.{header_of, table_bytes, IsTableFile};
-ghost use Rattle.cedar_meaning.specs.Table.Layouts.{layout_byte};
+ghost use Rattle.cedar_model.specs.Table.Layouts.{layout_byte};
 ghost use Rattle.cedar_format.specs.WatchedDevice.{device_of, has_failed};
 
 use crate::{CedarPersistenceError, Layout, Trie, Watched};

@@ -3,8 +3,8 @@
 ghost use Rattle.std.specs.Prelude.{◌≡◌, ◌<◌, ℕ, false, true, IfErr, IfOk, IfSome};
 ghost use Rattle.std.specs.Io.KnownBytes.{Consumes};
 ghost use Rattle.cedar_slots.specs.Places.{IsSlotLimit};
-ghost use Rattle.cedar_meaning.specs.Meaning.WellFormed.{IsWellFormed};
-ghost use Rattle.cedar_meaning.specs.Table.Layouts.{layout_byte};
+ghost use Rattle.cedar_model.specs.Meaning.WellFormed.{IsWellFormed};
+ghost use Rattle.cedar_model.specs.Table.Layouts.{layout_byte};
 ghost use Rattle.cedar_format.specs.Format.{IsVersion, Passes};
 ghost use Rattle.cedar_format.specs.Reading.{IsIo, LacksNoMore, TellsBreaks};
 ghost use Rattle.cedar_format.specs.Tables.{table_bytes};
@@ -18,10 +18,10 @@ use std::sync::ledger::{Blank, Ledger};
 pub(crate) trait Loaded<A: Allocator + Copy> {
     ghost use Rattle.std.specs.Prelude.{◌≡◌, ℕ, false, true, IfErr, IfOk, IfSome};
     ghost use Rattle.std.specs.Io.KnownBytes.{Consumes};
-    ghost use Rattle.cedar_meaning.specs.Table.Layouts.{LayoutKind, layout_byte};
+    ghost use Rattle.cedar_model.specs.Table.Layouts.{LayoutKind, layout_byte};
     ghost use Rattle.cedar_slots.specs.Places.{IsSlotLimit};
-    ghost use Rattle.cedar_meaning.specs.Table.TableFields.{Fields};
-    ghost use Rattle.cedar_meaning.specs.Meaning.WellFormed.{IsWellFormed};
+    ghost use Rattle.cedar_model.specs.Table.TableFields.{Fields};
+    ghost use Rattle.cedar_model.specs.Meaning.WellFormed.{IsWellFormed};
     ghost use Rattle.cedar_format.specs.Format.{IsVersion, Passes};
     ghost use Rattle.cedar_format.specs.Reading.{IsIo, LacksNoMore, TellsBreaks};
     ghost use Rattle.cedar_format.specs.Tables.{table_bytes};

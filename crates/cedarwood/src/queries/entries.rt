@@ -6,7 +6,7 @@ ghost use Rattle.std.specs.Iterator.SizeHint.{IsWithinCount};
 ghost use Rattle.cedar_tree.specs.Queries.{Entry};
 ghost use Rattle.cedar_tree.specs.Walks.{entries_of};
 ghost use Rattle.cedar_walk.specs.Visits.{left_at};
-ghost use Rattle.cedar_meaning.specs.Meaning.WellFormed.{IsWellFormed};
+ghost use Rattle.cedar_model.specs.Meaning.WellFormed.{IsWellFormed};
 ghost use Rattle.cedarwood.specs.declared.error.CedarError.TheVariants.{Memory};
 ghost use Rattle.cedarwood.specs.WalkPlaces.{ComesToEntry, IsEntriesPlace};
 ghost use Rattle.cedarwood.specs.Walks.{IsEntryError};
@@ -34,7 +34,7 @@ pub struct Entries<'a, T: Walked, A: Allocator + Copy> {
 impl<'a, T: Walked, A: Allocator + Copy> Model for Entries<'a, T, A> {
     ghost use Rattle.std.specs.Prelude.{◌≡◌, ◌<◌, length, List};
     ghost use Rattle.cedar_tree.specs.Queries.{Entry};
-    ghost use Rattle.cedar_meaning.specs.Meaning.WellFormed.{IsWellFormed};
+    ghost use Rattle.cedar_model.specs.Meaning.WellFormed.{IsWellFormed};
     ghost use Rattle.cedarwood.specs.WalkPlaces.{entries_from, IsEntriesPlace};
 
     ghost Value = { List Entry };
@@ -69,7 +69,7 @@ fn next_entry<T: Walked, A: Allocator>(
 
 impl<'a, T: Walked, A: Allocator + Copy> Entries<'a, T, A> {
     ghost use Rattle.cedar_tree.specs.Queries.{walk};
-    ghost use Rattle.cedar_meaning.specs.Meaning.WellFormed.{tree_of};
+    ghost use Rattle.cedar_model.specs.Meaning.WellFormed.{tree_of};
 
     // All entries, of which there are so many.
     pub(crate) fn new(trie: &'a T, alloc: A, entries: usize) -> Self

@@ -3,7 +3,7 @@
 ghost use Rattle.std.specs.Prelude.{◌≡◌, ⊤, ℕ, ℤ, List, [], IfSome, None, MatchOption};
 ghost use Rattle.std.specs.Iterator.{item_count, UpTo, YieldsFirst};
 ghost use Rattle.std.specs.Iterator.SizeHint.{IsWithinCount};
-ghost use Rattle.cedar_meaning.specs.Meaning.WellFormed.{IsWellFormed};
+ghost use Rattle.cedar_model.specs.Meaning.WellFormed.{IsWellFormed};
 ghost use Rattle.cedarwood.specs.WalkPlaces.{GoesOnTo, IsPredictPlace, predicted_from};
 
 use crate::queries::walked::Walked;
@@ -39,7 +39,7 @@ impl<'a, T: Walked> Model for PrefixPredictIter<'a, T> {
 
     ghost Value = { List (ℤ × ℕ) };
 
-    ghost use Rattle.cedar_meaning.specs.Meaning.WellFormed.{IsWellFormed};
+    ghost use Rattle.cedar_model.specs.Meaning.WellFormed.{IsWellFormed};
     ghost use Rattle.cedarwood.specs.WalkPlaces.{IsPredictPlace, predicted_from};
 
     ghost view = { λ it. predicted_from (T.shown it.trie.now) it.query.now it.place };
@@ -49,7 +49,7 @@ impl<'a, T: Walked> Model for PrefixPredictIter<'a, T> {
 
 impl<'a, T: Walked> PrefixPredictIter<'a, T> {
     ghost use Rattle.cedar_tree.specs.Queries.{predict};
-    ghost use Rattle.cedar_meaning.specs.Meaning.WellFormed.{IsWellFormed, tree_of};
+    ghost use Rattle.cedar_model.specs.Meaning.WellFormed.{IsWellFormed, tree_of};
 
     // Before the query's node is looked for.
     pub(crate) fn new(trie: &'a T, query: &'a [u8]) -> Self

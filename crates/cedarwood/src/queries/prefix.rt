@@ -28,7 +28,7 @@ pub struct PrefixIter<'a, T: Walked> {
 impl<'a, T: Walked> Model for PrefixIter<'a, T> {
     ghost use Rattle.std.specs.Prelude.{◌-◌, length};
     ghost use Rattle.cedar_tree.specs.Walks.{front_from};
-    ghost use Rattle.cedar_meaning.specs.Meaning.WellFormed.{tree_of};
+    ghost use Rattle.cedar_model.specs.Meaning.WellFormed.{tree_of};
     ghost use Rattle.cedarwood.specs.Walks.{PrefixWalk, prefix_walk_code};
     ghost use Rattle.cedarwood.specs.WalkPlaces.{IsPrefixPlace};
 
@@ -47,7 +47,7 @@ impl<'a, T: Walked> Model for PrefixIter<'a, T> {
 
 impl<'a, T: Walked> PrefixIter<'a, T> {
     ghost use Rattle.cedar_tree.specs.Queries.{front};
-    ghost use Rattle.cedar_meaning.specs.Meaning.WellFormed.{IsWellFormed, tree_of};
+    ghost use Rattle.cedar_model.specs.Meaning.WellFormed.{IsWellFormed, tree_of};
 
     // Before the first byte of the query.
     pub(crate) fn new(trie: &'a T, query: &'a [u8]) -> Self

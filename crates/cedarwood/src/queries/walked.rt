@@ -14,9 +14,9 @@ pub trait Walked {
     ghost use Rattle.cedar_tree.specs.Queries.{node_at, walk};
     ghost use Rattle.cedar_tree.specs.Walks.{entries_of, front_from};
     ghost use Rattle.cedar_walk.specs.Fronts.{IsOnQuery, passed};
-    ghost use Rattle.cedar_meaning.specs.Table.TableFields.{Fields};
+    ghost use Rattle.cedar_model.specs.Table.TableFields.{Fields};
     ghost use Rattle.cedar_walk.specs.Visits.{ComesTo, ComesToNumber, IsBelow, IsNumberedBelow, left_at, path_to};
-    ghost use Rattle.cedar_meaning.specs.Meaning.WellFormed.{cells_in, IsWellFormed, tree_of};
+    ghost use Rattle.cedar_model.specs.Meaning.WellFormed.{cells_in, IsWellFormed, tree_of};
 
     /// How many slots it may have, and the table that it is kept in.
     ghost slots: { ℕ };

@@ -2,18 +2,18 @@ use Rattle.std.proofs.Common.{◌≡◌, ◌<◌, ◌∙◌, arith, inr, rules, 
 use Rattle.std.specs.Prelude.{bit_xor}
 use Rattle.std.proofs.lemmas.Int.{to_z-of_z}
 use Rattle.cedar_tree.specs.Edits.{add_leaf, edit_at}
-use Rattle.cedar_meaning.specs.declared.layout.Stored.TheVariants.{AtBase}
-use Rattle.cedar_meaning.specs.Table.Cells.{Held}
-use Rattle.cedar_meaning.specs.Edit.NodeEdits.{AddsLabel, CanAdd, IsAt}
-use Rattle.cedar_meaning.specs.Meaning.Family.{below}
-use Rattle.cedar_meaning.specs.Table.Layouts.{reading}
-use Rattle.cedar_meaning.specs.Meaning.StandsFor.{HoldsTree}
+use Rattle.cedar_model.specs.declared.layout.Stored.TheVariants.{AtBase}
+use Rattle.cedar_model.specs.Table.Cells.{Held}
+use Rattle.cedar_model.specs.Edit.NodeEdits.{AddsLabel, CanAdd, IsAt}
+use Rattle.cedar_model.specs.Meaning.Family.{below}
+use Rattle.cedar_model.specs.Table.Layouts.{reading}
+use Rattle.cedar_model.specs.Meaning.StandsFor.{HoldsTree}
 use Rattle.cedar_table.specs.Table.Views.{cells, fields}
-use Rattle.cedar_meaning.specs.Table.TableFields.{size_of}
+use Rattle.cedar_model.specs.Table.TableFields.{size_of}
 use Rattle.cedar_bulk.proofs.BulkLemmas.LastLabel.{behind_held, held_before, leaf_bare, leaf_last, linked_check, still_held, stored_stays}
-use Rattle.cedar_meaning.proofs.EditLemmas.AtPath.{held_node}
-use Rattle.cedar_meaning.proofs.EditLemmas.SlotForLabel.{can_add_at, can_link_by, held_after, label_added_by, root_check_stays, slot_inside, slot_stays}
-use Rattle.cedar_meaning.proofs.EditLemmas.LeafAtPlace.{label_added, path_of_leaf, paths_stay}
+use Rattle.cedar_model.proofs.EditLemmas.AtPath.{held_node}
+use Rattle.cedar_model.proofs.EditLemmas.SlotForLabel.{can_add_at, can_link_by, held_after, label_added_by, root_check_stays, slot_inside, slot_stays}
+use Rattle.cedar_model.proofs.EditLemmas.LeafAtPlace.{label_added, path_of_leaf, paths_stay}
 use Rattle.cedar_bulk.proofs.append.append_label.Goals as goal
 
 pub pop_e_node-requires : goal.pop_e_node-requires

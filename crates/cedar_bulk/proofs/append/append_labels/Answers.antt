@@ -1,11 +1,11 @@
 use Rattle.std.proofs.Common.{◌≡◌, ◌<◌, ◌+◌, ◌∙◌, [], ◌∷◌, ◌++◌, arith, rules, subst, sym, refl, inl, inr, take, get_or, length, List, ℕ, zero, suc, true, Some}
 use Rattle.std.proofs.lemmas.List.{take_more}
 use Rattle.cedar_tree.specs.Edits.{add_leaf, edit_at}
-use Rattle.cedar_meaning.specs.Edit.NodeEdits.{Above}
-use Rattle.cedar_meaning.specs.Meaning.Family.{Among}
-use Rattle.cedar_meaning.specs.Meaning.StandsFor.{HoldsTree}
+use Rattle.cedar_model.specs.Edit.NodeEdits.{Above}
+use Rattle.cedar_model.specs.Meaning.Family.{Among}
+use Rattle.cedar_model.specs.Meaning.StandsFor.{HoldsTree}
 use Rattle.cedar_table.specs.Table.Views.{cells, fields}
-use Rattle.cedar_meaning.specs.Table.TableFields.{size_of}
+use Rattle.cedar_model.specs.Table.TableFields.{size_of}
 use Rattle.cedar_bulk.proofs.BulkLemmas.LabelByLabel.{above_take, append_begins, append_on, append_ready, Appended, Appending}
 use Rattle.cedar_bulk.proofs.append.append_labels.Goals as goal
 

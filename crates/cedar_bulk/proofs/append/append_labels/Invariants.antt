@@ -1,6 +1,6 @@
 use Rattle.std.proofs.Common.{take}
 use Rattle.cedar_table.specs.Table.Views.{fields}
-use Rattle.cedar_meaning.specs.Table.TableFields.{size_of}
+use Rattle.cedar_model.specs.Table.TableFields.{size_of}
 use Rattle.cedar_bulk.proofs.BulkLemmas.LabelByLabel.{Appending}
 use Rattle.cedar_bulk.proofs.append.append_labels.Given as goal
 

@@ -1,7 +1,7 @@
 use Rattle.std.proofs.Common.{◌≢◌, arith, rules, subst, sym}
 use Rattle.cedar_bulk.specs.Sorted.{GetsNumber}
 use Rattle.cedar_table.specs.Table.Views.{cells, fields}
-use Rattle.cedar_meaning.specs.Table.TableFields.{size_of}
+use Rattle.cedar_model.specs.Table.TableFields.{size_of}
 use Rattle.cedar_bulk.proofs.BulkLemmas.BareNode.{empty_node}
 use Rattle.cedar_bulk.proofs.BulkLemmas.FilledNode.{first_ends, no_number_got, root_ends}
 use Rattle.cedar_bulk.proofs.fill.begin_chain.Goals as goal

@@ -3,20 +3,20 @@ use Rattle.std.specs.Prelude.{IfSome, List, true, ℕ}
 use Rattle.std.proofs.lemmas.Int.{to_z-of_z}
 use Rattle.cedar_tree.specs.Tree.{Forest}
 use Rattle.cedar_tree.specs.Edits.{edit_at}
-use Rattle.cedar_meaning.specs.declared.layout.Stored.TheVariants.{OwnNumber}
-use Rattle.cedar_meaning.specs.Edit.NodeEdits.{IsAt, IsNodeOf}
-use Rattle.cedar_meaning.specs.Meaning.Family.{base_in}
-use Rattle.cedar_meaning.specs.Meaning.StandsFor.{HoldsTree}
-use Rattle.cedar_meaning.specs.Edit.Own.{FieldSet}
+use Rattle.cedar_model.specs.declared.layout.Stored.TheVariants.{OwnNumber}
+use Rattle.cedar_model.specs.Edit.NodeEdits.{IsAt, IsNodeOf}
+use Rattle.cedar_model.specs.Meaning.Family.{base_in}
+use Rattle.cedar_model.specs.Meaning.StandsFor.{HoldsTree}
+use Rattle.cedar_model.specs.Edit.Own.{FieldSet}
 use Rattle.cedar_bulk.specs.Sorted.{Fills}
 use Rattle.cedar_table.specs.Table.Views.{cells, fields}
-use Rattle.cedar_meaning.specs.Table.TableFields.{size_of}
-use Rattle.cedar_meaning.specs.Meaning.WellFormed.{is_value}
+use Rattle.cedar_model.specs.Table.TableFields.{size_of}
+use Rattle.cedar_model.specs.Meaning.WellFormed.{is_value}
 use Rattle.cedar_bulk.proofs.BulkLemmas.BareNode.{empty_node}
-use Rattle.cedar_meaning.proofs.UpdateLemmas.BlocksMade.{framed_none}
+use Rattle.cedar_model.proofs.UpdateLemmas.BlocksMade.{framed_none}
 use Rattle.cedar_bulk.proofs.BulkLemmas.FilledNode.{no_labels, own_filled}
 use Rattle.cedar_bulk.proofs.BulkLemmas.InnerKeys.{always_on_ok, placed_own}
-use Rattle.cedar_meaning.proofs.EditLemmas.OwnNumber.{spare_past}
+use Rattle.cedar_model.proofs.EditLemmas.OwnNumber.{spare_past}
 use Rattle.cedar_bulk.proofs.fill.fill_node.Goals as goal
 
 pub set_own_number-requires : goal.set_own_number-requires

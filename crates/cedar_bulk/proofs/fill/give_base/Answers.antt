@@ -1,15 +1,15 @@
 use Rattle.std.proofs.Common.{◌≡◌, ◌≤◌, ◌∙◌, ap, arith, inl, rules, subst, sym, refl}
-use Rattle.cedar_meaning.specs.Table.Cells.{Held}
-use Rattle.cedar_meaning.specs.Meaning.Family.{base_in}
+use Rattle.cedar_model.specs.Table.Cells.{Held}
+use Rattle.cedar_model.specs.Meaning.Family.{base_in}
 use Rattle.cedar_bulk.specs.Sorted.{GetsBase}
 use Rattle.cedar_table.specs.Table.Views.{cells, fields}
-use Rattle.cedar_meaning.specs.Table.TableFields.{size_of}
+use Rattle.cedar_model.specs.Table.TableFields.{size_of}
 use Rattle.cedar_slots.specs.Views.{places_of}
-use Rattle.cedar_meaning.proofs.EditLemmas.AtPath.{held_node}
-use Rattle.cedar_meaning.proofs.UpdateLemmas.BlocksMade.{made_larger, made_none, same_slots}
+use Rattle.cedar_model.proofs.EditLemmas.AtPath.{held_node}
+use Rattle.cedar_model.proofs.UpdateLemmas.BlocksMade.{made_larger, made_none, same_slots}
 use Rattle.cedar_bulk.proofs.BulkLemmas.FilledNode.{node_based, root_based}
-use Rattle.cedar_meaning.proofs.EditLemmas.FirstBase.{held_still}
-use Rattle.cedar_meaning.proofs.RelocationLemmas.PlacesFirst.{among_small, base_placed}
+use Rattle.cedar_model.proofs.EditLemmas.FirstBase.{held_still}
+use Rattle.cedar_model.proofs.RelocationLemmas.PlacesFirst.{among_small, base_placed}
 use Rattle.cedar_bulk.proofs.fill.give_base.Goals as goal
 
 pub returns-then-node-eq0-clause-based : goal.returns-then-node-eq0-clause-based

@@ -1,14 +1,14 @@
 use Rattle.std.proofs.Common.{◌≡◌, ◌≢◌, ◌<◌, ◌≤◌, ◌∙◌, ℕ, arith, inl, rules, subst, sym, ap, refl, Some}
 use Rattle.std.specs.Prelude.{ℤ}
-use Rattle.cedar_meaning.specs.Table.Cells.{Held}
-use Rattle.cedar_meaning.specs.Meaning.Family.{Among, base_in, below, InRange}
+use Rattle.cedar_model.specs.Table.Cells.{Held}
+use Rattle.cedar_model.specs.Meaning.Family.{Among, base_in, below, InRange}
 use Rattle.cedar_bulk.specs.Sorted.{Fills, GetsBase, GetsLabels, IsChildless, with_number}
 use Rattle.cedar_table.specs.Table.Views.{cells, fields}
-use Rattle.cedar_meaning.specs.Table.TableFields.{size_of}
-use Rattle.cedar_meaning.proofs.EditLemmas.AtPath.{held_node}
-use Rattle.cedar_meaning.proofs.UpdateLemmas.BlocksMade.{made_framed, made_larger}
+use Rattle.cedar_model.specs.Table.TableFields.{size_of}
+use Rattle.cedar_model.proofs.EditLemmas.AtPath.{held_node}
+use Rattle.cedar_model.proofs.UpdateLemmas.BlocksMade.{made_framed, made_larger}
 use Rattle.cedar_bulk.proofs.BulkLemmas.FilledNode.{filled, labels_free, still_bare, still_childless, wanted_positive}
-use Rattle.cedar_meaning.proofs.UpdateLemmas.Frame.{frame_then}
+use Rattle.cedar_model.proofs.UpdateLemmas.Frame.{frame_then}
 use Rattle.cedar_bulk.proofs.fill.place_node.Goals as goal
 
 pub give_base-requires : goal.give_base-requires

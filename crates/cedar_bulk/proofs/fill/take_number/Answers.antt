@@ -1,14 +1,14 @@
 use Rattle.std.proofs.Common.{◌≡◌, ◌<◌, ◌∙◌, arith, inl, rules, subst, sym, ap, refl, Some, w32, FitsSigned}
 use Rattle.std.specs.Prelude.{bit_xor}
 use Rattle.std.proofs.lemmas.Int.{to_z-of_z}
-use Rattle.cedar_meaning.specs.Table.Cells.{Held, Takes}
-use Rattle.cedar_meaning.specs.Meaning.Family.{below}
+use Rattle.cedar_model.specs.Table.Cells.{Held, Takes}
+use Rattle.cedar_model.specs.Meaning.Family.{below}
 use Rattle.cedar_bulk.specs.Sorted.{Ends}
 use Rattle.cedar_table.specs.Table.Views.{cells, fields}
-use Rattle.cedar_meaning.specs.Table.TableFields.{size_of}
+use Rattle.cedar_model.specs.Table.TableFields.{size_of}
 use Rattle.cedar_bulk.proofs.BulkLemmas.BareNode.{empty_node}
 use Rattle.cedar_bulk.proofs.BulkLemmas.FilledNode.{number_ends, number_got}
-use Rattle.cedar_meaning.proofs.EditLemmas.SlotForLabel.{lead_inside}
+use Rattle.cedar_model.proofs.EditLemmas.SlotForLabel.{lead_inside}
 use Rattle.cedar_bulk.proofs.fill.take_number.Goals as goal
 
 pub pop_e_node-requires : goal.pop_e_node-requires

@@ -4,10 +4,10 @@ use Rattle.cedar_tree.specs.Queries.{prefixes_forest}
 use Rattle.cedar_bulk.specs.Sorted.{entries_by}
 use Rattle.cedar_bulk.specs.Spans.{parts_of}
 use Rattle.cedar_table.specs.Table.Views.{fields}
-use Rattle.cedar_meaning.specs.Table.TableFields.{size_of}
-use Rattle.cedar_meaning.proofs.UpdateLemmas.BlocksMade.{made_then}
+use Rattle.cedar_model.specs.Table.TableFields.{size_of}
+use Rattle.cedar_model.proofs.UpdateLemmas.BlocksMade.{made_then}
 use Rattle.cedar_bulk.proofs.BulkLemmas.NodeByNode.{filling_started, if_err, on_ok, some_prefix}
-use Rattle.cedar_meaning.proofs.UpdateLemmas.StepAnswers.{refused_as}
+use Rattle.cedar_model.proofs.UpdateLemmas.StepAnswers.{refused_as}
 use Rattle.cedar_bulk.proofs.sorted.fill.Goals as goal
 
 pub fill_span-requires : goal.fill_span-requires

@@ -6,11 +6,11 @@ use Rattle.cedar_slots.specs.declared.shortage.Shortage.{Shortage}
 use Rattle.cedar_bulk.specs.Sorted.{entries_by, Fills}
 use Rattle.cedar_bulk.specs.SortedMarks.{KeepsOwn}
 use Rattle.cedar_bulk.specs.Spans.{IsAlike, IsTreeOfSpan}
-use Rattle.cedar_meaning.specs.Meaning.Family.{base_of}
-use Rattle.cedar_meaning.specs.Meaning.StandsFor.{labels}
-use Rattle.cedar_meaning.specs.Meaning.WellFormed.{is_value}
+use Rattle.cedar_model.specs.Meaning.Family.{base_of}
+use Rattle.cedar_model.specs.Meaning.StandsFor.{labels}
+use Rattle.cedar_model.specs.Meaning.WellFormed.{is_value}
 use Rattle.cedar_table.specs.Table.Views.{cells, fields}
-use Rattle.cedar_meaning.specs.Table.TableFields.{size_of}
+use Rattle.cedar_model.specs.Table.TableFields.{size_of}
 use Rattle.cedar_bulk.proofs.BulkLemmas.OnePair.{covers_same, ends_alone, ends_here, first_then, goes_on}
 use Rattle.cedar_bulk.proofs.sorted.fill_alone.Goals as goal
 

@@ -4,7 +4,7 @@ use Rattle.std.specs.Prelude.{option_to_list}
 use Rattle.cedar_tree.specs.Tree.{none}
 use Rattle.cedar_bulk.specs.Sorted.{entries_by}
 use Rattle.cedar_bulk.specs.Spans.{Covers, part_of, parts_of}
-use Rattle.cedar_meaning.specs.Meaning.Family.{base_of}
+use Rattle.cedar_model.specs.Meaning.Family.{base_of}
 use Rattle.cedar_table.specs.Table.Views.{cells}
 use Rattle.cedar_bulk.proofs.BulkLemmas.OnePair.{tree_some}
 use Rattle.cedar_bulk.proofs.BulkLemmas.Pending.{parts_last}

@@ -3,11 +3,11 @@ use Rattle.std.specs.Prelude.{MatchOption, option_to_list}
 use Rattle.cedar_bulk.specs.declared.spans.Span.{Span}
 use Rattle.cedar_bulk.specs.Spans.{Filling, Part, part_of, parts_of, work}
 use Rattle.cedar_table.specs.Table.Views.{fields}
-use Rattle.cedar_meaning.proofs.UpdateLemmas.BlocksMade.{made_nothing, made_then}
+use Rattle.cedar_model.proofs.UpdateLemmas.BlocksMade.{made_nothing, made_then}
 use Rattle.cedar_bulk.proofs.BulkLemmas.NodeByNode.{filling_on, filling_refused, next_span}
 use Rattle.cedar_bulk.proofs.BulkLemmas.Pending.{parts_last}
-use Rattle.cedar_meaning.proofs.UpdateLemmas.Frame.{settings_then}
-use Rattle.cedar_meaning.proofs.UpdateLemmas.StepAnswers.{refused_as}
+use Rattle.cedar_model.proofs.UpdateLemmas.Frame.{settings_then}
+use Rattle.cedar_model.proofs.UpdateLemmas.StepAnswers.{refused_as}
 use Rattle.cedar_bulk.proofs.sorted.fill_pending.Goals as goal
 
 -- those that wait, the next one last

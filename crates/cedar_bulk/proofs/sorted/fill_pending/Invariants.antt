@@ -2,9 +2,9 @@ use Rattle.std.proofs.Common.{◌≡◌, ℕ, ◌++◌, None, length}
 use Rattle.std.specs.Prelude.{option_to_list}
 use Rattle.cedar_tree.specs.Tree.{Forest}
 use Rattle.cedar_bulk.specs.Spans.{Filling, parts_of, work}
-use Rattle.cedar_meaning.specs.Edit.Steps.{MakesBlocks}
+use Rattle.cedar_model.specs.Edit.Steps.{MakesBlocks}
 use Rattle.cedar_table.specs.Table.Views.{cells, fields}
-use Rattle.cedar_meaning.specs.Table.TableFields.{SameSettings}
+use Rattle.cedar_model.specs.Table.TableFields.{SameSettings}
 use Rattle.cedar_bulk.proofs.sorted.fill_pending.Given as goal
 
 -- the next span is one of those that wait, and none is next only where none waits

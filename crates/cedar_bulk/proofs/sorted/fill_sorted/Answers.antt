@@ -2,21 +2,21 @@ use Rattle.std.proofs.Common.{◌≡◌, ℕ, ◌+◌, ◌<◌, ◌≤◌, ◌�
 use Rattle.std.specs.Prelude.{ℤ}
 use Rattle.cedar_tree.specs.Tree.{empty_tree, none, Tree}
 use Rattle.cedar_tree.specs.Queries.{asc, Entry, prefixes}
-use Rattle.cedar_meaning.specs.Meaning.StandsFor.{HoldsTree}
+use Rattle.cedar_model.specs.Meaning.StandsFor.{HoldsTree}
 use Rattle.cedar_bulk.specs.Sorted.{entries_by}
 use Rattle.cedar_bulk.specs.SortedMarks.{SortedMarks}
-use Rattle.cedar_meaning.specs.Edit.Steps.{MakesBlocks, SameModes}
-use Rattle.cedar_meaning.specs.Meaning.Marks.{marks}
-use Rattle.cedar_meaning.specs.Meaning.WellFormed.{IsWellFormed, tree_of}
+use Rattle.cedar_model.specs.Edit.Steps.{MakesBlocks, SameModes}
+use Rattle.cedar_model.specs.Meaning.Marks.{marks}
+use Rattle.cedar_model.specs.Meaning.WellFormed.{IsWellFormed, tree_of}
 use Rattle.cedar_slots.specs.Views.{places_of}
 use Rattle.cedar_table.specs.Table.Views.{cells, fields}
-use Rattle.cedar_meaning.specs.Table.TableFields.{size_of}
-use Rattle.cedar_meaning.proofs.UpdateLemmas.BlocksMade.{made_none, same_slots}
-use Rattle.cedar_meaning.proofs.UpdateLemmas.Erasure.{root_field}
+use Rattle.cedar_model.specs.Table.TableFields.{size_of}
+use Rattle.cedar_model.proofs.UpdateLemmas.BlocksMade.{made_none, same_slots}
+use Rattle.cedar_model.proofs.UpdateLemmas.Erasure.{root_field}
 use Rattle.cedar_bulk.proofs.BulkLemmas.NodeByNode.{filling_ends}
 use Rattle.cedar_bulk.proofs.BulkLemmas.Spans.{as_many}
 use Rattle.cedar_bulk.proofs.BulkLemmas.SortedTree.{no_marks, no_pairs, some_pairs, sorted_done, whole_span}
-use Rattle.cedar_meaning.proofs.UpdateLemmas.StepAnswers.{refused_as}
+use Rattle.cedar_model.proofs.UpdateLemmas.StepAnswers.{refused_as}
 use Rattle.cedar_bulk.proofs.sorted.fill_sorted.Goals as goal
 
 no_pair : {K : Type 0} (bytes : K → List ℕ) (ps : List (K × ℤ)) → length ps ≡ 0 → asc (entries_by bytes ps) ≡ empty_tree

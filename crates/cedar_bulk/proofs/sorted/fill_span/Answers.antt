@@ -2,18 +2,18 @@ use Rattle.std.proofs.Common.{◌≡◌, ◌<◌, ◌≤◌, ◌∙◌, arith, r
 use Rattle.std.specs.Prelude.{IfSome, true}
 use Rattle.cedar_tree.specs.Tree.{none}
 use Rattle.cedar_tree.specs.Queries.{Entry}
-use Rattle.cedar_meaning.specs.Edit.NodeEdits.{Above}
+use Rattle.cedar_model.specs.Edit.NodeEdits.{Above}
 use Rattle.cedar_bulk.specs.Sorted.{entries_by, Fills, with_number}
 use Rattle.cedar_bulk.specs.SortedMarks.{KeepsOwn}
 use Rattle.cedar_bulk.specs.Spans.{based_at, Covers, Lists, parts_of}
-use Rattle.cedar_meaning.specs.Meaning.StandsFor.{labels}
+use Rattle.cedar_model.specs.Meaning.StandsFor.{labels}
 use Rattle.cedar_table.specs.Table.Views.{cells, fields}
-use Rattle.cedar_meaning.specs.Table.TableFields.{size_of}
-use Rattle.cedar_meaning.specs.Meaning.WellFormed.{is_value}
+use Rattle.cedar_model.specs.Table.TableFields.{size_of}
+use Rattle.cedar_model.specs.Meaning.WellFormed.{is_value}
 use Rattle.cedar_bulk.proofs.BulkLemmas.MovedSpans.{covers_moved, front_inside, spans_moved}
 use Rattle.cedar_bulk.proofs.BulkLemmas.Spans.{as_many, back_is, below_is, bit_is}
 use Rattle.cedar_slots.specs.Views.{places_of}
-use Rattle.cedar_meaning.proofs.UpdateLemmas.BlocksMade.{made_none, same_slots}
+use Rattle.cedar_model.proofs.UpdateLemmas.BlocksMade.{made_none, same_slots}
 use Rattle.cedar_bulk.proofs.sorted.fill_span.Goals as goal
 
 pub split_at-requires : goal.split_at-requires

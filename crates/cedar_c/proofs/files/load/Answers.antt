@@ -1,6 +1,6 @@
 use Rattle.std.proofs.Common.{◌∙◌, Ok, Err, refl, sym}
 use Rattle.std.proofs.lemmas.Bool.{false≢true}
-use Rattle.cedar_meaning.specs.Table.Layouts.{layout_byte}
+use Rattle.cedar_model.specs.Table.Layouts.{layout_byte}
 use Rattle.cedar_format.specs.Format.{header_answer}
 use Rattle.cedarwood.specs.Dictionary.{Dictionary}
 use Rattle.cedarwood.specs.Loading.{LoadAnswers}

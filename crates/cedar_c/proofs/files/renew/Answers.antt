@@ -1,4 +1,4 @@
-use Rattle.cedar_meaning.specs.Table.Layouts.{layout_byte}
+use Rattle.cedar_model.specs.Table.Layouts.{layout_byte}
 use Rattle.cedar_format.specs.Format.{header_answer}
 use Rattle.cedar_c.specs.Files.{early_refusal}
 use Rattle.cedar_c.specs.Layouts.{layout_if}

@@ -1,5 +1,5 @@
 use Rattle.std.proofs.Common.{◌∙◌, ◌≡◌, ◌<◌, ◌≤◌, ◌+◌, ◌*◌, ℕ, ap, arith, sym}
-use Rattle.cedar_meaning.specs.Edit.Steps.{blocks_after}
+use Rattle.cedar_model.specs.Edit.Steps.{blocks_after}
 use Rattle.cedar_table.proofs.RoomLemmas.{blocks_doubled, blocks_spare}
 use Rattle.cedar_table.proofs.room.doubled_for.Goals as goal
 

@@ -1,5 +1,5 @@
 use Rattle.std.proofs.Common.{◌≡◌, ◌≤◌, ◌+◌, ◌-◌}
-use Rattle.cedar_meaning.specs.Edit.Steps.{blocks_after}
+use Rattle.cedar_model.specs.Edit.Steps.{blocks_after}
 use Rattle.cedar_table.proofs.room.doubled_for.Given as goal
 
 -- as many blocks follow from those there is room for now

@@ -2,9 +2,9 @@ use Rattle.std.proofs.Common.{rules, ◌≡◌, ap, sym, subst, ◌∙◌, Some,
 use Rattle.std.proofs.lemmas.Int.{to_z-of_z}
 use Rattle.cedar_tree.specs.Tree.{number_at}
 use Rattle.cedar_table.specs.Table.Views.{fields}
-use Rattle.cedar_meaning.specs.Meaning.WellFormed.{tree_of}
+use Rattle.cedar_model.specs.Meaning.WellFormed.{tree_of}
 use Rattle.cedar_walk.specs.Batch.{IsLane}
-use Rattle.cedar_meaning.proofs.MeaningLemmas.SearchStep.{at_end, exact_is}
+use Rattle.cedar_model.proofs.MeaningLemmas.SearchStep.{at_end, exact_is}
 use Rattle.cedar_walk.proofs.batch.end_lane.Goals as goal
 
 pub returns-in_err-node : goal.returns-in_err-node

@@ -2,7 +2,7 @@ use Rattle.std.proofs.Common.{◌-◌, ◌≡◌, ◌≤◌, ◌++◌, drop, map
 use Rattle.cedar_tree.specs.Queries.{exact}
 use Rattle.cedar_walk.specs.Batch.{keys_of}
 use Rattle.cedar_table.specs.Table.Views.{fields}
-use Rattle.cedar_meaning.specs.Meaning.WellFormed.{tree_of}
+use Rattle.cedar_model.specs.Meaning.WellFormed.{tree_of}
 use Rattle.cedar_walk.proofs.batch.exact_match_search_batch.Given as goal
 
 abbrev pub invariant-loop-start : goal.invariant-loop-start

@@ -2,7 +2,7 @@ use Rattle.std.proofs.Common.{rules, ◌≡◌, ℕ, sym, subst, ◌∙◌, refl
 use Rattle.cedar_tree.specs.Queries.{exact}
 use Rattle.cedar_walk.specs.Batch.{IsLane, keys_of}
 use Rattle.cedar_table.specs.Table.Views.{fields}
-use Rattle.cedar_meaning.specs.Meaning.WellFormed.{tree_of}
+use Rattle.cedar_model.specs.Meaning.WellFormed.{tree_of}
 use Rattle.cedar_walk.proofs.WalkLemmas.Lanes.{answered_at, answers_are, key_at, key_count, lanes_begin}
 use Rattle.cedar_walk.proofs.batch.search_in_step.Goals as goal
 

@@ -3,7 +3,7 @@ use Rattle.std.proofs.lemmas.Int.{to_z-of_z}
 use Rattle.cedar_tree.specs.Queries.{node_at}
 use Rattle.cedar_tree.specs.Walks.{front_from}
 use Rattle.cedar_table.specs.Table.Views.{fields}
-use Rattle.cedar_meaning.specs.Meaning.WellFormed.{tree_of}
+use Rattle.cedar_model.specs.Meaning.WellFormed.{tree_of}
 use Rattle.cedar_walk.proofs.WalkLemmas.NextFront.{front_gone, front_held, front_passed, on_child}
 use Rattle.cedar_walk.proofs.fronts.next_held_front.Goals as goal
 

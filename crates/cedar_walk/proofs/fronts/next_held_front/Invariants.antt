@@ -2,7 +2,7 @@ use Rattle.std.proofs.Common.{◌≡◌, ◌+◌, ◌*◌, ◌-◌, ◌≤◌, l
 use Rattle.cedar_tree.specs.Walks.{front_from}
 use Rattle.cedar_walk.specs.Fronts.{IsOnQuery}
 use Rattle.cedar_table.specs.Table.Views.{fields}
-use Rattle.cedar_meaning.specs.Meaning.WellFormed.{tree_of}
+use Rattle.cedar_model.specs.Meaning.WellFormed.{tree_of}
 use Rattle.cedar_walk.proofs.fronts.next_held_front.Given as goal
 
 -- no front of the bytes between is held, and each of them cost two comparisons at most

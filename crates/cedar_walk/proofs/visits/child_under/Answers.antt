@@ -1,8 +1,8 @@
 use Rattle.std.proofs.Common.{rules}
 use Rattle.cedar_table.specs.Table.Views.{cells, fields}
-use Rattle.cedar_meaning.specs.Table.TableFields.{size_of}
+use Rattle.cedar_model.specs.Table.TableFields.{size_of}
 use Rattle.cedar_walk.proofs.WalkLemmas.NextNode.{node_inside, node_stands}
-use Rattle.cedar_meaning.proofs.MeaningLemmas.SearchStep.{never_nothing}
+use Rattle.cedar_model.proofs.MeaningLemmas.SearchStep.{never_nothing}
 use Rattle.cedar_walk.proofs.visits.child_under.Goals as goal
 
 pub slot_below-requires : goal.slot_below-requires

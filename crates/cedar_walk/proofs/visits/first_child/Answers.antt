@@ -1,10 +1,10 @@
 use Rattle.std.proofs.Common.{◌<◌, ◌∙◌, ap, arith, rules, subst}
 use Rattle.cedar_tree.specs.Queries.{node_at}
-use Rattle.cedar_meaning.specs.Edit.NodeEdits.{IsAt}
-use Rattle.cedar_meaning.specs.Meaning.StandsFor.{labels}
+use Rattle.cedar_model.specs.Edit.NodeEdits.{IsAt}
+use Rattle.cedar_model.specs.Meaning.StandsFor.{labels}
 use Rattle.cedar_table.specs.Table.Views.{cells, fields}
-use Rattle.cedar_meaning.specs.Table.TableFields.{size_of}
-use Rattle.cedar_meaning.specs.Meaning.WellFormed.{tree_of}
+use Rattle.cedar_model.specs.Table.TableFields.{size_of}
+use Rattle.cedar_model.specs.Meaning.WellFormed.{tree_of}
 use Rattle.cedar_walk.proofs.WalkLemmas.NextNode.{links_first, named_first, node_inside, node_stands, root_first}
 use Rattle.cedar_walk.proofs.visits.first_child.Goals as goal
 

@@ -1,7 +1,7 @@
 use Rattle.std.proofs.Common.{[], ◌++◌, ◌∙◌, ap, rules, subst, sym}
 use Rattle.std.proofs.lemmas.List.{append-nil}
 use Rattle.cedar_tree.specs.Walks.{entries_of}
-use Rattle.cedar_meaning.specs.Edit.NodeEdits.{IsAt}
+use Rattle.cedar_model.specs.Edit.NodeEdits.{IsAt}
 use Rattle.cedar_table.specs.Table.Views.{cells, fields}
 use Rattle.cedar_walk.specs.Visits.{ComesToNumber}
 use Rattle.cedar_walk.proofs.WalkLemmas.NextNode.{first_there, none_below}

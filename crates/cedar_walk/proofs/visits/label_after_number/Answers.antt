@@ -1,10 +1,10 @@
 use Rattle.std.proofs.Common.{◌<◌, ◌∙◌, arith, rules, subst, sym}
 use lib.Bits.{xor_zero_r}
 use Rattle.cedar_tree.specs.Queries.{node_at}
-use Rattle.cedar_meaning.specs.Meaning.WellFormed.{tree_of}
+use Rattle.cedar_model.specs.Meaning.WellFormed.{tree_of}
 use Rattle.cedar_table.specs.Table.Views.{cells, fields}
-use Rattle.cedar_meaning.specs.Table.TableFields.{size_of}
-use Rattle.cedar_meaning.proofs.MeaningLemmas.SearchStep.{slot_in, never_nothing}
+use Rattle.cedar_model.specs.Table.TableFields.{size_of}
+use Rattle.cedar_model.proofs.MeaningLemmas.SearchStep.{slot_in, never_nothing}
 use Rattle.cedar_walk.proofs.WalkLemmas.NextNode.{node_inside, node_stands}
 use Rattle.cedar_walk.proofs.WalkLemmas.NextNumber.{first_held, none_held, one_number}
 use Rattle.cedar_walk.proofs.visits.label_after_number.Goals as goal

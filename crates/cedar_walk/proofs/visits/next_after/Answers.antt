@@ -1,5 +1,5 @@
 use Rattle.std.proofs.Common.{◌-◌, ◌++◌, arith, rules}
-use Rattle.cedar_meaning.specs.Meaning.Family.{below}
+use Rattle.cedar_model.specs.Meaning.Family.{below}
 use Rattle.cedar_table.specs.Table.Views.{cells, fields}
 use Rattle.cedar_walk.specs.Visits.{owner_of, path_to, visited_at}
 use Rattle.cedar_walk.proofs.WalkLemmas.NextNode.{at_last, climbed_all, climbed_none, climbed_on, comes_right, first_is, parent_below, sibling_there, stepped}

@@ -1,6 +1,6 @@
 use Rattle.std.proofs.Common.{◌<◌, ◌∙◌, arith, rules, ◌++◌, [], ◌∷◌}
 use Rattle.cedar_table.specs.Table.Views.{fields}
-use Rattle.cedar_meaning.specs.Table.TableFields.{size_of}
+use Rattle.cedar_model.specs.Table.TableFields.{size_of}
 use Rattle.cedar_walk.proofs.WalkLemmas.NextNode.{next_label, node_inside}
 use Rattle.cedar_walk.proofs.visits.next_sibling.Goals as goal
 

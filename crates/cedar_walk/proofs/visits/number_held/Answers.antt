@@ -2,8 +2,8 @@ use Rattle.std.proofs.Common.{◌<◌, ap, sym, ◌∙◌, arith, rules, Some, w
 use lib.Bits.{xor_zero_r}
 use Rattle.std.proofs.lemmas.Int.{to_z-of_z}
 use Rattle.cedar_table.specs.Table.Views.{cells, fields}
-use Rattle.cedar_meaning.specs.Table.TableFields.{size_of}
-use Rattle.cedar_meaning.proofs.MeaningLemmas.SearchStep.{slot_in, number_found, number_own, never_nothing}
+use Rattle.cedar_model.specs.Table.TableFields.{size_of}
+use Rattle.cedar_model.proofs.MeaningLemmas.SearchStep.{slot_in, number_found, number_own, never_nothing}
 use Rattle.cedar_walk.proofs.WalkLemmas.NextNumber.{owner_held}
 use Rattle.cedar_walk.proofs.visits.number_held.Goals as goal
 

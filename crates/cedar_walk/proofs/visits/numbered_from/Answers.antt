@@ -1,9 +1,9 @@
 use Rattle.std.proofs.Common.{◌+◌, ◌<◌, ◌≤◌, ◌++◌, FitsSigned, Some, arith, rules, ap, subst, sym, w32, ◌∙◌}
 use Rattle.std.proofs.lemmas.Int.{to_z-of_z}
 use Rattle.cedar_table.specs.Table.Views.{cells, fields}
-use Rattle.cedar_meaning.specs.Table.TableFields.{size_of}
-use Rattle.cedar_meaning.specs.Meaning.Family.{below}
-use Rattle.cedar_meaning.proofs.MeaningLemmas.SearchStep.{never_nothing}
+use Rattle.cedar_model.specs.Table.TableFields.{size_of}
+use Rattle.cedar_model.specs.Meaning.Family.{below}
+use Rattle.cedar_model.proofs.MeaningLemmas.SearchStep.{never_nothing}
 use Rattle.cedar_walk.specs.Visits.{path_to}
 use Rattle.cedar_walk.proofs.WalkLemmas.NextNode.{node_inside, node_stands, short_way}
 use Rattle.cedar_walk.proofs.WalkLemmas.NextNumber.{Descended, descended_on, descended_to, leaf_number}

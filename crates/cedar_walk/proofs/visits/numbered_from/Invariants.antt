@@ -1,6 +1,6 @@
 use Rattle.std.proofs.Common.{◌≡◌, ◌-◌, ℕ, List}
 use Rattle.cedar_table.specs.Table.Views.{cells, fields}
-use Rattle.cedar_meaning.specs.Table.TableFields.{size_of}
+use Rattle.cedar_model.specs.Table.TableFields.{size_of}
 use Rattle.cedar_walk.specs.Visits.{IsBelow}
 use Rattle.cedar_walk.proofs.WalkLemmas.NextNumber.{Descended}
 use Rattle.cedar_walk.proofs.visits.numbered_from.Given as goal

@@ -1,7 +1,7 @@
 use Rattle.std.proofs.Common.{◌∙◌, rules, sym, subst, ◌++◌, [], ◌∷◌}
-use Rattle.cedar_meaning.specs.Edit.NodeEdits.{IsAt}
+use Rattle.cedar_model.specs.Edit.NodeEdits.{IsAt}
 use Rattle.cedar_table.specs.Table.Views.{cells, fields}
-use Rattle.cedar_meaning.proofs.MeaningLemmas.ExclusiveOr.{pos_injective}
+use Rattle.cedar_model.proofs.MeaningLemmas.ExclusiveOr.{pos_injective}
 use Rattle.cedar_walk.proofs.WalkLemmas.NextNode.{last_of, node_inside}
 use Rattle.cedar_walk.proofs.visits.parent.Goals as goal
 

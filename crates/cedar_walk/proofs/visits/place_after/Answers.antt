@@ -1,6 +1,6 @@
 use Rattle.std.proofs.Common.{◌≡◌, ◌≤◌, ◌++◌, arith, rules, subst, sym, MatchOption, []}
 use Rattle.cedar_table.specs.Table.Views.{fields}
-use Rattle.cedar_meaning.specs.Table.TableFields.{size_of}
+use Rattle.cedar_model.specs.Table.TableFields.{size_of}
 use Rattle.cedar_walk.specs.declared.visits.Place.{Place}
 use Rattle.cedar_walk.specs.Visits.{ComesTo, path_to, visited_at}
 use Rattle.cedar_walk.proofs.WalkLemmas.NextNode.{first_there, none_below, short_way}

@@ -1,5 +1,5 @@
 use Rattle.cedar_table.specs.Table.Views.{fields}
-use Rattle.cedar_meaning.specs.Meaning.WellFormed.{IsWellFormed}
+use Rattle.cedar_model.specs.Meaning.WellFormed.{IsWellFormed}
 use Rattle.table_tests.proofs.checked.each_update.Given as goal
 
 abbrev pub invariant-loop-key : goal.invariant-loop-key

@@ -1,5 +1,5 @@
 use Rattle.std.proofs.Common.{◌≡◌, Bool, IfSome, subst, sym}
-use Rattle.cedar_meaning.specs.Table.Layouts.{layout_byte}
+use Rattle.cedar_model.specs.Table.Layouts.{layout_byte}
 use Rattle.cedar_format.specs.Format.{header_answer}
 use Rattle.cedar_c.specs.Files.{early_refusal, file_status, TellsHeader}
 use Rattle.cedar_c.specs.Layouts.{layout_if}

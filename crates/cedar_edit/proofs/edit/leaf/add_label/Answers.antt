@@ -1,18 +1,18 @@
 use Rattle.std.proofs.Common.{◌≡◌, ◌<◌, ◌∙◌, arith, inr, rules, subst, sym, ap, [], ◌∷◌, ◌++◌, w32, FitsSigned}
 use Rattle.std.proofs.lemmas.Int.{to_z-of_z}
 use Rattle.cedar_tree.specs.Edits.{add_leaf, edit_at}
-use Rattle.cedar_meaning.specs.declared.layout.Stored.TheVariants.{AtBase}
-use Rattle.cedar_meaning.specs.Table.Cells.{Held}
-use Rattle.cedar_meaning.specs.Edit.NodeEdits.{CanAdd, IsAt}
-use Rattle.cedar_meaning.specs.Meaning.Family.{below}
-use Rattle.cedar_meaning.specs.Table.Layouts.{reading}
-use Rattle.cedar_meaning.specs.Meaning.StandsFor.{HoldsTree}
+use Rattle.cedar_model.specs.declared.layout.Stored.TheVariants.{AtBase}
+use Rattle.cedar_model.specs.Table.Cells.{Held}
+use Rattle.cedar_model.specs.Edit.NodeEdits.{CanAdd, IsAt}
+use Rattle.cedar_model.specs.Meaning.Family.{below}
+use Rattle.cedar_model.specs.Table.Layouts.{reading}
+use Rattle.cedar_model.specs.Meaning.StandsFor.{HoldsTree}
 use Rattle.cedar_table.specs.Table.Views.{cells, fields}
-use Rattle.cedar_meaning.specs.Table.TableFields.{size_of}
-use Rattle.cedar_meaning.proofs.EditLemmas.SlotForLabel.{base_inside, can_add_at, can_link_by, chain_of_node, held_after, label_added_by, root_check_stays, slot_inside, slot_stays}
-use Rattle.cedar_meaning.proofs.EditLemmas.LeafAtPlace.{label_added, path_of_leaf, paths_stay}
-use Rattle.cedar_meaning.proofs.MeaningLemmas.NodeAtPath.{at_node}
-use Rattle.cedar_meaning.proofs.MeaningLemmas.SearchStep.{never_nothing}
+use Rattle.cedar_model.specs.Table.TableFields.{size_of}
+use Rattle.cedar_model.proofs.EditLemmas.SlotForLabel.{base_inside, can_add_at, can_link_by, chain_of_node, held_after, label_added_by, root_check_stays, slot_inside, slot_stays}
+use Rattle.cedar_model.proofs.EditLemmas.LeafAtPlace.{label_added, path_of_leaf, paths_stay}
+use Rattle.cedar_model.proofs.MeaningLemmas.NodeAtPath.{at_node}
+use Rattle.cedar_model.proofs.MeaningLemmas.SearchStep.{never_nothing}
 use Rattle.cedar_edit.proofs.edit.leaf.add_label.Goals as goal
 
 pub slot_below-slot-requires : goal.slot_below-slot-requires

@@ -1,20 +1,20 @@
 use Rattle.std.proofs.Common.{◌≡◌, ◌<◌, ◌∙◌, arith, inr, rules, subst, sym, ap, [], ◌∷◌, ◌++◌, w32, FitsSigned, ℕ}
 use Rattle.std.proofs.lemmas.Int.{to_z-of_z}
 use Rattle.cedar_tree.specs.Edits.{add_leaf, edit_at}
-use Rattle.cedar_meaning.specs.declared.layout.Stored.TheVariants.{AtBase}
-use Rattle.cedar_meaning.specs.Table.Cells.{Takes}
-use Rattle.cedar_meaning.specs.Edit.NodeEdits.{CanAdd, IsAt}
-use Rattle.cedar_meaning.specs.Meaning.Family.{below}
-use Rattle.cedar_meaning.specs.Table.Layouts.{reading}
-use Rattle.cedar_meaning.specs.Meaning.StandsFor.{HoldsTree}
-use Rattle.cedar_meaning.specs.Relocation.Reserved.{freed}
+use Rattle.cedar_model.specs.declared.layout.Stored.TheVariants.{AtBase}
+use Rattle.cedar_model.specs.Table.Cells.{Takes}
+use Rattle.cedar_model.specs.Edit.NodeEdits.{CanAdd, IsAt}
+use Rattle.cedar_model.specs.Meaning.Family.{below}
+use Rattle.cedar_model.specs.Table.Layouts.{reading}
+use Rattle.cedar_model.specs.Meaning.StandsFor.{HoldsTree}
+use Rattle.cedar_model.specs.Relocation.Reserved.{freed}
 use Rattle.cedar_table.specs.Table.Views.{cells, fields}
-use Rattle.cedar_meaning.specs.Table.TableFields.{size_of}
-use Rattle.cedar_meaning.proofs.EditLemmas.KeptSlotGiven.{chain_there, freed_free, node_apart, place_there, slot_far}
-use Rattle.cedar_meaning.proofs.EditLemmas.SlotForLabel.{base_inside, can_add_at, can_link_by, held_after, label_added_by, root_check_stays, slot_inside, slot_stays}
-use Rattle.cedar_meaning.proofs.EditLemmas.LeafAtPlace.{label_added, path_of_leaf}
-use Rattle.cedar_meaning.proofs.RelocationLemmas.KeptSlot.{freed_root}
-use Rattle.cedar_meaning.proofs.MeaningLemmas.ExclusiveOr.{pos_injective}
+use Rattle.cedar_model.specs.Table.TableFields.{size_of}
+use Rattle.cedar_model.proofs.EditLemmas.KeptSlotGiven.{chain_there, freed_free, node_apart, place_there, slot_far}
+use Rattle.cedar_model.proofs.EditLemmas.SlotForLabel.{base_inside, can_add_at, can_link_by, held_after, label_added_by, root_check_stays, slot_inside, slot_stays}
+use Rattle.cedar_model.proofs.EditLemmas.LeafAtPlace.{label_added, path_of_leaf}
+use Rattle.cedar_model.proofs.RelocationLemmas.KeptSlot.{freed_root}
+use Rattle.cedar_model.proofs.MeaningLemmas.ExclusiveOr.{pos_injective}
 use Rattle.cedar_edit.proofs.edit.leaf.add_reserved.Goals as goal
 
 pub slot_before-before-requires : goal.slot_before-before-requires

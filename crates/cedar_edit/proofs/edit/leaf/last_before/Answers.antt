@@ -1,10 +1,10 @@
 use Rattle.std.proofs.Common.{◌≡◌, ◌<◌, ◌%◌, arith, subst, sym, ◌∙◌, inl, inr}
-use Rattle.cedar_meaning.specs.Edit.NodeEdits.{IsLabelOf}
-use Rattle.cedar_meaning.specs.Meaning.Family.{base_of, Links}
+use Rattle.cedar_model.specs.Edit.NodeEdits.{IsLabelOf}
+use Rattle.cedar_model.specs.Meaning.Family.{base_of, Links}
 use Rattle.cedar_table.specs.Table.Views.{cells, fields}
-use Rattle.cedar_meaning.specs.Table.TableFields.{size_of}
-use Rattle.cedar_meaning.proofs.MeaningLemmas.Chain.{links_next, strictly_below}
-use Rattle.cedar_meaning.proofs.MeaningLemmas.ExclusiveOr.{xor_within}
+use Rattle.cedar_model.specs.Table.TableFields.{size_of}
+use Rattle.cedar_model.proofs.MeaningLemmas.Chain.{links_next, strictly_below}
+use Rattle.cedar_model.proofs.MeaningLemmas.ExclusiveOr.{xor_within}
 use Rattle.cedar_edit.proofs.edit.leaf.last_before.Goals as goal
 use Rattle.cedar_edit.proofs.edit.leaf.last_before.Goals.{then-not-ordered-via-then-not-ordered, then-not-ordered-via-else-not-ordered+then-next-eq0, then-not-ordered-via-else-not-ordered+else-next-eq0+then-label-next}
 

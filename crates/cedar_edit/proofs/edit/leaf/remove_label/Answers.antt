@@ -1,13 +1,13 @@
 use Rattle.std.proofs.Common.{◌≡◌, ◌<◌, ◌∙◌, arith, inl, inr, refl, rules, subst, sym, ap, pos}
-use Rattle.cedar_meaning.specs.Meaning.Family.{below}
-use Rattle.cedar_meaning.specs.Meaning.StandsFor.{HoldsTree}
+use Rattle.cedar_model.specs.Meaning.Family.{below}
+use Rattle.cedar_model.specs.Meaning.StandsFor.{HoldsTree}
 use Rattle.cedar_tree.specs.Tree.{without}
 use Rattle.cedar_tree.specs.Edits.{edit_at}
 use Rattle.cedar_table.specs.Table.Views.{cells, fields}
-use Rattle.cedar_meaning.specs.Table.TableFields.{size_of}
-use Rattle.cedar_meaning.proofs.EditLemmas.AtPath.{held_node, label_removed, not_own_owner}
-use Rattle.cedar_meaning.proofs.EditLemmas.SlotForLabel.{chain_of_node}
-use Rattle.cedar_meaning.proofs.EditLemmas.Unlinked.{can_lead, owned_inside, removes_at, same_checks}
+use Rattle.cedar_model.specs.Table.TableFields.{size_of}
+use Rattle.cedar_model.proofs.EditLemmas.AtPath.{held_node, label_removed, not_own_owner}
+use Rattle.cedar_model.proofs.EditLemmas.SlotForLabel.{chain_of_node}
+use Rattle.cedar_model.proofs.EditLemmas.Unlinked.{can_lead, owned_inside, removes_at, same_checks}
 use Rattle.cedar_edit.proofs.edit.leaf.remove_label.Goals as goal
 
 pub slot_to-before-requires : goal.slot_to-before-requires

@@ -1,11 +1,11 @@
 use Rattle.std.proofs.Common.{◌≡◌, ◌<◌, ◌∙◌, arith, inl, inr, pos, rules, subst, sym}
-use Rattle.cedar_meaning.specs.Edit.NodeEdits.{IsLabelOf, IsLead}
-use Rattle.cedar_meaning.specs.Meaning.Family.{base_of, below, Links}
+use Rattle.cedar_model.specs.Edit.NodeEdits.{IsLabelOf, IsLead}
+use Rattle.cedar_model.specs.Meaning.Family.{base_of, below, Links}
 use Rattle.cedar_table.specs.Table.Views.{cells, fields}
-use Rattle.cedar_meaning.specs.Table.TableFields.{size_of}
-use Rattle.cedar_meaning.proofs.MeaningLemmas.Chain.{first_links, lead_links, links_few, links_next, root_stored, strictly_below}
-use Rattle.cedar_meaning.proofs.EditLemmas.SlotForLabel.{lead_inside, root_lead}
-use Rattle.cedar_meaning.proofs.MeaningLemmas.ExclusiveOr.{xor_within}
+use Rattle.cedar_model.specs.Table.TableFields.{size_of}
+use Rattle.cedar_model.proofs.MeaningLemmas.Chain.{first_links, lead_links, links_few, links_next, root_stored, strictly_below}
+use Rattle.cedar_model.proofs.EditLemmas.SlotForLabel.{lead_inside, root_lead}
+use Rattle.cedar_model.proofs.MeaningLemmas.ExclusiveOr.{xor_within}
 use Rattle.cedar_edit.proofs.edit.leaf.slot_before.Goals as goal
 use Rattle.cedar_edit.proofs.edit.leaf.slot_before.Goals.{then-node-eq0-via-then-node-eq0, then-node-eq0-via-else-node-eq0+then-has_number_slot, then-not-ordered-via-then-not-ordered, then-not-ordered-via-else-not-ordered+then-first-eq0, then-not-ordered-via-else-not-ordered+else-first-eq0+then-label-first}
 

@@ -1,11 +1,11 @@
 use Rattle.std.proofs.Common.{◌≡◌, ◌<◌, ◌∙◌, ap, arith, inr, subst, sym}
-use Rattle.cedar_meaning.specs.Edit.NodeEdits.{IsLabelOf}
-use Rattle.cedar_meaning.specs.Meaning.Family.{Among, base_of, below, Links}
+use Rattle.cedar_model.specs.Edit.NodeEdits.{IsLabelOf}
+use Rattle.cedar_model.specs.Meaning.Family.{Among, base_of, below, Links}
 use Rattle.cedar_table.specs.Table.Views.{cells, fields}
-use Rattle.cedar_meaning.specs.Table.TableFields.{size_of}
-use Rattle.cedar_meaning.proofs.MeaningLemmas.OneNode.{owned_label}
-use Rattle.cedar_meaning.proofs.MeaningLemmas.ExclusiveOr.{xor_within}
-use Rattle.cedar_meaning.proofs.MeaningLemmas.ChainWalk.{first_along, links_past}
+use Rattle.cedar_model.specs.Table.TableFields.{size_of}
+use Rattle.cedar_model.proofs.MeaningLemmas.OneNode.{owned_label}
+use Rattle.cedar_model.proofs.MeaningLemmas.ExclusiveOr.{xor_within}
+use Rattle.cedar_model.proofs.MeaningLemmas.ChainWalk.{first_along, links_past}
 use Rattle.cedar_edit.proofs.edit.leaf.slot_to.Goals as goal
 
 pub loop-step-init : goal.loop-step-init

@@ -1,8 +1,8 @@
 use Rattle.std.proofs.Common.{ℕ, ◌+◌, ◌<◌, List, length}
-use Rattle.cedar_meaning.specs.Edit.NodeEdits.{IsLink}
-use Rattle.cedar_meaning.specs.Meaning.Family.{Among, Links}
+use Rattle.cedar_model.specs.Edit.NodeEdits.{IsLink}
+use Rattle.cedar_model.specs.Meaning.Family.{Among, Links}
 use Rattle.cedar_table.specs.Table.Views.{cells, fields}
-use Rattle.cedar_meaning.specs.Table.TableFields.{size_of}
+use Rattle.cedar_model.specs.Table.TableFields.{size_of}
 use Rattle.cedar_edit.proofs.edit.leaf.slot_to.Given as goal
 
 -- the label comes in the chain behind this slot

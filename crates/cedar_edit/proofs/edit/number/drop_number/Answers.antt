@@ -1,14 +1,14 @@
 use Rattle.std.proofs.Common.{◌≡◌, ◌<◌, ◌∙◌, arith, inl, inr, refl, rules, subst, sym, ap, pos, None}
 use Rattle.cedar_tree.specs.Edits.{edit_at}
-use Rattle.cedar_meaning.specs.Table.Cells.{Gives}
-use Rattle.cedar_meaning.specs.Edit.NodeEdits.{SetsChild}
-use Rattle.cedar_meaning.specs.Meaning.Family.{below}
-use Rattle.cedar_meaning.specs.Meaning.StandsFor.{HoldsTree}
+use Rattle.cedar_model.specs.Table.Cells.{Gives}
+use Rattle.cedar_model.specs.Edit.NodeEdits.{SetsChild}
+use Rattle.cedar_model.specs.Meaning.Family.{below}
+use Rattle.cedar_model.specs.Meaning.StandsFor.{HoldsTree}
 use Rattle.cedar_table.specs.Table.Views.{cells, fields}
-use Rattle.cedar_meaning.specs.Table.TableFields.{size_of}
-use Rattle.cedar_meaning.proofs.EditLemmas.AtPath.{held_node, not_own_owner, number_dropped_at}
-use Rattle.cedar_meaning.proofs.EditLemmas.SlotGiven.{drops_number}
-use Rattle.cedar_meaning.proofs.EditLemmas.SlotForLabel.{lead_inside}
+use Rattle.cedar_model.specs.Table.TableFields.{size_of}
+use Rattle.cedar_model.proofs.EditLemmas.AtPath.{held_node, not_own_owner, number_dropped_at}
+use Rattle.cedar_model.proofs.EditLemmas.SlotGiven.{drops_number}
+use Rattle.cedar_model.proofs.EditLemmas.SlotForLabel.{lead_inside}
 use Rattle.cedar_edit.proofs.edit.number.drop_number.Goals as goal
 
 pub sibling-first-requires : goal.sibling-first-requires

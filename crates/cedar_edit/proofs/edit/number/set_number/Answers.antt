@@ -1,18 +1,18 @@
 use Rattle.std.proofs.Common.{◌≡◌, ◌<◌, ◌≤ℤ◌, ◌∙◌, arith, inl, inr, rules, subst, sym, ap, pos, Some, to_z, of_z, w32, FitsSigned}
 use Rattle.std.proofs.lemmas.Int.{ints, to_z_pos, to_z-of_z}
 use Rattle.cedar_tree.specs.Edits.{edit_at}
-use Rattle.cedar_meaning.specs.Table.Cells.{Held, NodeWritten, Takes}
-use Rattle.cedar_meaning.specs.Edit.NodeEdits.{SetsSibling}
-use Rattle.cedar_meaning.specs.Meaning.Family.{below}
-use Rattle.cedar_meaning.specs.Table.Layouts.{reading}
-use Rattle.cedar_meaning.specs.Meaning.StandsFor.{HoldsTree}
+use Rattle.cedar_model.specs.Table.Cells.{Held, NodeWritten, Takes}
+use Rattle.cedar_model.specs.Edit.NodeEdits.{SetsSibling}
+use Rattle.cedar_model.specs.Meaning.Family.{below}
+use Rattle.cedar_model.specs.Table.Layouts.{reading}
+use Rattle.cedar_model.specs.Meaning.StandsFor.{HoldsTree}
 use Rattle.cedar_table.specs.Table.Views.{cells, fields}
-use Rattle.cedar_meaning.specs.Table.TableFields.{size_of}
-use Rattle.cedar_meaning.proofs.EditLemmas.AtPath.{held_node, not_own_owner, number_set_at}
-use Rattle.cedar_meaning.proofs.EditLemmas.SlotForLabel.{chain_of_node, lead_inside}
-use Rattle.cedar_meaning.proofs.EditLemmas.NumberWritten.{number_taken, number_written, root_check_taken, root_check_written}
-use Rattle.cedar_meaning.proofs.MeaningLemmas.NodeAtPath.{at_node}
-use Rattle.cedar_meaning.proofs.MeaningLemmas.SearchStep.{never_nothing}
+use Rattle.cedar_model.specs.Table.TableFields.{size_of}
+use Rattle.cedar_model.proofs.EditLemmas.AtPath.{held_node, not_own_owner, number_set_at}
+use Rattle.cedar_model.proofs.EditLemmas.SlotForLabel.{chain_of_node, lead_inside}
+use Rattle.cedar_model.proofs.EditLemmas.NumberWritten.{number_taken, number_written, root_check_taken, root_check_written}
+use Rattle.cedar_model.proofs.MeaningLemmas.NodeAtPath.{at_node}
+use Rattle.cedar_model.proofs.MeaningLemmas.SearchStep.{never_nothing}
 use Rattle.cedar_edit.proofs.edit.number.set_number.Goals as goal
 
 pub slot_below-slot-requires : goal.slot_below-slot-requires

@@ -1,18 +1,18 @@
 use Rattle.std.proofs.Common.{◌≡◌, ◌<◌, ◌∙◌, arith, inl, inr, rules, subst, sym, ap, Some, ℕ, w32, FitsSigned}
 use Rattle.std.proofs.lemmas.Int.{to_z-of_z}
 use Rattle.cedar_tree.specs.Edits.{edit_at}
-use Rattle.cedar_meaning.specs.Table.Cells.{Held, Takes}
-use Rattle.cedar_meaning.specs.Edit.NodeEdits.{SetsSibling}
-use Rattle.cedar_meaning.specs.Meaning.Family.{below}
-use Rattle.cedar_meaning.specs.Meaning.StandsFor.{HoldsTree}
-use Rattle.cedar_meaning.specs.Relocation.Reserved.{freed}
+use Rattle.cedar_model.specs.Table.Cells.{Held, Takes}
+use Rattle.cedar_model.specs.Edit.NodeEdits.{SetsSibling}
+use Rattle.cedar_model.specs.Meaning.Family.{below}
+use Rattle.cedar_model.specs.Meaning.StandsFor.{HoldsTree}
+use Rattle.cedar_model.specs.Relocation.Reserved.{freed}
 use Rattle.cedar_table.specs.Table.Views.{cells, fields}
-use Rattle.cedar_meaning.specs.Table.TableFields.{size_of}
-use Rattle.cedar_meaning.proofs.EditLemmas.AtPath.{held_node, number_set_at}
-use Rattle.cedar_meaning.proofs.EditLemmas.KeptSlotGiven.{freed_free, slot_far}
-use Rattle.cedar_meaning.proofs.EditLemmas.SlotForLabel.{lead_inside}
-use Rattle.cedar_meaning.proofs.RelocationLemmas.KeptSlot.{freed_root}
-use Rattle.cedar_meaning.proofs.EditLemmas.NumberWritten.{number_taken, root_check_taken}
+use Rattle.cedar_model.specs.Table.TableFields.{size_of}
+use Rattle.cedar_model.proofs.EditLemmas.AtPath.{held_node, number_set_at}
+use Rattle.cedar_model.proofs.EditLemmas.KeptSlotGiven.{freed_free, slot_far}
+use Rattle.cedar_model.proofs.EditLemmas.SlotForLabel.{lead_inside}
+use Rattle.cedar_model.proofs.RelocationLemmas.KeptSlot.{freed_root}
+use Rattle.cedar_model.proofs.EditLemmas.NumberWritten.{number_taken, root_check_taken}
 use Rattle.cedar_edit.proofs.edit.number.set_reserved.Goals as goal
 
 pub claim-requires : goal.claim-requires

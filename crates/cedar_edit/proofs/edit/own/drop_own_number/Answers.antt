@@ -1,11 +1,11 @@
 use Rattle.std.proofs.Common.{arith, inl, inr, refl, rules, subst, sym, None}
 use Rattle.cedar_tree.specs.Edits.{edit_at}
-use Rattle.cedar_meaning.specs.declared.layout.Stored.TheVariants.{AtBase}
-use Rattle.cedar_meaning.specs.Meaning.StandsFor.{HoldsTree}
+use Rattle.cedar_model.specs.declared.layout.Stored.TheVariants.{AtBase}
+use Rattle.cedar_model.specs.Meaning.StandsFor.{HoldsTree}
 use Rattle.cedar_table.specs.Table.Views.{cells, fields}
-use Rattle.cedar_meaning.specs.Table.TableFields.{size_of}
-use Rattle.cedar_meaning.proofs.EditLemmas.AtPath.{held_node}
-use Rattle.cedar_meaning.proofs.EditLemmas.OwnNumber.{field_edited, field_from_base, spare_past}
+use Rattle.cedar_model.specs.Table.TableFields.{size_of}
+use Rattle.cedar_model.proofs.EditLemmas.AtPath.{held_node}
+use Rattle.cedar_model.proofs.EditLemmas.OwnNumber.{field_edited, field_from_base, spare_past}
 use Rattle.cedar_edit.proofs.edit.own.drop_own_number.Goals as goal
 
 pub set_base-requires : goal.set_base-requires

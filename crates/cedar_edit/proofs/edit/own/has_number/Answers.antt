@@ -2,10 +2,10 @@ use Rattle.std.proofs.Common.{◌<◌, arith, rules, sym, ◌∙◌, ap, subst}
 use Rattle.std.specs.Prelude.{is_some}
 use lib.Bits.{xor_zero_r}
 use Rattle.cedar_table.specs.Table.Views.{cells, fields}
-use Rattle.cedar_meaning.specs.Table.TableFields.{size_of}
-use Rattle.cedar_meaning.proofs.MeaningLemmas.NodeAtPath.{at_node}
-use Rattle.cedar_meaning.proofs.MeaningLemmas.SearchStep.{never_nothing, number_found, number_missing, number_own, slot_in}
-use Rattle.cedar_meaning.proofs.EditLemmas.OwnNumber.{told}
+use Rattle.cedar_model.specs.Table.TableFields.{size_of}
+use Rattle.cedar_model.proofs.MeaningLemmas.NodeAtPath.{at_node}
+use Rattle.cedar_model.proofs.MeaningLemmas.SearchStep.{never_nothing, number_found, number_missing, number_own, slot_in}
+use Rattle.cedar_model.proofs.EditLemmas.OwnNumber.{told}
 use Rattle.cedar_edit.proofs.edit.own.has_number.Goals as goal
 
 pub is_owned_by-requires : goal.is_owned_by-requires

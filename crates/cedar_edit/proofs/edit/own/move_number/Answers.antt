@@ -3,20 +3,20 @@ use Rattle.std.specs.Prelude.{ℕ, List}
 use Rattle.std.proofs.lemmas.Int.{to_z-of_z}
 use Rattle.cedar_tree.specs.Tree.{Forest}
 use Rattle.cedar_tree.specs.Edits.{edit_at}
-use Rattle.cedar_meaning.specs.Table.Cells.{Held}
-use Rattle.cedar_meaning.specs.Edit.NodeEdits.{IsAt, IsNodeOf, SetsNumber}
-use Rattle.cedar_meaning.specs.Meaning.Family.{InRange}
-use Rattle.cedar_meaning.specs.Meaning.Marks.{KeepsOtherMarks}
-use Rattle.cedar_meaning.specs.Meaning.StandsFor.{HoldsTree}
+use Rattle.cedar_model.specs.Table.Cells.{Held}
+use Rattle.cedar_model.specs.Edit.NodeEdits.{IsAt, IsNodeOf, SetsNumber}
+use Rattle.cedar_model.specs.Meaning.Family.{InRange}
+use Rattle.cedar_model.specs.Meaning.Marks.{KeepsOtherMarks}
+use Rattle.cedar_model.specs.Meaning.StandsFor.{HoldsTree}
 use Rattle.cedar_table.specs.Table.Views.{cells, fields}
-use Rattle.cedar_meaning.specs.Table.TableFields.{size_of}
+use Rattle.cedar_model.specs.Table.TableFields.{size_of}
 use Rattle.cedar_slots.specs.Views.{places_of}
-use Rattle.cedar_meaning.proofs.EditLemmas.AtPath.{held_node}
-use Rattle.cedar_meaning.proofs.UpdateLemmas.BlocksMade.{found_blocks, growth_framed, growth_nothing, made_larger, refuses_still, slots_of_same}
-use Rattle.cedar_meaning.proofs.EditLemmas.FirstBase.{held_still}
-use Rattle.cedar_meaning.proofs.EditLemmas.NumberMovesOut.{others_back, own_node, paths_back, slot_free, tree_back}
-use Rattle.cedar_meaning.proofs.UpdateLemmas.StepAnswers.{refused_as}
-use Rattle.cedar_meaning.specs.Edit.Steps.{MayAddBlock}
+use Rattle.cedar_model.proofs.EditLemmas.AtPath.{held_node}
+use Rattle.cedar_model.proofs.UpdateLemmas.BlocksMade.{found_blocks, growth_framed, growth_nothing, made_larger, refuses_still, slots_of_same}
+use Rattle.cedar_model.proofs.EditLemmas.FirstBase.{held_still}
+use Rattle.cedar_model.proofs.EditLemmas.NumberMovesOut.{others_back, own_node, paths_back, slot_free, tree_back}
+use Rattle.cedar_model.proofs.UpdateLemmas.StepAnswers.{refused_as}
+use Rattle.cedar_model.specs.Edit.Steps.{MayAddBlock}
 use Rattle.cedar_edit.proofs.edit.own.move_number.Goals as goal
 
 pub returns-in_err-slot-clause-refused : goal.returns-in_err-slot-clause-refused

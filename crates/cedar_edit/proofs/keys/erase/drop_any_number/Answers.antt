@@ -1,13 +1,13 @@
 use Rattle.std.proofs.Common.{◌≡◌, ◌∙◌, arith, inl, inr, refl, rules, sym}
 use Rattle.std.specs.Prelude.{pos}
-use Rattle.cedar_meaning.specs.Meaning.Family.{below}
+use Rattle.cedar_model.specs.Meaning.Family.{below}
 use Rattle.cedar_table.specs.Table.Views.{cells, fields}
-use Rattle.cedar_meaning.specs.Table.TableFields.{size_of}
-use Rattle.cedar_meaning.proofs.MeaningLemmas.NodeAtPath.{at_number}
-use Rattle.cedar_meaning.proofs.UpdateLemmas.Erasure.{dropped_at, number_based}
-use Rattle.cedar_meaning.proofs.MeaningLemmas.NumberSlots.{dropped_marks, field_marks}
-use Rattle.cedar_meaning.proofs.EditLemmas.OwnNumber.{field_paths, not_at_base, spare_past}
-use Rattle.cedar_meaning.proofs.EditLemmas.NumberMovesOut.{leaf_alone}
+use Rattle.cedar_model.specs.Table.TableFields.{size_of}
+use Rattle.cedar_model.proofs.MeaningLemmas.NodeAtPath.{at_number}
+use Rattle.cedar_model.proofs.UpdateLemmas.Erasure.{dropped_at, number_based}
+use Rattle.cedar_model.proofs.MeaningLemmas.NumberSlots.{dropped_marks, field_marks}
+use Rattle.cedar_model.proofs.EditLemmas.OwnNumber.{field_paths, not_at_base, spare_past}
+use Rattle.cedar_model.proofs.EditLemmas.NumberMovesOut.{leaf_alone}
 use Rattle.cedar_edit.proofs.keys.erase.drop_any_number.Goals as goal
 
 pub drop_number-requires : goal.drop_number-requires

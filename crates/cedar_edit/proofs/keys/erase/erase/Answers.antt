@@ -2,16 +2,16 @@ use Rattle.std.proofs.Common.{◌≡◌, ◌<◌, ◌+◌, ◌-◌, ◌∙◌, a
 use Rattle.std.specs.Prelude.{is_some, true}
 use Rattle.cedar_tree.specs.Tree.{number_at}
 use Rattle.cedar_tree.specs.Edits.{edit_at}
-use Rattle.cedar_meaning.specs.Meaning.Marks.{KeepsOtherMarks}
-use Rattle.cedar_meaning.specs.Edit.NodeEdits.{IsAt}
-use Rattle.cedar_meaning.specs.Meaning.StandsFor.{HoldsTree}
-use Rattle.cedar_meaning.specs.Edit.Steps.{root_of, trimmed}
+use Rattle.cedar_model.specs.Meaning.Marks.{KeepsOtherMarks}
+use Rattle.cedar_model.specs.Edit.NodeEdits.{IsAt}
+use Rattle.cedar_model.specs.Meaning.StandsFor.{HoldsTree}
+use Rattle.cedar_model.specs.Edit.Steps.{root_of, trimmed}
 use Rattle.cedar_table.specs.Table.Views.{cells, fields}
-use Rattle.cedar_meaning.specs.Table.TableFields.{Fields, size_of}
-use Rattle.cedar_meaning.specs.Meaning.WellFormed.{cells_in, IsWellFormed, tree_of}
-use Rattle.cedar_meaning.proofs.UpdateLemmas.Erasure.{dropped_node, erased_formed, erased_tree, held_below_root, key_node, key_told, node_numbered, some_entry, unheld_not, unheld_same}
-use Rattle.cedar_meaning.proofs.UpdateLemmas.MarkedTree.{marks_cut, others_at}
-use Rattle.cedar_meaning.proofs.UpdateLemmas.FreeWay.{at_same}
+use Rattle.cedar_model.specs.Table.TableFields.{Fields, size_of}
+use Rattle.cedar_model.specs.Meaning.WellFormed.{cells_in, IsWellFormed, tree_of}
+use Rattle.cedar_model.proofs.UpdateLemmas.Erasure.{dropped_node, erased_formed, erased_tree, held_below_root, key_node, key_told, node_numbered, some_entry, unheld_not, unheld_same}
+use Rattle.cedar_model.proofs.UpdateLemmas.MarkedTree.{marks_cut, others_at}
+use Rattle.cedar_model.proofs.UpdateLemmas.FreeWay.{at_same}
 use Rattle.cedar_edit.proofs.keys.erase.erase.Goals as goal
 
 pub returns-in_default-clause-tree : goal.returns-in_default-clause-tree

@@ -1,11 +1,11 @@
 use Rattle.std.proofs.Common.{◌<◌, arith, rules, sym, ◌∙◌, ap, subst, eqb, refl}
 use lib.Bits.{xor_zero_r}
 use Rattle.cedar_table.specs.Table.Views.{cells, fields}
-use Rattle.cedar_meaning.specs.Table.TableFields.{size_of}
-use Rattle.cedar_meaning.proofs.MeaningLemmas.NodeAtPath.{at_node}
-use Rattle.cedar_meaning.proofs.MeaningLemmas.BareSlot.{bare_is, found_not_bare, own_not_bare}
-use Rattle.cedar_meaning.proofs.MeaningLemmas.SearchStep.{never_nothing, slot_in}
-use Rattle.cedar_meaning.proofs.UpdateLemmas.LeftBare.{at_root, not_at_root}
+use Rattle.cedar_model.specs.Table.TableFields.{size_of}
+use Rattle.cedar_model.proofs.MeaningLemmas.NodeAtPath.{at_node}
+use Rattle.cedar_model.proofs.MeaningLemmas.BareSlot.{bare_is, found_not_bare, own_not_bare}
+use Rattle.cedar_model.proofs.MeaningLemmas.SearchStep.{never_nothing, slot_in}
+use Rattle.cedar_model.proofs.UpdateLemmas.LeftBare.{at_root, not_at_root}
 use Rattle.cedar_edit.proofs.keys.erase.is_bare.Goals as goal
 
 pub returns-then-node-eq0 : goal.returns-then-node-eq0

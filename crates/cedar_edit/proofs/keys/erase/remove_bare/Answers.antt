@@ -1,16 +1,16 @@
 use Rattle.std.proofs.Common.{◌<◌, ◌∙◌, arith, rules, sym, ap, subst, bit_xor, refl}
-use Rattle.cedar_meaning.specs.Meaning.Family.{Node}
+use Rattle.cedar_model.specs.Meaning.Family.{Node}
 use Rattle.cedar_tree.specs.Edits.{without_leaf}
-use Rattle.cedar_meaning.specs.Meaning.StandsFor.{HoldsTree}
-use Rattle.cedar_meaning.specs.Edit.Steps.{root_of}
-use Rattle.cedar_meaning.specs.Edit.Trims.{LosesLeaf}
+use Rattle.cedar_model.specs.Meaning.StandsFor.{HoldsTree}
+use Rattle.cedar_model.specs.Edit.Steps.{root_of}
+use Rattle.cedar_model.specs.Edit.Trims.{LosesLeaf}
 use Rattle.cedar_table.specs.Table.Views.{cells, fields}
-use Rattle.cedar_meaning.specs.Table.TableFields.{size_of}
-use Rattle.cedar_meaning.proofs.MeaningLemmas.NodeAtPath.{at_node}
-use Rattle.cedar_meaning.proofs.UpdateLemmas.LeftBare.{left_bare}
-use Rattle.cedar_meaning.proofs.MeaningLemmas.TreeOf.{in_use}
-use Rattle.cedar_meaning.proofs.MeaningLemmas.NumberSlots.{removed_marks}
-use Rattle.cedar_meaning.proofs.UpdateLemmas.BareTrimmed.{above, bare_node, has_owner, label_read, label_small, loses_leaf, node_inside}
+use Rattle.cedar_model.specs.Table.TableFields.{size_of}
+use Rattle.cedar_model.proofs.MeaningLemmas.NodeAtPath.{at_node}
+use Rattle.cedar_model.proofs.UpdateLemmas.LeftBare.{left_bare}
+use Rattle.cedar_model.proofs.MeaningLemmas.TreeOf.{in_use}
+use Rattle.cedar_model.proofs.MeaningLemmas.NumberSlots.{removed_marks}
+use Rattle.cedar_model.proofs.UpdateLemmas.BareTrimmed.{above, bare_node, has_owner, label_read, label_small, loses_leaf, node_inside}
 use Rattle.cedar_edit.proofs.keys.erase.remove_bare.Goals as goal
 
 pub owner-owner-requires : goal.owner-owner-requires

@@ -1,13 +1,13 @@
 use Rattle.std.proofs.Common.{◌≡◌, ◌<◌, ◌∙◌, arith, refl, rules, subst, sym}
 use Rattle.cedar_tree.specs.Tree.{is_bare}
 use Rattle.cedar_tree.specs.Queries.{node_at}
-use Rattle.cedar_meaning.specs.Edit.Steps.{root_of}
+use Rattle.cedar_model.specs.Edit.Steps.{root_of}
 use Rattle.cedar_table.specs.Table.Views.{cells, fields}
-use Rattle.cedar_meaning.proofs.UpdateLemmas.TrimUpwards.{climb_end, climb_none, climb_on, depth_less}
-use Rattle.cedar_meaning.proofs.UpdateLemmas.Frame.{frame_same, frame_then}
-use Rattle.cedar_meaning.proofs.UpdateLemmas.LeftBare.{told_bare, told_not}
-use Rattle.cedar_meaning.proofs.MeaningLemmas.TreeOf.{in_use}
-use Rattle.cedar_meaning.proofs.MeaningLemmas.NumberSlots.{marks_same, marks_then}
+use Rattle.cedar_model.proofs.UpdateLemmas.TrimUpwards.{climb_end, climb_none, climb_on, depth_less}
+use Rattle.cedar_model.proofs.UpdateLemmas.Frame.{frame_same, frame_then}
+use Rattle.cedar_model.proofs.UpdateLemmas.LeftBare.{told_bare, told_not}
+use Rattle.cedar_model.proofs.MeaningLemmas.TreeOf.{in_use}
+use Rattle.cedar_model.proofs.MeaningLemmas.NumberSlots.{marks_same, marks_then}
 use Rattle.cedar_edit.proofs.keys.erase.trim.Goals as goal
 
 pub loop-bare-init : goal.loop-bare-init

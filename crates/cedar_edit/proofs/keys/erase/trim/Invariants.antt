@@ -1,13 +1,13 @@
 use Rattle.std.proofs.Common.{◌≡◌, ℕ, List, ◌<◌}
 use Rattle.cedar_tree.specs.Tree.{Forest}
-use Rattle.cedar_meaning.specs.Edit.NodeEdits.{IsAt}
-use Rattle.cedar_meaning.specs.Meaning.Marks.{KeepsMarks}
-use Rattle.cedar_meaning.specs.Meaning.StandsFor.{HoldsTree}
+use Rattle.cedar_model.specs.Edit.NodeEdits.{IsAt}
+use Rattle.cedar_model.specs.Meaning.Marks.{KeepsMarks}
+use Rattle.cedar_model.specs.Meaning.StandsFor.{HoldsTree}
 use Rattle.cedar_slots.specs.Places.{IsTable}
 use Rattle.cedar_table.specs.Table.Views.{cells, fields}
-use Rattle.cedar_meaning.specs.Table.TableFields.{SameFrame, size_of}
-use Rattle.cedar_meaning.specs.Edit.Trims.{TellsBare}
-use Rattle.cedar_meaning.proofs.UpdateLemmas.TrimUpwards.{Climbs, depth}
+use Rattle.cedar_model.specs.Table.TableFields.{SameFrame, size_of}
+use Rattle.cedar_model.specs.Edit.Trims.{TellsBare}
+use Rattle.cedar_model.proofs.UpdateLemmas.TrimUpwards.{Climbs, depth}
 use Rattle.cedar_edit.proofs.keys.erase.trim.Given as goal
 
 abbrev pub invariant-loop-bare : goal.invariant-loop-bare

@@ -1,15 +1,15 @@
 use Rattle.std.proofs.Common.{◌≡◌, ◌<◌, ◌+◌, [], arith, drop, length, get_or, refl, rules, subst, sym, take}
 use Rattle.std.proofs.lemmas.Grind.{common_steps}
-use Rattle.cedar_meaning.specs.Edit.KeyWalk.{Walked}
+use Rattle.cedar_model.specs.Edit.KeyWalk.{Walked}
 use Rattle.cedar_table.specs.Table.Views.{cells, fields}
-use Rattle.cedar_meaning.specs.Table.TableFields.{size_of}
+use Rattle.cedar_model.specs.Table.TableFields.{size_of}
 use Rattle.cedar_slots.specs.Views.{places_of}
-use Rattle.cedar_meaning.proofs.MeaningLemmas.NodeAtPath.{at_node}
-use Rattle.cedar_meaning.proofs.UpdateLemmas.BlocksMade.{made_none, same_slots}
-use Rattle.cedar_meaning.proofs.MeaningLemmas.SearchStep.{never_nothing}
-use Rattle.cedar_meaning.proofs.MeaningLemmas.KeyPath.{slot_within}
-use Rattle.cedar_meaning.proofs.UpdateLemmas.ChildReached.{child_there}
-use Rattle.cedar_meaning.proofs.UpdateLemmas.AlongKey.{key_path, walk_begins, walked_all, walked_at, walked_on, walked_to}
+use Rattle.cedar_model.proofs.MeaningLemmas.NodeAtPath.{at_node}
+use Rattle.cedar_model.proofs.UpdateLemmas.BlocksMade.{made_none, same_slots}
+use Rattle.cedar_model.proofs.MeaningLemmas.SearchStep.{never_nothing}
+use Rattle.cedar_model.proofs.MeaningLemmas.KeyPath.{slot_within}
+use Rattle.cedar_model.proofs.UpdateLemmas.ChildReached.{child_there}
+use Rattle.cedar_model.proofs.UpdateLemmas.AlongKey.{key_path, walk_begins, walked_all, walked_at, walked_on, walked_to}
 use Rattle.cedar_edit.proofs.keys.put.known_front.Goals as goal
 
 pub loop-length-init : goal.loop-length-init

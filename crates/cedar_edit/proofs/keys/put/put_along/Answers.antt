@@ -3,17 +3,17 @@ use Rattle.std.proofs.lemmas.Int.{to_z-of_z}
 use Rattle.std.specs.Prelude.{is_some, Some}
 use Rattle.cedar_tree.specs.Tree.{number_at}
 use Rattle.cedar_tree.specs.Edits.{edit_at}
-use Rattle.cedar_meaning.specs.Edit.KeyWalk.{TakenBack}
-use Rattle.cedar_meaning.specs.Meaning.Marks.{KeepsMarks, NewMark}
-use Rattle.cedar_meaning.specs.Meaning.StandsFor.{HoldsTree}
-use Rattle.cedar_meaning.specs.Meaning.WellFormed.{cells_in, is_value, tree_of}
+use Rattle.cedar_model.specs.Edit.KeyWalk.{TakenBack}
+use Rattle.cedar_model.specs.Meaning.Marks.{KeepsMarks, NewMark}
+use Rattle.cedar_model.specs.Meaning.StandsFor.{HoldsTree}
+use Rattle.cedar_model.specs.Meaning.WellFormed.{cells_in, is_value, tree_of}
 use Rattle.cedar_table.specs.Table.Views.{fields}
-use Rattle.cedar_meaning.specs.Table.TableFields.{size_of}
-use Rattle.cedar_meaning.proofs.MeaningLemmas.NodeAtPath.{at_node}
-use Rattle.cedar_meaning.proofs.UpdateLemmas.MarksAfterUpdate.{new_mark, put_keeps}
-use Rattle.cedar_meaning.proofs.UpdateLemmas.StepAnswers.{on_refusal}
-use Rattle.cedar_meaning.proofs.UpdateLemmas.Ending.{entries_fit, is_put, IsPut, no_more, not_root, number_before, one_more, put_refused}
-use Rattle.cedar_meaning.proofs.UpdateLemmas.AlongKey.{node_walked, walked_same}
+use Rattle.cedar_model.specs.Table.TableFields.{size_of}
+use Rattle.cedar_model.proofs.MeaningLemmas.NodeAtPath.{at_node}
+use Rattle.cedar_model.proofs.UpdateLemmas.MarksAfterUpdate.{new_mark, put_keeps}
+use Rattle.cedar_model.proofs.UpdateLemmas.StepAnswers.{on_refusal}
+use Rattle.cedar_model.proofs.UpdateLemmas.Ending.{entries_fit, is_put, IsPut, no_more, not_root, number_before, one_more, put_refused}
+use Rattle.cedar_model.proofs.UpdateLemmas.AlongKey.{node_walked, walked_same}
 use Rattle.cedar_edit.proofs.keys.put.put_along.Goals as goal
 
 pub returns-in_err-end-clause-one_byte : goal.returns-in_err-end-clause-one_byte

@@ -3,22 +3,22 @@ use Rattle.std.specs.Prelude.{is_some, length, true}
 use Rattle.std.proofs.lemmas.Int.{to_z-of_z}
 use Rattle.cedar_tree.specs.Tree.{has_label, number_at, put, Tree}
 use Rattle.cedar_tree.specs.Queries.{node_at}
-use Rattle.cedar_meaning.specs.Table.Cells.{NoPlace}
-use Rattle.cedar_meaning.specs.Meaning.Marks.{KeepsMarks, mark, MovesOut}
-use Rattle.cedar_meaning.specs.Edit.Steps.{MakesBlocks, root_of}
+use Rattle.cedar_model.specs.Table.Cells.{NoPlace}
+use Rattle.cedar_model.specs.Meaning.Marks.{KeepsMarks, mark, MovesOut}
+use Rattle.cedar_model.specs.Edit.Steps.{MakesBlocks, root_of}
 use Rattle.cedar_table.specs.Table.Views.{fields}
-use Rattle.cedar_meaning.specs.Table.TableFields.{Fields, size_of}
-use Rattle.cedar_meaning.specs.Meaning.WellFormed.{cells_in, is_value, tree_of}
-use Rattle.cedar_meaning.proofs.UpdateLemmas.MarksMovedBack.{childless_first, moved_back}
-use Rattle.cedar_meaning.proofs.MeaningLemmas.NumberSlots.{root_unmarked}
-use Rattle.cedar_meaning.proofs.UpdateLemmas.MarkedTree.{marks_put}
-use Rattle.cedar_meaning.proofs.UpdateLemmas.MarksAfterUpdate.{puts_marks}
-use Rattle.cedar_meaning.proofs.MeaningLemmas.SameMarks.{marks_stay}
-use Rattle.cedar_meaning.proofs.UpdateLemmas.StepAnswers.{on_refusal}
-use Rattle.cedar_meaning.proofs.UpdateLemmas.Ending.{refuses_on}
-use Rattle.cedar_meaning.proofs.UpdateLemmas.BlocksMade.{made_framed}
-use Rattle.cedar_meaning.proofs.UpdateLemmas.WayAndPut.{all_made, each_moved, fewer_made, some_or_none}
-use Rattle.cedar_meaning.proofs.UpdateLemmas.AlongKey.{key_some}
+use Rattle.cedar_model.specs.Table.TableFields.{Fields, size_of}
+use Rattle.cedar_model.specs.Meaning.WellFormed.{cells_in, is_value, tree_of}
+use Rattle.cedar_model.proofs.UpdateLemmas.MarksMovedBack.{childless_first, moved_back}
+use Rattle.cedar_model.proofs.MeaningLemmas.NumberSlots.{root_unmarked}
+use Rattle.cedar_model.proofs.UpdateLemmas.MarkedTree.{marks_put}
+use Rattle.cedar_model.proofs.UpdateLemmas.MarksAfterUpdate.{puts_marks}
+use Rattle.cedar_model.proofs.MeaningLemmas.SameMarks.{marks_stay}
+use Rattle.cedar_model.proofs.UpdateLemmas.StepAnswers.{on_refusal}
+use Rattle.cedar_model.proofs.UpdateLemmas.Ending.{refuses_on}
+use Rattle.cedar_model.proofs.UpdateLemmas.BlocksMade.{made_framed}
+use Rattle.cedar_model.proofs.UpdateLemmas.WayAndPut.{all_made, each_moved, fewer_made, some_or_none}
+use Rattle.cedar_model.proofs.UpdateLemmas.AlongKey.{key_some}
 use Rattle.cedar_edit.proofs.keys.put.update.Goals as goal
 
 pub returns-in_err-moved-clause-blocks : goal.returns-in_err-moved-clause-blocks

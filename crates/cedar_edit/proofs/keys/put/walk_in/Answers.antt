@@ -1,7 +1,7 @@
 use Rattle.std.proofs.Common.{drop, get_or, rules, take, ◌+◌}
 use Rattle.cedar_table.specs.Table.Views.{fields}
-use Rattle.cedar_meaning.proofs.UpdateLemmas.Ending.{step_refused}
-use Rattle.cedar_meaning.proofs.UpdateLemmas.AlongKey.{node_walked, walked_all, walked_at, walked_on, walked_same, walked_to, way_on}
+use Rattle.cedar_model.proofs.UpdateLemmas.Ending.{step_refused}
+use Rattle.cedar_model.proofs.UpdateLemmas.AlongKey.{node_walked, walked_all, walked_at, walked_on, walked_same, walked_to, way_on}
 use Rattle.cedar_edit.proofs.keys.put.walk_in.Goals as goal
 
 pub loop-index-init : goal.loop-index-init

@@ -1,5 +1,5 @@
 use Rattle.std.proofs.Common.{drop, take}
-use Rattle.cedar_meaning.specs.Edit.KeyWalk.{Walked}
+use Rattle.cedar_model.specs.Edit.KeyWalk.{Walked}
 use Rattle.cedar_table.specs.Table.Views.{fields}
 use Rattle.cedar_edit.proofs.keys.put.walk_in.Given as goal
 

@@ -1,11 +1,11 @@
 use Rattle.std.proofs.Common.{rules, ◌∙◌, sym}
-use Rattle.cedar_meaning.specs.Edit.NodeEdits.{IsNodeOf}
-use Rattle.cedar_meaning.specs.Meaning.Family.{below}
-use Rattle.cedar_meaning.specs.Relocation.Reserved.{freed}
+use Rattle.cedar_model.specs.Edit.NodeEdits.{IsNodeOf}
+use Rattle.cedar_model.specs.Meaning.Family.{below}
+use Rattle.cedar_model.specs.Relocation.Reserved.{freed}
 use Rattle.cedar_table.specs.Table.Views.{cells, fields}
-use Rattle.cedar_meaning.specs.Table.TableFields.{size_of}
-use Rattle.cedar_meaning.proofs.UpdateLemmas.ChildReached.{child_added_over}
-use Rattle.cedar_meaning.proofs.UpdateLemmas.BlocksMade.{growth_framed}
+use Rattle.cedar_model.specs.Table.TableFields.{size_of}
+use Rattle.cedar_model.proofs.UpdateLemmas.ChildReached.{child_added_over}
+use Rattle.cedar_model.proofs.UpdateLemmas.BlocksMade.{growth_framed}
 use Rattle.cedar_edit.proofs.keys.step.add_over.Goals as goal
 
 pub add_reserved-requires : goal.add_reserved-requires

@@ -1,16 +1,16 @@
 use Rattle.std.proofs.Common.{◌≤◌, rules, ◌<◌, arith, inl, inr, refl, subst, sym}
 use Rattle.std.specs.Prelude.{bit_xor}
-use Rattle.cedar_meaning.specs.Table.Cells.{Held}
-use Rattle.cedar_meaning.specs.Relocation.Renaming.{Rebased}
+use Rattle.cedar_model.specs.Table.Cells.{Held}
+use Rattle.cedar_model.specs.Relocation.Renaming.{Rebased}
 use Rattle.cedar_slots.specs.Views.{places_of}
 use Rattle.cedar_table.specs.Table.Views.{cells, fields}
-use Rattle.cedar_meaning.specs.Table.TableFields.{size_of}
-use Rattle.cedar_meaning.proofs.EditLemmas.AtPath.{held_node}
-use Rattle.cedar_meaning.proofs.UpdateLemmas.BlocksMade.{found_blocks, growth_framed, growth_nothing, made_framed, made_larger, made_nothing, refuses_still, slots_of_same}
-use Rattle.cedar_meaning.proofs.EditLemmas.FirstBase.{held_still, leaf_based, LeafBased}
-use Rattle.cedar_meaning.proofs.UpdateLemmas.StepAnswers.{refused_as}
-use Rattle.cedar_meaning.proofs.MeaningLemmas.ExclusiveOr.{xor_within}
-use Rattle.cedar_meaning.specs.Edit.Steps.{MayAddBlock}
+use Rattle.cedar_model.specs.Table.TableFields.{size_of}
+use Rattle.cedar_model.proofs.EditLemmas.AtPath.{held_node}
+use Rattle.cedar_model.proofs.UpdateLemmas.BlocksMade.{found_blocks, growth_framed, growth_nothing, made_framed, made_larger, made_nothing, refuses_still, slots_of_same}
+use Rattle.cedar_model.proofs.EditLemmas.FirstBase.{held_still, leaf_based, LeafBased}
+use Rattle.cedar_model.proofs.UpdateLemmas.StepAnswers.{refused_as}
+use Rattle.cedar_model.proofs.MeaningLemmas.ExclusiveOr.{xor_within}
+use Rattle.cedar_model.specs.Edit.Steps.{MayAddBlock}
 use Rattle.cedar_edit.proofs.keys.step.first_base.Goals as goal
 
 pub returns-in_err-slot-clause-refused : goal.returns-in_err-slot-clause-refused

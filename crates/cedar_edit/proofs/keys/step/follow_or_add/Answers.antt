@@ -1,17 +1,17 @@
 use Rattle.std.proofs.Common.{rules, ◌≢◌, ◌∙◌, ◌<◌, ap, arith, refl, subst, sym}
 use Rattle.std.specs.Prelude.{pos}
-use Rattle.cedar_meaning.specs.Table.Cells.{Held}
-use Rattle.cedar_meaning.specs.Meaning.Family.{base_of, below}
-use Rattle.cedar_meaning.specs.Edit.NodeEdits.{IsNodeOf}
+use Rattle.cedar_model.specs.Table.Cells.{Held}
+use Rattle.cedar_model.specs.Meaning.Family.{base_of, below}
+use Rattle.cedar_model.specs.Edit.NodeEdits.{IsNodeOf}
 use Rattle.cedar_table.specs.Table.Views.{cells, fields}
-use Rattle.cedar_meaning.specs.Table.TableFields.{size_of}
+use Rattle.cedar_model.specs.Table.TableFields.{size_of}
 use Rattle.cedar_slots.specs.Views.{places_of}
-use Rattle.cedar_meaning.proofs.UpdateLemmas.BlocksMade.{growth_framed, growth_nothing, made_none, same_slots}
-use Rattle.cedar_meaning.proofs.EditLemmas.KeptSlotGiven.{slot_far}
-use Rattle.cedar_meaning.proofs.EditLemmas.Room.{based_node, not_free_held}
-use Rattle.cedar_meaning.proofs.UpdateLemmas.ChildReached.{child_added, child_there, label_inside}
-use Rattle.cedar_meaning.proofs.MeaningLemmas.NodeAtPath.{at_node}
-use Rattle.cedar_meaning.proofs.MeaningLemmas.SearchStep.{never_nothing}
+use Rattle.cedar_model.proofs.UpdateLemmas.BlocksMade.{growth_framed, growth_nothing, made_none, same_slots}
+use Rattle.cedar_model.proofs.EditLemmas.KeptSlotGiven.{slot_far}
+use Rattle.cedar_model.proofs.EditLemmas.Room.{based_node, not_free_held}
+use Rattle.cedar_model.proofs.UpdateLemmas.ChildReached.{child_added, child_there, label_inside}
+use Rattle.cedar_model.proofs.MeaningLemmas.NodeAtPath.{at_node}
+use Rattle.cedar_model.proofs.MeaningLemmas.SearchStep.{never_nothing}
 use Rattle.cedar_edit.proofs.keys.step.follow_or_add.Goals as goal
 
 pub slot_below-slot-requires : goal.slot_below-slot-requires

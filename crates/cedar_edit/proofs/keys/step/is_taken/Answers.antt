@@ -1,5 +1,5 @@
 use Rattle.std.proofs.Common.{◌∙◌, rules, sym}
-use Rattle.cedar_meaning.proofs.EditLemmas.Room.{not_both, one_is}
+use Rattle.cedar_model.proofs.EditLemmas.Room.{not_both, one_is}
 use Rattle.cedar_edit.proofs.keys.step.is_taken.Goals as goal
 
 pub is_free_slot-requires : goal.is_free_slot-requires

@@ -3,19 +3,19 @@ use Rattle.std.specs.Prelude.{List, ℕ, OnOk, pos}
 use Rattle.std.proofs.lemmas.Int.{to_z-of_z}
 use Rattle.cedar_tree.specs.Tree.{Forest}
 use Rattle.cedar_tree.specs.Edits.{edit_at}
-use Rattle.cedar_meaning.specs.Meaning.StandsFor.{HoldsTree}
-use Rattle.cedar_meaning.specs.Table.Cells.{Held}
-use Rattle.cedar_meaning.specs.Meaning.Family.{base_in, base_of, below}
-use Rattle.cedar_meaning.specs.Edit.NodeEdits.{IsAt, IsNodeOf}
+use Rattle.cedar_model.specs.Meaning.StandsFor.{HoldsTree}
+use Rattle.cedar_model.specs.Table.Cells.{Held}
+use Rattle.cedar_model.specs.Meaning.Family.{base_in, base_of, below}
+use Rattle.cedar_model.specs.Edit.NodeEdits.{IsAt, IsNodeOf}
 use Rattle.cedar_table.specs.Table.Views.{cells, fields}
-use Rattle.cedar_meaning.specs.Table.TableFields.{size_of}
-use Rattle.cedar_meaning.proofs.UpdateLemmas.BlocksMade.{framed_none, growth_framed, growth_none, made_framed}
-use Rattle.cedar_meaning.proofs.EditLemmas.KeptSlotGiven.{slot_far}
-use Rattle.cedar_meaning.proofs.UpdateLemmas.MarksAfterPut.{kept_then_put, slot_put}
-use Rattle.cedar_meaning.proofs.EditLemmas.Room.{based_node, not_free_held}
-use Rattle.cedar_meaning.proofs.UpdateLemmas.ChildReached.{label_inside, owner_ranged}
-use Rattle.cedar_meaning.proofs.MeaningLemmas.NodeAtPath.{at_node}
-use Rattle.cedar_meaning.proofs.MeaningLemmas.SearchStep.{never_nothing}
+use Rattle.cedar_model.specs.Table.TableFields.{size_of}
+use Rattle.cedar_model.proofs.UpdateLemmas.BlocksMade.{framed_none, growth_framed, growth_none, made_framed}
+use Rattle.cedar_model.proofs.EditLemmas.KeptSlotGiven.{slot_far}
+use Rattle.cedar_model.proofs.UpdateLemmas.MarksAfterPut.{kept_then_put, slot_put}
+use Rattle.cedar_model.proofs.EditLemmas.Room.{based_node, not_free_held}
+use Rattle.cedar_model.proofs.UpdateLemmas.ChildReached.{label_inside, owner_ranged}
+use Rattle.cedar_model.proofs.MeaningLemmas.NodeAtPath.{at_node}
+use Rattle.cedar_model.proofs.MeaningLemmas.SearchStep.{never_nothing}
 use Rattle.cedar_edit.proofs.keys.step.put_in_slot.Goals as goal
 
 pub slot_below-slot-requires : goal.slot_below-slot-requires

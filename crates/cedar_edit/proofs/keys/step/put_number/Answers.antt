@@ -3,18 +3,18 @@ use Rattle.std.specs.Prelude.{List, ℕ, ℤ, OnOk}
 use Rattle.std.proofs.lemmas.Int.{to_z-of_z}
 use Rattle.cedar_tree.specs.Tree.{Forest}
 use Rattle.cedar_tree.specs.Edits.{edit_at}
-use Rattle.cedar_meaning.specs.declared.layout.Stored.TheVariants.{OwnNumber}
-use Rattle.cedar_meaning.specs.Edit.NodeEdits.{IsAt}
-use Rattle.cedar_meaning.specs.Meaning.Family.{base_in}
-use Rattle.cedar_meaning.specs.Meaning.StandsFor.{HoldsTree}
+use Rattle.cedar_model.specs.declared.layout.Stored.TheVariants.{OwnNumber}
+use Rattle.cedar_model.specs.Edit.NodeEdits.{IsAt}
+use Rattle.cedar_model.specs.Meaning.Family.{base_in}
+use Rattle.cedar_model.specs.Meaning.StandsFor.{HoldsTree}
 use Rattle.cedar_table.specs.Table.Views.{cells, fields}
-use Rattle.cedar_meaning.specs.Table.TableFields.{size_of}
-use Rattle.cedar_meaning.specs.Meaning.WellFormed.{is_value}
-use Rattle.cedar_meaning.proofs.UpdateLemmas.BlocksMade.{framed_none, growth_none}
-use Rattle.cedar_meaning.proofs.EditLemmas.OwnNumber.{field_paths, kind_is, own_reduced, spare_past}
-use Rattle.cedar_meaning.proofs.EditLemmas.NumberMovesOut.{leaf_alone}
-use Rattle.cedar_meaning.proofs.UpdateLemmas.MarksAfterPut.{own_put}
-use Rattle.cedar_meaning.proofs.UpdateLemmas.StepAnswers.{on_success}
+use Rattle.cedar_model.specs.Table.TableFields.{size_of}
+use Rattle.cedar_model.specs.Meaning.WellFormed.{is_value}
+use Rattle.cedar_model.proofs.UpdateLemmas.BlocksMade.{framed_none, growth_none}
+use Rattle.cedar_model.proofs.EditLemmas.OwnNumber.{field_paths, kind_is, own_reduced, spare_past}
+use Rattle.cedar_model.proofs.EditLemmas.NumberMovesOut.{leaf_alone}
+use Rattle.cedar_model.proofs.UpdateLemmas.MarksAfterPut.{own_put}
+use Rattle.cedar_model.proofs.UpdateLemmas.StepAnswers.{on_success}
 use Rattle.cedar_edit.proofs.keys.step.put_number.Goals as goal
 
 pub set_own_number-requires : goal.set_own_number-requires

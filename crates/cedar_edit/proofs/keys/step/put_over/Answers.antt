@@ -1,14 +1,14 @@
 use Rattle.std.proofs.Common.{rules, ◌≡◌, ◌≢◌, ◌∙◌, arith, subst, sym, of_z, to_z, w32, FitsSigned, Some, true}
 use Rattle.std.proofs.lemmas.Int.{to_z-of_z}
 use Rattle.cedar_tree.specs.Edits.{edit_at}
-use Rattle.cedar_meaning.specs.Edit.NodeEdits.{IsNodeOf}
-use Rattle.cedar_meaning.specs.Meaning.Family.{below}
-use Rattle.cedar_meaning.specs.Meaning.StandsFor.{HoldsTree}
-use Rattle.cedar_meaning.specs.Relocation.Reserved.{freed}
+use Rattle.cedar_model.specs.Edit.NodeEdits.{IsNodeOf}
+use Rattle.cedar_model.specs.Meaning.Family.{below}
+use Rattle.cedar_model.specs.Meaning.StandsFor.{HoldsTree}
+use Rattle.cedar_model.specs.Relocation.Reserved.{freed}
 use Rattle.cedar_table.specs.Table.Views.{cells, fields}
-use Rattle.cedar_meaning.specs.Table.TableFields.{size_of}
-use Rattle.cedar_meaning.proofs.UpdateLemmas.MarksAfterPut.{kept_then_put, slot_put}
-use Rattle.cedar_meaning.proofs.UpdateLemmas.BlocksMade.{growth_framed}
+use Rattle.cedar_model.specs.Table.TableFields.{size_of}
+use Rattle.cedar_model.proofs.UpdateLemmas.MarksAfterPut.{kept_then_put, slot_put}
+use Rattle.cedar_model.proofs.UpdateLemmas.BlocksMade.{growth_framed}
 use Rattle.cedar_edit.proofs.keys.step.put_over.Goals as goal
 
 pub set_reserved-requires : goal.set_reserved-requires

@@ -1,11 +1,11 @@
 use Rattle.std.proofs.Common.{rules, ◌≡◌, ◌∙◌, ◌<◌, arith, inl, inr, refl, sym}
-use Rattle.cedar_meaning.specs.declared.layout.Stored.TheVariants.{AtBase}
+use Rattle.cedar_model.specs.declared.layout.Stored.TheVariants.{AtBase}
 use Rattle.cedar_table.specs.Table.Views.{cells, fields}
-use Rattle.cedar_meaning.specs.Table.TableFields.{size_of}
+use Rattle.cedar_model.specs.Table.TableFields.{size_of}
 use Rattle.cedar_slots.specs.Views.{places_of}
-use Rattle.cedar_meaning.proofs.UpdateLemmas.BlocksMade.{growth_nothing, made_none, same_slots}
-use Rattle.cedar_meaning.proofs.MeaningLemmas.NumberSlots.{marks_same}
-use Rattle.cedar_meaning.proofs.EditLemmas.Room.{label_free, label_place, LabelPlace, leaf_base}
+use Rattle.cedar_model.proofs.UpdateLemmas.BlocksMade.{growth_nothing, made_none, same_slots}
+use Rattle.cedar_model.proofs.MeaningLemmas.NumberSlots.{marks_same}
+use Rattle.cedar_model.proofs.EditLemmas.Room.{label_free, label_place, LabelPlace, leaf_base}
 use Rattle.cedar_edit.proofs.keys.step.room_for.Goals as goal
 
 pub first_base-requires : goal.first_base-requires

@@ -1,10 +1,10 @@
 use Rattle.std.proofs.Common.{◌≡◌, ◌∙◌, ◌<◌, ℕ, arith, length, None, Option, rules, Some, subst, sym, take, true, false}
-use Rattle.cedar_meaning.specs.Edit.NodeEdits.{IsAt}
-use Rattle.cedar_meaning.specs.Meaning.Marks.{KeepsOtherMarks, mark}
-use Rattle.cedar_meaning.specs.Meaning.Reading.{first_in}
+use Rattle.cedar_model.specs.Edit.NodeEdits.{IsAt}
+use Rattle.cedar_model.specs.Meaning.Marks.{KeepsOtherMarks, mark}
+use Rattle.cedar_model.specs.Meaning.Reading.{first_in}
 use Rattle.std.specs.Prelude.{MatchOption}
 use Rattle.std.proofs.lemmas.List.{length-take-le}
-use Rattle.cedar_meaning.specs.Table.Layouts.{reduced_layout}
+use Rattle.cedar_model.specs.Table.Layouts.{reduced_layout}
 use Rattle.cedar_table.specs.Table.Views.{cells, fields}
 use Rattle.cedar_edit.proofs.keys.way.close_way.Goals as goal
 

@@ -1,12 +1,12 @@
 use Rattle.std.proofs.Common.{◌≡◌, ◌<◌, ◌∙◌, ap, arith, rules, subst, sym, w32, FitsSigned, cond}
 use Rattle.std.specs.Prelude.{pos}
 use Rattle.std.proofs.lemmas.Int.{to_z-of_z}
-use Rattle.cedar_meaning.specs.Meaning.Family.{base_of, below}
+use Rattle.cedar_model.specs.Meaning.Family.{base_of, below}
 use Rattle.cedar_table.specs.Table.Views.{cells, fields}
-use Rattle.cedar_meaning.specs.Table.TableFields.{size_of}
-use Rattle.cedar_meaning.proofs.UpdateLemmas.Erasure.{lead_of}
-use Rattle.cedar_meaning.proofs.MeaningLemmas.KeyPath.{base_inside}
-use Rattle.cedar_meaning.proofs.MeaningLemmas.OneTree.{owns_yes}
+use Rattle.cedar_model.specs.Table.TableFields.{size_of}
+use Rattle.cedar_model.proofs.UpdateLemmas.Erasure.{lead_of}
+use Rattle.cedar_model.proofs.MeaningLemmas.KeyPath.{base_inside}
+use Rattle.cedar_model.proofs.MeaningLemmas.OneTree.{owns_yes}
 use Rattle.cedar_edit.proofs.keys.way.lone_number.Goals as goal
 use Rattle.cedar_edit.proofs.keys.way.lone_number.Goals.{else-is_owned_by-via-then-is_owned_by+else-sibling-eq0, else-is_owned_by-via-else-is_owned_by}
 

@@ -1,13 +1,13 @@
 use Rattle.std.proofs.Common.{◌≡◌, arith, refl, subst, take}
-use Rattle.cedar_meaning.specs.Edit.NodeEdits.{IsAt}
-use Rattle.cedar_meaning.specs.Meaning.Marks.{MovesOut}
-use Rattle.cedar_meaning.specs.Edit.Steps.{root_of}
+use Rattle.cedar_model.specs.Edit.NodeEdits.{IsAt}
+use Rattle.cedar_model.specs.Meaning.Marks.{MovesOut}
+use Rattle.cedar_model.specs.Edit.Steps.{root_of}
 use Rattle.cedar_table.specs.Table.Views.{cells, fields}
-use Rattle.cedar_meaning.specs.Meaning.WellFormed.{tree_of}
-use Rattle.cedar_meaning.proofs.UpdateLemmas.BlocksMade.{made_none}
-use Rattle.cedar_meaning.proofs.UpdateLemmas.NumberInTheWay.{default_way, has_way, lacks_node, moves_out, not_held, not_one}
-use Rattle.cedar_meaning.proofs.UpdateLemmas.StepAnswers.{on_refusal}
-use Rattle.cedar_meaning.proofs.UpdateLemmas.AlongKey.{key_path}
+use Rattle.cedar_model.specs.Meaning.WellFormed.{tree_of}
+use Rattle.cedar_model.proofs.UpdateLemmas.BlocksMade.{made_none}
+use Rattle.cedar_model.proofs.UpdateLemmas.NumberInTheWay.{default_way, has_way, lacks_node, moves_out, not_held, not_one}
+use Rattle.cedar_model.proofs.UpdateLemmas.StepAnswers.{on_refusal}
+use Rattle.cedar_model.proofs.UpdateLemmas.AlongKey.{key_path}
 use Rattle.cedar_edit.proofs.keys.way.make_way.Goals as goal
 
 pub returns-then-not-keeps_numbers-clause-way : goal.returns-then-not-keeps_numbers-clause-way

@@ -4,23 +4,23 @@ use Rattle.std.proofs.lemmas.Bool.{false≢true}
 use Rattle.std.proofs.lemmas.Int.{to_z-of_z}
 use Rattle.cedar_tree.specs.Tree.{number_at}
 use Rattle.cedar_tree.specs.Edits.{edit_at}
-use Rattle.cedar_meaning.specs.declared.layout.Stored.TheVariants.{OwnNumber}
-use Rattle.cedar_meaning.specs.Edit.NodeEdits.{IsAt}
-use Rattle.cedar_meaning.specs.Meaning.Family.{below}
-use Rattle.cedar_meaning.specs.Meaning.Marks.{KeepsOtherMarks, mark}
-use Rattle.cedar_meaning.specs.Edit.Own.{FieldSet}
-use Rattle.cedar_meaning.specs.Meaning.Reading.{first_in}
-use Rattle.cedar_meaning.specs.Meaning.StandsFor.{HoldsTree}
+use Rattle.cedar_model.specs.declared.layout.Stored.TheVariants.{OwnNumber}
+use Rattle.cedar_model.specs.Edit.NodeEdits.{IsAt}
+use Rattle.cedar_model.specs.Meaning.Family.{below}
+use Rattle.cedar_model.specs.Meaning.Marks.{KeepsOtherMarks, mark}
+use Rattle.cedar_model.specs.Edit.Own.{FieldSet}
+use Rattle.cedar_model.specs.Meaning.Reading.{first_in}
+use Rattle.cedar_model.specs.Meaning.StandsFor.{HoldsTree}
 use Rattle.cedar_table.specs.Table.Views.{cells, fields}
-use Rattle.cedar_meaning.specs.Table.TableFields.{size_of}
-use Rattle.cedar_meaning.specs.Meaning.WellFormed.{is_value, IsWellFormed, tree_of}
-use Rattle.cedar_meaning.proofs.UpdateLemmas.Erasure.{dropped_at, dropped_node, key_node, number_based}
-use Rattle.cedar_meaning.proofs.MeaningLemmas.NumberSlots.{marked_slot}
-use Rattle.cedar_meaning.proofs.EditLemmas.NumberMovesIn.{alone_dropped, below_root, in_range, marked_in, number_back, others_in}
-use Rattle.cedar_meaning.proofs.EditLemmas.OwnNumber.{field_paths, spare_past}
-use Rattle.cedar_meaning.proofs.UpdateLemmas.Ending.{tree_kept}
-use Rattle.cedar_meaning.proofs.UpdateLemmas.AlongKey.{settings_then}
-use Rattle.cedar_meaning.proofs.UpdateLemmas.FreeWay.{at_same, slot_held}
+use Rattle.cedar_model.specs.Table.TableFields.{size_of}
+use Rattle.cedar_model.specs.Meaning.WellFormed.{is_value, IsWellFormed, tree_of}
+use Rattle.cedar_model.proofs.UpdateLemmas.Erasure.{dropped_at, dropped_node, key_node, number_based}
+use Rattle.cedar_model.proofs.MeaningLemmas.NumberSlots.{marked_slot}
+use Rattle.cedar_model.proofs.EditLemmas.NumberMovesIn.{alone_dropped, below_root, in_range, marked_in, number_back, others_in}
+use Rattle.cedar_model.proofs.EditLemmas.OwnNumber.{field_paths, spare_past}
+use Rattle.cedar_model.proofs.UpdateLemmas.Ending.{tree_kept}
+use Rattle.cedar_model.proofs.UpdateLemmas.AlongKey.{settings_then}
+use Rattle.cedar_model.proofs.UpdateLemmas.FreeWay.{at_same, slot_held}
 use Rattle.cedar_edit.proofs.keys.way.move_in.Goals as goal
 
 pub lone_number-requires : goal.lone_number-requires

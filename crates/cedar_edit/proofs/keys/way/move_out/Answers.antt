@@ -1,16 +1,16 @@
 use Rattle.std.proofs.Common.{◌≡◌, ◌∙◌, ap, arith, FitsSigned, None, of_z, refl, rules, Some, subst, sym, to_z, w32}
 use Rattle.std.specs.Prelude.{pos}
 use Rattle.std.proofs.lemmas.Int.{to_z-of_z}
-use Rattle.cedar_meaning.specs.declared.layout.Stored.TheVariants.{OwnNumber}
-use Rattle.cedar_meaning.specs.Meaning.Family.{below}
-use Rattle.cedar_meaning.specs.Meaning.Marks.{KeepsOtherMarks}
+use Rattle.cedar_model.specs.declared.layout.Stored.TheVariants.{OwnNumber}
+use Rattle.cedar_model.specs.Meaning.Family.{below}
+use Rattle.cedar_model.specs.Meaning.Marks.{KeepsOtherMarks}
 use Rattle.cedar_table.specs.Table.Views.{cells, fields}
 use Rattle.cedar_slots.specs.Views.{places_of}
-use Rattle.cedar_meaning.proofs.UpdateLemmas.BlocksMade.{made_none}
-use Rattle.cedar_meaning.proofs.UpdateLemmas.Erasure.{key_node}
-use Rattle.cedar_meaning.proofs.UpdateLemmas.StepAnswers.{on_refusal}
-use Rattle.cedar_meaning.proofs.UpdateLemmas.Ending.{tree_kept}
-use Rattle.cedar_meaning.proofs.UpdateLemmas.FreeWay.{at_same, own_held, own_no_root, slots_marks}
+use Rattle.cedar_model.proofs.UpdateLemmas.BlocksMade.{made_none}
+use Rattle.cedar_model.proofs.UpdateLemmas.Erasure.{key_node}
+use Rattle.cedar_model.proofs.UpdateLemmas.StepAnswers.{on_refusal}
+use Rattle.cedar_model.proofs.UpdateLemmas.Ending.{tree_kept}
+use Rattle.cedar_model.proofs.UpdateLemmas.FreeWay.{at_same, own_held, own_no_root, slots_marks}
 use Rattle.cedar_edit.proofs.keys.way.move_out.Goals as goal
 
 pub returns-in_default-clause-moved : goal.returns-in_default-clause-moved

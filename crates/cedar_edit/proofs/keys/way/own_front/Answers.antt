@@ -1,10 +1,10 @@
 use Rattle.std.proofs.Common.{◌<◌, ◌+◌, ◌∙◌, ap, arith, drop, get_or, rules, subst, sym, take}
-use Rattle.cedar_meaning.specs.Edit.Own.{HasWay, NoOwn}
+use Rattle.cedar_model.specs.Edit.Own.{HasWay, NoOwn}
 use Rattle.cedar_table.specs.Table.Views.{cells, fields}
-use Rattle.cedar_meaning.specs.Table.TableFields.{size_of}
-use Rattle.cedar_meaning.specs.Meaning.WellFormed.{tree_of}
-use Rattle.cedar_meaning.proofs.MeaningLemmas.KeyPath.{key_goes_on, slot_within}
-use Rattle.cedar_meaning.proofs.UpdateLemmas.FreeWay.{next_bytes, way_behind, way_ends}
+use Rattle.cedar_model.specs.Table.TableFields.{size_of}
+use Rattle.cedar_model.specs.Meaning.WellFormed.{tree_of}
+use Rattle.cedar_model.proofs.MeaningLemmas.KeyPath.{key_goes_on, slot_within}
+use Rattle.cedar_model.proofs.UpdateLemmas.FreeWay.{next_bytes, way_behind, way_ends}
 use Rattle.cedar_edit.proofs.keys.way.own_front.Goals as goal
 
 pub is_owned_by-requires : goal.is_owned_by-requires

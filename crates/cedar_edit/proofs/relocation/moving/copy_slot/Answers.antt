@@ -1,13 +1,13 @@
 use Rattle.std.proofs.Common.{◌≡◌, ◌<◌, ◌∙◌, ap, arith, inr, rules, subst, sym, pos, ℤ, w32, FitsSigned}
 use Rattle.std.proofs.lemmas.Int.{to_z-of_z}
-use Rattle.cedar_meaning.specs.Table.Cells.{Held}
-use Rattle.cedar_meaning.specs.Table.Layouts.{reading}
+use Rattle.cedar_model.specs.Table.Cells.{Held}
+use Rattle.cedar_model.specs.Table.Layouts.{reading}
 use Rattle.cedar_table.specs.Table.Views.{cells}
-use Rattle.cedar_meaning.proofs.UpdateLemmas.Frame.{frame_then}
-use Rattle.cedar_meaning.proofs.RelocationLemmas.Repointed.{repointed_held}
-use Rattle.cedar_meaning.proofs.RelocationLemmas.OneSlot.{copied, move_renames}
-use Rattle.cedar_meaning.proofs.RelocationLemmas.KeptSlot.{gives_freed}
-use Rattle.cedar_meaning.proofs.MeaningLemmas.ExclusiveOr.{pos_injective}
+use Rattle.cedar_model.proofs.UpdateLemmas.Frame.{frame_then}
+use Rattle.cedar_model.proofs.RelocationLemmas.Repointed.{repointed_held}
+use Rattle.cedar_model.proofs.RelocationLemmas.OneSlot.{copied, move_renames}
+use Rattle.cedar_model.proofs.RelocationLemmas.KeptSlot.{gives_freed}
+use Rattle.cedar_model.proofs.MeaningLemmas.ExclusiveOr.{pos_injective}
 use Rattle.cedar_edit.proofs.relocation.moving.copy_slot.Goals as goal
 
 pub repoint_under-requires : goal.repoint_under-requires

@@ -1,8 +1,8 @@
 use Rattle.std.proofs.Common.{◌≡◌, ◌<◌, arith, inr, rules, subst, sym}
 use Rattle.std.specs.Prelude.{pos}
 use Rattle.cedar_table.specs.Table.Views.{cells}
-use Rattle.cedar_meaning.proofs.UpdateLemmas.Frame.{frame_then}
-use Rattle.cedar_meaning.proofs.RelocationLemmas.KeptSlot.{given_same, renames_same}
+use Rattle.cedar_model.proofs.UpdateLemmas.Frame.{frame_then}
+use Rattle.cedar_model.proofs.RelocationLemmas.KeptSlot.{given_same, renames_same}
 use Rattle.cedar_edit.proofs.relocation.moving.move_slot.Goals as goal
 
 pub push_e_node-requires : goal.push_e_node-requires

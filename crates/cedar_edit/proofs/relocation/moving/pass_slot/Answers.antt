@@ -1,9 +1,9 @@
 use Rattle.std.proofs.Common.{◌≡◌, subst}
 use Rattle.std.specs.Prelude.{pos}
-use Rattle.cedar_meaning.specs.Relocation.Renaming.{Renames, single}
-use Rattle.cedar_meaning.specs.Relocation.Reserved.{freed}
+use Rattle.cedar_model.specs.Relocation.Renaming.{Renames, single}
+use Rattle.cedar_model.specs.Relocation.Reserved.{freed}
 use Rattle.cedar_table.specs.Table.Views.{cells}
-use Rattle.cedar_meaning.proofs.RelocationLemmas.KeptSlot.{marked_same, renames_same}
+use Rattle.cedar_model.proofs.RelocationLemmas.KeptSlot.{marked_same, renames_same}
 use Rattle.cedar_edit.proofs.relocation.moving.pass_slot.Goals as goal
 
 pub returns-then-from-wanted-clause-passed : goal.returns-then-from-wanted-clause-passed

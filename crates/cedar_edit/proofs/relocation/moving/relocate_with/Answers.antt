@@ -1,16 +1,16 @@
 use Rattle.std.proofs.Common.{◌≡◌, ◌<◌, ◌∙◌, ap, arith, refl, rules, subst, sym, get_or, take, bit_xor, true}
 use Rattle.std.specs.Prelude.{pos}
 use Rattle.std.proofs.lemmas.List.{take_all}
-use Rattle.cedar_meaning.specs.Table.Cells.{Held, SameHeld}
-use Rattle.cedar_meaning.specs.Meaning.Family.{below}
+use Rattle.cedar_model.specs.Table.Cells.{Held, SameHeld}
+use Rattle.cedar_model.specs.Meaning.Family.{below}
 use Rattle.cedar_table.specs.Table.Views.{cells, fields}
-use Rattle.cedar_meaning.specs.Table.TableFields.{size_of}
-use Rattle.cedar_meaning.specs.Relocation.Renaming.{IsNode, OwnsNothing, Relocated, Renames, single}
-use Rattle.cedar_meaning.specs.Relocation.Reserved.{freed, seen}
-use Rattle.cedar_meaning.proofs.UpdateLemmas.Frame.{frame_same, frame_then}
-use Rattle.cedar_meaning.proofs.RelocationLemmas.OneTurn.{among_get}
-use Rattle.cedar_meaning.proofs.RelocationLemmas.KeptSlot.{freed_root}
-use Rattle.cedar_meaning.proofs.RelocationLemmas.MovedAround.{moved_other, new_apart, new_free, Ready, ready, reserved_all, reserved_now, Reserving, reserving_held, reserving_none}
+use Rattle.cedar_model.specs.Table.TableFields.{size_of}
+use Rattle.cedar_model.specs.Relocation.Renaming.{IsNode, OwnsNothing, Relocated, Renames, single}
+use Rattle.cedar_model.specs.Relocation.Reserved.{freed, seen}
+use Rattle.cedar_model.proofs.UpdateLemmas.Frame.{frame_same, frame_then}
+use Rattle.cedar_model.proofs.RelocationLemmas.OneTurn.{among_get}
+use Rattle.cedar_model.proofs.RelocationLemmas.KeptSlot.{freed_root}
+use Rattle.cedar_model.proofs.RelocationLemmas.MovedAround.{moved_other, new_apart, new_free, Ready, ready, reserved_all, reserved_now, Reserving, reserving_held, reserving_none}
 use Rattle.cedar_edit.proofs.relocation.moving.relocate_with.Goals as goal
 use Rattle.cedar_edit.proofs.relocation.moving.relocate_with.Goals.{After-set_base}
 

@@ -1,8 +1,8 @@
 use Rattle.std.proofs.Common.{take, bit_xor}
 use Rattle.cedar_slots.specs.Places.{IsTable}
 use Rattle.cedar_table.specs.Table.Views.{cells, fields}
-use Rattle.cedar_meaning.specs.Table.TableFields.{SameFrame}
-use Rattle.cedar_meaning.proofs.RelocationLemmas.MovedAround.{Reserving}
+use Rattle.cedar_model.specs.Table.TableFields.{SameFrame}
+use Rattle.cedar_model.proofs.RelocationLemmas.MovedAround.{Reserving}
 use Rattle.cedar_edit.proofs.relocation.moving.relocate_with.Given as goal
 
 abbrev pub invariant-loop-other : goal.invariant-loop-other

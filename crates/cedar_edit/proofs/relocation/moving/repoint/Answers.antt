@@ -1,9 +1,9 @@
 use Rattle.std.proofs.Common.{◌<◌, arith, rules, subst, sym}
 use Rattle.cedar_table.specs.Table.Views.{cells, fields}
-use Rattle.cedar_meaning.specs.Table.TableFields.{size_of}
-use Rattle.cedar_meaning.specs.Meaning.Family.{base_in}
-use Rattle.cedar_meaning.proofs.UpdateLemmas.Frame.{frame_then}
-use Rattle.cedar_meaning.proofs.RelocationLemmas.Repointed.{base_within, repointed_both}
+use Rattle.cedar_model.specs.Table.TableFields.{size_of}
+use Rattle.cedar_model.specs.Meaning.Family.{base_in}
+use Rattle.cedar_model.proofs.UpdateLemmas.Frame.{frame_then}
+use Rattle.cedar_model.proofs.RelocationLemmas.Repointed.{base_within, repointed_both}
 use Rattle.cedar_edit.proofs.relocation.moving.repoint.Goals as goal
 
 pub repoint_chain-requires : goal.repoint_chain-requires

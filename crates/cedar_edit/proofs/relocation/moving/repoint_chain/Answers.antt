@@ -1,12 +1,12 @@
 use Rattle.std.proofs.Common.{◌≡◌, ◌<◌, ◌∙◌, ap, arith, rules, subst, sym, bit_xor, ℕ}
-use Rattle.cedar_meaning.specs.Table.Cells.{Held}
-use Rattle.cedar_meaning.specs.Meaning.Family.{base_of, below}
-use Rattle.cedar_meaning.specs.Relocation.Renaming.{ChecksAt}
+use Rattle.cedar_model.specs.Table.Cells.{Held}
+use Rattle.cedar_model.specs.Meaning.Family.{base_of, below}
+use Rattle.cedar_model.specs.Relocation.Renaming.{ChecksAt}
 use Rattle.cedar_table.specs.Table.Views.{cells, fields}
-use Rattle.cedar_meaning.specs.Table.TableFields.{size_of}
-use Rattle.cedar_meaning.proofs.UpdateLemmas.Frame.{frame_same, frame_then}
-use Rattle.cedar_meaning.proofs.RelocationLemmas.Repointed.{walked_all, walked_next, walked_none}
-use Rattle.cedar_meaning.proofs.MeaningLemmas.ExclusiveOr.{xor_within}
+use Rattle.cedar_model.specs.Table.TableFields.{size_of}
+use Rattle.cedar_model.proofs.UpdateLemmas.Frame.{frame_same, frame_then}
+use Rattle.cedar_model.proofs.RelocationLemmas.Repointed.{walked_all, walked_next, walked_none}
+use Rattle.cedar_model.proofs.MeaningLemmas.ExclusiveOr.{xor_within}
 use Rattle.cedar_edit.proofs.relocation.moving.repoint_chain.Goals as goal
 
 pub loop-label-init : goal.loop-label-init

@@ -1,9 +1,9 @@
 use Rattle.std.proofs.Common.{length}
 use Rattle.cedar_slots.specs.Places.{IsTable}
-use Rattle.cedar_meaning.specs.Meaning.Reading.{chain}
+use Rattle.cedar_model.specs.Meaning.Reading.{chain}
 use Rattle.cedar_table.specs.Table.Views.{cells, fields}
-use Rattle.cedar_meaning.specs.Table.TableFields.{SameFrame}
-use Rattle.cedar_meaning.proofs.RelocationLemmas.Repointed.{Walked}
+use Rattle.cedar_model.specs.Table.TableFields.{SameFrame}
+use Rattle.cedar_model.proofs.RelocationLemmas.Repointed.{Walked}
 use Rattle.cedar_edit.proofs.relocation.moving.repoint_chain.Given as goal
 
 abbrev pub invariant-loop-label : goal.invariant-loop-label

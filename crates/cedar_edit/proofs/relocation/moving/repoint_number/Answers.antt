@@ -1,9 +1,9 @@
 use Rattle.std.proofs.Common.{◌≡◌, ◌∙◌, ◌<◌, ap, arith, inr, refl, rules, subst, sym}
 use lib.Bits.{xor_zero_r}
-use Rattle.cedar_meaning.specs.Meaning.Family.{below}
+use Rattle.cedar_model.specs.Meaning.Family.{below}
 use Rattle.cedar_table.specs.Table.Views.{cells, fields}
-use Rattle.cedar_meaning.specs.Table.TableFields.{size_of}
-use Rattle.cedar_meaning.proofs.RelocationLemmas.Repointed.{base_within, chain_given, chain_kept, no_number, number_given}
+use Rattle.cedar_model.specs.Table.TableFields.{size_of}
+use Rattle.cedar_model.proofs.RelocationLemmas.Repointed.{base_within, chain_given, chain_kept, no_number, number_given}
 use Rattle.cedar_edit.proofs.relocation.moving.repoint_number.Goals as goal
 
 pub set_check-requires : goal.set_check-requires

@@ -1,8 +1,8 @@
 use Rattle.std.proofs.Common.{rules}
 use Rattle.cedar_table.specs.Table.Views.{cells, fields}
-use Rattle.cedar_meaning.specs.Relocation.Renaming.{Always}
-use Rattle.cedar_meaning.proofs.UpdateLemmas.Frame.{frame_same}
-use Rattle.cedar_meaning.proofs.RelocationLemmas.Repointed.{repointed_nothing}
+use Rattle.cedar_model.specs.Relocation.Renaming.{Always}
+use Rattle.cedar_model.proofs.UpdateLemmas.Frame.{frame_same}
+use Rattle.cedar_model.proofs.RelocationLemmas.Repointed.{repointed_nothing}
 use Rattle.cedar_edit.proofs.relocation.moving.repoint_under.Goals as goal
 
 pub repoint-requires : goal.repoint-requires

@@ -1,6 +1,6 @@
 use Rattle.std.proofs.Common.{◌≡◌, arith, inl, inr, rules, false}
 use Rattle.cedar_table.specs.Table.Views.{cells}
-use Rattle.cedar_meaning.proofs.RelocationLemmas.KeptSlot.{taken_seen}
+use Rattle.cedar_model.proofs.RelocationLemmas.KeptSlot.{taken_seen}
 use Rattle.cedar_edit.proofs.relocation.moving.reserve.Goals as goal
 
 pub returns-then-reserved-clause-now : goal.returns-then-reserved-clause-now

@@ -1,9 +1,9 @@
 use Rattle.std.proofs.Common.{◌≡◌, ◌∙◌, ◌<◌, ap, arith, rules, bit_xor, ℕ}
-use Rattle.cedar_meaning.specs.Meaning.Family.{below, owned}
+use Rattle.cedar_model.specs.Meaning.Family.{below, owned}
 use Rattle.cedar_table.specs.Table.Views.{cells, fields}
-use Rattle.cedar_meaning.specs.Table.TableFields.{size_of}
-use Rattle.cedar_meaning.specs.Relocation.Wanted.{rest_of}
-use Rattle.cedar_meaning.proofs.RelocationLemmas.LongerChain.{is_longer_if, label_inside, step_none, step_on, walked_on}
+use Rattle.cedar_model.specs.Table.TableFields.{size_of}
+use Rattle.cedar_model.specs.Relocation.Wanted.{rest_of}
+use Rattle.cedar_model.proofs.RelocationLemmas.LongerChain.{is_longer_if, label_inside, step_none, step_on, walked_on}
 use Rattle.cedar_edit.proofs.relocation.resolve.is_longer.Goals as goal
 use Rattle.cedar_edit.proofs.relocation.resolve.is_longer.Goals.{then-loop-left-test+else-right-ne0, else-loop-left-test}
 

@@ -1,7 +1,7 @@
 use Rattle.std.proofs.Common.{length}
-use Rattle.cedar_meaning.specs.Meaning.Reading.{chain}
+use Rattle.cedar_model.specs.Meaning.Reading.{chain}
 use Rattle.cedar_table.specs.Table.Views.{cells}
-use Rattle.cedar_meaning.proofs.RelocationLemmas.LongerChain.{InStep}
+use Rattle.cedar_model.proofs.RelocationLemmas.LongerChain.{InStep}
 use Rattle.cedar_edit.proofs.relocation.resolve.is_longer.Given as goal
 
 abbrev pub invariant-loop-left : goal.invariant-loop-left

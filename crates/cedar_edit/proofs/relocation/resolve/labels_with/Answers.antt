@@ -1,5 +1,5 @@
 use Rattle.std.proofs.Common.{rules, refl}
-use Rattle.cedar_meaning.proofs.RelocationLemmas.WantedLabels.{all_few, all_last, all_placed, BeforeLabel, put_before, put_later, put_new, writing_few, writing_none, written}
+use Rattle.cedar_model.proofs.RelocationLemmas.WantedLabels.{all_few, all_last, all_placed, BeforeLabel, put_before, put_later, put_new, writing_few, writing_none, written}
 use Rattle.cedar_edit.proofs.relocation.resolve.labels_with.Goals as goal
 use Rattle.cedar_edit.proofs.relocation.resolve.labels_with.Goals.{then-not-placed+then-goes_before, else-not-placed, else-not-placed-via-then-not-placed+else-goes_before, else-not-placed-via-else-not-placed}
 

@@ -1,4 +1,4 @@
-use Rattle.cedar_meaning.proofs.RelocationLemmas.WantedLabels.{Writing}
+use Rattle.cedar_model.proofs.RelocationLemmas.WantedLabels.{Writing}
 use Rattle.cedar_edit.proofs.relocation.resolve.labels_with.Given as goal
 
 abbrev pub invariant-loop-other : goal.invariant-loop-other

@@ -1,11 +1,11 @@
 use Rattle.std.proofs.Common.{◌≡◌, ◌<◌, ◌≤◌, ◌∙◌, length, rules, subst, sym, ℕ}
 use Rattle.std.proofs.lemmas.Result.{IfOk-weaker}
-use Rattle.cedar_meaning.specs.Meaning.Family.{owned}
-use Rattle.cedar_meaning.specs.Relocation.Renaming.{IsNode}
+use Rattle.cedar_model.specs.Meaning.Family.{owned}
+use Rattle.cedar_model.specs.Relocation.Renaming.{IsNode}
 use Rattle.cedar_table.specs.Table.Views.{cells, fields}
-use Rattle.cedar_meaning.specs.Table.TableFields.{size_of}
-use Rattle.cedar_meaning.proofs.RelocationLemmas.Conflict.{owned_at_most, owned_some}
-use Rattle.cedar_meaning.proofs.RelocationLemmas.Movable.{node_at_end}
+use Rattle.cedar_model.specs.Table.TableFields.{size_of}
+use Rattle.cedar_model.proofs.RelocationLemmas.Conflict.{owned_at_most, owned_some}
+use Rattle.cedar_model.proofs.RelocationLemmas.Movable.{node_at_end}
 use Rattle.cedar_edit.proofs.relocation.resolve.move_away.Goals as goal
 
 pub labels_of-labels-requires : goal.labels_of-labels-requires

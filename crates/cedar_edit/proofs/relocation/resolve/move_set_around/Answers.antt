@@ -1,14 +1,14 @@
 use Rattle.std.proofs.Common.{arith, rules, subst, sym, ℕ, ◌≤◌, ◌∙◌, inl, inr, refl}
-use Rattle.cedar_meaning.specs.Meaning.Family.{Among, owned}
-use Rattle.cedar_meaning.specs.Meaning.StandsFor.{HoldsTree}
-use Rattle.cedar_meaning.specs.Relocation.Renaming.{Movable, SetMoved}
-use Rattle.cedar_meaning.specs.Relocation.Reserved.{freed}
+use Rattle.cedar_model.specs.Meaning.Family.{Among, owned}
+use Rattle.cedar_model.specs.Meaning.StandsFor.{HoldsTree}
+use Rattle.cedar_model.specs.Relocation.Renaming.{Movable, SetMoved}
+use Rattle.cedar_model.specs.Relocation.Reserved.{freed}
 use Rattle.cedar_table.specs.Table.Views.{cells, fields}
-use Rattle.cedar_meaning.specs.Table.TableFields.{size_of}
-use Rattle.cedar_meaning.proofs.UpdateLemmas.BlocksMade.{growth_framed, made_larger}
-use Rattle.cedar_meaning.proofs.RelocationLemmas.Movable.{relocated_holds}
-use Rattle.cedar_meaning.proofs.RelocationLemmas.PlacesFirst.{can_relocate, same_holds, set_moved}
-use Rattle.cedar_meaning.specs.Edit.Steps.{MayAddBlock}
+use Rattle.cedar_model.specs.Table.TableFields.{size_of}
+use Rattle.cedar_model.proofs.UpdateLemmas.BlocksMade.{growth_framed, made_larger}
+use Rattle.cedar_model.proofs.RelocationLemmas.Movable.{relocated_holds}
+use Rattle.cedar_model.proofs.RelocationLemmas.PlacesFirst.{can_relocate, same_holds, set_moved}
+use Rattle.cedar_model.specs.Edit.Steps.{MayAddBlock}
 use Rattle.cedar_edit.proofs.relocation.resolve.move_set_around.Goals as goal
 
 pub relocate_around-requires : goal.relocate_around-requires

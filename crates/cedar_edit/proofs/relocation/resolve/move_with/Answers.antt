@@ -1,12 +1,12 @@
 use Rattle.std.proofs.Common.{◌≡◌, ◌+◌, ◌<◌, ◌∙◌, ap, arith, length, rules, subst, sym, ℕ, List}
-use Rattle.cedar_meaning.specs.Meaning.Family.{Among, owned}
-use Rattle.cedar_meaning.specs.Relocation.Renaming.{IsNode}
+use Rattle.cedar_model.specs.Meaning.Family.{Among, owned}
+use Rattle.cedar_model.specs.Relocation.Renaming.{IsNode}
 use Rattle.cedar_table.specs.Table.Views.{cells, fields}
-use Rattle.cedar_meaning.specs.Table.TableFields.{size_of}
-use Rattle.cedar_meaning.specs.Relocation.Wanted.{with_label}
-use Rattle.cedar_meaning.proofs.RelocationLemmas.Conflict.{not_owned, owned_short}
-use Rattle.cedar_meaning.proofs.RelocationLemmas.Movable.{node_at_end}
-use Rattle.cedar_meaning.proofs.RelocationLemmas.WantedLabels.{with_length, with_new, with_old}
+use Rattle.cedar_model.specs.Table.TableFields.{size_of}
+use Rattle.cedar_model.specs.Relocation.Wanted.{with_label}
+use Rattle.cedar_model.proofs.RelocationLemmas.Conflict.{not_owned, owned_short}
+use Rattle.cedar_model.proofs.RelocationLemmas.Movable.{node_at_end}
+use Rattle.cedar_model.proofs.RelocationLemmas.WantedLabels.{with_length, with_new, with_old}
 use Rattle.cedar_edit.proofs.relocation.resolve.move_with.Goals as goal
 
 pub labels_of-labels-requires : goal.labels_of-labels-requires

@@ -1,10 +1,10 @@
 use Rattle.std.proofs.Common.{◌<◌, ◌∙◌, ap, arith, rules, subst, sym, ℕ, List, []}
-use Rattle.cedar_meaning.specs.Edit.NodeEdits.{follow_on}
-use Rattle.cedar_meaning.specs.Meaning.Family.{below}
+use Rattle.cedar_model.specs.Edit.NodeEdits.{follow_on}
+use Rattle.cedar_model.specs.Meaning.Family.{below}
 use Rattle.cedar_table.specs.Table.Views.{cells, fields}
-use Rattle.cedar_meaning.specs.Table.TableFields.{size_of}
-use Rattle.cedar_meaning.proofs.UpdateLemmas.BlocksMade.{made_larger}
-use Rattle.cedar_meaning.proofs.RelocationLemmas.Conflict.{conflict, reserves_kept, reserves_moved, reserves_own, slot_inside, slot_owned}
+use Rattle.cedar_model.specs.Table.TableFields.{size_of}
+use Rattle.cedar_model.proofs.UpdateLemmas.BlocksMade.{made_larger}
+use Rattle.cedar_model.proofs.RelocationLemmas.Conflict.{conflict, reserves_kept, reserves_moved, reserves_own, slot_inside, slot_owned}
 use Rattle.cedar_edit.proofs.relocation.resolve.resolve.Goals as goal
 
 pub owner-owner-requires : goal.owner-owner-requires

@@ -1,10 +1,10 @@
 use Rattle.std.proofs.Common.{◌≡◌, ◌∙◌, ◌<◌, ap, arith, rules, subst, sym, bit_xor, ℕ}
 use lib.Bits.{xor_zero_r}
-use Rattle.cedar_meaning.specs.Meaning.Family.{below}
+use Rattle.cedar_model.specs.Meaning.Family.{below}
 use Rattle.cedar_table.specs.Table.Views.{cells, fields}
-use Rattle.cedar_meaning.specs.Table.TableFields.{size_of}
-use Rattle.cedar_meaning.proofs.RelocationLemmas.Repointed.{base_within}
-use Rattle.cedar_meaning.proofs.RelocationLemmas.LongerChain.{label_inside, second_after, second_none, second_valued}
+use Rattle.cedar_model.specs.Table.TableFields.{size_of}
+use Rattle.cedar_model.proofs.RelocationLemmas.Repointed.{base_within}
+use Rattle.cedar_model.proofs.RelocationLemmas.LongerChain.{label_inside, second_after, second_none, second_valued}
 use Rattle.cedar_edit.proofs.relocation.resolve.second_label.Goals as goal
 
 pub sibling-requires : goal.sibling-requires

@@ -1,8 +1,8 @@
 use Rattle.std.proofs.Common.{rules, ◌≡◌, sym, ◌∙◌, ap, refl, negsuc, w32, FitsSigned, of_z, to_z}
 use Rattle.std.proofs.lemmas.Int.{to_z-of_z}
-use Rattle.cedar_meaning.specs.declared.layout.Stored.TheVariants.{AtBase}
-use Rattle.cedar_meaning.specs.Meaning.Family.{base_in}
-use Rattle.cedar_meaning.specs.Table.Layouts.{reading}
+use Rattle.cedar_model.specs.declared.layout.Stored.TheVariants.{AtBase}
+use Rattle.cedar_model.specs.Meaning.Family.{base_in}
+use Rattle.cedar_model.specs.Table.Layouts.{reading}
 use Rattle.cedar_table.specs.Table.Views.{cells}
 use Rattle.cedar_file.proofs.TreeLemmas.WhatIsRead.{same_walk}
 use Rattle.cedar_file.proofs.check.tree.begin_walk.Goals.{then-base-ne0-via-then-base-ne0, then-base-ne0-via-else-base-ne0+then-root}

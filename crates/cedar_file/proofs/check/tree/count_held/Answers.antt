@@ -2,7 +2,7 @@ use Rattle.std.proofs.Common.{◌≡◌, ◌+◌, ◌*◌, ◌/◌, ◌<◌, ◌
 use Rattle.std.proofs.lemmas.Int.{ints}
 use Rattle.cedar_slots.specs.Blocks.{counts_at}
 use Rattle.cedar_slots.proofs.ListsLemmas.FreeCounts.{block_total, block_total-le, num_total, sum_below, sum_below-le, sum_below-more, sum_below-none, used-sum}
-use Rattle.cedar_meaning.proofs.CellsLemmas.PlacesFound.{held-count}
+use Rattle.cedar_model.proofs.CellsLemmas.PlacesFound.{held-count}
 use Rattle.cedar_table.specs.Table.Views.{fields}
 use Rattle.cedar_file.proofs.check.tree.count_held.Goals as goal
 

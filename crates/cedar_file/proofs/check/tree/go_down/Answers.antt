@@ -1,12 +1,12 @@
 use Rattle.std.proofs.Common.{rules, ◌≡◌, ◌<◌, sym, ◌∙◌, ap, arith, pos, w32, FitsSigned}
 use Rattle.std.specs.Prelude.{bit_xor}
 use Rattle.std.proofs.lemmas.Int.{to_z-of_z}
-use Rattle.cedar_meaning.specs.declared.layout.Stored.TheVariants.{OwnNumber}
+use Rattle.cedar_model.specs.declared.layout.Stored.TheVariants.{OwnNumber}
 use Rattle.cedar_table.specs.Table.Views.{cells, fields}
-use Rattle.cedar_meaning.specs.Table.TableFields.{size_of}
-use Rattle.cedar_meaning.specs.Meaning.Family.{below}
-use Rattle.cedar_meaning.specs.Table.Layouts.{reading}
-use Rattle.cedar_meaning.proofs.MeaningLemmas.TreeOf.{in_use}
+use Rattle.cedar_model.specs.Table.TableFields.{size_of}
+use Rattle.cedar_model.specs.Meaning.Family.{below}
+use Rattle.cedar_model.specs.Table.Layouts.{reading}
+use Rattle.cedar_model.proofs.MeaningLemmas.TreeOf.{in_use}
 use Rattle.cedar_file.proofs.TreeLemmas.WhatIsRead.{down_met, down_faulty, nothing_looks}
 use Rattle.cedar_file.proofs.check.tree.go_down.Goals as goal
 

@@ -1,6 +1,6 @@
 use Rattle.std.proofs.Common.{arith}
 use Rattle.cedar_table.specs.Table.Views.{cells, fields}
-use Rattle.cedar_meaning.specs.Table.TableFields.{size_of}
+use Rattle.cedar_model.specs.Table.TableFields.{size_of}
 use Rattle.cedar_file.proofs.TreeLemmas.Turns.{down_faulty, down_on, up_faulty, up_on}
 use Rattle.cedar_file.proofs.check.tree.go_on.Goals as goal
 

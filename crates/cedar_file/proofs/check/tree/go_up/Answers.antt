@@ -2,11 +2,11 @@ use Rattle.std.proofs.Common.{rules, ◌≡◌, ◌<◌, sym, ◌∙◌, ap, ref
 use Rattle.std.specs.Prelude.{bit_xor}
 use Rattle.std.proofs.lemmas.Bool.{false≢true}
 use Rattle.std.proofs.lemmas.Int.{to_z-of_z}
-use Rattle.cedar_meaning.specs.Meaning.Family.{base_in, base_of, below}
-use Rattle.cedar_meaning.specs.Table.Layouts.{reading}
+use Rattle.cedar_model.specs.Meaning.Family.{base_in, base_of, below}
+use Rattle.cedar_model.specs.Table.Layouts.{reading}
 use Rattle.cedar_table.specs.Table.Views.{cells}
 use Rattle.cedar_file.proofs.TreeLemmas.WhatIsRead.{no_owner, same_walk}
-use Rattle.cedar_meaning.proofs.MeaningLemmas.ExclusiveOr.{pos_injective}
+use Rattle.cedar_model.proofs.MeaningLemmas.ExclusiveOr.{pos_injective}
 use Rattle.cedar_file.proofs.check.tree.go_up.Goals.{else-ordered-via-then-ordered+then-label-ne0+else-from-base, else-ordered-via-then-ordered+else-label-ne0, else-ordered-via-else-ordered}
 use Rattle.cedar_file.proofs.check.tree.go_up.Goals as goal
 

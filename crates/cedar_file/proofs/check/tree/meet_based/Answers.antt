@@ -1,7 +1,7 @@
 use Rattle.std.proofs.Common.{rules, ◌≢◌, ◌<◌, sym, ◌∙◌, refl, arith, pos, w32, FitsSigned}
 use Rattle.std.proofs.lemmas.Int.{to_z-of_z}
 use Rattle.cedar_table.specs.Table.Views.{cells, fields}
-use Rattle.cedar_meaning.specs.Table.TableFields.{size_of}
+use Rattle.cedar_model.specs.Table.TableFields.{size_of}
 use Rattle.cedar_file.proofs.TreeLemmas.WhatIsRead.{plain_child, plain_looks, plain_walk, same_walk}
 use Rattle.cedar_file.proofs.check.tree.meet_based.Goals as goal
 

@@ -2,8 +2,8 @@ use Rattle.std.proofs.Common.{rules, ◌≡◌, sym, ◌∙◌, ap, true, w32, F
 use Rattle.std.proofs.lemmas.Bool.{false≢true}
 use Rattle.std.proofs.lemmas.Int.{to_z-of_z}
 use Rattle.cedar_table.specs.Table.Views.{cells, fields}
-use Rattle.cedar_meaning.specs.Table.TableFields.{size_of}
-use Rattle.cedar_meaning.specs.Meaning.WellFormed.{is_value}
+use Rattle.cedar_model.specs.Table.TableFields.{size_of}
+use Rattle.cedar_model.specs.Meaning.WellFormed.{is_value}
 use Rattle.cedar_file.proofs.TreeLemmas.WhatIsRead.{own_looks, own_value, own_walk}
 use Rattle.cedar_file.proofs.check.tree.meet_own.Goals as goal
 

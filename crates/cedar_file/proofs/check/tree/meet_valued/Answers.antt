@@ -2,8 +2,8 @@ use Rattle.std.proofs.Common.{rules, ◌≡◌, sym, ◌∙◌, ap, refl, true, 
 use Rattle.std.proofs.lemmas.Bool.{false≢true}
 use Rattle.std.proofs.lemmas.Int.{to_z-of_z}
 use Rattle.cedar_table.specs.Table.Views.{cells, fields}
-use Rattle.cedar_meaning.specs.Table.TableFields.{size_of}
-use Rattle.cedar_meaning.specs.Meaning.WellFormed.{is_value}
+use Rattle.cedar_model.specs.Table.TableFields.{size_of}
+use Rattle.cedar_model.specs.Meaning.WellFormed.{is_value}
 use Rattle.cedar_file.proofs.TreeLemmas.WhatIsRead.{same_walk, valued_child, valued_looks, valued_walk}
 use Rattle.cedar_file.proofs.check.tree.meet_valued.Goals.{then-child-ne0-via-then-child-ne0, then-child-ne0-via-else-child-ne0+then-info-ne0, then-child-ne0-via-else-child-ne0+else-info-ne0+then-not-is_in_range}
 use Rattle.cedar_file.proofs.check.tree.meet_valued.Goals as goal

@@ -1,7 +1,7 @@
 use Rattle.std.proofs.Common.{ℕ, ◌+◌, ◌-◌, ◌*◌, ◌≤◌}
 use Rattle.cedar_file.specs.TreeWalk.{Ends}
 use Rattle.cedar_table.specs.Table.Views.{cells, fields}
-use Rattle.cedar_meaning.specs.Table.TableFields.{size_of}
+use Rattle.cedar_model.specs.Table.TableFields.{size_of}
 use Rattle.cedar_file.proofs.TreeLemmas.Turns.{IsOnWay}
 use Rattle.cedar_file.proofs.check.tree.walk_tree.Given as goal
 

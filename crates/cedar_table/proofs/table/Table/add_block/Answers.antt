@@ -3,7 +3,7 @@ use Rattle.std.proofs.lemmas.Result.{on_err_weaker}
 use Rattle.cedar_slots.specs.Views.{places_of}
 use Rattle.cedar_slots.specs.Places.{PlaceFields}
 use Rattle.cedar_table.specs.Table.Views.{fields}
-use Rattle.cedar_meaning.proofs.CellsLemmas.PlacesFound.{held-added}
+use Rattle.cedar_model.proofs.CellsLemmas.PlacesFound.{held-added}
 use Rattle.cedar_table.proofs.table.Table.add_block.Goals as goal
 
 pub returns-clause-held : goal.returns-clause-held

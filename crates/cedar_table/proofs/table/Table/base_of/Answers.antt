@@ -1,5 +1,5 @@
 use Rattle.std.proofs.Common.{ap}
-use Rattle.cedar_meaning.specs.Meaning.Family.{base_in}
+use Rattle.cedar_model.specs.Meaning.Family.{base_in}
 use Rattle.cedar_table.proofs.table.Table.base_of.Goals as goal
 
 pub returns-in-AtBase : goal.returns-in-AtBase

@@ -1,8 +1,8 @@
 use Rattle.std.proofs.Common.{◌≡◌, ◌<◌, ◌≤ℤ◌, ◌∙◌, ap, arith, inr, rules, subst, sym, pos, to_z, w32, FitsSigned}
 use Rattle.std.proofs.lemmas.Int.{ints, to_z_pos, to_z-of_z}
-use Rattle.cedar_meaning.specs.Table.Layouts.{reading}
+use Rattle.cedar_model.specs.Table.Layouts.{reading}
 use Rattle.cedar_table.specs.Table.Views.{cells}
-use Rattle.cedar_meaning.proofs.EditLemmas.KeptSlotGiven.{claimed}
+use Rattle.cedar_model.proofs.EditLemmas.KeptSlotGiven.{claimed}
 use Rattle.cedar_table.proofs.table.Table.claim.Goals as goal
 
 pub write_node-requires : goal.write_node-requires

@@ -2,9 +2,9 @@ use Rattle.std.proofs.Common.{◌≡◌, ap, sym, ◌∙◌, arith, rules, refl,
 use Rattle.std.proofs.lemmas.Int.{to_z-of_z}
 use Rattle.cedar_tree.specs.Tree.{number_at}
 use Rattle.cedar_table.specs.Table.Views.{fields}
-use Rattle.cedar_meaning.specs.Meaning.WellFormed.{tree_of}
-use Rattle.cedar_meaning.proofs.MeaningLemmas.TreeOf.{root_place}
-use Rattle.cedar_meaning.proofs.MeaningLemmas.SearchStep.{step_down, step_off, at_end, exact_is}
+use Rattle.cedar_model.specs.Meaning.WellFormed.{tree_of}
+use Rattle.cedar_model.proofs.MeaningLemmas.TreeOf.{root_place}
+use Rattle.cedar_model.proofs.MeaningLemmas.SearchStep.{step_down, step_off, at_end, exact_is}
 use Rattle.cedar_table.proofs.table.Table.exact_match_search_counted.Goals as goal
 
 pub loop-label-init : goal.loop-label-init

@@ -1,9 +1,9 @@
 use Rattle.std.proofs.Common.{◌≡◌, ◌+◌, ◌<◌, ◌≤◌, drop}
 use Rattle.cedar_tree.specs.Tree.{Tree, number_at}
-use Rattle.cedar_meaning.specs.Meaning.StandsFor.{Stands}
-use Rattle.cedar_meaning.specs.Meaning.WellFormed.{tree_of}
+use Rattle.cedar_model.specs.Meaning.StandsFor.{Stands}
+use Rattle.cedar_model.specs.Meaning.WellFormed.{tree_of}
 use Rattle.cedar_table.specs.Table.Views.{cells, fields}
-use Rattle.cedar_meaning.specs.Table.TableFields.{size_of}
+use Rattle.cedar_model.specs.Table.TableFields.{size_of}
 use Rattle.cedar_table.proofs.table.Table.exact_match_search_counted.Given as goal
 
 -- the node stands for what the labels so far lead to, after one comparison for each

@@ -1,6 +1,6 @@
 use Rattle.std.proofs.Common.{arith}
 use Rattle.cedar_slots.specs.Views.{places_of}
-use Rattle.cedar_meaning.proofs.CellsLemmas.PlacesFound.{held-searched, places-found}
+use Rattle.cedar_model.proofs.CellsLemmas.PlacesFound.{held-searched, places-found}
 use Rattle.cedar_table.proofs.table.Table.find_places.Goals as goal
 
 pub returns-clause-found : goal.returns-clause-found

@@ -1,10 +1,10 @@
 use Rattle.std.proofs.Common.{◌≡◌, ◌∙◌, ◌<◌, ap, arith, refl, rules, subst, sym}
 use lib.Bits.{xor_zero_r}
-use Rattle.cedar_meaning.specs.Meaning.Family.{below}
+use Rattle.cedar_model.specs.Meaning.Family.{below}
 use Rattle.cedar_table.specs.Table.Views.{cells, fields}
-use Rattle.cedar_meaning.specs.Table.TableFields.{size_of}
-use Rattle.cedar_meaning.proofs.MeaningLemmas.LabelList.{after_number}
-use Rattle.cedar_meaning.proofs.RelocationLemmas.Repointed.{base_within, chain_kept}
+use Rattle.cedar_model.specs.Table.TableFields.{size_of}
+use Rattle.cedar_model.proofs.MeaningLemmas.LabelList.{after_number}
+use Rattle.cedar_model.proofs.RelocationLemmas.Repointed.{base_within, chain_kept}
 use Rattle.cedar_table.proofs.table.Table.first_label.Goals as goal
 
 pub sibling-requires : goal.sibling-requires

@@ -1,10 +1,10 @@
 use Rattle.std.proofs.Common.{◌≡◌, ◌<◌, arith, rules, sym, ◌∙◌, subst, false}
 use Rattle.std.specs.Prelude.{bit_xor}
 use Rattle.cedar_tree.specs.Tree.{has_label, subtree}
-use Rattle.cedar_meaning.specs.Meaning.StandsFor.{Stands}
+use Rattle.cedar_model.specs.Meaning.StandsFor.{Stands}
 use Rattle.cedar_table.specs.Table.Views.{cells, fields}
-use Rattle.cedar_meaning.specs.Table.TableFields.{size_of}
-use Rattle.cedar_meaning.proofs.MeaningLemmas.SearchStep.{never_nothing, no_label_zero, unbased, slot_in, child_found, child_missing}
+use Rattle.cedar_model.specs.Table.TableFields.{size_of}
+use Rattle.cedar_model.proofs.MeaningLemmas.SearchStep.{never_nothing, no_label_zero, unbased, slot_in, child_found, child_missing}
 use Rattle.cedar_table.proofs.table.Table.follow.Goals as goal
 
 pub stored_at_node-requires : goal.stored_at_node-requires

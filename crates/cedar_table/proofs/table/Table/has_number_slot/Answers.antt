@@ -1,9 +1,9 @@
 use Rattle.std.proofs.Common.{◌∙◌, ◌<◌, ap, arith, rules, subst, sym}
 use lib.Bits.{xor_zero_r}
 use Rattle.cedar_table.specs.Table.Views.{cells, fields}
-use Rattle.cedar_meaning.specs.Table.TableFields.{size_of}
-use Rattle.cedar_meaning.proofs.MeaningLemmas.SearchStep.{says_something}
-use Rattle.cedar_meaning.proofs.RelocationLemmas.Repointed.{base_within, names_none}
+use Rattle.cedar_model.specs.Table.TableFields.{size_of}
+use Rattle.cedar_model.proofs.MeaningLemmas.SearchStep.{says_something}
+use Rattle.cedar_model.proofs.RelocationLemmas.Repointed.{base_within, names_none}
 use Rattle.cedar_table.proofs.table.Table.has_number_slot.Goals as goal
 
 pub returns-then-child-ne0 : goal.returns-then-child-ne0

@@ -3,11 +3,11 @@ use Rattle.std.proofs.lemmas.Bool.{cases_Bool, false≢true}
 use Rattle.std.proofs.lemmas.Int.{to_z-of_z}
 use Rattle.std.proofs.lemmas.List.{get_or_read}
 use Rattle.cedar_slots.specs.declared.records.NodeRecord.{NodeRecord}
-use Rattle.cedar_meaning.specs.Table.Cells.{Cells, Held}
+use Rattle.cedar_model.specs.Table.Cells.{Cells, Held}
 use Rattle.cedar_slots.specs.Slots.{blank_node, check_at}
 use Rattle.cedar_table.specs.Table.Views.{cells}
 use Rattle.cedar_slots.specs.Views.{places_of}
-use Rattle.cedar_meaning.proofs.CellsLemmas.HeldSlots.{active_is, natural_from, natural_not_below}
+use Rattle.cedar_model.proofs.CellsLemmas.HeldSlots.{active_is, natural_from, natural_not_below}
 use Rattle.cedar_table.proofs.table.Table.is_free_slot.Goals as goal
 
 -- a slot other than the root's is held just where its check is not below 0

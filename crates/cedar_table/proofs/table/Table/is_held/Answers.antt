@@ -2,7 +2,7 @@ use Rattle.std.proofs.Common.{◌≡◌, ◌≤ℤ◌, Bool, arith, false, of_z,
 use Rattle.std.proofs.lemmas.Int.{ints, to_z-of_z}
 use lib.Dec.{T}
 use Rattle.cedar_table.specs.Table.Views.{cells}
-use Rattle.cedar_meaning.proofs.CellsLemmas.HeldSlots.{held_natural, natural_held}
+use Rattle.cedar_model.proofs.CellsLemmas.HeldSlots.{held_natural, natural_held}
 use Rattle.cedar_table.proofs.table.Table.is_held.Goals as goal
 
 is_true : (t : Bool) → T t → t ≡ true

@@ -6,7 +6,7 @@ use Rattle.cedar_slots.specs.declared.records.NodeRecord.{NodeRecord}
 use Rattle.cedar_slots.specs.Slots.{blank_node, check_at}
 use Rattle.cedar_table.specs.Table.Views.{cells}
 use Rattle.cedar_slots.specs.Views.{places_of}
-use Rattle.cedar_meaning.proofs.CellsLemmas.HeldSlots.{active_is}
+use Rattle.cedar_model.proofs.CellsLemmas.HeldSlots.{active_is}
 use Rattle.cedar_table.proofs.table.Table.is_owned_by.Goals as goal
 
 pub returns : goal.returns

@@ -1,10 +1,10 @@
 use Rattle.std.proofs.Common.{◌≡◌, ◌≤◌, ◌<◌, ◌∙◌, ap, arith, rules, subst, sym, bit_xor, length, ℕ, ◌++◌}
-use Rattle.cedar_meaning.specs.Meaning.Family.{base_of, below}
+use Rattle.cedar_model.specs.Meaning.Family.{base_of, below}
 use Rattle.cedar_table.specs.Table.Views.{cells, fields}
-use Rattle.cedar_meaning.specs.Table.TableFields.{size_of}
-use Rattle.cedar_meaning.proofs.MeaningLemmas.LabelList.{listed_all, listed_next, listed_none, owned_few, owned_split}
-use Rattle.cedar_meaning.proofs.RelocationLemmas.Repointed.{base_within}
-use Rattle.cedar_meaning.proofs.MeaningLemmas.ExclusiveOr.{xor_within}
+use Rattle.cedar_model.specs.Table.TableFields.{size_of}
+use Rattle.cedar_model.proofs.MeaningLemmas.LabelList.{listed_all, listed_next, listed_none, owned_few, owned_split}
+use Rattle.cedar_model.proofs.RelocationLemmas.Repointed.{base_within}
+use Rattle.cedar_model.proofs.MeaningLemmas.ExclusiveOr.{xor_within}
 use Rattle.cedar_table.proofs.table.Table.labels_of.Goals as goal
 
 pub loop-label-init : goal.loop-label-init

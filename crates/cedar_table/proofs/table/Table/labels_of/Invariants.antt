@@ -1,7 +1,7 @@
 use Rattle.std.proofs.Common.{length}
-use Rattle.cedar_meaning.specs.Meaning.Reading.{chain}
+use Rattle.cedar_model.specs.Meaning.Reading.{chain}
 use Rattle.cedar_table.specs.Table.Views.{cells}
-use Rattle.cedar_meaning.proofs.MeaningLemmas.LabelList.{Listed}
+use Rattle.cedar_model.proofs.MeaningLemmas.LabelList.{Listed}
 use Rattle.cedar_table.proofs.table.Table.labels_of.Given as goal
 
 abbrev pub invariant-loop-label : goal.invariant-loop-label

@@ -1,6 +1,6 @@
 use Rattle.std.proofs.Common.{◌<◌, rules, sym, subst}
 use Rattle.cedar_table.specs.Table.Views.{cells}
-use Rattle.cedar_meaning.proofs.EditLemmas.LabelsWritten.{held_still, linked_behind}
+use Rattle.cedar_model.proofs.EditLemmas.LabelsWritten.{held_still, linked_behind}
 use Rattle.cedar_table.proofs.table.Table.link_behind.Goals as goal
 
 pub set_sibling-requires-2 : goal.set_sibling-requires-2

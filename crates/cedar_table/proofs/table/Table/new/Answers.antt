@@ -2,15 +2,15 @@ use Rattle.std.proofs.Common.{◌≡◌, ap, arith, refl, rules, subst}
 use Rattle.std.specs.Prelude.{negsuc}
 use Rattle.std.proofs.lemmas.Int.{ints}
 use Rattle.cedar_slots.specs.declared.records.NodeRecord.{NodeRecord}
-use Rattle.cedar_meaning.specs.declared.layout.Stored.TheVariants.{AtBase}
+use Rattle.cedar_model.specs.declared.layout.Stored.TheVariants.{AtBase}
 use Rattle.cedar_slots.specs.Places.{IsNew}
 use Rattle.cedar_slots.specs.Slots.{check_at}
-use Rattle.cedar_meaning.specs.Table.TableFields.{Fields}
+use Rattle.cedar_model.specs.Table.TableFields.{Fields}
 use Rattle.cedar_slots.specs.Views.{places_of}
-use Rattle.cedar_meaning.specs.Meaning.WellFormed.{cells_in}
+use Rattle.cedar_model.specs.Meaning.WellFormed.{cells_in}
 use Rattle.cedar_slots.proofs.PlacementLemmas.FirstBlock.{IsTable-new}
-use Rattle.cedar_meaning.proofs.CellsLemmas.FirstSlots.{bare_new}
-use Rattle.cedar_meaning.proofs.MeaningLemmas.TreeOf.{new_tree, new_well_formed}
+use Rattle.cedar_model.proofs.CellsLemmas.FirstSlots.{bare_new}
+use Rattle.cedar_model.proofs.MeaningLemmas.TreeOf.{new_tree, new_well_formed}
 use Rattle.cedar_table.proofs.table.Table.new.Goals as goal
 
 pub returns-clause-well_formed : goal.returns-clause-well_formed

@@ -3,13 +3,13 @@ use Rattle.cedar_tree.specs.Tree.{Tree, number_at}
 use Rattle.cedar_tree.specs.Edits.{HasPath}
 use Rattle.cedar_tree.specs.Queries.{node_at}
 use Rattle.std.specs.Prelude.{pos}
-use Rattle.cedar_meaning.specs.Meaning.Family.{below}
+use Rattle.cedar_model.specs.Meaning.Family.{below}
 use Rattle.cedar_table.specs.Table.Views.{cells, fields}
-use Rattle.cedar_meaning.specs.Table.TableFields.{size_of}
-use Rattle.cedar_meaning.specs.Meaning.WellFormed.{tree_of}
-use Rattle.cedar_meaning.proofs.MeaningLemmas.NodeAtPath.{at_node, at_path}
-use Rattle.cedar_meaning.proofs.MeaningLemmas.KeyPath.{key_ends, key_goes_on, key_gone, key_leaves, slot_within, tree_root}
-use Rattle.cedar_meaning.proofs.MeaningLemmas.SearchStep.{never_nothing}
+use Rattle.cedar_model.specs.Table.TableFields.{size_of}
+use Rattle.cedar_model.specs.Meaning.WellFormed.{tree_of}
+use Rattle.cedar_model.proofs.MeaningLemmas.NodeAtPath.{at_node, at_path}
+use Rattle.cedar_model.proofs.MeaningLemmas.KeyPath.{key_ends, key_goes_on, key_gone, key_leaves, slot_within, tree_root}
+use Rattle.cedar_model.proofs.MeaningLemmas.SearchStep.{never_nothing}
 use Rattle.cedar_table.proofs.table.Table.node_of.Goals as goal
 use Rattle.cedar_table.proofs.table.Table.node_of.Goals.{then-label-eq0-via-then-label-eq0, then-label-eq0-via-else-label-eq0+then-not-is_owned_by}
 

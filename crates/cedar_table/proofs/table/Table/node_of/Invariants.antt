@@ -1,7 +1,7 @@
 use Rattle.std.proofs.Common.{◌<◌, take}
-use Rattle.cedar_meaning.specs.Edit.NodeEdits.{IsAt}
+use Rattle.cedar_model.specs.Edit.NodeEdits.{IsAt}
 use Rattle.cedar_table.specs.Table.Views.{cells, fields}
-use Rattle.cedar_meaning.specs.Table.TableFields.{size_of}
+use Rattle.cedar_model.specs.Table.TableFields.{size_of}
 use Rattle.cedar_table.proofs.table.Table.node_of.Given as goal
 
 -- the labels so far lead to the node

@@ -1,6 +1,6 @@
 use Rattle.std.proofs.Common.{◌∙◌, ap, refl, [], ◌∷◌, ◌++◌}
 use Rattle.cedar_table.specs.Table.Views.{cells}
-use Rattle.cedar_meaning.proofs.MeaningLemmas.LabelList.{number_not_there, number_there}
+use Rattle.cedar_model.proofs.MeaningLemmas.LabelList.{number_not_there, number_there}
 use Rattle.cedar_table.proofs.table.Table.number_label.Goals as goal
 
 pub returns-then-has_number_slot : goal.returns-then-has_number_slot

@@ -2,8 +2,8 @@ use Rattle.std.proofs.Common.{◌<◌, ap, sym, ◌∙◌, arith, rules, Some, w
 use lib.Bits.{xor_zero_r}
 use Rattle.std.proofs.lemmas.Int.{to_z-of_z}
 use Rattle.cedar_table.specs.Table.Views.{cells, fields}
-use Rattle.cedar_meaning.specs.Table.TableFields.{size_of}
-use Rattle.cedar_meaning.proofs.MeaningLemmas.SearchStep.{slot_in, number_found, number_missing, number_named, number_own, never_nothing}
+use Rattle.cedar_model.specs.Table.TableFields.{size_of}
+use Rattle.cedar_model.proofs.MeaningLemmas.SearchStep.{slot_in, number_found, number_missing, number_named, number_own, never_nothing}
 use Rattle.cedar_table.proofs.table.Table.number_of.Goals as goal
 
 pub returns-then-child-ne0 : goal.returns-then-child-ne0

@@ -4,7 +4,7 @@ use Rattle.std.proofs.lemmas.List.{get_or_read}
 use Rattle.cedar_slots.specs.declared.records.NodeRecord.{NodeRecord}
 use Rattle.cedar_slots.specs.Slots.{blank_node, check_at}
 use Rattle.cedar_slots.specs.Views.{places_of}
-use Rattle.cedar_meaning.proofs.CellsLemmas.HeldSlots.{active_is}
+use Rattle.cedar_model.proofs.CellsLemmas.HeldSlots.{active_is}
 use Rattle.cedar_table.proofs.table.Table.owner.Goals as goal
 
 pub overflow_cast-result : goal.overflow_cast-result

@@ -1,8 +1,8 @@
 use Rattle.std.proofs.Common.{◌≡◌, arith, get_or, inl, inr, length, rules}
 use Rattle.cedar_table.specs.Table.Views.{cells, fields}
-use Rattle.cedar_meaning.specs.Table.TableFields.{size_of}
-use Rattle.cedar_meaning.proofs.RelocationLemmas.PlacesFirst.{one_place}
-use Rattle.cedar_meaning.proofs.UpdateLemmas.BlocksMade.{found_blocks, made_nothing, searched_blocks}
+use Rattle.cedar_model.specs.Table.TableFields.{size_of}
+use Rattle.cedar_model.proofs.RelocationLemmas.PlacesFirst.{one_place}
+use Rattle.cedar_model.proofs.UpdateLemmas.BlocksMade.{found_blocks, made_nothing, searched_blocks}
 use Rattle.cedar_table.proofs.table.Table.place_for.Goals as goal
 
 pub returns-then-labels-eq1-clause-found : goal.returns-then-labels-eq1-clause-found

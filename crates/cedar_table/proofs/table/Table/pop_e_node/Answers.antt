@@ -1,8 +1,8 @@
 use Rattle.std.proofs.Common.{arith, w32}
 use Rattle.std.proofs.lemmas.Int.{to_z_pos}
 use Rattle.cedar_slots.specs.Views.{places_of}
-use Rattle.cedar_meaning.proofs.CellsLemmas.PlacesFound.{free_blank}
-use Rattle.cedar_meaning.proofs.CellsLemmas.HeldSlots.{natural_not_below, Takes-of, unheld_free}
+use Rattle.cedar_model.proofs.CellsLemmas.PlacesFound.{free_blank}
+use Rattle.cedar_model.proofs.CellsLemmas.HeldSlots.{natural_not_below, Takes-of, unheld_free}
 use Rattle.cedar_table.proofs.table.Table.pop_e_node.Goals as goal
 
 pub pop_e_node-requires-clause-slot_free : goal.pop_e_node-requires-clause-slot_free

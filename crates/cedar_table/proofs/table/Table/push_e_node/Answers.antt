@@ -1,5 +1,5 @@
 use Rattle.cedar_slots.specs.Views.{places_of}
-use Rattle.cedar_meaning.proofs.CellsLemmas.HeldSlots.{Gives-of, held_used}
+use Rattle.cedar_model.proofs.CellsLemmas.HeldSlots.{Gives-of, held_used}
 use Rattle.cedar_table.proofs.table.Table.push_e_node.Goals as goal
 
 pub push_e_node-requires-clause-slot_used : goal.push_e_node-requires-clause-slot_used

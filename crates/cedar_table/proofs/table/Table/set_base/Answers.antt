@@ -2,12 +2,12 @@ use Rattle.std.proofs.Common.{◌≡◌, ◌∙◌, arith, ap, inr, of_z, rules,
 use Rattle.std.proofs.lemmas.Int.{to_z-of_z}
 use Rattle.std.proofs.lemmas.List.{get_or_read}
 use Rattle.cedar_slots.specs.declared.records.NodeRecord.{NodeRecord}
-use Rattle.cedar_meaning.specs.Table.Layouts.{reading}
+use Rattle.cedar_model.specs.Table.Layouts.{reading}
 use Rattle.cedar_slots.specs.Slots.{blank_node, check_at}
 use Rattle.cedar_table.specs.Table.Views.{cells}
 use Rattle.cedar_slots.specs.Views.{places_of}
-use Rattle.cedar_meaning.proofs.CellsLemmas.HeldSlots.{active_is, held_natural}
-use Rattle.cedar_meaning.proofs.RelocationLemmas.SetMoved.{rebased}
+use Rattle.cedar_model.proofs.CellsLemmas.HeldSlots.{active_is, held_natural}
+use Rattle.cedar_model.proofs.RelocationLemmas.SetMoved.{rebased}
 use Rattle.cedar_table.proofs.table.Table.set_base.Goals as goal
 
 pub write_node-requires : goal.write_node-requires

@@ -1,7 +1,7 @@
 use Rattle.std.proofs.Common.{◌≡◌, ◌≤ℤ◌, ◌∙◌, arith, inr, pos, refl, rules, subst, sym, ℤ, to_z, w32, FitsSigned}
 use Rattle.std.proofs.lemmas.Int.{ints, to_z_pos, to_z-of_z}
-use Rattle.cedar_meaning.specs.Table.Layouts.{reading}
-use Rattle.cedar_meaning.proofs.RelocationLemmas.Repointed.{checks_at}
+use Rattle.cedar_model.specs.Table.Layouts.{reading}
+use Rattle.cedar_model.proofs.RelocationLemmas.Repointed.{checks_at}
 use Rattle.cedar_table.proofs.table.Table.set_check.Goals as goal
 
 pub write_node-requires : goal.write_node-requires

@@ -2,17 +2,17 @@ use Rattle.std.proofs.Common.{◌≡◌, ◌∙◌, arith, ap, inl, inr, refl, o
 use Rattle.std.proofs.lemmas.Int.{to_z-of_z}
 use Rattle.std.proofs.lemmas.List.{get_or_read}
 use Rattle.cedar_tree.specs.Edits.{edit_at}
-use Rattle.cedar_meaning.specs.declared.layout.Stored.TheVariants.{OwnNumber}
+use Rattle.cedar_model.specs.declared.layout.Stored.TheVariants.{OwnNumber}
 use Rattle.cedar_slots.specs.declared.records.NodeRecord.{NodeRecord}
-use Rattle.cedar_meaning.specs.Table.Layouts.{reading}
-use Rattle.cedar_meaning.specs.Meaning.StandsFor.{HoldsTree}
+use Rattle.cedar_model.specs.Table.Layouts.{reading}
+use Rattle.cedar_model.specs.Meaning.StandsFor.{HoldsTree}
 use Rattle.cedar_slots.specs.Slots.{blank_node, check_at}
 use Rattle.cedar_table.specs.Table.Views.{cells, fields}
-use Rattle.cedar_meaning.specs.Table.TableFields.{size_of}
+use Rattle.cedar_model.specs.Table.TableFields.{size_of}
 use Rattle.cedar_slots.specs.Views.{places_of}
-use Rattle.cedar_meaning.proofs.EditLemmas.AtPath.{held_node}
-use Rattle.cedar_meaning.proofs.CellsLemmas.HeldSlots.{active_is, held_natural}
-use Rattle.cedar_meaning.proofs.EditLemmas.OwnNumber.{field_edited, field_written, reads_own, spare_past}
+use Rattle.cedar_model.proofs.EditLemmas.AtPath.{held_node}
+use Rattle.cedar_model.proofs.CellsLemmas.HeldSlots.{active_is, held_natural}
+use Rattle.cedar_model.proofs.EditLemmas.OwnNumber.{field_edited, field_written, reads_own, spare_past}
 use Rattle.cedar_table.proofs.table.Table.set_own_number.Goals as goal
 
 pub write_node-requires : goal.write_node-requires

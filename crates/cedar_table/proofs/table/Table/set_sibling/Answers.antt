@@ -1,5 +1,5 @@
 use Rattle.cedar_table.specs.Table.Views.{cells}
-use Rattle.cedar_meaning.proofs.EditLemmas.LabelsWritten.{sets_sibling}
+use Rattle.cedar_model.proofs.EditLemmas.LabelsWritten.{sets_sibling}
 use Rattle.cedar_table.proofs.table.Table.set_sibling.Goals as goal
 
 pub returns-clause-set : goal.returns-clause-set

@@ -1,6 +1,6 @@
 use Rattle.std.proofs.Common.{◌∙◌, ap, ◌≡◌, ◌≤◌, ◌*◌, ◌+◌, arith, length, refl, sym}
-use Rattle.cedar_meaning.specs.Edit.Steps.{blocks_after}
-use Rattle.cedar_meaning.specs.Table.TableFields.{Fields, SameSettings}
+use Rattle.cedar_model.specs.Edit.Steps.{blocks_after}
+use Rattle.cedar_model.specs.Table.TableFields.{Fields, SameSettings}
 use Rattle.cedar_slots.specs.Places.{IsTable}
 use Rattle.cedar_slots.specs.Views.{places_of}
 use Rattle.cedar_table.specs.Table.Views.{fields}

@@ -1,7 +1,7 @@
 use Rattle.std.proofs.Common.{◌∙◌}
 use Rattle.cedar_table.specs.Table.Views.{cells}
 use Rattle.cedar_slots.specs.Views.{places_of}
-use Rattle.cedar_meaning.proofs.CellsLemmas.PlacesFound.{held-count, held-is_held, is_held-true}
+use Rattle.cedar_model.proofs.CellsLemmas.PlacesFound.{held-count, held-is_held, is_held-true}
 use Rattle.cedar_table.proofs.table.Table.used_node_slots.Goals as goal
 
 pub returns-clause-count : goal.returns-clause-count

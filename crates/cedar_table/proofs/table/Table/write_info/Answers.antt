@@ -1,8 +1,8 @@
 use Rattle.std.proofs.Common.{ap, arith}
 use Rattle.cedar_slots.specs.Blocks.{BlockFields}
 use Rattle.cedar_slots.specs.Views.{places_of}
-use Rattle.cedar_meaning.proofs.CellsLemmas.HeldSlots.{held_used}
-use Rattle.cedar_meaning.proofs.CellsLemmas.RecordWritten.{InfoWritten-set}
+use Rattle.cedar_model.proofs.CellsLemmas.HeldSlots.{held_used}
+use Rattle.cedar_model.proofs.CellsLemmas.RecordWritten.{InfoWritten-set}
 use Rattle.cedar_table.proofs.table.Table.write_info.Goals as goal
 
 pub write_info-requires-clause-slot_used : goal.write_info-requires-clause-slot_used

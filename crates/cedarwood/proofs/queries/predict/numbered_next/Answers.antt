@@ -3,7 +3,7 @@ use Rattle.cedar_tree.specs.Queries.{node_at, walk}
 use Rattle.cedar_tree.specs.Walks.{entries_of}
 use Rattle.cedar_tree.proofs.PredictLemmas.{predict-node}
 use Rattle.cedar_walk.specs.Visits.{left_at}
-use Rattle.cedar_meaning.specs.Meaning.WellFormed.{tree_of}
+use Rattle.cedar_model.specs.Meaning.WellFormed.{tree_of}
 use Rattle.cedarwood.specs.declared.queries.predict.PredictPlace.TheVariants.{Node, Start}
 use Rattle.cedarwood.specs.WalkPlaces.{GoesOnTo, IsPredictPlace, predicted_from}
 use Rattle.cedarwood.proofs.PredictionLemmas.{goes_on}

@@ -1,5 +1,5 @@
 use Rattle.std.proofs.Common.{subst}
-use Rattle.cedar_meaning.specs.Meaning.Marks.{MarksCut}
+use Rattle.cedar_model.specs.Meaning.Marks.{MarksCut}
 use Rattle.cedarwood.proofs.trie.Trie.erase.Goals as goal
 
 pub returns-clause-marks : goal.returns-clause-marks

@@ -1,5 +1,5 @@
 use Rattle.std.proofs.Common.{subst}
-use Rattle.cedar_meaning.specs.Meaning.Marks.{marks, MarksCut}
+use Rattle.cedar_model.specs.Meaning.Marks.{marks, MarksCut}
 use Rattle.cedar_table.specs.Table.Views.{fields}
 use Rattle.cedarwood.specs.Dictionary.{Dictionary}
 use Rattle.cedarwood.proofs.MarkedLemmas.{is_marked}

@@ -1,5 +1,5 @@
 use Rattle.std.proofs.lemmas.Result.{IfErr-weaker}
-use Rattle.cedar_meaning.specs.Table.Layouts.{layout_byte}
+use Rattle.cedar_model.specs.Table.Layouts.{layout_byte}
 use Rattle.cedarwood.proofs.LoadLemmas.{lacks_by_path}
 use Rattle.cedarwood.proofs.trie.Trie.load_from_path.Goals as goal
 

@@ -1,6 +1,6 @@
 use Rattle.std.proofs.Common.{◌∙◌, ap, arith, ◌≡◌, ◌<◌, ◌≤◌, ◌+◌, ◌*◌, ◌-◌, Err, IfErr, IsOk, OnErr, OnOk, rules, sym, subst}
 use Rattle.cedar_table.specs.Table.Views.{fields}
-use Rattle.cedar_meaning.specs.Table.TableFields.{capacity_of, size_of}
+use Rattle.cedar_model.specs.Table.TableFields.{capacity_of, size_of}
 use Rattle.cedarwood.specs.Dictionary.{capacity_after}
 use Rattle.cedarwood.specs.Room.{LacksRoom}
 use Rattle.cedarwood.specs.declared.error.CedarError.TheVariants.{SlotLimit}

@@ -1,7 +1,7 @@
 use Rattle.std.proofs.Common.{◌∙◌, ◌+◌, ap, length, subst, ◌≡◌}
 use Rattle.cedar_tree.specs.Queries.{prefixes, used, walk}
 use Rattle.cedar_table.specs.Table.Views.{fields}
-use Rattle.cedar_meaning.proofs.MeaningLemmas.HeldCount.{count_is_marked, count_is_used}
+use Rattle.cedar_model.proofs.MeaningLemmas.HeldCount.{count_is_marked, count_is_used}
 use Rattle.cedar_bulk.proofs.BulkLemmas.SlotsOfNumbers.{all_marked}
 use Rattle.cedarwood.specs.Dictionary.{Dictionary}
 use Rattle.cedarwood.proofs.trie.Trie.used_node_slots.Goals as goal

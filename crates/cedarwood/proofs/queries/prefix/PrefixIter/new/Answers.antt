@@ -1,6 +1,6 @@
 use Rattle.std.proofs.Common.{arith}
 use Rattle.cedar_tree.proofs.FrontFromLemmas.{front_begins}
-use Rattle.cedar_meaning.specs.Meaning.WellFormed.{tree_of}
+use Rattle.cedar_model.specs.Meaning.WellFormed.{tree_of}
 use Rattle.cedar_walk.proofs.WalkLemmas.NextFront.{front_begins_at}
 use Rattle.cedarwood.proofs.queries.prefix.PrefixIter.new.Goals as goal
 

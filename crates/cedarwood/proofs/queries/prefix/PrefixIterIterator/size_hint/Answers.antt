@@ -1,6 +1,6 @@
 use Rattle.std.proofs.Common.{◌≤◌, arith, length, subst}
 use Rattle.cedar_tree.proofs.FrontFromLemmas.{front_short}
-use Rattle.cedar_meaning.specs.Meaning.WellFormed.{tree_of}
+use Rattle.cedar_model.specs.Meaning.WellFormed.{tree_of}
 use Rattle.cedarwood.specs.Walks.{PrefixWalk}
 use Rattle.cedarwood.proofs.queries.prefix.PrefixIterIterator.size_hint.Goals as goal
 

@@ -1,6 +1,6 @@
 use Rattle.std.proofs.Common.{◌≡◌, ℕ, List, [], MatchOption, rules, subst, sym}
 use Rattle.cedar_tree.specs.Walks.{entries_of}
-use Rattle.cedar_meaning.specs.Meaning.WellFormed.{cells_in}
+use Rattle.cedar_model.specs.Meaning.WellFormed.{cells_in}
 use Rattle.cedar_walk.specs.Visits.{ComesToNumber, IsBelow, IsNumberedBelow, left_at}
 use Rattle.cedarwood.specs.Dictionary.{Dictionary}
 use Rattle.cedarwood.proofs.queries.walked.TrieWalked.next_numbered.Goals as goal

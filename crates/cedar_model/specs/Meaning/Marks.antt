@@ -1,0 +1,94 @@
+-- The keys whose numbers stand in slots of their own.
+use Rattle.std.specs.Prelude.{◌≡◌, ◌↔◌, ◌⊎◌, ℕ, ◌<◌, Bool, true, false, cond, List, length, take, Option, None, Some, is_some}
+use Rattle.cedar_tree.specs.Tree.{Forest, none, child, has_label, number_at, Tree}
+use Rattle.cedar_tree.specs.Queries.{IsFront, node_at}
+use Rattle.cedar_model.specs.declared.layout.Stored.{Stored}
+use Rattle.cedar_model.specs.declared.layout.Stored.TheVariants.{AtBase, OwnNumber, Nothing}
+use Rattle.cedar_model.specs.Table.Cells.{Cells}
+use Rattle.cedar_model.specs.Edit.NodeEdits.{IsAt}
+use Rattle.cedar_model.specs.Meaning.Family.{below}
+use Rattle.cedar_model.specs.Table.Layouts.{reduced_layout}
+use Rattle.cedar_model.specs.Meaning.Reading.{has_number_slot}
+use Rattle.cedar_model.specs.Table.TableFields.{Fields}
+use Rattle.cedar_model.specs.Meaning.WellFormed.{cells_in, tree_of}
+
+-- siblings below slot s with just those of their numbers that stand in slots of their own
+abbrev pub marked : Cells → ℕ → Forest → Forest
+marked T s none = none
+marked T s (child l n f rest) = child l (cond (has_number_slot T (below T s l)) n None) (marked T (below T s l) f) (marked T s rest)
+
+-- a table's tree with just the keys whose numbers stand in slots of their own, and all nodes
+abbrev pub marks : Fields → Tree
+marks T = record { number = None; children = marked (cells_in T) 0 (tree_of T).children }
+
+-- how the number of a node stands that has one: true for a slot of its own, false for the node's own base field
+abbrev pub own_mark : Stored → Option Bool
+own_mark (AtBase b) = None
+own_mark (OwnNumber v) = Some false
+own_mark Nothing = None
+
+abbrev pub mark : Cells → ℕ → Option Bool
+mark T s = cond (has_number_slot T s) (Some true) (own_mark (T.stored s))
+
+-- each number stands as it did, at the same path
+abbrev pub KeepsMarks : Cells → Cells → Type 0
+KeepsMarks T T' = (w : List ℕ) (s : ℕ) (m : Bool) → IsAt T w s → mark T s ≡ Some m → (s' : ℕ) × IsAt T' w s' × (mark T' s' ≡ Some m)
+
+-- each but that of the node at slot a
+abbrev pub KeepsOtherMarks : Cells → Cells → ℕ → Type 0
+KeepsOtherMarks T T' a = (w : List ℕ) (s : ℕ) (m : Bool) → IsAt T w s → (s ≡ a → ⊥) → mark T s ≡ Some m → (s' : ℕ) × IsAt T' w s' × (mark T' s' ≡ Some m)
+
+-- at the path w stands a number, and m says how
+abbrev pub MarkedAt : Cells → List ℕ → Bool → Type 0
+MarkedAt T w m = (s : ℕ) × IsAt T w s × (mark T s ≡ Some m)
+
+-- the node that was at slot a has a number now, which stands as m says, and each other number stands as it did
+pub record PutsMark (T T' : Cells) (a : ℕ) (m : Bool) : Type 0 where
+  pub here : (w : List ℕ) → IsAt T w a → MarkedAt T' w m
+  pub others : KeepsOtherMarks T T' a
+
+-- a key begins with w, and goes on
+abbrev pub IsProperFront : List ℕ → List ℕ → Type 0
+IsProperFront w key = (n : ℕ) × (n < length key) × (w ≡ take n key)
+
+-- the number of a key that an update has put: where the key was not held, it has a slot of its own if the key is a front of
+-- one that is held, and in the reduced layout only then
+pub record NewMark (before after : Fields) (key : List ℕ) : Type 0 where
+  pub front : number_at (tree_of before) key ≡ None → IsFront (tree_of before) key → MarkedAt (cells_in after) key true
+  pub last : before.layout ≡ reduced_layout → (IsFront (tree_of before) key → ⊥) → MarkedAt (cells_in after) key false
+
+-- what an update of a key has done to the numbers' places
+pub record PutsMarks (before after : Fields) (key : List ℕ) : Type 0 where
+  -- where the key was held, nothing
+  pub over : is_some (number_at (tree_of before) key) ≡ true → KeepsMarks (cells_in before) (cells_in after)
+  -- the number of each proper front of the key that is held has a slot of its own
+  pub fronts : (w : List ℕ) → IsProperFront w key → is_some (number_at (tree_of before) w) ≡ true → MarkedAt (cells_in after) w true
+  -- each other number stands as it did
+  pub others : (w : List ℕ) (m : Bool) → (IsProperFront w key → ⊥) → MarkedAt (cells_in before) w m → MarkedAt (cells_in after) w m
+  pub new : NewMark before after key
+
+-- of a tree with just the numbers that have slots of their own: the one at the path w does
+abbrev pub HasMark : Tree → List ℕ → Type 0
+HasMark m w = is_some (number_at m w) ≡ true
+
+-- what an update of a key does to such trees in the reduced layout, where t was the tree and m that of marks: over a number nothing.
+-- Else what was marked stays so, and besides are marked just the key's proper fronts that are held, and the key if it is a
+-- front of one that is held
+pub record MarksPut (t m m' : Tree) (key : List ℕ) : Type 0 where
+  pub over : is_some (number_at t key) ≡ true → (w : List ℕ) → HasMark m' w ↔ HasMark m w
+  pub new : number_at t key ≡ None → (w : List ℕ) → HasMark m' w ↔ (HasMark m w ⊎ (IsProperFront w key × (is_some (number_at t w) ≡ true)) ⊎ ((w ≡ key) × IsFront t key))
+
+-- an erasure takes away the mark of its key alone
+abbrev pub MarksCut : Tree → Tree → List ℕ → Type 0
+MarksCut m m' key = (w : List ℕ) → HasMark m' w ↔ ((w ≡ key → ⊥) × HasMark m w)
+
+-- the number of the node at the path u, which the tree t has with no node below it, has moved from the node's own base field into
+-- a slot
+pub record MovesOut (T T' : Cells) (t : Tree) (u : List ℕ) : Type 0 where
+  pub slot : ℕ
+  pub at : IsAt T u slot
+  pub own : mark T slot ≡ Some false
+  pub stays : IsAt T' u slot
+  pub moved : mark T' slot ≡ Some true
+  pub others : KeepsOtherMarks T T' slot
+  pub childless : (l : ℕ) → has_label (node_at t u).children l ≡ true → ⊥

@@ -1,0 +1,31 @@
+-- The fields of a table.
+use Rattle.std.specs.Prelude.{◌≡◌, ℕ, ◌*◌, Bool, length}
+use Rattle.cedar_model.specs.Table.Layouts.{LayoutKind}
+use Rattle.cedar_slots.specs.Places.{PlaceFields}
+
+-- a table as a record of its fields
+pub record Fields : Type 0 where
+  pub layout : LayoutKind
+  pub ordered : Bool
+  pub entries : ℕ
+  pub places : PlaceFields
+
+-- how many slots are in use, free ones among them
+abbrev pub size_of : Fields → ℕ
+size_of T = 256 * T.places.blocks.active
+
+-- how many slots there are, in use or not
+abbrev pub capacity_of : Fields → ℕ
+capacity_of T = 256 * length T.places.blocks.records
+
+-- what no step of an edit changes
+pub record SameSettings (before after : Fields) : Type 0 where
+  pub ordered : after.ordered ≡ before.ordered
+  pub entries : after.entries ≡ before.entries
+  pub max_trial : after.places.blocks.max_trial ≡ before.places.blocks.max_trial
+
+-- as many slots, in use or not, and the same settings
+pub record SameFrame (before after : Fields) : Type 0 where
+  pub size : size_of after ≡ size_of before
+  pub capacity : capacity_of after ≡ capacity_of before
+  pub settings : SameSettings before after

@@ -1,0 +1,192 @@
+//! Loads and saves by path, over files that can't be opened, made, read, written or flushed, and without memory.
+ghost use Rattle.cedar_slots.specs.Places.{IsSlotLimit};
+
+use crate::bare::{load_at_path, made, save_at_path, update};
+use crate::files::bytes::{one_key_file, set};
+use crate::verdict::{Answer, Verdict, answer_of};
+use cedarwood::{Cedar, CedarError, CedarPersistenceError, Layout, Trie};
+use std::alloc::{AllocError, Allocator, Global};
+use std::cell::Cell;
+use std::process::Abort;
+use std::test::Fail;
+use test_support::{FakeFiles, FilePlan, FileUse, Refusing};
+
+// A file that goes well.
+const GOOD: FilePlan = FilePlan {
+    opens: true,
+    room: 5762,
+    flushes: true,
+};
+
+// One that can't be opened, or made.
+const CLOSED: FilePlan = FilePlan {
+    opens: false,
+    ..GOOD
+};
+
+// One that can't be flushed.
+const UNFLUSHED: FilePlan = FilePlan {
+    flushes: false,
+    ..GOOD
+};
+
+// What a load does with the file.
+const READ: FileUse = FileUse {
+    opened: 1,
+    ..FileUse::NONE
+};
+
+// What a save that succeeds has done: it has written the whole file and has flushed it.
+const WRITTEN: FileUse = FileUse {
+    made: 1,
+    written: 5762,
+    flushes: 1,
+    ..FileUse::NONE
+};
+
+// A load of the file of one key, with one request for memory refused, and what was done with the file.
+#[tactic(auto, using(cedarwood::proofs::DictionaryLemmas::default_limit))]
+fn load(alloc: Global, plan: FilePlan, refused: u64) -> Result<(Answer, FileUse), AllocError> {
+    let file = one_key_file(alloc)?;
+    let uses = Cell::new(FileUse::NONE);
+    let memory = Refusing::new(alloc);
+    memory.refuse(refused, refused);
+    let files = FakeFiles::new(&file, plan, &uses);
+    let answer: Result<Cedar<&Refusing<Global>>, CedarPersistenceError> = load_at_path(
+        &memory, &files,
+    );
+    Ok((answer_of(&answer), uses.get()))
+}
+
+fn expect_load(
+    rt: &impl Abort,
+    alloc: Global,
+    plan: FilePlan,
+    refused: u64,
+    wanted: Answer,
+) -> Result<(), Fail> {
+    let (answer, uses) = load(alloc, plan, refused)?;
+    assert!(rt; answer == wanted && uses == READ, "{plan:?} at {refused}");
+    Ok(())
+}
+
+fn expect_loads(rt: &impl Abort, alloc: Global) -> Result<(), Fail> {
+    expect_load(rt, alloc, GOOD, 0, (Verdict::Loads, 0))?;
+    expect_load(rt, alloc, CLOSED, 0, (Verdict::Io, 0))?;
+    for room in [0, 1, 87, 88, 100, 5761] {
+        let short = FilePlan { room, ..GOOD };
+        expect_load(rt, alloc, short, 0, (Verdict::Io, 0))?;
+    }
+    Ok(())
+}
+
+#[test]
+fn loads(rt: HostRuntime) -> Result<(), Fail> {
+    expect_loads(&rt, rt.alloc())
+}
+
+// The buffer is asked for once the file is open, and then the four lists.
+fn expect_short_loads(rt: &impl Abort, alloc: Global) -> Result<(), Fail> {
+    for (request, elements) in [(1, 8192), (2, 512), (3, 512), (4, 2), (5, 257)] {
+        expect_load(rt, alloc, GOOD, request, (Verdict::Memory, elements))?;
+    }
+    expect_load(rt, alloc, GOOD, 6, (Verdict::Loads, 0))
+}
+
+#[test]
+fn loads_without_memory(rt: HostRuntime) -> Result<(), Fail> {
+    expect_short_loads(&rt, rt.alloc())
+}
+
+// The dictionary of the key `a` with 7.
+fn one_key<L: Layout, const SLOTS: usize, A: Allocator + Copy>(
+    alloc: A,
+) -> Result<Trie<L, SLOTS, A>, CedarError>
+    requires { IsSlotLimit SLOTS }
+{
+    let mut trie = made(alloc, true)?;
+    update(&mut trie, b"a", 7)?;
+    Ok(trie)
+}
+
+// A save of that dictionary in a minor version, with one request for memory refused, and what was done with the file.
+#[tactic(auto, using(cedarwood::proofs::DictionaryLemmas::default_limit))]
+fn save(
+    alloc: Global,
+    minor: u8,
+    plan: FilePlan,
+    refused: u64,
+) -> Result<(Answer, FileUse), CedarError> {
+    let mut file = one_key_file(alloc)?;
+    set(&mut file, 10, minor);
+    let uses = Cell::new(FileUse::NONE);
+    let memory = Refusing::new(alloc);
+    let trie: Cedar<&Refusing<Global>> = one_key(&memory)?;
+    memory.refuse(refused, refused);
+    let answer = save_at_path(&trie, minor, &FakeFiles::new(&file, plan, &uses));
+    Ok((answer_of(&answer), uses.get()))
+}
+
+// A save that is flushed, or fails at that, has written all.
+fn expect_written(
+    rt: &impl Abort,
+    alloc: Global,
+    minor: u8,
+    plan: FilePlan,
+    verdict: Verdict,
+) -> Result<(), Fail> {
+    let (answer, uses) = save(alloc, minor, plan, 0)?;
+    assert!(rt;
+        answer == (verdict, 0) && uses == WRITTEN,
+        "{plan:?} of {minor}"
+    );
+    Ok(())
+}
+
+fn expect_saves(rt: &impl Abort, alloc: Global) -> Result<(), Fail> {
+    for minor in [0, 1] {
+        expect_written(rt, alloc, minor, GOOD, Verdict::Loads)?;
+        expect_written(rt, alloc, minor, UNFLUSHED, Verdict::Io)?;
+    }
+    Ok(())
+}
+
+#[test]
+fn saves(rt: HostRuntime) -> Result<(), Fail> {
+    expect_saves(&rt, rt.alloc())
+}
+
+fn expect_fault(
+    rt: &impl Abort,
+    alloc: Global,
+    plan: FilePlan,
+    written: usize,
+) -> Result<(), Fail> {
+    let (answer, uses) = save(alloc, 1, plan, 0)?;
+    let is_front = (uses.made, uses.written, uses.as_expected) == (1, written, true);
+    assert!(rt; answer == (Verdict::Io, 0) && is_front, "{plan:?}");
+    Ok(())
+}
+
+fn expect_faults(rt: &impl Abort, alloc: Global) -> Result<(), Fail> {
+    expect_fault(rt, alloc, CLOSED, 0)?;
+    for room in [0, 1, 88, 4096, 5761] {
+        expect_fault(rt, alloc, FilePlan { room, ..GOOD }, room)?;
+    }
+    Ok(())
+}
+
+// The file is made before a buffer is asked for.
+fn expect_short_save(rt: &impl Abort, alloc: Global, minor: u8) -> Result<(), Fail> {
+    let (answer, uses) = save(alloc, minor, GOOD, 1)?;
+    let is_made = (uses.made, uses.written) == (1, 0);
+    assert!(rt; answer == (Verdict::Memory, 8192) && is_made, "{minor}");
+    Ok(())
+}
+
+#[test]
+fn saves_that_fail(rt: HostRuntime) -> Result<(), Fail> {
+    expect_faults(&rt, rt.alloc())?;
+    expect_short_save(&rt, rt.alloc(), 0)?;
+    expect_short_save(&rt, rt.alloc(), 1)
+}

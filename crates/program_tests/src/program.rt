@@ -1,0 +1,307 @@
+//! The program: its statuses, and what it says on its errors' writer.
+ghost use Rattle.cedar_slots.specs.Places.{IsSlotLimit};
+
+use cedar_cli::{DONE, FAULT, REFUSED, USAGE, run_program};
+use cedarwood::Watched;
+use std::alloc::{AllocError, Global};
+use std::process::Abort;
+use std::test::Fail;
+use test_support::{Ending, FailingReader, FailingWriter, FlushCounter, Refusing};
+
+const SCRIPT: &[u8] = b"+ 61 1\n= 61\n";
+
+const ANSWERS: &str = "ok\n1 1\n";
+
+const USAGE_TEXT: &str =
+    "usage: cedar [--reduced] [--unordered] [--load PATH] [--save PATH] [--v1-0]\n";
+
+// What fails in a run.
+#[derive(Clone, Copy)]
+struct Faults {
+    // How the reader ends after the script.
+    reader: Ending,
+    // How many bytes the writer takes.
+    room: usize,
+    // The number of the flush that fails, or 0.
+    flush: u64,
+    // The number of the request for memory that is refused, or 0.
+    request: u64,
+}
+
+const NONE: Faults = Faults {
+    reader: Ending::Quiet,
+    room: 64,
+    flush: 0,
+    request: 0,
+};
+
+// What a run leaves beside its bytes.
+#[derive(Clone, Copy)]
+struct Marks {
+    status: u8,
+    flushes: u64,
+    requests: u64,
+    is_fault: bool,
+}
+
+// What a run leaves.
+#[derive(Drop)]
+struct Left {
+    marks: Marks,
+    written: Vec<u8>,
+    told: Vec<u8>,
+}
+
+type Writer<'a> = Watched<FlushCounter<FailingWriter<'a>>>;
+
+// The program's call, of which nothing is said here.
+fn call<const SLOTS: usize>(
+    refusing: &Refusing<Global>,
+    rt: &HostRuntime,
+    arguments: &[&str],
+    reader: &mut Watched<FailingReader<'_>>,
+    writer: &mut Writer<'_>,
+    errors: &mut Watched<FailingWriter<'_>>,
+) -> u8
+    requires { IsSlotLimit SLOTS }
+{
+    run_program::<SLOTS, _, _, _, _, _>(refusing, rt, arguments, reader, writer, errors)
+}
+
+// Runs the program on the script, with these bytes for what is written and told.
+fn run_into<const SLOTS: usize>(
+    rt: &HostRuntime,
+    arguments: &[&str],
+    faults: Faults,
+    written: &mut Vec<u8>,
+    told: &mut Vec<u8>,
+) -> Marks
+    requires { IsSlotLimit SLOTS }
+{
+    let refusing = Refusing::new(rt.alloc());
+    refusing.refuse(faults.request, faults.request);
+    let reader = FailingReader::new(SCRIPT, SCRIPT.len(), 64, faults.reader);
+    let writer = FailingWriter::new(written, 64, Ending::Fault);
+    let mut reader = Watched::new(reader);
+    let mut writer = Watched::new(FlushCounter::new(writer, faults.flush));
+    let mut errors = Watched::new(FailingWriter::new(told, 64, Ending::Fault));
+    let status = call::<SLOTS>(
+        &refusing,
+        rt,
+        arguments,
+        &mut reader,
+        &mut writer,
+        &mut errors,
+    );
+    let is_fault = reader.failed() || writer.failed();
+    let inside = writer.into_inner();
+    let flushes = inside.flushes();
+    let len = inside.inner().len();
+    let told_len = errors.into_inner().len();
+    written.truncate(len);
+    told.truncate(told_len);
+    Marks {
+        status,
+        flushes,
+        requests: refusing.requests(),
+        is_fault,
+    }
+}
+
+// Runs the program on the script within so many slots. The writer of errors takes `errors_room` bytes.
+fn run_within<const SLOTS: usize>(
+    rt: &HostRuntime,
+    arguments: &[&str],
+    faults: Faults,
+    errors_room: usize,
+) -> Result<Left, AllocError>
+    requires { IsSlotLimit SLOTS }
+{
+    let mut written = vec![in rt.alloc(); 0u8; faults.room]?;
+    let mut told = vec![in rt.alloc(); 0u8; errors_room]?;
+    let marks = run_into::<SLOTS>(rt, arguments, faults, &mut written, &mut told);
+    Ok(Left {
+        marks,
+        written,
+        told,
+    })
+}
+
+// The same within as many slots as the program has.
+#[tactic(auto, using(cedarwood::proofs::DictionaryLemmas::default_limit))]
+fn run(
+    rt: &HostRuntime,
+    arguments: &[&str],
+    faults: Faults,
+    errors_room: usize,
+) -> Result<Left, AllocError> {
+    run_within::<1073741824>(rt, arguments, faults, errors_room)
+}
+
+// A run has to end with this status, and to have written and told this.
+fn expect_left(rt: &impl Abort, left: &Left, status: u8, written: &str, told: &str) {
+    assert!(rt; left.marks.status == status);
+    expect_bytes(rt, &left.written, written);
+    expect_bytes(rt, &left.told, told);
+}
+
+fn expect_bytes(rt: &impl Abort, found: &[u8], wanted: &str) {
+    assert!(rt; found == wanted.as_bytes());
+}
+
+// A run that has to leave this.
+fn expect_run(
+    rt: &impl Abort,
+    host: &HostRuntime,
+    arguments: &[&str],
+    faults: Faults,
+    errors_room: usize,
+    wanted: (u8, &str, &str),
+) -> Result<Marks, Fail> {
+    let left = run(host, arguments, faults, errors_room)?;
+    expect_left(rt, &left, wanted.0, wanted.1, wanted.2);
+    Ok(left.marks)
+}
+
+// No device may have failed, and there have to be so many flushes.
+fn expect_no_fault(rt: &impl Abort, marks: Marks, flushes: u64) {
+    assert!(rt; (marks.is_fault, marks.flushes) == (false, flushes));
+}
+
+// Nothing is read, written or flushed, also where the writer of errors fails.
+fn expect_usage(rt: &impl Abort, host: &HostRuntime, arguments: &[&str]) -> Result<(), Fail> {
+    let faults = Faults {
+        reader: Ending::Fault,
+        room: 0,
+        flush: 1,
+        ..NONE
+    };
+    let marks = expect_run(rt, host, arguments, faults, 128, (2, "", USAGE_TEXT))?;
+    expect_no_fault(rt, marks, 0);
+    assert!(rt; marks.requests == 0);
+    expect_run(rt, host, arguments, faults, 0, (2, "", ""))?;
+    Ok(())
+}
+
+// Wrong arguments ask for no memory.
+#[test]
+fn wrong_arguments(rt: HostRuntime) -> Result<(), Fail> {
+    expect_usage(&rt, &rt, &["--unordered", "--unordered"])?;
+    assert!(&rt; (DONE, FAULT, USAGE, REFUSED) == (0, 1, 2, 3));
+    Ok(())
+}
+
+// With one block of slots the first key's number has no place, which is told. In the reduced layout it needs none.
+#[tactic(auto, using(crate::proofs::Limits::limit_256))]
+#[test]
+fn out_of_slots(rt: HostRuntime) -> Result<(), Fail> {
+    let left = run_within::<256>(&rt, &[], NONE, 128)?;
+    expect_left(&rt, &left, FAULT, "", "cedar: slot limit\n");
+    let left = run_within::<256>(&rt, &["--reduced"], NONE, 128)?;
+    expect_left(&rt, &left, DONE, ANSWERS, "");
+    Ok(())
+}
+
+// What is written and told, and how many flushes there are, where one device fails. After a fault of the
+// script what was answered is still flushed.
+const CASES: [(Faults, &str, &str, u64); 7] = [
+    (
+        Faults {
+            reader: Ending::Fault,
+            ..NONE
+        },
+        "ok\n1 1\n",
+        "cedar: read fault\n",
+        3,
+    ),
+    (Faults { room: 0, ..NONE }, "", "cedar: write fault\n", 2),
+    (
+        Faults { room: 5, ..NONE },
+        "ok\n1 ",
+        "cedar: write fault\n",
+        2,
+    ),
+    (Faults { flush: 1, ..NONE }, "", "cedar: write fault\n", 2),
+    (
+        Faults { flush: 2, ..NONE },
+        "ok\n1 1\n",
+        "cedar: write fault\n",
+        3,
+    ),
+    (
+        Faults { flush: 3, ..NONE },
+        "ok\n1 1\n",
+        "cedar: write fault\n",
+        3,
+    ),
+    // The fault that came first is told.
+    (
+        Faults {
+            reader: Ending::Fault,
+            flush: 3,
+            ..NONE
+        },
+        "ok\n1 1\n",
+        "cedar: read fault\n",
+        3,
+    ),
+];
+
+// The status is the same where the writer of errors fails too, at once or in mid-line.
+fn expect_fault(
+    rt: &impl Abort,
+    host: &HostRuntime,
+    faults: Faults,
+    written: &str,
+    told: &str,
+    flushes: u64,
+) -> Result<(), Fail> {
+    let marks = expect_run(rt, host, &[], faults, 128, (1, written, told))?;
+    assert!(rt; marks.flushes == flushes);
+    expect_run(rt, host, &[], faults, 0, (1, written, ""))?;
+    expect_run(rt, host, &[], faults, 6, (1, written, "cedar:"))?;
+    Ok(())
+}
+
+#[test]
+fn faults_of_devices(rt: HostRuntime) -> Result<(), Fail> {
+    for (faults, written, told, flushes) in CASES {
+        expect_fault(&rt, &rt, faults, written, told, flushes)?;
+    }
+    Ok(())
+}
+
+// What was written begins the answers, and the error is told.
+fn expect_memory(rt: &impl Abort, host: &HostRuntime, request: u64) -> Result<(), Fail> {
+    let faults = Faults { request, ..NONE };
+    let left = run(host, &[], faults, 128)?;
+    let begun = ANSWERS.as_bytes().starts_with(&left.written);
+    assert!(rt;
+        (left.marks.status, begun) == (1, true),
+        "at request {request}"
+    );
+    expect_bytes(rt, &left.told, "cedar: out of memory\n");
+    Ok(())
+}
+
+// The same where the error can't be told.
+fn expect_silence(rt: &impl Abort, host: &HostRuntime, request: u64) -> Result<(), Fail> {
+    let faults = Faults { request, ..NONE };
+    let silenced = run(host, &[], faults, 0)?;
+    assert!(rt; silenced.marks.status == 1, "at request {request}");
+    Ok(())
+}
+
+// Each request refused in turn. Where none is, the script comes in one read, and the next read finds its end: two flushes, and one
+// after the run.
+#[test]
+fn refused_memory(rt: HostRuntime) -> Result<(), Fail> {
+    let marks = expect_run(&rt, &rt, &[], NONE, 128, (DONE, ANSWERS, ""))?;
+    expect_no_fault(&rt, marks, 3);
+    assert!(&rt; marks.requests > 0);
+    for earlier in 0..marks.requests {
+        expect_memory(&rt, &rt, earlier + 1)?;
+        expect_silence(&rt, &rt, earlier + 1)?;
+    }
+    Ok(())
+}
