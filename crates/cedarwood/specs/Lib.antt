@@ -16,3 +16,4 @@ pub mod Told
 pub mod Loading
 pub use Rattle.cedar_format.specs.WatchedDevice
 pub mod Updates
+pub mod Saving

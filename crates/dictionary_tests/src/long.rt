@@ -113,13 +113,8 @@ fn through_path<L: Layout>(
     trie: &Long<L>,
     bytes: &[u8],
 ) -> Result<Long<L>, CedarPersistenceError> {
-    let plan = FilePlan {
-        opens: true,
-        room: bytes.len(),
-        flushes: true,
-    };
     let uses = Cell::new(FileUse::NONE);
-    let files = FakeFiles::new(bytes, plan, &uses);
+    let files = FakeFiles::new(bytes, FilePlan::GOOD, &uses);
     save_at_path(trie, 1, &files)?;
     assert!(rt; (uses.get().as_expected, uses.get().written) == (true, bytes.len()));
     load_at_path(alloc, &files)

@@ -13,9 +13,8 @@ use test_support::{FakeFiles, FilePlan, FileUse, Refusing};
 
 // A file that goes well.
 const GOOD: FilePlan = FilePlan {
-    opens: true,
     room: 5762,
-    flushes: true,
+    ..FilePlan::GOOD
 };
 
 // One that can't be opened, or made.
@@ -30,18 +29,50 @@ const UNFLUSHED: FilePlan = FilePlan {
     ..GOOD
 };
 
+// One that can't be synced.
+const UNSYNCED: FilePlan = FilePlan {
+    syncs: false,
+    ..GOOD
+};
+
+// One that can't be renamed.
+const UNMOVED: FilePlan = FilePlan {
+    moves: false,
+    ..GOOD
+};
+
 // What a load does with the file.
 const READ: FileUse = FileUse {
     opened: 1,
     ..FileUse::NONE
 };
 
-// What a save that succeeds has done: it has written the whole file and has flushed it.
-const WRITTEN: FileUse = FileUse {
+// What a save that succeeds has done: it has written, flushed and synced the whole file, and renamed it.
+const SAVED: FileUse = FileUse {
     made: 1,
     written: 5762,
     flushes: 1,
+    syncs: 1,
+    moves: 1,
     ..FileUse::NONE
+};
+
+// What one has done whose rename failed: it has removed the file.
+const NOT_MOVED: FileUse = FileUse {
+    removed: 1,
+    ..SAVED
+};
+
+// The same where the file can't be synced: it isn't renamed.
+const NOT_SYNCED: FileUse = FileUse {
+    moves: 0,
+    ..NOT_MOVED
+};
+
+// The same where it can't be flushed.
+const NOT_FLUSHED: FileUse = FileUse {
+    syncs: 0,
+    ..NOT_SYNCED
 };
 
 // A load of the file of one key, with one request for memory refused, and what was done with the file.
@@ -127,17 +158,16 @@ fn save(
     Ok((answer_of(&answer), uses.get()))
 }
 
-// A save that is flushed, or fails at that, has written all.
-fn expect_written(
+fn expect_save(
     rt: &impl Abort,
     alloc: Global,
     minor: u8,
     plan: FilePlan,
-    verdict: Verdict,
+    wanted: (Verdict, FileUse),
 ) -> Result<(), Fail> {
     let (answer, uses) = save(alloc, minor, plan, 0)?;
     assert!(rt;
-        answer == (verdict, 0) && uses == WRITTEN,
+        answer == (wanted.0, 0) && uses == wanted.1,
         "{plan:?} of {minor}"
     );
     Ok(())
@@ -145,8 +175,10 @@ fn expect_written(
 
 fn expect_saves(rt: &impl Abort, alloc: Global) -> Result<(), Fail> {
     for minor in [0, 1] {
-        expect_written(rt, alloc, minor, GOOD, Verdict::Loads)?;
-        expect_written(rt, alloc, minor, UNFLUSHED, Verdict::Io)?;
+        expect_save(rt, alloc, minor, GOOD, (Verdict::Loads, SAVED))?;
+        expect_save(rt, alloc, minor, UNFLUSHED, (Verdict::Io, NOT_FLUSHED))?;
+        expect_save(rt, alloc, minor, UNSYNCED, (Verdict::Io, NOT_SYNCED))?;
+        expect_save(rt, alloc, minor, UNMOVED, (Verdict::Io, NOT_MOVED))?;
     }
     Ok(())
 }
@@ -164,7 +196,11 @@ fn expect_fault(
 ) -> Result<(), Fail> {
     let (answer, uses) = save(alloc, 1, plan, 0)?;
     let is_front = (uses.made, uses.written, uses.as_expected) == (1, written, true);
-    assert!(rt; answer == (Verdict::Io, 0) && is_front, "{plan:?}");
+    let is_gone = (uses.moves, uses.removed) == (0, 1);
+    assert!(rt;
+        answer == (Verdict::Io, 0) && is_front && is_gone,
+        "{plan:?}"
+    );
     Ok(())
 }
 
@@ -176,11 +212,16 @@ fn expect_faults(rt: &impl Abort, alloc: Global) -> Result<(), Fail> {
     Ok(())
 }
 
-// The file is made before a buffer is asked for.
+// The new file's name is asked for first, and the buffer once the file is made, which is then removed. The name is `a.cedar.new`.
 fn expect_short_save(rt: &impl Abort, alloc: Global, minor: u8) -> Result<(), Fail> {
     let (answer, uses) = save(alloc, minor, GOOD, 1)?;
-    let is_made = (uses.made, uses.written) == (1, 0);
-    assert!(rt; answer == (Verdict::Memory, 8192) && is_made, "{minor}");
+    assert!(rt;
+        answer == (Verdict::Memory, 11) && uses == FileUse::NONE,
+        "{minor}"
+    );
+    let (answer, uses) = save(alloc, minor, GOOD, 2)?;
+    let is_gone = (uses.made, uses.written, uses.moves, uses.removed) == (1, 0, 0, 1);
+    assert!(rt; answer == (Verdict::Memory, 8192) && is_gone, "{minor}");
     Ok(())
 }
 

@@ -17,6 +17,21 @@ pub struct FilePlan {
     pub room: usize,
     /// Whether it can be flushed.
     pub flushes: bool,
+    /// Whether it can be synced.
+    pub syncs: bool,
+    /// Whether it can be renamed.
+    pub moves: bool,
+}
+
+impl FilePlan {
+    /// All calls go well.
+    pub const GOOD: FilePlan = FilePlan {
+        opens: true,
+        room: usize::MAX,
+        flushes: true,
+        syncs: true,
+        moves: true,
+    };
 }
 
 /// What was done with the file.
@@ -30,6 +45,10 @@ pub struct FileUse {
     pub as_expected: bool,
     /// How many flushes there were, the failed ones too.
     pub flushes: u32,
+    /// How often it was synced and renamed, the failed calls too, and removed.
+    pub syncs: u32,
+    pub moves: u32,
+    pub removed: u32,
 }
 
 impl FileUse {
@@ -40,6 +59,9 @@ impl FileUse {
         written: 0,
         as_expected: true,
         flushes: 0,
+        syncs: 0,
+        moves: 0,
+        removed: 0,
     };
 }
 
@@ -66,6 +88,13 @@ pub struct NoNames;
 
 fn unsupported<T>() -> io::Result<T> {
     Err(io::Error::from(ErrorKind::Unsupported))
+}
+
+fn done_if(works: bool) -> io::Result<()> {
+    if works {
+        return Ok(());
+    }
+    Err(io::Error::from(ErrorKind::Other))
 }
 
 impl<'a> FakeFiles<'a> {
@@ -110,7 +139,7 @@ impl<'a> Files for FakeFiles<'a> {
     }
 
     fn metadata(&self, _path: &str) -> io::Result<Metadata> {
-        unsupported()
+        Err(io::Error::from(ErrorKind::NotFound))
     }
 
     fn symlink_metadata(&self, _path: &str) -> io::Result<Metadata> {
@@ -122,11 +151,17 @@ impl<'a> Files for FakeFiles<'a> {
     }
 
     fn rename(&self, _from: &str, _to: &str) -> io::Result<()> {
-        unsupported()
+        let mut uses = self.uses.get();
+        uses.moves = uses.moves.saturating_add(1);
+        self.uses.set(uses);
+        done_if(self.plan.moves)
     }
 
     fn remove_file(&self, _path: &str) -> io::Result<()> {
-        unsupported()
+        let mut uses = self.uses.get();
+        uses.removed = uses.removed.saturating_add(1);
+        self.uses.set(uses);
+        Ok(())
     }
 
     fn create_dir(&self, _path: &str) -> io::Result<()> {
@@ -167,10 +202,7 @@ impl Write for FakeFile<'_> {
         let mut uses = self.uses.get();
         uses.flushes = uses.flushes.saturating_add(1);
         self.uses.set(uses);
-        if self.plan.flushes {
-            return Ok(());
-        }
-        Err(io::Error::from(ErrorKind::Other))
+        done_if(self.plan.flushes)
     }
 }
 
@@ -190,7 +222,10 @@ impl OpenFile for FakeFile<'_> {
     }
 
     fn sync_all(&self) -> io::Result<()> {
-        unsupported()
+        let mut uses = self.uses.get();
+        uses.syncs = uses.syncs.saturating_add(1);
+        self.uses.set(uses);
+        done_if(self.plan.syncs)
     }
 
     fn sync_data(&self) -> io::Result<()> {

@@ -2,6 +2,7 @@
 
 mod load;
 mod paths;
+mod replace;
 mod save;
 mod uncounted;
 

@@ -1,48 +1,46 @@
 //! Files by their paths, through a buffer.
 
-ghost use Rattle.std.specs.Prelude.{◌≡◌, ◌≤◌, ◌⊎◌, ℕ, IfErr, IfOk, None, OnOk};
+ghost use Rattle.std.specs.Prelude.{◌≡◌, ◌≤◌, ℕ, IfErr, IfOk, None, OnOk, length};
 ghost use Rattle.cedar_slots.specs.Places.{IsSlotLimit};
 ghost use Rattle.cedar_model.specs.Table.Layouts.{layout_byte};
 ghost use Rattle.cedar_model.specs.Meaning.WellFormed.{IsWellFormed};
-ghost use Rattle.cedar_format.specs.declared.error.CedarPersistenceError.TheVariants.{AllocationFailed};
 ghost use Rattle.cedar_format.specs.Format.{header_answer, need};
-ghost use Rattle.cedar_format.specs.Reading.{IsIo};
 ghost use Rattle.cedar_format.specs.Tables.{header_of, table_bytes, IsTableFile};
 ghost use Rattle.cedarwood.specs.Loading.{LacksByPath};
+ghost use Rattle.cedarwood.specs.Saving.{FailsToSave};
 
+use crate::persistence::replace::{Version, no_buffer};
 use crate::{CedarPersistenceError, Layout, Trie, Watched};
 use std::alloc::Allocator;
 use std::fs::File;
-use std::io;
-use std::io::{BufReader, BufWriter, Write};
+use std::io::BufReader;
 use std::rt::Files;
 
-/// How many bytes a buffer of a file holds.
-const BUFFER_LEN: usize = 8192;
-
 impl<L: Layout, const SLOTS: usize, A: Allocator + Copy> Trie<L, SLOTS, A> {
-    /// Makes the file or cuts it, and writes the dictionary's table to it as `save_to_writer` does, through a buffer of 8192 bytes,
-    /// which is flushed. The buffer is from the dictionary's own allocator.
+    /// Writes the dictionary's file as `save_to_writer` does, and puts it in the place of the one at `path`. It is written to a file
+    /// beside that, `path` with `.new` behind it, through a buffer of 8192 bytes, flushed and synced to the disk, and then renamed.
+    /// So after an error the old file is as it was, and no new one is left if it could be removed; a file of that name that was
+    /// there is lost. The name and the buffer are from the dictionary's own allocator.
+    ///
+    /// Where `path` leads to something other than a file, such as a pipe or a device, that is written to as it is. A link is replaced
+    /// by the file.
     ///
     /// ```
     /// cedar.save_to_path(files, "words.cedar")?;
     /// ```
     ///
     /// # Errors
-    /// `Io` where a call on the file failed, which may then be empty or have a part of the table; `AllocationFailed` with 8192
+    /// `Io` where a call on a file failed; `AllocationFailed` with the length of the new name, which is asked for first, or with 8192
     /// where there is no memory for the buffer, which is asked for once the file is made.
     pub fn save_to_path<F: Files>(&self, files: &F, path: &str) -> Result<(), CedarPersistenceError>
-        ensures err { IfErr result (λ e. IsIo e ⊎ (e ≡ AllocationFailed 8192)) }
+        ensures err { IfErr result (FailsToSave (length path.bytes)) }
 
         // The bytes that are written are the file of a well-formed table, which passes all steps of a load but those on
         // memory. What a device has kept of them no clause can say.
         ensures file { OnOk result (IsTableFile 1 SLOTS self.now.table (table_bytes 1 self.now.table)) }
         ensures passes { OnOk result ((limit : ℕ) → need (header_of 1 self.now.table) ≤ limit → header_answer (layout_byte L.kind) SLOTS limit (table_bytes 1 self.now.table) ≡ None) }
     {
-        let mut writer = created(self.table.allocator(), files, path)?;
-        self.save_to_writer(&mut writer)?;
-        writer.flush()?;
-        Ok(())
+        self.save_file(files, path, Version::Latest)
     }
 
     /// `save_to_path` in format 1.0.
@@ -58,14 +56,11 @@ impl<L: Layout, const SLOTS: usize, A: Allocator + Copy> Trie<L, SLOTS, A> {
         files: &F,
         path: &str,
     ) -> Result<(), CedarPersistenceError>
-        ensures err { IfErr result (λ e. IsIo e ⊎ (e ≡ AllocationFailed 8192)) }
+        ensures err { IfErr result (FailsToSave (length path.bytes)) }
         ensures file { OnOk result (IsTableFile 0 SLOTS self.now.table (table_bytes 0 self.now.table)) }
         ensures passes { OnOk result ((limit : ℕ) → need (header_of 0 self.now.table) ≤ limit → header_answer (layout_byte L.kind) SLOTS limit (table_bytes 0 self.now.table) ≡ None) }
     {
-        let mut writer = created(self.table.allocator(), files, path)?;
-        self.save_v1_0_to_writer(&mut writer)?;
-        writer.flush()?;
-        Ok(())
+        self.save_file(files, path, Version::First)
     }
 
     /// Loads the dictionary that was saved in a file, through a buffer of 8192 bytes and with the limit by default. Both take their
@@ -94,27 +89,5 @@ impl<L: Layout, const SLOTS: usize, A: Allocator + Copy> Trie<L, SLOTS, A> {
         let buffered = BufReader::new(alloc, file).map_err(no_buffer)?;
         let mut reader = Watched::new(buffered);
         Self::load_from_reader(alloc, &mut reader)
-    }
-}
-
-/// A file that is made or cut, behind a buffer.
-fn created<F: Files, A: Allocator>(
-    alloc: A,
-    files: &F,
-    path: &str,
-) -> Result<Watched<BufWriter<F::File, A>>, CedarPersistenceError>
-    ensures err { IfErr result (λ e. IsIo e ⊎ (e ≡ AllocationFailed 8192)) }
-{
-    let file = File::create(files, path)?;
-    let buffered = BufWriter::new(alloc, file).map_err(no_buffer)?;
-    Ok(Watched::new(buffered))
-}
-
-/// A buffer is refused for want of memory alone.
-fn no_buffer(_error: io::Error) -> CedarPersistenceError
-    ensures { result ≡ AllocationFailed 8192 }
-{
-    CedarPersistenceError::AllocationFailed {
-        requested: BUFFER_LEN,
     }
 }

@@ -1,0 +1,143 @@
+//! Files that are written beside the one of their name and take its place once they are whole.
+
+ghost use Rattle.std.specs.Prelude.{◌≡◌, ◌+◌, IfErr, length};
+ghost use Rattle.cedar_format.specs.declared.error.CedarPersistenceError.TheVariants.{AllocationFailed};
+ghost use Rattle.cedarwood.specs.Saving.{FailsToSave, FailsToWrite};
+
+use crate::{CedarPersistenceError, Layout, Trie, Watched};
+use std::alloc::{AllocError, Allocator};
+use std::fs::{File, OpenFile};
+use std::io::{BufWriter, Write};
+use std::rt::Files;
+use std::{fs, io};
+
+/// How many bytes a buffer of a file holds.
+const BUFFER_LEN: usize = 8192;
+
+/// What stands behind the name of a file while it is written.
+const SUFFIX: &str = ".new";
+
+/// Which version of the format is written.
+#[derive(Clone, Copy)]
+pub(crate) enum Version {
+    First,
+    Latest,
+}
+
+impl<L: Layout, const SLOTS: usize, A: Allocator + Copy> Trie<L, SLOTS, A> {
+    /// Puts the dictionary's file in the place of what is at `path`.
+    pub(crate) fn save_file<F: Files>(
+        &self,
+        files: &F,
+        path: &str,
+        version: Version,
+    ) -> Result<(), CedarPersistenceError>
+        ensures err { IfErr result (FailsToSave (length path.bytes)) }
+    {
+        if is_special(files, path) {
+            self.write_file(files, path, version)?;
+            return Ok(());
+        }
+        let name = name_beside(self.table.allocator(), path)?;
+        let written = self.write_synced(files, &name, version);
+        put_in_place(files, &name, path, written)
+    }
+
+    /// Makes the file or cuts it, writes the dictionary to it, and waits until the disk has it.
+    fn write_synced<F: Files>(
+        &self,
+        files: &F,
+        path: &str,
+        version: Version,
+    ) -> Result<(), CedarPersistenceError>
+        ensures err { IfErr result FailsToWrite }
+    {
+        let written = self.write_file(files, path, version)?;
+        written.get_ref().sync_all()?;
+        Ok(())
+    }
+
+    /// Makes the file or cuts it, and writes the dictionary to it.
+    fn write_file<F: Files>(
+        &self,
+        files: &F,
+        path: &str,
+        version: Version,
+    ) -> Result<BufWriter<F::File, A>, CedarPersistenceError>
+        ensures err { IfErr result FailsToWrite }
+    {
+        let file = File::create(files, path)?;
+        let buffered = BufWriter::new(self.table.allocator(), file).map_err(no_buffer)?;
+        let mut writer = Watched::new(buffered);
+        match version {
+            Version::First => self.save_v1_0_to_writer(&mut writer)?,
+            Version::Latest => self.save_to_writer(&mut writer)?,
+        }
+        writer.flush()?;
+        Ok(writer.into_inner())
+    }
+}
+
+/// Whether something is at `path` that isn't a file, such as a pipe or a device: no file may take its place.
+fn is_special<F: Files>(files: &F, path: &str) -> bool {
+    match fs::metadata(files, path) {
+        Ok(found) => !found.is_file(),
+        Err(_) => false,
+    }
+}
+
+/// The name of the file that is written beside the one at `path`.
+fn name_beside<A: Allocator>(alloc: A, path: &str) -> Result<String<A>, CedarPersistenceError>
+    ensures err { IfErr result (λ e. e ≡ AllocationFailed (length path.bytes + 4)) }
+{
+    match with_suffix(alloc, path) {
+        Ok(name) => Ok(name),
+        Err(AllocError) => Err(CedarPersistenceError::AllocationFailed {
+            requested: path.len() + SUFFIX.len(),
+        }),
+    }
+}
+
+/// The path with the suffix behind it, in one request.
+fn with_suffix<A: Allocator>(alloc: A, path: &str) -> Result<String<A>, AllocError> {
+    let mut name = String::with_capacity(alloc, path.len() + SUFFIX.len())?;
+    name.push_str(path)?;
+    name.push_str(SUFFIX)?;
+    Ok(name)
+}
+
+/// Renames the new file to the name of the old one if it was written whole, and else removes it. The error that is returned is the first one.
+fn put_in_place<F: Files>(
+    files: &F,
+    new: &str,
+    old: &str,
+    written: Result<(), CedarPersistenceError>,
+) -> Result<(), CedarPersistenceError>
+    requires err { IfErr written FailsToWrite }
+    ensures err { IfErr result FailsToWrite }
+{
+    let placed = match written {
+        Ok(()) => rename(files, new, old),
+        Err(error) => Err(error),
+    };
+    if placed.is_err() {
+        let _ = fs::remove_file(files, new);
+    }
+    placed
+}
+
+fn rename<F: Files>(files: &F, from: &str, to: &str) -> Result<(), CedarPersistenceError>
+    ensures err { IfErr result FailsToWrite }
+{
+    fs::rename(files, from, to)?;
+    Ok(())
+}
+
+/// A buffer is refused for want of memory alone.
+pub(crate) fn no_buffer(_error: io::Error) -> CedarPersistenceError
+    ensures { result ≡ AllocationFailed 8192 }
+{
+    CedarPersistenceError::AllocationFailed {
+        requested: BUFFER_LEN,
+    }
+}
