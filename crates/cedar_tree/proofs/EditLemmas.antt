@@ -77,9 +77,6 @@ put-with_number t ordered l path v there = sym (put_changed t ordered (l ∷ pat
 
 -- ---- a cut
 
-cut_settles : (t : Tree) (l : ℕ) (path : List ℕ) → cut t (l ∷ path) ≡ record { number = t.number; children = settle t.children l (cut (subtree t.children l) path) }
-cut_settles t l path = refl
-
 -- a cut forgets what a change left of the tree below a label, if the cut below it does
 pub cut_below : (n : Option ℤ) (f : Forest) (l : ℕ) (x : Tree) (path : List ℕ) → cut x path ≡ cut (subtree f l) path → cut (record { number = n; children = replace f l x }) (l ∷ path) ≡ cut (record { number = n; children = f }) (l ∷ path)
 cut_below n f l x path same =
@@ -123,9 +120,6 @@ cut-without_leaf t (m ∷ w) l rest bare once =
     ∙ cut_below t.number f m x (w ++ l ∷ rest) (cut-without_leaf (subtree f m) w l rest bare once)
 
 -- ---- where a cut ends
-
-bare-subtree_absent : (f : Forest) (l : ℕ) → has_label f l ≡ false → is_bare (subtree f l) ≡ true
-bare-subtree_absent f l h = ap is_bare (subtree_absent f l h)
 
 -- a node that isn't bare, below a label, keeps what is above it from being bare
 not_bare_above : (t : Tree) (w : List ℕ) → is_bare (node_at t w) ≡ false → is_bare t ≡ false

@@ -47,13 +47,6 @@ before_apart p q h =
       | false ↦ λ _. refl
     ]) refl
 
-after_apart : (p q : List ℕ) → IsBefore p q → is_path q p ≡ false
-after_apart p q h =
-    (elim (is_path q p) as (λ b. is_path q p ≡ b → b ≡ false) [
-      | true ↦ λ e. absurd (not_before_itself p (subst (IsBefore p) (same_path q p e) h))
-      | false ↦ λ _. refl
-    ]) refl
-
 all_after_more : (p q : List ℕ) (es : List Entry) → IsBefore p q → AllAfter q es → AllAfter p es
 all_after_more p q [] h a = tt
 all_after_more p q (e ∷ es) h a = (nat_list_cmp_total.trans p q e.0 h a.0, all_after_more p q es h a.1)

@@ -74,9 +74,6 @@ module _ (size : ℕ) (T T₁ T₂ : Cells) (a l : ℕ) (k : CanAdd size T a l) 
   slot_apart : (j : ℕ) → (j ≡ m → ⊥) → below T a j ≡ b → ⊥
   slot_apart j n e = n (xor_injective (base_of T a) j m (e ∙ label.is))
 
-  held_mine : (j : ℕ) → T.check (below T a j) ≡ pos a → Held T (below T a j)
-  held_mine j o = inr (a, o)
-
   pub adds_behind_label : AddsBehind size T T₂ a l
   adds_behind_label = record {
     touches = subst (λ x. Touches T T₂ a x) same_here touches_here;

@@ -49,9 +49,6 @@ module _ (T T₁ T' : Cells) (b x n l : ℕ) (apart : b ≡ x → ⊥) (i : Sets
     other = λ q o. j.sibling q ∙ i.other q o;
   }
 
-pub settings_then : (a b c : Fields) → SameSettings a b → SameSettings b c → SameSettings a c
-settings_then a b c s t = record { ordered = t.ordered ∙ s.ordered; entries = t.entries ∙ s.entries; max_trial = t.max_trial ∙ s.max_trial }
-
 pub held_still : (T T' : Cells) (q : ℕ) → T'.check q ≡ T.check q → Held T q → Held T' q
 held_still T T' q e (inl z) = inl z
 held_still T T' q e (inr o) = inr (o.0, e ∙ o.1)

@@ -64,12 +64,6 @@ inserted_first T a c l [] h goes = refl
 inserted_first T a c l (m ∷ ms) h (inl z) = absurd (omega (arith, h.0, h.1, z))
 inserted_first T a c l (m ∷ ms) h (inr above) = inserted_here l m ms (omega (arith, above, h.0))
 
-leaf_unordered : (ordered : Bool) (l : ℕ) (f : Forest) → ordered ≡ false → child l None none f ≡ add_leaf ordered l f
-leaf_unordered ordered l f e = rw e refl
-
-leaf_ordered : (ordered : Bool) (l : ℕ) (f : Forest) → ordered ≡ true → insert_ascending f l empty_tree ≡ add_leaf ordered l f
-leaf_ordered ordered l f e = rw e refl
-
 -- the path w ends with some label
 pub ends : (j : ℕ) (v : List ℕ) → (m : ℕ) × (p : List ℕ) × (follow_on (j ∷ v) [] ≡ m ∷ p)
 ends j v = let s = follow_split v (j ∷ []) in by_front s.0 s.1

@@ -17,9 +17,6 @@ use Rattle.cedar_model.proofs.EditLemmas.NodeChange.{NodeStays, not_x}
 use Rattle.cedar_model.proofs.EditLemmas.ChangeAtPath.{edited, root_edited}
 use Rattle.cedar_model.proofs.MeaningLemmas.OneTree.{node_distinct, family_distinct}
 
-skip : ℕ → ℕ → ℕ → ℕ
-skip l after c = cond (nat_eq c l) after c
-
 pub skip_at : (l after c : ℕ) → c ≡ l → cond (nat_eq c l) after c ≡ after
 skip_at l after c e = grind (arith, nat_tests)
 

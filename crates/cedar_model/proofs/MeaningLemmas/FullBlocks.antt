@@ -27,11 +27,6 @@ use Rattle.cedar_slots.proofs.RingsLemmas.InBlock.{xor_block}
 
 -- ---- how often a label stands among those of a node
 
-among_occurs : (x : ℕ) (xs : List ℕ) → Among xs x → 0 < occurs x xs
-among_occurs x [] a = absurd a
-among_occurs x (y ∷ ys) (inl e) = subst (λ z. 0 < occurs z (y ∷ ys)) e (omega (arith, occurs_same y ys))
-among_occurs x (y ∷ ys) (inr a) = omega (arith, among_occurs x ys a)
-
 occurs_among : (x : ℕ) (xs : List ℕ) → 0 < occurs x xs → Among xs x
 occurs_among x [] h = absurd (omega arith)
 occurs_among x (y ∷ ys) h = elim (cases_eq x y) [

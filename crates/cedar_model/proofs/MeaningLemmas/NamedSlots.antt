@@ -221,9 +221,6 @@ module _ (size : ℕ) (T : Cells) (f : Forest) (w : HoldsTree size T f) where
       let up = found_on m p h.2 in
       found_child size T _ (slot_at T (m ∷ p)) l up.children (owned_label size T (slot_at T (m ∷ p)) l up.node.head (labels up.children) up.node.family h.0 h.1) up.lower up.under
 
-  at_slot : (x c l : ℕ) → l ≡ below T c x → below T c l ≡ x
-  at_slot x c l e = ap (below T c) e ∙ xor_back (base_of T c) x
-
   on_label : (p : List ℕ) (x l : ℕ) → OnPath T p → (l ≡ 0 → ⊥) → below T (slot_at T p) l ≡ x → T.check x ≡ pos (slot_at T p) → 0 < occurs x (slots_below T 0 f)
   on_label p x l h some at e =
       let found = found_on l p (some, ap T.check at ∙ e, h) in

@@ -64,9 +64,6 @@ module _ (size : ℕ) (T : Cells) (f : Forest) (w : List ℕ) (a : ℕ) (h : Hol
       let u : Forest = (node_at (root_of f) w).children in
       labels_own T a st.head (labels u) st.family.begins l (among_has u l e)
 
-  pub at_has : (l : ℕ) → 0 < l → (has_label (node_at (root_of f) w).children l ≡ true) ↔ (T.check (below T a l) ≡ pos a)
-  at_has l p = (at_owner l, at_owned l p)
-
   pub at_lacks : (l : ℕ) → (T.check (below T a l) ≡ pos a → ⊥) → has_label (node_at (root_of f) w).children l ≡ false
   at_lacks l n =
       let st = at_node in
@@ -92,15 +89,6 @@ module _ (size : ℕ) (T : Cells) (f : Forest) (w : List ℕ) (a : ℕ) (h : Hol
       by_head (valued v) ls k = ap Some (sym k.begins.2)
       by_head (own v) ls k = absurd (subst (λ x. Among x 0) k.begins.1 (zero_owned (own v) ls k))
       by_head top ls k = absurd (no_zero T a _ ls k.begins.2 (zero_owned top ls k))
-
-  pub at_no_value : ((v : ℤ) → T.stored a ≡ OwnNumber v → ⊥) → (T.check (below T a 0) ≡ pos a → ⊥) → (node_at (root_of f) w).number ≡ None
-  at_no_value no_own n = sym at_node.number ∙ by_head at_node.head _ at_node.family
-    where
-      by_head : (hd : Head) (ls : List ℕ) → Family size T a hd ls → number_of hd ≡ None
-      by_head plain ls k = refl
-      by_head (valued v) ls k = absurd (n k.begins.1)
-      by_head (own v) ls k = absurd (no_own v k.based)
-      by_head top ls k = refl
 
   -- a node that keeps no number in its base field has a number just where that slot is its own
   pub at_number : ((v : ℤ) → T.stored a ≡ OwnNumber v → ⊥) → (is_some (node_at (root_of f) w).number ≡ true) ↔ (T.check (below T a 0) ≡ pos a)

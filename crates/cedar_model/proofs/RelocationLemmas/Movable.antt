@@ -132,10 +132,6 @@ not_roots size T f x w low o =
 pub relocated_holds : (size : ℕ) (T T' : Cells) (p b : ℕ) (f : Forest) → Relocated size T T' p b → HoldsTree size T f → HoldsTree size T' f
 relocated_holds size T T' p b f k w = holds_renamed size size T T' k.new_slot k.renamed f w
 
--- and renames the slot of each path
-pub relocated_path : (size : ℕ) (T T' : Cells) (p b : ℕ) (k : Relocated size T T' p b) (w : List ℕ) → OnPath T w → OnPath T' w × (slot_at T' w ≡ k.new_slot (slot_at T w))
-relocated_path size T T' p b k w on = path_kept size size T T' k.new_slot k.renamed w on
-
 -- ---- which slots are free after a relocation
 
 module _ (size : ℕ) (T T' : Cells) (p b : ℕ) (ls : List ℕ) (m : Movable size T p b ls) (k : Relocated size T T' p b) where

@@ -48,12 +48,6 @@ module _ (size : ℕ) (T T₁ : Cells) (p b : ℕ) (ls : List ℕ) (i : ℕ) (m 
   parent_stays : k.new_slot p ≡ p
   parent_stays = k.moved.kept p (λ e _. m.parent.not_own e)
 
-  pub base_stays : T₁.stored p ≡ T.stored p
-  base_stays = ap T₁.stored (sym parent_stays) ∙ k.renames.stored p m.parent.held
-
-  pub at : below T₁ p (get_or ls i 0) ≡ below T p (get_or ls i 0)
-  at = ap (λ z. bit_xor (base_in z) (get_or ls i 0)) base_stays
-
   slot_stays : k.new_slot (below T p (get_or ls i 0)) ≡ below T p (get_or ls i 0)
   slot_stays = k.moved.kept _ (λ _ g. m.distinct i h (subst (Among (take i ls)) (xor_back (base_of T p) (get_or ls i 0)) g))
 

@@ -101,14 +101,6 @@ loses_leaf size T T' f w a c l h at o e k holds =
     }
 
 -- ---- labels that come once
-among_without : (f : Forest) (l m : ℕ) → Among (labels (without f l)) m → Among (labels f) m
-among_without none l m a = a
-among_without (child x n u rest) l m a =
-    (elim (eqb x l) as (λ b. Among (labels (cond b rest (child x n u (without rest l)))) m → Among (labels (child x n u rest)) m) [
-      | true ↦ λ i. inr i
-      | false ↦ λ i. elim i [ inl e ↦ inl e | inr j ↦ inr (among_without rest l m j) ]
-    ]) a
-
 without_once : (f : Forest) (l : ℕ) → DistinctList (labels f) → Among (labels (without f l)) l → ⊥
 without_once none l d a = a
 without_once (child x n u rest) l d a = elim (eqb_tells x l) [

@@ -51,15 +51,6 @@ made_framed n a b c made frame =
     let capacity : length c.places.blocks.records ≡ length b.places.blocks.records = omega (arith, frame.capacity) in
     record { active = size ∙ made.active; capacity = capacity ∙ made.capacity }
 
-pub framed_made : (n : ℕ) (a b c : Fields) → SameFrame a b → MakesBlocks n b c → MakesBlocks n a c
-framed_made n a b c frame made =
-    let size : b.places.blocks.active ≡ a.places.blocks.active = omega (arith, frame.size) in
-    let capacity : length b.places.blocks.records ≡ length a.places.blocks.records = omega (arith, frame.capacity) in
-    record {
-      active = made.active ∙ ap (λ k. k + n) size;
-      capacity = made.capacity ∙ ap (λ k. blocks_after n k (length b.places.blocks.records)) size ∙ ap (λ k. blocks_after n a.places.blocks.active k) capacity;
-    }
-
 pub framed_none : (a b : Fields) → SameFrame a b → MakesBlocks 0 a b
 unfolding blocks_after
 framed_none a b frame = record { active = omega (arith, frame.size); capacity = omega (arith, frame.capacity) }
@@ -86,9 +77,6 @@ growth_framed a b c growth frame root =
     }
 
 -- ---- sizes
-
-pub made_size : (n : ℕ) (a b : Fields) → MakesBlocks n a b → size_of b ≡ size_of a + 256 * n
-made_size n a b made = omega (arith, made.active)
 
 pub made_larger : (n : ℕ) (a b : Fields) → MakesBlocks n a b → size_of a ≤ size_of b
 made_larger n a b made = omega (arith, made.active)
@@ -121,7 +109,3 @@ slots_of_same a b e = record {
 pub refuses_still : (a b : PlaceFields) (slots : ℕ) (error : Shortage) → SameSlots a b → MayRefuse a slots error → MayRefuse b slots error
 refuses_still a b slots Memory same h = (same.active ∙ h.0 ∙ sym same.len, omega (arith, same.active, h.1))
 refuses_still a b slots SlotLimit same h = omega (arith, same.active, h)
-
-pub refused_still : {X : Type 0} (a b : PlaceFields) (slots : ℕ) (r : Result X Shortage) → OnErr r (SameSlots a b) → IfErr r (λ error. MayRefuse a slots error) → IfErr r (λ error. MayRefuse b slots error)
-refused_still a b slots (Ok x) same refused = tt
-refused_still a b slots (Err error) same refused = refuses_still a b slots error same refused

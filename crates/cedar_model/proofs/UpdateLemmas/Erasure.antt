@@ -103,9 +103,6 @@ dropped_node n T' before after f key s ascends at same holds = record {
 }
 
 -- ---- the table after
-cut_walk : (f : Forest) (l : ℕ) (path : List ℕ) → walk_forest (cut (root_of f) (l ∷ path)).children ≡ walk (cut (root_of f) (l ∷ path))
-cut_walk f l path = refl
-
 counted : (t : Tree) (key : List ℕ) (entries : ℕ) → is_some (number_at t key) ≡ true → entries ≡ length (walk t) → length (walk (cut t key)) + 1 ≡ entries
 counted t key entries held e =
     ap (λ b. length (walk (cut t key)) + cond b 1 0) (sym held) ∙ length-walk-cut t key ∙ sym e

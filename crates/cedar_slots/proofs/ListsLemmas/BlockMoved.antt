@@ -217,9 +217,6 @@ module _ (old mid new : BlockFields) (lists : BlockType → List ℕ) (some : 0 
   pub activated_in : ListRings mid lists → (k : BlockType) → (unsigned_abs (head_of mid k) < old.active) × (unsigned_abs (prev_at mid.records (unsigned_abs (head_of mid k))) < old.active)
   activated_in rings k = push_in mid lists old.active rings (members_below old lists some held) k
 
-  opened : BlockType → List ℕ
-  opened = replaced lists Open (old.active ∷ lists Open)
-
   opened_other : (k : BlockType) (b : ℕ) → (b ≡ old.active → ⊥) → occurs b (replaced lists Open (old.active ∷ lists Open) k) ≡ occurs b (lists k)
   opened_other Open b h = occurs_other b old.active (lists Open) h
   opened_other Closed b h = refl

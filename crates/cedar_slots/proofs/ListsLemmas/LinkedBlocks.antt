@@ -125,6 +125,3 @@ full_num z b h = elim (cases_Bool (int_eq b.num (pos 0))) [
 pub block-linked_other : (blocks : List BlockRecord) (a b s : ℕ) → (s ≡ a → ⊥) → (s ≡ b → ⊥) → block_at (linked_blocks blocks a b) s ≡ block_at blocks s
 unfolding linked_blocks
 block-linked_other blocks a b s p q = get_or-set_other _ b s _ blank_block q ∙ get_or-set_other blocks a s _ blank_block p
-
-pub SameFrom-then : (n : ℕ) (one two three : List BlockRecord) → SameFrom n one two → SameFrom n two three → SameFrom n one three
-SameFrom-then n one two three p q b h = q b h ∙ p b h

@@ -45,17 +45,6 @@ doubled_within old slots shaped doubled limit below full =
     let less : 2 ^ doubled.0 < 2 ^ limit.power.0 = omega arith in
     omega (arith, double_within doubled.0 limit.power.0 less)
 
-pub Shaped-doubled : (old new : PlaceFields) (slots : ℕ) → Shaped old → IsSlotLimit slots → 256 * (2 * length old.blocks.records) ≤ slots → new.blocks.active ≡ old.blocks.active → length new.blocks.records ≡ 2 * length old.blocks.records → length new.slots.nodes ≡ 512 * length old.blocks.records → length new.slots.infos ≡ 512 * length old.blocks.records → Shaped new
-Shaped-doubled old new slots shaped limit within active records nodes infos = record {
-  blocks = record {
-    some = omega (arith, shaped.blocks.some);
-    active_in = omega (arith, shaped.blocks.active_in);
-    fits = omega (arith, within, limit.most);
-  };
-  nodes = omega arith;
-  infos = omega arith;
-}
-
 pub power-doubled : (n m : ℕ) → IsPowerOfTwo n → m ≡ 2 * n → IsPowerOfTwo m
 power-doubled n m power is = (suc power.0, omega (arith, is, power.1, pow-suc 2 power.0))
 

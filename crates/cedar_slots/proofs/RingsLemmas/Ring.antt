@@ -51,10 +51,6 @@ module _ (Before After : ℕ → ℕ → Type 0) (a b : ℕ) (step : Relinked Be
   Chain-kept x [] y p q r h = step.kept x y (λ e. absurd (omega (arith, p, subst (λ n. occurs n (x ∷ []) ≡ 1) e (occurs_same x [])))) r h
   Chain-kept x (z ∷ zs) y p q r h = (step.kept x z (λ e. absurd (omega (arith, p, subst (λ n. occurs n (x ∷ z ∷ zs) ≡ 1 + occurs n (z ∷ zs)) e (occurs_same x (z ∷ zs))))) (λ e. absurd (omega (arith, q, subst (λ n. occurs n (z ∷ zs) ≡ 1 + occurs n zs) e (occurs_same z zs)))) h.0, Chain-kept z zs y (omega arith) (omega arith) r h.1)
 
-  pub Ring-kept : (xs : List ℕ) → occurs a xs ≡ 0 → occurs b xs ≡ 0 → Ring Before xs → Ring After xs
-  Ring-kept [] p q h = tt
-  Ring-kept (x ∷ xs) p q h = Chain-kept x xs x p (omega arith) (λ e. absurd (omega (arith, q, subst (λ n. occurs n (x ∷ xs) ≡ 1 + occurs n xs) e (occurs_same x xs)))) h
-
   -- a chain whose last member is now linked to b
   pub Chain-retarget : (x : ℕ) (xs : List ℕ) (y : ℕ) → last_of x xs ≡ a → occurs a (x ∷ xs) ≡ 1 → occurs b xs ≡ 0 → Chain Before x xs y → Chain After x xs b
   Chain-retarget x [] y l p q h = subst (λ n. After n b) (sym l) step.made

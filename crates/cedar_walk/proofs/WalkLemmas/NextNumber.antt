@@ -148,9 +148,6 @@ pub record Descended (T : Fields) (start : List ℕ) (n s n' s' : ℕ) : Type 0 
   pub not_root : s' ≡ 0 → ⊥
   pub entries : entries_at T start n s ≡ entries_at T start n' s'
 
-pub descended_none : (T : Fields) (start : List ℕ) (n s : ℕ) → IsBelow (cells_in T) start n s → (s ≡ 0 → ⊥) → Descended T start n s n s
-descended_none T start n s at some = record { below = at; not_root = some; entries = refl }
-
 pub descended_on : (slots : ℕ) (T : Fields) → IsWellFormed slots T → (start : List ℕ) (n s n' s' l : ℕ) → Descended T start n s n' s' → l ≡ (cells_in T).child s' → (l ≡ 0 → ⊥) → Descended T start n s (n' + 1) (below (cells_in T) s' l)
 descended_on slots T k start n s n' s' l d is some =
     let named : (cells_in T).child s' ≡ 0 → ⊥ = λ z. some (is ∙ z) in
