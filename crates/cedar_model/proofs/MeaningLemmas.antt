@@ -1,4 +1,5 @@
 -- What the slots of a table stand for.
+pub mod AmongLabels
 pub mod BareSlot
 pub mod Chain
 pub mod ChainWalk

@@ -1,5 +1,5 @@
 -- How the prefix walk goes on.
-use Rattle.std.proofs.Common.{◌≡◌, ℕ, zero, suc, ◌+◌, ◌-◌, ◌<◌, ◌≤◌, false, ℤ, List, [], ◌∷◌, length, take, get_or, Option, Some, None, option_map, refl, sym, ap, ◌∙◌, arith}
+use Rattle.std.proofs.Common.{◌≡◌, ℕ, zero, suc, ◌+◌, ◌-◌, ◌<◌, ◌≤◌, false, ℤ, List, [], length, take, get_or, Option, Some, None, option_map, refl, sym, ap, ◌∙◌, arith}
 use Rattle.std.specs.List.{filter_map, cons_option, range_with_len}
 use Rattle.std.proofs.lemmas.List.{take_all, take_more}
 use Rattle.cedar_tree.specs.Tree.{Tree, empty_tree, has_label, subtree, number_at}
@@ -7,6 +7,7 @@ use Rattle.cedar_tree.specs.Queries.{front, node_at}
 use Rattle.cedar_tree.specs.Walks.{front_from}
 use Rattle.cedar_tree.proofs.CutLemmas.{node_at-end}
 use Rattle.cedar_tree.proofs.TreeLemmas.{subtree_absent}
+use Rattle.cedar_tree.proofs.OrderLemmas.{number_of_node}
 
 abbrev found_at : Tree → List ℕ → ℕ → Option (ℤ × ℕ)
 found_at t q n = option_map (λ v. (v, n)) (number_at t (take (n + 1) q))
@@ -24,11 +25,6 @@ front_ends t q = let no : length q - length q ≡ 0 = omega arith in ap (λ m. f
 
 pub node_more : (t : Tree) (q : List ℕ) (n : ℕ) → n < length q → node_at t (take (n + 1) q) ≡ subtree (node_at t (take n q)).children (get_or q n 0)
 node_more t q n h = ap (node_at t) (take_more q n 0 h) ∙ node_at-end t (take n q) (get_or q n 0)
-
--- the number at a path is the number of its node
-pub number_is : (t : Tree) (p : List ℕ) → number_at t p ≡ (node_at t p).number
-number_is t [] = refl
-number_is t (l ∷ p) = number_is (subtree t.children l) p
 
 -- below an empty node all are empty
 empty_on : (t : Tree) (q : List ℕ) (n d : ℕ) → node_at t (take (n + 1) q) ≡ empty_tree → n + d < length q → node_at t (take (n + d + 1) q) ≡ empty_tree
@@ -60,7 +56,7 @@ front_off t q n h missing = none_found t q n (length q - n) absent
     absent k low high =
         let same : n + (k - n) + 1 ≡ k + 1 = omega arith in
         let empty : node_at t (take (n + 1) q) ≡ empty_tree = node_more t q n h ∙ subtree_absent (node_at t (take n q)).children (get_or q n 0) missing in
-        number_is t (take (k + 1) q) ∙ ap (λ (u : Tree). u.number) (ap (λ m. node_at t (take m q)) (sym same) ∙ empty_on t q n (k - n) empty (omega arith))
+        number_of_node t (take (k + 1) q) ∙ ap (λ (u : Tree). u.number) (ap (λ m. node_at t (take m q)) (sym same) ∙ empty_on t q n (k - n) empty (omega arith))
 
 found_few : (t : Tree) (q : List ℕ) (a n : ℕ) → length (filter_map (found_at t q) (range_with_len a n)) ≤ n
 found_few t q a zero = omega arith

@@ -1,7 +1,7 @@
 -- That what a sound tree holds stands at keys, and that its entries make it again.
-use Rattle.std.proofs.Common.{◌≡◌, ℕ, ◌<◌, true, false, ◌==◌, ◌||◌, ℤ, List, [], ◌∷◌, Option, Some, None, refl, sym, ◌∙◌, arith}
-use Rattle.std.specs.List.{Contains, AllByRecursion}
-use Rattle.std.proofs.lemmas.Bool.{false≢true, eqb-true}
+use Rattle.std.proofs.Common.{List, None, Option, Some, [], arith, cond, false, get_or, length, not, refl, suc, sym, true, ℕ, ℤ, ◌+◌, ◌<◌, ◌==◌, ◌||◌, ◌∙◌, ◌∷◌, ◌≡◌, ◌≤◌}
+use Rattle.std.specs.List.{AllByRecursion, Contains, position_or_len}
+use Rattle.std.proofs.lemmas.Bool.{eqb-false, eqb-true, false≢true}
 use Rattle.cedar_tree.specs.Tree.{Forest, none, child, Tree, has_label, subtree, number_at, IsSoundBelow, IsSound, IsPath, IsKey, IsAscending}
 use Rattle.cedar_tree.specs.Queries.{Entry, walk, asc}
 use Rattle.cedar_tree.specs.Laws.{ArePathsKeys}
@@ -42,3 +42,16 @@ walk_keys t s = all_contained (λ (e : Entry). IsKey e.0) (walk t) (λ e c. held
 -- and make the tree again, where its labels ascend
 pub asc-walk : (t : Tree) → IsSound t → IsAscending t.children → asc (walk t) ≡ t
 asc-walk t s a = one_tree_of (walk t) (asc (walk t)) t (asc_is_tree_of (walk t) (walk_keys t s) (walk_ascends t a)) (s, a, refl)
+
+-- bytes of which none is 0 are a path
+pub path_without_nul : (key : List ℕ) → length key ≤ position_or_len (λ c. c == 0) key → ((i : ℕ) → get_or key i 0 < 256) → IsPath key
+path_without_nul [] h bytes = tt
+path_without_nul (b ∷ key) h bytes =
+    (elim (b == 0) as (λ t. (b == 0) ≡ t → length (b ∷ key) ≤ cond (not t) (1 + position_or_len (λ c. c == 0) key) 0 → IsPath (b ∷ key)) [
+      | true ↦ λ e k. absurd (omega arith)
+      | false ↦ λ e k.
+          let here : b < 256 = bytes 0 in
+          let some : (b ≡ 0 → ⊥) = eqb-false b 0 e in
+          let rest : length key ≤ position_or_len (λ c. c == 0) key = omega arith in
+          (omega arith, here, path_without_nul key rest (λ i. bytes (suc i)))
+    ]) refl h

@@ -1,3 +1,4 @@
+pub mod GeneralLemmas
 pub mod TreeLemmas
 pub mod OrderLemmas
 pub mod WalkLemmas

@@ -4,6 +4,7 @@ use Rattle.std.proofs.lemmas.Bool.{true≢false, or_parts, ltb-true, ltb-false, 
 use Rattle.cedar_tree.specs.Tree.{Forest, none, child, Tree, empty_tree, has_label, subtree, number_at, replace, insert_ascending, put, is_bare, without, cut, IsSoundBelow, IsSound, AllAbove, IsAscending}
 use Rattle.cedar_tree.specs.Queries.{node_at}
 use Rattle.cedar_tree.proofs.TreeLemmas.{subtree_absent, number_at-empty, sound_subtree}
+use Rattle.std.proofs.lemmas.Option.{none-some}
 
 all_above_more : (low more : ℕ) (f : Forest) → low < more → AllAbove more f → AllAbove low f
 all_above_more low more none h a = tt
@@ -100,6 +101,11 @@ pub number_at-append : (t : Tree) (p rest : List ℕ) → number_at t (p ++ rest
 number_at-append t [] rest = refl
 number_at-append t (l ∷ p) rest = number_at-append (subtree t.children l) p rest
 
+-- the number at a path is the number of its node
+pub number_of_node : (t : Tree) (w : List ℕ) → number_at t w ≡ (node_at t w).number
+number_of_node t [] = refl
+number_of_node t (m ∷ w) = number_of_node (subtree t.children m) w
+
 -- something is held in a sound tree that is not bare
 held_in : (n : Option ℤ) (f : Forest) → IsSoundBelow f → is_bare (record { number = n; children = f }) ≡ false
     → (k : List ℕ) × (v : ℤ) × (number_at (record { number = n; children = f }) k ≡ Some v)
@@ -108,9 +114,6 @@ held_in None none s b = absurd (true≢false b)
 held_in None (child l n below rest) s b =
     let found = held_in n below s.4 s.3 in
     (l ∷ found.0, found.1, rw (eq-eqb l l refl) found.2)
-
-none-some : (v : ℤ) → ◌≡◌ {A = Option ℤ} None (Some v) → ⊥
-none-some v h = cc
 
 -- the node at a path is not bare exactly where the path is the front of a key that is held
 pub front_of_key : (t : Tree) (p : List ℕ) → IsSoundBelow t.children → is_bare (node_at t p) ≡ false

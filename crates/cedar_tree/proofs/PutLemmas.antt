@@ -5,7 +5,7 @@ use Rattle.cedar_tree.specs.Tree.{Forest, Tree, empty_tree, has_label, subtree, 
 use Rattle.cedar_tree.specs.Queries.{node_at}
 use Rattle.cedar_tree.specs.Edits.{add_leaf, HasPath, with_leaf}
 use Rattle.cedar_tree.proofs.TreeLemmas.{bare_empty, cut-empty, cut_not_held, has_label-put_child, has_label-replace, settle, subtree-put_other, subtree-put_same, subtree-replace_other, subtree-replace_same, subtree_absent, without-insert, without_absent}
-use Rattle.cedar_tree.proofs.OrderLemmas.{ascending-insert, ascending-replace, ascending_subtree}
+use Rattle.cedar_tree.proofs.OrderLemmas.{ascending-insert, ascending-replace, ascending_subtree, number_of_node}
 use Rattle.cedar_tree.proofs.EditLemmas.{bare_cut, changed, cut_below, edit_is_replace, leaf_is_put, same_number}
 
 -- a leaf at the end of a longer path stands in the tree of the path's first label
@@ -102,10 +102,6 @@ pub cut_past_bare : (t : Tree) (w rest : List ℕ) → is_bare (node_at t w) ≡
 cut_past_bare t [] rest bare = bare_cut t rest bare ∙ sym (bare_cut t [] bare)
 cut_past_bare t (m ∷ w) rest bare =
     ap (λ (g : Forest). record { number = t.number; children = g }) (ap (settle t.children m) (cut_past_bare (subtree t.children m) w rest bare))
-
-pub number_of_node : (t : Tree) (w : List ℕ) → number_at t w ≡ (node_at t w).number
-number_of_node t [] = refl
-number_of_node t (m ∷ w) = number_of_node (subtree t.children m) w
 
 -- where a sound tree has no node, or a bare root, a cut changes nothing
 pub cut_at_bare : (t : Tree) (w : List ℕ) → IsSoundBelow t.children → is_bare (node_at t w) ≡ true → cut t w ≡ t

@@ -7,6 +7,7 @@ use Rattle.std.proofs.lemmas.List.Quantifiers.{position-Some}
 use Rattle.cedar_tree.proofs.TreeLemmas.{subtree_absent, number_at-empty, cut-empty, without_absent, settle}
 use Rattle.cedar_tree.specs.Tree.{Forest, none, child, Tree, empty_tree, has_label, subtree, number_at, replace, insert_ascending, put_child, put, without, cut, is_bare}
 use Rattle.plain_tree.specs.Children.{forest_of, place_of}
+use Rattle.cedar_tree.proofs.GeneralLemmas.{position-None}
 
 -- the first child with this label stands at this place
 abbrev pub IsPlace : List (ℕ × Tree) → ℕ → ℕ → Type 0
@@ -65,16 +66,6 @@ pub remove-set : (cs : List (ℕ × Tree)) (i : ℕ) (c : ℕ × Tree) → remov
 remove-set [] i c = refl
 remove-set (x ∷ cs) zero c = refl
 remove-set (x ∷ cs) (suc i) c = ap (λ r. x ∷ r) (remove-set cs i c)
-
--- nothing passes a test: its first place is past the end
-pub position-None : {X : Type 0} (p : X → Bool) (xs : List X) → position p xs ≡ None → length xs ≤ position_or_len p xs
-position-None p xs h =
-    (elim (ltb (position_or_len p xs) (length xs)) as (λ t. ltb (position_or_len p xs) (length xs) ≡ t → cond t (Some (position_or_len p xs)) None ≡ None → length xs ≤ position_or_len p xs) [
-      | true ↦ λ e k. absurd (some-none (position_or_len p xs) k)
-      | false ↦ λ e k. ltb-false (position_or_len p xs) (length xs) e
-    ]) refl h where
-      some-none : (n : ℕ) → ◌≡◌ {A = Option ℕ} (Some n) None → ⊥
-      some-none n h = cc
 
 position_or_len_le : {X : Type 0} (p : X → Bool) (xs : List X) → position_or_len p xs ≤ length xs
 position_or_len_le p [] = omega arith

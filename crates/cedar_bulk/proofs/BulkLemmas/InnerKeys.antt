@@ -7,7 +7,7 @@ use Rattle.cedar_tree.specs.Tree.{child, empty_tree, Forest, has_label, none, nu
 use Rattle.cedar_tree.specs.Queries.{node_at}
 use Rattle.cedar_tree.specs.Edits.{edit_at, number_on}
 use Rattle.cedar_tree.proofs.EditLemmas.{changed, edit_is_replace}
-use Rattle.cedar_tree.proofs.TreeLemmas.{has_label-replace, subtree-replace_other, subtree-replace_same, subtree_absent}
+use Rattle.cedar_tree.proofs.TreeLemmas.{has_label-replace, number_at-empty, subtree-replace_other, subtree-replace_same, subtree_absent}
 use Rattle.cedar_model.specs.declared.layout.Stored.TheVariants.{AtBase, OwnNumber}
 use Rattle.cedar_model.specs.Table.Cells.{Cells}
 use Rattle.cedar_model.specs.Table.Layouts.{LayoutKind, reduced_layout}
@@ -16,7 +16,7 @@ use Rattle.cedar_model.specs.Edit.Steps.{root_of}
 use Rattle.cedar_bulk.specs.Sorted.{Fills, leaves}
 use Rattle.cedar_bulk.specs.SortedMarks.{KeepsLast, KeepsOwn}
 use Rattle.cedar_model.proofs.EditLemmas.AtPath.{held_node}
-use Rattle.cedar_model.proofs.MeaningLemmas.KeyPath.{number_there}
+use Rattle.cedar_tree.proofs.OrderLemmas.{number_of_node}
 
 -- ---- a node that was bare gets a number and leaves
 
@@ -31,10 +31,6 @@ leaves_are_bare (m ∷ ls) l = by_test (m == l) (leaves_are_bare ls l)
 no_leaf : (ls : List ℕ) → leaves ls ≡ none → length ls ≡ 0
 no_leaf [] e = refl
 no_leaf (l ∷ ls) e = cc
-
-nothing_below : (w : List ℕ) → number_at empty_tree w ≡ None
-nothing_below [] = refl
-nothing_below (l ∷ w) = nothing_below w
 
 -- at the path w the tree t' has the number that t has, and no child less
 record Alike (t t' : Tree) (w : List ℕ) : Type 0 where
@@ -112,7 +108,7 @@ module _ (number : Option ℤ) (ls : List ℕ) where
         (ap (λ (u : Tree). number_at u path) e ∙ k.0, ap (λ (u : Tree). (node_at u path).children) e ∙ k.1)
     | inr absent ↦
         let none_there : number_at (filled (l ∷ path) t) (l ∷ path) ≡ None =
-        ap (λ (u : Tree). number_at u path) (absent_child path t l absent) ∙ number_there (subtree t.children l) path ∙ ap (λ (u : Tree). u.number) bare in
+        ap (λ (u : Tree). number_at u path) (absent_child path t l absent) ∙ number_of_node (subtree t.children l) path ∙ ap (λ (u : Tree). u.number) bare in
         absurd (false≢true (sym (ap is_some none_there) ∙ held))
   ]
 
@@ -125,7 +121,7 @@ own_and_bare T s v own bare = let e : OwnNumber v ≡ AtBase 0 = sym own ∙ bar
 pub leaves_keep : (T : Cells) (ls : List ℕ) → KeepsLast T (leaves ls)
 leaves_keep T ls [] held childless = absurd (false≢true held)
 leaves_keep T ls (l ∷ w) held childless =
-    let none_there = ap (λ (u : Tree). is_some (number_at u w)) (leaves_are_bare ls l) ∙ ap is_some (nothing_below w) in
+    let none_there = ap (λ (u : Tree). is_some (number_at u w)) (leaves_are_bare ls l) ∙ ap is_some (number_at-empty w) in
     absurd (false≢true (sym none_there ∙ held))
 
 -- they stand where they stood, and the node's own where it has to

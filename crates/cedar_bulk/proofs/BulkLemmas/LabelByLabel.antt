@@ -21,12 +21,9 @@ use Rattle.cedar_model.proofs.UpdateLemmas.Frame.{frame_same, frame_then}
 use Rattle.cedar_model.proofs.MeaningLemmas.TreeOf.{in_use}
 use Rattle.cedar_bulk.proofs.BulkLemmas.OneAfterAnother.{ascending_edit, edit_alike, edit_nothing, edit_twice}
 use Rattle.cedar_model.proofs.MeaningLemmas.ExclusiveOr.{xor_injective}
+use Rattle.cedar_model.proofs.MeaningLemmas.AmongLabels.{above_less, among_front, among_last, among_push}
 
 -- ---- ascending labels
-
-above_less : (b c : ℕ) (ls : List ℕ) → b < c → Above c ls → Above b ls
-above_less b c [] h a = tt
-above_less b c (l ∷ ls) h a = (omega (arith, h, a.0), a.1)
 
 pub above_all : (b : ℕ) (ls : List ℕ) → Above b ls → (l : ℕ) → Among ls l → b < l
 above_all b [] a l h = absurd h
@@ -68,21 +65,6 @@ leaf_behind (l ∷ ls) x low =
     let less : l < x = low l (inl refl) in
     let not_before : nat_lt x l ≡ false = grind (arith, nat_tests) in
     rw not_before (ap (child l None none) (leaf_behind ls x (λ m h. low m (inr h))))
-
-pub among_last : (ls : List ℕ) (x m : ℕ) → Among (ls ++ x ∷ []) m → Among ls m ⊎ (x ≡ m)
-among_last [] x m (inl e) = inr e
-among_last [] x m (inr e) = absurd e
-among_last (l ∷ ls) x m (inl e) = inl (inl e)
-among_last (l ∷ ls) x m (inr h) = elim (among_last ls x m h) [ inl k ↦ inl (inr k) | inr e ↦ inr e ]
-
-pub last_among : (ls : List ℕ) (x : ℕ) → Among (ls ++ x ∷ []) x
-last_among [] x = inl refl
-last_among (l ∷ ls) x = inr (last_among ls x)
-
-pub front_among : (ls : List ℕ) (x m : ℕ) → Among ls m → Among (ls ++ x ∷ []) m
-front_among [] x m e = absurd e
-front_among (l ∷ ls) x m (inl e) = inl e
-front_among (l ∷ ls) x m (inr h) = inr (front_among ls x m h)
 
 -- ---- no label yet
 
@@ -127,18 +109,18 @@ module _ (size : ℕ) (T T₁ T₂ : Cells) (a x s : ℕ) (done : List ℕ) (up 
     stays = λ q h. more.stays q (k.keeps q h) ∙ k.stays q h;
     keeps = λ q h. more.keeps q (k.keeps q h);
     held = λ q h. by_held q (more.held q h);
-    leaf = λ l among. by_leaf l (among_last done x l among);
-    at = λ w l on among. by_path w l on (among_last done x l among);
+    leaf = λ l among. by_leaf l (among_push done x l among);
+    at = λ w l on among. by_path w l on (among_push done x l among);
   }
     where
       slot : s ≡ below T a x
       slot = more.slot ∙ place
 
       by_held : (q : ℕ) → Held T₁ q ⊎ (q ≡ s) → Held T q ⊎ ((l : ℕ) × Among (done ++ x ∷ []) l × (q ≡ below T a l))
-      by_held q (inr e) = inr (x, last_among done x, e ∙ slot)
+      by_held q (inr e) = inr (x, among_last done x, e ∙ slot)
       by_held q (inl h) = elim (k.held q h) [
         | inl old ↦ inl old
-        | inr new ↦ inr (new.0, front_among done x new.0 new.1, new.2)
+        | inr new ↦ inr (new.0, among_front done (x ∷ []) new.0 new.1, new.2)
       ]
 
       by_leaf : (l : ℕ) → Among done l ⊎ (x ≡ l) → T₂.stored (below T a l) ≡ AtBase 0
@@ -201,7 +183,7 @@ append_on slots size before mid after a x s done last way small up here k table 
   ends = λ l low. record {
     goes = record {
       inside = subst (λ n. s < n) (frame.size ∙ same) (in_use after s a more.owner);
-      behind = inr (refl, x, low x (last_among done x), record { positive = (above_last 0 done x up).0; small = small; owner = more.owner; is = place_after });
+      behind = inr (refl, x, low x (among_last done x), record { positive = (above_last 0 done x up).0; small = small; owner = more.owner; is = place_after });
       place = λ _. inl more.last;
     };
     last = more.last;

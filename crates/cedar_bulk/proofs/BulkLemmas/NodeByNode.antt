@@ -24,9 +24,10 @@ use Rattle.cedar_bulk.proofs.BulkLemmas.LabelByLabel.{ascending_leaves}
 use Rattle.cedar_model.proofs.EditLemmas.AtPath.{held_node}
 use Rattle.cedar_bulk.proofs.BulkLemmas.BareNode.{bare_leaf}
 use Rattle.cedar_bulk.proofs.BulkLemmas.OneAfterAnother.{ascending_edit}
-use Rattle.cedar_bulk.proofs.BulkLemmas.Pending.{children_wait, distinct_first, distinct_on, last_apart, less_work, pending_at, pending_join, pending_kept, pending_split}
-use Rattle.cedar_bulk.proofs.BulkLemmas.Spans.{above_of, all_positive}
+use Rattle.cedar_bulk.proofs.BulkLemmas.Pending.{children_wait, covers_distinct, distinct_on, last_apart, less_work, pending_at, pending_join, pending_kept, pending_split}
+use Rattle.cedar_bulk.proofs.BulkLemmas.Spans.{all_positive}
 use Rattle.cedar_model.proofs.MeaningLemmas.TreeOf.{in_use}
+use Rattle.cedar_model.proofs.MeaningLemmas.AmongLabels.{above_labels}
 
 -- ---- a node that was filled
 
@@ -36,7 +37,7 @@ module _ (T T' : Fields) (f : Forest) (w : List ℕ) (a : ℕ) (t : Tree) (cs : 
   filled_forest = edit_at w (λ _. t.number) (λ _. leaves (labels t.children)) f
 
   labels_up : Above 0 (labels t.children)
-  labels_up = above_of 0 t.children (all_positive t.children tree.sound) tree.ascending
+  labels_up = above_labels 0 t.children (all_positive t.children tree.sound) tree.ascending
 
   pub filled_holds : HoldsTree (size_of T') (cells_in T') filled_forest
   filled_holds = fills.tree f w holds up at bare
@@ -137,7 +138,7 @@ filling_begins slots T T' t d ps cs table holds tree number fills covers one = r
   own = λ reduced. leaves_keep (cells_in T') (labels t.children);
   left = length (prefixes_forest t.children);
   pending = filled_pending T T' none [] 0 t cs d ps holds tt (tt, refl) refl tree fills covers;
-  distinct = distinct_first (base_of (cells_in T') 0) cs t.children covers tree.sound;
+  distinct = covers_distinct (base_of (cells_in T') 0) cs t.children covers tree.sound;
   blocks = omega (arith, one);
 }
 

@@ -20,6 +20,7 @@ use Rattle.cedar_model.proofs.MeaningLemmas.SearchStep.{has_among}
 use Rattle.cedar_bulk.proofs.BulkLemmas.OneAfterAnother.{edit_below, edit_twice}
 use Rattle.cedar_bulk.proofs.BulkLemmas.Spans.{walk_some}
 use Rattle.cedar_model.proofs.MeaningLemmas.ExclusiveOr.{xor_injective}
+use Rattle.cedar_model.proofs.MeaningLemmas.AmongLabels.{among_front, among_join, among_last, among_push}
 
 -- ---- spans as specs speak of them
 
@@ -82,12 +83,6 @@ edit_onto (x ∷ xs) l n u rest apart = elim (eqb_tells x l) [
   | inr t ↦ rw t.0 (ap (child x None none) (edit_onto xs l n u rest (λ h. apart (inr h))))
 ]
 
-among_end : (xs : List ℕ) (x l : ℕ) → Among (xs ++ x ∷ []) l → Among xs l ⊎ (x ≡ l)
-among_end [] x l (inl e) = inr e
-among_end [] x l (inr h) = absurd h
-among_end (y ∷ ys) x l (inl e) = inl (inl e)
-among_end (y ∷ ys) x l (inr h) = elim (among_end ys x l h) [ inl k ↦ inl (inr k) | inr e ↦ inr e ]
-
 count_child : (l : ℕ) (n : Option ℤ) (u rest : Forest) → length (prefixes_forest (child l n u rest)) ≡ 1 + length (prefixes_forest u) + length (prefixes_forest rest)
 count_child l n u rest =
     let joined = length-append (map (λ (p : List ℕ). l ∷ p) (prefixes_forest u)) (prefixes_forest rest) in
@@ -115,7 +110,7 @@ module _ (T : Cells) (f : Forest) (w : List ℕ) (number : Option ℤ) (base : �
   children_wait (s ∷ cs) xs none covers sound ascending values apart there = absurd covers
   children_wait (s ∷ cs) xs (child l n u rest) covers sound ascending values apart there =
       let here = there l (inl refl) in
-      let later = children_wait cs (xs ++ l ∷ []) rest covers.2 sound.5 ascending.2 values.2 (λ m among end. by_end m among (among_end xs l m end)) (λ m among. there m (inr among)) in (
+      let later = children_wait cs (xs ++ l ∷ []) rest covers.2 sound.5 ascending.2 values.2 (λ m among end. by_end m among (among_push xs l m end)) (λ m among. there m (inr among)) in (
         w ++ l ∷ [],
         record { number = n; children = u },
         with_children (onto xs (child l None none rest)),
@@ -144,7 +139,7 @@ covers_node base (s ∷ cs) none covers x among = absurd covers
 covers_node base (s ∷ cs) (child l n u rest) covers x (inl e) = (l, inl refl, sym e ∙ covers.0)
 covers_node base (s ∷ cs) (child l n u rest) covers x (inr h) = let k = covers_node base cs rest covers.2 x h in (k.0, inr k.1, k.2)
 
-covers_distinct : (base : ℕ) (cs : List Part) (c : Forest) → Covers base cs c none → IsSoundBelow c → Distinct (nodes_of cs)
+pub covers_distinct : (base : ℕ) (cs : List Part) (c : Forest) → Covers base cs c none → IsSoundBelow c → Distinct (nodes_of cs)
 covers_distinct base [] c covers sound = tt
 covers_distinct base (s ∷ cs) none covers sound = absurd covers
 covers_distinct base (s ∷ cs) (child l n u rest) covers sound = (
@@ -154,20 +149,6 @@ covers_distinct base (s ∷ cs) (child l n u rest) covers sound = (
       true≢false (sym (has_among rest l (subst (Among (labels rest)) (sym same) k.1)) ∙ sound.2),
   covers_distinct base cs rest covers.2 sound.5,
 )
-
-among_join : (xs ys : List ℕ) (x : ℕ) → Among (xs ++ ys) x → Among xs x ⊎ Among ys x
-among_join [] ys x h = inr h
-among_join (z ∷ xs) ys x (inl e) = inl (inl e)
-among_join (z ∷ xs) ys x (inr h) = elim (among_join xs ys x h) [ inl k ↦ inl (inr k) | inr k ↦ inr k ]
-
-among_last : (xs : List ℕ) (y : ℕ) → Among (xs ++ y ∷ []) y
-among_last [] y = inl refl
-among_last (x ∷ xs) y = inr (among_last xs y)
-
-among_front : (xs ys : List ℕ) (x : ℕ) → Among xs x → Among (xs ++ ys) x
-among_front [] ys x h = absurd h
-among_front (z ∷ xs) ys x (inl e) = inl e
-among_front (z ∷ xs) ys x (inr h) = inr (among_front xs ys x h)
 
 distinct_join : (xs ys : List ℕ) → Distinct xs → Distinct ys → ((x : ℕ) → Among xs x → Among ys x → ⊥) → Distinct (xs ++ ys)
 distinct_join [] ys dx dy apart = dy
@@ -202,9 +183,6 @@ distinct_on T ps s base cs c d covers sound held fresh =
     subst Distinct (sym (nodes_join ps cs))
     (distinct_join (nodes_of ps) (nodes_of cs) (distinct_front (nodes_of ps) s.node (subst Distinct (nodes_join ps (s ∷ [])) d)).0 (covers_distinct base cs c covers sound)
     (λ x old new. let k = covers_node base cs c covers x new in fresh k.0 k.1 (subst (Held T) k.2 (held x old))))
-
-pub distinct_first : (base : ℕ) (cs : List Part) (c : Forest) → Covers base cs c none → IsSoundBelow c → Distinct (nodes_of cs)
-distinct_first base cs c covers sound = covers_distinct base cs c covers sound
 
 -- ---- less is left to do
 

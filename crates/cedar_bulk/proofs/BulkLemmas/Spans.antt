@@ -11,6 +11,7 @@ use Rattle.cedar_model.specs.Meaning.StandsFor.{labels}
 use Rattle.cedar_bulk.specs.Sorted.{entries_by, label_of, run, with_number}
 use Rattle.cedar_bulk.specs.Spans.{Covers, first_label, first_number, IsDeeper, IsTreeOfSpan, Lists, Part, stripped}
 use Rattle.cedar_model.specs.Edit.NodeEdits.{Above}
+use Rattle.cedar_model.proofs.MeaningLemmas.AmongLabels.{above_labels}
 
 -- ---- a key's bytes
 
@@ -348,10 +349,6 @@ pub record Below (d : ℕ) (ps : List Entry) (t : Tree) (number : Option ℤ) (s
   pub most : length (with_number number (labels t.children)) ≤ 256
   pub ascends : Above 0 (labels t.children)
 
-pub above_of : (low : ℕ) (f : Forest) → AllAbove low f → IsAscending f → Above low (labels f)
-above_of low none a s = tt
-above_of low (child l n u rest) a s = (a.0, above_of l rest s.0 s.2)
-
 -- labels are bytes, so there are not many
 few_labels : (low : ℕ) (f : Forest) → AllAbove low f → IsAscending f → IsSoundBelow f → low < 256 → length (labels f) + low ≤ 255
 few_labels low none a s b small = omega (arith, small)
@@ -365,7 +362,7 @@ below_is d (p ∷ ps) t number skipped k is count =
     let first = number_first d t.number t.children p ps k.walks k.sound in
     let same : number ≡ t.number = is ∙ first.0 in
     let count_is : skipped ≡ cond (is_some t.number) 1 0 = count ∙ ap (λ o. cond (is_some o) 1 0) same in
-    let up = above_of 0 t.children (all_positive t.children k.sound) k.ascending in
+    let up = above_labels 0 t.children (all_positive t.children k.sound) k.ascending in
     let few : length (labels t.children) + 0 ≤ 255 = few_labels 0 t.children (all_positive t.children k.sound) k.ascending k.sound (omega arith) in
     let w = by_number t.number skipped t.children count_is k.some few in
     record {

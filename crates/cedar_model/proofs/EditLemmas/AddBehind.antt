@@ -14,6 +14,7 @@ use Rattle.cedar_model.proofs.EditLemmas.NodeChange.{NodeStays}
 use Rattle.cedar_model.proofs.EditLemmas.ChangeAtPath.{edited, root_edited}
 use Rattle.cedar_model.proofs.MeaningLemmas.OneNode.{labels_own}
 use Rattle.cedar_model.proofs.MeaningLemmas.OneTree.{no_zero}
+use Rattle.cedar_model.proofs.MeaningLemmas.AmongLabels.{above_less}
 
 inserted_later : (l m : ℕ) (ms : List ℕ) → m < l → inserted l (m ∷ ms) ≡ m ∷ inserted l ms
 inserted_later l m ms h = let b : nat_lt l m ≡ false = grind (arith, nat_tests) in ap (λ t. cond t (l ∷ m ∷ ms) (m ∷ inserted l ms)) b
@@ -41,10 +42,6 @@ among_itself l (m ∷ ms) = elim (cases_lt l m) [
       subst (λ y. Among y l) (sym e) (inr (among_itself l ms))
 ]
 
-lower : (l m : ℕ) (ms : List ℕ) → l < m → Above m ms → Above l ms
-lower l m [] x v = tt
-lower l m (j ∷ ms) x v = (omega arith, v.1)
-
 -- the children with the new leaf among them
 module _ (size : ℕ) (T' : Cells) (a l : ℕ) (leaf : Node size T' (below T' a l) None []) where
   pub lower_inserted : (v : Forest) → ChildrenStand size T' a v → ChildrenStand size T' a (insert_ascending v l empty_tree)
@@ -67,7 +64,7 @@ module _ (size : ℕ) (T T' : Cells) (a l : ℕ) (k : AddsBehind size T T' a l) 
   links_after : (c : ℕ) (ms : List ℕ) → Above l ms → Links T a c ms → Links T' a c ms
   links_after c [] u h = h
   links_after c (m ∷ ms) u h =
-      (h.0, h.1, h.2, kept m h.3, subst (λ x. Links T' a x ms) (sym (ap T'.sibling (at m) ∙ k.after m h.3 u.0)) (links_after (T.sibling (below T a m)) ms (lower l m ms u.0 u.1) h.4))
+      (h.0, h.1, h.2, kept m h.3, subst (λ x. Links T' a x ms) (sym (ap T'.sibling (at m) ∙ k.after m h.3 u.0)) (links_after (T.sibling (below T a m)) ms (above_less l m ms u.0 u.1) h.4))
 
   -- l goes before this chain
   links_here : (c : ℕ) (ms : List ℕ) → Above l ms → T'.sibling (below T' a l) ≡ c → Links T a c ms → Links T' a l (l ∷ ms)

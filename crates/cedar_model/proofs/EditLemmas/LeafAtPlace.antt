@@ -14,10 +14,8 @@ use Rattle.cedar_model.proofs.EditLemmas.ChangeAtPath.{edited, follow_split, roo
 use Rattle.cedar_model.proofs.EditLemmas.NodeChange.{path_stays}
 use Rattle.cedar_model.proofs.MeaningLemmas.OneNode.{owned_label, Subtree}
 use Rattle.cedar_model.proofs.MeaningLemmas.OneTree.{links_unique, node_reads}
-
-above_labels : (b : ℕ) (f : Forest) → AllAbove b f → IsAscending f → Above b (labels f)
-above_labels b none u s = tt
-above_labels b (child m n below rest) u s = (u.0, above_labels m rest s.0 s.2)
+use Rattle.cedar_model.proofs.MeaningLemmas.NodeAtPath.{follow_last}
+use Rattle.cedar_model.proofs.MeaningLemmas.AmongLabels.{above_labels}
 
 labels_ascend : (f : Forest) → IsAscending f → Ascends (labels f)
 labels_ascend none s = tt
@@ -118,10 +116,6 @@ module _ (size : ℕ) (T T' : Cells) (l : ℕ) where
 
 -- ---- the paths
 
-follow_end : (l : ℕ) (w q : List ℕ) → follow_on (w ++ l ∷ []) q ≡ l ∷ follow_on w q
-follow_end l [] q = refl
-follow_end l (x ∷ w) q = follow_end l w (x ∷ q)
-
 label_touches : (size : ℕ) (T T' : Cells) (ordered : Bool) (a l : ℕ) → AddsLabel size ordered T T' a l → Touches T T' a (below T' a l) × (Held T (below T' a l) → ⊥) × (T'.check (below T' a l) ≡ pos a) × (0 < l)
 label_touches size T T' ordered a l (inl k) = (k.0.touches, k.0.free, k.0.taken, k.0.positive)
 label_touches size T T' ordered a l (inr k) = (k.1.touches, k.1.free, k.1.taken, k.1.positive)
@@ -148,5 +142,5 @@ module _ (size : ℕ) (T T' : Cells) (ordered : Bool) (f : Forest) (a l : ℕ) (
       let node : slot_at T' (follow_on w []) ≡ a = there.1 ∙ at.1 in
       let slot : slot_at T' (l ∷ follow_on w []) ≡ below T' a l = ap (λ s. below T' s l) node in
       let on : OnPath T' (l ∷ follow_on w []) = ((λ z. omega (arith, z, t.3)), ap T'.check slot ∙ t.2 ∙ ap pos (sym node), there.0) in
-      let e = follow_end l w [] in
+      let e = follow_last l w [] in
       (subst (OnPath T') (sym e) on, ap (slot_at T') e ∙ slot)

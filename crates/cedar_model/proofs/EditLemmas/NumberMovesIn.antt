@@ -20,11 +20,11 @@ use Rattle.cedar_model.proofs.EditLemmas.AtPath.{paths_touched}
 use Rattle.cedar_model.proofs.MeaningLemmas.NodeAtPath.{at_node, at_value}
 use Rattle.cedar_model.proofs.EditLemmas.NodeChange.{not_number}
 use Rattle.cedar_model.proofs.UpdateLemmas.Erasure.{lead_of}
-use Rattle.cedar_model.proofs.MeaningLemmas.KeyPath.{number_there}
 use Rattle.cedar_model.proofs.MeaningLemmas.NumberSlots.{dropped_marks, field_marks, own_marked}
 use Rattle.cedar_model.proofs.EditLemmas.NumberMovesOut.{back_again}
 use Rattle.cedar_model.proofs.MeaningLemmas.ExclusiveOr.{xor_back}
 use Rattle.cedar_model.proofs.MeaningLemmas.OneTree.{node_reads}
+use Rattle.cedar_tree.proofs.OrderLemmas.{number_of_node}
 
 no_links : (T : Cells) (s c : ℕ) (ls : List ℕ) → c ≡ 0 → Links T s c ls → ls ≡ []
 no_links T s c [] z k = refl
@@ -48,7 +48,7 @@ module _ (slots : ℕ) (T : Fields) (w : IsWellFormed slots T) (key : List ℕ) 
 
   pub in_range : is_value v ≡ true
   in_range =
-      subst (λ n. IfSome n (λ x. is_value x ≡ true)) (number_there (root_of (tree_of T).children) key ∙ number_is)
+      subst (λ n. IfSome n (λ x. is_value x ≡ true)) (number_of_node (root_of (tree_of T).children) key ∙ number_is)
       (all-number_at (λ x. is_value x ≡ true) (root_of (tree_of T).children) key refl w.values)
 
   -- a node that has no labels owns nothing once its number was dropped

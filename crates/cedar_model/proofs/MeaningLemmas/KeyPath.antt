@@ -18,19 +18,12 @@ use Rattle.cedar_model.proofs.MeaningLemmas.SearchStep.{no_label_zero, step_off}
 use Rattle.cedar_model.proofs.RelocationLemmas.Repointed.{base_within}
 use Rattle.cedar_model.proofs.MeaningLemmas.ExclusiveOr.{xor_within}
 use Rattle.cedar_model.proofs.MeaningLemmas.TreeOf.{tree_of_is}
-
-pub number_behind : (t : Tree) (w q : List ℕ) → number_at t (w ++ q) ≡ number_at (node_at t w) q
-number_behind t [] q = refl
-number_behind t (l ∷ w) q = number_behind (subtree t.children l) w q
-
-pub number_there : (t : Tree) (w : List ℕ) → number_at t w ≡ (node_at t w).number
-number_there t [] = refl
-number_there t (l ∷ w) = number_there (subtree t.children l) w
+use Rattle.cedar_tree.proofs.OrderLemmas.{number_at-append}
 
 -- where a label of the key leads to no child, the key has no number
 off_path : (t : Tree) (key : List ℕ) (n : ℕ) → n < length key → has_label (node_at t (take n key)).children (get_or key n 0) ≡ false → number_at t key ≡ None
 off_path t key n h none_there =
-    ap (number_at t) (sym (take-append-drop n key)) ∙ number_behind t (take n key) (drop n key) ∙ step_off (node_at t (take n key)) key n (get_or key n 0) h refl none_there
+    ap (number_at t) (sym (take-append-drop n key)) ∙ number_at-append t (take n key) (drop n key) ∙ step_off (node_at t (take n key)) key n (get_or key n 0) h refl none_there
 
 module _ (size : ℕ) (T : Cells) (f : Forest) (w : List ℕ) (a : ℕ) (h : HoldsTree size T f) (at : IsAt T w a) where
   pub base_inside : 0 < size → base_of T a < size

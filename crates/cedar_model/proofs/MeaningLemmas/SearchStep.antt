@@ -14,6 +14,7 @@ use Rattle.cedar_model.specs.Meaning.StandsFor.{labels, ChildrenStand, Stands, R
 use Rattle.cedar_model.proofs.MeaningLemmas.ExclusiveOr.{xor_back, xor_within}
 use Rattle.cedar_model.proofs.MeaningLemmas.OneNode.{labels_own, owned_label}
 use Rattle.cedar_model.proofs.MeaningLemmas.OneTree.{no_zero, family_no_zero}
+use Rattle.cedar_tree.proofs.TreeLemmas.{number_at-empty, subtree_absent}
 
 -- ---- the tree
 pub has_among : (f : Forest) (l : ℕ) → Among (labels f) l → has_label f l ≡ true
@@ -30,25 +31,12 @@ has_not (child m n u rest) l a = elim (eqb_tells m l) [
   | inr e ↦ ap (λ b. b || has_label rest l) e.0 ∙ has_not rest l (λ b. a (inr b))
 ]
 
-subtree_none : (f : Forest) (l : ℕ) → has_label f l ≡ false → subtree f l ≡ empty_tree
-subtree_none none l e = refl
-subtree_none (child m n u rest) l e = elim (eqb_tells m l) [
-  | inl h ↦ let t : true ≡ false = ap (λ b. b || has_label rest l) (sym h.0) ∙ e in cc
-  | inr h ↦
-      let r : has_label rest l ≡ false = ap (λ b. b || has_label rest l) (sym h.0) ∙ e in
-      ap (λ b. cond b (record { number = n; children = u }) (subtree rest l)) h.0 ∙ subtree_none rest l r
-]
-
-number_none : (q : List ℕ) → number_at empty_tree q ≡ None
-number_none [] = refl
-number_none (l ∷ q) = number_none q
-
 -- one label more of a key
 pub step_down : (u : Tree) (q : List ℕ) (k l : ℕ) → k < length q → l ≡ get_or q k 0 → number_at u (drop k q) ≡ number_at (subtree u.children l) (drop (k + 1) q)
 step_down u q k l h e = rw (drop-cons q k 0, ← e, add-one) refl
 
 pub step_off : (u : Tree) (q : List ℕ) (k l : ℕ) → k < length q → l ≡ get_or q k 0 → has_label u.children l ≡ false → number_at u (drop k q) ≡ None
-step_off u q k l h e n = step_down u q k l h e ∙ ap (λ t. number_at t (drop (k + 1) q)) (subtree_none u.children l n) ∙ number_none (drop (k + 1) q)
+step_off u q k l h e n = step_down u q k l h e ∙ ap (λ t. number_at t (drop (k + 1) q)) (subtree_absent u.children l n) ∙ number_at-empty (drop (k + 1) q)
 
 pub at_end : (u : Tree) (q : List ℕ) (k : ℕ) → length q ≤ k → number_at u (drop k q) ≡ u.number
 at_end u q k h = ap (number_at u) (drop_all k q h)

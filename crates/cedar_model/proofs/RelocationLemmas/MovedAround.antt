@@ -8,9 +8,10 @@ use Rattle.cedar_model.specs.Meaning.Family.{Among, base_of, below}
 use Rattle.cedar_model.specs.Relocation.Renaming.{IsNode, Movable, OwnsNothing, Progress, Rebased, Relocated, Renames, single}
 use Rattle.cedar_model.specs.Relocation.Reserved.{freed, seen}
 use Rattle.cedar_model.proofs.RelocationLemmas.OneTurn.{alone, among_get, among_take, free, node, not_own, parent_held, progress_free, progress_more, progress_none, relocated, root, still_mine}
-use Rattle.cedar_model.proofs.RelocationLemmas.SlotBySlot.{among_push, single_other}
+use Rattle.cedar_model.proofs.RelocationLemmas.SlotBySlot.{single_other}
 use Rattle.cedar_model.proofs.RelocationLemmas.KeptSlot.{renames_same, seen_alone, seen_apart, seen_free, seen_held, seen_node, seen_owned, seen_rebased, seen_renames, seen_root}
 use Rattle.cedar_model.proofs.MeaningLemmas.ExclusiveOr.{xor_back, xor_injective}
+use Rattle.cedar_model.proofs.MeaningLemmas.AmongLabels.{among_push}
 
 -- a relocation that has come as far as these labels, with slot k reserved or not yet
 pub record Reserving (T T₁ : Cells) (p b k : ℕ) (done : Bool) (gone : List ℕ) : Type 0 where

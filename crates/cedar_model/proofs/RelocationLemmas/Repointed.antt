@@ -11,7 +11,7 @@ use Rattle.cedar_model.specs.Relocation.Renaming.{Always, ChecksAt, IsNode, IsNu
 use Rattle.cedar_model.proofs.MeaningLemmas.ExclusiveOr.{xor_back, pos_injective}
 use Rattle.cedar_model.proofs.MeaningLemmas.OneTree.{links_unique, no_zero}
 use Rattle.cedar_model.proofs.MeaningLemmas.ReadBack.{chain_is, chain_short}
-use Rattle.cedar_model.proofs.RelocationLemmas.SlotBySlot.{among_left, among_last, among_push}
+use Rattle.cedar_model.proofs.MeaningLemmas.AmongLabels.{among_front, among_last, among_push}
 
 -- whether a check names slot a
 pub owner_cases : (z : ℤ) (a : ℕ) → (z ≡ pos a) ⊎ (z ≡ pos a → ⊥)
@@ -100,7 +100,7 @@ repointed_more T T₁ T₂ s t l gone mine r k = record {
   ];
   kept = λ q n.
       let m : q ≡ below T s l → ⊥ = λ e. n (ap T.check e ∙ mine) (subst (Among (gone ++ l ∷ [])) (sym (xor_back (base_of T s) l) ∙ ap (below T s) (sym e)) (among_last gone l)) in
-      k.other q m ∙ r.kept q (λ o g. n o (among_left gone l _ g));
+      k.other q m ∙ r.kept q (λ o g. n o (among_front gone (l ∷ []) _ g));
   base = λ q. k.base q ∙ r.base q;
   stored = λ q. k.stored q ∙ r.stored q;
   sibling = λ q. k.sibling q ∙ r.sibling q;

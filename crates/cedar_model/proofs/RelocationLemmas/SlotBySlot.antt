@@ -9,6 +9,7 @@ use Rattle.cedar_model.proofs.RelocationLemmas.CarriedNode.{family_carried}
 use Rattle.cedar_model.specs.Table.Cells.{Held}
 use Rattle.cedar_model.specs.Relocation.Renaming.{Renames, Moves, MovedSome, single}
 use Rattle.cedar_model.proofs.MeaningLemmas.ExclusiveOr.{pos_injective}
+use Rattle.cedar_model.proofs.MeaningLemmas.AmongLabels.{among_front, among_last, among_push}
 
 pub single_at : (a b : ℕ) → single a b a ≡ b
 single_at a b = grind (arith, nat_tests)
@@ -34,21 +35,6 @@ renames_twice T T₁ T₂ r s k m = record {
   apart = λ x y hx hy e. k.apart x y hx hy (m.apart (r x) (r y) (held_renamed T T₁ r k x hx) (held_renamed T T₁ r k y hy) e);
 }
 
-pub among_push : (gone : List ℕ) (l x : ℕ) → Among (gone ++ l ∷ []) x → Among gone x ⊎ (l ≡ x)
-among_push [] l x (inl e) = inr e
-among_push [] l x (inr a) = absurd a
-among_push (y ∷ gone) l x (inl e) = inl (inl e)
-among_push (y ∷ gone) l x (inr a) = elim (among_push gone l x a) [ inl b ↦ inl (inr b) | inr e ↦ inr e ]
-
-pub among_left : (gone : List ℕ) (l x : ℕ) → Among gone x → Among (gone ++ l ∷ []) x
-among_left [] l x a = absurd a
-among_left (y ∷ gone) l x (inl e) = inl e
-among_left (y ∷ gone) l x (inr a) = inr (among_left gone l x a)
-
-pub among_last : (gone : List ℕ) (l : ℕ) → Among (gone ++ l ∷ []) l
-among_last [] l = inl refl
-among_last (y ∷ gone) l = inr (among_last gone l)
-
 -- one more label gone
 pub moved_more : (T : Cells) (p b l : ℕ) (gone : List ℕ) (r : ℕ → ℕ) → T.check (below T p l) ≡ pos p → (Among gone l → ⊥) → ((x : ℕ) → Among gone x → Held T (bit_xor b x) → ⊥) → MovedSome T p b gone r → MovedSome T p b (gone ++ l ∷ []) (λ q. single (below T p l) (bit_xor b l) (r q))
 moved_more T p b l gone r here new fresh m =
@@ -62,7 +48,7 @@ moved_more T p b l gone r here new fresh m =
             ap (λ x. single a (bit_xor b l) (r x)) same ∙ ap (single a (bit_xor b l)) stays ∙ single_at a (bit_xor b l) ∙ ap (bit_xor b) last
       ];
       kept = λ q n.
-          let stay : r q ≡ q = m.kept q (λ o g. n o (among_left gone l _ g)) in
+          let stay : r q ≡ q = m.kept q (λ o g. n o (among_front gone (l ∷ []) _ g)) in
           ap (single a (bit_xor b l)) stay ∙ single_other a (bit_xor b l) q (λ e. n (ap T.check e ∙ here) (subst (Among (gone ++ l ∷ [])) (sym (xor_back (base_of T p) l) ∙ ap (below T p) (sym e)) (among_last gone l)));
     }
 

@@ -27,6 +27,7 @@ use Rattle.cedar_model.proofs.MeaningLemmas.NumberSlots.{marks_same, marks_then}
 use Rattle.cedar_model.proofs.EditLemmas.OwnNumber.{same_or_not}
 use Rattle.cedar_model.proofs.EditLemmas.NumberMovesOut.{leaf_alone}
 use Rattle.cedar_model.proofs.MeaningLemmas.TreeOf.{tree_of_is}
+use Rattle.cedar_model.proofs.UpdateLemmas.Frame.{settings_then}
 
 -- ---- the start
 
@@ -73,9 +74,6 @@ first_label w l b e =
 
 at_root : (T : Cells) (w : List ℕ) (a : ℕ) → w ≡ [] → IsAt T w a → a ≡ 0
 at_root T w a e at = sym (subst (λ x. IsAt T x a) e at).1
-
-pub settings_then : (a b c : Fields) → SameSettings a b → SameSettings b c → SameSettings a c
-settings_then a b c x y = record { ordered = y.ordered ∙ x.ordered; entries = y.entries ∙ x.entries; max_trial = y.max_trial ∙ x.max_trial }
 
 -- what a call that goes from the node at slot a to its child under label l makes sure of
 pub record Step (slots : ℕ) (mid after : Fields) (a l s : ℕ) : Type 0 where

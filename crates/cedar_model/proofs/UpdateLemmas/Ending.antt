@@ -10,8 +10,7 @@ use Rattle.cedar_tree.specs.Queries.{node_at, walk, walk_forest}
 use Rattle.cedar_tree.specs.Edits.{edit_at, HasPath, with_number}
 use Rattle.cedar_tree.proofs.CountLemmas.{length-walk-put}
 use Rattle.cedar_tree.proofs.EditLemmas.{put-with_number}
-use Rattle.cedar_tree.proofs.OrderLemmas.{ascending-put}
-use Rattle.cedar_tree.proofs.PutLemmas.{number_of_node}
+use Rattle.cedar_tree.proofs.OrderLemmas.{ascending-put, number_of_node}
 use Rattle.cedar_tree.proofs.TreeLemmas.{all-put, sound-put}
 use Rattle.cedar_slots.specs.declared.shortage.Shortage.{Shortage}
 use Rattle.cedar_slots.specs.declared.shortage.Shortage.TheVariants.{Memory, SlotLimit}
@@ -38,7 +37,8 @@ use Rattle.cedar_model.proofs.EditLemmas.OwnNumber.{number_stands}
 use Rattle.cedar_model.proofs.EditLemmas.LeafAtPlace.{below_root, ends}
 use Rattle.cedar_model.proofs.MeaningLemmas.HeldCount.{count_is_named, entries_named}
 use Rattle.cedar_model.proofs.MeaningLemmas.TreeOf.{is_well_formed, tree_of_is}
-use Rattle.cedar_model.proofs.UpdateLemmas.AlongKey.{key_some, next_owned, one_step, settings_then, walked_same}
+use Rattle.cedar_model.proofs.UpdateLemmas.AlongKey.{key_some, next_owned, one_step, walked_same}
+use Rattle.cedar_model.proofs.UpdateLemmas.Frame.{settings_then}
 
 root_kept : (slots : ℕ) (T T' : Fields) → IsWellFormed slots T → IsTable slots T'.places → (cells_in T').check 0 ≡ (cells_in T).check 0 → check_at T'.places.slots.nodes 0 ≡ negsuc 0
 root_kept slots T T' w table same =

@@ -9,7 +9,7 @@ use Rattle.cedar_tree.specs.Edits.{edit_at, HasPath, without_number}
 use Rattle.cedar_tree.proofs.CountLemmas.{length-walk-cut}
 use Rattle.cedar_tree.proofs.CutLemmas.{ascending-without_number, node_at-without_number}
 use Rattle.cedar_tree.proofs.EditLemmas.{cut-without_number, cut_stops_at_end}
-use Rattle.cedar_tree.proofs.OrderLemmas.{ascending-cut}
+use Rattle.cedar_tree.proofs.OrderLemmas.{ascending-cut, number_of_node}
 use Rattle.cedar_tree.proofs.TreeLemmas.{all-cut, cut_not_held, sound-cut}
 use Rattle.cedar_model.specs.Table.Cells.{Cells}
 use Rattle.cedar_model.specs.Meaning.Family.{Among, base_of, below, Family, Head, InRange, own, owned, plain, top, valued}
@@ -24,7 +24,7 @@ use Rattle.cedar_model.proofs.EditLemmas.AtPath.{not_own_owner, paths_touched}
 use Rattle.cedar_model.proofs.MeaningLemmas.NodeAtPath.{at_node, at_path}
 use Rattle.cedar_model.proofs.CellsLemmas.HeldSlots.{active_is}
 use Rattle.cedar_model.proofs.UpdateLemmas.TrimUpwards.{root_path}
-use Rattle.cedar_model.proofs.MeaningLemmas.KeyPath.{number_there, tree_root}
+use Rattle.cedar_model.proofs.MeaningLemmas.KeyPath.{tree_root}
 use Rattle.cedar_model.proofs.MeaningLemmas.ExclusiveOr.{xor_back}
 use Rattle.cedar_model.proofs.MeaningLemmas.TreeOf.{is_well_formed, tree_of_is}
 use Rattle.cedar_model.proofs.MeaningLemmas.OneTree.{no_zero}
@@ -61,7 +61,7 @@ dropped_trimmed t l path there =
 -- ---- the table before
 module _ (slots : ℕ) (T : Fields) (wf : IsWellFormed slots T) (key : List ℕ) (s : ℕ) (at : IsAt (cells_in T) key s) where
   number_is : number_at (tree_of T) key ≡ (node_at (root_of (tree_of T).children) key).number
-  number_is = ap (λ (t : Tree). number_at t key) (tree_root slots T wf) ∙ number_there (root_of (tree_of T).children) key
+  number_is = ap (λ (t : Tree). number_at t key) (tree_root slots T wf) ∙ number_of_node (root_of (tree_of T).children) key
 
   pub root_unheld : s ≡ 0 → number_at (tree_of T) key ≡ None
   root_unheld z = number_is ∙ ap (λ w. (node_at (root_of (tree_of T).children) w).number) (root_path (cells_in T) key s wf.stands.root at z)

@@ -17,9 +17,10 @@ use Rattle.cedar_model.specs.Table.TableFields.{Fields, size_of}
 use Rattle.cedar_model.specs.Meaning.WellFormed.{cells_in, IsWellFormed, tree_of}
 use Rattle.cedar_model.proofs.MeaningLemmas.NodeAtPath.{at_node, at_value}
 use Rattle.cedar_model.proofs.MeaningLemmas.SearchStep.{number_own}
-use Rattle.cedar_model.proofs.MeaningLemmas.KeyPath.{number_there, tree_root}
+use Rattle.cedar_model.proofs.MeaningLemmas.KeyPath.{tree_root}
 use Rattle.cedar_model.proofs.MeaningLemmas.NumberSlots.{marks_same}
 use Rattle.cedar_model.proofs.UpdateLemmas.AlongKey.{cells_same}
+use Rattle.cedar_tree.proofs.OrderLemmas.{number_of_node}
 
 module _ (T : Cells) (key : List ℕ) (i a : ℕ) where
   pub next_byte : i < length key → drop i key ≡ get_or key i 0 ∷ drop (i + 1) key
@@ -42,7 +43,7 @@ module _ (T : Cells) (key : List ℕ) (i a : ℕ) where
 pub own_held : (slots : ℕ) (T : Fields) (key : List ℕ) (s : ℕ) (v : ℤ) → IsWellFormed slots T → IsAt (cells_in T) key s → (cells_in T).stored s ≡ OwnNumber v → number_at (tree_of T) key ≡ Some v
 own_held slots T key s v w at own =
     ap (λ (t : Tree). number_at t key) (tree_root slots T w)
-    ∙ number_there (root_of (tree_of T).children) key
+    ∙ number_of_node (root_of (tree_of T).children) key
     ∙ number_own (size_of T) (cells_in T) s (node_at (root_of (tree_of T).children) key) (at_node (size_of T) (cells_in T) (tree_of T).children key s w.stands at) v own
 
 pub own_no_root : (slots : ℕ) (T : Fields) (s : ℕ) (v : ℤ) → IsWellFormed slots T → (cells_in T).stored s ≡ OwnNumber v → s ≡ 0 → ⊥
@@ -59,4 +60,4 @@ slots_marks layout a b same = subst (KeepsMarks (cells_of layout a)) (sym (cells
 -- a key whose node owns the slot of a number is held
 pub slot_held : (slots : ℕ) (T : Fields) (w : IsWellFormed slots T) (key : List ℕ) (s : ℕ) → IsAt (cells_in T) key s → (cells_in T).check (below (cells_in T) s 0) ≡ pos s → is_some (number_at (tree_of T) key) ≡ true
 slot_held slots T w key s at o =
-    ap is_some (ap (λ (t : Tree). number_at t key) (tree_root slots T w) ∙ number_there (root_of (tree_of T).children) key ∙ at_value (size_of T) (cells_in T) (tree_of T).children key s w.stands at o)
+    ap is_some (ap (λ (t : Tree). number_at t key) (tree_root slots T w) ∙ number_of_node (root_of (tree_of T).children) key ∙ at_value (size_of T) (cells_in T) (tree_of T).children key s w.stands at o)

@@ -22,7 +22,7 @@ use Rattle.cedar_model.specs.Meaning.WellFormed.{cells_in, IsWellFormed, tree_of
 use Rattle.cedar_model.proofs.MeaningLemmas.NodeAtPath.{among_has, at_path}
 use Rattle.cedar_model.proofs.MeaningLemmas.SearchStep.{child_stands, root_stands}
 use Rattle.cedar_model.proofs.UpdateLemmas.OnTheWay.{held_on_way}
-use Rattle.cedar_model.proofs.MeaningLemmas.KeyPath.{number_there, tree_root}
+use Rattle.cedar_model.proofs.MeaningLemmas.KeyPath.{tree_root}
 use Rattle.cedar_model.proofs.UpdateLemmas.NumberInTheWay.{goes_on}
 use Rattle.cedar_model.proofs.MeaningLemmas.NumberSlots.{marked_slot, own_marked, slot_marked}
 use Rattle.cedar_model.proofs.MeaningLemmas.OneNode.{labels_own}
@@ -34,6 +34,7 @@ use Rattle.cedar_model.proofs.MeaningLemmas.OneTree.{family_no_zero}
 use Rattle.cedar_model.proofs.UpdateLemmas.Ending.{not_root}
 use Rattle.cedar_model.proofs.UpdateLemmas.AlongKey.{key_some, way_at}
 use Rattle.cedar_model.proofs.UpdateLemmas.FreeWay.{next_byte, own_no_root}
+use Rattle.cedar_tree.proofs.OrderLemmas.{number_of_node}
 
 -- ---- the slot of a key that is held
 
@@ -57,7 +58,7 @@ module _ (slots : ℕ) (T : Fields) (well : IsWellFormed slots T) where
       let here : is_some (number_at (root_of f) w) ≡ true = ap (λ (t : Tree). is_some (number_at t w)) (sym (tree_root slots T well)) ∙ held in
       let at : IsAt (cells_in T) w (slot_at (cells_in T) (follow_on w [])) = (slot_on (size_of T) (cells_in T) w [] (root_of f) tt (root_stands (size_of T) (cells_in T) f well.stands.stands) (held_path (root_of f) w here), refl) in
       let a : ℕ = slot_at (cells_in T) (follow_on w []) in
-      elim (number_stands (size_of T) (cells_in T) f w a well.stands at (ap is_some (sym (number_there (root_of f) w)) ∙ here)) [
+      elim (number_stands (size_of T) (cells_in T) f w a well.stands at (ap is_some (sym (number_of_node (root_of f) w)) ∙ here)) [
         | inl o ↦ (true, (a, at, slot_marked (cells_in T) a o))
         | inr stored ↦
             let alone = leaf_alone (size_of T) (cells_in T) f w a well.stands at (own_no_root slots T a stored.0 well stored.1) (own_base (cells_in T) a stored.0 stored.1) in

@@ -36,10 +36,10 @@ ascending-with_child t o w l there is a =
 
 -- ---- bare leaves taken back
 
-trimmed_bare : (t : Tree) (w : List ℕ) → is_bare (node_at t w) ≡ true → trimmed t w ≡ cut t w
+pub trimmed_bare : (t : Tree) (w : List ℕ) → is_bare (node_at t w) ≡ true → trimmed t w ≡ cut t w
 trimmed_bare t w e = ap (λ b. cond b (cut t w) t) e
 
-trimmed_kept : (t : Tree) (w : List ℕ) → is_bare (node_at t w) ≡ false → trimmed t w ≡ t
+pub trimmed_kept : (t : Tree) (w : List ℕ) → is_bare (node_at t w) ≡ false → trimmed t w ≡ t
 trimmed_kept t w e = ap (λ b. cond b (cut t w) t) e
 
 pub trimmed_sound : (t : Tree) (w : List ℕ) → IsSoundBelow t.children → trimmed t w ≡ t

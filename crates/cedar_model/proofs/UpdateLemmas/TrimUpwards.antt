@@ -16,6 +16,7 @@ use Rattle.cedar_model.proofs.MeaningLemmas.NodeAtPath.{at_node, at_path, follow
 use Rattle.cedar_model.proofs.EditLemmas.LeafAtPlace.{below_root, ends}
 use Rattle.cedar_model.proofs.MeaningLemmas.ReadBack.{path_short}
 use Rattle.cedar_model.proofs.UpdateLemmas.BareTrimmed.{label_gone}
+use Rattle.cedar_model.proofs.UpdateLemmas.OnTheWay.{trimmed_bare, trimmed_kept}
 
 -- the tree f was trimmed from the path w upward as far as slot a, where the path `path` ends
 pub record Climbs (size : ℕ) (T : Cells) (f : Forest) (w : List ℕ) (a : ℕ) : Type 0 where
@@ -73,12 +74,6 @@ module _ (size : ℕ) (T : Cells) (n : ℕ) (T' : Cells) (f : Forest) (w : List 
   ]
 
 -- ---- the end
-trimmed_bare : (t : Tree) (w : List ℕ) → is_bare (node_at t w) ≡ true → trimmed t w ≡ cut t w
-trimmed_bare t w e = ap (λ b. cond b (cut t w) t) e
-
-trimmed_not : (t : Tree) (w : List ℕ) → is_bare (node_at t w) ≡ false → trimmed t w ≡ t
-trimmed_not t w e = ap (λ b. cond b (cut t w) t) e
-
 trimmed_root : (f : Forest) → (trimmed (root_of f) []).children ≡ f
 trimmed_root f = elim (is_bare (root_of f)) as (λ b. (cond b (cut (root_of f) []) (root_of f)).children ≡ f) [ true ↦ refl | false ↦ refl ]
 
@@ -96,7 +91,7 @@ climb_end size T f w a k stands = elim k.reached [
   stopped : w ≡ k.path → k.tree ≡ f → (a ≡ 0) ⊎ (is_bare (node_at (root_of k.tree) k.path) ≡ false) → k.tree ≡ (trimmed (root_of f) w).children
   stopped e same (inl z) = same ∙ sym (trimmed_root f) ∙ ap (λ v. (trimmed (root_of f) v).children) (sym (e ∙ root_path T k.path a k.holds.root k.at z))
   stopped e same (inr n) =
-      same ∙ sym (ap (λ (t : Tree). t.children) (trimmed_not (root_of f) w (ap (λ v. is_bare (node_at (root_of f) v)) e ∙ ap (λ g. is_bare (node_at (root_of g) k.path)) (sym same) ∙ n)))
+      same ∙ sym (ap (λ (t : Tree). t.children) (trimmed_kept (root_of f) w (ap (λ v. is_bare (node_at (root_of f) v)) e ∙ ap (λ g. is_bare (node_at (root_of g) k.path)) (sym same) ∙ n)))
 
   above_stands : (a ≡ 0) ⊎ (is_bare (node_at (root_of k.tree) k.path) ≡ false) → (k.path ≡ []) ⊎ (is_bare (node_at (root_of k.tree) k.path) ≡ false)
   above_stands (inl z) = inl (root_path T k.path a k.holds.root k.at z)

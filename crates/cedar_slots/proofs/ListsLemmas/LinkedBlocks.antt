@@ -7,7 +7,7 @@ use Rattle.std.proofs.lemmas.List.{get_or_read, get_or-set_same, get_or-set_othe
 use Rattle.cedar_slots.specs.declared.records.BlockRecord.{BlockRecord}
 use Rattle.cedar_slots.specs.declared.blocks.Counts.{Counts}
 use Rattle.cedar_slots.specs.declared.blocks.BlockType.TheVariants.{Open, Closed, Full}
-use Rattle.cedar_slots.specs.Blocks.{blank_block, counts_at, counts_of, block_at, next_at, prev_at, set_next, set_prev, BlockLink, linked_blocks, kind_of, KeepsCounts, SameFrom}
+use Rattle.cedar_slots.specs.Blocks.{blank_block, counts_at, counts_of, block_at, next_at, prev_at, set_next, set_prev, BlockLink, linked_blocks, kind_of, KeepsCounts}
 use Rattle.cedar_slots.specs.Ring.{Relinked}
 use Rattle.cedar_slots.proofs.RingsLemmas.Ring.{OneToOne}
 

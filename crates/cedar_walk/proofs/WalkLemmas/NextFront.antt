@@ -4,12 +4,13 @@ use Rattle.std.specs.List.{cons_option}
 use Rattle.cedar_tree.specs.Tree.{Tree, has_label, subtree}
 use Rattle.cedar_tree.specs.Queries.{node_at}
 use Rattle.cedar_tree.specs.Walks.{front_from}
-use Rattle.cedar_tree.proofs.FrontFromLemmas.{front_more, front_off, node_more, number_is}
+use Rattle.cedar_tree.proofs.FrontFromLemmas.{front_more, front_off, node_more}
 use Rattle.cedar_walk.specs.Fronts.{IsOnQuery}
 use Rattle.cedar_model.specs.Meaning.StandsFor.{Stands}
 use Rattle.cedar_model.specs.Table.TableFields.{Fields, size_of}
 use Rattle.cedar_model.specs.Meaning.WellFormed.{cells_in, IsWellFormed, tree_of}
 use Rattle.cedar_model.proofs.MeaningLemmas.TreeOf.{root_place}
+use Rattle.cedar_tree.proofs.OrderLemmas.{number_of_node}
 
 module _ (T : Fields) (q : List ℕ) (n s : ℕ) (on : IsOnQuery T q n s) (less : n < length q) where
   -- one byte more
@@ -28,7 +29,7 @@ module _ (T : Fields) (q : List ℕ) (n s : ℕ) (on : IsOnQuery T q n s) (less 
       → front_from (tree_of T) q n ≡ cons_option (option_map (λ (v : ℤ). (v, n)) found) (front_from (tree_of T) q (n + 1))
   front_at s' found on' reads =
       front_more (tree_of T) q n less
-      ∙ ap (λ (o : Option ℤ). cons_option (option_map (λ (v : ℤ). (v, n)) o) (front_from (tree_of T) q (n + 1))) (number_is (tree_of T) (take (n + 1) q) ∙ sym (reads (node_at (tree_of T) (take (n + 1) q)) on'.stands))
+      ∙ ap (λ (o : Option ℤ). cons_option (option_map (λ (v : ℤ). (v, n)) o) (front_from (tree_of T) q (n + 1))) (number_of_node (tree_of T) (take (n + 1) q) ∙ sym (reads (node_at (tree_of T) (take (n + 1) q)) on'.stands))
 
   pub front_held : (s' : ℕ) (v : ℤ) (m : ℕ) → m ≡ n → IsOnQuery T q (n + 1) s' → ((t : Tree) → Stands (size_of T) (cells_in T) s' t → Some v ≡ t.number)
       → front_from (tree_of T) q n ≡ (v, m) ∷ front_from (tree_of T) q (n + 1)

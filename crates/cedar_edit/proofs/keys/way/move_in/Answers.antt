@@ -19,8 +19,8 @@ use Rattle.cedar_model.proofs.MeaningLemmas.NumberSlots.{marked_slot}
 use Rattle.cedar_model.proofs.EditLemmas.NumberMovesIn.{alone_dropped, below_root, in_range, marked_in, number_back, others_in}
 use Rattle.cedar_model.proofs.EditLemmas.OwnNumber.{field_paths, spare_past}
 use Rattle.cedar_model.proofs.UpdateLemmas.Ending.{tree_kept}
-use Rattle.cedar_model.proofs.UpdateLemmas.AlongKey.{settings_then}
 use Rattle.cedar_model.proofs.UpdateLemmas.FreeWay.{at_same, slot_held}
+use Rattle.cedar_model.proofs.UpdateLemmas.Frame.{settings_then}
 use Rattle.cedar_edit.proofs.keys.way.move_in.Goals as goal
 
 pub lone_number-requires : goal.lone_number-requires
