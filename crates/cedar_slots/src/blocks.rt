@@ -38,7 +38,7 @@ impl Counts {
     }
 
     /// What a block counts once `slot` was taken, which stood before `next` in its ring.
-    pub fn less(self, slot: usize, next: usize) -> Counts
+    pub(crate) fn less(self, slot: usize, next: usize) -> Counts
         requires some { pos 1 ≤ℤ self.num }
         requires slot_fits { slot < 2 ^ 31 }
         requires next_fits { next < 2 ^ 31 }
@@ -61,7 +61,7 @@ impl Counts {
     }
 
     /// What a block counts whose free slots begin with `slot`.
-    pub fn beginning_at(self, slot: usize) -> Counts
+    pub(crate) fn beginning_at(self, slot: usize) -> Counts
         requires { slot < 2 ^ 31 }
         ensures num { result.num ≡ self.num }
         ensures reject { result.reject ≡ self.reject }
@@ -75,7 +75,7 @@ impl Counts {
     }
 
     /// What a block counts once `wanted` labels have found no place in it.
-    pub fn failed(self, wanted: i16, max_trial: i32) -> Counts
+    pub(crate) fn failed(self, wanted: i16, max_trial: i32) -> Counts
         requires { self.trial <ℤ max_trial }
         ensures num { result.num ≡ self.num }
         ensures reject { result.reject ≡ wanted }
@@ -90,7 +90,7 @@ impl Counts {
     }
 
     /// The number of the slot at which the free ones begin, where there is one.
-    pub fn head(self) -> usize
+    pub(crate) fn head(self) -> usize
         ensures { result ≡ unsigned_abs self.e_head }
     {
         self.e_head.unsigned_abs() as usize
@@ -98,7 +98,7 @@ impl Counts {
 
     /// What a block counts once a slot was given back to its other free slots. `floor` is what no
     /// block with as many free slots rejects.
-    pub fn more(self, floor: i16) -> Counts
+    pub(crate) fn more(self, floor: i16) -> Counts
         requires { self.num <ℤ pos 256 }
         ensures num { (n : ℕ) → self.num ≡ pos n → result.num ≡ pos (n + 1) }
         ensures e_head { result.e_head ≡ self.e_head }
@@ -126,7 +126,7 @@ impl Counts {
     }
 
     /// What a block without free slots counts once `slot` was given back.
-    pub fn one(self, slot: usize, floor: i16) -> Counts
+    pub(crate) fn one(self, slot: usize, floor: i16) -> Counts
         requires num { self.num <ℤ pos 256 }
         requires fits { slot < 2 ^ 31 }
         ensures num { (n : ℕ) → self.num ≡ pos n → result.num ≡ pos (n + 1) }
@@ -176,14 +176,14 @@ impl<A: Allocator> Blocks<A> {
     }
 
     /// The number of a list's first block, or 0.
-    pub fn first(&self, list: BlockType) -> usize
+    pub(crate) fn first(&self, list: BlockType) -> usize
         ensures { result ≡ unsigned_abs (head_of (blocks_of self.now) list) }
     {
         self.head(list).unsigned_abs() as usize
     }
 
     /// The block after `block` in its list.
-    pub fn next(&self, block: usize) -> usize
+    pub(crate) fn next(&self, block: usize) -> usize
         requires { block < length self.now.records.items }
         ensures { result ≡ unsigned_abs (next_at self.now.records.items block) }
     {
@@ -191,7 +191,7 @@ impl<A: Allocator> Blocks<A> {
     }
 
     /// The block before `block` in its list.
-    pub fn previous(&self, block: usize) -> usize
+    pub(crate) fn previous(&self, block: usize) -> usize
         requires { block < length self.now.records.items }
         ensures { result ≡ unsigned_abs (prev_at self.now.records.items block) }
     {
@@ -377,7 +377,7 @@ impl<A: Allocator> Blocks<A> {
 
     /// Sets what `block` counts, and moves it to the list that its counts now name.
     #[inline(always)]
-    pub fn set_counts(&mut self, block: usize, counts: Counts)
+    pub(crate) fn set_counts(&mut self, block: usize, counts: Counts)
         requires lists { HasLists (blocks_of self.old) }
         requires sized { Sized (blocks_of self.old) }
         requires block_in { block < self.old.active }
@@ -425,7 +425,7 @@ impl<A: Allocator> Blocks<A> {
 
     /// Puts the first block that is not in use into use, with all of its slots free, as the head of
     /// the open list.
-    pub fn activate(&mut self)
+    pub(crate) fn activate(&mut self)
         requires lists { HasLists (blocks_of self.old) }
         requires sized { Sized (blocks_of self.old) }
         requires room { self.old.active < length self.old.records.items }

@@ -171,7 +171,7 @@ impl<A: Allocator> Places<A> {
     }
 
     /// A free slot outside block 0, if there is one.
-    pub fn free_slot(&self) -> Option<usize>
+    pub(crate) fn free_slot(&self) -> Option<usize>
         requires { Sound (places_of self.now) }
         ensures found { IfSome result (λ slot. IsFreePlace (places_of self.now) slot) }
         ensures none { IfNone result (NoneFree (places_of self.now)) }

@@ -18,7 +18,7 @@ pub struct Slots<A: Allocator> {
 
 impl<A: Allocator> Slots<A> {
     /// The free slot after `slot` in its ring.
-    pub fn next_free(&self, slot: usize) -> usize
+    pub(crate) fn next_free(&self, slot: usize) -> usize
         requires { slot < length self.now.nodes.items }
         ensures { result ≡ unsigned_abs (check_at self.now.nodes.items slot) }
     {
@@ -26,7 +26,7 @@ impl<A: Allocator> Slots<A> {
     }
 
     /// The free slot before `slot` in its ring.
-    pub fn previous_free(&self, slot: usize) -> usize
+    pub(crate) fn previous_free(&self, slot: usize) -> usize
         requires { slot < length self.now.nodes.items }
         ensures { result ≡ unsigned_abs (base_at self.now.nodes.items slot) }
     {
@@ -34,7 +34,7 @@ impl<A: Allocator> Slots<A> {
     }
 
     /// Makes `to` the free slot after `from`.
-    pub fn link(&mut self, from: usize, to: usize)
+    pub(crate) fn link(&mut self, from: usize, to: usize)
         requires from_in { from < length self.old.nodes.items }
         requires to_in { to < length self.old.nodes.items }
         requires from_fits { from < 2 ^ 31 }
@@ -49,7 +49,7 @@ impl<A: Allocator> Slots<A> {
 
     /// Takes `slot` out of its ring, and stores `node` in it.
     #[tactic(auto, unfolding(crate::specs::Slots::taken))]
-    pub fn take(&mut self, slot: usize, node: NodeRecord)
+    pub(crate) fn take(&mut self, slot: usize, node: NodeRecord)
         requires slot_in { slot < length self.old.nodes.items }
         requires previous_in { unsigned_abs (base_at self.old.nodes.items slot) < length self.old.nodes.items }
         requires next_in { unsigned_abs (check_at self.old.nodes.items slot) < length self.old.nodes.items }
@@ -66,7 +66,7 @@ impl<A: Allocator> Slots<A> {
 
     /// Makes `slot` the one free slot of its block.
     #[tactic(auto, unfolding(crate::specs::Slots::given_alone))]
-    pub fn give_alone(&mut self, slot: usize)
+    pub(crate) fn give_alone(&mut self, slot: usize)
         requires slot_in { slot < length self.old.nodes.items }
         requires slot_in_infos { slot < length self.old.infos.items }
         requires fits { length self.old.nodes.items ≤ 2 ^ 30 }
@@ -81,7 +81,7 @@ impl<A: Allocator> Slots<A> {
 
     /// Makes `slot` free, and puts it after the free slot `head`.
     #[tactic(auto, unfolding(crate::specs::Slots::given_after))]
-    pub fn give_after(&mut self, head: usize, slot: usize)
+    pub(crate) fn give_after(&mut self, head: usize, slot: usize)
         requires slot_in { slot < length self.old.nodes.items }
         requires slot_in_infos { slot < length self.old.infos.items }
         requires head_in { head < length self.old.nodes.items }
@@ -99,7 +99,7 @@ impl<A: Allocator> Slots<A> {
     }
 
     /// Frees the 256 slots from `first` on, each of which stands before the next one in their ring.
-    pub fn free_block(&mut self, first: usize)
+    pub(crate) fn free_block(&mut self, first: usize)
         requires block_in { first + 256 ≤ length self.old.nodes.items }
         requires fits { length self.old.nodes.items ≤ 2 ^ 30 }
         ensures steps { (s : ℕ) → first ≤ s → s < first + 255 → SlotLink self.new.nodes.items s (s + 1) }
@@ -116,7 +116,7 @@ impl<A: Allocator> Slots<A> {
     }
 
     /// Stores the root, and frees all other slots of block 0, each before the next one in their ring.
-    pub fn free_root_block(&mut self, root: NodeRecord)
+    pub(crate) fn free_root_block(&mut self, root: NodeRecord)
         requires { length self.old.nodes.items ≡ 256 }
         ensures root { node_at self.new.nodes.items 0 ≡ root }
         ensures steps { (s : ℕ) → 1 ≤ s → s < 255 → SlotLink self.new.nodes.items s (s + 1) }
@@ -132,7 +132,7 @@ impl<A: Allocator> Slots<A> {
     }
 
     /// Whether `slot`, which isn't the root's, is free.
-    pub fn is_free(&self, slot: usize) -> bool
+    pub(crate) fn is_free(&self, slot: usize) -> bool
         requires slot_in { slot < length self.now.nodes.items }
         requires not_root { 0 < slot }
         ensures { result ≡ is_free self.now.nodes.items slot }
@@ -157,7 +157,7 @@ impl<A: Allocator> Slots<A> {
     }
 
     /// Whether each label's slot is free from `base` on.
-    pub fn fits(&self, base: usize, labels: &[u8]) -> bool
+    pub(crate) fn fits(&self, base: usize, labels: &[u8]) -> bool
         requires fits { length self.now.nodes.items ≤ 2 ^ 30 }
         requires base_in { 256 * (base / 256) + 256 ≤ length self.now.nodes.items }
         requires not_root { 0 < base / 256 }

@@ -17,7 +17,7 @@ impl<L: Layout, const SLOTS: usize, A: Allocator> Table<L, SLOTS, A> {
     ghost use Rattle.cedar_model.specs.Meaning.WellFormed.{IsWellFormed, tree_of};
 
     /// Whether a slot belongs to an owner: one comparison of a check field with a slot's number.
-    pub fn belongs<C: Ledger>(&self, slot: usize, owner: usize, ticks: &mut Ticks<C>) -> bool
+    pub(crate) fn belongs<C: Ledger>(&self, slot: usize, owner: usize, ticks: &mut Ticks<C>) -> bool
         requires slot_in { slot < size_of (fields self.now) }
         requires owner_in { owner < size_of (fields self.now) }
         ensures answer { IsTrue result ↔ ((cells self.now).check slot ≡ pos owner) }

@@ -164,7 +164,7 @@ fn longer<A: Allocator>(alloc: A, path: &[u8], label: u8) -> Result<Vec<u8, A>, 
 }
 
 /// Adds the entries of a node at a path: its number's before its children's, children in their order.
-pub fn walk_into<A: Allocator + Copy>(
+pub(crate) fn walk_into<A: Allocator + Copy>(
     alloc: A,
     node: &Node<A>,
     path: &[u8],
@@ -183,7 +183,7 @@ pub fn walk_into<A: Allocator + Copy>(
 }
 
 /// Adds the paths of the nodes below a node at a path.
-pub fn prefixes_into<A: Allocator + Copy>(
+pub(crate) fn prefixes_into<A: Allocator + Copy>(
     alloc: A,
     node: &Node<A>,
     path: &[u8],
