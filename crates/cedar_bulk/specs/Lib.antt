@@ -3,3 +3,4 @@ pub mod Asked
 pub mod Sorted
 pub mod SortedMarks
 pub mod Spans
+pub mod Words

@@ -1,18 +1,8 @@
 //! All labels of a node, one behind the other.
 
 ghost use Rattle.std.specs.Prelude.{◌≡◌, ◌⊎◌, ℕ, List, ◌++◌, [], ◌∷◌, bit_xor, pos, true};
-ghost use Rattle.cedar_tree.specs.Tree.{Forest, IsAscending, none};
-ghost use Rattle.cedar_tree.specs.Edits.{add_leaf, edit_at};
+ghost use Rattle.cedar_bulk.specs.Words.{add_leaf, below, capacity_of, cells, edit_at, fields, Forest, GetsLabels, Held, HoldsTree, IsAscending, IsAt, IsTable, none, SameFrame, SameSettings, size_of, WantsLabel, WantsLabels};
 ghost use Rattle.cedar_model.specs.declared.layout.Stored.TheVariants.{AtBase};
-ghost use Rattle.cedar_model.specs.Table.Cells.{Held};
-ghost use Rattle.cedar_model.specs.Edit.NodeEdits.{IsAt};
-ghost use Rattle.cedar_model.specs.Meaning.Family.{below};
-ghost use Rattle.cedar_model.specs.Meaning.StandsFor.{HoldsTree};
-ghost use Rattle.cedar_slots.specs.Places.{IsTable};
-ghost use Rattle.cedar_bulk.specs.Sorted.{GetsLabels};
-ghost use Rattle.cedar_table.specs.Table.Views.{cells, fields};
-ghost use Rattle.cedar_model.specs.Table.TableFields.{capacity_of, SameFrame, SameSettings, size_of};
-ghost use Rattle.cedar_bulk.specs.Asked.{WantsLabel, WantsLabels};
 
 use cedar_table::{Layout, Table};
 use std::alloc::Allocator;

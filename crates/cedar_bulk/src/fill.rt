@@ -1,16 +1,7 @@
 //! A node with all of its slots at once: its number's and its labels'.
 
 ghost use Rattle.std.specs.Prelude.{◌≡◌, ℕ, ◌≤◌, IfErr, IfOk, IfSome, length, MatchOption, OnErr, OnOk, Option, Some, None, true};
-ghost use Rattle.cedar_model.specs.Table.Layouts.{reduced_layout};
-ghost use Rattle.cedar_slots.specs.Places.{IsTable, MayRefuse};
-ghost use Rattle.cedar_bulk.specs.SortedMarks.{KeepsOwn};
-ghost use Rattle.cedar_bulk.specs.Sorted.{Ends, Fills, GetsBase, GetsNumber};
-ghost use Rattle.cedar_model.specs.Edit.Steps.{MakesBlocks};
-ghost use Rattle.cedar_model.specs.Meaning.Family.{base_of};
-ghost use Rattle.cedar_table.specs.Table.Views.{cells, fields};
-ghost use Rattle.cedar_model.specs.Table.TableFields.{SameFrame, SameSettings, size_of};
-ghost use Rattle.cedar_model.specs.Meaning.WellFormed.{is_value};
-ghost use Rattle.cedar_bulk.specs.Asked.{WantsBase, WantsChain, WantsNumber, WantsSlots};
+ghost use Rattle.cedar_bulk.specs.Words.{base_of, cells, Ends, fields, Fills, GetsBase, GetsNumber, is_value, IsTable, KeepsOwn, MakesBlocks, MayRefuse, reduced_layout, SameFrame, SameSettings, size_of, WantsBase, WantsChain, WantsNumber, WantsSlots};
 
 use crate::append::{append_labels, slot_at};
 use cedar_slots::Shortage;

@@ -2,23 +2,9 @@
 
 ghost use Rattle.std.specs.Prelude.{◌≡◌, ◌⊎◌, ℕ, List, [], ◌++◌, ◌+◌, ◌*◌, ◌<◌, ◌≤◌, ◌≤ℤ◌, ◌≢◌, IfErr, IfOk, length, None, OnErr, OnOk, option_to_list, pos, true};
 ghost use Rattle.std.specs.List.{AllByRecursion};
-ghost use Rattle.cedar_tree.specs.Tree.{empty_tree, Forest, none, Tree};
-ghost use Rattle.cedar_tree.specs.Laws.{ArePathsAscending, ArePathsKeys};
-ghost use Rattle.cedar_tree.specs.Queries.{asc, prefixes, prefixes_forest};
+ghost use Rattle.cedar_bulk.specs.Words.{ArePathsAscending, ArePathsKeys, asc, base_of, blocks_after, capacity_of, cells, Covers, empty_tree, entries_by, fields, Filling, Fills, Forest, HoldsTree, is_value, IsAlike, IsSlotLimit, IsTable, IsTreeOfSpan, IsUnfilled, IsWellFormed, KeepsOwn, labels, MakesBlocks, marks, MayRefuse, none, Part, parts_of, prefixes, prefixes_forest, SameModes, SameSettings, size_of, SortedMarks, Tree, tree_of};
 ghost use Rattle.cedar_slots.specs.declared.shortage.Shortage.TheVariants.{Memory, SlotLimit};
 ghost use Rattle.cedar_model.specs.declared.layout.Stored.TheVariants.{AtBase};
-ghost use Rattle.cedar_model.specs.Meaning.Family.{base_of};
-ghost use Rattle.cedar_model.specs.Meaning.StandsFor.{HoldsTree, labels};
-ghost use Rattle.cedar_slots.specs.Places.{IsSlotLimit, IsTable, MayRefuse};
-ghost use Rattle.cedar_bulk.specs.Sorted.{entries_by, Fills};
-ghost use Rattle.cedar_bulk.specs.SortedMarks.{KeepsOwn, SortedMarks};
-ghost use Rattle.cedar_model.specs.Meaning.Marks.{marks};
-ghost use Rattle.cedar_bulk.specs.Spans.{Covers, Filling, IsAlike, IsTreeOfSpan, Part, parts_of};
-ghost use Rattle.cedar_model.specs.Edit.Steps.{blocks_after, MakesBlocks, SameModes};
-ghost use Rattle.cedar_table.specs.Table.Views.{cells, fields};
-ghost use Rattle.cedar_model.specs.Table.TableFields.{capacity_of, SameSettings, size_of};
-ghost use Rattle.cedar_model.specs.Meaning.WellFormed.{is_value, IsWellFormed, tree_of};
-ghost use Rattle.cedar_bulk.specs.Asked.{IsUnfilled};
 
 use crate::append::slot_at;
 use crate::fill::fill_node;

@@ -1,10 +1,7 @@
 //! Sorted pairs that go on below one node, and what they say of its number and its labels.
 
 ghost use Rattle.std.specs.Prelude.{◌≡◌, ◌↔◌, ◌<◌, ◌≤◌, ◌+◌, ◌++◌, ℕ, List, [], drop, get_or, IsTrue, length, map, OnOk, take};
-ghost use Rattle.cedar_tree.specs.Tree.{Forest, none, Tree};
-ghost use Rattle.cedar_model.specs.Meaning.StandsFor.{labels};
-ghost use Rattle.cedar_bulk.specs.Sorted.{entries_by, run, with_number};
-ghost use Rattle.cedar_bulk.specs.Spans.{based_at, Covers, first_label, first_number, IsAlike, IsDeeper, IsTreeOfSpan, Lists, Part, parts_of};
+ghost use Rattle.cedar_bulk.specs.Words.{based_at, Covers, entries_by, first_label, first_number, Forest, IsAlike, IsDeeper, IsTreeOfSpan, labels, Lists, none, Part, parts_of, run, Tree, with_number};
 
 use arrayvec::ArrayVec;
 use std::alloc::{AllocError, Allocator};

@@ -3,3 +3,4 @@ pub mod Places
 pub mod Ring
 pub mod Slots
 pub mod Views
+pub mod Words

@@ -1,10 +1,8 @@
 //! The blocks, and the lists in which they stand.
 
 ghost use Rattle.std.specs.Prelude.{◌≡◌, ℕ, ◌+◌, ◌^◌, ◌<◌, ◌≤◌, ◌+ℤ◌, ◌<ℤ◌, ◌≤ℤ◌, ℤ, List, ◌∷◌, IsTrue, length, unsigned_abs, pos};
-ghost use Rattle.cedar_slots.specs.Ring.{occurs};
+ghost use Rattle.cedar_slots.specs.Words.{block_at, blocks_of, counts_at, fresh_counts, HasLists, head_of, KeepsCounts, KeepsLinks, kind_of, linked_blocks, ListRings, next_at, occurs, Popped, prev_at, replaced, SameFrom, Sized, total};
 ghost use Rattle.std.specs.Int.{int_max};
-ghost use Rattle.cedar_slots.specs.Blocks.{block_at, counts_at, fresh_counts, head_of, HasLists, KeepsCounts, KeepsLinks, kind_of, linked_blocks, ListRings, next_at, Popped, prev_at, replaced, SameFrom, Sized, total};
-ghost use Rattle.cedar_slots.specs.Views.{blocks_of};
 ghost use Rattle.cedar_slots.specs.declared.blocks.BlockType.{BlockType};
 
 use crate::records::BlockRecord;

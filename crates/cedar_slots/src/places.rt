@@ -2,10 +2,7 @@
 
 ghost use Rattle.std.specs.List.{range_with_len};
 ghost use Rattle.std.specs.Prelude.{◌+◌, count_by, not, slice_set, IfErr, IfNone, IfOk, IfSome, length, OnErr, OnOk, ◌≡◌, ◌≤◌, ◌⊎◌, ℕ, ◌==◌, if◌then◌else◌, ◌<◌, ◌*◌, ◌/◌, ◌^◌, ◌≤ℤ◌, false, int_lt, pos, true};
-ghost use Rattle.cedar_slots.specs.Blocks.{counts_at};
-ghost use Rattle.cedar_slots.specs.Slots.{is_free, node_at};
-ghost use Rattle.cedar_slots.specs.Views.{blocks_of, places_of, slots_of};
-ghost use Rattle.cedar_slots.specs.Places.{AddsBlock, FreesSlot, Grown, IsFreePlace, IsNew, IsOpen, IsBase, IsPowerOfTwo, IsSlotLimit, IsStart, MayRefuse, NoneFree, reject_at, Rejects, room_for_one, SameSlots, Shaped, Sound, TakesSlot, Within};
+ghost use Rattle.cedar_slots.specs.Words.{AddsBlock, blocks_of, counts_at, FreesSlot, Grown, is_free, IsBase, IsFreePlace, IsNew, IsOpen, IsPowerOfTwo, IsSlotLimit, IsStart, MayRefuse, node_at, NoneFree, places_of, reject_at, Rejects, room_for_one, SameSlots, Shaped, slots_of, Sound, TakesSlot, Within};
 
 use crate::blocks::{BlockType, Blocks};
 use crate::records::{BlockRecord, NInfoRecord, NodeRecord};

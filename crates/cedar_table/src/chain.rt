@@ -7,11 +7,7 @@ use std::alloc::Allocator;
 
 impl<L: Layout, const SLOTS: usize, A: Allocator> Table<L, SLOTS, A> {
     ghost use Rattle.std.specs.Prelude.{◌≢◌, ◌<◌, MatchOption};
-    ghost use Rattle.cedar_model.specs.Table.Cells.{Held};
-    ghost use Rattle.cedar_model.specs.Edit.NodeEdits.{LinkedBehind, LinkedChild, SetsChild, SetsSibling};
-    ghost use Rattle.cedar_slots.specs.Places.{IsTable};
-    ghost use Rattle.cedar_table.specs.Table.Views.{cells, fields};
-    ghost use Rattle.cedar_model.specs.Table.TableFields.{SameFrame, size_of};
+    ghost use Rattle.cedar_table.specs.Words.{cells, fields, Held, IsTable, LinkedBehind, LinkedChild, SameFrame, SetsChild, SetsSibling, size_of};
 
     /// Makes `label` the one after that of the held slot `slot`.
     pub fn set_sibling(&mut self, slot: usize, label: u8)

@@ -7,22 +7,9 @@ use cedar_slots::NodeRecord;
 use std::alloc::Allocator;
 
 impl<L: Layout, const SLOTS: usize, A: Allocator> Table<L, SLOTS, A> {
-    ghost use Rattle.cedar_model.specs.Edit.NodeEdits.{IsAt};
-    ghost use Rattle.cedar_model.specs.Meaning.Family.{Family, Head, Links, base_of, below, owned};
-    ghost use Rattle.cedar_model.specs.Meaning.WellFormed.{IsWellFormed, tree_of, is_value, TableHolds};
-    ghost use Rattle.cedar_model.specs.Relocation.Renaming.{ChecksAt, IsNode, Rebased, OwnsNothing};
-    ghost use Rattle.cedar_model.specs.Table.Cells.{Held};
-    ghost use Rattle.cedar_model.specs.Table.TableFields.{SameFrame, size_of};
+    ghost use Rattle.cedar_table.specs.Words.{base_of, below, cells, ChecksAt, edit_at, empty_tree, Family, fields, FieldSet, Forest, HasNode, HasPath, Head, Held, is_value, IsAt, IsNode, IsTable, IsWellFormed, Links, node_at, number_at, owned, OwnsNothing, Rebased, reduced_layout, SameFrame, size_of, TableHolds, tree_of};
     ghost use Rattle.cedar_model.specs.declared.layout.Stored.TheVariants.{Nothing, OwnNumber};
-    ghost use Rattle.cedar_slots.specs.Places.{IsTable};
-    ghost use Rattle.cedar_table.specs.Table.Views.{cells, fields};
-    ghost use Rattle.cedar_tree.specs.Edits.{HasPath, edit_at};
-    ghost use Rattle.cedar_tree.specs.Queries.{node_at};
-    ghost use Rattle.cedar_tree.specs.Tree.{empty_tree, number_at, Forest};
     ghost use Rattle.std.specs.Prelude.{◌<◌, ◌^◌, ◌↔◌, ◌≡◌, ◌≢◌, IsTrue, List, MatchOption, None, [], false, pos, ℕ, Some, true};
-    ghost use Rattle.cedar_model.specs.Table.Layouts.{reduced_layout};
-    ghost use Rattle.cedar_model.specs.Edit.Own.{FieldSet};
-    ghost use Rattle.cedar_model.specs.Edit.Steps.{HasNode};
 
     /// What the base field of a node says. In the layout by default that is a base, with no test.
     pub fn stored_at_node(&self, node: usize) -> Stored

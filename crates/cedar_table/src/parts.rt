@@ -1,10 +1,7 @@
 //! A table as its parts: it is made of them when it is loaded, and gives them when it is saved.
 
 ghost use Rattle.std.specs.Prelude.{◌≡◌, length};
-ghost use Rattle.cedar_table.specs.Table.Parts.{parts_fields};
-ghost use Rattle.cedar_slots.specs.Places.{Shaped};
-ghost use Rattle.cedar_table.specs.Table.Views.{fields};
-ghost use Rattle.cedar_slots.specs.Views.{places_of};
+ghost use Rattle.cedar_table.specs.Words.{fields, parts_fields, places_of, Shaped};
 
 use crate::table::Table;
 use cedar_model::Layout;

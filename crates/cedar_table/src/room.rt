@@ -1,7 +1,7 @@
 //! Room for blocks that are still to come into use.
 
 ghost use Rattle.std.specs.Prelude.{◌≡◌, ◌<◌, ◌≤◌, ◌+◌, ◌*◌, ◌^◌, IfErr, length, OnErr, OnOk};
-ghost use Rattle.cedar_model.specs.Edit.Steps.{blocks_after};
+ghost use Rattle.cedar_table.specs.Words.{blocks_after, capacity_of, cells, fields, Grown, IsWellFormed, LacksRoom, marks, SameSettings, size_of, tree_of};
 
 use crate::table::Table;
 use cedar_model::Layout;
@@ -24,13 +24,6 @@ fn doubled_for(blocks: usize, active: usize, more: usize) -> usize
 }
 
 impl<L: Layout, const SLOTS: usize, A: Allocator> Table<L, SLOTS, A> {
-    ghost use Rattle.cedar_model.specs.Meaning.Marks.{marks};
-    ghost use Rattle.cedar_model.specs.Meaning.WellFormed.{IsWellFormed, tree_of};
-    ghost use Rattle.cedar_model.specs.Table.TableFields.{capacity_of, SameSettings, size_of};
-    ghost use Rattle.cedar_slots.specs.Places.{Grown};
-    ghost use Rattle.cedar_table.specs.Table.Room.{LacksRoom};
-    ghost use Rattle.cedar_table.specs.Table.Views.{cells, fields};
-
     /// Asks for the memory of `blocks` blocks more than are in use. The table doubles until they have room, as it would if they came
     /// into use one after another; where they have room, nothing is asked for.
     pub fn try_reserve(&mut self, blocks: usize) -> Result<(), Shortage>

@@ -8,13 +8,8 @@ use std::sync::ledger::Ledger;
 
 impl<L: Layout, const SLOTS: usize, A: Allocator> Table<L, SLOTS, A> {
     ghost use Rattle.std.specs.Prelude.{◌≡◌, ◌+◌, ◌<◌, ◌≤◌, ◌↔◌, IsTrue, false, MatchOption, OnSome, pos, length};
-    ghost use Rattle.cedar_tree.specs.Tree.{Tree, has_label, subtree};
-    ghost use Rattle.cedar_tree.specs.Queries.{exact};
+    ghost use Rattle.cedar_table.specs.Words.{cells, exact, fields, has_label, IsWellFormed, size_of, Stands, subtree, Tree, tree_of};
     ghost use Rattle.cedar_model.specs.declared.layout.Stored.TheVariants.{Nothing};
-    ghost use Rattle.cedar_model.specs.Meaning.StandsFor.{Stands};
-    ghost use Rattle.cedar_table.specs.Table.Views.{cells, fields};
-    ghost use Rattle.cedar_model.specs.Table.TableFields.{size_of};
-    ghost use Rattle.cedar_model.specs.Meaning.WellFormed.{IsWellFormed, tree_of};
 
     /// Whether a slot belongs to an owner: one comparison of a check field with a slot's number.
     pub(crate) fn belongs<C: Ledger>(&self, slot: usize, owner: usize, ticks: &mut Ticks<C>) -> bool

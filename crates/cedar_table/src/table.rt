@@ -31,18 +31,7 @@ impl<L: Layout, const SLOTS: usize, A: Allocator> Table<L, SLOTS, A> {
     ghost use Rattle.std.specs.Prelude.{ℕ, ◌<◌, ◌^◌, ◌⊎◌, ◌+◌, ◌-◌, ◌/◌, ◌↔◌, count_by, IfErr, IfOk, IsTrue, negsuc, OnErr};
     ghost use Rattle.std.specs.List.{range_with_len};
     ghost use Rattle.cedar_slots.specs.declared.shortage.Shortage.TheVariants.{Memory};
-    ghost use Rattle.cedar_slots.specs.Blocks.{block_at};
-    ghost use Rattle.cedar_model.specs.Table.Cells.{Gives, HasPlaces, Held, InfoWritten, is_held, IsPlace, NodeWritten, NoPlace, SameHeld, Takes};
-    ghost use Rattle.cedar_model.specs.Table.Layouts.{reading};
-    ghost use Rattle.cedar_slots.specs.Places.{AddsBlock, IsNew, MayRefuse, reject_at, SameSlots};
-    ghost use Rattle.cedar_model.specs.Edit.Asked.{MayClaim};
-    ghost use Rattle.cedar_model.specs.Relocation.Reserved.{freed};
-    ghost use Rattle.cedar_slots.specs.Slots.{check_at};
-    ghost use Rattle.cedar_table.specs.Table.Views.{cells, fields};
-    ghost use Rattle.cedar_model.specs.Table.TableFields.{capacity_of, SameFrame, SameSettings, size_of};
-    ghost use Rattle.cedar_model.specs.Meaning.WellFormed.{IsWellFormed, tree_of};
-    ghost use Rattle.cedar_tree.specs.Tree.{empty_tree};
-    ghost use Rattle.cedar_model.specs.Edit.Steps.{MakesBlocks};
+    ghost use Rattle.cedar_table.specs.Words.{AddsBlock, block_at, capacity_of, cells, check_at, empty_tree, fields, freed, Gives, HasPlaces, Held, InfoWritten, is_held, IsNew, IsPlace, IsWellFormed, MakesBlocks, MayClaim, MayRefuse, NodeWritten, NoPlace, reading, reject_at, SameFrame, SameHeld, SameSettings, SameSlots, size_of, Takes, tree_of};
 
     /// A table with one block, in which the root alone is held. It stands for the empty tree.
     pub fn new(alloc: A, ordered: bool, max_trial: i32) -> Result<Self, Shortage>

@@ -2,3 +2,4 @@
 pub mod Batch
 pub mod Fronts
 pub mod Visits
+pub mod Words

@@ -1,10 +1,7 @@
 //! Look-ups of many keys in step, so that their waits for memory overlap.
 
 ghost use Rattle.std.specs.Prelude.{◌≡◌, ◌+◌, ◌++◌, ◌<◌, ◌≤◌, drop, length, map, Some, take};
-ghost use Rattle.cedar_tree.specs.Queries.{exact};
-ghost use Rattle.cedar_walk.specs.Batch.{AreLanes, IsLane, keys_of};
-ghost use Rattle.cedar_table.specs.Table.Views.{fields};
-ghost use Rattle.cedar_model.specs.Meaning.WellFormed.{IsWellFormed, tree_of};
+ghost use Rattle.cedar_walk.specs.Words.{AreLanes, exact, fields, IsLane, IsWellFormed, keys_of, tree_of};
 
 use cedar_model::Layout;
 use cedar_slots::Ticks;

@@ -1,10 +1,7 @@
 //! The next front of a query that is held.
 
 ghost use Rattle.std.specs.Prelude.{◌≡◌, ◌∷◌, [], ◌+◌, ◌*◌, ◌-◌, ◌<◌, ◌≤◌, length, MatchOption};
-ghost use Rattle.cedar_tree.specs.Walks.{front_from};
-ghost use Rattle.cedar_walk.specs.Fronts.{IsOnQuery, passed};
-ghost use Rattle.cedar_table.specs.Table.Views.{fields};
-ghost use Rattle.cedar_model.specs.Meaning.WellFormed.{IsWellFormed, tree_of};
+ghost use Rattle.cedar_walk.specs.Words.{fields, front_from, IsOnQuery, IsWellFormed, passed, tree_of};
 
 use cedar_model::Layout;
 use cedar_slots::Ticks;

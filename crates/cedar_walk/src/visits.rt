@@ -1,16 +1,7 @@
 //! A walk over the nodes of a tree, each before its children: from a node to the next one, by the slots alone.
 
 ghost use Rattle.std.specs.Prelude.{◌≡◌, ◌≢◌, ℕ, ℤ, List, [], ◌∷◌, ◌++◌, ◌+◌, ◌<◌, MatchOption, pos, Some, true};
-ghost use Rattle.cedar_tree.specs.Tree.{has_label, Tree};
-ghost use Rattle.cedar_tree.specs.Queries.{node_at, walk};
-ghost use Rattle.cedar_tree.specs.Walks.{behind, entries_of};
-ghost use Rattle.cedar_model.specs.Edit.NodeEdits.{IsAt};
-ghost use Rattle.cedar_model.specs.Meaning.Family.{below};
-ghost use Rattle.cedar_model.specs.Meaning.StandsFor.{Stands};
-ghost use Rattle.cedar_table.specs.Table.Views.{cells, fields};
-ghost use Rattle.cedar_model.specs.Table.TableFields.{size_of};
-ghost use Rattle.cedar_walk.specs.Visits.{ComesTo, ComesToNumber, entries_at, first_of, IsBelow, IsNumberedBelow, left_after, left_at, path_to, visited_at};
-ghost use Rattle.cedar_model.specs.Meaning.WellFormed.{IsWellFormed, tree_of};
+ghost use Rattle.cedar_walk.specs.Words.{behind, below, cells, ComesTo, ComesToNumber, entries_at, entries_of, fields, first_of, has_label, IsAt, IsBelow, IsNumberedBelow, IsWellFormed, left_after, left_at, node_at, path_to, size_of, Stands, Tree, tree_of, visited_at, walk};
 
 use cedar_model::{Layout, Stored};
 use cedar_table::Table;

@@ -1,19 +1,7 @@
 //! A label added to a node, and one taken away.
 
 ghost use Rattle.std.specs.Prelude.{◌≡◌, ◌≢◌, ℕ, List, ◌++◌, [], ◌∷◌, ◌<◌, MatchOption, None, pos, true};
-ghost use Rattle.cedar_tree.specs.Tree.{Forest, IsAscending, without};
-ghost use Rattle.cedar_tree.specs.Edits.{add_leaf, edit_at};
-ghost use Rattle.cedar_model.specs.Table.Cells.{Held};
-ghost use Rattle.cedar_model.specs.Edit.Asked.{SeeksBehind, SeeksPlace};
-ghost use Rattle.cedar_model.specs.Edit.NodeEdits.{AddsLabel, GoesBehind, GoesFirst, HasChain, IsAt, IsNodeOf, LeadsTo, Removes, SetsChild, SetsSibling};
-ghost use Rattle.cedar_model.specs.Meaning.Family.{base_of, below, InRange, Node};
-ghost use Rattle.cedar_model.specs.Meaning.StandsFor.{HoldsTree};
-ghost use Rattle.cedar_slots.specs.Places.{IsTable};
-ghost use Rattle.cedar_model.specs.Relocation.Reserved.{freed};
-ghost use Rattle.cedar_table.specs.Table.Views.{cells, fields};
-ghost use Rattle.cedar_model.specs.Table.TableFields.{SameFrame, size_of};
-ghost use Rattle.cedar_model.specs.Edit.Steps.{HasNode};
-ghost use Rattle.cedar_model.specs.Meaning.WellFormed.{TableHolds};
+ghost use Rattle.cedar_edit.specs.Words.{add_leaf, AddsLabel, base_of, below, cells, edit_at, fields, Forest, freed, GoesBehind, GoesFirst, HasChain, HasNode, Held, HoldsTree, InRange, IsAscending, IsAt, IsNodeOf, IsTable, LeadsTo, Node, Removes, SameFrame, SeeksBehind, SeeksPlace, SetsChild, SetsSibling, size_of, TableHolds, without};
 
 use cedar_model::Layout;
 use cedar_slots::BLOCK_SIZE;

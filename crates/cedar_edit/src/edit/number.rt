@@ -1,18 +1,7 @@
 //! A node's number set, and taken away.
 
 ghost use Rattle.std.specs.Prelude.{◌≡◌, ◌⊎◌, ℕ, List, ◌<◌, None, pos, Some};
-ghost use Rattle.cedar_tree.specs.Tree.{Forest};
-ghost use Rattle.cedar_tree.specs.Edits.{edit_at};
-ghost use Rattle.cedar_model.specs.Table.Cells.{Held};
-ghost use Rattle.cedar_model.specs.Edit.NodeEdits.{DropsNumber, IsAt, IsNodeOf, SetsNumber};
-ghost use Rattle.cedar_model.specs.Meaning.Family.{below, InRange};
-ghost use Rattle.cedar_model.specs.Meaning.StandsFor.{HoldsTree};
-ghost use Rattle.cedar_slots.specs.Places.{IsTable};
-ghost use Rattle.cedar_model.specs.Relocation.Reserved.{freed};
-ghost use Rattle.cedar_table.specs.Table.Views.{cells, fields};
-ghost use Rattle.cedar_model.specs.Table.TableFields.{SameFrame, size_of};
-ghost use Rattle.cedar_model.specs.Edit.Steps.{HasNode};
-ghost use Rattle.cedar_model.specs.Meaning.WellFormed.{TableHolds};
+ghost use Rattle.cedar_edit.specs.Words.{below, cells, DropsNumber, edit_at, fields, Forest, freed, HasNode, Held, HoldsTree, InRange, IsAt, IsNodeOf, IsTable, SameFrame, SetsNumber, size_of, TableHolds};
 
 use cedar_model::Layout;
 use cedar_slots::NodeRecord;

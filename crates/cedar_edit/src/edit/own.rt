@@ -1,21 +1,8 @@
 //! Numbers in the base fields of their own nodes: in a layout that keeps them there, that of each node which owns no slot.
 
 ghost use Rattle.std.specs.Prelude.{◌≡◌, ◌≢◌, ℕ, List, ◌<◌, ◌↔◌, IfErr, is_some, IsTrue, None, OnErr, OnOk, pos};
-ghost use Rattle.cedar_tree.specs.Tree.{Forest};
-ghost use Rattle.cedar_tree.specs.Edits.{edit_at};
-ghost use Rattle.cedar_tree.specs.Queries.{node_at};
+ghost use Rattle.cedar_edit.specs.Words.{base_of, below, cells, edit_at, fields, FieldSet, Forest, HasNode, IsAt, IsTable, KeepsOtherMarks, MayAddBlock, MayRefuse, node_at, OwnsNothing, reduced_layout, root_of, SameFrame, SameSlots, size_of, TableHolds};
 ghost use Rattle.cedar_model.specs.declared.layout.Stored.TheVariants.{AtBase, OwnNumber};
-ghost use Rattle.cedar_model.specs.Edit.NodeEdits.{IsAt};
-ghost use Rattle.cedar_model.specs.Meaning.Family.{base_of, below};
-ghost use Rattle.cedar_model.specs.Table.Layouts.{reduced_layout};
-ghost use Rattle.cedar_model.specs.Meaning.Marks.{KeepsOtherMarks};
-ghost use Rattle.cedar_model.specs.Edit.Own.{FieldSet};
-ghost use Rattle.cedar_slots.specs.Places.{IsTable, MayRefuse, SameSlots};
-ghost use Rattle.cedar_model.specs.Relocation.Renaming.{OwnsNothing};
-ghost use Rattle.cedar_model.specs.Edit.Steps.{HasNode, MayAddBlock, root_of};
-ghost use Rattle.cedar_table.specs.Table.Views.{cells, fields};
-ghost use Rattle.cedar_model.specs.Table.TableFields.{SameFrame, size_of};
-ghost use Rattle.cedar_model.specs.Meaning.WellFormed.{TableHolds};
 
 use crate::edit::number::set_number;
 use cedar_model::{Layout, Stored};

@@ -1,17 +1,7 @@
 //! A key taken away, and nodes that are left with neither number nor child.
 
 ghost use Rattle.std.specs.Prelude.{◌≡◌, ℕ, List, ◌<◌, ◌↔◌, is_some, IsTrue, None, true};
-ghost use Rattle.cedar_tree.specs.Tree.{Forest, cut, is_bare, number_at};
-ghost use Rattle.cedar_tree.specs.Edits.{edit_at};
-ghost use Rattle.cedar_tree.specs.Queries.{node_at};
-ghost use Rattle.cedar_model.specs.Edit.NodeEdits.{IsAt};
-ghost use Rattle.cedar_model.specs.Meaning.Marks.{KeepsMarks, KeepsOtherMarks, marks, MarksCut};
-ghost use Rattle.cedar_slots.specs.Places.{IsTable};
-ghost use Rattle.cedar_model.specs.Edit.Steps.{HasNode, root_of, SameModes, trimmed};
-ghost use Rattle.cedar_table.specs.Table.Views.{cells, fields};
-ghost use Rattle.cedar_model.specs.Table.TableFields.{capacity_of, SameFrame, size_of};
-ghost use Rattle.cedar_model.specs.Edit.Trims.{LosesLeaf, TellsBare};
-ghost use Rattle.cedar_model.specs.Meaning.WellFormed.{IsWellFormed, TableHolds, tree_of};
+ghost use Rattle.cedar_edit.specs.Words.{capacity_of, cells, cut, edit_at, fields, Forest, HasNode, is_bare, IsAt, IsTable, IsWellFormed, KeepsMarks, KeepsOtherMarks, LosesLeaf, marks, MarksCut, node_at, number_at, root_of, SameFrame, SameModes, size_of, TableHolds, TellsBare, tree_of, trimmed};
 
 use crate::edit::leaf::remove_label;
 use crate::edit::number::drop_number;

@@ -1,17 +1,7 @@
 //! A key's number put.
 
 ghost use Rattle.std.specs.Prelude.{◌≡◌, ◌⊎◌, ℕ, ◌+◌, ◌<◌, ◌≤◌, IfErr, IfOk, drop, is_some, length, take, OnErr, OnOk, true, false, [], ◌∷◌};
-ghost use Rattle.cedar_tree.specs.Tree.{IsKey, has_label, number_at, put};
-ghost use Rattle.cedar_model.specs.Table.Cells.{NoPlace};
-ghost use Rattle.cedar_model.specs.Edit.KeyWalk.{TakenBack, Walked};
-ghost use Rattle.cedar_model.specs.Table.Layouts.{default_layout, reduced_layout};
-ghost use Rattle.cedar_model.specs.Meaning.Marks.{KeepsMarks, marks, MarksPut, NewMark, PutsMarks};
-ghost use Rattle.cedar_model.specs.Edit.Own.{HasWay, LacksNode};
-ghost use Rattle.cedar_slots.specs.Places.{MayRefuse};
-ghost use Rattle.cedar_model.specs.Edit.Steps.{MakesBlocks, SameModes};
-ghost use Rattle.cedar_table.specs.Table.Views.{cells, fields};
-ghost use Rattle.cedar_model.specs.Table.TableFields.{size_of};
-ghost use Rattle.cedar_model.specs.Meaning.WellFormed.{IsWellFormed, is_value, tree_of};
+ghost use Rattle.cedar_edit.specs.Words.{cells, default_layout, fields, has_label, HasWay, is_value, IsKey, IsWellFormed, KeepsMarks, LacksNode, MakesBlocks, marks, MarksPut, MayRefuse, NewMark, NoPlace, number_at, put, PutsMarks, reduced_layout, SameModes, size_of, TakenBack, tree_of, Walked};
 
 use crate::keys::erase::trim;
 use crate::keys::step::{follow_or_add, put_number};

@@ -1,20 +1,8 @@
 //! One step of an update: to the child under a label, which is added where there is none, or to the number.
 
 ghost use Rattle.std.specs.Prelude.{◌≡◌, ◌≢◌, ◌⊎◌, ℕ, ℤ, List, ◌<◌, false, IfErr, IfOk, IsTrue, OnErr, OnOk, pos, Some, true};
-ghost use Rattle.cedar_tree.specs.Tree.{Forest};
-ghost use Rattle.cedar_tree.specs.Edits.{edit_at};
+ghost use Rattle.cedar_edit.specs.Words.{base_of, below, cells, default_layout, edit_at, fields, Forest, HasNode, Held, is_value, IsAt, IsTable, MakesBlocks, MayAddBlock, MayRefuse, NoPlace, Placed, PutsMark, reduced_layout, SameSlots, size_of, StepsTo, TableHolds, WantsRoom, WantsSlot};
 ghost use Rattle.cedar_model.specs.declared.layout.Stored.TheVariants.{AtBase, OwnNumber};
-ghost use Rattle.cedar_model.specs.Table.Cells.{Held, NoPlace};
-ghost use Rattle.cedar_model.specs.Edit.NodeEdits.{IsAt};
-ghost use Rattle.cedar_model.specs.Relocation.Asked.{WantsRoom, WantsSlot};
-ghost use Rattle.cedar_model.specs.Meaning.Family.{base_of, below};
-ghost use Rattle.cedar_model.specs.Table.Layouts.{default_layout, reduced_layout};
-ghost use Rattle.cedar_model.specs.Meaning.Marks.{PutsMark};
-ghost use Rattle.cedar_slots.specs.Places.{IsTable, MayRefuse, SameSlots};
-ghost use Rattle.cedar_model.specs.Edit.Steps.{HasNode, MakesBlocks, MayAddBlock, Placed, StepsTo};
-ghost use Rattle.cedar_table.specs.Table.Views.{cells, fields};
-ghost use Rattle.cedar_model.specs.Table.TableFields.{size_of};
-ghost use Rattle.cedar_model.specs.Meaning.WellFormed.{is_value, TableHolds};
 
 use crate::edit::leaf::{add_label, add_reserved};
 use crate::edit::number::{set_number, set_reserved};

@@ -2,18 +2,7 @@
 //! label is refused.
 
 ghost use Rattle.std.specs.Prelude.{◌≡◌, ℕ, List, ◌<◌, ◌≤◌, IfErr, IfOk, is_some, length, MatchOption, None, OnErr, OnOk, pos, Some, take, true, false};
-ghost use Rattle.cedar_tree.specs.Tree.{Forest, IsKey, number_at};
-ghost use Rattle.cedar_model.specs.Edit.NodeEdits.{IsAt};
-ghost use Rattle.cedar_model.specs.Meaning.Family.{below};
-ghost use Rattle.cedar_model.specs.Table.Layouts.{reduced_layout};
-ghost use Rattle.cedar_model.specs.Meaning.Marks.{KeepsMarks, KeepsOtherMarks, mark, MovesOut};
-ghost use Rattle.cedar_model.specs.Edit.Own.{HasWay, IsOwnAt, LacksNode};
-ghost use Rattle.cedar_slots.specs.Places.{MayRefuse};
-ghost use Rattle.cedar_model.specs.Meaning.Reading.{first_in};
-ghost use Rattle.cedar_model.specs.Edit.Steps.{HasNode, MakesBlocks, root_of, SameModes};
-ghost use Rattle.cedar_table.specs.Table.Views.{cells, fields};
-ghost use Rattle.cedar_model.specs.Table.TableFields.{SameFrame, size_of};
-ghost use Rattle.cedar_model.specs.Meaning.WellFormed.{IsWellFormed, tree_of};
+ghost use Rattle.cedar_edit.specs.Words.{below, cells, fields, first_in, Forest, HasNode, HasWay, IsAt, IsKey, IsOwnAt, IsWellFormed, KeepsMarks, KeepsOtherMarks, LacksNode, MakesBlocks, mark, MayRefuse, MovesOut, number_at, reduced_layout, root_of, SameFrame, SameModes, size_of, tree_of};
 
 use crate::edit::number::drop_number;
 use crate::edit::own::move_number;

@@ -1,15 +1,7 @@
 //! Moving the slots of a node to another base.
 
 ghost use Rattle.std.specs.Prelude.{bit_xor, ◌≡◌, ◌≢◌, ℕ, List, ◌<◌, ◌^◌, pos, true};
-ghost use Rattle.cedar_model.specs.Table.Cells.{IsPlace, SameHeld};
-ghost use Rattle.cedar_model.specs.Meaning.Family.{Among, base_of, Family, Head, Links};
-ghost use Rattle.cedar_slots.specs.Places.{IsTable};
-ghost use Rattle.cedar_model.specs.Relocation.Asked.{MayReserve, MovesSlot, Repoints, RepointsUnder};
-ghost use Rattle.cedar_model.specs.Relocation.Renaming.{Always, IsNode, IsNumber, Movable, Relocated, Renames, Repointed, single};
-ghost use Rattle.cedar_model.specs.Relocation.Reserved.{freed, seen};
-ghost use Rattle.cedar_table.specs.Table.Views.{cells, fields};
-ghost use Rattle.cedar_model.specs.Table.TableFields.{SameFrame, size_of};
-ghost use Rattle.cedar_model.specs.Relocation.Wanted.{goes_before};
+ghost use Rattle.cedar_edit.specs.Words.{Always, Among, base_of, cells, Family, fields, freed, goes_before, Head, IsNode, IsNumber, IsPlace, IsTable, Links, MayReserve, Movable, MovesSlot, Relocated, Renames, Repointed, Repoints, RepointsUnder, SameFrame, SameHeld, seen, single, size_of};
 
 use cedar_model::Layout;
 use cedar_slots::NInfoRecord;

@@ -2,15 +2,7 @@
 //! kept back meanwhile.
 
 ghost use Rattle.std.specs.Prelude.{bit_xor, ◌≡◌, ◌≢◌, ℕ, List, ◌<◌, ◌≤◌, ◌↔◌, IfErr, IfOk, IsTrue, length, OnErr, OnOk, pos};
-ghost use Rattle.cedar_model.specs.Meaning.Family.{Among, below, Family, Head, Links, owned};
-ghost use Rattle.cedar_slots.specs.Places.{IsTable, MayRefuse, SameSlots};
-ghost use Rattle.cedar_model.specs.Relocation.Asked.{StandsBelow, WantsSlot};
-ghost use Rattle.cedar_model.specs.Relocation.Renaming.{IsNode, OwnsLabels};
-ghost use Rattle.cedar_model.specs.Relocation.Reserved.{Reserves, SetReserved};
-ghost use Rattle.cedar_model.specs.Edit.Steps.{MayAddBlock};
-ghost use Rattle.cedar_table.specs.Table.Views.{cells, fields};
-ghost use Rattle.cedar_model.specs.Table.TableFields.{size_of};
-ghost use Rattle.cedar_model.specs.Relocation.Wanted.{rest_of, with_label};
+ghost use Rattle.cedar_edit.specs.Words.{Among, below, cells, Family, fields, Head, IsNode, IsTable, Links, MayAddBlock, MayRefuse, owned, OwnsLabels, Reserves, rest_of, SameSlots, SetReserved, size_of, StandsBelow, WantsSlot, with_label};
 
 use crate::relocation::moving::{goes_before, relocate_around, relocate_with};
 use arrayvec::ArrayVec;
