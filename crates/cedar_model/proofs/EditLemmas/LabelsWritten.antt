@@ -3,7 +3,6 @@ use Rattle.std.proofs.Common.{◌≡◌, ℕ, sym, ◌∙◌, ap, inl, inr}
 use Rattle.std.proofs.lemmas.Bool.{cases_eq}
 use Rattle.cedar_model.specs.Table.Cells.{Cells, Held, InfoWritten}
 use Rattle.cedar_model.specs.Edit.NodeEdits.{LinkedBehind, LinkedChild, SetsChild, SetsSibling}
-use Rattle.cedar_model.specs.Table.TableFields.{Fields, SameSettings}
 
 pub sets_sibling : (T T' : Cells) (q l c : ℕ) → InfoWritten T T' q l c → c ≡ T.child q → SetsSibling T T' q l
 sets_sibling T T' q l c w e = record {

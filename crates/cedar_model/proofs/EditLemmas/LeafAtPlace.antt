@@ -1,13 +1,13 @@
 -- A label added at its place is a leaf added to the tree.
-use Rattle.std.proofs.Common.{◌≡◌, ℕ, ◌<◌, List, [], ◌∷◌, ◌++◌, sym, ◌∙◌, ap, refl, subst, inl, inr, arith, Bool, true, false, Option, None}
+use Rattle.std.proofs.Common.{◌≡◌, ℕ, ◌<◌, List, [], ◌∷◌, ◌++◌, sym, ◌∙◌, ap, refl, subst, inl, inr, arith, Bool, true, false, Option}
 use Rattle.std.specs.Prelude.{pos}
-use Rattle.cedar_tree.specs.Tree.{AllAbove, child, empty_tree, Forest, insert_ascending, IsAscending, none}
+use Rattle.cedar_tree.specs.Tree.{child, empty_tree, Forest, insert_ascending, IsAscending, none}
 use Rattle.cedar_tree.specs.Edits.{add_leaf, edit_at}
 use Rattle.cedar_model.specs.Table.Cells.{Cells, Held}
 use Rattle.cedar_model.specs.Meaning.Family.{Among, below, Family, Links, Node, number_of, top}
 use Rattle.cedar_model.specs.Meaning.StandsFor.{ChildrenStand, HoldsTree, labels, OnPath, slot_at}
 use Rattle.cedar_model.specs.Meaning.Reading.{first_in}
-use Rattle.cedar_model.specs.Edit.NodeEdits.{Above, AddsFirst, AddsLabel, Ascends, follow_on, HasChain, inserted, IsAt, IsPlaceFor, Touches}
+use Rattle.cedar_model.specs.Edit.NodeEdits.{AddsFirst, AddsLabel, Ascends, follow_on, HasChain, inserted, IsAt, IsPlaceFor, Touches}
 use Rattle.cedar_model.proofs.EditLemmas.AddBehind.{added_behind, added_behind_at_root, inserted_here, labels_inserted, lower_inserted}
 use Rattle.cedar_model.proofs.EditLemmas.AddFirst.{added_at_root, added_first, family_added, leaf, root_added, stays}
 use Rattle.cedar_model.proofs.EditLemmas.ChangeAtPath.{edited, follow_split, root_edited}

@@ -3,7 +3,7 @@ use Rattle.std.proofs.Common.{◌≡◌, ◌⊎◌, ℕ, ◌+◌, ◌<◌, ◌�
 use Rattle.std.specs.Prelude.{◌%◌, pos}
 use Rattle.std.proofs.Math.Seq.{take-suc}
 use Rattle.std.proofs.lemmas.List.{take_all, take-append-drop}
-use Rattle.cedar_tree.specs.Tree.{empty_tree, Forest, has_label, number_at, subtree, Tree}
+use Rattle.cedar_tree.specs.Tree.{empty_tree, Forest, has_label, number_at, Tree}
 use Rattle.cedar_tree.specs.Queries.{node_at}
 use Rattle.cedar_tree.proofs.FrontFromLemmas.{nodes_gone}
 use Rattle.cedar_model.specs.Table.Cells.{Cells}

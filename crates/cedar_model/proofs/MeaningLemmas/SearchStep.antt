@@ -4,7 +4,7 @@ use Rattle.std.specs.Prelude.{ℤ, pos, bit_xor, ◌%◌, ◌||◌, option_map}
 use lib.Bits.{xor_zero_r}
 use Rattle.std.proofs.lemmas.Bool.Decides.{eqb_tells}
 use Rattle.std.proofs.lemmas.List.{drop_all}
-use Rattle.cedar_tree.specs.Tree.{Forest, none, child, Tree, empty_tree, has_label, subtree, number_at}
+use Rattle.cedar_tree.specs.Tree.{Forest, none, child, Tree, has_label, subtree, number_at}
 use Rattle.cedar_tree.specs.Queries.{exact}
 use Rattle.cedar_model.specs.declared.layout.Stored.{Stored}
 use Rattle.cedar_model.specs.declared.layout.Stored.TheVariants.{AtBase, OwnNumber, Nothing}

@@ -14,7 +14,7 @@ use Rattle.cedar_model.proofs.MeaningLemmas.OneTree.{family_distinct, no_zero}
 use Rattle.cedar_model.proofs.MeaningLemmas.Paths.{node_on, one_path, owner_held}
 use Rattle.cedar_model.proofs.RelocationLemmas.OneTurn.{among_get}
 use Rattle.cedar_model.proofs.RelocationLemmas.Repointed.{owner_cases}
-use Rattle.cedar_model.proofs.RelocationLemmas.CarriedTree.{holds_renamed, path_kept}
+use Rattle.cedar_model.proofs.RelocationLemmas.CarriedTree.{holds_renamed}
 
 distinct_take : (xs : List ℕ) (i : ℕ) → DistinctList xs → i < length xs → Among (take i xs) (get_or xs i 0) → ⊥
 distinct_take [] i d h a = omega arith

@@ -3,7 +3,7 @@ use Rattle.std.proofs.Common.{◌≡◌, ℕ, zero, suc, ◌+◌, ◌<◌, List,
 use Rattle.std.specs.Prelude.{pos, ◌⊎◌, bit_xor}
 use Rattle.std.proofs.lemmas.List.{take_more}
 use Rattle.cedar_model.specs.Table.Cells.{Cells, Held}
-use Rattle.cedar_model.specs.Meaning.Family.{base_in, below, Among, base_of, Family}
+use Rattle.cedar_model.specs.Meaning.Family.{below, Among, base_of, Family}
 use Rattle.cedar_model.specs.Relocation.Renaming.{IsNode, OwnsNothing, Renames, Moves, MovedSome, Progress, Movable, Relocated, Rebased, single}
 use Rattle.cedar_model.proofs.MeaningLemmas.ExclusiveOr.{xor_back, pos_injective}
 use Rattle.cedar_model.proofs.RelocationLemmas.SetMoved.{relocation_keeps, stored_at}

@@ -1,5 +1,5 @@
 -- A bare node taken away below the node that owns it.
-use Rattle.std.proofs.Common.{◌≡◌, ◌⊎◌, ℕ, ◌<◌, List, [], ◌∷◌, ◌++◌, sym, ◌∙◌, ap, refl, subst, inl, inr, None, true, false, cond, eqb}
+use Rattle.std.proofs.Common.{◌≡◌, ◌⊎◌, ℕ, ◌<◌, List, [], ◌∷◌, ◌++◌, sym, ◌∙◌, ap, refl, subst, inl, inr, None, true, false, cond}
 use Rattle.std.specs.Prelude.{pos, bit_xor}
 use Rattle.std.proofs.lemmas.Bool.Decides.{eqb_tells}
 use Rattle.cedar_tree.specs.Tree.{child, empty_tree, Forest, has_label, is_bare, none, Tree, without}

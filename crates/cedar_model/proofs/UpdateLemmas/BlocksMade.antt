@@ -1,6 +1,6 @@
 -- How many blocks a call has made.
 use Rattle.std.proofs.Common.{◌≡◌, ◌⊎◌, ◌+◌, ◌*◌, ◌/◌, Result, Ok, Err, ℕ, zero, suc, ◌≤◌, length, refl, subst, sym, ◌∙◌, ap, inl, inr, arith}
-use Rattle.std.specs.Prelude.{◌==◌, cond, IfErr, IfOk, OnErr}
+use Rattle.std.specs.Prelude.{◌==◌, cond, IfOk, OnErr}
 use Rattle.cedar_slots.specs.declared.shortage.Shortage.{Shortage}
 use Rattle.cedar_slots.specs.declared.shortage.Shortage.TheVariants.{Memory, SlotLimit}
 use Rattle.cedar_slots.specs.Places.{AddsBlock, MayRefuse, PlaceFields, SameSlots}

@@ -4,7 +4,7 @@ use Rattle.std.proofs.lemmas.Bool.{false≢true}
 use Rattle.std.specs.Prelude.{ℤ, pos, negsuc, is_some}
 use lib.Bits.{xor_zero_r}
 use Rattle.cedar_tree.specs.Tree.{cut, Forest, is_bare, IsAscending, number_at, Tree}
-use Rattle.cedar_tree.specs.Queries.{node_at, walk, walk_forest}
+use Rattle.cedar_tree.specs.Queries.{node_at, walk}
 use Rattle.cedar_tree.specs.Edits.{edit_at, HasPath, without_number}
 use Rattle.cedar_tree.proofs.CountLemmas.{length-walk-cut}
 use Rattle.cedar_tree.proofs.CutLemmas.{ascending-without_number, node_at-without_number}
