@@ -18,7 +18,6 @@ use Rattle.cedar_walk.specs.Visits.{ComesTo, first_of, IsBelow, left_after, left
 use Rattle.cedar_model.specs.Meaning.WellFormed.{cells_in, IsWellFormed, tree_of}
 use Rattle.cedar_model.proofs.MeaningLemmas.NodeAtPath.{among_has, at_child, at_node, follow_last}
 use Rattle.cedar_model.proofs.MeaningLemmas.KeyPath.{tree_root}
-use Rattle.cedar_model.proofs.MeaningLemmas.SearchStep.{child_stands}
 use Rattle.cedar_model.proofs.MeaningLemmas.OneNode.{labels_own, owned_label}
 use Rattle.cedar_model.proofs.EditLemmas.LeafAtPlace.{below_root, ends}
 use Rattle.cedar_model.proofs.MeaningLemmas.ReadBack.{path_short}
