@@ -1,4 +1,5 @@
 -- The words of clauses, from one place.
+pub use Rattle.cedar_edit.specs.Step.{MayMakeBlock}
 pub use Rattle.cedar_model.specs.Edit.Asked.{SeeksBehind, SeeksPlace}
 pub use Rattle.cedar_model.specs.Edit.KeyWalk.{TakenBack, Walked}
 pub use Rattle.cedar_model.specs.Edit.NodeEdits.{AddsLabel, DropsNumber, GoesBehind, GoesFirst, HasChain, IsAt, IsNodeOf, LeadsTo, Removes, SetsChild, SetsNumber, SetsSibling}

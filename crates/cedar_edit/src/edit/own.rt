@@ -1,7 +1,7 @@
 //! Numbers in the base fields of their own nodes: in a layout that keeps them there, that of each node which owns no slot.
 
-ghost use Rattle.std.specs.Prelude.{◌≡◌, ◌≢◌, ℕ, List, ◌<◌, ◌↔◌, IfErr, is_some, IsTrue, None, OnErr, OnOk, pos};
-ghost use Rattle.cedar_edit.specs.Words.{base_of, below, cells, edit_at, fields, FieldSet, Forest, HasNode, IsAt, IsTable, KeepsOtherMarks, MayAddBlock, MayRefuse, node_at, OwnsNothing, reduced_layout, root_of, SameFrame, SameSlots, size_of, TableHolds};
+ghost use Rattle.std.specs.Prelude.{◌≡◌, ◌≢◌, ℕ, List, ◌<◌, ◌↔◌, is_some, IsTrue, None, OnOk, pos};
+ghost use Rattle.cedar_edit.specs.Words.{base_of, below, cells, edit_at, fields, FieldSet, Forest, HasNode, IsAt, IsTable, KeepsOtherMarks, MayMakeBlock, node_at, OwnsNothing, reduced_layout, root_of, SameFrame, size_of, TableHolds};
 ghost use Rattle.cedar_model.specs.declared.layout.Stored.TheVariants.{AtBase, OwnNumber};
 
 use crate::edit::number::set_number;
@@ -74,9 +74,7 @@ pub(crate) fn move_number<L: Layout, const SLOTS: usize, A: Allocator>(
     ensures at { (w : List ℕ) (s : ℕ) → IsAt (cells table.old) w s → IsAt (cells table.new) w s }
     ensures others { OnOk result (KeepsOtherMarks (cells table.old) (cells table.new) node) }
     ensures moved { OnOk result ((cells table.new).check (below (cells table.new) node 0) ≡ pos node) }
-    ensures refused { IfErr result (λ error. MayRefuse (fields table.new).places SLOTS error) }
-    ensures unchanged { OnErr result (SameSlots (fields table.old).places (fields table.new).places) }
-    ensures growth { MayAddBlock (fields table.old) (fields table.new) }
+    ensures step { MayMakeBlock SLOTS (fields table.old) (fields table.new) result }
 {
     let slot = table.find_place()?;
     table.set_base(node, slot);

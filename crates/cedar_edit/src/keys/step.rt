@@ -1,7 +1,7 @@
 //! One step of an update: to the child under a label, which is added where there is none, or to the number.
 
-ghost use Rattle.std.specs.Prelude.{◌≡◌, ◌≢◌, ◌⊎◌, ℕ, ℤ, List, ◌<◌, false, IfErr, IfOk, IsTrue, OnErr, OnOk, pos, Some, true};
-ghost use Rattle.cedar_edit.specs.Words.{base_of, below, cells, default_layout, edit_at, fields, Forest, HasNode, Held, is_value, IsAt, IsTable, MakesBlocks, MayAddBlock, MayRefuse, NoPlace, Placed, PutsMark, reduced_layout, SameSlots, size_of, StepsTo, TableHolds, WantsRoom, WantsSlot};
+ghost use Rattle.std.specs.Prelude.{◌≡◌, ◌≢◌, ◌⊎◌, ℕ, ℤ, List, ◌<◌, false, IfOk, IsTrue, OnErr, OnOk, pos, Some, true};
+ghost use Rattle.cedar_edit.specs.Words.{base_of, below, cells, default_layout, edit_at, fields, Forest, HasNode, Held, is_value, IsAt, IsTable, MakesBlocks, MayMakeBlock, NoPlace, Placed, PutsMark, reduced_layout, size_of, StepsTo, TableHolds, WantsRoom, WantsSlot};
 ghost use Rattle.cedar_model.specs.declared.layout.Stored.TheVariants.{AtBase, OwnNumber};
 
 use crate::edit::leaf::{add_label, add_reserved};
@@ -28,9 +28,7 @@ fn first_base<L: Layout, const SLOTS: usize, A: Allocator>(
     ensures sound { IsTable SLOTS (fields table.new).places }
     ensures placed { OnOk result (Placed (fields table.old) (fields table.new) node label node) }
     ensures tree { (f : Forest) → TableHolds (fields table.old) f → TableHolds (fields table.new) f }
-    ensures refused { IfErr result (λ error. MayRefuse (fields table.new).places SLOTS error) }
-    ensures unchanged { OnErr result (SameSlots (fields table.old).places (fields table.new).places) }
-    ensures growth { MayAddBlock (fields table.old) (fields table.new) }
+    ensures step { MayMakeBlock SLOTS (fields table.old) (fields table.new) result }
     ensures made { (OnErr result ⊥ × MakesBlocks 0 (fields table.old) (fields table.new)) ⊎ NoPlace (size_of (fields table.old)) (cells table.old) }
 {
     let slot = table.find_place()?;
@@ -68,9 +66,7 @@ fn room_for<L: Layout, const SLOTS: usize, A: Allocator>(
     ensures sound { IsTable SLOTS (fields table.new).places }
     ensures placed { OnOk result (Placed (fields table.old) (fields table.new) node label node) }
     ensures tree { (f : Forest) → TableHolds (fields table.old) f → TableHolds (fields table.new) f }
-    ensures refused { IfErr result (λ error. MayRefuse (fields table.new).places SLOTS error) }
-    ensures unchanged { OnErr result (SameSlots (fields table.old).places (fields table.new).places) }
-    ensures growth { MayAddBlock (fields table.old) (fields table.new) }
+    ensures step { MayMakeBlock SLOTS (fields table.old) (fields table.new) result }
     ensures leaf { node ≢ 0 → (cells table.old).stored node ≡ AtBase 0 → (OnErr result ⊥ × MakesBlocks 0 (fields table.old) (fields table.new)) ⊎ NoPlace (size_of (fields table.old)) (cells table.old) }
     ensures at_root { node ≡ 0 → OnErr result ⊥ × MakesBlocks 0 (fields table.old) (fields table.new) }
     ensures root_same { node ≡ 0 → fields table.new ≡ fields table.old }
@@ -92,9 +88,7 @@ fn add_over<L: Layout, const SLOTS: usize, A: Allocator>(
     requires positive { 0 < label }
     ensures sound { IsTable SLOTS (fields table.new).places }
     ensures stepped { IfOk result (StepsTo (fields table.old) (fields table.new) node label) }
-    ensures refused { IfErr result (λ error. MayRefuse (fields table.new).places SLOTS error) }
-    ensures unchanged { OnErr result (SameSlots (fields table.old).places (fields table.new).places) }
-    ensures growth { MayAddBlock (fields table.old) (fields table.new) }
+    ensures step { MayMakeBlock SLOTS (fields table.old) (fields table.new) result }
 {
     let node = resolve(table, node, label)?;
     Ok(add_reserved(table, node, label))
@@ -111,9 +105,7 @@ fn put_over<L: Layout, const SLOTS: usize, A: Allocator>(
     ensures set { OnOk result ((f : Forest) (w : List ℕ) → TableHolds (fields table.old) f → IsAt (cells table.old) w node
         → TableHolds (fields table.new) (edit_at w (λ _. Some value) (λ u. u) f)) }
     ensures marks { OnOk result (PutsMark (cells table.old) (cells table.new) node true) }
-    ensures refused { IfErr result (λ error. MayRefuse (fields table.new).places SLOTS error) }
-    ensures unchanged { OnErr result (SameSlots (fields table.old).places (fields table.new).places) }
-    ensures growth { MayAddBlock (fields table.old) (fields table.new) }
+    ensures step { MayMakeBlock SLOTS (fields table.old) (fields table.new) result }
 {
     let node = resolve(table, node, 0)?;
     set_reserved(table, node, value);
@@ -135,9 +127,7 @@ pub(crate) fn follow_or_add<L: Layout, const SLOTS: usize, A: Allocator>(
     requires no_own_number { (v : ℤ) → (cells table.old).stored node ≢ OwnNumber v }
     ensures sound { IsTable SLOTS (fields table.new).places }
     ensures stepped { IfOk result (StepsTo (fields table.old) (fields table.new) node label) }
-    ensures refused { IfErr result (λ error. MayRefuse (fields table.new).places SLOTS error) }
-    ensures unchanged { OnErr result (SameSlots (fields table.old).places (fields table.new).places) }
-    ensures growth { MayAddBlock (fields table.old) (fields table.new) }
+    ensures step { MayMakeBlock SLOTS (fields table.old) (fields table.new) result }
     ensures owned { (cells table.old).check (below (cells table.old) node label) ≡ pos node → OnErr result ⊥ × MakesBlocks 0 (fields table.old) (fields table.new) }
     ensures stays { (cells table.old).check (below (cells table.old) node label) ≡ pos node → cells table.new ≡ cells table.old }
     ensures at_root { node ≡ 0 → OnErr result ⊥ × MakesBlocks 0 (fields table.old) (fields table.new) }
@@ -169,9 +159,7 @@ fn put_in_slot<L: Layout, const SLOTS: usize, A: Allocator>(
     ensures set { OnOk result ((f : Forest) (w : List ℕ) → TableHolds (fields table.old) f → IsAt (cells table.old) w node
         → TableHolds (fields table.new) (edit_at w (λ _. Some value) (λ u. u) f)) }
     ensures marks { OnOk result (PutsMark (cells table.old) (cells table.new) node true) }
-    ensures refused { IfErr result (λ error. MayRefuse (fields table.new).places SLOTS error) }
-    ensures unchanged { OnErr result (SameSlots (fields table.old).places (fields table.new).places) }
-    ensures growth { MayAddBlock (fields table.old) (fields table.new) }
+    ensures step { MayMakeBlock SLOTS (fields table.old) (fields table.new) result }
     ensures owned { (cells table.old).check (below (cells table.old) node 0) ≡ pos node → OnErr result ⊥ × MakesBlocks 0 (fields table.old) (fields table.new) }
     ensures leaf { (cells table.old).stored node ≡ AtBase 0 → (OnErr result ⊥ × MakesBlocks 0 (fields table.old) (fields table.new)) ⊎ NoPlace (size_of (fields table.old)) (cells table.old) }
 {
@@ -205,9 +193,7 @@ pub(crate) fn put_number<L: Layout, const SLOTS: usize, A: Allocator>(
         → TableHolds (fields table.new) (edit_at w (λ _. Some value) (λ u. u) f)) }
     ensures marks { OnOk result (((fields table.old).layout ≡ reduced_layout → base_of (cells table.old) node ≢ 0) → PutsMark (cells table.old) (cells table.new) node true) }
     ensures marks_own { OnOk result ((fields table.old).layout ≡ reduced_layout → base_of (cells table.old) node ≡ 0 → PutsMark (cells table.old) (cells table.new) node false) }
-    ensures refused { IfErr result (λ error. MayRefuse (fields table.new).places SLOTS error) }
-    ensures unchanged { OnErr result (SameSlots (fields table.old).places (fields table.new).places) }
-    ensures growth { MayAddBlock (fields table.old) (fields table.new) }
+    ensures step { MayMakeBlock SLOTS (fields table.old) (fields table.new) result }
     ensures owned { (cells table.old).check (below (cells table.old) node 0) ≡ pos node → OnErr result ⊥ × MakesBlocks 0 (fields table.old) (fields table.new) }
     ensures own { (v : ℤ) → (cells table.old).stored node ≡ OwnNumber v → OnErr result ⊥ × MakesBlocks 0 (fields table.old) (fields table.new) }
     ensures leaf { (cells table.old).stored node ≡ AtBase 0 → (OnErr result ⊥ × MakesBlocks 0 (fields table.old) (fields table.new)) ⊎ ((fields table.old).layout ≡ default_layout) × NoPlace (size_of (fields table.old)) (cells table.old) }

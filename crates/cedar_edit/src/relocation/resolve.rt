@@ -1,8 +1,8 @@
 //! Room for a new label below a node: one of two sets of slots is moved to another base, and the slot for the label is
 //! kept back meanwhile.
 
-ghost use Rattle.std.specs.Prelude.{bit_xor, ◌≡◌, ◌≢◌, ℕ, List, ◌<◌, ◌≤◌, ◌↔◌, IfErr, IfOk, IsTrue, length, OnErr, OnOk, pos};
-ghost use Rattle.cedar_edit.specs.Words.{Among, below, cells, Family, fields, Head, IsNode, IsTable, Links, MayAddBlock, MayRefuse, owned, OwnsLabels, Reserves, rest_of, SameSlots, SetReserved, size_of, StandsBelow, WantsSlot, with_label};
+ghost use Rattle.std.specs.Prelude.{bit_xor, ◌≡◌, ◌≢◌, ℕ, List, ◌<◌, ◌≤◌, ◌↔◌, IfOk, IsTrue, length, OnOk, pos};
+ghost use Rattle.cedar_edit.specs.Words.{Among, below, cells, Family, fields, Head, IsNode, IsTable, Links, MayMakeBlock, owned, OwnsLabels, Reserves, rest_of, SetReserved, size_of, StandsBelow, WantsSlot, with_label};
 
 use crate::relocation::moving::{goes_before, relocate_around, relocate_with};
 use arrayvec::ArrayVec;
@@ -29,9 +29,7 @@ fn move_set_with<L: Layout, const SLOTS: usize, A: Allocator>(
     requires new { Among labels.now label → ⊥ }
     ensures sound { IsTable SLOTS (fields table.new).places }
     ensures moved { IfOk result (λ base. SetReserved (fields table.old) (fields table.new) node base (bit_xor base label) labels.now wanted.now) }
-    ensures refused { IfErr result (λ error. MayRefuse (fields table.new).places SLOTS error) }
-    ensures unchanged { OnErr result (SameSlots (fields table.old).places (fields table.new).places) }
-    ensures growth { MayAddBlock (fields table.old) (fields table.new) }
+    ensures step { MayMakeBlock SLOTS (fields table.old) (fields table.new) result }
 {
     let base = table.place_for(wanted)?;
     relocate_with(table, node, base, labels, label);
@@ -53,9 +51,7 @@ fn move_set_around<L: Layout, const SLOTS: usize, A: Allocator>(
     requires few { length labels.now ≤ 256 }
     ensures sound { IsTable SLOTS (fields table.new).places }
     ensures moved { IfOk result (λ base. SetReserved (fields table.old) (fields table.new) node base slot labels.now labels.now) }
-    ensures refused { IfErr result (λ error. MayRefuse (fields table.new).places SLOTS error) }
-    ensures unchanged { OnErr result (SameSlots (fields table.old).places (fields table.new).places) }
-    ensures growth { MayAddBlock (fields table.old) (fields table.new) }
+    ensures step { MayMakeBlock SLOTS (fields table.old) (fields table.new) result }
 {
     let base = table.place_for(labels)?;
     relocate_around(table, node, base, labels, slot);
@@ -145,9 +141,7 @@ fn move_with<L: Layout, const SLOTS: usize, A: Allocator>(
     ensures sound { IsTable SLOTS (fields table.new).places }
     ensures moved { OnOk result ((base : ℕ) × (ls : List ℕ) × (ws : List ℕ) × (256 ≤ bit_xor base label) × (bit_xor base label < size_of (fields table.new))
         × SetReserved (fields table.old) (fields table.new) node base (bit_xor base label) ls ws) }
-    ensures refused { IfErr result (λ error. MayRefuse (fields table.new).places SLOTS error) }
-    ensures unchanged { OnErr result (SameSlots (fields table.old).places (fields table.new).places) }
-    ensures growth { MayAddBlock (fields table.old) (fields table.new) }
+    ensures step { MayMakeBlock SLOTS (fields table.old) (fields table.new) result }
 {
     let labels = table.labels_of(node);
     let wanted = labels_with(table, &labels, label);
@@ -165,9 +159,7 @@ fn move_away<L: Layout, const SLOTS: usize, A: Allocator>(
     requires mine { (cells table.old).check slot ≡ pos node }
     ensures sound { IsTable SLOTS (fields table.new).places }
     ensures moved { IfOk result (λ base. (ls : List ℕ) × SetReserved (fields table.old) (fields table.new) node base slot ls ls) }
-    ensures refused { IfErr result (λ error. MayRefuse (fields table.new).places SLOTS error) }
-    ensures unchanged { OnErr result (SameSlots (fields table.old).places (fields table.new).places) }
-    ensures growth { MayAddBlock (fields table.old) (fields table.new) }
+    ensures step { MayMakeBlock SLOTS (fields table.old) (fields table.new) result }
 {
     let labels = table.labels_of(node);
     move_set_around(table, node, &labels, slot)
@@ -184,9 +176,7 @@ pub(crate) fn resolve<L: Layout, const SLOTS: usize, A: Allocator>(
     requires { WantsSlot SLOTS (fields table.old) node label }
     ensures sound { IsTable SLOTS (fields table.new).places }
     ensures reserved { IfOk result (Reserves (fields table.old) (fields table.new) node label) }
-    ensures refused { IfErr result (λ error. MayRefuse (fields table.new).places SLOTS error) }
-    ensures unchanged { OnErr result (SameSlots (fields table.old).places (fields table.new).places) }
-    ensures growth { MayAddBlock (fields table.old) (fields table.new) }
+    ensures step { MayMakeBlock SLOTS (fields table.old) (fields table.new) result }
 {
     let slot = table.child_slot(node, label);
     let owner = table.owner(slot);

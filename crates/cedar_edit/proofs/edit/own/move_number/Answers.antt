@@ -10,22 +10,20 @@ use Rattle.cedar_model.specs.Meaning.Marks.{KeepsOtherMarks}
 use Rattle.cedar_model.specs.Meaning.StandsFor.{HoldsTree}
 use Rattle.cedar_table.specs.Table.Views.{cells, fields}
 use Rattle.cedar_model.specs.Table.TableFields.{size_of}
-use Rattle.cedar_slots.specs.Views.{places_of}
 use Rattle.cedar_model.proofs.EditLemmas.AtPath.{held_node}
 use Rattle.cedar_model.proofs.UpdateLemmas.BlocksMade.{found_blocks, growth_framed, growth_nothing, made_larger, refuses_still, slots_of_same}
 use Rattle.cedar_model.proofs.EditLemmas.FirstBase.{held_still}
 use Rattle.cedar_model.proofs.EditLemmas.NumberMovesOut.{others_back, own_node, paths_back, slot_free, tree_back}
-use Rattle.cedar_model.proofs.UpdateLemmas.StepAnswers.{refused_as}
 use Rattle.cedar_model.specs.Edit.Steps.{MayAddBlock}
+use Rattle.cedar_edit.proofs.StepLemmas.{refused_step}
 use Rattle.cedar_edit.proofs.edit.own.move_number.Goals as goal
 
-pub returns-in_err-slot-clause-refused : goal.returns-in_err-slot-clause-refused
-returns-in_err-slot-clause-refused g c =
-    refused_as c.from_residual.result c.in_err-slot.field-0.0 _ c.from_residual.ensures.1
-    (refuses_still (places_of c.args.table.now.places) (places_of c.find_place.new.self.places) _ _ (slots_of_same (fields c.args.table.now) (fields c.find_place.new.self) c.in_err-slot.ensures.unchanged) c.in_err-slot.ensures.refused.1)
-
-pub returns-in_err-slot-clause-growth : goal.returns-in_err-slot-clause-growth
-returns-in_err-slot-clause-growth g c = growth_nothing (fields c.args.table.now) (fields c.find_place.new.self) c.in_err-slot.ensures.unchanged
+pub returns-in_err-slot-clause-step : goal.returns-in_err-slot-clause-step
+returns-in_err-slot-clause-step g c =
+    let T = fields c.args.table.now in
+    let T₁ = fields c.find_place.new.self in
+    let same = slots_of_same T T₁ c.in_err-slot.ensures.unchanged in
+    refused_step _ T T₁ c.from_residual.result c.in_err-slot.field-0.0 c.from_residual.ensures.1 (refuses_still T.places T₁.places _ _ same c.in_err-slot.ensures.refused.1) same (growth_nothing T T₁ c.in_err-slot.ensures.unchanged)
 
 pub set_base-requires : goal.set_base-requires
 set_base-requires g c =
@@ -86,14 +84,14 @@ returns-clause-tree g c = (same_tree g c).0
 pub returns-clause-at : goal.returns-clause-at
 returns-clause-at g c = (same_tree g c).1
 
-pub returns-clause-growth : goal.returns-clause-growth
-returns-clause-growth g c =
+pub returns-clause-step : goal.returns-clause-step
+returns-clause-step g c =
     let found : MayAddBlock (fields c.args.table.now) (fields c.find_place.new.self) = record {
       blocks = found_blocks _ (fields c.args.table.now) (fields c.find_place.new.self) _ c.in_ok-slot.ensures.made;
       root_check = (c.in_ok-slot.ensures.held.other 0 (inl refl)).check;
       settings = c.in_ok-slot.ensures.settings;
     } in
-    growth_framed _ _ _ (growth_framed _ _ _ found c.set_base.ensures.frame (c.set_base.ensures.rebased.check 0)) c.set_number.ensures.frame c.set_number.ensures.root_check
+    record { refused = tt; unchanged = tt; growth = growth_framed _ _ _ (growth_framed _ _ _ found c.set_base.ensures.frame (c.set_base.ensures.rebased.check 0)) c.set_number.ensures.frame c.set_number.ensures.root_check }
 
 pub returns-clause-others : goal.returns-clause-others
 returns-clause-others g c = (same_tree g c).2

@@ -35,7 +35,7 @@ put_number-requires g c =
 pub trim-requires : goal.trim-requires
 trim-requires g c =
     let e = c.in-Err.ensures in
-    let k = walked_same g.row.SLOTS (fields c.args.table.now) (fields c.walk_in.new.table) (fields c.put_number.new.table) _ _ _ c.in_ok-end.end c.in_ok-end.ensures.walked (λ _. g.L.Layout.kind) e.sound e.unchanged e.growth.settings in
+    let k = walked_same g.row.SLOTS (fields c.args.table.now) (fields c.walk_in.new.table) (fields c.put_number.new.table) _ _ _ c.in_ok-end.end c.in_ok-end.ensures.walked (λ _. g.L.Layout.kind) e.sound e.step.unchanged e.step.growth.settings in
     (search rules, (k.table, (k.inside, node_walked _ _ _ _ _ _ _ k)))
 
 -- the number was refused
@@ -45,7 +45,7 @@ refused g c =
     let t = c.trim.ensures in
     put_refused g.row.SLOTS (fields c.args.table.now) (fields c.walk_in.new.table) c.args.key.now c.in_ok-end.end c.requires.well_formed c.requires.key c.in_ok-end.ensures.walked
     (fields c.put_number.new.table) (fields c.trim.new.table) c.in-Err.error
-    (record { layout = λ _. g.L.Layout.kind; table = e.sound; unchanged = e.unchanged; settings = e.growth.settings; refused = e.refused })
+    (record { layout = λ _. g.L.Layout.kind; table = e.sound; unchanged = e.step.unchanged; settings = e.step.growth.settings; refused = e.step.refused })
     (record { table = t.sound; tree = t.tree; root_check = t.root_check; frame = t.frame; marks = t.marks })
     (λ own. (e.owned own).0) (λ v own. (e.own v own).0) (λ leaf. elim (e.leaf leaf) [ inl never ↦ absurd never.0 | inr full ↦ full ])
 
@@ -74,7 +74,7 @@ pub overflow_add-entries : goal.overflow_add-entries
 overflow_add-entries g c =
     let most = entries_fit g.row.SLOTS (fields c.args.table.now) c.requires.well_formed in
     let mid : c.walk_in.new.table.entries ≡ c.args.table.now.entries = c.in_ok-end.ensures.walked.settings.entries in
-    let new : c.put_number.new.table.entries ≡ c.walk_in.new.table.entries = c.in_default.ensures.growth.settings.entries in
+    let new : c.put_number.new.table.entries ≡ c.walk_in.new.table.entries = c.in_default.ensures.step.growth.settings.entries in
     omega (arith, most, mid, new, c.entries.ensures)
 
 -- the number is put, and counted
@@ -89,7 +89,7 @@ put_new g c =
     let had : c.number_of-held.result ≡ number_at (tree_of old) key = number_before g.row.SLOTS old mid key c.in_ok-end.end well c.requires.key k c.number_of-held.result
     (λ f w h at. c.number_of-held.ensures _ (at_node _ _ f w c.in_ok-end.end h at)) in
     subst (λ T. IsPut g.row.SLOTS old T key c.args.value) (sym c.set_entries.ensures) (is_put g.row.SLOTS old mid key c.in_ok-end.end well c.requires.key k new c.args.value (c.entries.result + 1) c.requires.value
-    (record { table = e.sound; set = λ f w h at. subst (λ v. HoldsTree (size_of new) (cells_in new) (edit_at w (λ _. Some v) (λ u. u) f)) same (e.set f w h at); blocks = e.growth.blocks; owned = λ own. (e.owned own).1; own = λ v own. (e.own v own).1; leaf = λ is. elim (e.leaf is) [ inl none ↦ inl none.1 | inr full ↦ inr full ]; root_check = e.growth.root_check; settings = e.growth.settings })
+    (record { table = e.sound; set = λ f w h at. subst (λ v. HoldsTree (size_of new) (cells_in new) (edit_at w (λ _. Some v) (λ u. u) f)) same (e.set f w h at); blocks = e.step.growth.blocks; owned = λ own. (e.owned own).1; own = λ v own. (e.own v own).1; leaf = λ is. elim (e.leaf is) [ inl none ↦ inl none.1 | inr full ↦ inr full ]; root_check = e.step.growth.root_check; settings = e.step.growth.settings })
     (ap (λ n. n + 1) c.entries.ensures ∙ one_more _ _ _ (sym (ap is_some had) ∙ c.is_none-is_new.ensures) c.if-is_new.true))
 
 pub returns-then-is_new-clause-well_formed : goal.returns-then-is_new-clause-well_formed
@@ -119,7 +119,7 @@ put_over g c =
     let had : c.number_of-held.result ≡ number_at (tree_of old) key = number_before g.row.SLOTS old mid key c.in_ok-end.end well c.requires.key k c.number_of-held.result
     (λ f w h at. c.number_of-held.ensures _ (at_node _ _ f w c.in_ok-end.end h at)) in
     is_put g.row.SLOTS old mid key c.in_ok-end.end well c.requires.key k new c.args.value c.put_number.new.table.entries c.requires.value
-    (record { table = e.sound; set = λ f w h at. subst (λ v. HoldsTree (size_of new) (cells_in new) (edit_at w (λ _. Some v) (λ u. u) f)) same (e.set f w h at); blocks = e.growth.blocks; owned = λ own. (e.owned own).1; own = λ v own. (e.own v own).1; leaf = λ is. elim (e.leaf is) [ inl none ↦ inl none.1 | inr full ↦ inr full ]; root_check = e.growth.root_check; settings = e.growth.settings })
+    (record { table = e.sound; set = λ f w h at. subst (λ v. HoldsTree (size_of new) (cells_in new) (edit_at w (λ _. Some v) (λ u. u) f)) same (e.set f w h at); blocks = e.step.growth.blocks; owned = λ own. (e.owned own).1; own = λ v own. (e.own v own).1; leaf = λ is. elim (e.leaf is) [ inl none ↦ inl none.1 | inr full ↦ inr full ]; root_check = e.step.growth.root_check; settings = e.step.growth.settings })
     (no_more _ _ _ (sym (ap is_some had) ∙ c.is_none-is_new.ensures) c.if-is_new.false)
 
 pub returns-else-is_new-clause-well_formed : goal.returns-else-is_new-clause-well_formed

@@ -16,7 +16,7 @@ follow_or_add-requires g c =
 pub trim-requires : goal.trim-requires
 trim-requires g c =
     let e = c.in-Err.ensures in
-    let k = walked_same g.row.SLOTS (fields c.args.table.now) (fields c.loop-index.table) (fields c.follow_or_add.new.table) _ _ _ c.loop-index.node c.loop-index.invariant (λ _. g.L.Layout.kind) e.sound e.unchanged e.growth.settings in
+    let k = walked_same g.row.SLOTS (fields c.args.table.now) (fields c.loop-index.table) (fields c.follow_or_add.new.table) _ _ _ c.loop-index.node c.loop-index.invariant (λ _. g.L.Layout.kind) e.sound e.step.unchanged e.step.growth.settings in
     (search rules, (k.table, (k.inside, node_walked _ _ _ _ _ _ _ k)))
 
 pub returns-in-Err-clause-refused : goal.returns-in-Err-clause-refused
@@ -27,7 +27,7 @@ returns-in-Err-clause-refused g c =
     let k = walked_at g.row.SLOTS (fields c.args.table.now) (fields c.loop-index.table) key i c.loop-index.node c.loop-index-test.true c.loop-index.invariant in
     step_refused g.row.SLOTS (fields c.args.table.now) (fields c.loop-index.table) (fields c.follow_or_add.new.table) (fields c.trim.new.table) key (take i key) (drop (i + 1) key) (get_or key i 0) c.loop-index.node c.in-Err.error
     c.requires.well_formed c.requires.key k
-    (record { layout = λ _. g.L.Layout.kind; table = e.sound; unchanged = e.unchanged; settings = e.growth.settings; refused = e.refused })
+    (record { layout = λ _. g.L.Layout.kind; table = e.sound; unchanged = e.step.unchanged; settings = e.step.growth.settings; refused = e.step.refused })
     (record { table = t.sound; tree = t.tree; root_check = t.root_check; frame = t.frame; marks = t.marks })
     (λ own. (e.owned own).0) (λ z. (e.at_root z).0)
 
@@ -39,7 +39,7 @@ loop-index-preserved g c =
     let k = walked_at g.row.SLOTS old mid key i c.loop-index.node c.loop-index-test.true c.loop-index.invariant in
     walked_to g.row.SLOTS old new key i c.in-Ok.child c.loop-index-test.true
     (walked_on g.row.SLOTS old mid new key (take i key) (drop (i + 1) key) (get_or key i 0) c.loop-index.node c.in-Ok.child c.requires.well_formed.sound k
-    (record { table = e.sound; stepped = e.stepped; blocks = e.growth.blocks; owned = λ own. (e.owned own).1; stays = e.stays; root_step = λ z. (e.at_root z).1; root_check = e.growth.root_check; settings = e.growth.settings }))
+    (record { table = e.sound; stepped = e.stepped; blocks = e.step.growth.blocks; owned = λ own. (e.owned own).1; stays = e.stays; root_step = λ z. (e.at_root z).1; root_check = e.step.growth.root_check; settings = e.step.growth.settings }))
 
 pub returns-clause-walked : goal.returns-clause-walked
 returns-clause-walked g c = walked_all g.row.SLOTS (fields c.args.table.now) (fields c.loop-index.table) c.args.key.now c.loop-index.index c.loop-index.node c.loop-index-test.false c.loop-index.invariant

@@ -12,6 +12,7 @@ use Rattle.cedar_model.proofs.EditLemmas.Room.{based_node, not_free_held}
 use Rattle.cedar_model.proofs.UpdateLemmas.ChildReached.{child_added, child_there, label_inside}
 use Rattle.cedar_model.proofs.MeaningLemmas.NodeAtPath.{at_node}
 use Rattle.cedar_model.proofs.MeaningLemmas.SearchStep.{never_nothing}
+use Rattle.cedar_edit.proofs.StepLemmas.{refused_step}
 use Rattle.cedar_edit.proofs.keys.step.follow_or_add.Goals as goal
 
 pub slot_below-slot-requires : goal.slot_below-slot-requires
@@ -34,11 +35,11 @@ returns-then-is_owned_by-clause-stepped g c =
     child_there (fields c.args.table.now) n.0 c.args.node c.args.label c.slot_below-slot.result n.1.holds c.slot_below-slot.ensures c.requires.positive
     (subst (λ s. s < size_of (fields c.args.table.now)) (sym c.slot_below-slot.ensures) inside) (c.is_owned_by.ensures.0 c.if-is_owned_by.true)
 
-pub returns-then-is_owned_by-clause-growth : goal.returns-then-is_owned_by-clause-growth
-returns-then-is_owned_by-clause-growth g c = growth_nothing (fields c.args.table.now) (fields c.args.table.now) refl
+pub returns-then-is_owned_by-clause-step : goal.returns-then-is_owned_by-clause-step
+returns-then-is_owned_by-clause-step g c = record { refused = tt; unchanged = tt; growth = growth_nothing (fields c.args.table.now) (fields c.args.table.now) refl }
 
-pub returns-clause-growth : goal.returns-clause-growth
-returns-clause-growth g c = growth_framed _ _ _ c.in_ok-room_for.ensures.growth c.add_label.ensures.frame c.add_label.ensures.root_check
+pub returns-clause-step : goal.returns-clause-step
+returns-clause-step g c = record { refused = tt; unchanged = tt; growth = growth_framed _ _ _ c.in_ok-room_for.ensures.step.growth c.add_label.ensures.frame c.add_label.ensures.root_check }
 
 pub returns-then-is_owned_by-clause-owned : goal.returns-then-is_owned_by-clause-owned
 returns-then-is_owned_by-clause-owned g c = λ _. (tt, made_none (fields c.args.table.now) (fields c.args.table.now) (same_slots (places_of c.args.table.now.places)))
@@ -96,13 +97,18 @@ room_for-requires g c =
     let open_slot : (base_of T c.args.node ≢ 0) → Held T (below T c.args.node c.args.label) → ⊥ = λ b. subst (λ s. Held T s → ⊥) c.slot_below-slot.ensures (c.is_taken.ensures.«open» (λ t. let f = c.if-is_taken.false in cc) b) in
     (search rules, record { sound = c.requires.sound; node_in = c.requires.node_in; node = c.requires.node; positive_at_root = λ _. c.requires.positive; no_own_number = c.requires.no_own_number; absent = absent; slot_free = open_slot })
 
+pub returns-in_err-room_for-clause-step : goal.returns-in_err-room_for-clause-step
+returns-in_err-room_for-clause-step g c =
+    let step = c.in_err-room_for.ensures.step in
+    refused_step _ _ _ c.from_residual.result c.in_err-room_for.field-0.0 c.from_residual.ensures.1 step.refused step.unchanged step.growth
+
 pub add_label-requires : goal.add_label-requires
 add_label-requires g c =
     let n = c.requires.node in
     let room = c.in_ok-room_for.ensures in
     let node : IsNodeOf (size_of (fields c.room_for.new.table)) (cells c.room_for.new.table) (fields c.room_for.new.table).ordered n.0 c.args.node = record {
       holds = room.tree n.0 n.1.holds;
-      ascending = λ o. n.1.ascending (sym room.growth.settings.ordered ∙ o);
+      ascending = λ o. n.1.ascending (sym room.step.growth.settings.ordered ∙ o);
       path = n.1.path;
       at = room.placed.at n.1.path n.1.at;
     } in
@@ -117,7 +123,7 @@ returns-clause-stepped g c =
     let not_mine = c.if-is_owned_by.false in
     cc in
     child_added (fields c.args.table.now) (fields c.room_for.new.table) (fields c.add_label.new.table) c.args.node c.args.label c.args.node c.add_label.result c.requires.node.0 c.requires.node.1.path c.requires.node.1.holds c.requires.node.1.at
-    room.placed room.tree room.growth.settings.ordered absent add.added add.slot (add.sound.sound.shaped.blocks.some) add.tree add.leaf
+    room.placed room.tree room.step.growth.settings.ordered absent add.added add.slot (add.sound.sound.shaped.blocks.some) add.tree add.leaf
     (room.tree c.requires.node.0 c.requires.node.1.holds).stands.0.based (λ z. z) room.root_same
 
 pub returns-then-is_taken-clause-stays : goal.returns-then-is_taken-clause-stays

@@ -16,6 +16,7 @@ use Rattle.cedar_model.proofs.EditLemmas.Room.{based_node, not_free_held}
 use Rattle.cedar_model.proofs.UpdateLemmas.ChildReached.{label_inside, owner_ranged}
 use Rattle.cedar_model.proofs.MeaningLemmas.NodeAtPath.{at_node}
 use Rattle.cedar_model.proofs.MeaningLemmas.SearchStep.{never_nothing}
+use Rattle.cedar_edit.proofs.StepLemmas.{refused_step}
 use Rattle.cedar_edit.proofs.keys.step.put_in_slot.Goals as goal
 
 pub slot_below-slot-requires : goal.slot_below-slot-requires
@@ -45,11 +46,11 @@ returns-then-is_owned_by-clause-set g c = λ f w h on.
     let same : to_z w32 (of_z w32 c.args.value) ≡ c.args.value = to_z-of_z w32 c.args.value fits in
     subst (λ z. HoldsTree (size_of (fields c.set_number.new.table)) (cells c.set_number.new.table) (edit_at w (λ _. Some z) (λ u. u) f)) same (c.set_number.ensures.tree f w h on)
 
-pub returns-then-is_owned_by-clause-growth : goal.returns-then-is_owned_by-clause-growth
-returns-then-is_owned_by-clause-growth g c = growth_none (fields c.args.table.now) (fields c.set_number.new.table) c.set_number.ensures.frame c.set_number.ensures.root_check
+pub returns-then-is_owned_by-clause-step : goal.returns-then-is_owned_by-clause-step
+returns-then-is_owned_by-clause-step g c = record { refused = tt; unchanged = tt; growth = growth_none (fields c.args.table.now) (fields c.set_number.new.table) c.set_number.ensures.frame c.set_number.ensures.root_check }
 
-pub returns-clause-growth : goal.returns-clause-growth
-returns-clause-growth g c = growth_framed _ _ _ c.in_ok-room_for.ensures.growth c.set_number-2.ensures.frame c.set_number-2.ensures.root_check
+pub returns-clause-step : goal.returns-clause-step
+returns-clause-step g c = record { refused = tt; unchanged = tt; growth = growth_framed _ _ _ c.in_ok-room_for.ensures.step.growth c.set_number-2.ensures.frame c.set_number-2.ensures.root_check }
 
 pub returns-then-is_owned_by-clause-owned : goal.returns-then-is_owned_by-clause-owned
 returns-then-is_owned_by-clause-owned g c = λ _. (tt, framed_none (fields c.args.table.now) (fields c.set_number.new.table) c.set_number.ensures.frame)
@@ -115,6 +116,11 @@ room_for-requires g c =
 pub returns-in_err-room_for-clause-leaf : goal.returns-in_err-room_for-clause-leaf
 returns-in_err-room_for-clause-leaf g c = λ bare. elim (c.in_err-room_for.ensures.leaf c.requires.not_root bare) [ inl never ↦ absurd never.0 | inr full ↦ inr full ]
 
+pub returns-in_err-room_for-clause-step : goal.returns-in_err-room_for-clause-step
+returns-in_err-room_for-clause-step g c =
+    let step = c.in_err-room_for.ensures.step in
+    refused_step _ _ _ c.from_residual.result c.in_err-room_for.field-0.0 c.from_residual.ensures.1 step.refused step.unchanged step.growth
+
 pub set_number-requires-2 : goal.set_number-requires-2
 set_number-requires-2 g c =
     let n = c.requires.node in
@@ -122,7 +128,7 @@ set_number-requires-2 g c =
     let other : c.args.node ≢ 0 = λ z. c.requires.not_root (room.placed.root z) in
     let node : IsNodeOf (size_of (fields c.room_for.new.table)) (cells c.room_for.new.table) (fields c.room_for.new.table).ordered n.0 c.args.node = record {
       holds = room.tree n.0 n.1.holds;
-      ascending = λ o. n.1.ascending (sym room.growth.settings.ordered ∙ o);
+      ascending = λ o. n.1.ascending (sym room.step.growth.settings.ordered ∙ o);
       path = n.1.path;
       at = room.placed.at n.1.path n.1.at;
     } in

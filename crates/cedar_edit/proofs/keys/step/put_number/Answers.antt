@@ -32,8 +32,8 @@ returns-then-keeps_own-clause-set g c = λ f w h on.
     let same : to_z w32 (of_z w32 c.args.value) ≡ c.args.value = to_z-of_z w32 c.args.value fits in
     subst (λ z. HoldsTree (size_of (fields c.set_own_number.new.self)) (cells c.set_own_number.new.self) (edit_at w (λ _. Some z) (λ u. u) f)) same (c.set_own_number.ensures.tree f w h on)
 
-pub returns-then-keeps_own-clause-growth : goal.returns-then-keeps_own-clause-growth
-returns-then-keeps_own-clause-growth g c = growth_none (fields c.args.table.now) (fields c.set_own_number.new.self) c.set_own_number.ensures.frame (c.set_own_number.ensures.set.check 0)
+pub returns-then-keeps_own-clause-step : goal.returns-then-keeps_own-clause-step
+returns-then-keeps_own-clause-step g c = record { refused = tt; unchanged = tt; growth = growth_none (fields c.args.table.now) (fields c.set_own_number.new.self) c.set_own_number.ensures.frame (c.set_own_number.ensures.set.check 0) }
 
 pub returns-then-keeps_own-clause-owned : goal.returns-then-keeps_own-clause-owned
 returns-then-keeps_own-clause-owned g c = λ _. (tt, framed_none (fields c.args.table.now) (fields c.set_own_number.new.self) c.set_own_number.ensures.frame)

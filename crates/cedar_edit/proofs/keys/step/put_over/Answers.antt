@@ -9,7 +9,13 @@ use Rattle.cedar_table.specs.Table.Views.{cells, fields}
 use Rattle.cedar_model.specs.Table.TableFields.{size_of}
 use Rattle.cedar_model.proofs.UpdateLemmas.MarksAfterPut.{kept_then_put, slot_put}
 use Rattle.cedar_model.proofs.UpdateLemmas.BlocksMade.{growth_framed}
+use Rattle.cedar_edit.proofs.StepLemmas.{refused_step}
 use Rattle.cedar_edit.proofs.keys.step.put_over.Goals as goal
+
+pub returns-in_err-node-clause-step : goal.returns-in_err-node-clause-step
+returns-in_err-node-clause-step g c =
+    let step = c.in_err-node.ensures.step in
+    refused_step _ _ _ c.from_residual.result c.in_err-node.field-0.0 c.from_residual.ensures.1 step.refused step.unchanged step.growth
 
 pub set_reserved-requires : goal.set_reserved-requires
 set_reserved-requires g c =
@@ -18,7 +24,7 @@ set_reserved-requires g c =
     let R = cells c.resolve.new.table in
     let node : IsNodeOf (size_of (fields c.resolve.new.table)) (freed R (below R c.in_ok-node.node 0)) (fields c.resolve.new.table).ordered n.0 c.in_ok-node.node = record {
       holds = k.tree n.0 n.1.holds;
-      ascending = λ o. n.1.ascending (sym c.in_ok-node.ensures.growth.settings.ordered ∙ o);
+      ascending = λ o. n.1.ascending (sym c.in_ok-node.ensures.step.growth.settings.ordered ∙ o);
       path = n.1.path;
       at = k.at n.1.path n.1.at;
     } in
@@ -43,5 +49,5 @@ returns-clause-marks g c =
     let put = slot_put (size_of (fields c.resolve.new.table)) T (cells c.set_reserved.new.table) n.0 n.1.path c.in_ok-node.node _ holds (k.at n.1.path n.1.at) c.set_reserved.ensures.set in
     kept_then_put (cells c.args.table.now) T (cells c.set_reserved.new.table) n.1.path c.args.node c.in_ok-node.node true holds.root n.1.at k.marks k.at put
 
-pub returns-clause-growth : goal.returns-clause-growth
-returns-clause-growth g c = growth_framed _ _ _ c.in_ok-node.ensures.growth c.set_reserved.ensures.frame c.set_reserved.ensures.root_check
+pub returns-clause-step : goal.returns-clause-step
+returns-clause-step g c = record { refused = tt; unchanged = tt; growth = growth_framed _ _ _ c.in_ok-node.ensures.step.growth c.set_reserved.ensures.frame c.set_reserved.ensures.root_check }

@@ -35,8 +35,8 @@ returns-clause-placed g c =
       marks = marks_same (cells c.args.table.now);
     }
 
-pub returns-clause-growth : goal.returns-clause-growth
-returns-clause-growth g c = growth_nothing (fields c.args.table.now) (fields c.args.table.now) refl
+pub returns-clause-step : goal.returns-clause-step
+returns-clause-step g c = record { refused = tt; unchanged = tt; growth = growth_nothing (fields c.args.table.now) (fields c.args.table.now) refl }
 
 pub returns-clause-leaf : goal.returns-clause-leaf
 returns-clause-leaf g c = λ _ _. inl (tt, made_none (fields c.args.table.now) (fields c.args.table.now) (same_slots (places_of c.args.table.now.places)))

@@ -36,25 +36,25 @@ pub returns-in_err-move_number-clause-well_formed : goal.returns-in_err-move_num
 returns-in_err-move_number-clause-well_formed g c =
     let m = c.move_number.ensures in
     let w = c.requires.well_formed in
-    (tree_kept g.row.SLOTS (fields c.args.table.now) (fields c.move_number.new.table) w m.sound m.growth.root_check (m.tree _ w.stands) m.growth.settings).0
+    (tree_kept g.row.SLOTS (fields c.args.table.now) (fields c.move_number.new.table) w m.sound m.step.growth.root_check (m.tree _ w.stands) m.step.growth.settings).0
 
 pub returns-in_err-move_number-clause-tree : goal.returns-in_err-move_number-clause-tree
 returns-in_err-move_number-clause-tree g c =
     let m = c.move_number.ensures in
     let w = c.requires.well_formed in
-    (tree_kept g.row.SLOTS (fields c.args.table.now) (fields c.move_number.new.table) w m.sound m.growth.root_check (m.tree _ w.stands) m.growth.settings).1
+    (tree_kept g.row.SLOTS (fields c.args.table.now) (fields c.move_number.new.table) w m.sound m.step.growth.root_check (m.tree _ w.stands) m.step.growth.settings).1
 
 pub returns-in_ok-move_number-clause-well_formed : goal.returns-in_ok-move_number-clause-well_formed
 returns-in_ok-move_number-clause-well_formed g c =
     let m = c.move_number.ensures in
     let w = c.requires.well_formed in
-    (tree_kept g.row.SLOTS (fields c.args.table.now) (fields c.move_number.new.table) w m.sound m.growth.root_check (m.tree _ w.stands) m.growth.settings).0
+    (tree_kept g.row.SLOTS (fields c.args.table.now) (fields c.move_number.new.table) w m.sound m.step.growth.root_check (m.tree _ w.stands) m.step.growth.settings).0
 
 pub returns-in_ok-move_number-clause-tree : goal.returns-in_ok-move_number-clause-tree
 returns-in_ok-move_number-clause-tree g c =
     let m = c.move_number.ensures in
     let w = c.requires.well_formed in
-    (tree_kept g.row.SLOTS (fields c.args.table.now) (fields c.move_number.new.table) w m.sound m.growth.root_check (m.tree _ w.stands) m.growth.settings).1
+    (tree_kept g.row.SLOTS (fields c.args.table.now) (fields c.move_number.new.table) w m.sound m.step.growth.root_check (m.tree _ w.stands) m.step.growth.settings).1
 
 pub returns-in_ok-move_number-clause-moved : goal.returns-in_ok-move_number-clause-moved
 returns-in_ok-move_number-clause-moved g c = λ s on.
@@ -63,7 +63,7 @@ returns-in_ok-move_number-clause-moved g c = λ s on.
     subst (λ x. T'.check (below T' x 0) ≡ pos x) same c.in_ok-move_number.ensures.moved
 
 pub returns-in_err-move_number-clause-stays : goal.returns-in_err-move_number-clause-stays
-returns-in_err-move_number-clause-stays g c = on_refusal c.from_residual.result _ (slots_marks g.L.Layout.kind (places_of c.args.table.now.places) (places_of c.move_number.new.table.places) c.in_err-move_number.ensures.unchanged)
+returns-in_err-move_number-clause-stays g c = on_refusal c.from_residual.result _ (slots_marks g.L.Layout.kind (places_of c.args.table.now.places) (places_of c.move_number.new.table.places) c.in_err-move_number.ensures.step.unchanged)
 
 pub returns-in_ok-move_number-clause-others : goal.returns-in_ok-move_number-clause-others
 returns-in_ok-move_number-clause-others g c = λ s on.

@@ -5,11 +5,20 @@ use Rattle.cedar_model.specs.Relocation.Renaming.{Movable, SetMoved}
 use Rattle.cedar_model.specs.Relocation.Reserved.{freed}
 use Rattle.cedar_table.specs.Table.Views.{cells, fields}
 use Rattle.cedar_model.specs.Table.TableFields.{size_of}
-use Rattle.cedar_model.proofs.UpdateLemmas.BlocksMade.{growth_framed, made_larger}
+use Rattle.cedar_model.proofs.UpdateLemmas.BlocksMade.{growth_framed, made_larger, refuses_still}
 use Rattle.cedar_model.proofs.RelocationLemmas.Movable.{relocated_holds}
 use Rattle.cedar_model.proofs.RelocationLemmas.PlacesFirst.{can_relocate, same_holds, set_moved}
 use Rattle.cedar_model.specs.Edit.Steps.{MayAddBlock}
+use Rattle.cedar_edit.proofs.StepLemmas.{refused_step}
 use Rattle.cedar_edit.proofs.relocation.resolve.move_set_around.Goals as goal
+
+pub returns-in_err-base-clause-step : goal.returns-in_err-base-clause-step
+returns-in_err-base-clause-step g c =
+    let T = fields c.args.table.now in
+    let T₁ = fields c.place_for.new.self in
+    let e = c.in_err-base.ensures in
+    let placed : MayAddBlock T T₁ = record { blocks = e.blocks; root_check = (e.held.other 0 (inl refl)).check; settings = e.settings } in
+    refused_step _ T T₁ c.from_residual.result c.in_err-base.field-0.0 c.from_residual.ensures.1 (refuses_still T.places T₁.places _ _ e.unchanged e.refused) e.unchanged placed
 
 pub relocate_around-requires : goal.relocate_around-requires
 relocate_around-requires g c =
@@ -46,11 +55,11 @@ returns-clause-moved g c =
           subst (λ n. HoldsTree n (freed T' k) f) (sym c.relocate_around.ensures.frame.size) (relocated_holds _ T₁ (freed T' k) c.args.node b f c.relocate_around.ensures.relocated made);
     }
 
-pub returns-clause-growth : goal.returns-clause-growth
-returns-clause-growth g c =
+pub returns-clause-step : goal.returns-clause-step
+returns-clause-step g c =
     let placed : MayAddBlock (fields c.args.table.now) (fields c.place_for.new.self) = record {
       blocks = c.place_for.ensures.blocks;
       root_check = (c.place_for.ensures.held.other 0 (inl refl)).check;
       settings = c.place_for.ensures.settings;
     } in
-    growth_framed _ _ _ placed c.relocate_around.ensures.frame c.relocate_around.ensures.root_check
+    record { refused = tt; unchanged = tt; growth = growth_framed _ _ _ placed c.relocate_around.ensures.frame c.relocate_around.ensures.root_check }

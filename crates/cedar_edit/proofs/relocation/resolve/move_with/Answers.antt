@@ -7,6 +7,7 @@ use Rattle.cedar_model.specs.Relocation.Wanted.{with_label}
 use Rattle.cedar_model.proofs.RelocationLemmas.Conflict.{not_owned, owned_short}
 use Rattle.cedar_model.proofs.RelocationLemmas.Movable.{node_at_end}
 use Rattle.cedar_model.proofs.RelocationLemmas.WantedLabels.{with_length, with_new, with_old}
+use Rattle.cedar_edit.proofs.StepLemmas.{refused_step}
 use Rattle.cedar_edit.proofs.relocation.resolve.move_with.Goals as goal
 
 pub labels_of-labels-requires : goal.labels_of-labels-requires
@@ -59,6 +60,11 @@ move_set_with-requires g c =
         ),
       ),
     )
+
+pub returns-in_err-move_set_with-clause-step : goal.returns-in_err-move_set_with-clause-step
+returns-in_err-move_set_with-clause-step g c =
+    let step = c.in_err-move_set_with.ensures.step in
+    refused_step _ _ _ c.from_residual.result c.in_err-move_set_with.field-0.0 c.from_residual.ensures.1 step.refused step.unchanged step.growth
 
 pub returns-clause-moved : goal.returns-clause-moved
 returns-clause-moved g c =
