@@ -9,13 +9,13 @@ use Rattle.cedar_slots.specs.Places.{Shaped}
 use Rattle.cedar_slots.specs.Slots.{blank_info, blank_node}
 use Rattle.cedar_model.specs.Table.TableFields.{capacity_of, size_of}
 use Rattle.cedar_format.specs.declared.header.Header.{Header}
-use Rattle.cedar_format.specs.Format.{filled, header_bytes, listed, listed_bytes, listed_in, FitsHeader, IsFile, IsHeader}
+use Rattle.cedar_format.specs.Format.{filled_list, header_bytes, listed_slots, listed_bytes, listed_in, FitsHeader, IsFile, IsHeader}
 use Rattle.cedar_format.specs.Records.{FitsBody}
 use Rattle.cedar_format.specs.Tables.{file_fields, header_of, slots_listed, table_bytes, FitsTable, IsListed}
 use Rattle.cedar_format.proofs.Again.{same_header}
 use Rattle.cedar_format.proofs.Sizes.{has_sizes}
 
-same_listed : (minor a b c d : ℕ) → a ≡ b → c ≡ d → listed minor a c ≡ listed minor b d
+same_listed : (minor a b c d : ℕ) → a ≡ b → c ≡ d → listed_slots minor a c ≡ listed_slots minor b d
 same_listed minor a b c d p q = cc
 
 module _ (kind : LayoutKind) (slots limit : ℕ) (h : Header) (nodes : List NodeRecord) (infos : List NInfoRecord) (blocks : List BlockRecord) (reject : List ℤ) (file : IsFile slots limit h nodes infos blocks reject) where
@@ -60,9 +60,9 @@ module _ (kind : LayoutKind) (slots limit : ℕ) (h : Header) (nodes : List Node
   pub file_is_listed : slots ≤ 2 ^ 30 → IsListed h.minor (file_fields kind h nodes infos blocks reject)
   file_is_listed most = record {
     shaped = file_shaped most;
-    nodes = subst (λ n. nodes ≡ filled blank_node (capacity_of (file_fields kind h nodes infos blocks reject)) (take n nodes)) file_listed (subst (λ c. nodes ≡ filled blank_node c (take (listed_in h) nodes)) file_capacity file.nodes_filled);
-    infos = subst (λ n. infos ≡ filled blank_info (capacity_of (file_fields kind h nodes infos blocks reject)) (take n infos)) file_listed (subst (λ c. infos ≡ filled blank_info c (take (listed_in h) infos)) file_capacity file.infos_filled);
-    blocks = subst (λ n. blocks ≡ filled blank_block (capacity_of (file_fields kind h nodes infos blocks reject) / 256) (take (n / 256) blocks)) file_listed (subst (λ c. blocks ≡ filled blank_block (c / 256) (take (listed_in h / 256) blocks)) file_capacity file.blocks_filled);
+    nodes = subst (λ n. nodes ≡ filled_list blank_node (capacity_of (file_fields kind h nodes infos blocks reject)) (take n nodes)) file_listed (subst (λ c. nodes ≡ filled_list blank_node c (take (listed_in h) nodes)) file_capacity file.nodes_filled);
+    infos = subst (λ n. infos ≡ filled_list blank_info (capacity_of (file_fields kind h nodes infos blocks reject)) (take n infos)) file_listed (subst (λ c. infos ≡ filled_list blank_info c (take (listed_in h) infos)) file_capacity file.infos_filled);
+    blocks = subst (λ n. blocks ≡ filled_list blank_block (capacity_of (file_fields kind h nodes infos blocks reject) / 256) (take (n / 256) blocks)) file_listed (subst (λ c. blocks ≡ filled_list blank_block (c / 256) (take (listed_in h / 256) blocks)) file_capacity file.blocks_filled);
   }
 
   -- what was read of a file are the bytes of its table

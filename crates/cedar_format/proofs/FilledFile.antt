@@ -6,7 +6,7 @@ use Rattle.cedar_slots.specs.declared.records.BlockRecord.{BlockRecord}
 use Rattle.cedar_slots.specs.Blocks.{blank_block}
 use Rattle.cedar_slots.specs.Slots.{blank_info, blank_node}
 use Rattle.cedar_format.specs.declared.header.Header.{Header}
-use Rattle.cedar_format.specs.Format.{filled, listed_bytes, listed_in, size_refusal, IsFile}
+use Rattle.cedar_format.specs.Format.{filled_list, listed_bytes, listed_in, size_refusal, IsFile}
 use Rattle.cedar_format.specs.Records.{body_bytes, FitsBody}
 use Rattle.cedar_format.proofs.Filled.{filled_again, filled_front, length-filled}
 use Rattle.cedar_format.proofs.Sizes.{has_sizes, listed_within}
@@ -21,8 +21,8 @@ module _ (slots limit : ℕ) (h : Header) (sizes : size_refusal slots limit h �
     (listed_nodes : List NodeRecord) (listed_infos : List NInfoRecord) (listed_blocks : List BlockRecord) (listed_reject : List ℤ)
     (nodes_read : length listed_nodes ≡ h.array_len) (infos_read : length listed_infos ≡ h.n_infos_len) (blocks_read : length listed_blocks ≡ h.blocks_len) (reject_read : length listed_reject ≡ h.reject_len)
     (nodes : List NodeRecord) (infos : List NInfoRecord) (blocks : List BlockRecord) (reject : List ℤ)
-    (nodes_filled : nodes ≡ filled blank_node h.capacity listed_nodes) (infos_filled : infos ≡ filled blank_info h.capacity listed_infos)
-    (blocks_filled : blocks ≡ filled blank_block (h.capacity / 256) listed_blocks) (reject_same : reject ≡ listed_reject) where
+    (nodes_filled : nodes ≡ filled_list blank_node h.capacity listed_nodes) (infos_filled : infos ≡ filled_list blank_info h.capacity listed_infos)
+    (blocks_filled : blocks ≡ filled_list blank_block (h.capacity / 256) listed_blocks) (reject_same : reject ≡ listed_reject) where
   nodes_are : length listed_nodes ≡ listed_in h
   nodes_are = nodes_read ∙ (has_sizes slots limit h sizes).array_len
 

@@ -1,9 +1,9 @@
--- Which exits of a load are want of memory.
-use Rattle.std.proofs.Common.{ℕ, Bool, List, Option, Some, None}
+-- Which exits of a load are want of memory, and which a fault of the device.
+use Rattle.std.proofs.Common.{◌≡◌, ℕ, Bool, true, List, Option, Some, None}
 use Rattle.cedar_format.specs.declared.error.CedarPersistenceError.{CedarPersistenceError}
 use Rattle.cedar_format.specs.declared.error.CedarPersistenceError.TheVariants as errors
 use Rattle.cedar_format.specs.declared.header.Header.{Header}
-use Rattle.cedar_format.specs.Reading.{IsLack, LacksNoMore, LacksTable, Misses, Trails}
+use Rattle.cedar_format.specs.Reading.{IsIo, IsLack, LacksNoMore, LacksTable, Misses, Trails}
 
 pub no_lack : (passed : Header → Type 0) (e : CedarPersistenceError) → (IsLack e → ⊥) → LacksNoMore passed e
 no_lack passed (errors.Io cause) none_lacks = tt
@@ -57,3 +57,42 @@ table_lacks passed h (errors.InvalidHeader a b) holds lacks = tt
 table_lacks passed h (errors.AllocationLimitExceeded a b) holds lacks = tt
 table_lacks passed h (errors.AllocationFailed n) holds lacks = (h, holds, lacks)
 table_lacks passed h (errors.CorruptData a b i) holds lacks = tt
+
+pub missed_io : (left : Option (List ℕ)) (failed : Bool) (n : ℕ) (e : CedarPersistenceError) → Misses left failed n e → IsIo e → failed ≡ true
+missed_io left failed n (errors.Io cause) misses io = misses
+missed_io left failed n errors.Truncated misses io = absurd io
+missed_io left failed n errors.InvalidMagic misses io = absurd io
+missed_io left failed n errors.TrailingData misses io = absurd io
+missed_io left failed n (errors.UnsupportedVersion a b) misses io = absurd io
+missed_io left failed n (errors.UnsupportedByteOrder a) misses io = absurd io
+missed_io left failed n (errors.LayoutMismatch a b) misses io = absurd io
+missed_io left failed n (errors.InvalidHeader a b) misses io = absurd io
+missed_io left failed n (errors.AllocationLimitExceeded a b) misses io = absurd io
+missed_io left failed n (errors.AllocationFailed m) misses io = absurd io
+missed_io left failed n (errors.CorruptData a b i) misses io = absurd io
+
+pub trailed_io : (left : Option (List ℕ)) (failed : Bool) (e : CedarPersistenceError) → Trails left failed e → IsIo e → failed ≡ true
+trailed_io left failed (errors.Io cause) trails io = trails
+trailed_io left failed errors.Truncated trails io = absurd io
+trailed_io left failed errors.InvalidMagic trails io = absurd io
+trailed_io left failed errors.TrailingData trails io = absurd io
+trailed_io left failed (errors.UnsupportedVersion a b) trails io = absurd io
+trailed_io left failed (errors.UnsupportedByteOrder a) trails io = absurd io
+trailed_io left failed (errors.LayoutMismatch a b) trails io = absurd io
+trailed_io left failed (errors.InvalidHeader a b) trails io = absurd io
+trailed_io left failed (errors.AllocationLimitExceeded a b) trails io = absurd io
+trailed_io left failed (errors.AllocationFailed n) trails io = absurd io
+trailed_io left failed (errors.CorruptData a b i) trails io = absurd io
+
+pub table_no_io : (h : Header) (e : CedarPersistenceError) → LacksTable h e → IsIo e → ⊥
+table_no_io h (errors.Io cause) lacks io = lacks
+table_no_io h errors.Truncated lacks io = io
+table_no_io h errors.InvalidMagic lacks io = io
+table_no_io h errors.TrailingData lacks io = io
+table_no_io h (errors.UnsupportedVersion a b) lacks io = io
+table_no_io h (errors.UnsupportedByteOrder a) lacks io = io
+table_no_io h (errors.LayoutMismatch a b) lacks io = io
+table_no_io h (errors.InvalidHeader a b) lacks io = io
+table_no_io h (errors.AllocationLimitExceeded a b) lacks io = io
+table_no_io h (errors.AllocationFailed n) lacks io = io
+table_no_io h (errors.CorruptData a b i) lacks io = io

@@ -13,7 +13,7 @@ use Rattle.cedar_model.specs.Table.TableFields.{capacity_of, size_of, Fields}
 use Rattle.cedar_model.specs.Meaning.WellFormed.{IsWellFormed}
 use Rattle.cedar_format.specs.Numbers.{i16_bytes, length-i16_bytes, length-i32_bytes, IsI16}
 use Rattle.cedar_format.specs.Records.{node_bytes, info_bytes, block_bytes, FitsBlock, FitsInfo, FitsNode}
-use Rattle.cedar_format.specs.Format.{filled, header_at, header_bytes, listed_bytes}
+use Rattle.cedar_format.specs.Format.{filled_list, header_at, header_bytes, listed_bytes}
 use Rattle.cedar_format.specs.Tables.{header_of, slots_listed, table_bytes, FitsTable, IsListed}
 use Rattle.cedar_format.proofs.Again.{block_again, block_in, header_again, layout_again, node_again, node_in, number_again, number_in}
 use Rattle.cedar_format.proofs.Apart.{same_lists, same_rest}
@@ -117,8 +117,8 @@ same_body v w T U p q shaped other heads e =
     (nodes.0, infos.0, blocks.0, reject.0)
 
 -- lists that are filled up to one length with one value are the same, if what is listed of them is
-same_filled : {X : Type 0} (blank : X) (n m : ℕ) (xs ys listed others : List X) → xs ≡ filled blank n listed → ys ≡ filled blank m others → n ≡ m → listed ≡ others → xs ≡ ys
-same_filled blank n m xs ys listed others p q e f = p ∙ ap (λ k. filled blank k listed) e ∙ ap (filled blank m) f ∙ sym q
+same_filled : {X : Type 0} (blank : X) (n m : ℕ) (xs ys listed others : List X) → xs ≡ filled_list blank n listed → ys ≡ filled_list blank m others → n ≡ m → listed ≡ others → xs ≡ ys
+same_filled blank n m xs ys listed others p q e f = p ∙ ap (λ k. filled_list blank k listed) e ∙ ap (filled_list blank m) f ∙ sym q
 
 -- no two tables of which all is known share bytes
 pub one_table : (v w : ℕ) (T U : Fields) → IsListed v T → IsListed w U → FitsTable v T → FitsTable w U → table_bytes v T ≡ table_bytes w U → (T ≡ U) × (v ≡ w)
@@ -148,9 +148,9 @@ formed_is_listed slots zero T formed =
     let blocks : length T.places.blocks.records ≡ capacity_of T / 256 = omega arith in
     record {
       shaped = shaped;
-      nodes = subst (λ n. T.places.slots.nodes ≡ filled blank_node n (take (capacity_of T) T.places.slots.nodes)) nodes (filled_all blank_node (capacity_of T) T.places.slots.nodes (omega arith));
-      infos = subst (λ n. T.places.slots.infos ≡ filled blank_info n (take (capacity_of T) T.places.slots.infos)) infos (filled_all blank_info (capacity_of T) T.places.slots.infos (omega arith));
-      blocks = subst (λ n. T.places.blocks.records ≡ filled blank_block n (take (capacity_of T / 256) T.places.blocks.records)) blocks (filled_all blank_block (capacity_of T / 256) T.places.blocks.records (omega arith));
+      nodes = subst (λ n. T.places.slots.nodes ≡ filled_list blank_node n (take (capacity_of T) T.places.slots.nodes)) nodes (filled_all blank_node (capacity_of T) T.places.slots.nodes (omega arith));
+      infos = subst (λ n. T.places.slots.infos ≡ filled_list blank_info n (take (capacity_of T) T.places.slots.infos)) infos (filled_all blank_info (capacity_of T) T.places.slots.infos (omega arith));
+      blocks = subst (λ n. T.places.blocks.records ≡ filled_list blank_block n (take (capacity_of T / 256) T.places.blocks.records)) blocks (filled_all blank_block (capacity_of T / 256) T.places.blocks.records (omega arith));
     }
 formed_is_listed slots (suc minor) T formed =
     let sound = formed.table.sound in
@@ -161,9 +161,9 @@ formed_is_listed slots (suc minor) T formed =
     let active : size_of T / 256 ≡ T.places.blocks.active = omega arith in
     record {
       shaped = shaped;
-      nodes = subst (λ n. T.places.slots.nodes ≡ filled blank_node n (take (size_of T) T.places.slots.nodes)) nodes (filled_blank blank_node (size_of T) T.places.slots.nodes (omega (arith, shaped.blocks.active_in)) sound.inactive.nodes);
-      infos = subst (λ n. T.places.slots.infos ≡ filled blank_info n (take (size_of T) T.places.slots.infos)) infos (filled_blank blank_info (size_of T) T.places.slots.infos (omega (arith, shaped.blocks.active_in)) sound.inactive.infos);
-      blocks = subst (λ n. T.places.blocks.records ≡ filled blank_block n (take (size_of T / 256) T.places.blocks.records)) blocks
+      nodes = subst (λ n. T.places.slots.nodes ≡ filled_list blank_node n (take (size_of T) T.places.slots.nodes)) nodes (filled_blank blank_node (size_of T) T.places.slots.nodes (omega (arith, shaped.blocks.active_in)) sound.inactive.nodes);
+      infos = subst (λ n. T.places.slots.infos ≡ filled_list blank_info n (take (size_of T) T.places.slots.infos)) infos (filled_blank blank_info (size_of T) T.places.slots.infos (omega (arith, shaped.blocks.active_in)) sound.inactive.infos);
+      blocks = subst (λ n. T.places.blocks.records ≡ filled_list blank_block n (take (size_of T / 256) T.places.blocks.records)) blocks
           (filled_blank blank_block (size_of T / 256) T.places.blocks.records (omega (arith, shaped.blocks.active_in)) (λ b within. sound.inactive.blocks b (omega arith)));
     }
 

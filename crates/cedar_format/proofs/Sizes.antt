@@ -8,7 +8,7 @@ use Rattle.std.proofs.Math.Nat.{mul_assoc, pow-succ'}
 use lib.Count.{ones_step}
 use Rattle.cedar_slots.specs.Places.{IsPowerOfTwo}
 use Rattle.cedar_format.specs.declared.header.Header.{Header}
-use Rattle.cedar_format.specs.Format.{listed, listed_in, need, size_refusal, tables_len, HasSizes}
+use Rattle.cedar_format.specs.Format.{listed_slots, listed_in, need, size_refusal, tables_len, HasSizes}
 use Rattle.cedar_format.specs.Refusal.{Refusal, InvalidHeader, AllocationLimitExceeded, first_refusal, unless}
 
 halved : (n j m : ℕ) → n ≡ 2 * (n / 2) → n / 2 ≡ 2 ^ j * m → 2 ^ suc j ≡ 2 * 2 ^ j → n ≡ 2 ^ suc j * m
@@ -104,7 +104,7 @@ has_sizes slots limit h e =
       size = leb-true _ _ in_capacity;
     }
 
-at_most : (minor capacity size : ℕ) → size ≤ capacity → listed minor capacity size ≤ capacity
+at_most : (minor capacity size : ℕ) → size ≤ capacity → listed_slots minor capacity size ≤ capacity
 at_most zero capacity size within = omega arith
 at_most (suc minor) capacity size within = within
 

@@ -13,7 +13,7 @@ use Rattle.cedar_format.specs.Records.{body_bytes, FitsBody}
 use Rattle.cedar_format.specs.declared.header.Header.{Header}
 use Rattle.cedar_format.specs.Refusal.{Refusal, InvalidMagic, UnsupportedVersion, UnsupportedByteOrder, LayoutMismatch, InvalidHeader, AllocationLimitExceeded, Truncated, TrailingData, unless, first_refusal, refusal}
 use Rattle.cedar_format.specs.declared.error.CedarPersistenceError.{CedarPersistenceError}
-use Rattle.cedar_format.specs.Reading.{Begins, LacksTable}
+use Rattle.cedar_format.specs.Reading.{BeginsWith, LacksTable}
 
 -- the number that stands at a place of the bytes, the lowest byte first
 abbrev pub u8_at : ℕ → List ℕ → ℕ
@@ -136,20 +136,20 @@ abbrev pub need : Header → ℕ
 need h = 2 * (10 * h.capacity + 20 * (h.capacity / 256) + 514) + 18 * h.size + h.capacity / 256
 
 -- how many slots a file lists: all, or from minor 1 on those in use alone
-abbrev pub listed : ℕ → ℕ → ℕ → ℕ
-listed zero capacity size = capacity
-listed (suc minor) capacity size = size
+abbrev pub listed_slots : ℕ → ℕ → ℕ → ℕ
+listed_slots zero capacity size = capacity
+listed_slots (suc minor) capacity size = size
 
 abbrev pub listed_in : Header → ℕ
-listed_in h = listed h.minor h.capacity h.size
+listed_in h = listed_slots h.minor h.capacity h.size
 
 -- the bytes of the first n slots, of their blocks, and of the reject values
 abbrev pub listed_bytes : ℕ → List NodeRecord → List NInfoRecord → List BlockRecord → List ℤ → List ℕ
 listed_bytes n nodes infos blocks reject = body_bytes (take n nodes) (take n infos) (take (n / 256) blocks) reject
 
 -- a list that is filled up to a length
-abbrev pub filled : {X : Type 0} → X → ℕ → List X → List X
-filled blank len xs = xs ++ replicate (len - length xs) blank
+abbrev pub filled_list : {X : Type 0} → X → ℕ → List X → List X
+filled_list blank len xs = xs ++ replicate (len - length xs) blank
 
 -- the tests of the sizes, and of the need
 abbrev pub size_refusal : ℕ → ℕ → Header → Option Refusal
@@ -190,16 +190,16 @@ pub record IsFile (slots limit : ℕ) (h : Header) (nodes : List NodeRecord) (in
   pub blocks_len : length blocks ≡ h.capacity / 256
   pub reject_len : length reject ≡ h.reject_len
   pub numbers : FitsBody (take (listed_in h) nodes) (take (listed_in h) infos) (take (listed_in h / 256) blocks) reject
-  pub nodes_filled : nodes ≡ filled blank_node h.capacity (take (listed_in h) nodes)
-  pub infos_filled : infos ≡ filled blank_info h.capacity (take (listed_in h) infos)
-  pub blocks_filled : blocks ≡ filled blank_block (h.capacity / 256) (take (listed_in h / 256) blocks)
+  pub nodes_filled : nodes ≡ filled_list blank_node h.capacity (take (listed_in h) nodes)
+  pub infos_filled : infos ≡ filled_list blank_info h.capacity (take (listed_in h) infos)
+  pub blocks_filled : blocks ≡ filled_list blank_block (h.capacity / 256) (take (listed_in h / 256) blocks)
 
 -- the bytes begin with this header, and it passes all tests of its own
 pub record Passes (layout slots limit : ℕ) (bytes : Option (List ℕ)) (h : Header) : Type 0 where
   pub front : List ℕ
   pub is : IsHeader layout front h
   pub sizes : size_refusal slots limit h ≡ None
-  pub first : Begins bytes front
+  pub first : BeginsWith bytes front
 
 -- nothing is counted before the header has passed, and then as much as it allows
 abbrev pub CountsWithin : ℕ → ℕ → ℕ → Option (List ℕ) → (Header → ℕ) → ℕ → ℕ → Type 0

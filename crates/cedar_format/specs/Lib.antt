@@ -3,6 +3,9 @@ pub mod Reading
 pub mod Numbers
 pub mod Refusal
 pub mod Format
+pub mod Decodes
 pub mod Records
 pub mod Tables
 pub mod Statements
+pub mod Shown
+pub mod Words

@@ -1,5 +1,6 @@
 -- What reads and writes tell of the bytes that a reader has left and a writer holds, where those are known.
-use Rattle.std.specs.Prelude.{ℕ, ◌≡◌, ◌<◌, ◌/◌, ◌⊎◌, Bool, true, false, List, length, take, Option, Some, None, ⊤, Result, MatchResult}
+use Rattle.std.specs.Prelude.{ℕ, ◌≡◌, ◌<◌, ◌/◌, ◌⊎◌, Bool, true, false, List, length, take, Option, Some, None, ⊤, Result, IfErr, IfOk, MatchResult}
+use Rattle.std.specs.Io.KnownBytes.{Consumes}
 use Rattle.cedar_format.specs.declared.error.CedarPersistenceError.{CedarPersistenceError}
 use Rattle.cedar_format.specs.declared.error.CedarPersistenceError.TheVariants.{Io, Truncated, AllocationFailed, TrailingData}
 use Rattle.cedar_format.specs.declared.header.Header.{Header}
@@ -24,6 +25,12 @@ IsIo _ = ⊥
 abbrev pub TellsBreaks : {X : Type 0} → Bool → Bool → Result X CedarPersistenceError → Type 0
 TellsBreaks old new answer = MatchResult answer (λ x. new ≡ old) (λ e. e ≡ Truncated → new ≡ old)
 
+-- `len` bytes were read as one thing of a source that had `before` left and now has `after`, or they couldn't be read
+pub record ReadsBy {X : Type 0} (bytes_of : X → List ℕ) (len : ℕ) (before after : Option (List ℕ)) (failed_before failed_after : Bool) (result : Result X CedarPersistenceError) : Type 0 where
+  pub bytes : IfOk result (λ x. Consumes before after (bytes_of x))
+  pub misses : IfErr result (Misses before failed_after len)
+  pub failed : failed_before ≡ true → failed_after ≡ true
+
 -- memory was refused
 abbrev pub IsLack : CedarPersistenceError → Type 0
 IsLack (AllocationFailed n) = ⊤
@@ -47,6 +54,6 @@ LacksNoMore passed (AllocationFailed n) = (h : Header) × passed h × ((n ≡ h.
 LacksNoMore passed _ = ⊤
 
 -- these bytes come first
-abbrev pub Begins : Option (List ℕ) → List ℕ → Type 0
-Begins None front = ⊤
-Begins (Some bytes) front = take (length front) bytes ≡ front
+abbrev pub BeginsWith : Option (List ℕ) → List ℕ → Type 0
+BeginsWith None front = ⊤
+BeginsWith (Some bytes) front = take (length front) bytes ≡ front

@@ -10,12 +10,12 @@ use Rattle.cedar_slots.specs.Slots.{blank_info, blank_node}
 use Rattle.cedar_model.specs.Table.TableFields.{Fields, capacity_of, size_of}
 use Rattle.cedar_model.specs.Meaning.WellFormed.{IsWellFormed}
 use Rattle.cedar_format.specs.declared.header.Header.{Header}
-use Rattle.cedar_format.specs.Format.{filled, header_bytes, listed, listed_bytes, FitsHeader, IsVersion}
+use Rattle.cedar_format.specs.Format.{filled_list, header_bytes, listed_slots, listed_bytes, FitsHeader, IsVersion}
 use Rattle.cedar_format.specs.Records.{FitsBody}
 
 -- how many slots a table's file of this version lists
 abbrev pub slots_listed : ℕ → Fields → ℕ
-slots_listed version T = listed version (capacity_of T) (size_of T)
+slots_listed version T = listed_slots version (capacity_of T) (size_of T)
 
 -- what the header of this version, which is the minor one, says of a table
 abbrev pub header_of : ℕ → Fields → Header
@@ -49,9 +49,9 @@ pub record FitsTable (version : ℕ) (T : Fields) : Type 0 where
 -- the parts have their sizes, and what this version doesn't list is blank
 pub record IsListed (version : ℕ) (T : Fields) : Type 0 where
   pub shaped : Shaped T.places
-  pub nodes : T.places.slots.nodes ≡ filled blank_node (capacity_of T) (take (slots_listed version T) T.places.slots.nodes)
-  pub infos : T.places.slots.infos ≡ filled blank_info (capacity_of T) (take (slots_listed version T) T.places.slots.infos)
-  pub blocks : T.places.blocks.records ≡ filled blank_block (capacity_of T / 256) (take (slots_listed version T / 256) T.places.blocks.records)
+  pub nodes : T.places.slots.nodes ≡ filled_list blank_node (capacity_of T) (take (slots_listed version T) T.places.slots.nodes)
+  pub infos : T.places.slots.infos ≡ filled_list blank_info (capacity_of T) (take (slots_listed version T) T.places.slots.infos)
+  pub blocks : T.places.blocks.records ≡ filled_list blank_block (capacity_of T / 256) (take (slots_listed version T / 256) T.places.blocks.records)
 
 -- the table that a file's fields are
 abbrev pub file_fields : LayoutKind → Header → List NodeRecord → List NInfoRecord → List BlockRecord → List ℤ → Fields

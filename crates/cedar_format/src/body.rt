@@ -1,14 +1,7 @@
 //! The tables of a file.
 
-ghost use Rattle.std.specs.Prelude.{◌≡◌, ◌<◌, ◌≤◌, ◌+◌, ◌/◌, ◌^◌, ◌⊎◌, true, false, length, List, ℕ, [], ◌++◌, IfErr, IfOk, IfSome, OnOk, None, vec_capacity};
-ghost use Rattle.std.specs.Io.KnownBytes.{Appends, Consumes, IsAtEnd};
-ghost use Rattle.cedar_slots.specs.Blocks.{blank_block};
-ghost use Rattle.cedar_slots.specs.Places.{IsSlotLimit};
-ghost use Rattle.cedar_slots.specs.Slots.{blank_info, blank_node};
-ghost use Rattle.cedar_format.specs.Format.{body_len, filled, listed_bytes, listed_in, need, tables_len, CountsWithin, DecodeAnswers, IsFile, IsHeader, Passes};
-ghost use Rattle.cedar_format.specs.Records.{body_bytes, FitsBody};
-ghost use Rattle.cedar_format.specs.Reading.{IsIo, LacksNoMore, LacksTable, Misses, TellsBreaks, Trails};
-ghost use Rattle.cedar_format.specs.WatchedDevice.{device_of, has_failed};
+ghost use Rattle.std.specs.Prelude.{◌≡◌, ◌<◌, ◌≤◌, ◌+◌, ◌/◌, ◌^◌, true, false, length, [], IfErr, IfOk, OnOk, None, vec_capacity};
+ghost use Rattle.cedar_format.specs.Words.{Appends, Consumes, CountsWithin, DecodesBy, FitsBody, IsAtEnd, IsIo, IsSlotLimit, LacksTable, Misses, Passes, TellsBreaks, Trails, blank_block, blank_info, blank_node, body_bytes, body_len, device_of, filled_list, has_failed, need, tables_len};
 
 use crate::buffer::BUFFER_LEN;
 use crate::error::CedarPersistenceError;
@@ -116,9 +109,9 @@ fn fill_tables<A: Allocator>(lists: Decoded<A>) -> Decoded<A>
     requires n_infos { lists.header.capacity ≤ vec_capacity lists.n_infos }
     requires blocks { lists.header.capacity / 256 ≤ vec_capacity lists.blocks }
     ensures header { result.header ≡ lists.header }
-    ensures nodes { result.nodes.items ≡ filled blank_node lists.header.capacity lists.nodes.items }
-    ensures n_infos { result.n_infos.items ≡ filled blank_info lists.header.capacity lists.n_infos.items }
-    ensures blocks { result.blocks.items ≡ filled blank_block (lists.header.capacity / 256) lists.blocks.items }
+    ensures nodes { result.nodes.items ≡ filled_list blank_node lists.header.capacity lists.nodes.items }
+    ensures n_infos { result.n_infos.items ≡ filled_list blank_info lists.header.capacity lists.n_infos.items }
+    ensures blocks { result.blocks.items ≡ filled_list blank_block (lists.header.capacity / 256) lists.blocks.items }
     ensures reject { result.reject.items ≡ lists.reject.items }
 {
     let Decoded {
@@ -182,14 +175,8 @@ pub fn decode<S: Source, A: Allocator + Copy>(
     memory_limit: usize,
 ) -> Result<Decoded<A>, CedarPersistenceError>
     requires slots { IsSlotLimit slots }
-    ensures bytes { IfOk result (λ d. (front : List ℕ) × IsHeader layout front d.header
-        × Consumes (S.remaining reader.old) (S.remaining reader.new) (front ++ listed_bytes (listed_in d.header) d.nodes.items d.n_infos.items d.blocks.items d.reject.items)) }
-    ensures file { IfOk result (λ d. IsFile slots memory_limit d.header d.nodes.items d.n_infos.items d.blocks.items d.reject.items) }
-    ensures answer { IfSome (S.remaining reader.old) (λ bytes. S.failed reader.new ≡ false → DecodeAnswers layout slots memory_limit bytes result) }
-    ensures at_end { OnOk result (S.failed reader.new ≡ false → IsAtEnd (S.remaining reader.new)) }
-    ensures io { IfErr result (λ e. IsIo e → S.failed reader.new ≡ true) }
+    ensures decodes { DecodesBy layout slots memory_limit (S.remaining reader.old) (S.remaining reader.new) (S.failed reader.new) result }
     ensures told { TellsBreaks (S.broken reader.old) (S.broken reader.new) result }
-    ensures lacks { IfErr result (LacksNoMore (Passes layout slots memory_limit (S.remaining reader.old))) }
 {
     uncounted::<Brand, S, A>(alloc, reader, layout, slots, memory_limit, Blank::new(1))
 }
@@ -207,14 +194,8 @@ fn uncounted<C: Ledger, S: Source, A: Allocator + Copy>(
     requires name { blank.name ≡ C.name }
     requires parts { blank.parts ≡ C.parts }
     requires some { 0 < blank.parts }
-    ensures bytes { IfOk result (λ d. (front : List ℕ) × IsHeader layout front d.header
-        × Consumes (S.remaining reader.old) (S.remaining reader.new) (front ++ listed_bytes (listed_in d.header) d.nodes.items d.n_infos.items d.blocks.items d.reject.items)) }
-    ensures file { IfOk result (λ d. IsFile slots memory_limit d.header d.nodes.items d.n_infos.items d.blocks.items d.reject.items) }
-    ensures answer { IfSome (S.remaining reader.old) (λ bytes. S.failed reader.new ≡ false → DecodeAnswers layout slots memory_limit bytes result) }
-    ensures at_end { OnOk result (S.failed reader.new ≡ false → IsAtEnd (S.remaining reader.new)) }
-    ensures io { IfErr result (λ e. IsIo e → S.failed reader.new ≡ true) }
+    ensures decodes { DecodesBy layout slots memory_limit (S.remaining reader.old) (S.remaining reader.new) (S.failed reader.new) result }
     ensures told { TellsBreaks (S.broken reader.old) (S.broken reader.new) result }
-    ensures lacks { IfErr result (LacksNoMore (Passes layout slots memory_limit (S.remaining reader.old))) }
 {
     let mut asked = Ticks::<C>::new(blank);
     decode_counted(alloc, reader, layout, slots, memory_limit, &mut asked)
@@ -235,17 +216,10 @@ pub fn decode_counted<S: Source, A: Allocator + Copy, C: Ledger>(
 ) -> Result<Decoded<A>, CedarPersistenceError>
     requires slots { IsSlotLimit slots }
 
-    // Whatever the reader does, fields come only with just their bytes.
-    ensures bytes { IfOk result (λ d. (front : List ℕ) × IsHeader layout front d.header
-        × Consumes (S.remaining reader.old) (S.remaining reader.new) (front ++ listed_bytes (listed_in d.header) d.nodes.items d.n_infos.items d.blocks.items d.reject.items)) }
-    ensures file { IfOk result (λ d. IsFile slots memory_limit d.header d.nodes.items d.n_infos.items d.blocks.items d.reject.items) }
+    ensures decodes { DecodesBy layout slots memory_limit (S.remaining reader.old) (S.remaining reader.new) (S.failed reader.new) result }
 
-    // A reader that tells its bytes and does not fail gets the first refusal, if there is one.
-    ensures answer { IfSome (S.remaining reader.old) (λ bytes. S.failed reader.new ≡ false → DecodeAnswers layout slots memory_limit bytes result) }
-    ensures at_end { OnOk result (S.failed reader.new ≡ false → IsAtEnd (S.remaining reader.new)) }
-    ensures io { IfErr result (λ e. IsIo e → S.failed reader.new ≡ true) }
+    // A read that was broken off is told as no success and no end of the input.
     ensures told { TellsBreaks (S.broken reader.old) (S.broken reader.new) result }
-    ensures lacks { IfErr result (LacksNoMore (Passes layout slots memory_limit (S.remaining reader.old))) }
 
     // Nothing is asked of memory before the header has passed, and then at most the need that it was tested for.
     ensures asked { CountsWithin layout slots memory_limit (S.remaining reader.old) need asked.old asked.new }

@@ -1,14 +1,8 @@
 //! The header of a file.
 
-ghost use Rattle.std.specs.IoError.{error_kind};
+ghost use Rattle.std.specs.Prelude.{◌≢◌, ◌≡◌, ◌≤◌, ◌+◌, ◌<◌, ◌^◌, length, nat_eq, slice_index, take, List, ℕ, true, false, ◌⊎◌, IfErr, IfOk, IfNone, IfSome, IsSome, OnOk, Ok, Err};
+ghost use Rattle.cedar_format.specs.Words.{Appends, Consumes, FitsHeader, InvalidHeader, IsHeader, IsIo, IsLack, IsVersion, TellsBreaks, device_of, error_kind, has_failed, header_at, header_bytes, header_refusal, i32_at, kind_refusal, listed_slots, magic, refusal, refusal_of, size_refusal, starts_with, u16_at, u64_at, version_refusal};
 ghost use Rattle.cedar_format.specs.declared.error.CedarPersistenceError.TheVariants.{Io, Truncated};
-ghost use Rattle.std.specs.Prelude.{◌≢◌, ◌≡◌, ◌≤◌, ◌+◌, ◌<◌, ◌^◌, length, nat_eq, slice_index, take, List, ℕ, true, false, ◌⊎◌, IfErr, IfOk, IfNone, IfSome, IsSome, OnOk, None, Ok, Err};
-ghost use Rattle.cedar_format.specs.Format.{u16_at, i32_at, u64_at, header_at, header_refusal, header_bytes, kind_refusal, listed, magic, version_refusal, size_refusal, FitsHeader, IsHeader, IsVersion};
-ghost use Rattle.cedar_format.specs.Reading.{IsIo, IsLack, TellsBreaks};
-ghost use Rattle.cedar_format.specs.Refusal.{refusal, refusal_of, InvalidHeader};
-ghost use Rattle.cedar_format.specs.WatchedDevice.{device_of, has_failed};
-ghost use Rattle.std.specs.List.{starts_with};
-ghost use Rattle.std.specs.Io.KnownBytes.{Appends, Consumes};
 
 use crate::buffer::{Buffer, put_bytes, put_i32, put_u16, put_usize};
 use crate::error::CedarPersistenceError;
@@ -238,7 +232,7 @@ fn with_fault<X>(
 
 /// How many slots a file of a minor version lists: all, or from 1 on those in use alone.
 pub fn listed(minor: u16, capacity: usize, size: usize) -> usize
-    ensures { result ≡ listed minor capacity size }
+    ensures { result ≡ listed_slots minor capacity size }
 {
     if minor == FULL_MINOR { capacity } else { size }
 }

@@ -1,6 +1,6 @@
 //! The laws of the format: no two well-formed tables share bytes, and the file of a well-formed table passes.
 
-ghost use Rattle.cedar_format.specs.Statements.{HeadersAreReadAgain, OneTable, TablesPass};
+ghost use Rattle.cedar_format.specs.Words.{HeadersAreReadAgain, OneTable, TablesPass};
 
 /// No two well-formed tables share their bytes, in any of the versions.
 pub fn one_table_for_its_bytes()

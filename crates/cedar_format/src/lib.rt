@@ -13,6 +13,7 @@ mod record;
 mod reserve;
 mod retries;
 mod source;
+mod texts;
 mod watched;
 
 pub use body::{Decoded, decode, decode_counted, write_lists};

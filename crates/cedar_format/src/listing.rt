@@ -1,11 +1,7 @@
 //! Lists of records, in large pieces.
 
 ghost use Rattle.std.specs.Prelude.{◌≡◌, ◌+◌, ◌*◌, ◌≤◌, true, All, List, ℕ, [], ◌++◌, length, IfErr, OnOk, vec_len, vec_capacity};
-ghost use Rattle.std.specs.List.{flat_map};
-ghost use Rattle.std.specs.Io.KnownBytes.{Appends, Consumes};
-ghost use Rattle.cedar_format.specs.Format.{filled};
-ghost use Rattle.cedar_format.specs.Reading.{IsIo, Misses, TellsBreaks};
-ghost use Rattle.cedar_format.specs.WatchedDevice.{device_of, has_failed};
+ghost use Rattle.cedar_format.specs.Words.{Appends, Consumes, IsIo, Misses, TellsBreaks, device_of, filled_list, flat_map, has_failed};
 
 use crate::buffer::BUFFER_LEN;
 use crate::error::CedarPersistenceError;
@@ -85,7 +81,7 @@ fn take_records<T: Record, A: Allocator>(bytes: &[u8], count: usize, records: &m
 /// Fills a list up to a length, in the room that it has.
 pub(crate) fn fill_up<T: Record, A: Allocator>(records: &mut Vec<T, A>, len: usize, blank: T)
     requires { len ≤ vec_capacity records.old }
-    ensures { records.new.items ≡ filled blank len records.old.items }
+    ensures { records.new.items ≡ filled_list blank len records.old.items }
 {
     while records.len() < len {
         records.push_reserved(blank);

@@ -1,10 +1,7 @@
 //! One number at a time, little-endian.
 
-ghost use Rattle.std.specs.Prelude.{◌≡◌, true, [], ◌∷◌, IfErr, IfOk, OnOk};
-ghost use Rattle.std.specs.Io.KnownBytes.{Appends, Consumes};
-ghost use Rattle.cedar_format.specs.Numbers.{u16_bytes, u64_bytes, i16_bytes, i32_bytes};
-ghost use Rattle.cedar_format.specs.Reading.{IsIo, Misses, TellsBreaks};
-ghost use Rattle.cedar_format.specs.WatchedDevice.{device_of, has_failed};
+ghost use Rattle.std.specs.Prelude.{◌≡◌, true, [], ◌∷◌, IfErr, OnOk};
+ghost use Rattle.cedar_format.specs.Words.{Appends, IsIo, ReadsBy, TellsBreaks, device_of, has_failed, i16_bytes, i32_bytes, u16_bytes, u64_bytes};
 
 use crate::buffer::{i16_of, i32_of, u16_of, u64_of};
 use crate::error::CedarPersistenceError;
@@ -25,64 +22,57 @@ pub(crate) fn write_bytes<W: Write>(
     Ok(())
 }
 
-/// Reads one byte.
-pub fn read_u8<S: Source>(reader: &mut S) -> Result<u8, CedarPersistenceError>
-    ensures bytes { IfOk result (λ x. Consumes (S.remaining reader.old) (S.remaining reader.new) (x ∷ [])) }
-    ensures misses { IfErr result (Misses (S.remaining reader.old) (S.failed reader.new) 1) }
-    ensures failed { S.failed reader.old ≡ true → S.failed reader.new ≡ true }
+/// Reads so many bytes.
+fn read_array<const LEN: usize, S: Source>(
+    reader: &mut S,
+) -> Result<[u8; LEN], CedarPersistenceError>
+    ensures reads { ReadsBy (λ bytes. bytes) LEN (S.remaining reader.old) (S.remaining reader.new) (S.failed reader.old) (S.failed reader.new) result }
     ensures told { TellsBreaks (S.broken reader.old) (S.broken reader.new) result }
 {
-    let mut buf = [0u8; 1];
-    reader.fill(&mut buf)?;
-    Ok(buf[0])
+    let mut bytes = [0u8; LEN];
+    reader.fill(&mut bytes)?;
+    Ok(bytes)
+}
+
+/// Reads one byte.
+pub fn read_u8<S: Source>(reader: &mut S) -> Result<u8, CedarPersistenceError>
+    ensures reads { ReadsBy (λ x. x ∷ []) 1 (S.remaining reader.old) (S.remaining reader.new) (S.failed reader.old) (S.failed reader.new) result }
+    ensures told { TellsBreaks (S.broken reader.old) (S.broken reader.new) result }
+{
+    let bytes: [u8; 1] = read_array(reader)?;
+    Ok(bytes[0])
 }
 
 /// Reads a number of 2 bytes.
 pub fn read_u16<S: Source>(reader: &mut S) -> Result<u16, CedarPersistenceError>
-    ensures bytes { IfOk result (λ x. Consumes (S.remaining reader.old) (S.remaining reader.new) (u16_bytes x)) }
-    ensures misses { IfErr result (Misses (S.remaining reader.old) (S.failed reader.new) 2) }
-    ensures failed { S.failed reader.old ≡ true → S.failed reader.new ≡ true }
+    ensures reads { ReadsBy u16_bytes 2 (S.remaining reader.old) (S.remaining reader.new) (S.failed reader.old) (S.failed reader.new) result }
     ensures told { TellsBreaks (S.broken reader.old) (S.broken reader.new) result }
 {
-    let mut buf = [0u8; 2];
-    reader.fill(&mut buf)?;
-    Ok(u16_of(buf))
+    Ok(u16_of(read_array(reader)?))
 }
 
 /// Reads a number of 2 bytes.
 pub fn read_i16<S: Source>(reader: &mut S) -> Result<i16, CedarPersistenceError>
-    ensures bytes { IfOk result (λ x. Consumes (S.remaining reader.old) (S.remaining reader.new) (i16_bytes x)) }
-    ensures misses { IfErr result (Misses (S.remaining reader.old) (S.failed reader.new) 2) }
-    ensures failed { S.failed reader.old ≡ true → S.failed reader.new ≡ true }
+    ensures reads { ReadsBy i16_bytes 2 (S.remaining reader.old) (S.remaining reader.new) (S.failed reader.old) (S.failed reader.new) result }
     ensures told { TellsBreaks (S.broken reader.old) (S.broken reader.new) result }
 {
-    let mut buf = [0u8; 2];
-    reader.fill(&mut buf)?;
-    Ok(i16_of(buf))
+    Ok(i16_of(read_array(reader)?))
 }
 
 /// Reads a number of 4 bytes.
 pub fn read_i32<S: Source>(reader: &mut S) -> Result<i32, CedarPersistenceError>
-    ensures bytes { IfOk result (λ x. Consumes (S.remaining reader.old) (S.remaining reader.new) (i32_bytes x)) }
-    ensures misses { IfErr result (Misses (S.remaining reader.old) (S.failed reader.new) 4) }
-    ensures failed { S.failed reader.old ≡ true → S.failed reader.new ≡ true }
+    ensures reads { ReadsBy i32_bytes 4 (S.remaining reader.old) (S.remaining reader.new) (S.failed reader.old) (S.failed reader.new) result }
     ensures told { TellsBreaks (S.broken reader.old) (S.broken reader.new) result }
 {
-    let mut buf = [0u8; 4];
-    reader.fill(&mut buf)?;
-    Ok(i32_of(buf))
+    Ok(i32_of(read_array(reader)?))
 }
 
 /// Reads a number of 8 bytes.
 pub fn read_u64<S: Source>(reader: &mut S) -> Result<u64, CedarPersistenceError>
-    ensures bytes { IfOk result (λ x. Consumes (S.remaining reader.old) (S.remaining reader.new) (u64_bytes x)) }
-    ensures misses { IfErr result (Misses (S.remaining reader.old) (S.failed reader.new) 8) }
-    ensures failed { S.failed reader.old ≡ true → S.failed reader.new ≡ true }
+    ensures reads { ReadsBy u64_bytes 8 (S.remaining reader.old) (S.remaining reader.new) (S.failed reader.old) (S.failed reader.new) result }
     ensures told { TellsBreaks (S.broken reader.old) (S.broken reader.new) result }
 {
-    let mut buf = [0u8; 8];
-    reader.fill(&mut buf)?;
-    Ok(u64_of(buf))
+    Ok(u64_of(read_array(reader)?))
 }
 
 /// Writes a number as 2 bytes.
@@ -123,9 +113,7 @@ pub fn read_usize<S: Source>(
     reader: &mut S,
     _field: &'static str,
 ) -> Result<usize, CedarPersistenceError>
-    ensures bytes { IfOk result (λ x. Consumes (S.remaining reader.old) (S.remaining reader.new) (u64_bytes x)) }
-    ensures misses { IfErr result (Misses (S.remaining reader.old) (S.failed reader.new) 8) }
-    ensures failed { S.failed reader.old ≡ true → S.failed reader.new ≡ true }
+    ensures reads { ReadsBy u64_bytes 8 (S.remaining reader.old) (S.remaining reader.new) (S.failed reader.old) (S.failed reader.new) result }
     ensures told { TellsBreaks (S.broken reader.old) (S.broken reader.new) result }
 {
     Ok(read_u64(reader)? as usize)

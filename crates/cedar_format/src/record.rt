@@ -1,9 +1,8 @@
 //! What a file holds lists of: the records of a table, and single numbers.
 
 ghost use Rattle.std.specs.Prelude.{◌≡◌, ℕ, ◌+◌, ◌<◌, ◌≤◌, List, ◌++◌, length, take};
+ghost use Rattle.cedar_format.specs.Words.{FitsBlock, FitsInfo, FitsNode, IsI16, block_bytes, i16_bytes, info_bytes, length-i16_bytes, length-i32_bytes, node_bytes};
 ghost use Rattle.std.proofs.Common.{rules, length-append};
-ghost use Rattle.cedar_format.specs.Numbers.{i16_bytes, length-i16_bytes, length-i32_bytes, IsI16};
-ghost use Rattle.cedar_format.specs.Records.{node_bytes, info_bytes, block_bytes, FitsNode, FitsInfo, FitsBlock};
 
 use crate::buffer::{take_i16, take_i32, take_u8, write_i16_at, write_i32_at};
 use cedar_slots::{BlockRecord, NInfoRecord, NodeRecord};

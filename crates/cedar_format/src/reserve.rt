@@ -1,7 +1,7 @@
 //! Room for a table's lists.
 
 ghost use Rattle.std.specs.Prelude.{◌≡◌, ◌+◌, ◌*◌, ◌<◌, ◌≤◌, ◌^◌, IfErr, OnOk, vec_len, vec_capacity};
-ghost use Rattle.cedar_format.specs.Refusal.{refusal_of, AllocationFailed};
+ghost use Rattle.cedar_format.specs.Words.{AllocationFailed, refusal_of};
 
 use crate::error::CedarPersistenceError;
 use crate::record::Record;

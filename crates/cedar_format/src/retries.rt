@@ -3,11 +3,7 @@
 //! The flags of `Watched` are out of reach here. So they are set only by a call of the device that answered a fault.
 
 ghost use Rattle.std.specs.Prelude.{◌≡◌, ◌≢◌, ◌||◌, true, false, length, is_err, IfErr, OnOk, OnErr};
-ghost use Rattle.std.specs.Io.KnownBytes.{Appends, Consumes, Keeps, ReadConsumes, WriteAppends};
-ghost use Rattle.std.specs.Io.{ReadsAtMost, WritesAtMost};
-ghost use Rattle.std.specs.IoError.{error_kind};
-ghost use Rattle.cedar_format.specs.Reading.{EndsWithin};
-ghost use Rattle.cedar_format.specs.WatchedDevice.{device_of, has_failed, is_broken, is_write_fault};
+ghost use Rattle.cedar_format.specs.Words.{Appends, Consumes, EndsWithin, Keeps, ReadConsumes, ReadsAtMost, WriteAppends, WritesAtMost, device_of, error_kind, has_failed, is_broken, is_write_fault};
 
 use crate::error::CedarPersistenceError;
 use crate::source::{Source, fault_of};

@@ -1,9 +1,8 @@
 //! What a file is loaded from: a watched reader, or bytes in memory.
 
-ghost use Rattle.std.specs.IoError.{error_kind};
 ghost use Rattle.std.specs.Prelude.{◌≡◌, ◌≢◌, false, Some};
+ghost use Rattle.cedar_format.specs.Words.{IsLack, error_kind};
 ghost use Rattle.cedar_format.specs.declared.error.CedarPersistenceError.TheVariants.{Io, Truncated};
-ghost use Rattle.cedar_format.specs.Reading.{IsLack};
 
 use crate::buffer::take_bytes;
 use crate::error::CedarPersistenceError;
@@ -16,9 +15,7 @@ use std::io::ErrorKind;
 /// did. Bytes in memory, `&[u8]`, never fail, and begin behind what was taken.
 pub trait Source {
     ghost use Rattle.std.specs.Prelude.{◌≡◌, ◌<◌, ◌≤◌, true, Bool, length, take, List, ℕ, Option, IfErr, IfNone, IfSome, OnOk, OnSome};
-    ghost use Rattle.std.specs.IoError.{error_kind};
-    ghost use Rattle.std.specs.Io.KnownBytes.{Consumes, IsAtEnd};
-    ghost use Rattle.cedar_format.specs.Reading.{Misses, TellsBreaks};
+    ghost use Rattle.cedar_format.specs.Words.{Consumes, IsAtEnd, Misses, TellsBreaks, error_kind};
 
     /// The bytes that are left, where they are known.
     ghost remaining: { Self → Option (List ℕ) };

@@ -1,10 +1,7 @@
 //! A reader or writer that remembers whether one of its calls failed.
 
 ghost use Rattle.std.specs.Prelude.{◌≡◌, ◌≢◌, ◌||◌, true, false, is_err, IfErr, OnOk};
-ghost use Rattle.std.specs.Io.KnownBytes.{Keeps, ReadConsumes, WriteAppends};
-ghost use Rattle.std.specs.Io.{ReadsAtMost, WritesAtMost};
-ghost use Rattle.std.specs.IoError.{error_kind};
-ghost use Rattle.cedar_format.specs.WatchedDevice.{device_of, has_failed, is_broken, is_write_fault};
+ghost use Rattle.cedar_format.specs.Words.{Keeps, ReadConsumes, ReadsAtMost, WriteAppends, WritesAtMost, device_of, error_kind, has_failed, is_broken, is_write_fault};
 
 use std::io;
 use std::io::{ErrorKind, Read, Write};
