@@ -17,7 +17,8 @@ use Rattle.cedar_format.specs.Tables.{file_fields, table_bytes, FitsTable, IsLis
 use Rattle.cedar_format.proofs.FileTable.{file_fits, file_header, file_is_listed, file_spelled}
 use Rattle.cedar_format.proofs.OneTable.{formed_is_listed, one_table}
 use Rattle.cedar_format.proofs.Sizes.{has_sizes}
-use Rattle.cedar_file.specs.Loading.{IsDecided, LoadAnswers}
+use Rattle.cedar_format.specs.Reading.{IsIo, LacksNoMore}
+use Rattle.cedar_file.specs.Loading.{IsDecided, LoadAnswers, LoadsBy}
 
 first_of_two : (x y : Option Refusal) (r : Refusal) → Some r ≡ x → first_refusal (x ∷ y ∷ []) ≡ Some r
 first_of_two None y r e = absurd cc
@@ -40,6 +41,32 @@ some_trials z r e =
 -- a refusal has no table, whatever would have had one
 abbrev no_table : Fields → Fields
 no_table T = T
+
+-- a refusal keeps what a load promises
+pub refuses : {X : Type 0} (table_in : X → Fields) (kind : LayoutKind) (slots limit : ℕ) (before after : Option (List ℕ)) (failed : Bool) (e : CedarPersistenceError)
+    → IfSome before (λ bytes. failed ≡ false → LoadAnswers no_table kind slots limit bytes (Err e)) → (IsIo e → failed ≡ true) → LacksNoMore (Passes (layout_byte kind) slots limit before) e
+    → LoadsBy table_in kind slots limit before after failed (Err e)
+refuses table_in kind slots limit before after failed e answer io lacks = record { bytes = tt; formed = tt; answer = answer; io = io; lacks = lacks }
+
+-- what was loaded stands in something else now, which has the same table
+pub stands_in : {X Y : Type 0} (table_in : X → Fields) (shown_in : Y → Fields) (kind : LayoutKind) (slots limit : ℕ) (before after : Option (List ℕ)) (failed : Bool) (x : X) (y : Y)
+    → table_in x ≡ shown_in y → LoadsBy table_in kind slots limit before after failed (Ok x) → LoadsBy shown_in kind slots limit before after failed (Ok y)
+stands_in table_in shown_in kind slots limit before after failed x y same loads = record {
+  bytes = (loads.bytes.0, loads.bytes.1, subst (λ T. Consumes before after (table_bytes loads.bytes.0 T)) same loads.bytes.2);
+  formed = subst (IsWellFormed slots) same loads.formed;
+  answer = answered before loads.answer;
+  io = tt;
+  lacks = tt;
+}
+  where
+    answered : (old : Option (List ℕ)) → IfSome old (λ bytes. failed ≡ false → LoadAnswers table_in kind slots limit bytes (Ok x)) → IfSome old (λ bytes. failed ≡ false → LoadAnswers shown_in kind slots limit bytes (Ok y))
+    answered None told = tt
+    answered (Some bytes) told = λ fine. subst (λ T. LoadAnswers (λ (one : Unit {0}). T) kind slots limit bytes (Ok tt)) same (told fine)
+
+-- a refusal is one whatever would have been loaded
+pub stays_refused : {X Y : Type 0} (table_in : X → Fields) (shown_in : Y → Fields) (kind : LayoutKind) (slots limit : ℕ) (before after : Option (List ℕ)) (failed : Bool) (e : CedarPersistenceError)
+    → LoadsBy table_in kind slots limit before after failed (Err e) → LoadsBy shown_in kind slots limit before after failed (Err e)
+stays_refused table_in shown_in kind slots limit before after failed e loads = record { bytes = tt; formed = tt; answer = loads.answer; io = loads.io; lacks = loads.lacks }
 
 module _ (kind : LayoutKind) (slots limit : ℕ) where
   -- what is refused before the table was made

@@ -1,3 +1,4 @@
 pub mod Loading
 pub mod PlaceChecks
 pub mod TreeWalk
+pub mod Words

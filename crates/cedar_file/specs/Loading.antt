@@ -1,12 +1,14 @@
 -- What a load answers.
-use Rattle.std.specs.Prelude.{◌≡◌, ◌⊎◌, ℕ, List, take, Some, None, MatchOption, Result, Ok, Err, IsErrAnd}
+use Rattle.std.specs.Prelude.{◌≡◌, ◌⊎◌, ℕ, Bool, true, false, List, take, Option, Some, None, MatchOption, Result, Ok, Err, IfErr, IfOk, IfSome, IsErrAnd}
+use Rattle.std.specs.Io.KnownBytes.{Consumes}
+use Rattle.cedar_model.specs.Meaning.WellFormed.{IsWellFormed}
 use Rattle.cedar_model.specs.Table.Layouts.{LayoutKind, layout_byte}
 use Rattle.cedar_model.specs.Table.TableFields.{Fields}
 use Rattle.cedar_format.specs.declared.error.CedarPersistenceError.{CedarPersistenceError}
-use Rattle.cedar_format.specs.Format.{header_answer, header_at, header_refusal, size_refusal}
-use Rattle.cedar_format.specs.Reading.{LacksTable}
+use Rattle.cedar_format.specs.Format.{header_answer, header_at, header_refusal, size_refusal, IsVersion, Passes}
+use Rattle.cedar_format.specs.Reading.{IsIo, LacksNoMore, LacksTable}
 use Rattle.cedar_format.specs.Refusal.{CorruptData, refusal, refusal_of}
-use Rattle.cedar_format.specs.Tables.{IsTableFile}
+use Rattle.cedar_format.specs.Tables.{table_bytes, IsTableFile}
 
 -- the bytes are those of the table that was loaded, which is well-formed, in one of the versions; or they are of no
 -- well-formed table in any, and the data is corrupt
@@ -25,3 +27,13 @@ abbrev pub LoadAnswers : {X : Type 0} → (X → Fields) → LayoutKind → ℕ 
 LoadAnswers table kind slots limit bytes answer =
     LacksMemory (layout_byte kind) slots limit bytes answer
     ⊎ MatchOption (header_answer (layout_byte kind) slots limit bytes) (IsDecided table slots bytes answer) (λ r. refusal answer ≡ Some r)
+
+-- something with a table was loaded of a source that had `before` left and now has `after`; `failed` is whether a read of it failed so far
+pub record LoadsBy {X : Type 0} (table : X → Fields) (kind : LayoutKind) (slots limit : ℕ) (before after : Option (List ℕ)) (failed : Bool) (result : Result X CedarPersistenceError) : Type 0 where
+  -- whatever the reader does, a table comes only with just its bytes, and it is well-formed
+  pub bytes : IfOk result (λ x. (version : ℕ) × IsVersion version × Consumes before after (table_bytes version (table x)))
+  pub formed : IfOk result (λ x. IsWellFormed slots (table x))
+  -- a reader that tells its bytes and doesn't fail, as bytes in memory, gets the answer that they decide
+  pub answer : IfSome before (λ bytes. failed ≡ false → LoadAnswers table kind slots limit bytes result)
+  pub io : IfErr result (λ e. IsIo e → failed ≡ true)
+  pub lacks : IfErr result (LacksNoMore (Passes (layout_byte kind) slots limit before))

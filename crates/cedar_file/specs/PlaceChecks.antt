@@ -1,5 +1,5 @@
 -- What a check of slots and blocks that nobody has vouched for looks for.
-use Rattle.std.specs.Prelude.{◌≡◌, ℕ, ◌*◌, ◌/◌, ◌≤◌, ◌&&◌, Bool, true, false, cond, ◌==◌, nat_lt, List, pos, count_by}
+use Rattle.std.specs.Prelude.{◌≡◌, ℕ, ◌*◌, ◌/◌, ◌≤◌, ◌&&◌, Bool, true, false, cond, ◌==◌, nat_lt, List, MatchResult, Result, pos, count_by}
 use Rattle.std.specs.List.{range_with_len}
 use Rattle.cedar_slots.specs.Blocks.{blank_block, block_at, BlockFields, BlockLink, counts_at, head_of, kind_of, ring_of}
 use Rattle.cedar_slots.specs.declared.blocks.BlockType.{BlockType}
@@ -23,9 +23,13 @@ HasRing Link test first = (xs : List ℕ) × RingOf Link test first xs
 abbrev pub IsAfter : (ℕ → ℕ → Type 0) → (ℕ → Bool) → ℕ → ℕ → Type 0
 IsAfter Link test x y = Link x y × (test y ≡ true)
 
+-- a step of a walk along such a ring: to the one after x, or there is none
+abbrev pub StepsFrom : {E : Type 0} → (ℕ → ℕ → Type 0) → (ℕ → Bool) → ℕ → Result ℕ E → Type 0
+StepsFrom Link test x result = MatchResult result (IsAfter Link test x) (λ _. (next : ℕ) → ¬ IsAfter Link test x next)
+
 -- how many of the n numbers from low on pass the test
-unfoldable pub passing : (ℕ → Bool) → ℕ → ℕ → ℕ
-passing test low n = count_by test (range_with_len low n)
+unfoldable pub passing_count : (ℕ → Bool) → ℕ → ℕ → ℕ
+passing_count test low n = count_by test (range_with_len low n)
 
 -- the slot s of the block b is free
 abbrev pub free_here : List NodeRecord → ℕ → ℕ → Bool
@@ -33,11 +37,11 @@ free_here nodes b s = is_free nodes s && (s / 256 == b)
 
 -- how many slots of the block b are free
 abbrev pub free_count : List NodeRecord → ℕ → ℕ
-free_count nodes b = passing (free_here nodes b) (256 * b) 256
+free_count nodes b = passing_count (free_here nodes b) (256 * b) 256
 
 -- no free slot of the block b has a label
-abbrev pub Cleared : SlotFields → ℕ → Type 0
-Cleared slots b = (s : ℕ) → is_free slots.nodes s ≡ true → s / 256 ≡ b → info_at slots.infos s ≡ blank_info
+abbrev pub HasBlankLabels : SlotFields → ℕ → Type 0
+HasBlankLabels slots b = (s : ℕ) → is_free slots.nodes s ≡ true → s / 256 ≡ b → info_at slots.infos s ≡ blank_info
 
 -- the slots that are not in use are blank
 abbrev pub BlankSlots : PlaceFields → Type 0
@@ -48,7 +52,7 @@ abbrev pub BlankBlocks : BlockFields → Type 0
 BlankBlocks blocks = (b : ℕ) → blocks.active ≤ b → block_at blocks.records b ≡ blank_block
 
 -- what a search may read in the block b is in range; in block 0 no search was tried
-pub record InRange (blocks : BlockFields) (b : ℕ) : Type 0 where
+pub record CountsInRange (blocks : BlockFields) (b : ℕ) : Type 0 where
   pub bounded : Bounded blocks.max_trial (counts_at blocks.records b)
   pub root : b ≡ 0 → (counts_at blocks.records b).trial ≡ pos 0
 
@@ -69,7 +73,7 @@ in_ring blocks list b = nat_lt b blocks.active && cond (b == 0) (is_full list) (
 
 -- how many blocks a list's ring has
 abbrev pub ring_count : BlockFields → BlockType → ℕ
-ring_count blocks list = passing (in_ring blocks list) 0 blocks.active
+ring_count blocks list = passing_count (in_ring blocks list) 0 blocks.active
 
 -- the list has just the blocks that it is to have, and they are linked as a ring that the head begins
 pub record ListOf (blocks : BlockFields) (list : BlockType) (xs : List ℕ) : Type 0 where

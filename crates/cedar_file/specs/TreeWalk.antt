@@ -1,5 +1,5 @@
 -- A walk over the nodes of a table of which it isn't known yet whether it stands for a tree.
-use Rattle.std.specs.Prelude.{◌≡◌, ◌≢◌, ℕ, zero, suc, ◌+◌, ◌<◌, ◌≤◌, ◌⊎◌, Bool, true, ℤ, negsuc, pos, None, IfSome, is_some, cond}
+use Rattle.std.specs.Prelude.{◌≡◌, ◌≢◌, ℕ, zero, suc, ◌+◌, ◌<◌, ◌≤◌, ◌⊎◌, Bool, true, ℤ, negsuc, pos, None, IfOk, IfSome, OnErr, Result, ◌^◌, is_some, cond}
 use Rattle.cedar_file.specs.declared.check.tree.Walk.{Walk}
 use Rattle.cedar_model.specs.declared.layout.Stored.{Stored}
 use Rattle.cedar_model.specs.declared.layout.Stored.TheVariants.{AtBase, OwnNumber, Nothing}
@@ -54,6 +54,15 @@ pub record GoesDown (size : ℕ) (T : Cells) (w : Walk) : Type 0 where
 abbrev pub walk_met : Cells → Walk → ℕ → Walk
 walk_met T w s = walk_at T s (first_in T s) (w.met + slots_at T s) (w.numbers + numbers_at T s)
 
+-- a node was met if its slot looks like one, and only then; the walk goes on below it
+pub record MeetsNode {E : Type 0} (size : ℕ) (T : Cells) (w : Walk) (s : ℕ) (result : Result Walk E) : Type 0 where
+  pub met : IfOk result (λ next. LooksLikeNode size T s × (next ≡ walk_met T w s))
+  pub faulty : OnErr result (LooksLikeNode size T s → ⊥)
+
+-- what was met so far can be counted on
+abbrev pub HasRoom : Walk → Type 0
+HasRoom w = (w.met ≤ 2 ^ 32) × (w.numbers ≤ 2 ^ 32)
+
 abbrev pub walk_down : Cells → Walk → Walk
 walk_down T w = walk_met T w (below T w.node w.label)
 
@@ -82,7 +91,7 @@ GoesOn size ordered T w next =
     (GoesDown size T w × (next ≡ walk_down T w)) ⊎ ((c : ℕ) × GoesUp size ordered T w c × (next ≡ walk_up T w c))
 
 -- in fewer than n steps the walk comes back to the root, and it has met so many slots and numbers then
-unfoldable pub Ends : ℕ → ℕ → Bool → Cells → Walk → ℕ → ℕ → Type 0
-Ends zero size ordered T w met numbers = ⊥
-Ends (suc n) size ordered T w met numbers =
-    IsBack w met numbers ⊎ ((next : Walk) × GoesOn size ordered T w next × Ends n size ordered T next met numbers)
+unfoldable pub ComesBack : ℕ → ℕ → Bool → Cells → Walk → ℕ → ℕ → Type 0
+ComesBack zero size ordered T w met numbers = ⊥
+ComesBack (suc n) size ordered T w met numbers =
+    IsBack w met numbers ⊎ ((next : Walk) × GoesOn size ordered T w next × ComesBack n size ordered T next met numbers)

@@ -1,16 +1,7 @@
 //! How a table is loaded, and tested before anybody has it.
 
-ghost use Rattle.std.specs.Prelude.{◌≡◌, ◌≤◌, ◌^◌, ℕ, ◌+◌, ◌*◌, false, true, IfErr, IfOk, IfSome};
-ghost use Rattle.std.specs.Io.KnownBytes.{Consumes};
-ghost use Rattle.cedar_model.specs.Table.Layouts.{layout_byte};
-ghost use Rattle.cedar_slots.specs.Places.{IsSlotLimit};
-ghost use Rattle.cedar_table.specs.Table.Views.{fields};
-ghost use Rattle.cedar_model.specs.Meaning.WellFormed.{IsWellFormed};
-ghost use Rattle.cedar_format.specs.Format.{need, trial_refusal, CountsWithin, IsFile, IsVersion, Passes};
-ghost use Rattle.cedar_format.specs.Reading.{IsIo, IsLack, LacksNoMore, TellsBreaks};
-ghost use Rattle.cedar_format.specs.Refusal.{refusal, refusal_of, CorruptData};
-ghost use Rattle.cedar_format.specs.Tables.{file_fields, table_bytes};
-ghost use Rattle.cedar_file.specs.Loading.{LoadAnswers};
+ghost use Rattle.std.specs.Prelude.{◌≡◌, ◌≤◌, ◌^◌, ◌+◌, ◌*◌, IfErr};
+ghost use Rattle.cedar_file.specs.Words.{CorruptData, CountsWithin, IsFile, IsIo, IsLack, IsSlotLimit, LoadsBy, TellsBreaks, fields, file_fields, layout_byte, need, refusal, refusal_of, trial_refusal};
 
 use crate::check::check_well_formed;
 use cedar_format::{CedarPersistenceError, Decoded, Header, Source, decode_counted};
@@ -41,17 +32,10 @@ pub fn load_table<
 ) -> Result<Table<L, SLOTS, A>, CedarPersistenceError>
     requires limit { IsSlotLimit SLOTS }
 
-    // Whatever the reader does, a table comes only with just its bytes, and it is well-formed.
-    ensures bytes { IfOk result (λ t. (version : ℕ) × IsVersion version × Consumes (S.remaining reader.old) (S.remaining reader.new) (table_bytes version (fields t))) }
-    ensures formed { IfOk result (λ t. IsWellFormed SLOTS (fields t)) }
-
-    // A reader that tells its bytes and does not fail, as bytes in memory, gets the answer that they decide.
-    ensures answer { IfSome (S.remaining reader.old) (λ bytes. S.failed reader.new ≡ false → LoadAnswers (λ t. fields t) L.kind SLOTS memory_limit bytes result) }
-    ensures io { IfErr result (λ e. IsIo e → S.failed reader.new ≡ true) }
+    ensures loads { LoadsBy (λ t. fields t) L.kind SLOTS memory_limit (S.remaining reader.old) (S.remaining reader.new) (S.failed reader.new) result }
 
     // A read that was broken off is told as no success and no end of the input.
     ensures told { TellsBreaks (S.broken reader.old) (S.broken reader.new) result }
-    ensures lacks { IfErr result (LacksNoMore (Passes (layout_byte L.kind) SLOTS memory_limit (S.remaining reader.old))) }
 
     // Before the header has passed nothing is asked of memory and no record is read for the test.
     ensures asked { CountsWithin (layout_byte L.kind) SLOTS memory_limit (S.remaining reader.old) need asked.old asked.new }
@@ -109,6 +93,7 @@ fn check_trials(header: &Header) -> Result<(), CedarPersistenceError>
 /// The answer to a table that isn't well-formed.
 fn refused(corrupt: Corrupt) -> CedarPersistenceError
     ensures refusal { refusal_of result ≡ CorruptData }
+    ensures io { IsIo result → ⊥ }
     ensures room { IsLack result → ⊥ }
 {
     CedarPersistenceError::CorruptData {

@@ -1,11 +1,7 @@
 //! How a table is written.
 
 ghost use Rattle.std.specs.Prelude.{◌≡◌, true, IfErr, OnOk};
-ghost use Rattle.std.specs.Io.KnownBytes.{Appends};
-ghost use Rattle.cedar_table.specs.Table.Views.{fields};
-ghost use Rattle.cedar_format.specs.Reading.{IsIo};
-ghost use Rattle.cedar_format.specs.Tables.{header_of, table_bytes, FitsTable};
-ghost use Rattle.cedar_format.specs.WatchedDevice.{device_of, has_failed};
+ghost use Rattle.cedar_file.specs.Words.{Appends, FitsTable, IsIo, device_of, fields, has_failed, header_of, table_bytes};
 
 use cedar_format::{CedarPersistenceError, Header, Watched, listed, write_header, write_lists};
 use cedar_table::{BLOCK_SIZE, Layout, Table};

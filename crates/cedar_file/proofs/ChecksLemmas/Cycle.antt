@@ -2,7 +2,7 @@
 -- them all just if it comes back with its last step and not before.
 use Rattle.std.proofs.Common.{◌≡◌, ℕ, zero, suc, ◌+◌, ◌<◌, ◌≤◌, List, [], ◌∷◌, length, Bool, true, false, cond, refl, sym, ap, subst, inl, inr, ◌∙◌, arith}
 use Rattle.std.proofs.lemmas.Bool.{cases_eq, cases_Bool, cond-true, cond-false, false≢true}
-use Rattle.cedar_file.specs.PlaceChecks.{HasRing, IsAfter, passing, RingOf}
+use Rattle.cedar_file.specs.PlaceChecks.{HasRing, IsAfter, passing_count, RingOf}
 use Rattle.cedar_slots.specs.Ring.{first_of, occurs, Ring}
 use Rattle.cedar_slots.proofs.RingsLemmas.Ring.{after_steps, Along, Apart, occurs_other, occurs_same, OneToOne, Ring-walk, walk, walk-Ring}
 use Rattle.cedar_slots.proofs.ListsLemmas.FreeCounts.{count_by-total, total, total-append, total-occurs, total-same, yes}
@@ -24,19 +24,19 @@ same_from_total f g a (suc n) le same s low high = elim (cases_eq s a) [
 
 -- ---- how many numbers pass a test
 
-passing-total : (test : ℕ → Bool) (low n : ℕ) → passing test low n ≡ total (λ s. yes (test s)) low n
-unfolding passing
+passing-total : (test : ℕ → Bool) (low n : ℕ) → passing_count test low n ≡ total (λ s. yes (test s)) low n
+unfolding passing_count
 passing-total test low n = count_by-total test low n
 
-pub passing_none : (test : ℕ → Bool) (low : ℕ) → passing test low 0 ≡ 0
-unfolding passing
+pub passing_none : (test : ℕ → Bool) (low : ℕ) → passing_count test low 0 ≡ 0
+unfolding passing_count
 passing_none test low = refl
 
 total_one : (f : ℕ → ℕ) (a : ℕ) → total f a 1 ≡ f a
 unfolding total
 total_one f a = omega arith
 
-pub passing_more : (test : ℕ → Bool) (low n : ℕ) → passing test low (n + 1) ≡ passing test low n + yes (test (low + n))
+pub passing_more : (test : ℕ → Bool) (low n : ℕ) → passing_count test low (n + 1) ≡ passing_count test low n + yes (test (low + n))
 passing_more test low n = passing-total test low (n + 1) ∙ omega (arith, total-append (λ s. yes (test s)) low n 1, total_one (λ s. yes (test s)) (low + n), passing-total test low n)
 
 some_total : (f : ℕ → ℕ) (a n x : ℕ) → a ≤ x → x < a + n → f x ≤ total f a n
@@ -47,19 +47,19 @@ some_total f a (suc n) x low high = elim (cases_eq x a) [
   | inr later ↦ omega (arith, some_total f (a + 1) n x (omega arith) (omega arith))
 ]
 
-pub passing_some : (test : ℕ → Bool) (low n x : ℕ) → low ≤ x → x < low + n → test x ≡ true → 0 < passing test low n
+pub passing_some : (test : ℕ → Bool) (low n x : ℕ) → low ≤ x → x < low + n → test x ≡ true → 0 < passing_count test low n
 passing_some test low n x from upto holds = omega (arith, passing-total test low n, some_total (λ s. yes (test s)) low n x from upto, cond-true {A = ℕ} (test x) 1 0 holds)
 
 -- the next number passes, or it does not
-pub passing_hit : (test : ℕ → Bool) (low n x count more : ℕ) → x ≡ low + n → count ≡ passing test low n → test x ≡ true → more ≡ count + 1 → more ≡ passing test low (n + 1)
+pub passing_hit : (test : ℕ → Bool) (low n x count more : ℕ) → x ≡ low + n → count ≡ passing_count test low n → test x ≡ true → more ≡ count + 1 → more ≡ passing_count test low (n + 1)
 passing_hit test low n x count more at sofar holds is = omega (arith, is, sofar, passing_more test low n, cond-true {A = ℕ} (test (low + n)) 1 0 (subst (λ k. test k ≡ true) at holds))
 
-pub passing_miss : (test : ℕ → Bool) (low n x count more : ℕ) → x ≡ low + n → count ≡ passing test low n → test x ≡ false → more ≡ count → more ≡ passing test low (n + 1)
+pub passing_miss : (test : ℕ → Bool) (low n x count more : ℕ) → x ≡ low + n → count ≡ passing_count test low n → test x ≡ false → more ≡ count → more ≡ passing_count test low (n + 1)
 passing_miss test low n x count more at sofar fails is = omega (arith, is, sofar, passing_more test low n, cond-false {A = ℕ} (test (low + n)) 1 0 (subst (λ k. test k ≡ false) at fails))
 
-pub passing-le : (test : ℕ → Bool) (low n : ℕ) → passing test low n ≤ n
+pub passing-le : (test : ℕ → Bool) (low n : ℕ) → passing_count test low n ≤ n
 passing-le test low zero = omega (arith, passing_none test low)
-passing-le test low (suc n) = let one : n + 1 ≡ suc n = omega arith in subst (λ k. passing test low k ≤ k) one (omega (arith, passing_more test low n, yes-le (test (low + n)), passing-le test low n))
+passing-le test low (suc n) = let one : n + 1 ≡ suc n = omega arith in subst (λ k. passing_count test low k ≤ k) one (omega (arith, passing_more test low n, yes-le (test (low + n)), passing-le test low n))
   where
     yes-le : (b : Bool) → yes b ≤ 1
     yes-le true = omega arith
@@ -125,7 +125,7 @@ module _ (next : ℕ → ℕ) where
 -- the numbers that pass stand among the m from low on
 module _ (test : ℕ → Bool) (low m : ℕ) (within : (x : ℕ) → test x ≡ true → (low ≤ x) × (x < low + m)) where
   -- what passes stands in xs just once, if xs has nothing else, nothing twice, and as many numbers as pass
-  pub once_each : (xs : List ℕ) → Apart xs → ((x : ℕ) → 0 < occurs x xs → test x ≡ true) → length xs ≡ passing test low m → (x : ℕ) → occurs x xs ≡ cond (test x) 1 0
+  pub once_each : (xs : List ℕ) → Apart xs → ((x : ℕ) → 0 < occurs x xs → test x ≡ true) → length xs ≡ passing_count test low m → (x : ℕ) → occurs x xs ≡ cond (test x) 1 0
   once_each xs apart pass all x = elim (cases_Bool (test x)) [
     | inl holds ↦ let there = within x holds in same_from_total (λ s. occurs s xs) (λ s. yes (test s)) low m le totals x there.0 there.1
     | inr fails ↦ omega (arith, le x, cond-false {A = ℕ} (test x) 1 0 fails)
@@ -150,7 +150,7 @@ module _ (test : ℕ → Bool) (low m : ℕ) (within : (x : ℕ) → test x ≡ 
   ]
 
   -- and a list that has just what passes, each once, is as long as numbers pass
-  pub length_all : (xs : List ℕ) → ((x : ℕ) → occurs x xs ≡ cond (test x) 1 0) → length xs ≡ passing test low m
+  pub length_all : (xs : List ℕ) → ((x : ℕ) → occurs x xs ≡ cond (test x) 1 0) → length xs ≡ passing_count test low m
   length_all xs once = sym (total-occurs xs low m (λ s in_xs. within s (member_passes xs once s in_xs))) ∙ total-same (λ s. occurs s xs) (λ s. yes (test s)) low m (λ s from upto. once s) ∙ sym (passing-total test low m)
 
 -- ---- a walk that is on its way
@@ -200,7 +200,7 @@ module _ (next : ℕ → ℕ) (Link : ℕ → ℕ → Type 0) (test : ℕ → Bo
     walk_passes n passes x in_walk = let seen = seen_at next x first n in_walk in subst (λ s. test s ≡ true) seen.2 (passes seen.0 seen.1)
 
     -- after as many steps as numbers pass, a walk that has not come back before has seen them all, and so it is back
-    came_back : (n at : ℕ) → n ≡ passing test low m → Walks next Link test first n at → at ≡ first
+    came_back : (n at : ℕ) → n ≡ passing_count test low m → Walks next Link test first n at → at ≡ first
     came_back n at all walks = go n (seen_at next at first n seen) walks.along walks.here apart
       where
         apart : Apart (walk next first n)
@@ -218,7 +218,7 @@ module _ (next : ℕ → ℕ) (Link : ℕ → ℕ → Type 0) (test : ℕ → Bo
             absurd (walk_differs next first (suc n) k n apart (omega arith) (omega arith) again)
 
     -- so it has seen the ring
-    ring_found : (n at : ℕ) → test first ≡ true → n ≡ passing test low m → Walks next Link test first n at → HasRing Link test first
+    ring_found : (n at : ℕ) → test first ≡ true → n ≡ passing_count test low m → Walks next Link test first n at → HasRing Link test first
     ring_found zero at passes all walks = let there = within first passes in absurd (omega (arith, all, passing_some test low m first there.0 there.1 passes))
     ring_found (suc n) at passes all walks = (
       walk next first (suc n),
@@ -229,7 +229,7 @@ module _ (next : ℕ → ℕ) (Link : ℕ → ℕ → Type 0) (test : ℕ → Bo
       },
     )
 
-    module _ (steps : (x y : ℕ) → Link x y → next x ≡ y) (passes : test first ≡ true) (n : ℕ) (all : n ≡ passing test low m) (xs : List ℕ) (ring : RingOf Link test first xs) where
+    module _ (steps : (x y : ℕ) → Link x y → next x ≡ y) (passes : test first ≡ true) (n : ℕ) (all : n ≡ passing_count test low m) (xs : List ℕ) (ring : RingOf Link test first xs) where
       -- the ring is what the walk sees
       ring_seen : (walk next first n ≡ xs) × (after_steps next first n ≡ first) × Along next Link first n
       ring_seen = go xs ring.begins (length_all test low m within xs ring.once ∙ sym all) ring.is_linked (ring.once first ∙ cond-true {A = ℕ} (test first) 1 0 passes)
@@ -292,7 +292,7 @@ module _ (C : Circuit) (first : ℕ) where
   pub walk_goes_on : (k at y : ℕ) → Walk k at → IsAfter C.Link C.test at y → (0 < k → at ≡ first → ⊥) → Walk (k + 1) y
   walk_goes_on k at y walk after not_back = walks_more C.next C.Link C.test first k at y walk (C.steps at y after.0) after.0 after.1 not_back
 
-  module _ (here : C.test first ≡ true) (n : ℕ) (all : n ≡ passing C.test C.low C.m) where
+  module _ (here : C.test first ≡ true) (n : ℕ) (all : n ≡ passing_count C.test C.low C.m) where
     pub walk_ends : (at : ℕ) → Walk n at → HasRing C.Link C.test first
     walk_ends at walk = ring_found C.next C.Link C.test first C.fixed C.low C.m C.within n at here all walk
 

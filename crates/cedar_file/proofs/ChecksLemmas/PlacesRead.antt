@@ -3,7 +3,7 @@ use Rattle.std.proofs.Common.{◌≡◌, ℕ, ◌+◌, ◌*◌, ◌<◌, ◌≤�
 use Rattle.std.proofs.lemmas.Bool.{and_from, and_parts, cond-true, eq-eqb, eqb-true}
 use Rattle.cedar_slots.specs.declared.records.BlockRecord.{BlockRecord}
 use Rattle.cedar_slots.specs.Blocks.{block_at, BlockFields, counts_of}
-use Rattle.cedar_file.specs.PlaceChecks.{HasRing, Cleared, free_count, free_here, InRange}
+use Rattle.cedar_file.specs.PlaceChecks.{HasRing, HasBlankLabels, free_count, free_here, CountsInRange}
 use Rattle.cedar_slots.specs.Places.{Bounded, FreeBlock, PlaceFields}
 use Rattle.cedar_slots.specs.Slots.{SlotLink}
 use Rattle.cedar_slots.specs.Ring.{first_of, occurs}
@@ -13,7 +13,7 @@ use Rattle.cedar_slots.proofs.RingsLemmas.Ring.{occurs_same}
 
 -- ---- a block's record
 
-pub range_from : (blocks : BlockFields) (b : ℕ) (record' : BlockRecord) → record' ≡ block_at blocks.records b → pos 1 ≤ℤ record'.reject → record'.reject ≤ℤ pos 257 → pos 0 ≤ℤ record'.trial → record'.trial ≤ℤ blocks.max_trial → (b ≡ 0 → record'.trial ≡ pos 0) → InRange blocks b
+pub range_from : (blocks : BlockFields) (b : ℕ) (record' : BlockRecord) → record' ≡ block_at blocks.records b → pos 1 ≤ℤ record'.reject → record'.reject ≤ℤ pos 257 → pos 0 ≤ℤ record'.trial → record'.trial ≤ℤ blocks.max_trial → (b ≡ 0 → record'.trial ≡ pos 0) → CountsInRange blocks b
 range_from blocks b record' read some few natural tried root = record {
   bounded = subst (Bounded blocks.max_trial) (ap counts_of read) (record { reject = record { least = some; most = few }; trial = record { least = natural; most = tried } });
   root = λ none. ap (λ (n : BlockRecord). n.trial) (sym read) ∙ root none;
@@ -29,7 +29,7 @@ root-le b = go (eqb b 0)
     go false = omega arith
 
 module _ (table : PlaceFields) (b : ℕ) where
-  pub all_cleared : (xs : List ℕ) → FreeBlock table b xs → Cleared table.slots b
+  pub all_cleared : (xs : List ℕ) → FreeBlock table b xs → HasBlankLabels table.slots b
   all_cleared xs block s free here = block.ring.cleared s (omega (arith, block.ring.once s, cond-true {A = ℕ} (free_here table.slots.nodes b s) 1 0 (and_from _ _ free (eq-eqb _ _ here))))
 
   length-free : (xs : List ℕ) → ((s : ℕ) → occurs s xs ≡ cond (free_here table.slots.nodes b s) 1 0) → length xs ≡ free_count table.slots.nodes b
@@ -49,7 +49,7 @@ module _ (table : PlaceFields) (b : ℕ) where
     counted = record { num = num ∙ ap (λ n. pos (n + cond (eqb b 0) 1 0)) none; e_head = λ some. absurd (omega arith) };
   }
 
-  pub some_free : (head : ℕ) → Cleared table.slots b → (block_at table.blocks.records b).num ≡ pos (free_count table.slots.nodes b + cond (eqb b 0) 1 0) → (block_at table.blocks.records b).e_head ≡ pos head → HasRing (SlotLink table.slots.nodes) (free_here table.slots.nodes b) head → (xs : List ℕ) × FreeBlock table b xs
+  pub some_free : (head : ℕ) → HasBlankLabels table.slots b → (block_at table.blocks.records b).num ≡ pos (free_count table.slots.nodes b + cond (eqb b 0) 1 0) → (block_at table.blocks.records b).e_head ≡ pos head → HasRing (SlotLink table.slots.nodes) (free_here table.slots.nodes b) head → (xs : List ℕ) × FreeBlock table b xs
   some_free head cleared num e_head has = (
     has.0,
     record {

@@ -5,7 +5,7 @@ use borrow.Author.Tests.{ltb-true}
 use Rattle.std.proofs.lemmas.Int.{ints}
 use Rattle.cedar_slots.specs.declared.records.NodeRecord.{NodeRecord}
 use Rattle.cedar_slots.specs.declared.records.NInfoRecord.{NInfoRecord}
-use Rattle.cedar_file.specs.PlaceChecks.{Cleared, free_here, passing}
+use Rattle.cedar_file.specs.PlaceChecks.{HasBlankLabels, free_here, passing_count}
 use Rattle.cedar_slots.specs.Slots.{base_at, blank_info, check_at, info_at, is_free, SlotFields, SlotLink}
 use Rattle.cedar_file.proofs.ChecksLemmas.Cycle.{Circuit, passing_hit, passing_miss}
 use Rattle.cedar_slots.proofs.RingsLemmas.FreshBlock.{block_range}
@@ -50,10 +50,10 @@ module _ (nodes : List NodeRecord) (b : ℕ) where
   slot_here : (place : ℕ) → place < 256 → (256 * b + place) / 256 ≡ b
   slot_here place low = omega arith
 
-  pub count_free : (place count more : ℕ) → place < 256 → count ≡ passing (free_here nodes b) (256 * b) place → is_free nodes (256 * b + place) ≡ true → more ≡ count + 1 → more ≡ passing (free_here nodes b) (256 * b) (place + 1)
+  pub count_free : (place count more : ℕ) → place < 256 → count ≡ passing_count (free_here nodes b) (256 * b) place → is_free nodes (256 * b + place) ≡ true → more ≡ count + 1 → more ≡ passing_count (free_here nodes b) (256 * b) (place + 1)
   count_free place count more low sofar free is = passing_hit (free_here nodes b) (256 * b) place (256 * b + place) count more refl sofar (and_from _ _ free (eq-eqb _ _ (slot_here place low))) is
 
-  pub count_used : (place count more : ℕ) → count ≡ passing (free_here nodes b) (256 * b) place → is_free nodes (256 * b + place) ≡ false → more ≡ count → more ≡ passing (free_here nodes b) (256 * b) (place + 1)
+  pub count_used : (place count more : ℕ) → count ≡ passing_count (free_here nodes b) (256 * b) place → is_free nodes (256 * b + place) ≡ false → more ≡ count → more ≡ passing_count (free_here nodes b) (256 * b) (place + 1)
   count_used place count more sofar used is = passing_miss (free_here nodes b) (256 * b) place (256 * b + place) count more refl sofar (and_left _ _ used) is
 
 -- the ring of the free slots of the block b
@@ -79,5 +79,5 @@ cleared_more slots b place sofar here s free low high = elim (cases_eq s (256 * 
   | inr before ↦ sofar s free low (omega arith)
 ]
 
-pub cleared_all : (slots : SlotFields) (b : ℕ) → ClearedTo slots b 256 → Cleared slots b
+pub cleared_all : (slots : SlotFields) (b : ℕ) → ClearedTo slots b 256 → HasBlankLabels slots b
 cleared_all slots b all s free here = let range = block_range s b here in all s free range.0 range.1

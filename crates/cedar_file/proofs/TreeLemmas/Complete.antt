@@ -6,7 +6,7 @@ use Rattle.std.proofs.lemmas.Bool.Decides.{Decides-int_eq}
 use Rattle.cedar_tree.specs.Tree.{AllNumbers, Forest, IsAscending, is_bare, IsSoundBelow, none, child}
 use Rattle.cedar_file.specs.declared.check.tree.Walk.{Walk}
 use Rattle.cedar_model.specs.Table.Cells.{Cells, is_held}
-use Rattle.cedar_file.specs.TreeWalk.{Ends, LooksLikeRoot, walk_start}
+use Rattle.cedar_file.specs.TreeWalk.{ComesBack, LooksLikeRoot, walk_start}
 use Rattle.cedar_model.specs.Meaning.Family.{base_in, below, Family, Links, Node, top}
 use Rattle.cedar_model.specs.Meaning.StandsFor.{ChildrenStand, HoldsTree, labels}
 use Rattle.cedar_model.specs.Meaning.Reading.{first_in, has_number_slot, number_in}
@@ -107,12 +107,12 @@ root_is_apart : (T : Cells) → LooksLikeRoot T → (c : ℕ) → T.check 0 ≡ 
 root_is_apart T looks c o = let z : negsuc 0 ≡ pos c = sym looks.check ∙ o in cc
 
 -- a table is well-formed if the walk has met as many slots as are held, and as many numbers as it says
-pub walked_well_formed : (slots : ℕ) (T : Fields) (start : Walk) (n m e : ℕ) → start ≡ walk_start (cells_in T) → IsTable slots T.places → LooksLikeRoot (cells_in T) → Ends n (size_of T) T.ordered (cells_in T) start m e → m ≡ count_by (is_held (cells_in T)) (range_with_len 0 (size_of T)) → e ≡ T.entries → IsWellFormed slots T
+pub walked_well_formed : (slots : ℕ) (T : Fields) (start : Walk) (n m e : ℕ) → start ≡ walk_start (cells_in T) → IsTable slots T.places → LooksLikeRoot (cells_in T) → ComesBack n (size_of T) T.ordered (cells_in T) start m e → m ≡ count_by (is_held (cells_in T)) (range_with_len 0 (size_of T)) → e ≡ T.entries → IsWellFormed slots T
 walked_well_formed slots T start n m e begins table looks ends counted entries =
     let c : Cells = cells_in T in
     let size : ℕ = size_of T in
     let some : 0 < size = omega (arith, table.sound.shaped.blocks.some) in
-    let w = tree_walked size T.ordered c (root_is_apart c looks) n m e (subst (λ s. Ends n size T.ordered c s m e) begins ends) in
+    let w = tree_walked size T.ordered c (root_is_apart c looks) n m e (subst (λ s. ComesBack n size T.ordered c s m e) begins ends) in
     is_well_formed slots T w.forest table
     (sym (active_is T.layout T.places 0 some) ∙ looks.check)
     (tree_holds size T.ordered c looks (in_use T) some m e w (sym counted))

@@ -6,7 +6,7 @@ use Rattle.std.proofs.lemmas.List.{length-map}
 use Rattle.cedar_tree.specs.Tree.{AllAbove, Forest, none, child}
 use Rattle.cedar_tree.specs.Queries.{own_entry, under, walk_forest}
 use Rattle.cedar_model.specs.Table.Cells.{Cells}
-use Rattle.cedar_file.specs.TreeWalk.{Ends, GoesDown, LooksLikeNode, numbers_at, slots_at, walk_at, walk_start}
+use Rattle.cedar_file.specs.TreeWalk.{ComesBack, GoesDown, LooksLikeNode, numbers_at, slots_at, walk_at, walk_start}
 use Rattle.cedar_model.specs.Meaning.Family.{base_of, below, Links}
 use Rattle.cedar_model.specs.Meaning.StandsFor.{labels}
 use Rattle.cedar_model.specs.Meaning.Reading.{first_in, has_number_slot, number_in}
@@ -63,14 +63,14 @@ record ReadOn (n size : ℕ) (ordered : Bool) (T : Cells) (s c met numbers m e :
   fewer : turns ≤ n
   links : Links T s c (labels forest)
   tree : Met size ordered T s forest
-  back : Ends turns size ordered T (walk_at T s 0 (met + length (slots_below T s forest)) (numbers + length (walk_forest forest))) m e
+  back : ComesBack turns size ordered T (walk_at T s 0 (met + length (slots_below T s forest)) (numbers + length (walk_forest forest))) m e
 
 -- a walk at the end of a chain below slot b, that belongs to slot s, goes up to s
 record LeftOff (n size : ℕ) (ordered : Bool) (T : Cells) (b s met numbers m e : ℕ) : Type 0 where
   turns : ℕ
   fewer : turns < n
   ascends : ordered ≡ true → 0 < T.sibling b → below T s b < T.sibling b
-  on : Ends turns size ordered T (walk_at T s (T.sibling b) met numbers) m e
+  on : ComesBack turns size ordered T (walk_at T s (T.sibling b) met numbers) m e
 
 -- the tree that a whole walk has read, and how many slots and numbers it has met
 pub record ReadTree (size : ℕ) (ordered : Bool) (T : Cells) (m e : ℕ) : Type 0 where
@@ -84,9 +84,9 @@ above_all : (low m : ℕ) (f : Forest) → low < m → AllAbove m f → AllAbove
 above_all low m none h a = tt
 above_all low m (child l n u rest) h a = (omega (arith, h, a.0), above_all low m rest h a.1)
 
-pub same_counts : (n size : ℕ) (ordered : Bool) (T : Cells) (s c met met' numbers numbers' m e : ℕ) → met ≡ met' → numbers ≡ numbers' → Ends n size ordered T (walk_at T s c met numbers) m e → Ends n size ordered T (walk_at T s c met' numbers') m e
+pub same_counts : (n size : ℕ) (ordered : Bool) (T : Cells) (s c met met' numbers numbers' m e : ℕ) → met ≡ met' → numbers ≡ numbers' → ComesBack n size ordered T (walk_at T s c met numbers) m e → ComesBack n size ordered T (walk_at T s c met' numbers') m e
 same_counts n size ordered T s c met met' numbers numbers' m e p q h =
-    subst (λ y. Ends n size ordered T (walk_at T s c met' y) m e) q (subst (λ x. Ends n size ordered T (walk_at T s c x numbers) m e) p h)
+    subst (λ y. ComesBack n size ordered T (walk_at T s c met' y) m e) q (subst (λ x. ComesBack n size ordered T (walk_at T s c x numbers) m e) p h)
 
 module _ (size : ℕ) (ordered : Bool) (T : Cells) (root : (c : ℕ) → T.check 0 ≡ pos c → ⊥) where
   -- the labels of a chain ascend if each is below the next
@@ -96,8 +96,8 @@ module _ (size : ℕ) (ordered : Bool) (T : Cells) (root : (c : ℕ) → T.check
       let first : l < m = omega (arith, h.0, next (omega (arith, h.0, h.1))) in
       (first, above_all l m rest first (met.3 o))
 
-  left_off : (n b s met numbers m e : ℕ) → (b ≡ 0 → ⊥) → T.check b ≡ pos s → Ends n size ordered T (walk_at T b 0 met numbers) m e → LeftOff n size ordered T b s met numbers m e
-  unfolding Ends
+  left_off : (n b s met numbers m e : ℕ) → (b ≡ 0 → ⊥) → T.check b ≡ pos s → ComesBack n size ordered T (walk_at T b 0 met numbers) m e → LeftOff n size ordered T b s met numbers m e
+  unfolding ComesBack
   left_off zero b s met numbers m e z o h = absurd h
   left_off (suc n) b s met numbers m e z o (inl back) = absurd (z back.root)
   left_off (suc n) b s met numbers m e z o (inr (next, inl down, h)) = absurd (omega (arith, down.0.positive))
@@ -107,17 +107,17 @@ module _ (size : ℕ) (ordered : Bool) (T : Cells) (root : (c : ℕ) → T.check
         turns = n;
         fewer = omega arith;
         ascends = subst (λ y. ordered ≡ true → 0 < T.sibling b → below T y b < T.sibling b) same up.1.ascends;
-        on = subst (λ y. Ends n size ordered T (walk_at T y (T.sibling b) met numbers) m e) same (subst (λ w. Ends n size ordered T w m e) up.2 h);
+        on = subst (λ y. ComesBack n size ordered T (walk_at T y (T.sibling b) met numbers) m e) same (subst (λ w. ComesBack n size ordered T w m e) up.2 h);
       }
 
-  read_none : (n s c met numbers m e : ℕ) → c ≡ 0 → Ends n size ordered T (walk_at T s c met numbers) m e → ReadOn n size ordered T s c met numbers m e
+  read_none : (n s c met numbers m e : ℕ) → c ≡ 0 → ComesBack n size ordered T (walk_at T s c met numbers) m e → ReadOn n size ordered T s c met numbers m e
   read_none n s c met numbers m e z h = record {
     forest = none;
     turns = n;
     fewer = omega arith;
     links = z;
     tree = tt;
-    back = same_counts n size ordered T s 0 met (met + 0) numbers (numbers + 0) m e (omega arith) (omega arith) (subst (λ y. Ends n size ordered T (walk_at T s y met numbers) m e) z h);
+    back = same_counts n size ordered T s 0 met (met + 0) numbers (numbers + 0) m e (omega arith) (omega arith) (subst (λ y. ComesBack n size ordered T (walk_at T s y met numbers) m e) z h);
   }
 
   read_child : (n k s c met numbers m e : ℕ) → GoesDown size T (walk_at T s c met numbers) → (under : ReadOn n size ordered T (below T s c) (first_in T (below T s c)) (met + slots_at T (below T s c)) (numbers + numbers_at T (below T s c)) m e)
@@ -144,8 +144,8 @@ module _ (size : ℕ) (ordered : Bool) (T : Cells) (root : (c : ℕ) → T.check
         back = same_counts behind.turns size ordered T s 0 _ _ _ _ m e (omega (arith, slots)) (omega (arith, entries)) behind.back;
       }
 
-  read_on : (bound n s c met numbers m e : ℕ) → n ≤ bound → Ends n size ordered T (walk_at T s c met numbers) m e → ReadOn n size ordered T s c met numbers m e
-  unfolding Ends
+  read_on : (bound n s c met numbers m e : ℕ) → n ≤ bound → ComesBack n size ordered T (walk_at T s c met numbers) m e → ReadOn n size ordered T s c met numbers m e
+  unfolding ComesBack
   read_on bound zero s c met numbers m e le h = absurd h
   read_on zero (suc n) s c met numbers m e le h = absurd (omega arith)
   read_on (suc bound) (suc n) s c met numbers m e le h = elim (cases_eq c 0) [
@@ -155,7 +155,7 @@ module _ (size : ℕ) (ordered : Bool) (T : Cells) (root : (c : ℕ) → T.check
       | inr go ↦ elim go.1 [
         | inl down ↦
             let b : ℕ = below T s c in
-            let there : Ends n size ordered T (walk_at T b (first_in T b) (met + slots_at T b) (numbers + numbers_at T b)) m e = subst (λ w. Ends n size ordered T w m e) down.1 go.2 in
+            let there : ComesBack n size ordered T (walk_at T b (first_in T b) (met + slots_at T b) (numbers + numbers_at T b)) m e = subst (λ w. ComesBack n size ordered T w m e) down.1 go.2 in
             let not_zero : b ≡ 0 → ⊥ = λ y. root s (ap T.check (sym y) ∙ down.0.owned) in
             let under = read_on bound n b (first_in T b) (met + slots_at T b) (numbers + numbers_at T b) m e (omega arith) there in
             let off = left_off under.turns b s _ _ m e not_zero down.0.owned under.back in
@@ -166,14 +166,14 @@ module _ (size : ℕ) (ordered : Bool) (T : Cells) (root : (c : ℕ) → T.check
     ]
   ]
 
-  back_at_root : (n met numbers m e : ℕ) → Ends n size ordered T (walk_at T 0 0 met numbers) m e → (m ≡ met) × (e ≡ numbers)
-  unfolding Ends
+  back_at_root : (n met numbers m e : ℕ) → ComesBack n size ordered T (walk_at T 0 0 met numbers) m e → (m ≡ met) × (e ≡ numbers)
+  unfolding ComesBack
   back_at_root zero met numbers m e h = absurd h
   back_at_root (suc n) met numbers m e (inl back) = (sym back.met, sym back.numbers)
   back_at_root (suc n) met numbers m e (inr (next, inl down, h)) = absurd (omega (arith, down.0.positive))
   back_at_root (suc n) met numbers m e (inr (next, inr up, h)) = absurd (up.1.not_root refl)
 
-  pub tree_walked : (n m e : ℕ) → Ends n size ordered T (walk_start T) m e → ReadTree size ordered T m e
+  pub tree_walked : (n m e : ℕ) → ComesBack n size ordered T (walk_start T) m e → ReadTree size ordered T m e
   tree_walked n m e h =
       let all = read_on n n 0 (T.sibling 0) 1 0 m e (omega arith) h in
       let end = back_at_root all.turns _ _ m e all.back in

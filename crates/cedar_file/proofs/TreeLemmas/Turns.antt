@@ -3,7 +3,7 @@ use Rattle.std.proofs.Common.{◌≡◌, ◌≢◌, ℕ, zero, suc, ◌+◌, ◌
 use Rattle.std.specs.Prelude.{IfOk, OnErr, pos}
 use Rattle.cedar_file.specs.declared.check.tree.Walk.{Walk}
 use Rattle.cedar_model.specs.Table.Cells.{Cells}
-use Rattle.cedar_file.specs.TreeWalk.{Ends, GoesDown, GoesOn, GoesUp, numbers_at, slots_at, walk_down, walk_up}
+use Rattle.cedar_file.specs.TreeWalk.{ComesBack, GoesDown, GoesOn, GoesUp, numbers_at, slots_at, walk_down, walk_up}
 use Rattle.cedar_model.specs.Meaning.Family.{base_of, below}
 use Rattle.cedar_model.specs.Meaning.Reading.{has_number_slot, number_in}
 use Rattle.cedar_model.proofs.MeaningLemmas.ExclusiveOr.{pos_injective}
@@ -54,33 +54,33 @@ module _ (size : ℕ) (ordered : Bool) (T : Cells) where
       let same : h.0 ≡ k.0 = pos_injective _ _ (sym h.1.owner ∙ k.1.owner) in
       h.2 ∙ ap (walk_up T w) same ∙ sym k.2
 
-  pub ends_back : (n : ℕ) (w : Walk) → 0 < n → w.label ≡ 0 → w.node ≡ 0 → Ends n size ordered T w w.met w.numbers
-  unfolding Ends
+  pub ends_back : (n : ℕ) (w : Walk) → 0 < n → w.label ≡ 0 → w.node ≡ 0 → ComesBack n size ordered T w w.met w.numbers
+  unfolding ComesBack
   ends_back zero w some ended root = absurd (omega arith)
   ends_back (suc n) w some ended root = inl (record { ended = ended; root = root; met = refl; numbers = refl })
 
   -- a walk ends as it does from its next step on, if it isn't back at the root
-  pub ends_on : (n k : ℕ) (w next : Walk) (m e : ℕ) → n ≡ suc k → GoesOn size ordered T w next → Ends k size ordered T next m e → Ends n size ordered T w m e
-  unfolding Ends
-  ends_on n k w next m e is on h = subst (λ x. Ends x size ordered T w m e) (sym is) (inr (next, on, h))
+  pub ends_on : (n k : ℕ) (w next : Walk) (m e : ℕ) → n ≡ suc k → GoesOn size ordered T w next → ComesBack k size ordered T next m e → ComesBack n size ordered T w m e
+  unfolding ComesBack
+  ends_on n k w next m e is on h = subst (λ x. ComesBack x size ordered T w m e) (sym is) (inr (next, on, h))
 
-  further : (k : ℕ) (w next : Walk) (m e : ℕ) → (w.label ≡ 0 → w.node ≢ 0) → GoesOn size ordered T w next → Ends (suc k) size ordered T w m e → Ends k size ordered T next m e
-  unfolding Ends
+  further : (k : ℕ) (w next : Walk) (m e : ℕ) → (w.label ≡ 0 → w.node ≢ 0) → GoesOn size ordered T w next → ComesBack (suc k) size ordered T w m e → ComesBack k size ordered T next m e
+  unfolding ComesBack
   further k w next m e away on (inl back) = absurd (away back.ended back.root)
-  further k w next m e away on (inr there) = subst (λ x. Ends k size ordered T x m e) (one_step w there.0 next there.1 on) there.2
+  further k w next m e away on (inr there) = subst (λ x. ComesBack k size ordered T x m e) (one_step w there.0 next there.1 on) there.2
 
-  pub ends_further : (n k : ℕ) (w next : Walk) (m e : ℕ) → n ≡ suc k → (w.label ≡ 0 → w.node ≢ 0) → GoesOn size ordered T w next → Ends n size ordered T w m e → Ends k size ordered T next m e
-  ends_further n k w next m e is away on h = further k w next m e away on (subst (λ x. Ends x size ordered T w m e) is h)
+  pub ends_further : (n k : ℕ) (w next : Walk) (m e : ℕ) → n ≡ suc k → (w.label ≡ 0 → w.node ≢ 0) → GoesOn size ordered T w next → ComesBack n size ordered T w m e → ComesBack k size ordered T next m e
+  ends_further n k w next m e is away on h = further k w next m e away on (subst (λ x. ComesBack x size ordered T w m e) is h)
 
   -- a walk that can't go on doesn't end, unless it is back at the root
-  pub stuck : (n : ℕ) (w : Walk) (m e : ℕ) → (w.label ≡ 0 → w.node ≢ 0) → ((next : Walk) → GoesOn size ordered T w next → ⊥) → Ends n size ordered T w m e → ⊥
-  unfolding Ends
+  pub stuck : (n : ℕ) (w : Walk) (m e : ℕ) → (w.label ≡ 0 → w.node ≢ 0) → ((next : Walk) → GoesOn size ordered T w next → ⊥) → ComesBack n size ordered T w m e → ⊥
+  unfolding ComesBack
   stuck zero w m e away none_on h = h
   stuck (suc n) w m e away none_on (inl back) = away back.ended back.root
   stuck (suc n) w m e away none_on (inr there) = none_on there.0 there.1
 
-  pub none_left : (w : Walk) (m e : ℕ) → Ends 0 size ordered T w m e → ⊥
-  unfolding Ends
+  pub none_left : (w : Walk) (m e : ℕ) → ComesBack 0 size ordered T w m e → ⊥
+  unfolding ComesBack
   none_left w m e h = h
 
   pub up_faulty : (w : Walk) {E : Type 0} (r : Result Walk E) → w.label ≡ 0 → OnErr r ((c : ℕ) → GoesUp size ordered T w c → ⊥) → OnErr r ((next : Walk) → GoesOn size ordered T w next → ⊥)

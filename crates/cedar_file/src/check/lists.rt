@@ -3,12 +3,8 @@
 //! A list is walked like a ring of free slots: from its head for as many steps as it is to have blocks, each step to a
 //! block that belongs there and names the one before it. The walk along the full list begins and ends at block 0.
 
-ghost use Rattle.std.specs.Prelude.{◌≡◌, ◌≢◌, ℕ, ◌+◌, ◌*◌, ◌<◌, ◌≤◌, ◌≤ℤ◌, length, MatchResult, pos, true};
-ghost use Rattle.std.specs.Result.{OkIff};
-ghost use Rattle.cedar_slots.specs.Blocks.{block_at, BlockLink, counts_at, HasLists, Sized};
-ghost use Rattle.cedar_file.specs.PlaceChecks.{HasList, HasRing, in_ring, InRange, IsAfter, ring_count};
-ghost use Rattle.cedar_slots.specs.Places.{Pruned};
-ghost use Rattle.cedar_slots.specs.Views.{blocks_of};
+ghost use Rattle.std.specs.Prelude.{◌≡◌, ◌≢◌, ℕ, ◌+◌, ◌*◌, ◌<◌, ◌≤◌, ◌≤ℤ◌, length, pos, true};
+ghost use Rattle.cedar_file.specs.Words.{BlockLink, CountsInRange, HasList, HasLists, HasRing, OkIff, Pruned, Sized, StepsFrom, block_at, blocks_of, counts_at, in_ring, ring_count};
 ghost use Rattle.cedar_slots.specs.declared.blocks.BlockType.TheVariants.{Full};
 
 use cedar_slots::{BlockRecord, BlockType, Blocks, Corrupt, Counts, Ticks};
@@ -50,7 +46,7 @@ fn check_range<A: Allocator, C: Ledger>(
     reads: &mut Ticks<C>,
 ) -> Result<(), Corrupt>
     requires { block < length blocks.now.records.items }
-    ensures answer { OkIff result (InRange (blocks_of blocks.now) block) tt }
+    ensures answer { OkIff result (CountsInRange (blocks_of blocks.now) block) tt }
     ensures cost { reads.new ≤ reads.old + 1 }
 {
     let record = read_block(blocks, block, reads);
@@ -131,7 +127,7 @@ fn follow_list<A: Allocator, C: Ledger>(
 ) -> Result<usize, Corrupt>
     requires sized { Sized (blocks_of blocks.now) }
     requires here { in_ring (blocks_of blocks.now) list block ≡ true }
-    ensures answer { MatchResult result (IsAfter (BlockLink blocks.now.records.items) (in_ring (blocks_of blocks.now) list) block) (λ _. (next : ℕ) → ¬ IsAfter (BlockLink blocks.now.records.items) (in_ring (blocks_of blocks.now) list) block next) }
+    ensures answer { StepsFrom (BlockLink blocks.now.records.items) (in_ring (blocks_of blocks.now) list) block result }
     ensures cost { reads.new ≤ reads.old + 3 }
 {
     let next = read_block(blocks, block, reads).next;

@@ -1,10 +1,7 @@
 //! Whether a table that comes from a file has its slots, rings, blocks and lists as they must be.
 
 ghost use Rattle.std.specs.Prelude.{◌≡◌, ℕ, ◌+◌, ◌*◌, ◌-◌, ◌<◌, ◌≤◌, ◌≤ℤ◌, List, length, pos};
-ghost use Rattle.std.specs.Result.{OkIff};
-ghost use Rattle.cedar_file.specs.PlaceChecks.{BlankBlocks, BlankSlots};
-ghost use Rattle.cedar_slots.specs.Places.{FreeBlock, HasFree, IsPowerOfTwo, reject_at, Rejects, Shaped, Sound};
-ghost use Rattle.cedar_slots.specs.Views.{blocks_of, places_of};
+ghost use Rattle.cedar_file.specs.Words.{BlankBlocks, BlankSlots, FreeBlock, HasFree, IsPowerOfTwo, OkIff, Rejects, Shaped, Sound, blocks_of, places_of, reject_at};
 
 use crate::check::lists::{check_lists, check_ranges, read_block};
 use crate::check::rings::{check_ring, count_free, read_free, read_info, read_node};

@@ -4,11 +4,8 @@
 //! block that names the slot before it, so no slot is met twice unless the walk comes back to the head. If it doesn't
 //! before its last step, it has met all free slots of the block, and its last step leads back. No marks are kept.
 
-ghost use Rattle.std.specs.Prelude.{◌≡◌, ℕ, ◌+◌, ◌*◌, ◌^◌, ◌<◌, ◌≤◌, length, MatchResult, true};
-ghost use Rattle.std.specs.Result.{OkIff};
-ghost use Rattle.cedar_file.specs.PlaceChecks.{Cleared, free_count, free_here, HasRing, IsAfter};
-ghost use Rattle.cedar_slots.specs.Slots.{info_at, is_free, node_at, SlotLink};
-ghost use Rattle.cedar_slots.specs.Views.{slots_of};
+ghost use Rattle.std.specs.Prelude.{◌≡◌, ℕ, ◌+◌, ◌*◌, ◌^◌, ◌<◌, ◌≤◌, length, true};
+ghost use Rattle.cedar_file.specs.Words.{HasBlankLabels, HasRing, OkIff, SlotLink, StepsFrom, free_count, free_here, info_at, is_free, node_at, slots_of};
 
 use cedar_slots::{BLOCK_SIZE, Corrupt, NInfoRecord, NodeRecord, Slots, Ticks};
 use std::alloc::Allocator;
@@ -65,7 +62,7 @@ pub(crate) fn count_free<A: Allocator, C: Ledger>(
     requires fits { length slots.now.nodes.items ≤ 2 ^ 30 }
     requires block_in { 256 * block + 256 ≤ length slots.now.nodes.items }
     requires infos { length slots.now.infos.items ≡ length slots.now.nodes.items }
-    ensures answer { OkIff result (Cleared (slots_of slots.now) block) (free_count slots.now.nodes.items block) }
+    ensures answer { OkIff result (HasBlankLabels (slots_of slots.now) block) (free_count slots.now.nodes.items block) }
     ensures cost { reads.new ≤ reads.old + 512 }
 {
     let mut count: usize = 0;
@@ -92,7 +89,7 @@ fn follow_ring<A: Allocator, C: Ledger>(
     requires fits { length slots.now.nodes.items ≤ 2 ^ 30 }
     requires block_in { 256 * block + 256 ≤ length slots.now.nodes.items }
     requires here { free_here slots.now.nodes.items block slot ≡ true }
-    ensures answer { MatchResult result (IsAfter (SlotLink slots.now.nodes.items) (free_here slots.now.nodes.items block) slot) (λ _. (next : ℕ) → ¬ IsAfter (SlotLink slots.now.nodes.items) (free_here slots.now.nodes.items block) slot next) }
+    ensures answer { StepsFrom (SlotLink slots.now.nodes.items) (free_here slots.now.nodes.items block) slot result }
     ensures cost { reads.new ≤ reads.old + 2 }
 {
     let next = read_node(slots, slot, reads).check.unsigned_abs() as usize;

@@ -1,17 +1,8 @@
 //! Whether the held slots of a table stand for a tree.
 
-ghost use Rattle.std.specs.List.{range_with_len};
-ghost use Rattle.cedar_slots.specs.Blocks.{block_at};
-ghost use Rattle.cedar_model.specs.Table.Cells.{is_held};
 ghost use Rattle.std.specs.Prelude.{count_by, ◌≡◌, ◌≢◌, ℕ, ◌+◌, ◌*◌, ◌<◌, ◌≤◌, ◌^◌, ◌/◌, ◌↔◌, IfOk, IsTrue, MatchOption, OnErr, OnOk, pos};
-ghost use Rattle.cedar_file.specs.TreeWalk.{Ends, GoesDown, GoesOn, GoesUp, LooksLikeNode, LooksLikeRoot, walk_down, walk_met, walk_start, walk_up};
-ghost use Rattle.cedar_slots.specs.Places.{IsTable};
+ghost use Rattle.cedar_file.specs.Words.{ComesBack, GoesDown, GoesOn, GoesUp, HasRoom, IsTable, IsWellFormed, LooksLikeRoot, MeetsNode, base_in, base_of, block_at, cells, fields, is_held, is_value, range_with_len, reading, size_of, walk_down, walk_start, walk_up};
 ghost use Rattle.cedar_model.specs.declared.layout.Stored.TheVariants.{AtBase, OwnNumber};
-ghost use Rattle.cedar_model.specs.Meaning.Family.{base_in, base_of};
-ghost use Rattle.cedar_model.specs.Meaning.WellFormed.{is_value, IsWellFormed};
-ghost use Rattle.cedar_model.specs.Table.Layouts.{reading};
-ghost use Rattle.cedar_table.specs.Table.Views.{cells, fields};
-ghost use Rattle.cedar_model.specs.Table.TableFields.{size_of};
 
 use cedar_slots::{BLOCK_SIZE, BlockRecord, Corrupt, NInfoRecord, NodeRecord, Ticks};
 use cedar_table::{Layout, Stored, Table};
@@ -115,11 +106,10 @@ fn meet_own<L: Layout, const SLOTS: usize, A: Allocator, C: Ledger>(
     reads: &mut Ticks<C>,
 ) -> Result<Walk, Corrupt>
     requires inside { slot < size_of (fields table.now) }
-    requires room { (walk.met ≤ 2 ^ 32) × (walk.numbers ≤ 2 ^ 32) }
+    requires room { HasRoom walk }
     requires root { LooksLikeRoot (cells table.now) }
     requires stored { (cells table.now).stored slot ≡ OwnNumber value }
-    ensures met { IfOk result (λ next. LooksLikeNode (size_of (fields table.now)) (cells table.now) slot × (next ≡ walk_met (cells table.now) walk slot)) }
-    ensures faulty { OnErr result (LooksLikeNode (size_of (fields table.now)) (cells table.now) slot → ⊥) }
+    ensures meets { MeetsNode (size_of (fields table.now)) (cells table.now) walk slot result }
     ensures cost { reads.new ≡ reads.old + 1 }
 {
     let info = read_info(table, slot, reads);
@@ -149,13 +139,12 @@ fn meet_valued<L: Layout, const SLOTS: usize, A: Allocator, C: Ledger>(
     reads: &mut Ticks<C>,
 ) -> Result<Walk, Corrupt>
     requires inside { base < size_of (fields table.now) }
-    requires room { (walk.met ≤ 2 ^ 32) × (walk.numbers ≤ 2 ^ 32) }
+    requires room { HasRoom walk }
     requires stored { (cells table.now).stored slot ≡ AtBase base }
     requires owned { (cells table.now).check base ≡ pos slot }
     requires value { value ≡ (cells table.now).base base }
     requires child { child ≡ (cells table.now).child slot }
-    ensures met { IfOk result (λ next. LooksLikeNode (size_of (fields table.now)) (cells table.now) slot × (next ≡ walk_met (cells table.now) walk slot)) }
-    ensures faulty { OnErr result (LooksLikeNode (size_of (fields table.now)) (cells table.now) slot → ⊥) }
+    ensures meets { MeetsNode (size_of (fields table.now)) (cells table.now) walk slot result }
     ensures cost { reads.new ≡ reads.old + 1 }
 {
     let info = read_info(table, base, reads);
@@ -183,10 +172,9 @@ fn meet_based<L: Layout, const SLOTS: usize, A: Allocator, C: Ledger>(
     reads: &mut Ticks<C>,
 ) -> Result<Walk, Corrupt>
     requires inside { slot < size_of (fields table.now) }
-    requires room { (walk.met ≤ 2 ^ 32) × (walk.numbers ≤ 2 ^ 32) }
+    requires room { HasRoom walk }
     requires stored { (cells table.now).stored slot ≡ AtBase base }
-    ensures met { IfOk result (λ next. LooksLikeNode (size_of (fields table.now)) (cells table.now) slot × (next ≡ walk_met (cells table.now) walk slot)) }
-    ensures faulty { OnErr result (LooksLikeNode (size_of (fields table.now)) (cells table.now) slot → ⊥) }
+    ensures meets { MeetsNode (size_of (fields table.now)) (cells table.now) walk slot result }
     ensures cost { reads.new ≤ reads.old + 3 }
 {
     if base >= table.size() {
@@ -221,7 +209,7 @@ fn go_down<L: Layout, const SLOTS: usize, A: Allocator, C: Ledger>(
     requires inside { walk.node < size_of (fields table.now) }
     requires base { walk.base ≡ base_of (cells table.now) walk.node }
     requires label { 0 < walk.label }
-    requires room { (walk.met ≤ 2 ^ 32) × (walk.numbers ≤ 2 ^ 32) }
+    requires room { HasRoom walk }
     requires root { LooksLikeRoot (cells table.now) }
     ensures down { IfOk result (λ next. GoesDown (size_of (fields table.now)) (cells table.now) walk × (next ≡ walk_down (cells table.now) walk)) }
     ensures faulty { OnErr result (GoesDown (size_of (fields table.now)) (cells table.now) walk → ⊥) }
@@ -283,7 +271,7 @@ fn go_on<L: Layout, const SLOTS: usize, A: Allocator, C: Ledger>(
     requires inside { walk.node < size_of (fields table.now) }
     requires base { walk.base ≡ base_of (cells table.now) walk.node }
     requires away { walk.label ≡ 0 → walk.node ≢ 0 }
-    requires room { (walk.met ≤ 2 ^ 32) × (walk.numbers ≤ 2 ^ 32) }
+    requires room { HasRoom walk }
     requires root { LooksLikeRoot (cells table.now) }
     ensures on { IfOk result (GoesOn (size_of (fields table.now)) (fields table.now).ordered (cells table.now) walk) }
     ensures faulty { OnErr result ((next : Walk) → GoesOn (size_of (fields table.now)) (fields table.now).ordered (cells table.now) walk next → ⊥) }
@@ -333,8 +321,8 @@ fn walk_tree<L: Layout, const SLOTS: usize, A: Allocator, C: Ledger>(
 ) -> Result<Walk, Corrupt>
     requires root { LooksLikeRoot (cells table.now) }
     requires start { start ≡ walk_start (cells table.now) }
-    ensures ended { IfOk result (λ walk. Ends (2 * size_of (fields table.now)) (size_of (fields table.now)) (fields table.now).ordered (cells table.now) start walk.met walk.numbers) }
-    ensures faulty { OnErr result ((met numbers : ℕ) → Ends (2 * size_of (fields table.now)) (size_of (fields table.now)) (fields table.now).ordered (cells table.now) start met numbers → ⊥) }
+    ensures ended { IfOk result (λ walk. ComesBack (2 * size_of (fields table.now)) (size_of (fields table.now)) (fields table.now).ordered (cells table.now) start walk.met walk.numbers) }
+    ensures faulty { OnErr result ((met numbers : ℕ) → ComesBack (2 * size_of (fields table.now)) (size_of (fields table.now)) (fields table.now).ordered (cells table.now) start met numbers → ⊥) }
     ensures cost { reads.new ≤ reads.old + 8 * size_of (fields table.now) }
 {
     let mut walk = start;

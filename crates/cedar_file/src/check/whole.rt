@@ -1,11 +1,7 @@
 //! Whether a table that comes from a file has its slots, rings, blocks and lists as they must be, and stands for a tree.
 
 ghost use Rattle.std.specs.Prelude.{◌+◌, ◌*◌, ◌≤◌, ◌≤ℤ◌, length, pos};
-ghost use Rattle.std.specs.Result.{OkIff};
-ghost use Rattle.cedar_slots.specs.Places.{IsPowerOfTwo, IsSlotLimit, IsTable};
-ghost use Rattle.cedar_model.specs.Meaning.WellFormed.{IsWellFormed};
-ghost use Rattle.cedar_table.specs.Table.Views.{fields};
-ghost use Rattle.cedar_model.specs.Table.TableFields.{capacity_of};
+ghost use Rattle.cedar_file.specs.Words.{IsPowerOfTwo, IsSlotLimit, IsTable, IsWellFormed, OkIff, capacity_of, fields};
 
 use crate::check::places::check_sound;
 use crate::check::tree::check_tree;

@@ -1,4 +1,4 @@
-use Rattle.std.proofs.Common.{◌≡◌, ◌+◌, ◌*◌, ◌/◌, ◌<◌, ◌∙◌, ap, arith, of_z, refl, sym, to_z, w16}
+use Rattle.std.proofs.Common.{◌≡◌, ◌+◌, ◌<◌, ◌∙◌, ap, arith, of_z, refl, sym, to_z, w16}
 use Rattle.std.proofs.lemmas.Int.{ints}
 use Rattle.cedar_slots.specs.Blocks.{counts_at}
 use Rattle.cedar_slots.proofs.ListsLemmas.FreeCounts.{block_total, block_total-le, num_total, sum_below, sum_below-le, sum_below-more, sum_below-none, used-sum}

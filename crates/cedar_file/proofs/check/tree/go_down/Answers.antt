@@ -47,13 +47,13 @@ returns-in-AtBase-clause-down g c =
     let fits_check : FitsSigned w32 c.read_node-node.result.check = search rules in
     let owned : T.check (bit_xor c.args.walk.base c.from.result) ≡ pos c.args.walk.node = sym (to_z-of_z w32 c.read_node-node.result.check fits_check ∙ c.read_node-node.ensures.check) ∙ c.names.ensures.0 c.if-not-names.false in
     let small : c.args.walk.label < 256 = search rules in
-    down_met _ T c.args.walk _ _ at c.requires.label small owned c.meet_based.ensures.met
+    down_met _ T c.args.walk _ _ at c.requires.label small owned c.meet_based.ensures.meets.met
 
 pub returns-in-AtBase-clause-faulty : goal.returns-in-AtBase-clause-faulty
 returns-in-AtBase-clause-faulty g c =
     let T = cells c.args.table.now in
     let at : bit_xor c.args.walk.base c.from.result ≡ below T c.args.walk.node c.args.walk.label = ap (λ b. bit_xor b c.from.result) c.requires.base ∙ ap (below T c.args.walk.node) c.from.ensures in
-    down_faulty _ T c.args.walk _ _ at c.meet_based.ensures.faulty
+    down_faulty _ T c.args.walk _ _ at c.meet_based.ensures.meets.faulty
 
 pub returns-in-OwnNumber-clause-down : goal.returns-in-OwnNumber-clause-down
 returns-in-OwnNumber-clause-down g c =
@@ -62,13 +62,13 @@ returns-in-OwnNumber-clause-down g c =
     let fits_check : FitsSigned w32 c.read_node-node.result.check = search rules in
     let owned : T.check (bit_xor c.args.walk.base c.from.result) ≡ pos c.args.walk.node = sym (to_z-of_z w32 c.read_node-node.result.check fits_check ∙ c.read_node-node.ensures.check) ∙ c.names.ensures.0 c.if-not-names.false in
     let small : c.args.walk.label < 256 = search rules in
-    down_met _ T c.args.walk _ _ at c.requires.label small owned c.meet_own.ensures.met
+    down_met _ T c.args.walk _ _ at c.requires.label small owned c.meet_own.ensures.meets.met
 
 pub returns-in-OwnNumber-clause-faulty : goal.returns-in-OwnNumber-clause-faulty
 returns-in-OwnNumber-clause-faulty g c =
     let T = cells c.args.table.now in
     let at : bit_xor c.args.walk.base c.from.result ≡ below T c.args.walk.node c.args.walk.label = ap (λ b. bit_xor b c.from.result) c.requires.base ∙ ap (below T c.args.walk.node) c.from.ensures in
-    down_faulty _ T c.args.walk _ _ at c.meet_own.ensures.faulty
+    down_faulty _ T c.args.walk _ _ at c.meet_own.ensures.meets.faulty
 
 pub returns-in-Nothing-clause-faulty : goal.returns-in-Nothing-clause-faulty
 returns-in-Nothing-clause-faulty g c = λ down.

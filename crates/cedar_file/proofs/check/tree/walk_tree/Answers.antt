@@ -1,5 +1,5 @@
 use Rattle.std.proofs.Common.{◌≡◌, ◌≢◌, ◌+◌, ◌-◌, ◌*◌, ◌<◌, suc, sym, refl, subst, arith}
-use Rattle.cedar_file.specs.TreeWalk.{Ends}
+use Rattle.cedar_file.specs.TreeWalk.{ComesBack}
 use Rattle.cedar_table.specs.Table.Views.{cells, fields}
 use Rattle.cedar_model.specs.Table.TableFields.{size_of}
 use Rattle.cedar_file.proofs.TreeLemmas.Turns.{ends_back, ends_further, ends_on, IsOnWay, none_left, on_err, still_on_way, stuck}
@@ -16,8 +16,8 @@ loop-step-init g c =
     record {
       on_way = subst (λ w. IsOnWay size (cells c.args.table.now) w 0) (sym c.requires.start) (record { inside = some; base = refl; met = omega arith; numbers = omega arith });
       cost = omega arith;
-      to_start = λ m e h. subst (λ n. Ends n size T.ordered (cells c.args.table.now) c.args.start m e) whole h;
-      from_start = λ m e h. subst (λ n. Ends n size T.ordered (cells c.args.table.now) c.args.start m e) (sym whole) h;
+      to_start = λ m e h. subst (λ n. ComesBack n size T.ordered (cells c.args.table.now) c.args.start m e) whole h;
+      from_start = λ m e h. subst (λ n. ComesBack n size T.ordered (cells c.args.table.now) c.args.start m e) (sym whole) h;
     }
 
 pub returns-then-walk-eq0-2-clause-ended : goal.returns-then-walk-eq0-2-clause-ended
@@ -56,4 +56,4 @@ pub returns-clause-faulty : goal.returns-clause-faulty
 returns-clause-faulty g c = λ m e h.
     let T = fields c.args.table.now in
     let left : 2 * size_of T - c.loop-step._step ≡ 0 = omega (arith, c.loop-step-test.false, c.size-step-end.ensures) in
-    none_left (size_of T) T.ordered (cells c.args.table.now) c.loop-step.walk m e (subst (λ n. Ends n (size_of T) T.ordered (cells c.args.table.now) c.loop-step.walk m e) left (c.loop-step.invariant.from_start m e h))
+    none_left (size_of T) T.ordered (cells c.args.table.now) c.loop-step.walk m e (subst (λ n. ComesBack n (size_of T) T.ordered (cells c.args.table.now) c.loop-step.walk m e) left (c.loop-step.invariant.from_start m e h))
