@@ -1,12 +1,13 @@
 -- A walk over the nodes of a table of which it isn't known yet whether it stands for a tree.
-use Rattle.std.specs.Prelude.{◌≡◌, ◌≢◌, ℕ, zero, suc, ◌+◌, ◌<◌, ◌≤◌, ◌⊎◌, Bool, true, ℤ, negsuc, pos, None, IfOk, IfSome, OnErr, Result, ◌^◌, is_some, cond}
+use Rattle.std.specs.Prelude.{◌≡◌, ◌≢◌, ℕ, zero, suc, ◌+◌, ◌*◌, ◌<◌, ◌≤◌, ◌⊎◌, Bool, true, ℤ, negsuc, pos, None, IfOk, IfSome, OnErr, Result, ◌^◌, is_some, cond}
 use Rattle.cedar_file.specs.declared.check.tree.Walk.{Walk}
 use Rattle.cedar_model.specs.declared.layout.Stored.{Stored}
 use Rattle.cedar_model.specs.declared.layout.Stored.TheVariants.{AtBase, OwnNumber, Nothing}
 use Rattle.cedar_model.specs.Table.Cells.{Cells}
+use Rattle.cedar_model.specs.Table.TableFields.{Fields, size_of}
 use Rattle.cedar_model.specs.Meaning.Family.{base_of, below}
 use Rattle.cedar_model.specs.Meaning.Reading.{first_in, has_number_slot, number_in}
-use Rattle.cedar_model.specs.Meaning.WellFormed.{is_value}
+use Rattle.cedar_model.specs.Meaning.WellFormed.{cells_in, is_value}
 
 -- a base outside block 0, or a number in its place
 abbrev pub IsOfNode : ℕ → Stored → Type 0
@@ -85,13 +86,22 @@ pub record IsBack (w : Walk) (m e : ℕ) : Type 0 where
   pub met : w.met ≡ m
   pub numbers : w.numbers ≡ e
 
--- the next step of a walk
+-- the steps of a walk, and the next one
+abbrev pub StepsDown : ℕ → Cells → Walk → Walk → Type 0
+StepsDown size T w next = GoesDown size T w × (next ≡ walk_down T w)
+
+abbrev pub StepsUp : ℕ → Bool → Cells → Walk → Walk → Type 0
+StepsUp size ordered T w next = (c : ℕ) × GoesUp size ordered T w c × (next ≡ walk_up T w c)
+
 abbrev pub GoesOn : ℕ → Bool → Cells → Walk → Walk → Type 0
-GoesOn size ordered T w next =
-    (GoesDown size T w × (next ≡ walk_down T w)) ⊎ ((c : ℕ) × GoesUp size ordered T w c × (next ≡ walk_up T w c))
+GoesOn size ordered T w next = StepsDown size T w next ⊎ StepsUp size ordered T w next
 
 -- in fewer than n steps the walk comes back to the root, and it has met so many slots and numbers then
 unfoldable pub ComesBack : ℕ → ℕ → Bool → Cells → Walk → ℕ → ℕ → Type 0
 ComesBack zero size ordered T w met numbers = ⊥
 ComesBack (suc n) size ordered T w met numbers =
     IsBack w met numbers ⊎ ((next : Walk) × GoesOn size ordered T w next × ComesBack n size ordered T next met numbers)
+
+-- it does so in fewer than two steps for each slot in use
+abbrev pub ComesBackIn : Fields → Walk → ℕ → ℕ → Type 0
+ComesBackIn T w met numbers = ComesBack (2 * size_of T) (size_of T) T.ordered (cells_in T) w met numbers

@@ -1,7 +1,7 @@
 -- The words that the contracts of this crate cite, from one place.
 pub use Rattle.cedar_file.specs.Loading.{LoadsBy}
 pub use Rattle.cedar_file.specs.PlaceChecks.{BlankBlocks, BlankSlots, CountsInRange, HasBlankLabels, HasList, HasRing, StepsFrom, free_count, free_here, in_ring, ring_count}
-pub use Rattle.cedar_file.specs.TreeWalk.{ComesBack, GoesDown, GoesOn, GoesUp, HasRoom, LooksLikeRoot, MeetsNode, walk_down, walk_start, walk_up}
+pub use Rattle.cedar_file.specs.TreeWalk.{ComesBackIn, GoesDown, GoesOn, GoesUp, HasRoom, LooksLikeRoot, MeetsNode, StepsDown, StepsUp, walk_start}
 pub use Rattle.cedar_format.specs.Format.{CountsWithin, IsFile, need, trial_refusal}
 pub use Rattle.cedar_format.specs.Reading.{IsIo, IsLack, TellsBreaks}
 pub use Rattle.cedar_format.specs.Refusal.{CorruptData, refusal, refusal_of}

@@ -46,7 +46,7 @@ pub fn load_table<
     let table = table_of(decoded, memory_limit);
     match check_well_formed(&table, reads) {
         Ok(()) => Ok(table),
-        Err(corrupt) => Err(refused(corrupt)),
+        Err(corrupt) => Err(corrupt_data(corrupt)),
     }
 }
 
@@ -91,7 +91,7 @@ fn check_trials(header: &Header) -> Result<(), CedarPersistenceError>
 }
 
 /// The answer to a table that isn't well-formed.
-fn refused(corrupt: Corrupt) -> CedarPersistenceError
+fn corrupt_data(corrupt: Corrupt) -> CedarPersistenceError
     ensures refusal { refusal_of result ≡ CorruptData }
     ensures io { IsIo result → ⊥ }
     ensures room { IsLack result → ⊥ }

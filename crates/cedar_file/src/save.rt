@@ -3,7 +3,9 @@
 ghost use Rattle.std.specs.Prelude.{◌≡◌, true, IfErr, OnOk};
 ghost use Rattle.cedar_file.specs.Words.{Appends, FitsTable, IsIo, device_of, fields, has_failed, header_of, table_bytes};
 
-use cedar_format::{CedarPersistenceError, Header, Watched, listed, write_header, write_lists};
+use cedar_format::{
+    CedarPersistenceError, Header, Watched, listed_slots, write_header, write_lists,
+};
 use cedar_table::{BLOCK_SIZE, Layout, Table};
 use std::alloc::Allocator;
 use std::io::Write;
@@ -15,7 +17,7 @@ fn header_of<L: Layout, const SLOTS: usize, A: Allocator>(
 ) -> Header
     ensures { result ≡ header_of minor (fields table.now) }
 {
-    let slots_listed = listed(minor, table.capacity(), table.size());
+    let slots_listed = listed_slots(minor, table.capacity(), table.size());
     Header {
         minor,
         ordered: table.ordered(),

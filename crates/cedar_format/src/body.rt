@@ -35,12 +35,11 @@ fn reserve_tables<A: Allocator + Copy, C: Ledger>(
     requires capacity { header.capacity ≤ 2 ^ 30 }
     requires reject { header.reject_len ≡ 257 }
     ensures header { IfOk result (λ d. d.header ≡ header) }
-    ensures nodes { IfOk result (λ d. (d.nodes.items ≡ []) × (header.capacity ≤ vec_capacity d.nodes)) }
-    ensures n_infos { IfOk result (λ d. (d.n_infos.items ≡ []) × (header.capacity ≤ vec_capacity d.n_infos)) }
-    ensures blocks { IfOk result (λ d. (d.blocks.items ≡ []) × (header.capacity / 256 ≤ vec_capacity d.blocks)) }
-    ensures reject { IfOk result (λ d. (d.reject.items ≡ []) × (header.reject_len ≤ vec_capacity d.reject)) }
     // Just the room that was counted.
-    ensures room { IfOk result (λ d. (vec_capacity d.nodes ≡ header.capacity) × (vec_capacity d.n_infos ≡ header.capacity) × (vec_capacity d.blocks ≡ header.capacity / 256) × (vec_capacity d.reject ≡ header.reject_len)) }
+    ensures nodes { IfOk result (λ d. (d.nodes.items ≡ []) × (vec_capacity d.nodes ≡ header.capacity)) }
+    ensures n_infos { IfOk result (λ d. (d.n_infos.items ≡ []) × (vec_capacity d.n_infos ≡ header.capacity)) }
+    ensures blocks { IfOk result (λ d. (d.blocks.items ≡ []) × (vec_capacity d.blocks ≡ header.capacity / 256)) }
+    ensures reject { IfOk result (λ d. (d.reject.items ≡ []) × (vec_capacity d.reject ≡ header.reject_len)) }
     ensures err { IfErr result (LacksTable header) }
     ensures asked { asked.new ≤ asked.old + tables_len header }
     ensures counted { OnOk result (asked.new ≡ asked.old + tables_len header) }

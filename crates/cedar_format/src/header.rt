@@ -231,7 +231,7 @@ fn with_fault<X>(
 }
 
 /// How many slots a file of a minor version lists: all, or from 1 on those in use alone.
-pub fn listed(minor: u16, capacity: usize, size: usize) -> usize
+pub fn listed_slots(minor: u16, capacity: usize, size: usize) -> usize
     ensures { result ≡ listed_slots minor capacity size }
 {
     if minor == FULL_MINOR { capacity } else { size }
@@ -248,7 +248,7 @@ pub(crate) fn check_sizes(
     ensures io { IfErr result (λ e. IsIo e → ⊥) }
     ensures room { IfErr result (λ e. IsLack e → ⊥) }
 {
-    let slots_listed = listed(header.minor, header.capacity, header.size);
+    let slots_listed = listed_slots(header.minor, header.capacity, header.size);
     if header.array_len != slots_listed || header.n_infos_len != slots_listed {
         return Err(invalid("node_vector_lengths", header.array_len));
     }

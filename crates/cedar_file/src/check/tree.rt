@@ -1,7 +1,7 @@
 //! Whether the held slots of a table stand for a tree.
 
 ghost use Rattle.std.specs.Prelude.{count_by, ◌≡◌, ◌≢◌, ℕ, ◌+◌, ◌*◌, ◌<◌, ◌≤◌, ◌^◌, ◌/◌, ◌↔◌, IfOk, IsTrue, MatchOption, OnErr, OnOk, pos};
-ghost use Rattle.cedar_file.specs.Words.{ComesBack, GoesDown, GoesOn, GoesUp, HasRoom, IsTable, IsWellFormed, LooksLikeRoot, MeetsNode, base_in, base_of, block_at, cells, fields, is_held, is_value, range_with_len, reading, size_of, walk_down, walk_start, walk_up};
+ghost use Rattle.cedar_file.specs.Words.{ComesBackIn, GoesDown, GoesOn, GoesUp, HasRoom, IsTable, IsWellFormed, LooksLikeRoot, MeetsNode, StepsDown, StepsUp, base_in, base_of, block_at, cells, fields, is_held, is_value, range_with_len, reading, size_of, walk_start};
 ghost use Rattle.cedar_model.specs.declared.layout.Stored.TheVariants.{AtBase, OwnNumber};
 
 use cedar_slots::{BLOCK_SIZE, BlockRecord, Corrupt, NInfoRecord, NodeRecord, Ticks};
@@ -211,7 +211,7 @@ fn go_down<L: Layout, const SLOTS: usize, A: Allocator, C: Ledger>(
     requires label { 0 < walk.label }
     requires room { HasRoom walk }
     requires root { LooksLikeRoot (cells table.now) }
-    ensures down { IfOk result (λ next. GoesDown (size_of (fields table.now)) (cells table.now) walk × (next ≡ walk_down (cells table.now) walk)) }
+    ensures down { IfOk result (StepsDown (size_of (fields table.now)) (cells table.now) walk) }
     ensures faulty { OnErr result (GoesDown (size_of (fields table.now)) (cells table.now) walk → ⊥) }
     ensures cost { reads.new ≤ reads.old + 4 }
 {
@@ -239,7 +239,7 @@ fn go_up<L: Layout, const SLOTS: usize, A: Allocator, C: Ledger>(
     requires inside { walk.node < size_of (fields table.now) }
     requires not_root { walk.node ≢ 0 }
     requires label { walk.label ≡ 0 }
-    ensures up { IfOk result (λ next. (c : ℕ) × GoesUp (size_of (fields table.now)) (fields table.now).ordered (cells table.now) walk c × (next ≡ walk_up (cells table.now) walk c)) }
+    ensures up { IfOk result (StepsUp (size_of (fields table.now)) (fields table.now).ordered (cells table.now) walk) }
     ensures faulty { OnErr result ((c : ℕ) → GoesUp (size_of (fields table.now)) (fields table.now).ordered (cells table.now) walk c → ⊥) }
     ensures cost { reads.new ≤ reads.old + 3 }
 {
@@ -321,8 +321,8 @@ fn walk_tree<L: Layout, const SLOTS: usize, A: Allocator, C: Ledger>(
 ) -> Result<Walk, Corrupt>
     requires root { LooksLikeRoot (cells table.now) }
     requires start { start ≡ walk_start (cells table.now) }
-    ensures ended { IfOk result (λ walk. ComesBack (2 * size_of (fields table.now)) (size_of (fields table.now)) (fields table.now).ordered (cells table.now) start walk.met walk.numbers) }
-    ensures faulty { OnErr result ((met numbers : ℕ) → ComesBack (2 * size_of (fields table.now)) (size_of (fields table.now)) (fields table.now).ordered (cells table.now) start met numbers → ⊥) }
+    ensures ended { IfOk result (λ walk. ComesBackIn (fields table.now) start walk.met walk.numbers) }
+    ensures faulty { OnErr result ((met numbers : ℕ) → ComesBackIn (fields table.now) start met numbers → ⊥) }
     ensures cost { reads.new ≤ reads.old + 8 * size_of (fields table.now) }
 {
     let mut walk = start;

@@ -52,8 +52,8 @@ returns-in-Err-clause-loads g c =
     let d = c.in_ok-decoded.decoded in
     let told = rw c.file_byte.ensures at c.in_ok-decoded.ensures.decodes in
     let T = fields c.table_of-table.result in
-    let corrupt = c.refused.ensures in
-    let answer = refused_table g.L.Layout.kind g.row.SLOTS c.args.memory_limit d.header d.nodes.items d.n_infos.items d.blocks.items d.reject.items told.file told.bytes.0 told.bytes.1 T c.table_of-table.ensures _ _ _ c.refused.result told.bytes.2 told.at_end
+    let corrupt = c.corrupt_data.ensures in
+    let answer = refused_table g.L.Layout.kind g.row.SLOTS c.args.memory_limit d.header d.nodes.items d.n_infos.items d.blocks.items d.reject.items told.file told.bytes.0 told.bytes.1 T c.table_of-table.ensures _ _ _ c.corrupt_data.result told.bytes.2 told.at_end
     told.answer c.in_ok-check_trials.ensures.refusal corrupt.refusal c.in-Err.ensures.answer (search (rules, arith)) in
     refuses (λ t. fields t) g.L.Layout.kind g.row.SLOTS c.args.memory_limit _ _ _ _ answer (λ io. absurd (corrupt.io io)) (no_lack _ _ corrupt.room)
 
