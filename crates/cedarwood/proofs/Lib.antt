@@ -1,3 +1,5 @@
+pub use Rattle.cedar_tree.proofs.FrontLemmas
+pub use Rattle.cedar_tree.proofs.TreeLemmas
 pub mod DictionaryLemmas
 pub mod FaultLemmas
 pub mod GrowthLemmas
@@ -8,6 +10,7 @@ pub mod BuildLemmas
 pub mod CollectLemmas
 pub mod EntriesLemmas
 pub mod LoadLemmas
+mod MakingLemmas
 pub mod MarkedLemmas
 mod OutcomeLemmas
 pub mod RoomLemmas

@@ -27,6 +27,12 @@ outcome_is_told (Ok x) r' h = sym (ap outcome h)
 outcome_is_told (Err e) (Ok x) h = absurd h
 outcome_is_told (Err e) (Err error) h = ap Err (sym h)
 
+-- so it is the call's very answer where nothing is answered but success
+pub told_alike : (r : Result (Unit {0}) Shortage) (r' : Result (Unit {0}) CedarError) → HandsOn r r' → told_outcome r ≡ r'
+told_alike (Ok x) r' h = sym h
+told_alike (Err e) (Ok x) h = absurd h
+told_alike (Err e) (Err error) h = ap Err (sym h)
+
 -- what holds of an edit's answer holds of the call's
 pub answer_handed_on : {X : Type 0} (P : X → Type 0) (r : Result X Shortage) (r' : Result X CedarError) → HandsOn r r' → IfOk r P → IfOk r' P
 answer_handed_on P (Ok x) r' h p = subst (λ o. IfOk o P) (sym h) p

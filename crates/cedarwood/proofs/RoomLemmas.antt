@@ -1,5 +1,5 @@
 -- What a table's room for more blocks says of the dictionary.
-use Rattle.std.proofs.Common.{◌≡◌, ℕ, ◌+◌, ◌*◌, ◌-◌, ◌<◌, ◌≤◌, length, refl, ap, sym, subst, ◌∙◌, arith}
+use Rattle.std.proofs.Common.{◌≡◌, ℕ, ◌+◌, ◌*◌, ◌-◌, ◌<◌, ◌≤◌, length, refl, ap, sym, subst, ◌∙◌, arith, IfErr, IsOk, OnOk, Result, Ok, Err}
 use Rattle.cedar_tree.specs.State.{State}
 use Rattle.cedar_model.specs.Edit.Steps.{blocks_after}
 use Rattle.cedar_model.specs.Meaning.Marks.{marks}
@@ -13,6 +13,7 @@ use Rattle.cedarwood.specs.Dictionary.{Dictionary, capacity_after}
 use Rattle.cedarwood.specs.Room.{LacksRoom}
 use Rattle.cedarwood.specs.Told.{told}
 use Rattle.cedarwood.proofs.GrowthLemmas.{capacity_by_blocks, dictionary_of}
+use Rattle.cedarwood.proofs.OutcomeLemmas.{told_outcome}
 
 module _ (slots n : ℕ) (T T' : Fields) (d : Dictionary) (same : dictionary_of T ≡ d) where
   pub size_seen : d.size ≡ size_of T
@@ -69,3 +70,14 @@ module _ (slots n : ℕ) (T T' : Fields) (d : Dictionary) (same : dictionary_of 
   limit_is_kept well size spare past =
       let beyond : slots < size_of T + 256 * n = subst (λ (x : Dictionary). slots < x.size + 256 * n) (sym same) past in
       absurd (omega (arith, well.table.within))
+
+  -- where there is room nothing is asked for
+  pub asks_for_none : IsWellFormed slots T → (r : Result (Unit {0}) Shortage) → IfErr r (table.LacksRoom T slots n) → 256 * n ≤ d.capacity - d.size → IsOk (told_outcome r)
+  asks_for_none well (Ok x) h room = refl
+  asks_for_none well (Err e) h room = absurd (never_with_room well e h room)
+
+  -- past the limit it is the limit that is told
+  pub tells_limit : IsWellFormed slots T' → size_of T' ≡ size_of T → (r : Result (Unit {0}) Shortage) → OnOk r (size_of T' + 256 * n ≤ capacity_of T') → IfErr r (table.LacksRoom T slots n)
+      → slots < d.size + 256 * n → told_outcome r ≡ Err SlotLimit
+  tells_limit well size (Ok x) spare h past = absurd (limit_is_kept well size spare past)
+  tells_limit well size (Err e) spare h past = ap Err (limit_is_told e h past)

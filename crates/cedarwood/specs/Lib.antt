@@ -1,9 +1,11 @@
 pub use Rattle.cedar_tree.specs.Tree
 pub use Rattle.cedar_tree.specs.Queries
 pub use Rattle.cedar_tree.specs.State
+pub mod Blanks
 pub mod Builds
 pub mod Dictionary
 pub mod Fault
+pub mod Making
 pub mod Memory
 pub mod OnTable
 pub mod Shown
@@ -17,3 +19,4 @@ pub mod Loading
 pub use Rattle.cedar_format.specs.WatchedDevice
 pub mod Updates
 pub mod Saving
+pub mod Words

@@ -16,17 +16,23 @@ pub record IsUpdate (layout : LayoutKind) (slots : ℕ) (before after : Dictiona
   pub unchanged : IsSome (fault key v) → after ≡ before
   pub ok : OnOk result (after.state ≡ stored before.state key v)
   pub err : OnErr result (after.state ≡ before.state)
-  -- which numbers have slots of their own: by default all
+  -- which numbers have slots of their own: by default all. Where a number may stand in its node's own slot, the numbers of the key's
+  -- fronts move into slots, and the key's has one if longer keys are held; all others stay where they are. A refused update moves none
   pub by_default : OnOk result (layout ≡ default_layout → after.marked ≡ after.state.tree)
   pub marks : OnOk result (layout ≡ reduced_layout → MarksPut before.state.tree before.marked after.marked key)
   pub marked : OnOk result (IsMarked after)
   pub marks_stay : OnErr result (after.marked ≡ before.marked)
+  -- without a fault it is refused only for memory or slots, and then the key isn't held. Memory is wanted only where all slots are in use
+  -- and there may be more, and slots where there may not
   pub refused : fault key v ≡ None → IfErr result (λ e. IsShortage e × (number_at before.state.tree key ≡ None))
   pub memory : result ≡ Err Memory → (after.size ≡ after.capacity) × (after.capacity < slots)
   pub limit : result ≡ Err SlotLimit → after.size ≡ slots
+  -- a key of n bytes makes n blocks at most, and fewer if it is refused: so it isn't refused while n blocks are spare
   pub blocks : (n : ℕ) × (n ≤ length key) × (fault key v ≡ None → OnErr result (n < length key)) × Grows n before after
   pub spare : 256 * length key ≤ before.capacity - before.size → fault key v ≡ None → IsOk result
   pub over : IsSome (number_at before.state.tree key) → Grows 0 before after
+  -- a new first byte alone makes a block, or is refused, only where its number takes a slot of its own and no slot outside block 0 is
+  -- free: there, each is held that isn't the root's or one of its children's
   pub one_byte : (b : ℕ) → key ≡ b ∷ [] → has_label before.state.tree.children b ≡ false → fault key v ≡ None
       → (IsOk result × Grows 0 before after) ⊎ ((layout ≡ default_layout) × (before.size + first_bytes before.state.tree ≡ used before.state.tree + 255))
   pub max_trial : after.max_trial ≡ before.max_trial

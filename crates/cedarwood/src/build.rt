@@ -1,8 +1,7 @@
 //! Many pairs stored at once.
 
-ghost use Rattle.std.specs.Prelude.{◌≡◌, map, IfErr, IfSome, IsOk, IsSome, None, OnOk};
-ghost use Rattle.cedar_bulk.specs.Sorted.{entries_by, entries_of};
-ghost use Rattle.cedarwood.specs.Builds.{all_stored, first_fault, IsBuild, IsRefusedBuild};
+ghost use Rattle.std.specs.Prelude.{◌≡◌, IfErr, IfSome, IsOk, IsSome, None, OnOk};
+ghost use Rattle.cedarwood.specs.Words.{IsBuild, IsRefusedBuild, all_stored, entries_by, entries_of, first_fault};
 
 use crate::pair::check_pair;
 use crate::{CedarError, Layout, Trie};

@@ -1,11 +1,6 @@
 //! The settings of a dictionary.
 
-ghost use Rattle.std.specs.Prelude.{◌≡◌, ◌≤ℤ◌, ◌↔◌, ◌⊎◌, ◌+◌, ◌*◌, ◌≤◌, ℕ, Err, IfErr, IfOk, IfSome, IsOk, length, None, pos, true};
-ghost use Rattle.cedar_bulk.specs.Sorted.{entries_of};
-ghost use Rattle.cedar_tree.specs.Tree.{empty_tree};
-ghost use Rattle.cedar_tree.specs.Queries.{asc, prefixes};
-ghost use Rattle.cedarwood.specs.Dictionary.{capacity_after};
-ghost use Rattle.cedarwood.specs.SortedInput.{sorted_fault};
+ghost use Rattle.std.specs.Prelude.{◌↔◌, ◌≡◌, ◌≤ℤ◌, IfErr, IfOk, IsOk, pos, true};
 
 use crate::CedarError;
 use crate::fits::fits;
@@ -28,8 +23,9 @@ pub struct CedarBuilder {
 }
 
 impl CedarBuilder {
-    ghost use Rattle.cedarwood.specs.declared.builder.CedarBuilder.{CedarBuilder};
+    ghost use Rattle.cedarwood.specs.Words.{IsNew, IsSortedBuild, default_layout, entries_of};
     ghost use Rattle.cedarwood.specs.Memory.{CedarFitsInMemory};
+    ghost use Rattle.cedarwood.specs.declared.builder.CedarBuilder.{CedarBuilder};
 
     /// Labels ascend, and one failed search closes a block.
     ///
@@ -99,12 +95,7 @@ impl CedarBuilder {
     /// # Errors
     /// `Memory` where a request was refused.
     pub fn build<A: Allocator + Copy>(self, alloc: A) -> Result<Cedar<A>, CedarError>
-        ensures empty { IfOk result (λ cedar. cedar.state.tree ≡ empty_tree) }
-        ensures unmarked { IfOk result (λ cedar. cedar.marked ≡ empty_tree) }
-        ensures ordered { IfOk result (λ cedar. cedar.state.ordered ≡ self.ordered) }
-        ensures max_trial { IfOk result (λ cedar. cedar.max_trial ≡ self.max_trial) }
-        ensures size { IfOk result (λ cedar. (cedar.size ≡ 256) × (cedar.capacity ≡ 256)) }
-        ensures refused { IfErr result (λ e. e ≡ CedarError.Memory) }
+        ensures made { IsNew self result }
 
         // For calls on it in a function that is generic in the allocator.
         ensures fits { IfOk result (λ _. CedarFitsInMemory A.row A.Allocator) }
@@ -135,14 +126,7 @@ impl CedarBuilder {
         alloc: A,
         pairs: &[(&[u8], i32)],
     ) -> Result<Cedar<A>, CedarError>
-        ensures faulty { IfSome (sorted_fault pairs.now) (λ e. result ≡ Err e) }
-        ensures tree { IfOk result (λ cedar. cedar.state.tree ≡ asc (entries_of pairs.now)) }
-        ensures marks { IfOk result (λ cedar. cedar.marked ≡ asc (entries_of pairs.now)) }
-        ensures ordered { IfOk result (λ cedar. cedar.state.ordered ≡ self.ordered) }
-        ensures max_trial { IfOk result (λ cedar. cedar.max_trial ≡ self.max_trial) }
-        ensures size { IfOk result (λ cedar. (n : ℕ) × (n ≤ length (prefixes (asc (entries_of pairs.now)))) × (cedar.size ≡ 256 + 256 * n) × (cedar.capacity ≡ capacity_after n 256 256)) }
-        ensures refused { sorted_fault pairs.now ≡ None → IfErr result (λ e.
-            (e ≡ CedarError.Memory) ⊎ ((e ≡ CedarError.SlotLimit) × (1073741824 ≤ 256 * length (prefixes (asc (entries_of pairs.now)))))) }
+        ensures built { IsSortedBuild default_layout 1073741824 self (entries_of pairs.now) result }
         ensures fits { IfOk result (λ _. CedarFitsInMemory A.row A.Allocator) }
     {
         let place: Option<Cedar<A>> = None;
@@ -171,14 +155,7 @@ impl CedarBuilder {
         alloc: A,
         pairs: &[(&str, i32)],
     ) -> Result<Cedar<A>, CedarError>
-        ensures faulty { IfSome (sorted_fault pairs.now) (λ e. result ≡ Err e) }
-        ensures tree { IfOk result (λ cedar. cedar.state.tree ≡ asc (entries_of pairs.now)) }
-        ensures marks { IfOk result (λ cedar. cedar.marked ≡ asc (entries_of pairs.now)) }
-        ensures ordered { IfOk result (λ cedar. cedar.state.ordered ≡ self.ordered) }
-        ensures max_trial { IfOk result (λ cedar. cedar.max_trial ≡ self.max_trial) }
-        ensures size { IfOk result (λ cedar. (n : ℕ) × (n ≤ length (prefixes (asc (entries_of pairs.now)))) × (cedar.size ≡ 256 + 256 * n) × (cedar.capacity ≡ capacity_after n 256 256)) }
-        ensures refused { sorted_fault pairs.now ≡ None → IfErr result (λ e.
-            (e ≡ CedarError.Memory) ⊎ ((e ≡ CedarError.SlotLimit) × (1073741824 ≤ 256 * length (prefixes (asc (entries_of pairs.now)))))) }
+        ensures built { IsSortedBuild default_layout 1073741824 self (entries_of pairs.now) result }
         ensures fits { IfOk result (λ _. CedarFitsInMemory A.row A.Allocator) }
     {
         let place: Option<Cedar<A>> = None;
@@ -195,8 +172,6 @@ impl CedarBuilder {
 }
 
 impl Default for CedarBuilder {
-    ghost use Rattle.std.specs.Prelude.{◌≡◌, pos, true};
-
     // As `new` makes it.
     ghost is_default = { λ builder. (builder.ordered ≡ true) × (builder.max_trial ≡ pos 1) };
 

@@ -1,5 +1,7 @@
 //! A dictionary copied.
 
+ghost use Rattle.std.specs.Prelude.{◌≡◌};
+
 use crate::{Layout, Trie};
 use std::alloc::{AllocError, Allocator};
 
@@ -12,8 +14,6 @@ use std::alloc::{AllocError, Allocator};
 /// assert_eq!(rt; (copy.len(), cedar.len()), (0, 1));
 /// ```
 impl<L: Layout, const SLOTS: usize, A: Allocator + Copy> Clone for Trie<L, SLOTS, A> {
-    ghost use Rattle.std.specs.Prelude.{◌≡◌};
-
     // All that a contract sees of it is equal, its table among it.
     ghost is_clone = { λ trie copy. copy ≡ trie };
 

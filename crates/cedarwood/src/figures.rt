@@ -1,8 +1,7 @@
 //! The figures of a dictionary, and how it is printed.
 
-ghost use Rattle.std.specs.Prelude.{◌≡◌, ◌+◌, ◌*◌, ◌/◌, length};
-ghost use Rattle.cedar_tree.specs.Queries.{prefixes, used, walk};
-ghost use Rattle.cedar_model.specs.Table.Layouts.{default_layout};
+ghost use Rattle.std.specs.Prelude.{◌*◌, ◌+◌, ◌/◌, ◌≡◌, Some, length};
+ghost use Rattle.cedarwood.specs.Words.{default_layout, prefixes, shown, used, walk};
 
 use crate::{Layout, Trie};
 use std::alloc::Allocator;
@@ -70,9 +69,6 @@ impl<L: Layout, const SLOTS: usize, A: Allocator + Copy> Trie<L, SLOTS, A> {
 /// assert_eq!(rt; text.as_str(), "Cedar(entries=1, node_slots=512, ordered=true)");
 /// ```
 impl<L: Layout, const SLOTS: usize, A: Allocator> fmt::Debug for Trie<L, SLOTS, A> {
-    ghost use Rattle.std.specs.Prelude.{Some};
-    ghost use Rattle.cedarwood.specs.Shown.{shown};
-
     ghost debug_output = { λ trie. Some (shown trie) };
 
     fn fmt<W: fmt::Write>(&self, f: &mut fmt::Formatter<W>) -> fmt::Result {

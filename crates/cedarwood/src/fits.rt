@@ -1,7 +1,7 @@
 //! Whether a type fits in memory.
 
 ghost use Rattle.std.specs.Prelude.{IsTrue};
-ghost use Rattle.std.specs.Mem.{FitsInMemory};
+ghost use Rattle.cedarwood.specs.Words.{FitsInMemory};
 
 use std::mem;
 

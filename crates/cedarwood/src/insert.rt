@@ -1,10 +1,7 @@
 //! A value stored, and the one before it answered.
 
 ghost use Rattle.std.specs.Prelude.{◌≡◌, IfOk, IfSome, None, OnOk};
-ghost use Rattle.cedar_tree.specs.Tree.{IsSound, number_at};
-ghost use Rattle.cedarwood.specs.Builds.{outcome};
-ghost use Rattle.cedarwood.specs.Fault.{value_fault};
-ghost use Rattle.cedarwood.specs.Updates.{IsUpdate};
+ghost use Rattle.cedarwood.specs.Words.{IsSound, IsUpdate, number_at, outcome, value_fault};
 
 use crate::pair::check_pair;
 use crate::{CedarError, Layout, Trie};

@@ -1,10 +1,7 @@
 //! Laws of the dictionary's states and files.
 
-ghost use Rattle.std.specs.Prelude.{◌≡◌, ◌↔◌, IsTrue, List, true};
-ghost use Rattle.cedar_tree.specs.Queries.{asc, Entry};
-ghost use Rattle.cedar_tree.specs.State.{new_state, State};
-ghost use Rattle.cedarwood.specs.Builds.{all_stored};
-ghost use Rattle.cedarwood.specs.Loading.{LoadedFilesSaveAgain, OwnFilesLoad};
+ghost use Rattle.std.specs.Prelude.{◌↔◌, ◌≡◌, IsTrue, List, true};
+ghost use Rattle.cedarwood.specs.Words.{Entry, LoadedFilesSaveAgain, OwnFilesLoad, all_stored, asc, new_state};
 
 use crate::MemoryStats;
 

@@ -19,6 +19,7 @@
 mod build;
 mod builder;
 mod clone;
+mod counted;
 mod error;
 mod figures;
 mod fits;

@@ -1,7 +1,7 @@
 //! The test of a pair before it is stored.
 
-ghost use Rattle.std.specs.Prelude.{◌≡◌, ◌==◌, position, None, IsOk, IfSome};
-ghost use Rattle.cedarwood.specs.Fault.{fault, key_fault, value_fault};
+ghost use Rattle.std.specs.Prelude.{◌==◌, ◌≡◌, IfSome, IsOk, None, position};
+ghost use Rattle.cedarwood.specs.Words.{fault, key_fault, value_fault};
 
 use crate::{CedarError, MAX_VALUE, MIN_VALUE};
 

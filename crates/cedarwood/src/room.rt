@@ -1,13 +1,12 @@
 //! Memory asked for ahead, so that updates needn't ask for it.
 
+ghost use Rattle.std.specs.Prelude.{◌*◌, ◌+◌, ◌-◌, ◌<◌, ◌≡◌, ◌≤◌, Err, IfErr, IsOk, OnErr, OnOk};
+ghost use Rattle.cedarwood.specs.Words.{LacksRoom, capacity_after};
+
 use crate::{CedarError, Layout, Trie};
 use std::alloc::Allocator;
 
 impl<L: Layout, const SLOTS: usize, A: Allocator> Trie<L, SLOTS, A> {
-    ghost use Rattle.std.specs.Prelude.{◌≡◌, ◌+◌, ◌-◌, ◌*◌, ◌<◌, ◌≤◌, Err, IfErr, IsOk, OnErr, OnOk};
-    ghost use Rattle.cedarwood.specs.Dictionary.{capacity_after};
-    ghost use Rattle.cedarwood.specs.Room.{LacksRoom};
-
     /// Asks for the memory of `blocks` blocks more than are in use, so that an update of a key of as many bytes, or of several keys of
     /// as many bytes together, can't be refused. The slots double until there is room, as they would if these blocks came into use
     /// one after another; while `spare_blocks()` is at least `blocks`, nothing changes.
@@ -37,9 +36,6 @@ impl<L: Layout, const SLOTS: usize, A: Allocator> Trie<L, SLOTS, A> {
         ensures refused { IfErr result (LacksRoom SLOTS self.old blocks) }
         ensures unchanged { OnErr result (self.new ≡ self.old) }
     {
-        match self.table.try_reserve(blocks) {
-            Ok(()) => Ok(()),
-            Err(shortage) => Err(CedarError::from(shortage)),
-        }
+        self.table.try_reserve(blocks).map_err(CedarError::from)
     }
 }

@@ -1,12 +1,8 @@
 //! The test of a sorted input, and a dictionary made of one.
 
-ghost use Rattle.std.specs.Prelude.{◌≡◌, ◌≢◌, ◌<◌, ◌≤◌, ℕ, [], get_or, length, None, IsOk, IsTrue, IfSome, OnOk};
-ghost use Rattle.std.specs.Cmp.Lexicographic.{slice_cmp};
-ghost use Rattle.std.specs.Ordering.{nat_cmp};
+ghost use Rattle.std.specs.Prelude.{◌<◌, ◌≡◌, ◌≢◌, ◌≤◌, IfSome, IsOk, IsTrue, None, OnOk, [], get_or, length, ℕ};
+ghost use Rattle.cedarwood.specs.Words.{AreBytes, HasNoNul, IsInRange, IsSharedFront, IsSlotLimit, IsSortedBuild, entries_by, fault_behind, fault_from, fault_of_order, key_at, nat_cmp, slice_cmp};
 ghost use Rattle.std.specs.declared.cmp.Ordering.TheVariants.{Less};
-ghost use Rattle.cedar_bulk.specs.Sorted.{entries_by};
-ghost use Rattle.cedarwood.specs.Fault.{IsInRange};
-ghost use Rattle.cedarwood.specs.SortedInput.{AreBytes, fault_behind, fault_from, fault_of_order, HasNoNul, IsSharedFront, key_at};
 
 use crate::builder::CedarBuilder;
 use crate::pair::check_pair;
@@ -129,12 +125,6 @@ fn check_order(before: &[u8], key: &[u8], index: usize) -> Result<(), CedarError
 }
 
 impl<L: Layout, const SLOTS: usize, A: Allocator + Copy> Trie<L, SLOTS, A> {
-    ghost use Rattle.std.specs.Prelude.{◌≡◌, ◌⊎◌, ◌+◌, ◌*◌, ◌≤◌, ℕ, [], Err, IfErr, IfOk, IfSome, length, None};
-    ghost use Rattle.cedar_slots.specs.Places.{IsSlotLimit};
-    ghost use Rattle.cedar_tree.specs.Queries.{asc, prefixes};
-    ghost use Rattle.cedar_bulk.specs.SortedMarks.{SortedMarks};
-    ghost use Rattle.cedarwood.specs.Dictionary.{capacity_after};
-
     /// A dictionary of some pairs, whose keys ascend by bytes, with the settings of a builder. Keys are bytes or texts. It takes no
     /// memory before all pairs are tested.
     pub(crate) fn from_sorted_keys<K: AsSlice<u8>>(
@@ -143,14 +133,7 @@ impl<L: Layout, const SLOTS: usize, A: Allocator + Copy> Trie<L, SLOTS, A> {
         pairs: &[(K, i32)],
     ) -> Result<Self, CedarError>
         requires limit { IsSlotLimit SLOTS }
-        ensures faulty { IfSome (fault_from 0 [] (entries_by K.items pairs.now)) (λ e. result ≡ Err e) }
-        ensures tree { IfOk result (λ trie. trie.state.tree ≡ asc (entries_by K.items pairs.now)) }
-        ensures marks { IfOk result (λ trie. SortedMarks L.kind (asc (entries_by K.items pairs.now)) trie.marked) }
-        ensures ordered { IfOk result (λ trie. trie.state.ordered ≡ builder.ordered) }
-        ensures max_trial { IfOk result (λ trie. trie.max_trial ≡ builder.max_trial) }
-        ensures size { IfOk result (λ trie. (n : ℕ) × (n ≤ length (prefixes (asc (entries_by K.items pairs.now)))) × (trie.size ≡ 256 + 256 * n) × (trie.capacity ≡ capacity_after n 256 256)) }
-        ensures refused { fault_from 0 [] (entries_by K.items pairs.now) ≡ None → IfErr result (λ e.
-            (e ≡ CedarError.Memory) ⊎ ((e ≡ CedarError.SlotLimit) × (SLOTS ≤ 256 * length (prefixes (asc (entries_by K.items pairs.now)))))) }
+        ensures built { IsSortedBuild L.kind SLOTS builder (entries_by K.items pairs.now) result }
     {
         check_sorted(pairs)?;
         Ok(Trie {

@@ -1,13 +1,13 @@
 //! The texts of errors, each of which a contract knows byte by byte.
 
+ghost use Rattle.std.specs.Prelude.{Some};
+ghost use Rattle.cedarwood.specs.Words.{entry_error_text, error_text};
+
 use crate::{CedarError, EntryError};
 use std::error::Error;
 use std::fmt;
 
 impl fmt::Display for CedarError {
-    ghost use Rattle.std.specs.Prelude.{Some};
-    ghost use Rattle.cedarwood.specs.Shown.{error_text};
-
     ghost output = { λ error. Some (error_text error) };
 
     fn fmt<W: fmt::Write>(&self, f: &mut fmt::Formatter<W>) -> fmt::Result {
@@ -42,9 +42,6 @@ impl fmt::Display for CedarError {
 impl Error for CedarError {}
 
 impl fmt::Display for EntryError {
-    ghost use Rattle.std.specs.Prelude.{Some};
-    ghost use Rattle.cedarwood.specs.Shown.{entry_error_text};
-
     ghost output = { λ error. Some (entry_error_text error) };
 
     fn fmt<W: fmt::Write>(&self, f: &mut fmt::Formatter<W>) -> fmt::Result {

@@ -1,22 +1,10 @@
 //! The dictionary and its calls.
 
-ghost use Rattle.std.specs.Prelude.{◌≡◌, ◌⊎◌, ℕ, ◌+◌, ◌-◌, ◌*◌, ◌/◌, ◌<◌, ◌≤◌, ◌==◌, [], ◌∷◌, length, true, false, None, IsSome, IsOk, IfOk, IfErr, OnOk, OnErr, IfSome, IsTrue, ◌↔◌, pos};
-ghost use Rattle.cedar_model.specs.Table.Layouts.{default_layout, reduced_layout};
-ghost use Rattle.cedar_model.specs.Meaning.Marks.{MarksCut, MarksPut};
-ghost use Rattle.cedar_slots.specs.Places.{IsSlotLimit};
-ghost use Rattle.cedar_bulk.specs.Sorted.{entries_of};
-ghost use Rattle.cedar_bulk.specs.SortedMarks.{SortedMarks};
-ghost use Rattle.cedar_tree.specs.Tree.{empty_tree, has_label, number_at, IsSound};
-ghost use Rattle.cedar_tree.specs.Queries.{asc, exact, prefixes, used, walk};
-ghost use Rattle.cedar_tree.specs.State.{stored, erased};
-ghost use Rattle.cedarwood.specs.Dictionary.{capacity_after, first_bytes, Grows, IsMarked, IsValid};
-ghost use Rattle.cedarwood.specs.Fault.{fault, value_fault, IsShortage};
-ghost use Rattle.cedarwood.specs.OnTable.{IsOnTable};
-ghost use Rattle.cedarwood.specs.SortedInput.{sorted_fault};
-ghost use Rattle.cedarwood.specs.Updates.{IsUpdate};
+ghost use Rattle.std.specs.Prelude.{◌*◌, ◌+◌, ◌-◌, ◌/◌, ◌<◌, ◌==◌, ◌↔◌, ◌≡◌, ◌≤◌, IfOk, IfSome, IsSome, IsTrue, None, [], length, pos, true};
+ghost use Rattle.cedarwood.specs.Words.{Dictionary, IsMarked, IsNew, IsOnTable, IsRenewed, IsSlotLimit, IsSortedBuild, IsSound, IsUpdate, IsValid, IsWellFormed, MarksCut, capacity_of, default_layout, default_settings, dictionary_code, entries_of, erased, exact, fields, marks, number_at, prefixes, size_of, tree_of, used, value_fault, walk};
 
 use crate::builder::CedarBuilder;
-use crate::queries::exact::uncounted;
+use crate::counted::search_uncounted;
 use crate::{CedarError, DefaultLayout, Layout, ReducedLayout, Ticks};
 use cedar_edit::erase;
 use cedar_table::Table;
@@ -43,12 +31,6 @@ pub type Cedar<A> = Trie<DefaultLayout, 1073741824, A>;
 pub type ReducedCedar<A> = Trie<ReducedLayout, 1073741824, A>;
 
 impl<L: Layout, const SLOTS: usize, A: Allocator> Model for Trie<L, SLOTS, A> {
-    ghost use Rattle.cedar_model.specs.Meaning.Marks.{marks};
-    ghost use Rattle.cedar_table.specs.Table.Views.{fields};
-    ghost use Rattle.cedar_model.specs.Table.TableFields.{capacity_of, size_of};
-    ghost use Rattle.cedar_model.specs.Meaning.WellFormed.{IsWellFormed, tree_of};
-    ghost use Rattle.cedarwood.specs.Dictionary.{Dictionary, dictionary_code};
-
     ghost Value = { Dictionary };
 
     ghost coded = { dictionary_code };
@@ -78,12 +60,7 @@ impl<A: Allocator + Copy> Trie<DefaultLayout, 1073741824, A> {
     /// # Errors
     /// `Memory` where a request was refused.
     pub fn new(alloc: A) -> Result<Self, CedarError>
-        ensures empty { IfOk result (λ cedar. cedar.state.tree ≡ empty_tree) }
-        ensures unmarked { IfOk result (λ cedar. cedar.marked ≡ empty_tree) }
-        ensures settings { IfOk result (λ cedar. cedar.state.ordered ≡ true) }
-        ensures max_trial { IfOk result (λ cedar. cedar.max_trial ≡ pos 1) }
-        ensures size { IfOk result (λ cedar. (cedar.size ≡ 256) × (cedar.capacity ≡ 256)) }
-        ensures refused { IfErr result (λ e. e ≡ CedarError.Memory) }
+        ensures made { IsNew default_settings result }
         ensures fits { IfOk result (λ _. CedarFitsInMemory A.row A.Allocator) }
     {
         Self::builder().build(alloc)
@@ -100,14 +77,7 @@ impl<A: Allocator + Copy> Trie<DefaultLayout, 1073741824, A> {
     /// # Errors
     /// As [`CedarBuilder::from_sorted_bytes`].
     pub fn from_sorted_bytes(alloc: A, pairs: &[(&[u8], i32)]) -> Result<Self, CedarError>
-        ensures faulty { IfSome (sorted_fault pairs.now) (λ e. result ≡ Err e) }
-        ensures tree { IfOk result (λ cedar. cedar.state.tree ≡ asc (entries_of pairs.now)) }
-        ensures marks { IfOk result (λ cedar. cedar.marked ≡ asc (entries_of pairs.now)) }
-        ensures settings { IfOk result (λ cedar. cedar.state.ordered ≡ true) }
-        ensures max_trial { IfOk result (λ cedar. cedar.max_trial ≡ pos 1) }
-        ensures size { IfOk result (λ cedar. (n : ℕ) × (n ≤ length (prefixes (asc (entries_of pairs.now)))) × (cedar.size ≡ 256 + 256 * n) × (cedar.capacity ≡ capacity_after n 256 256)) }
-        ensures refused { sorted_fault pairs.now ≡ None → IfErr result (λ e.
-            (e ≡ CedarError.Memory) ⊎ ((e ≡ CedarError.SlotLimit) × (1073741824 ≤ 256 * length (prefixes (asc (entries_of pairs.now)))))) }
+        ensures built { IsSortedBuild default_layout 1073741824 default_settings (entries_of pairs.now) result }
         ensures fits { IfOk result (λ _. CedarFitsInMemory A.row A.Allocator) }
     {
         Self::builder().from_sorted_bytes(alloc, pairs)
@@ -123,14 +93,7 @@ impl<A: Allocator + Copy> Trie<DefaultLayout, 1073741824, A> {
     /// # Errors
     /// As [`CedarBuilder::from_sorted`].
     pub fn from_sorted(alloc: A, pairs: &[(&str, i32)]) -> Result<Self, CedarError>
-        ensures faulty { IfSome (sorted_fault pairs.now) (λ e. result ≡ Err e) }
-        ensures tree { IfOk result (λ cedar. cedar.state.tree ≡ asc (entries_of pairs.now)) }
-        ensures marks { IfOk result (λ cedar. cedar.marked ≡ asc (entries_of pairs.now)) }
-        ensures settings { IfOk result (λ cedar. cedar.state.ordered ≡ true) }
-        ensures max_trial { IfOk result (λ cedar. cedar.max_trial ≡ pos 1) }
-        ensures size { IfOk result (λ cedar. (n : ℕ) × (n ≤ length (prefixes (asc (entries_of pairs.now)))) × (cedar.size ≡ 256 + 256 * n) × (cedar.capacity ≡ capacity_after n 256 256)) }
-        ensures refused { sorted_fault pairs.now ≡ None → IfErr result (λ e.
-            (e ≡ CedarError.Memory) ⊎ ((e ≡ CedarError.SlotLimit) × (1073741824 ≤ 256 * length (prefixes (asc (entries_of pairs.now)))))) }
+        ensures built { IsSortedBuild default_layout 1073741824 default_settings (entries_of pairs.now) result }
         ensures fits { IfOk result (λ _. CedarFitsInMemory A.row A.Allocator) }
     {
         Self::builder().from_sorted(alloc, pairs)
@@ -161,12 +124,7 @@ impl<L: Layout, const SLOTS: usize, A: Allocator + Copy> Trie<L, SLOTS, A> {
     /// `Memory` where a request was refused.
     pub fn with(alloc: A, builder: CedarBuilder) -> Result<Self, CedarError>
         requires limit { IsSlotLimit SLOTS }
-        ensures empty { IfOk result (λ trie. trie.state.tree ≡ empty_tree) }
-        ensures unmarked { IfOk result (λ trie. trie.marked ≡ empty_tree) }
-        ensures ordered { IfOk result (λ trie. trie.state.ordered ≡ builder.ordered) }
-        ensures max_trial { IfOk result (λ trie. trie.max_trial ≡ builder.max_trial) }
-        ensures size { IfOk result (λ trie. (trie.size ≡ 256) × (trie.capacity ≡ 256)) }
-        ensures refused { IfErr result (λ e. e ≡ CedarError.Memory) }
+        ensures made { IsNew builder result }
     {
         Ok(Trie {
             table: Table::new(alloc, builder.ordered, builder.max_trial)?,
@@ -194,19 +152,7 @@ impl<L: Layout, const SLOTS: usize, A: Allocator + Copy> Trie<L, SLOTS, A> {
         pairs: &[(&[u8], i32)],
     ) -> Result<Self, CedarError>
         requires limit { IsSlotLimit SLOTS }
-        ensures faulty { IfSome (sorted_fault pairs.now) (λ e. result ≡ Err e) }
-        ensures tree { IfOk result (λ trie. trie.state.tree ≡ asc (entries_of pairs.now)) }
-
-        // Where a number may stand in its node's own slot, just those of keys that begin longer ones have slots of their own; by
-        // default all have.
-        ensures marks { IfOk result (λ trie. SortedMarks L.kind (asc (entries_of pairs.now)) trie.marked) }
-        ensures ordered { IfOk result (λ trie. trie.state.ordered ≡ builder.ordered) }
-        ensures max_trial { IfOk result (λ trie. trie.max_trial ≡ builder.max_trial) }
-
-        // It makes one block at most for each distinct nonempty prefix of a key: so slots are wanted only by many of these.
-        ensures size { IfOk result (λ trie. (n : ℕ) × (n ≤ length (prefixes (asc (entries_of pairs.now)))) × (trie.size ≡ 256 + 256 * n) × (trie.capacity ≡ capacity_after n 256 256)) }
-        ensures refused { sorted_fault pairs.now ≡ None → IfErr result (λ e.
-            (e ≡ CedarError.Memory) ⊎ ((e ≡ CedarError.SlotLimit) × (SLOTS ≤ 256 * length (prefixes (asc (entries_of pairs.now)))))) }
+        ensures built { IsSortedBuild L.kind SLOTS builder (entries_of pairs.now) result }
     {
         Self::from_sorted_keys(alloc, builder, pairs)
     }
@@ -227,14 +173,7 @@ impl<L: Layout, const SLOTS: usize, A: Allocator + Copy> Trie<L, SLOTS, A> {
         pairs: &[(&str, i32)],
     ) -> Result<Self, CedarError>
         requires limit { IsSlotLimit SLOTS }
-        ensures faulty { IfSome (sorted_fault pairs.now) (λ e. result ≡ Err e) }
-        ensures tree { IfOk result (λ trie. trie.state.tree ≡ asc (entries_of pairs.now)) }
-        ensures marks { IfOk result (λ trie. SortedMarks L.kind (asc (entries_of pairs.now)) trie.marked) }
-        ensures ordered { IfOk result (λ trie. trie.state.ordered ≡ builder.ordered) }
-        ensures max_trial { IfOk result (λ trie. trie.max_trial ≡ builder.max_trial) }
-        ensures size { IfOk result (λ trie. (n : ℕ) × (n ≤ length (prefixes (asc (entries_of pairs.now)))) × (trie.size ≡ 256 + 256 * n) × (trie.capacity ≡ capacity_after n 256 256)) }
-        ensures refused { sorted_fault pairs.now ≡ None → IfErr result (λ e.
-            (e ≡ CedarError.Memory) ⊎ ((e ≡ CedarError.SlotLimit) × (SLOTS ≤ 256 * length (prefixes (asc (entries_of pairs.now)))))) }
+        ensures built { IsSortedBuild L.kind SLOTS builder (entries_of pairs.now) result }
     {
         Self::from_sorted_keys(alloc, builder, pairs)
     }
@@ -251,13 +190,7 @@ impl<L: Layout, const SLOTS: usize, A: Allocator + Copy> Trie<L, SLOTS, A> {
     /// # Errors
     /// `Memory` where a request was refused. Then this one stays.
     pub fn renew(&mut self, alloc: A, builder: CedarBuilder) -> Result<(), CedarError>
-        ensures empty { OnOk result (self.new.state.tree ≡ empty_tree) }
-        ensures unmarked { OnOk result (self.new.marked ≡ empty_tree) }
-        ensures ordered { OnOk result (self.new.state.ordered ≡ builder.ordered) }
-        ensures max_trial { OnOk result (self.new.max_trial ≡ builder.max_trial) }
-        ensures size { OnOk result ((self.new.size ≡ 256) × (self.new.capacity ≡ 256)) }
-        ensures refused { IfErr result (λ e. e ≡ CedarError.Memory) }
-        ensures unchanged { OnErr result (self.new ≡ self.old) }
+        ensures made { IsRenewed builder self.old self.new result }
     {
         // Its limit of slots is one that a new table takes.
         let _ = &self.table;
@@ -277,37 +210,6 @@ impl<L: Layout, const SLOTS: usize, A: Allocator + Copy> Trie<L, SLOTS, A> {
     /// key isn't held and a request was refused, `SlotLimit` where the limit of slots allows no further block. After an
     /// error the dictionary holds what it held. A key that is held takes no memory.
     pub fn update_bytes(&mut self, key: &[u8], value: i32) -> Result<(), CedarError>
-        ensures faulty { IfSome (fault key.now value) (λ e. result ≡ Err e) }
-        ensures unchanged { IsSome (fault key.now value) → self.new ≡ self.old }
-        ensures ok { OnOk result (self.new.state ≡ stored self.old.state key.now value) }
-        ensures err { OnErr result (self.new.state ≡ self.old.state) }
-
-        // Where a number may stand in its node's own slot, the numbers of the key's fronts move into slots, and the key's has one if
-        // longer keys are held; all others stay where they are. A refused update moves none.
-        ensures marks { OnOk result (L.kind ≡ reduced_layout → MarksPut self.old.state.tree self.old.marked self.new.marked key.now) }
-        ensures marked { OnOk result (IsMarked self.new) }
-        ensures marks_stay { OnErr result (self.new.marked ≡ self.old.marked) }
-
-        // Without a fault it is refused only for memory or slots, and then the key isn't held.
-        ensures refused { fault key.now value ≡ None → IfErr result (λ e.
-            IsShortage e × (number_at self.old.state.tree key.now ≡ None)) }
-
-        // Memory is wanted only where all slots are in use and there may be more, and slots where there may not.
-        ensures memory { result ≡ Err CedarError.Memory → (self.new.size ≡ self.new.capacity) × (self.new.capacity < SLOTS) }
-        ensures limit { result ≡ Err CedarError.SlotLimit → self.new.size ≡ SLOTS }
-
-        // A key of n bytes makes n blocks at most, and fewer if it is refused: so it isn't refused while n blocks are spare.
-        ensures blocks { (n : ℕ) × (n ≤ length key.now) × (fault key.now value ≡ None → OnErr result (n < length key.now)) × Grows n self.old self.new }
-        ensures spare { 256 * length key.now ≤ self.old.capacity - self.old.size → fault key.now value ≡ None → IsOk result }
-        ensures over { IsSome (number_at self.old.state.tree key.now) → Grows 0 self.old self.new }
-
-        // A new first byte alone makes a block, or is refused, only where its number takes a slot of its own and no slot outside
-        // block 0 is free: there, each is held that isn't the root's or one of its children's.
-        ensures one_byte { (b : ℕ) → key.now ≡ b ∷ [] → has_label self.old.state.tree.children b ≡ false → fault key.now value ≡ None
-            → (IsOk result × Grows 0 self.old self.new) ⊎ ((L.kind ≡ default_layout) × (self.old.size + first_bytes self.old.state.tree ≡ used self.old.state.tree + 255)) }
-        ensures max_trial { self.new.max_trial ≡ self.old.max_trial }
-
-        // All of this in one word.
         ensures updated { IsUpdate L.kind SLOTS self.old self.new key.now value result }
     {
         match self.insert_bytes(key, value) {
@@ -324,7 +226,7 @@ impl<L: Layout, const SLOTS: usize, A: Allocator + Copy> Trie<L, SLOTS, A> {
     /// assert_eq!(rt; cedar.exact_match_search("net"), Some((8, 3)));
     /// ```
     pub fn update(&mut self, key: &str, value: i32) -> Result<(), CedarError>
-        ensures { IsUpdate L.kind SLOTS self.old self.new key.now value result }
+        ensures updated { IsUpdate L.kind SLOTS self.old self.new key.now value result }
     {
         self.update_bytes(key.as_bytes(), value)
     }
@@ -399,7 +301,7 @@ impl<L: Layout, const SLOTS: usize, A: Allocator + Copy> Trie<L, SLOTS, A> {
         ensures sound { IsSound self.now.state.tree }
         ensures in_range { IfSome result (λ found. value_fault found.0 ≡ None) }
     {
-        uncounted::<Brand, Self>(self, key, Blank::new(1))
+        search_uncounted::<Brand, Self, A>(self, key, Blank::new(1))
     }
 
     /// `exact_match_search_bytes` for a text key.

@@ -1,16 +1,9 @@
 //! How a dictionary is loaded: from a watched reader, or from bytes in memory.
 
-ghost use Rattle.std.specs.Prelude.{◌≡◌, ℕ, ◌+◌, ◌*◌, false, true, IfErr, IfOk, IfSome};
-ghost use Rattle.std.specs.Io.KnownBytes.{Consumes};
-ghost use Rattle.cedar_model.specs.Table.Layouts.{layout_byte};
-ghost use Rattle.cedar_slots.specs.Places.{IsSlotLimit};
-ghost use Rattle.cedar_model.specs.Meaning.WellFormed.{IsWellFormed};
-ghost use Rattle.cedar_format.specs.Format.{need, CountsWithin, IsVersion, Passes};
-ghost use Rattle.cedar_format.specs.Reading.{IsIo, LacksNoMore, TellsBreaks};
-ghost use Rattle.cedar_format.specs.Tables.{table_bytes};
-ghost use Rattle.cedarwood.specs.Loading.{LoadAnswers};
+ghost use Rattle.std.specs.Prelude.{◌*◌, ◌+◌, ◌≡◌, IfErr, IfOk, IfSome, false, true, ℕ};
+ghost use Rattle.cedarwood.specs.Words.{Consumes, CountsWithin, IsIo, IsSlotLimit, IsVersion, IsWellFormed, LacksNoMore, LoadAnswers, Passes, TellsBreaks, layout_byte, need, table_bytes};
 
-use crate::persistence::uncounted::uncounted;
+use crate::counted::load_uncounted;
 use crate::{CedarPersistenceError, DEFAULT_LOAD_MEMORY_LIMIT, Layout, Source, Ticks, Trie};
 use cedar_file::load_table;
 use std::alloc::Allocator;
@@ -82,7 +75,7 @@ impl<L: Layout, const SLOTS: usize, A: Allocator + Copy> Trie<L, SLOTS, A> {
         ensures told { TellsBreaks (S.broken reader.old) (S.broken reader.new) result }
         ensures lacks { IfErr result (LacksNoMore (Passes (layout_byte L.kind) SLOTS memory_limit (S.remaining reader.old))) }
     {
-        uncounted::<Brand, Brand, Self, A, S>(
+        load_uncounted::<Brand, Brand, Self, A, S>(
             alloc,
             reader,
             memory_limit,

@@ -4,7 +4,6 @@ mod load;
 mod paths;
 mod replace;
 mod save;
-mod uncounted;
 
 pub mod v1 {
     //! Version 1 of the file format, minor 0 and 1: its numbers, headers and fields.

@@ -1,13 +1,7 @@
 //! Files by their paths, through a buffer.
 
-ghost use Rattle.std.specs.Prelude.{◌≡◌, ◌≤◌, ℕ, IfErr, IfOk, None, OnOk, length};
-ghost use Rattle.cedar_slots.specs.Places.{IsSlotLimit};
-ghost use Rattle.cedar_model.specs.Table.Layouts.{layout_byte};
-ghost use Rattle.cedar_model.specs.Meaning.WellFormed.{IsWellFormed};
-ghost use Rattle.cedar_format.specs.Format.{header_answer, need};
-ghost use Rattle.cedar_format.specs.Tables.{header_of, table_bytes, IsTableFile};
-ghost use Rattle.cedarwood.specs.Loading.{LacksByPath};
-ghost use Rattle.cedarwood.specs.Saving.{FailsToSave};
+ghost use Rattle.std.specs.Prelude.{◌≡◌, ◌≤◌, IfErr, IfOk, None, OnOk, length, ℕ};
+ghost use Rattle.cedarwood.specs.Words.{FailsToSave, IsSlotLimit, IsTableFile, IsWellFormed, LacksByPath, header_answer, header_of, layout_byte, need, table_bytes};
 
 use crate::persistence::replace::{Version, no_buffer};
 use crate::{CedarPersistenceError, Layout, Trie, Watched};

@@ -2,7 +2,7 @@
 
 ghost use Rattle.std.specs.Prelude.{◌≡◌, ◌+◌, IfErr, length};
 ghost use Rattle.cedar_format.specs.declared.error.CedarPersistenceError.TheVariants.{AllocationFailed};
-ghost use Rattle.cedarwood.specs.Saving.{FailsToSave, FailsToWrite};
+ghost use Rattle.cedarwood.specs.Words.{FailsToSave, FailsToWrite};
 
 use crate::{CedarPersistenceError, Layout, Trie, Watched};
 use std::alloc::{AllocError, Allocator};

@@ -1,12 +1,7 @@
 //! How a dictionary is saved.
 
-ghost use Rattle.std.specs.Prelude.{◌≡◌, ◌≤◌, ℕ, true, IfErr, None, OnOk};
-ghost use Rattle.std.specs.Io.KnownBytes.{Appends};
-ghost use Rattle.cedar_format.specs.Reading.{IsIo};
-ghost use Rattle.cedar_format.specs.Format.{header_answer, need};
-ghost use Rattle.cedar_format.specs.Tables.{header_of, table_bytes, IsTableFile};
-ghost use Rattle.cedar_model.specs.Table.Layouts.{layout_byte};
-ghost use Rattle.cedar_format.specs.WatchedDevice.{device_of, has_failed};
+ghost use Rattle.std.specs.Prelude.{◌≡◌, ◌≤◌, IfErr, None, OnOk, true, ℕ};
+ghost use Rattle.cedarwood.specs.Words.{Appends, IsIo, IsTableFile, device_of, has_failed, header_answer, header_of, layout_byte, need, table_bytes};
 
 use crate::{CedarPersistenceError, Layout, Trie, Watched};
 use cedar_file::write_table;

@@ -1,7 +1,7 @@
 //! The walks of a dictionary: the prefix walk and the prediction, as iterators and collected, and all entries.
 
-ghost use Rattle.std.specs.Prelude.{◌≡◌, ◌<◌, IfErr, IfOk, length};
-ghost use Rattle.cedar_tree.specs.Queries.{front, predict, walk};
+ghost use Rattle.std.specs.Prelude.{◌<◌, ◌≡◌, IfErr, IfOk, length};
+ghost use Rattle.cedarwood.specs.Words.{IsBlankOf, front, predict, walk};
 
 use crate::queries::counted::CountedPrefixIter;
 use crate::queries::entries::{Entries, Utf8Entries};
@@ -58,9 +58,7 @@ impl<L: Layout, const SLOTS: usize, A: Allocator + Copy> Trie<L, SLOTS, A> {
         query: &'a [u8],
         blank: Blank,
     ) -> CountedPrefixIter<'a, Self, C>
-        requires name { blank.name ≡ C.name }
-        requires parts { blank.parts ≡ C.parts }
-        requires some { 0 < blank.parts }
+        requires { IsBlankOf C.name C.parts blank }
         ensures rest { result.rest ≡ front self.now.state.tree query.now }
         ensures ticks { result.ticks ≡ 0 }
         ensures query { result.query ≡ length query.now }

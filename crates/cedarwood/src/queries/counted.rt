@@ -1,8 +1,7 @@
 //! The prefix walk with a count of its own.
 
-ghost use Rattle.std.specs.Prelude.{◌≡◌, ◌+◌, ◌*◌, ◌<◌, ◌≤◌};
-ghost use Rattle.std.specs.Iterator.{item_count, YieldsFirst};
-ghost use Rattle.cedarwood.specs.Walks.{CountedWalk};
+ghost use Rattle.std.specs.Prelude.{◌*◌, ◌+◌, ◌<◌, ◌≡◌, ◌≤◌};
+ghost use Rattle.cedarwood.specs.Words.{CountedWalk, IsBlankOf, YieldsFirst, counted_walk_code, item_count};
 
 use crate::Ticks;
 use crate::queries::prefix::PrefixIter;
@@ -21,9 +20,6 @@ pub struct CountedPrefixIter<'a, T: Walked, C: Ledger> {
 }
 
 impl<'a, T: Walked, C: Ledger> Model for CountedPrefixIter<'a, T, C> {
-    ghost use Rattle.std.specs.Prelude.{◌+◌, ◌*◌, ◌≤◌};
-    ghost use Rattle.cedarwood.specs.Walks.{counted_walk_code, CountedWalk};
-
     ghost Value = { CountedWalk };
 
     ghost coded = { counted_walk_code };
@@ -35,9 +31,7 @@ impl<'a, T: Walked, C: Ledger> Model for CountedPrefixIter<'a, T, C> {
 
 impl<'a, T: Walked, C: Ledger> CountedPrefixIter<'a, T, C> {
     pub(crate) fn new(walk: PrefixIter<'a, T>, blank: Blank) -> Self
-        requires name { blank.name ≡ C.name }
-        requires parts { blank.parts ≡ C.parts }
-        requires some { 0 < blank.parts }
+        requires blank { IsBlankOf C.name C.parts blank }
         requires begins { walk.left ≡ walk.query }
         ensures rest { result.rest ≡ walk.entry.rest }
         ensures ticks { result.ticks ≡ 0 }

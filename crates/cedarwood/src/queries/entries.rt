@@ -1,15 +1,9 @@
 //! All keys and their values.
 
-ghost use Rattle.std.specs.Prelude.{◌≡◌, ◌<◌, List, [], ◌∷◌, ◌↔◌, IfOk, IfSome, IsTrue, length, MatchOption, MatchResult, Some, string_bytes};
-ghost use Rattle.std.specs.Iterator.{item_count, UpTo};
-ghost use Rattle.std.specs.Iterator.SizeHint.{IsWithinCount};
-ghost use Rattle.cedar_tree.specs.Queries.{Entry};
+ghost use Rattle.std.specs.Prelude.{◌<◌, ◌↔◌, ◌∷◌, ◌≡◌, IfOk, IfSome, IsTrue, List, MatchOption, MatchResult, Some, [], length, string_bytes};
+ghost use Rattle.cedarwood.specs.Words.{ComesToEntry, Entry, IsEntriesPlace, IsEntryError, IsWellFormed, IsWithinCount, UpTo, entries_from, item_count, left_at, tree_of, walk};
 ghost use Rattle.cedar_tree.specs.Walks.{entries_of};
-ghost use Rattle.cedar_walk.specs.Visits.{left_at};
-ghost use Rattle.cedar_model.specs.Meaning.WellFormed.{IsWellFormed};
 ghost use Rattle.cedarwood.specs.declared.error.CedarError.TheVariants.{Memory};
-ghost use Rattle.cedarwood.specs.WalkPlaces.{ComesToEntry, IsEntriesPlace};
-ghost use Rattle.cedarwood.specs.Walks.{IsEntryError};
 
 use crate::CedarError;
 use crate::queries::walked::Walked;
@@ -32,11 +26,6 @@ pub struct Entries<'a, T: Walked, A: Allocator + Copy> {
 }
 
 impl<'a, T: Walked, A: Allocator + Copy> Model for Entries<'a, T, A> {
-    ghost use Rattle.std.specs.Prelude.{◌≡◌, ◌<◌, length, List};
-    ghost use Rattle.cedar_tree.specs.Queries.{Entry};
-    ghost use Rattle.cedar_model.specs.Meaning.WellFormed.{IsWellFormed};
-    ghost use Rattle.cedarwood.specs.WalkPlaces.{entries_from, IsEntriesPlace};
-
     ghost Value = { List Entry };
 
     ghost view = { λ it. entries_from (T.shown it.trie.now) it.key.items it.slot it.left };
@@ -68,9 +57,6 @@ fn next_entry<T: Walked, A: Allocator>(
 }
 
 impl<'a, T: Walked, A: Allocator + Copy> Entries<'a, T, A> {
-    ghost use Rattle.cedar_tree.specs.Queries.{walk};
-    ghost use Rattle.cedar_model.specs.Meaning.WellFormed.{tree_of};
-
     // All entries, of which there are so many.
     pub(crate) fn new(trie: &'a T, alloc: A, entries: usize) -> Self
         requires well_formed { IsWellFormed T.slots (T.shown trie.now) }
@@ -190,9 +176,6 @@ pub struct Utf8Entries<'a, T: Walked, A: Allocator + Copy> {
 }
 
 impl<'a, T: Walked, A: Allocator + Copy> Model for Utf8Entries<'a, T, A> {
-    ghost use Rattle.std.specs.Prelude.{List};
-    ghost use Rattle.cedar_tree.specs.Queries.{Entry};
-
     ghost Value = { List Entry };
 
     ghost view = { λ it. it.entries };

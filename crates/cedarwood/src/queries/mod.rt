@@ -4,7 +4,6 @@ mod batch;
 mod calls;
 pub(crate) mod counted;
 pub(crate) mod entries;
-pub(crate) mod exact;
 pub(crate) mod predict;
 pub(crate) mod prefix;
 pub(crate) mod walked;

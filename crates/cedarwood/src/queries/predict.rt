@@ -1,10 +1,7 @@
 //! The prediction: the numbers of all keys that begin with a query.
 
-ghost use Rattle.std.specs.Prelude.{◌≡◌, ⊤, ℕ, ℤ, List, [], IfSome, None, MatchOption};
-ghost use Rattle.std.specs.Iterator.{item_count, UpTo, YieldsFirst};
-ghost use Rattle.std.specs.Iterator.SizeHint.{IsWithinCount};
-ghost use Rattle.cedar_model.specs.Meaning.WellFormed.{IsWellFormed};
-ghost use Rattle.cedarwood.specs.WalkPlaces.{GoesOnTo, IsPredictPlace, predicted_from};
+ghost use Rattle.std.specs.Prelude.{◌≡◌, IfSome, List, MatchOption, None, [], ℕ, ℤ, ⊤};
+ghost use Rattle.cedarwood.specs.Words.{GoesOnTo, IsPredictPlace, IsWellFormed, IsWithinCount, UpTo, YieldsFirst, item_count, predict, predicted_from, tree_of};
 
 use crate::queries::walked::Walked;
 use cedar_walk::Numbered;
@@ -35,12 +32,7 @@ pub struct PrefixPredictIter<'a, T: Walked> {
 }
 
 impl<'a, T: Walked> Model for PrefixPredictIter<'a, T> {
-    ghost use Rattle.std.specs.Prelude.{ℕ, ℤ, List};
-
     ghost Value = { List (ℤ × ℕ) };
-
-    ghost use Rattle.cedar_model.specs.Meaning.WellFormed.{IsWellFormed};
-    ghost use Rattle.cedarwood.specs.WalkPlaces.{IsPredictPlace, predicted_from};
 
     ghost view = { λ it. predicted_from (T.shown it.trie.now) it.query.now it.place };
 
@@ -48,9 +40,6 @@ impl<'a, T: Walked> Model for PrefixPredictIter<'a, T> {
 }
 
 impl<'a, T: Walked> PrefixPredictIter<'a, T> {
-    ghost use Rattle.cedar_tree.specs.Queries.{predict};
-    ghost use Rattle.cedar_model.specs.Meaning.WellFormed.{IsWellFormed, tree_of};
-
     // Before the query's node is looked for.
     pub(crate) fn new(trie: &'a T, query: &'a [u8]) -> Self
         requires { IsWellFormed T.slots (T.shown trie.now) }

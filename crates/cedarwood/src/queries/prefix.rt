@@ -1,9 +1,7 @@
 //! The prefix walk: the numbers of the fronts of a query that are held.
 
-ghost use Rattle.std.specs.Prelude.{◌≡◌, ◌+◌, ◌*◌, ◌<◌, ◌≤◌, ⊤, IfSome, Some, length};
-ghost use Rattle.std.specs.Iterator.{item_count, MakesProgress, UpTo, YieldsFirst};
-ghost use Rattle.std.specs.Iterator.SizeHint.{IsWithinCount};
-ghost use Rattle.cedarwood.specs.Walks.{PrefixWalk};
+ghost use Rattle.std.specs.Prelude.{◌*◌, ◌+◌, ◌-◌, ◌<◌, ◌≡◌, ◌≤◌, IfSome, Some, length, ⊤};
+ghost use Rattle.cedarwood.specs.Words.{IsBlankOf, IsPrefixPlace, IsWellFormed, IsWithinCount, MakesProgress, PrefixWalk, UpTo, YieldsFirst, front, front_from, item_count, prefix_walk_code, tree_of};
 
 use crate::Ticks;
 use crate::queries::walked::Walked;
@@ -26,12 +24,6 @@ pub struct PrefixIter<'a, T: Walked> {
 }
 
 impl<'a, T: Walked> Model for PrefixIter<'a, T> {
-    ghost use Rattle.std.specs.Prelude.{◌-◌, length};
-    ghost use Rattle.cedar_tree.specs.Walks.{front_from};
-    ghost use Rattle.cedar_model.specs.Meaning.WellFormed.{tree_of};
-    ghost use Rattle.cedarwood.specs.Walks.{PrefixWalk, prefix_walk_code};
-    ghost use Rattle.cedarwood.specs.WalkPlaces.{IsPrefixPlace};
-
     ghost Value = { PrefixWalk };
 
     ghost coded = { prefix_walk_code };
@@ -46,9 +38,6 @@ impl<'a, T: Walked> Model for PrefixIter<'a, T> {
 }
 
 impl<'a, T: Walked> PrefixIter<'a, T> {
-    ghost use Rattle.cedar_tree.specs.Queries.{front};
-    ghost use Rattle.cedar_model.specs.Meaning.WellFormed.{IsWellFormed, tree_of};
-
     // Before the first byte of the query.
     pub(crate) fn new(trie: &'a T, query: &'a [u8]) -> Self
         requires { IsWellFormed T.slots (T.shown trie.now) }
@@ -139,9 +128,7 @@ fn uncounted_step<C: Ledger, T: Walked>(
     walk: &mut PrefixIter<'_, T>,
     blank: Blank,
 ) -> Option<(i32, usize)>
-    requires name { blank.name ≡ C.name }
-    requires parts { blank.parts ≡ C.parts }
-    requires some { 0 < blank.parts }
+    requires { IsBlankOf C.name C.parts blank }
     ensures gives { YieldsFirst (λ (walk : PrefixWalk). walk.rest) walk.old result walk.new }
     ensures query { walk.new.query ≡ walk.old.query }
 {

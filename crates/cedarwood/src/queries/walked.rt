@@ -1,5 +1,9 @@
 //! What walks that are under way ask of a dictionary.
 
+ghost use Rattle.std.specs.Prelude.{◌*◌, ◌+◌, ◌-◌, ◌<◌, ◌∷◌, ◌≡◌, ◌≤◌, List, MatchOption, [], length, ℕ};
+ghost use Rattle.cedarwood.specs.Words.{ComesTo, ComesToNumber, Fields, IsBelow, IsNumberedBelow, IsOnQuery, IsWellFormed, cells_in, front_from, left_at, node_at, passed, path_to, tree_of, walk};
+ghost use Rattle.cedar_tree.specs.Walks.{entries_of};
+
 use crate::{Layout, Ticks, Trie};
 use cedar_walk::{
     Front, Numbered, Visited, first_numbered, next_held_front, node_after, numbered_after,
@@ -10,14 +14,6 @@ use std::sync::ledger::Ledger;
 /// A dictionary, as its walks see it: any [`Trie`]. A walk knows it by this trait alone, since a call on a type with a const
 /// parameter asks for the size of that type, of which a borrow says nothing.
 pub trait Walked {
-    ghost use Rattle.std.specs.Prelude.{◌≡◌, ℕ, List, ◌∷◌, [], ◌+◌, ◌*◌, ◌-◌, ◌<◌, ◌≤◌, length, MatchOption};
-    ghost use Rattle.cedar_tree.specs.Queries.{node_at, walk};
-    ghost use Rattle.cedar_tree.specs.Walks.{entries_of, front_from};
-    ghost use Rattle.cedar_walk.specs.Fronts.{IsOnQuery, passed};
-    ghost use Rattle.cedar_model.specs.Table.TableFields.{Fields};
-    ghost use Rattle.cedar_walk.specs.Visits.{ComesTo, ComesToNumber, IsBelow, IsNumberedBelow, left_at, path_to};
-    ghost use Rattle.cedar_model.specs.Meaning.WellFormed.{cells_in, IsWellFormed, tree_of};
-
     /// How many slots it may have, and the table that it is kept in.
     ghost slots: { ℕ };
 

@@ -1,36 +1,54 @@
-use Rattle.std.proofs.Common.{◌≡◌, ◌∙◌, ap, sym, rules, None, Err, []}
+use Rattle.std.proofs.Common.{◌≡◌, ◌∙◌, ap, sym, rules, None, Err, Option, []}
 use Rattle.std.proofs.lemmas.Result.{err_from_is_err_and}
 use Rattle.cedar_bulk.specs.Sorted.{entries_by}
+use Rattle.cedarwood.specs.declared.error.CedarError.{CedarError}
 use Rattle.cedarwood.specs.SortedInput.{fault_from}
 use Rattle.cedarwood.proofs.FaultLemmas.{no_fault}
 use Rattle.cedarwood.proofs.GrowthLemmas.{capacity_by_blocks}
+use Rattle.cedarwood.proofs.MakingLemmas.{refused_build}
 use Rattle.cedarwood.proofs.SortedInputLemmas.{fault_handed_on, faultless, sorted_from}
 use Rattle.cedarwood.proofs.UpdateLemmas.{has_fault}
 use Rattle.cedarwood.proofs.trie.Trie.from_sorted_keys.Goals as goal
 
-pub returns-in_err-check_sorted-clause-faulty : goal.returns-in_err-check_sorted-clause-faulty
-returns-in_err-check_sorted-clause-faulty g c =
+pub returns-in_err-check_sorted : goal.returns-in_err-check_sorted
+returns-in_err-check_sorted g c =
     let p = err_from_is_err_and c.from_residual.result c.from_residual.ensures.1 in
-    fault_handed_on (fault_from 0 [] (entries_by g.K.AsSlice.items c.args.pairs.now)) c.check_sorted.result c.from_residual.result c.in_err-check_sorted.field-0.0 c.check_sorted.ensures.faulty c.check_sorted.ensures.sound c.in_err-check_sorted.was (p.1 ∙ ap Err p.2)
-
-pub returns-in_err-check_sorted-clause-refused : goal.returns-in_err-check_sorted-clause-refused
-returns-in_err-check_sorted-clause-refused g c = λ fine. absurd (has_fault (fault_from 0 [] (entries_by g.K.AsSlice.items c.args.pairs.now)) c.check_sorted.result c.in_err-check_sorted.field-0.0 c.check_sorted.ensures.sound c.in_err-check_sorted.was fine)
+    let first : Option CedarError = fault_from 0 [] (entries_by g.K.AsSlice.items c.args.pairs.now) in
+    let test = c.check_sorted in
+    let error = c.in_err-check_sorted in
+    record {
+      built = record {
+        faulty = fault_handed_on first test.result c.from_residual.result error.field-0.0 test.ensures.faulty test.ensures.sound error.was (p.1 ∙ ap Err p.2);
+        sorted = search rules;
+        refused = λ fine. absurd (has_fault first test.result error.field-0.0 test.ensures.sound error.was fine);
+      };
+    }
 
 pub build_sorted-requires : goal.build_sorted-requires
 build_sorted-requires g c =
-    let fine : fault_from 0 [] (entries_by g.K.AsSlice.items c.args.pairs.now) ≡ None = no_fault (fault_from 0 [] (entries_by g.K.AsSlice.items c.args.pairs.now)) c.check_sorted.result tt c.check_sorted.ensures.faulty c.in_ok-check_sorted.was in
+    let first : Option CedarError = fault_from 0 [] (entries_by g.K.AsSlice.items c.args.pairs.now) in
+    let fine : first ≡ None = no_fault first c.check_sorted.result tt c.check_sorted.ensures.faulty c.in_ok-check_sorted.was in
     let k = sorted_from 0 [] (entries_by g.K.AsSlice.items c.args.pairs.now) c.in_ok-check_sorted.ensures.bytes fine in
     (search rules, (search rules, (c.requires.limit, (k.keys, (k.sorted, k.values)))))
 
-pub returns-in_err-build_sorted-clause-faulty : goal.returns-in_err-build_sorted-clause-faulty
-returns-in_err-build_sorted-clause-faulty g c =
-    faultless (fault_from 0 [] (entries_by g.K.AsSlice.items c.args.pairs.now)) c.from_residual-in_err-build_sorted.result (no_fault (fault_from 0 [] (entries_by g.K.AsSlice.items c.args.pairs.now)) c.check_sorted.result tt c.check_sorted.ensures.faulty c.in_ok-check_sorted.was)
+pub returns-in_err-build_sorted : goal.returns-in_err-build_sorted
+returns-in_err-build_sorted g c =
+    let pairs = entries_by g.K.AsSlice.items c.args.pairs.now in
+    let first : Option CedarError = fault_from 0 [] pairs in
+    let fine : first ≡ None = no_fault first c.check_sorted.result tt c.check_sorted.ensures.faulty c.in_ok-check_sorted.was in
+    let refusal = c.from_residual-in_err-build_sorted in
+    let p = err_from_is_err_and refusal.result refusal.ensures.1 in
+    record { built = refused_build g.L.Layout.kind g.row.SLOTS c.args.builder pairs refusal.result p.0 c.in_err-build_sorted.field-0.0 fine p.1 p.2 c.in_err-build_sorted.ensures.refused }
 
-pub returns-clause-faulty : goal.returns-clause-faulty
-returns-clause-faulty g c =
-    faultless (fault_from 0 [] (entries_by g.K.AsSlice.items c.args.pairs.now)) _ (no_fault (fault_from 0 [] (entries_by g.K.AsSlice.items c.args.pairs.now)) c.check_sorted.result tt c.check_sorted.ensures.faulty c.in_ok-check_sorted.was)
-
-pub returns-clause-size : goal.returns-clause-size
-returns-clause-size g c =
+pub returns : goal.returns
+returns g c =
+    let first : Option CedarError = fault_from 0 [] (entries_by g.K.AsSlice.items c.args.pairs.now) in
+    let fine : first ≡ None = no_fault first c.check_sorted.result tt c.check_sorted.ensures.faulty c.in_ok-check_sorted.was in
     let b = c.in_ok-build_sorted.ensures.blocks in
-    (b.0, b.1, b.2, b.3 ∙ sym (capacity_by_blocks b.0 1 1))
+    record {
+      built = record {
+        faulty = faultless first _ fine;
+        sorted = record { tree = search rules; marks = search rules; ordered = search rules; max_trial = search rules; size = (b.0, b.1, b.2, b.3 ∙ sym (capacity_by_blocks b.0 1 1)) };
+        refused = search rules;
+      };
+    }

@@ -8,44 +8,10 @@ pub returns-in-Ok : goal.returns-in-Ok
 returns-in-Ok g c =
     let fits : FitsSigned w32 c.args.value = search rules in
     let r : Result (Unit {0}) CedarError = Ok tt in
-    let u = subst (λ (v : ℤ). IsUpdate g.L.Layout.kind g.row.SLOTS c.args.self.now c.insert_bytes.new.self c.args.key.now v r) (to_z-of_z w32 c.args.value fits) c.in-Ok.ensures.updated in record {
-      faulty = u.faulty;
-      unchanged = u.unchanged;
-      ok = u.ok;
-      err = u.err;
-      marks = u.marks;
-      marked = u.marked;
-      marks_stay = u.marks_stay;
-      refused = u.refused;
-      memory = u.memory;
-      limit = u.limit;
-      blocks = u.blocks;
-      spare = u.spare;
-      over = u.over;
-      one_byte = u.one_byte;
-      max_trial = u.max_trial;
-      updated = u;
-    }
+    record { updated = subst (λ (v : ℤ). IsUpdate g.L.Layout.kind g.row.SLOTS c.args.self.now c.insert_bytes.new.self c.args.key.now v r) (to_z-of_z w32 c.args.value fits) c.in-Ok.ensures.updated }
 
 pub returns-in-Err : goal.returns-in-Err
 returns-in-Err g c =
     let fits : FitsSigned w32 c.args.value = search rules in
     let r : Result (Unit {0}) CedarError = Err c.in-Err.error in
-    let u = subst (λ (v : ℤ). IsUpdate g.L.Layout.kind g.row.SLOTS c.args.self.now c.insert_bytes.new.self c.args.key.now v r) (to_z-of_z w32 c.args.value fits) c.in-Err.ensures.updated in record {
-      faulty = u.faulty;
-      unchanged = u.unchanged;
-      ok = u.ok;
-      err = u.err;
-      marks = u.marks;
-      marked = u.marked;
-      marks_stay = u.marks_stay;
-      refused = u.refused;
-      memory = u.memory;
-      limit = u.limit;
-      blocks = u.blocks;
-      spare = u.spare;
-      over = u.over;
-      one_byte = u.one_byte;
-      max_trial = u.max_trial;
-      updated = u;
-    }
+    record { updated = subst (λ (v : ℤ). IsUpdate g.L.Layout.kind g.row.SLOTS c.args.self.now c.insert_bytes.new.self c.args.key.now v r) (to_z-of_z w32 c.args.value fits) c.in-Err.ensures.updated }
