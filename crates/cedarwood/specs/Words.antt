@@ -1,6 +1,7 @@
 -- The words that the public clauses cite, from one place: a caller's crate takes them from here, and so do this crate's own sources.
 pub use Rattle.cedar_bulk.specs.Sorted.{Pair, entries_by, entries_of}
 pub use Rattle.cedar_bulk.specs.SortedMarks.{SortedMarks}
+pub use Rattle.cedar_file.specs.Loading.{LoadsBy}
 pub use Rattle.cedar_format.specs.Format.{CountsWithin, IsVersion, Passes, header_answer, need}
 pub use Rattle.cedar_format.specs.Reading.{IsIo, LacksNoMore, TellsBreaks}
 pub use Rattle.cedar_format.specs.Tables.{IsTableFile, header_of, table_bytes}

@@ -1,7 +1,7 @@
 //! Calls whose steps are counted, made with counts of their own, which nothing reads.
 
-ghost use Rattle.std.specs.Prelude.{◌++◌, ◌≡◌, IfErr, IfOk, IfSome, None, drop, false, length, map, take, true, ℕ};
-ghost use Rattle.cedarwood.specs.Words.{Consumes, Fields, IsBlankOf, IsIo, IsSlotLimit, IsSound, IsVersion, IsWellFormed, LacksNoMore, LayoutKind, LoadAnswers, Passes, TellsBreaks, Tree, exact, keys_of, layout_byte, table_bytes, value_fault};
+ghost use Rattle.std.specs.Prelude.{◌++◌, ◌≡◌, IfSome, None, drop, length, map, take, ℕ};
+ghost use Rattle.cedarwood.specs.Words.{Fields, IsBlankOf, IsSlotLimit, IsSound, LayoutKind, LoadsBy, TellsBreaks, Tree, exact, keys_of, value_fault};
 
 use crate::{CedarPersistenceError, Layout, Source, Ticks, Trie};
 use cedar_walk::exact_match_search_batch;
@@ -43,12 +43,8 @@ pub(crate) trait Counted<A: Allocator + Copy> {
         reads: &mut Ticks<D>,
     ) -> Result<Self, CedarPersistenceError>
         requires { IsSlotLimit slots }
-        ensures bytes { IfOk result (λ x. (version : ℕ) × IsVersion version × Consumes (S.remaining reader.old) (S.remaining reader.new) (table_bytes version (table x))) }
-        ensures formed { IfOk result (λ x. IsWellFormed slots (table x)) }
-        ensures answer { IfSome (S.remaining reader.old) (λ bytes. S.failed reader.new ≡ false → LoadAnswers table kind slots memory_limit bytes result) }
-        ensures io { IfErr result (λ e. IsIo e → S.failed reader.new ≡ true) }
-        ensures told { TellsBreaks (S.broken reader.old) (S.broken reader.new) result }
-        ensures lacks { IfErr result (LacksNoMore (Passes (layout_byte kind) slots memory_limit (S.remaining reader.old))) };
+        ensures loads { LoadsBy table kind slots memory_limit (S.remaining reader.old) (S.remaining reader.new) (S.failed reader.new) result }
+        ensures told { TellsBreaks (S.broken reader.old) (S.broken reader.new) result };
 }
 
 impl<L: Layout, const SLOTS: usize, A: Allocator + Copy> Counted<A> for Trie<L, SLOTS, A> {
@@ -122,12 +118,8 @@ pub(crate) fn load_uncounted<C: Ledger, D: Ledger, T: Counted<A>, A: Allocator +
     requires limit { IsSlotLimit T.slots }
     requires asked_blank { IsBlankOf C.name C.parts asked_blank }
     requires reads_blank { IsBlankOf D.name D.parts reads_blank }
-    ensures bytes { IfOk result (λ x. (version : ℕ) × IsVersion version × Consumes (S.remaining reader.old) (S.remaining reader.new) (table_bytes version (T.table x))) }
-    ensures formed { IfOk result (λ x. IsWellFormed T.slots (T.table x)) }
-    ensures answer { IfSome (S.remaining reader.old) (λ bytes. S.failed reader.new ≡ false → LoadAnswers T.table T.kind T.slots memory_limit bytes result) }
-    ensures io { IfErr result (λ e. IsIo e → S.failed reader.new ≡ true) }
+    ensures loads { LoadsBy T.table T.kind T.slots memory_limit (S.remaining reader.old) (S.remaining reader.new) (S.failed reader.new) result }
     ensures told { TellsBreaks (S.broken reader.old) (S.broken reader.new) result }
-    ensures lacks { IfErr result (LacksNoMore (Passes (layout_byte T.kind) T.slots memory_limit (S.remaining reader.old))) }
 {
     let asked = &mut Ticks::<C>::new(asked_blank);
     let reads = &mut Ticks::<D>::new(reads_blank);

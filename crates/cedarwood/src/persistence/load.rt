@@ -1,7 +1,7 @@
 //! How a dictionary is loaded: from a watched reader, or from bytes in memory.
 
-ghost use Rattle.std.specs.Prelude.{◌*◌, ◌+◌, ◌≡◌, IfErr, IfOk, IfSome, false, true, ℕ};
-ghost use Rattle.cedarwood.specs.Words.{Consumes, CountsWithin, IsIo, IsSlotLimit, IsVersion, IsWellFormed, LacksNoMore, LoadAnswers, Passes, TellsBreaks, layout_byte, need, table_bytes};
+ghost use Rattle.std.specs.Prelude.{◌*◌, ◌+◌};
+ghost use Rattle.cedarwood.specs.Words.{CountsWithin, IsSlotLimit, LoadsBy, TellsBreaks, layout_byte, need};
 
 use crate::counted::load_uncounted;
 use crate::{CedarPersistenceError, DEFAULT_LOAD_MEMORY_LIMIT, Layout, Source, Ticks, Trie};
@@ -31,17 +31,9 @@ impl<L: Layout, const SLOTS: usize, A: Allocator + Copy> Trie<L, SLOTS, A> {
         reads: &mut Ticks<D>,
     ) -> Result<Self, CedarPersistenceError>
         requires limit { IsSlotLimit SLOTS }
-
-        // Whatever the reader does, a dictionary comes only with just the bytes of its table, which is well-formed.
-        ensures bytes { IfOk result (λ trie. (version : ℕ) × IsVersion version × Consumes (S.remaining reader.old) (S.remaining reader.new) (table_bytes version trie.table)) }
-        ensures formed { IfOk result (λ trie. IsWellFormed SLOTS trie.table) }
-
-        // A reader that tells its bytes and does not fail, as bytes in memory, gets the answer that they decide.
-        ensures answer { IfSome (S.remaining reader.old) (λ bytes. S.failed reader.new ≡ false → LoadAnswers (λ trie. trie.table) L.kind SLOTS memory_limit bytes result) }
-        ensures io { IfErr result (λ e. IsIo e → S.failed reader.new ≡ true) }
+        ensures loads { LoadsBy (λ trie. trie.table) L.kind SLOTS memory_limit (S.remaining reader.old) (S.remaining reader.new) (S.failed reader.new) result }
         // A read that was broken off is told as no success and no end of the input.
         ensures told { TellsBreaks (S.broken reader.old) (S.broken reader.new) result }
-        ensures lacks { IfErr result (LacksNoMore (Passes (layout_byte L.kind) SLOTS memory_limit (S.remaining reader.old))) }
 
         // Before the header has passed nothing is asked of memory and no record is read for the test.
         ensures asked { CountsWithin (layout_byte L.kind) SLOTS memory_limit (S.remaining reader.old) need asked.old asked.new }
@@ -68,12 +60,8 @@ impl<L: Layout, const SLOTS: usize, A: Allocator + Copy> Trie<L, SLOTS, A> {
         memory_limit: usize,
     ) -> Result<Self, CedarPersistenceError>
         requires limit { IsSlotLimit SLOTS }
-        ensures bytes { IfOk result (λ trie. (version : ℕ) × IsVersion version × Consumes (S.remaining reader.old) (S.remaining reader.new) (table_bytes version trie.table)) }
-        ensures formed { IfOk result (λ trie. IsWellFormed SLOTS trie.table) }
-        ensures answer { IfSome (S.remaining reader.old) (λ bytes. S.failed reader.new ≡ false → LoadAnswers (λ trie. trie.table) L.kind SLOTS memory_limit bytes result) }
-        ensures io { IfErr result (λ e. IsIo e → S.failed reader.new ≡ true) }
+        ensures loads { LoadsBy (λ trie. trie.table) L.kind SLOTS memory_limit (S.remaining reader.old) (S.remaining reader.new) (S.failed reader.new) result }
         ensures told { TellsBreaks (S.broken reader.old) (S.broken reader.new) result }
-        ensures lacks { IfErr result (LacksNoMore (Passes (layout_byte L.kind) SLOTS memory_limit (S.remaining reader.old))) }
     {
         load_uncounted::<Brand, Brand, Self, A, S>(
             alloc,
@@ -102,12 +90,8 @@ impl<L: Layout, const SLOTS: usize, A: Allocator + Copy> Trie<L, SLOTS, A> {
         reader: &mut S,
     ) -> Result<Self, CedarPersistenceError>
         requires limit { IsSlotLimit SLOTS }
-        ensures bytes { IfOk result (λ trie. (version : ℕ) × IsVersion version × Consumes (S.remaining reader.old) (S.remaining reader.new) (table_bytes version trie.table)) }
-        ensures formed { IfOk result (λ trie. IsWellFormed SLOTS trie.table) }
-        ensures answer { IfSome (S.remaining reader.old) (λ bytes. S.failed reader.new ≡ false → LoadAnswers (λ trie. trie.table) L.kind SLOTS 536870912 bytes result) }
-        ensures io { IfErr result (λ e. IsIo e → S.failed reader.new ≡ true) }
+        ensures loads { LoadsBy (λ trie. trie.table) L.kind SLOTS 536870912 (S.remaining reader.old) (S.remaining reader.new) (S.failed reader.new) result }
         ensures told { TellsBreaks (S.broken reader.old) (S.broken reader.new) result }
-        ensures lacks { IfErr result (LacksNoMore (Passes (layout_byte L.kind) SLOTS 536870912 (S.remaining reader.old))) }
     {
         Self::load_from_reader_with_limit(alloc, reader, DEFAULT_LOAD_MEMORY_LIMIT)
     }

@@ -1,12 +1,13 @@
+use Rattle.std.proofs.Common.{refl}
 use Rattle.std.proofs.lemmas.Result.{err_from_is_err_and}
+use Rattle.cedar_table.specs.Table.Views.{fields}
+use Rattle.cedar_file.proofs.LoadLemmas.{stands_in, stays_refused}
 use Rattle.cedarwood.proofs.trie.Trie.load_counted.Goals as goal
 
-pub returns-in_err-table-clause-answer : goal.returns-in_err-table-clause-answer
-returns-in_err-table-clause-answer g c =
+pub returns-in_err-table-clause-loads : goal.returns-in_err-table-clause-loads
+returns-in_err-table-clause-loads g c =
     let p = err_from_is_err_and c.from_residual.result c.from_residual.ensures.1 in
-    rw (p.1, p.2) c.in_err-table.ensures.answer
+    rw (p.1, p.2) (stays_refused (λ t. fields t) (λ trie. trie.table) g.L.Layout.kind g.row.SLOTS c.args.memory_limit _ _ _ _ c.in_err-table.ensures.loads)
 
-pub returns-in_err-table-clause-io : goal.returns-in_err-table-clause-io
-returns-in_err-table-clause-io g c =
-    let p = err_from_is_err_and c.from_residual.result c.from_residual.ensures.1 in
-    rw (p.1, p.2) c.in_err-table.ensures.io
+pub returns-clause-loads : goal.returns-clause-loads
+returns-clause-loads g c = stands_in (λ t. fields t) (λ trie. trie.table) g.L.Layout.kind g.row.SLOTS c.args.memory_limit _ _ _ c.in_ok-table.table _ refl c.in_ok-table.ensures.loads

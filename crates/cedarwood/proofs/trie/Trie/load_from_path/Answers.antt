@@ -5,4 +5,4 @@ use Rattle.cedarwood.proofs.trie.Trie.load_from_path.Goals as goal
 
 pub returns-clause-lacks : goal.returns-clause-lacks
 returns-clause-lacks g c =
-    IfErr-weaker c.load_from_reader.result _ _ (λ e. lacks_by_path (layout_byte g.L.Layout.kind) g.row.SLOTS 536870912 _ e) c.load_from_reader.ensures.lacks
+    IfErr-weaker c.load_from_reader.result _ _ (λ e. lacks_by_path (layout_byte g.L.Layout.kind) g.row.SLOTS 536870912 _ e) c.load_from_reader.ensures.loads.lacks
