@@ -155,6 +155,12 @@ size_t cedar_used_slots(cedar *d);
 size_t cedar_capacity(cedar *d);
 size_t cedar_spare_blocks(cedar *d);
 
+/* Asks for the memory of so many blocks of 256 slots more than are in use, so that updates that make no more of them need none: an
+ * update makes at most one for each byte of its key. While so many are spare (cedar_spare_blocks), nothing changes; else the slots double
+ * until they are. CEDAR_OK; CEDAR_IS_CLOSED; CEDAR_SLOT_LIMIT where there can't be so many blocks (2^22 in all), else CEDAR_MEMORY. After
+ * an error nothing has changed. */
+uint32_t cedar_reserve(cedar *d, size_t blocks);
+
 /* A key that a walk found. */
 typedef struct cedar_match {
     int32_t value;

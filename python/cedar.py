@@ -71,6 +71,7 @@ def _library(path=os.environ.get("CEDAR_LIBRARY", Path(__file__).parent / "libce
         ("cedar_len", c_size_t, [handle]),
         ("cedar_used_slots", c_size_t, [handle]),
         ("cedar_capacity", c_size_t, [handle]),
+        ("cedar_reserve", c_uint32, [handle, c_size_t]),
     ]:
         function = getattr(library, name)
         function.restype = result
@@ -218,6 +219,13 @@ class Cedar:
         build = _CEDAR.cedar_build_reduced if reduced else _CEDAR.cedar_build
         _check(build(cedar._this, ordered, _trials(max_trial), array, len(array), byref(position)), position)
         return cedar
+
+    def reserve(self, blocks):
+        """Asks for the memory of so many blocks of 256 slots more than are in use, so that updates that make no more of them need none: each
+        makes at most one for each byte of its key. Where it is refused, nothing has changed."""
+        if blocks < 0:
+            raise ValueError("the blocks to reserve are 0 or more")
+        _check(_CEDAR.cedar_reserve(self._this, min(blocks, _MAX_SIZE)))
 
     def save(self, is_full=False):
         """The bytes of its file: format 1.1, or 1.0, which lists all slots."""

@@ -52,6 +52,7 @@ def check(reduced):
         assert cedar.predictions(text) == [(plain[key], len(key) - len(text)) for key in sorted(plain) if key.startswith(text)]
     pieces(cedar)
     refusals(cedar)
+    room_ahead(reduced)
     cedar["käse"] = 3
     assert cedar["käse".encode()] == 3
     loads(Cedar({b"net": 1, b"ten": 2, b"nets": 3}, reduced=reduced).save(), reduced)
@@ -89,6 +90,21 @@ def refusals(cedar):
     refuses(CedarError, lambda: cedar.__setitem__(b"a", 2**40))
     assert refuses(CedarError, lambda: Cedar(max_trial=0)) == "max_trial must be greater than zero"
     refuses(TypeError, lambda: cedar.get(7))
+
+
+def room_ahead(reduced):
+    """Room for blocks more, within which the slots stay as many; too many blocks are refused, and nothing changes."""
+    cedar = Cedar({b"net": 7}, reduced=reduced)
+    cedar.reserve(3)
+    assert cedar.capacity() == 1024
+    cedar.update({b"x": 1, b"yz": 2})
+    assert cedar.capacity() == 1024 and len(cedar) == 3
+    for blocks in [2**22, 2**63, 10**30]:
+        assert refuses(MemoryError, lambda: cedar.reserve(blocks)) == "cedar trie has no slot left"
+    refuses(ValueError, lambda: cedar.reserve(-1))
+    assert cedar.capacity() == 1024 and dict(cedar.items()) == {b"net": 7, b"x": 1, b"yz": 2}
+    cedar.close()
+    assert refuses(CedarError, lambda: cedar.reserve(0)) == "the dictionary is closed"
 
 
 def pieces(cedar):

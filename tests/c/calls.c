@@ -71,6 +71,24 @@ static void settings_and_walks(void) {
     cedar_free(&d);
 }
 
+/* Room for some blocks more, which updates then take without asking for memory; too many are refused. */
+static void room_ahead(bool is_reduced) {
+    cedar d = CEDAR_CLOSED;
+    size_t position;
+    int32_t value;
+    CHECK(cedar_reserve(&d, 0) == CEDAR_IS_CLOSED && cedar_reserve(&d, SIZE_MAX) == CEDAR_IS_CLOSED && cedar_capacity(&d) == 0);
+    CHECK((is_reduced ? cedar_new_reduced(&d, true, 1) : cedar_new(&d)) == CEDAR_OK);
+    CHECK(cedar_update(&d, (const uint8_t *)"net", 3, 7, &position) == CEDAR_OK && cedar_capacity(&d) == 256);
+    CHECK(cedar_reserve(&d, 0) == CEDAR_OK && cedar_capacity(&d) == 256 && cedar_spare_blocks(&d) == 0);
+    CHECK(cedar_reserve(&d, 3) == CEDAR_OK && cedar_capacity(&d) == 1024 && cedar_spare_blocks(&d) == 3);
+    CHECK(cedar_reserve(&d, 2) == CEDAR_OK && cedar_capacity(&d) == 1024 && cedar_spare_blocks(&d) == 3);
+    CHECK(cedar_reserve(&d, (size_t)1 << 22) == CEDAR_SLOT_LIMIT && cedar_reserve(&d, SIZE_MAX) == CEDAR_SLOT_LIMIT);
+    CHECK(cedar_capacity(&d) == 1024 && cedar_get(&d, (const uint8_t *)"net", 3, &value) && value == 7 && cedar_len(&d) == 1);
+    CHECK(cedar_reserve(&d, 100) == CEDAR_OK && cedar_capacity(&d) == 256 * 128 && cedar_spare_blocks(&d) == 127);
+    CHECK(cedar_is_reduced(&d) == is_reduced && cedar_get(&d, (const uint8_t *)"net", 3, &value) && value == 7 && cedar_len(&d) == 1);
+    cedar_free(&d);
+}
+
 static void refused_files(void) {
     cedar d = CEDAR_CLOSED;
     const uint8_t wrong[8] = {'n', 'o', ' ', 'f', 'i', 'l', 'e', '.'};
@@ -335,6 +353,8 @@ static void text_times(void) {
 int main(int count, char **arguments) {
     each_function();
     settings_and_walks();
+    room_ahead(false);
+    room_ahead(true);
     refused_files();
     files_and_texts();
     many_pairs();

@@ -68,6 +68,38 @@ static int builds(void) {
     }
 }
 
+/* Room for blocks ahead with each request refused in turn: the dictionary stays till all are met, and then keys of as many bytes together
+ * are stored while all requests are refused. Answers how many were refused. */
+static int reserves(void) {
+    enum { BLOCKS = 300 };
+    for (int refused = 0;; refused++) {
+        cedar d = CEDAR_CLOSED;
+        uint8_t key[3];
+        size_t position;
+        int32_t value;
+        nth_key(0, key);
+        CHECK(cedar_new(&d) == CEDAR_OK && cedar_update(&d, key, 3, 5, &position) == CEDAR_OK);
+        size_t capacity = cedar_capacity(&d), slots = cedar_used_slots(&d);
+        left = refused;
+        uint32_t status = cedar_reserve(&d, BLOCKS);
+        left = 0;
+        if (status == CEDAR_OK) {
+            CHECK(cedar_spare_blocks(&d) >= BLOCKS);
+            for (int32_t i = 1; i <= BLOCKS / 3; i++) {
+                nth_key(i, key);
+                CHECK(cedar_update(&d, key, 3, i, &position) == CEDAR_OK && cedar_get(&d, key, 3, &value) && value == i);
+            }
+            CHECK(cedar_len(&d) == BLOCKS / 3 + 1);
+        } else {
+            CHECK(status == CEDAR_MEMORY && cedar_capacity(&d) == capacity && cedar_used_slots(&d) == slots && cedar_len(&d) == 1);
+            CHECK(cedar_get(&d, key, 3, &value) && value == 5);
+        }
+        left = -1;
+        cedar_free(&d);
+        if (status == CEDAR_OK) return refused;
+    }
+}
+
 int main(void) {
     int refused_new = 0, refused_update = 0;
     for (long budget = 0; budget < 60; budget++) {
@@ -89,8 +121,8 @@ int main(void) {
         left = -1;
         cedar_free(&d);
     }
-    int refused_builds = builds();
-    CHECK(refused_new > 0 && refused_update > 0 && refused_builds > 10);
-    printf("refused: %d new, %d updates, %d builds\nok\n", refused_new, refused_update, refused_builds);
+    int refused_builds = builds(), refused_reserves = reserves();
+    CHECK(refused_new > 0 && refused_update > 0 && refused_builds > 10 && refused_reserves > 0);
+    printf("refused: %d new, %d updates, %d builds, %d reserves\nok\n", refused_new, refused_update, refused_builds, refused_reserves);
     return 0;
 }

@@ -20,6 +20,10 @@ layout_in h = option_map layout_of (content h)
 abbrev pub state_in : Handle → Option State
 state_in h = option_map (λ a. (dictionary_in a).state) (content h)
 
+-- the keys whose number has a slot of its own
+abbrev pub marks_in : Handle → Option Tree
+marks_in h = option_map (λ a. (dictionary_in a).marked) (content h)
+
 -- how many failed searches close a block of it
 abbrev pub trials_in : Handle → Option ℤ
 trials_in h = option_map (λ a. (dictionary_in a).max_trial) (content h)

@@ -1,11 +1,15 @@
 -- A dictionary of either layout.
-use Rattle.std.specs.Prelude.{◌≡◌, Bool, true, false}
+use Rattle.std.specs.Prelude.{◌≡◌, ℕ, Bool, true, false}
 use Rattle.std.specs.Coded.{Coded, code_by, coded×, coded_bool}
 use Rattle.std.proofs.Common.{refl}
 use Rattle.cedar_model.specs.Table.Layouts.{LayoutKind, default_layout, reduced_layout}
 use Rattle.cedarwood.specs.Dictionary.{Dictionary, dictionary_code}
 use Rattle.cedar_c.specs.declared.any.AnyCedar.{AnyCedar}
 use Rattle.cedar_c.specs.declared.any.AnyCedar.TheVariants.{Default, Reduced}
+
+-- how many slots it has at most
+abbrev pub most_slots : ℕ
+most_slots = 1073741824
 
 -- what a caller sees of it in either layout
 abbrev pub dictionary_in : AnyCedar → Dictionary

@@ -1,14 +1,16 @@
 //! A dictionary of either layout: each call goes to the one that is there.
 
-ghost use Rattle.std.specs.Prelude.{◌≡◌, ◌↔◌, ◌+◌, ◌-◌, ◌/◌, IfOk, IfSome, IsSome, IsTrue, length};
+ghost use Rattle.std.specs.Prelude.{◌≡◌, ◌↔◌, ◌+◌, ◌-◌, ◌*◌, ◌/◌, ◌<◌, ◌≤◌, Err, IfErr, IfOk, IfSome, IsOk, IsSome, IsTrue, OnErr, OnOk, length};
 ghost use Rattle.cedar_model.specs.Table.Layouts.{default_layout, reduced_layout};
 ghost use Rattle.cedar_tree.specs.Queries.{prefixes, used, walk};
 ghost use Rattle.cedarwood.specs.Builds.{outcome};
+ghost use Rattle.cedarwood.specs.Dictionary.{capacity_after};
 ghost use Rattle.cedarwood.specs.Fault.{fault};
+ghost use Rattle.cedarwood.specs.Room.{LacksRoom};
 ghost use Rattle.cedarwood.specs.State.{erased};
 ghost use Rattle.cedarwood.specs.Tree.{empty_tree, number_at};
 ghost use Rattle.cedarwood.specs.Updates.{IsUpdate};
-ghost use Rattle.cedar_c.specs.Layouts.{dictionary_in, layout_if, layout_of};
+ghost use Rattle.cedar_c.specs.Layouts.{dictionary_in, layout_if, layout_of, most_slots};
 
 use cedarwood::{Cedar, CedarBuilder, CedarError, ReducedCedar};
 use std::alloc::Global;
@@ -47,7 +49,7 @@ impl AnyCedar {
     }
 
     pub(crate) fn update_bytes(&mut self, key: &[u8], value: i32) -> Result<(), CedarError>
-        ensures updated { IsUpdate (layout_of self.old) 1073741824 (dictionary_in self.old) (dictionary_in self.new) key.now value result }
+        ensures updated { IsUpdate (layout_of self.old) most_slots (dictionary_in self.old) (dictionary_in self.new) key.now value result }
         ensures unchanged { IsSome (fault key.now value) → self.new ≡ self.old }
         ensures layout { layout_of self.new ≡ layout_of self.old }
     {
@@ -58,7 +60,7 @@ impl AnyCedar {
     }
 
     pub(crate) fn insert_bytes(&mut self, key: &[u8], value: i32) -> Result<Option<i32>, CedarError>
-        ensures updated { IsUpdate (layout_of self.old) 1073741824 (dictionary_in self.old) (dictionary_in self.new) key.now value (outcome result) }
+        ensures updated { IsUpdate (layout_of self.old) most_slots (dictionary_in self.old) (dictionary_in self.new) key.now value (outcome result) }
         ensures unchanged { IsSome (fault key.now value) → self.new ≡ self.old }
         ensures held { IfOk result (λ held. held ≡ number_at (dictionary_in self.old).state.tree key.now) }
         ensures layout { layout_of self.new ≡ layout_of self.old }
@@ -79,6 +81,26 @@ impl AnyCedar {
         match self {
             AnyCedar::Default(cedar) => cedar.erase_bytes(key),
             AnyCedar::Reduced(cedar) => cedar.erase_bytes(key),
+        }
+    }
+
+    pub(crate) fn try_reserve(&mut self, blocks: usize) -> Result<(), CedarError>
+        ensures state { (dictionary_in self.new).state ≡ (dictionary_in self.old).state }
+        ensures marked { (dictionary_in self.new).marked ≡ (dictionary_in self.old).marked }
+        ensures max_trial { (dictionary_in self.new).max_trial ≡ (dictionary_in self.old).max_trial }
+        ensures layout { layout_of self.new ≡ layout_of self.old }
+        ensures size { (dictionary_in self.new).size ≡ (dictionary_in self.old).size }
+        ensures capacity { OnOk result ((dictionary_in self.new).capacity ≡ capacity_after blocks (dictionary_in self.old).size (dictionary_in self.old).capacity) }
+        ensures spare { OnOk result (256 * blocks ≤ (dictionary_in self.new).capacity - (dictionary_in self.new).size) }
+        ensures enough { 256 * blocks ≤ (dictionary_in self.old).capacity - (dictionary_in self.old).size → self.new ≡ self.old }
+        ensures asks_nothing { 256 * blocks ≤ (dictionary_in self.old).capacity - (dictionary_in self.old).size → IsOk result }
+        ensures limit { most_slots < (dictionary_in self.old).size + 256 * blocks → result ≡ Err CedarError.SlotLimit }
+        ensures refused { IfErr result (LacksRoom most_slots (dictionary_in self.old) blocks) }
+        ensures unchanged { OnErr result (self.new ≡ self.old) }
+    {
+        match self {
+            AnyCedar::Default(cedar) => cedar.try_reserve(blocks),
+            AnyCedar::Reduced(cedar) => cedar.try_reserve(blocks),
         }
     }
 

@@ -14,6 +14,7 @@ mod keys;
 mod loose;
 mod pages;
 mod pairs;
+mod room;
 mod save;
 mod scans;
 mod sorted;

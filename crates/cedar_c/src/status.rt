@@ -14,7 +14,8 @@ pub(crate) const CLOSED: u32 = 1;
 /// A request for memory was refused.
 pub(crate) const MEMORY: u32 = 2;
 
-const SLOT_LIMIT: u32 = 3;
+/// The limit of slots doesn't allow what is wanted.
+pub(crate) const SLOT_LIMIT: u32 = 3;
 
 const EMPTY_KEY: u32 = 4;
 

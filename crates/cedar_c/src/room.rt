@@ -1,0 +1,69 @@
+//! Memory asked for ahead.
+
+ghost use Rattle.std.specs.Prelude.{◌≡◌, ◌⊎◌, ◌+◌, ◌-◌, ◌*◌, ◌<◌, ◌≤◌, ◌↔◌, None, IsSome};
+ghost use Rattle.cedarwood.specs.Dictionary.{capacity_after};
+ghost use Rattle.cedar_c.specs.Content.{content, layout_in, marks_in, state_in, trials_in, size_in, capacity_in};
+ghost use Rattle.cedar_c.specs.Layouts.{dictionary_in, layout_of, most_slots};
+
+use crate::any::AnyCedar;
+use crate::handle::Handle;
+use crate::status::{CLOSED, MEMORY, OK, SLOT_LIMIT};
+use cedarwood::CedarError;
+
+/// Asks for the memory of `blocks` blocks of 256 slots more than are in use, so that an update of a key of as many bytes, or of several
+/// keys of as many bytes together, needs none. While so many are spare, nothing changes.
+///
+/// # Errors
+/// 1 where the handle is closed; 3 where the limit of slots doesn't allow so many blocks, else 2 where a request for memory was
+/// refused. After an error nothing has changed.
+#[unsafe(no_mangle)]
+pub extern "C" fn cedar_reserve(handle: &mut Handle, blocks: usize) -> u32
+    ensures closed { (result ≡ CLOSED) ↔ (content handle.old ≡ None) }
+    ensures state { state_in handle.new ≡ state_in handle.old }
+    ensures marks { marks_in handle.new ≡ marks_in handle.old }
+    ensures trials { trials_in handle.new ≡ trials_in handle.old }
+    ensures layout { layout_in handle.new ≡ layout_in handle.old }
+    ensures size { size_in handle.new ≡ size_in handle.old }
+    ensures capacity { result ≡ OK → capacity_in handle.new ≡ capacity_after blocks (size_in handle.old) (capacity_in handle.old) }
+    ensures spare { result ≡ OK → 256 * blocks ≤ capacity_in handle.new - size_in handle.new }
+
+    // Where they are spare already.
+    ensures enough { 256 * blocks ≤ capacity_in handle.old - size_in handle.old → content handle.new ≡ content handle.old }
+    ensures asks_nothing { IsSome (content handle.old) → 256 * blocks ≤ capacity_in handle.old - size_in handle.old → result ≡ OK }
+
+    // Slots are wanted just where there may not be so many, memory only where there may.
+    ensures limit { IsSome (content handle.old) → (result ≡ SLOT_LIMIT) ↔ (most_slots < size_in handle.old + 256 * blocks) }
+    ensures memory { result ≡ MEMORY → (capacity_in handle.old < size_in handle.old + 256 * blocks) × (size_in handle.old + 256 * blocks ≤ most_slots) }
+    ensures refused { (result ≡ OK) ⊎ (((result ≡ CLOSED) ⊎ (result ≡ MEMORY) ⊎ (result ≡ SLOT_LIMIT)) × (content handle.new ≡ content handle.old)) }
+{
+    if !handle.is_open() {
+        return CLOSED;
+    }
+    handle.held.lend().reserve(blocks)
+}
+
+impl AnyCedar {
+    /// Asks for the memory of so many blocks more than are in use, and says what was lacking.
+    fn reserve(&mut self, blocks: usize) -> u32
+        ensures state { (dictionary_in self.new).state ≡ (dictionary_in self.old).state }
+        ensures marked { (dictionary_in self.new).marked ≡ (dictionary_in self.old).marked }
+        ensures max_trial { (dictionary_in self.new).max_trial ≡ (dictionary_in self.old).max_trial }
+        ensures layout { layout_of self.new ≡ layout_of self.old }
+        ensures size { (dictionary_in self.new).size ≡ (dictionary_in self.old).size }
+        ensures capacity { result ≡ OK → (dictionary_in self.new).capacity ≡ capacity_after blocks (dictionary_in self.old).size (dictionary_in self.old).capacity }
+        ensures spare { result ≡ OK → 256 * blocks ≤ (dictionary_in self.new).capacity - (dictionary_in self.new).size }
+        ensures enough { 256 * blocks ≤ (dictionary_in self.old).capacity - (dictionary_in self.old).size → (self.new ≡ self.old) × (result ≡ OK) }
+        ensures limit { (result ≡ SLOT_LIMIT) ↔ (most_slots < (dictionary_in self.old).size + 256 * blocks) }
+        ensures memory { result ≡ MEMORY → ((dictionary_in self.old).capacity < (dictionary_in self.old).size + 256 * blocks) × ((dictionary_in self.old).size + 256 * blocks ≤ most_slots) }
+        ensures refused { (result ≡ OK) ⊎ (((result ≡ MEMORY) ⊎ (result ≡ SLOT_LIMIT)) × (self.new ≡ self.old)) }
+    {
+        match self.try_reserve(blocks) {
+            Ok(()) => OK,
+            Err(error) => match error {
+                CedarError::SlotLimit => SLOT_LIMIT,
+                // It has no other error than these two.
+                _ => MEMORY,
+            },
+        }
+    }
+}
