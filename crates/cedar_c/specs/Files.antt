@@ -3,28 +3,30 @@ use Rattle.std.specs.Prelude.{◌≡◌, ◌⊎◌, ℕ, Bool, true, false, List
 use Rattle.cedar_model.specs.Table.TableFields.{Fields}
 use Rattle.cedar_format.specs.Format.{header_at, header_refusal, size_refusal}
 use Rattle.cedar_format.specs.Tables.{IsTableFile}
+use Rattle.cedar_c.specs.Layouts.{most_slots}
+use Rattle.cedar_c.specs.declared.status.TheConstants.{MEMORY, FILE_TRUNCATED, FILE_MAGIC, FILE_VERSION, FILE_BYTE_ORDER, FILE_LAYOUT, FILE_HEADER, FILE_MEMORY_LIMIT, FILE_CORRUPT, FILE_TRAILING, FILE_UNREAD}
 use Rattle.cedar_format.specs.Refusal.{Refusal, first_refusal, Truncated, InvalidMagic, UnsupportedVersion, UnsupportedByteOrder, LayoutMismatch, InvalidHeader, AllocationLimitExceeded, AllocationFailed, CorruptData, TrailingData, Failed}
 
 -- the bytes are those of this well-formed table, in a version that is read
 abbrev pub IsFileOf : Fields → List ℕ → Type 0
-IsFileOf T bytes = (version : ℕ) × IsTableFile version 1073741824 T bytes
+IsFileOf T bytes = (version : ℕ) × IsTableFile version most_slots T bytes
 
 -- they are those of no well-formed table in any version, which may have `slots` slots
 abbrev pub IsOfNoTable : ℕ → List ℕ → Type 0
 IsOfNoTable slots bytes = (version : ℕ) (T : Fields) → IsTableFile version slots T bytes → ⊥
 
 abbrev pub file_status : Refusal → ℕ
-file_status Truncated = 20
-file_status InvalidMagic = 21
-file_status (UnsupportedVersion major minor) = 22
-file_status (UnsupportedByteOrder order) = 23
-file_status (LayoutMismatch expected found) = 24
-file_status (InvalidHeader field value) = 25
-file_status (AllocationLimitExceeded requested limit) = 26
-file_status (AllocationFailed requested) = 2
-file_status CorruptData = 27
-file_status TrailingData = 28
-file_status Failed = 29
+file_status Truncated = FILE_TRUNCATED
+file_status InvalidMagic = FILE_MAGIC
+file_status (UnsupportedVersion major minor) = FILE_VERSION
+file_status (UnsupportedByteOrder order) = FILE_BYTE_ORDER
+file_status (LayoutMismatch expected found) = FILE_LAYOUT
+file_status (InvalidHeader field value) = FILE_HEADER
+file_status (AllocationLimitExceeded requested limit) = FILE_MEMORY_LIMIT
+file_status (AllocationFailed requested) = MEMORY
+file_status CorruptData = FILE_CORRUPT
+file_status TrailingData = FILE_TRAILING
+file_status Failed = FILE_UNREAD
 
 -- the first refusal of the header itself and of its sizes, before memory is asked for
 abbrev pub early_refusal : ℕ → ℕ → ℕ → List ℕ → Option Refusal
@@ -32,7 +34,7 @@ early_refusal layout slots limit bytes = first_refusal (header_refusal layout (t
 
 -- where the header is refused: the number of that refusal, or of want of memory
 abbrev pub TellsHeader : Refusal → ℕ → Type 0
-TellsHeader r status = (status ≡ file_status r) ⊎ (status ≡ 2)
+TellsHeader r status = (status ≡ file_status r) ⊎ (status ≡ MEMORY)
 
 -- which version's file a save writes: format 1.0, which lists all slots and blocks, or 1.1
 abbrev pub minor_of : Bool → ℕ

@@ -1,18 +1,19 @@
 -- The numbers that C is answered.
-use Rattle.std.specs.Prelude.{ℕ, List, [], ◌∷◌, ◌==◌, codes, if◌then◌else◌}
+use Rattle.std.specs.Prelude.{◌≡◌, ◌⊎◌, ℕ, List, [], ◌∷◌, ◌==◌, codes, if◌then◌else◌}
+use Rattle.cedar_c.specs.declared.status.TheConstants.{OK, CLOSED, MEMORY, SLOT_LIMIT, EMPTY_KEY, NUL_BYTE, INVALID_VALUE, INVALID_MAX_TRIAL, DUPLICATE_KEY, KEYS_NOT_SORTED, NO_ROOM, FILE_TRUNCATED, FILE_MAGIC, FILE_VERSION, FILE_BYTE_ORDER, FILE_LAYOUT, FILE_HEADER, FILE_MEMORY_LIMIT, FILE_CORRUPT, FILE_TRAILING, FILE_UNREAD}
 use Rattle.cedarwood.specs.declared.error.CedarError.{CedarError}
 use Rattle.cedarwood.specs.declared.error.CedarError.TheVariants.{EmptyKey, NulByte, InvalidValue, InvalidMaxTrial, DuplicateKey, KeysNotSorted, Memory, SlotLimit}
 
--- the number of an error. 0 is none, and 1 says that the handle is closed
+-- the number of an error
 abbrev pub status_of : CedarError → ℕ
-status_of Memory = 2
-status_of SlotLimit = 3
-status_of EmptyKey = 4
-status_of (NulByte p) = 5
-status_of (InvalidValue v) = 6
-status_of (InvalidMaxTrial n) = 7
-status_of (DuplicateKey i) = 8
-status_of (KeysNotSorted i) = 9
+status_of Memory = MEMORY
+status_of SlotLimit = SLOT_LIMIT
+status_of EmptyKey = EMPTY_KEY
+status_of (NulByte p) = NUL_BYTE
+status_of (InvalidValue v) = INVALID_VALUE
+status_of (InvalidMaxTrial n) = INVALID_MAX_TRIAL
+status_of (DuplicateKey i) = DUPLICATE_KEY
+status_of (KeysNotSorted i) = KEYS_NOT_SORTED
 
 -- the position that an error tells, which is a pair's index where keys don't ascend; or what stood there
 abbrev pub position_of : ℕ → CedarError → ℕ
@@ -21,30 +22,34 @@ position_of before (DuplicateKey i) = i
 position_of before (KeysNotSorted i) = i
 position_of before e = before
 
+-- the numbers of errors that tell a position
+abbrev pub TellsPosition : ℕ → Type 0
+TellsPosition status = (status ≡ NUL_BYTE) ⊎ (status ≡ DUPLICATE_KEY) ⊎ (status ≡ KEYS_NOT_SORTED)
+
 -- each number that is answered, with its text: the library's own text of that error where it has one, without numbers
 abbrev pub texts_by_status : List (ℕ × List ℕ)
 texts_by_status =
-    (0, codes "done")
-    ∷ (1, codes "the dictionary is closed")
-    ∷ (2, codes "out of memory")
-    ∷ (3, codes "cedar trie has no slot left")
-    ∷ (4, codes "cedar keys must not be empty")
-    ∷ (5, codes "cedar keys must not contain the terminal byte 0x00")
-    ∷ (6, codes "cedar value is outside the supported range 0..=2147483645")
-    ∷ (7, codes "max_trial must be greater than zero")
-    ∷ (8, codes "duplicate key in sorted input")
-    ∷ (9, codes "key in sorted input is smaller than its predecessor")
-    ∷ (11, codes "the buffer is too short")
-    ∷ (20, codes "serialized cedar trie is truncated")
-    ∷ (21, codes "input is not a cedarwood serialized trie")
-    ∷ (22, codes "unsupported cedarwood format version")
-    ∷ (23, codes "unsupported cedarwood byte-order marker")
-    ∷ (24, codes "serialized trie layout does not match")
-    ∷ (25, codes "invalid serialized header field")
-    ∷ (26, codes "serialized trie requires more bytes while loading than the limit")
-    ∷ (27, codes "corrupt serialized trie")
-    ∷ (28, codes "serialized trie has trailing data")
-    ∷ (29, codes "persistence I/O error")
+    (OK, codes "done")
+    ∷ (CLOSED, codes "the dictionary is closed")
+    ∷ (MEMORY, codes "out of memory")
+    ∷ (SLOT_LIMIT, codes "cedar trie has no slot left")
+    ∷ (EMPTY_KEY, codes "cedar keys must not be empty")
+    ∷ (NUL_BYTE, codes "cedar keys must not contain the terminal byte 0x00")
+    ∷ (INVALID_VALUE, codes "cedar value is outside the supported range 0..=2147483645")
+    ∷ (INVALID_MAX_TRIAL, codes "max_trial must be greater than zero")
+    ∷ (DUPLICATE_KEY, codes "duplicate key in sorted input")
+    ∷ (KEYS_NOT_SORTED, codes "key in sorted input is smaller than its predecessor")
+    ∷ (NO_ROOM, codes "the buffer is too short")
+    ∷ (FILE_TRUNCATED, codes "serialized cedar trie is truncated")
+    ∷ (FILE_MAGIC, codes "input is not a cedarwood serialized trie")
+    ∷ (FILE_VERSION, codes "unsupported cedarwood format version")
+    ∷ (FILE_BYTE_ORDER, codes "unsupported cedarwood byte-order marker")
+    ∷ (FILE_LAYOUT, codes "serialized trie layout does not match")
+    ∷ (FILE_HEADER, codes "invalid serialized header field")
+    ∷ (FILE_MEMORY_LIMIT, codes "serialized trie requires more bytes while loading than the limit")
+    ∷ (FILE_CORRUPT, codes "corrupt serialized trie")
+    ∷ (FILE_TRAILING, codes "serialized trie has trailing data")
+    ∷ (FILE_UNREAD, codes "persistence I/O error")
     ∷ []
 
 -- the text of a number in such a list, and one for all numbers that it doesn't have

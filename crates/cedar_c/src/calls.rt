@@ -1,17 +1,17 @@
 //! The calls that make, change and ask a dictionary.
 
-ghost use Rattle.std.specs.Prelude.{◌≡◌, ◌⊎◌, ◌-◌, ◌*◌, ◌^◌, ◌<◌, ◌≤◌, ◌<ℤ◌, pos, length, None, Some, IsSome, IfSome, IsTrue, ◌↔◌, option_map, true};
+ghost use Rattle.std.specs.Prelude.{◌≡◌, ◌⊎◌, ◌-◌, ◌*◌, ◌<◌, ◌≤◌, ◌<ℤ◌, pos, length, None, Some, IsSome, IfSome, IsTrue, ◌↔◌, option_map, true};
 ghost use Rattle.cedarwood.specs.Fault.{fault};
 ghost use Rattle.cedarwood.specs.State.{stored, erased};
 ghost use Rattle.cedarwood.specs.Tree.{empty_tree, number_at};
 ghost use Rattle.cedar_model.specs.Table.Layouts.{default_layout, reduced_layout};
 ghost use Rattle.cedar_c.specs.Content.{content, layout_in, state_in, tree_in, trials_in, size_in, capacity_in};
-ghost use Rattle.cedar_c.specs.Layouts.{dictionary_in, layout_if, layout_of};
-ghost use Rattle.cedar_c.specs.Status.{status_of, position_of};
+ghost use Rattle.cedar_c.specs.Layouts.{dictionary_in, layout_if, layout_of, most_slots};
+ghost use Rattle.cedar_c.specs.Status.{position_of, status_of, TellsPosition};
 
 use crate::any::AnyCedar;
 use crate::handle::Handle;
-use crate::status::{CLOSED, INVALID_MAX_TRIAL, MEMORY, OK, tell};
+use crate::status::{CLOSED, INVALID_MAX_TRIAL, MEMORY, OK, SLOT_LIMIT, tell};
 use cedarwood::{CedarBuilder, Layout, Trie};
 use std::alloc::Global;
 
@@ -28,11 +28,11 @@ fn make(alloc: Global, is_reduced: bool, settings: CedarBuilder) -> Option<Box<A
 
 /// Opens a handle with an empty dictionary of these settings.
 fn renew(handle: &mut Handle, alloc: Global, is_reduced: bool, settings: CedarBuilder) -> u32
-    ensures made { result ≡ 0 → state_in handle.new ≡ Some (record { tree = empty_tree; ordered = settings.ordered }) }
-    ensures max_trial { result ≡ 0 → trials_in handle.new ≡ Some settings.max_trial }
-    ensures size { result ≡ 0 → (size_in handle.new ≡ 256) × (capacity_in handle.new ≡ 256) }
-    ensures layout { result ≡ 0 → layout_in handle.new ≡ Some (layout_if is_reduced) }
-    ensures refused { (result ≡ 0) ⊎ ((result ≡ 2) × (content handle.new ≡ content handle.old)) }
+    ensures made { result ≡ OK → state_in handle.new ≡ Some (record { tree = empty_tree; ordered = settings.ordered }) }
+    ensures max_trial { result ≡ OK → trials_in handle.new ≡ Some settings.max_trial }
+    ensures size { result ≡ OK → (size_in handle.new ≡ 256) × (capacity_in handle.new ≡ 256) }
+    ensures layout { result ≡ OK → layout_in handle.new ≡ Some (layout_if is_reduced) }
+    ensures refused { (result ≡ OK) ⊎ ((result ≡ MEMORY) × (content handle.new ≡ content handle.old)) }
 {
     match make(alloc, is_reduced, settings) {
         Some(cedar) => {
@@ -50,11 +50,11 @@ fn renew(handle: &mut Handle, alloc: Global, is_reduced: bool, settings: CedarBu
 /// 2 where a request for memory was refused. Then the handle is as it was.
 #[unsafe(no_mangle)]
 pub extern "C" fn cedar_new(handle: &mut Handle, alloc: Global) -> u32
-    ensures made { result ≡ 0 → state_in handle.new ≡ Some (record { tree = empty_tree; ordered = true }) }
-    ensures max_trial { result ≡ 0 → trials_in handle.new ≡ Some (pos 1) }
-    ensures size { result ≡ 0 → (size_in handle.new ≡ 256) × (capacity_in handle.new ≡ 256) }
-    ensures layout { result ≡ 0 → layout_in handle.new ≡ Some default_layout }
-    ensures refused { (result ≡ 0) ⊎ ((result ≡ 2) × (content handle.new ≡ content handle.old)) }
+    ensures made { result ≡ OK → state_in handle.new ≡ Some (record { tree = empty_tree; ordered = true }) }
+    ensures max_trial { result ≡ OK → trials_in handle.new ≡ Some (pos 1) }
+    ensures size { result ≡ OK → (size_in handle.new ≡ 256) × (capacity_in handle.new ≡ 256) }
+    ensures layout { result ≡ OK → layout_in handle.new ≡ Some default_layout }
+    ensures refused { (result ≡ OK) ⊎ ((result ≡ MEMORY) × (content handle.new ≡ content handle.old)) }
 {
     renew(handle, alloc, false, CedarBuilder::new())
 }
@@ -70,12 +70,12 @@ pub extern "C" fn cedar_new_with(
     ordered: bool,
     max_trial: i32,
 ) -> u32
-    ensures made { result ≡ 0 → state_in handle.new ≡ Some (record { tree = empty_tree; ordered = ordered }) }
-    ensures max_trial { result ≡ 0 → trials_in handle.new ≡ Some max_trial }
-    ensures size { result ≡ 0 → (size_in handle.new ≡ 256) × (capacity_in handle.new ≡ 256) }
-    ensures layout { result ≡ 0 → layout_in handle.new ≡ Some default_layout }
-    ensures invalid { (result ≡ 7) ↔ (max_trial <ℤ pos 1) }
-    ensures refused { (result ≡ 0) ⊎ (((result ≡ 7) ⊎ (result ≡ 2)) × (content handle.new ≡ content handle.old)) }
+    ensures made { result ≡ OK → state_in handle.new ≡ Some (record { tree = empty_tree; ordered = ordered }) }
+    ensures max_trial { result ≡ OK → trials_in handle.new ≡ Some max_trial }
+    ensures size { result ≡ OK → (size_in handle.new ≡ 256) × (capacity_in handle.new ≡ 256) }
+    ensures layout { result ≡ OK → layout_in handle.new ≡ Some default_layout }
+    ensures invalid { (result ≡ INVALID_MAX_TRIAL) ↔ (max_trial <ℤ pos 1) }
+    ensures refused { (result ≡ OK) ⊎ (((result ≡ INVALID_MAX_TRIAL) ⊎ (result ≡ MEMORY)) × (content handle.new ≡ content handle.old)) }
 {
     renew_with(handle, alloc, false, ordered, max_trial)
 }
@@ -91,12 +91,12 @@ pub extern "C" fn cedar_new_reduced(
     ordered: bool,
     max_trial: i32,
 ) -> u32
-    ensures made { result ≡ 0 → state_in handle.new ≡ Some (record { tree = empty_tree; ordered = ordered }) }
-    ensures max_trial { result ≡ 0 → trials_in handle.new ≡ Some max_trial }
-    ensures size { result ≡ 0 → (size_in handle.new ≡ 256) × (capacity_in handle.new ≡ 256) }
-    ensures layout { result ≡ 0 → layout_in handle.new ≡ Some reduced_layout }
-    ensures invalid { (result ≡ 7) ↔ (max_trial <ℤ pos 1) }
-    ensures refused { (result ≡ 0) ⊎ (((result ≡ 7) ⊎ (result ≡ 2)) × (content handle.new ≡ content handle.old)) }
+    ensures made { result ≡ OK → state_in handle.new ≡ Some (record { tree = empty_tree; ordered = ordered }) }
+    ensures max_trial { result ≡ OK → trials_in handle.new ≡ Some max_trial }
+    ensures size { result ≡ OK → (size_in handle.new ≡ 256) × (capacity_in handle.new ≡ 256) }
+    ensures layout { result ≡ OK → layout_in handle.new ≡ Some reduced_layout }
+    ensures invalid { (result ≡ INVALID_MAX_TRIAL) ↔ (max_trial <ℤ pos 1) }
+    ensures refused { (result ≡ OK) ⊎ (((result ≡ INVALID_MAX_TRIAL) ⊎ (result ≡ MEMORY)) × (content handle.new ≡ content handle.old)) }
 {
     renew_with(handle, alloc, true, ordered, max_trial)
 }
@@ -109,12 +109,12 @@ fn renew_with(
     ordered: bool,
     max_trial: i32,
 ) -> u32
-    ensures made { result ≡ 0 → state_in handle.new ≡ Some (record { tree = empty_tree; ordered = ordered }) }
-    ensures max_trial { result ≡ 0 → trials_in handle.new ≡ Some max_trial }
-    ensures size { result ≡ 0 → (size_in handle.new ≡ 256) × (capacity_in handle.new ≡ 256) }
-    ensures layout { result ≡ 0 → layout_in handle.new ≡ Some (layout_if is_reduced) }
-    ensures invalid { (result ≡ 7) ↔ (max_trial <ℤ pos 1) }
-    ensures refused { (result ≡ 0) ⊎ (((result ≡ 7) ⊎ (result ≡ 2)) × (content handle.new ≡ content handle.old)) }
+    ensures made { result ≡ OK → state_in handle.new ≡ Some (record { tree = empty_tree; ordered = ordered }) }
+    ensures max_trial { result ≡ OK → trials_in handle.new ≡ Some max_trial }
+    ensures size { result ≡ OK → (size_in handle.new ≡ 256) × (capacity_in handle.new ≡ 256) }
+    ensures layout { result ≡ OK → layout_in handle.new ≡ Some (layout_if is_reduced) }
+    ensures invalid { (result ≡ INVALID_MAX_TRIAL) ↔ (max_trial <ℤ pos 1) }
+    ensures refused { (result ≡ OK) ⊎ (((result ≡ INVALID_MAX_TRIAL) ⊎ (result ≡ MEMORY)) × (content handle.new ≡ content handle.old)) }
 {
     match CedarBuilder::new().ordered(ordered).max_trial(max_trial) {
         Ok(settings) => renew(handle, alloc, is_reduced, settings),
@@ -141,22 +141,22 @@ pub extern "C" fn cedar_update(
     value: i32,
     position: &mut usize,
 ) -> u32
-    ensures closed { (result ≡ 1) ↔ (content handle.old ≡ None) }
-    ensures ok { result ≡ 0 → state_in handle.new ≡ option_map (λ s. stored s key.now value) (state_in handle.old) }
-    ensures err { (result ≡ 0) ⊎ (state_in handle.new ≡ state_in handle.old) }
+    ensures closed { (result ≡ CLOSED) ↔ (content handle.old ≡ None) }
+    ensures ok { result ≡ OK → state_in handle.new ≡ option_map (λ s. stored s key.now value) (state_in handle.old) }
+    ensures err { (result ≡ OK) ⊎ (state_in handle.new ≡ state_in handle.old) }
     ensures unchanged { IsSome (fault key.now value) → content handle.new ≡ content handle.old }
     ensures layout { layout_in handle.new ≡ layout_in handle.old }
     ensures faulty { IsSome (content handle.old) → IfSome (fault key.now value) (λ e. (result ≡ status_of e) × (position.new ≡ position_of position.old e)) }
-    ensures memory { result ≡ 2 → (size_in handle.new ≡ capacity_in handle.new) × (capacity_in handle.new < 2 ^ 30) }
-    ensures limit { result ≡ 3 → size_in handle.new ≡ 2 ^ 30 }
+    ensures memory { result ≡ MEMORY → (size_in handle.new ≡ capacity_in handle.new) × (capacity_in handle.new < most_slots) }
+    ensures limit { result ≡ SLOT_LIMIT → size_in handle.new ≡ most_slots }
     ensures spare { IsSome (content handle.old) → fault key.now value ≡ None
-        → 256 * length key.now ≤ capacity_in handle.old - size_in handle.old → result ≡ 0 }
+        → 256 * length key.now ≤ capacity_in handle.old - size_in handle.old → result ≡ OK }
 
     // Only an error that tells a position writes it, and the settings stay.
-    ensures stays { (result ≡ 5) ⊎ (result ≡ 8) ⊎ (result ≡ 9) ⊎ (position.new ≡ position.old) }
+    ensures stays { TellsPosition result ⊎ (position.new ≡ position.old) }
     ensures trials { trials_in handle.new ≡ trials_in handle.old }
     ensures refused { IsSome (content handle.old) → fault key.now value ≡ None →
-        (result ≡ 0) ⊎ (((result ≡ 2) ⊎ (result ≡ 3)) × (number_at (tree_in handle.old) key.now ≡ None)) }
+        (result ≡ OK) ⊎ (((result ≡ MEMORY) ⊎ (result ≡ SLOT_LIMIT)) × (number_at (tree_in handle.old) key.now ≡ None)) }
 {
     if !handle.is_open() {
         return CLOSED;
@@ -181,25 +181,25 @@ pub extern "C" fn cedar_insert(
     before: &mut i32,
     position: &mut usize,
 ) -> u32
-    ensures closed { (result ≡ 1) ↔ (content handle.old ≡ None) }
-    ensures ok { result ≡ 0 → state_in handle.new ≡ option_map (λ s. stored s key.now value) (state_in handle.old) }
-    ensures err { (result ≡ 0) ⊎ (state_in handle.new ≡ state_in handle.old) }
+    ensures closed { (result ≡ CLOSED) ↔ (content handle.old ≡ None) }
+    ensures ok { result ≡ OK → state_in handle.new ≡ option_map (λ s. stored s key.now value) (state_in handle.old) }
+    ensures err { (result ≡ OK) ⊎ (state_in handle.new ≡ state_in handle.old) }
     ensures unchanged { IsSome (fault key.now value) → content handle.new ≡ content handle.old }
     ensures layout { layout_in handle.new ≡ layout_in handle.old }
-    ensures held { result ≡ 0 → IsTrue held.new ↔ IsSome (number_at (tree_in handle.old) key.now) }
-    ensures before { result ≡ 0 → IfSome (number_at (tree_in handle.old) key.now) (λ v. before.new ≡ v) }
+    ensures held { result ≡ OK → IsTrue held.new ↔ IsSome (number_at (tree_in handle.old) key.now) }
+    ensures before { result ≡ OK → IfSome (number_at (tree_in handle.old) key.now) (λ v. before.new ≡ v) }
     ensures faulty { IsSome (content handle.old) → IfSome (fault key.now value) (λ e. (result ≡ status_of e) × (position.new ≡ position_of position.old e)) }
-    ensures memory { result ≡ 2 → (size_in handle.new ≡ capacity_in handle.new) × (capacity_in handle.new < 2 ^ 30) }
-    ensures limit { result ≡ 3 → size_in handle.new ≡ 2 ^ 30 }
+    ensures memory { result ≡ MEMORY → (size_in handle.new ≡ capacity_in handle.new) × (capacity_in handle.new < most_slots) }
+    ensures limit { result ≡ SLOT_LIMIT → size_in handle.new ≡ most_slots }
     ensures spare { IsSome (content handle.old) → fault key.now value ≡ None
-        → 256 * length key.now ≤ capacity_in handle.old - size_in handle.old → result ≡ 0 }
+        → 256 * length key.now ≤ capacity_in handle.old - size_in handle.old → result ≡ OK }
 
     // Only an error that tells a position writes it, and the settings stay.
-    ensures stays { (result ≡ 5) ⊎ (result ≡ 8) ⊎ (result ≡ 9) ⊎ (position.new ≡ position.old) }
+    ensures stays { TellsPosition result ⊎ (position.new ≡ position.old) }
     ensures trials { trials_in handle.new ≡ trials_in handle.old }
-    ensures untold { (result ≡ 0) ⊎ ((held.new ≡ held.old) × (before.new ≡ before.old)) }
+    ensures untold { (result ≡ OK) ⊎ ((held.new ≡ held.old) × (before.new ≡ before.old)) }
     ensures refused { IsSome (content handle.old) → fault key.now value ≡ None →
-        (result ≡ 0) ⊎ (((result ≡ 2) ⊎ (result ≡ 3)) × (number_at (tree_in handle.old) key.now ≡ None)) }
+        (result ≡ OK) ⊎ (((result ≡ MEMORY) ⊎ (result ≡ SLOT_LIMIT)) × (number_at (tree_in handle.old) key.now ≡ None)) }
 {
     if !handle.is_open() {
         return CLOSED;

@@ -1,6 +1,6 @@
 //! A dictionary's file, in memory of the caller's.
 
-ghost use Rattle.std.specs.Prelude.{◌≡◌, ◌≢◌, ◌⊎◌, ◌<◌, ℕ, Some, None, IfOk, IfErr, IfSome, IsErrAnd};
+ghost use Rattle.std.specs.Prelude.{◌≡◌, ◌≢◌, ◌⊎◌, ℕ, Some, None, IfOk, IfErr, IfSome, IsErrAnd};
 ghost use Rattle.cedar_format.specs.Format.{header_answer};
 ghost use Rattle.cedar_format.specs.Refusal.{refusal_of};
 ghost use Rattle.cedar_format.specs.Tables.{IsTableFile};
@@ -9,12 +9,15 @@ ghost use Rattle.cedar_model.specs.Table.Layouts.{default_layout, layout_byte, r
 ghost use Rattle.cedar_c.specs.Content.{content, layout_in};
 ghost use Rattle.cedar_c.specs.Files.{early_refusal, file_status, IsFileOf, IsOfNoTable, TellsHeader};
 ghost use Rattle.cedarwood.specs.OnTable.{IsOnTable};
-ghost use Rattle.cedar_c.specs.Layouts.{dictionary_in, layout_if, layout_of};
+ghost use Rattle.cedar_c.specs.Layouts.{dictionary_in, layout_if, layout_of, most_slots};
 ghost use Rattle.cedar_c.specs.declared.any.AnyCedar.{AnyCedar};
 
 use crate::any::AnyCedar;
 use crate::handle::Handle;
-use crate::status::{MEMORY, OK, OTHER};
+use crate::status::{
+    FILE_BYTE_ORDER, FILE_CORRUPT, FILE_HEADER, FILE_LAYOUT, FILE_MAGIC, FILE_MEMORY_LIMIT,
+    FILE_TRAILING, FILE_TRUNCATED, FILE_UNREAD, FILE_VERSION, MEMORY, OK, OTHER,
+};
 use cedarwood::{CedarPersistenceError, Layout, Trie};
 use std::alloc::Global;
 
@@ -30,20 +33,20 @@ pub extern "C" fn cedar_load(
     bytes: &[u8],
     memory_limit: usize,
 ) -> u32
-    ensures loaded { result ≡ 0 → (a : AnyCedar) × (content handle.new ≡ Some a) × IsFileOf (dictionary_in a).table bytes.now }
-    ensures layout { result ≡ 0 → layout_in handle.new ≡ Some default_layout }
-    ensures refused { (result ≡ 0) ⊎ (content handle.new ≡ content handle.old) }
+    ensures loaded { result ≡ OK → (a : AnyCedar) × (content handle.new ≡ Some a) × IsFileOf (dictionary_in a).table bytes.now }
+    ensures layout { result ≡ OK → layout_in handle.new ≡ Some default_layout }
+    ensures refused { (result ≡ OK) ⊎ (content handle.new ≡ content handle.old) }
 
     // Behind a header that is refused nothing else is told, but for want of memory.
-    ensures header { IfSome (header_answer 0 1073741824 memory_limit bytes.now) (λ r. (result ≡ file_status r) ⊎ (result ≡ 2)) }
+    ensures header { IfSome (header_answer 0 most_slots memory_limit bytes.now) (λ r. (result ≡ file_status r) ⊎ (result ≡ MEMORY)) }
 
     // Before memory is asked for just this refusal's number is told.
-    ensures early { IfSome (early_refusal 0 1073741824 memory_limit bytes.now) (λ r. result ≡ file_status r) }
+    ensures early { IfSome (early_refusal 0 most_slots memory_limit bytes.now) (λ r. result ≡ file_status r) }
 
     // Behind one that passes they are of this table, or of no well-formed one, or memory was wanted.
-    ensures behind { header_answer 0 1073741824 memory_limit bytes.now ≡ None → (result ≡ 0) ⊎ (result ≡ 2) ⊎ ((result ≡ 27) × IsOfNoTable 1073741824 bytes.now) }
-    ensures stands { result ≡ 0 → (a : AnyCedar) × (content handle.new ≡ Some a) × IsOnTable 1073741824 (dictionary_in a) }
-    ensures read { result ≢ 29 }
+    ensures behind { header_answer 0 most_slots memory_limit bytes.now ≡ None → (result ≡ OK) ⊎ (result ≡ MEMORY) ⊎ ((result ≡ FILE_CORRUPT) × IsOfNoTable most_slots bytes.now) }
+    ensures stands { result ≡ OK → (a : AnyCedar) × (content handle.new ≡ Some a) × IsOnTable most_slots (dictionary_in a) }
+    ensures read { result ≢ FILE_UNREAD }
 {
     renew(handle, alloc, false, bytes, memory_limit)
 }
@@ -59,20 +62,20 @@ pub extern "C" fn cedar_load_reduced(
     bytes: &[u8],
     memory_limit: usize,
 ) -> u32
-    ensures loaded { result ≡ 0 → (a : AnyCedar) × (content handle.new ≡ Some a) × IsFileOf (dictionary_in a).table bytes.now }
-    ensures layout { result ≡ 0 → layout_in handle.new ≡ Some reduced_layout }
-    ensures refused { (result ≡ 0) ⊎ (content handle.new ≡ content handle.old) }
+    ensures loaded { result ≡ OK → (a : AnyCedar) × (content handle.new ≡ Some a) × IsFileOf (dictionary_in a).table bytes.now }
+    ensures layout { result ≡ OK → layout_in handle.new ≡ Some reduced_layout }
+    ensures refused { (result ≡ OK) ⊎ (content handle.new ≡ content handle.old) }
 
     // Behind a header that is refused nothing else is told, but for want of memory.
-    ensures header { IfSome (header_answer 1 1073741824 memory_limit bytes.now) (λ r. (result ≡ file_status r) ⊎ (result ≡ 2)) }
+    ensures header { IfSome (header_answer 1 most_slots memory_limit bytes.now) (λ r. (result ≡ file_status r) ⊎ (result ≡ MEMORY)) }
 
     // Before memory is asked for just this refusal's number is told.
-    ensures early { IfSome (early_refusal 1 1073741824 memory_limit bytes.now) (λ r. result ≡ file_status r) }
+    ensures early { IfSome (early_refusal 1 most_slots memory_limit bytes.now) (λ r. result ≡ file_status r) }
 
     // Behind one that passes they are of this table, or of no well-formed one, or memory was wanted.
-    ensures behind { header_answer 1 1073741824 memory_limit bytes.now ≡ None → (result ≡ 0) ⊎ (result ≡ 2) ⊎ ((result ≡ 27) × IsOfNoTable 1073741824 bytes.now) }
-    ensures stands { result ≡ 0 → (a : AnyCedar) × (content handle.new ≡ Some a) × IsOnTable 1073741824 (dictionary_in a) }
-    ensures read { result ≢ 29 }
+    ensures behind { header_answer 1 most_slots memory_limit bytes.now ≡ None → (result ≡ OK) ⊎ (result ≡ MEMORY) ⊎ ((result ≡ FILE_CORRUPT) × IsOfNoTable most_slots bytes.now) }
+    ensures stands { result ≡ OK → (a : AnyCedar) × (content handle.new ≡ Some a) × IsOnTable most_slots (dictionary_in a) }
+    ensures read { result ≢ FILE_UNREAD }
 {
     renew(handle, alloc, true, bytes, memory_limit)
 }
@@ -85,14 +88,14 @@ fn renew(
     bytes: &[u8],
     memory_limit: usize,
 ) -> u32
-    ensures loaded { result ≡ 0 → (a : AnyCedar) × (content handle.new ≡ Some a) × IsFileOf (dictionary_in a).table bytes.now }
-    ensures layout { result ≡ 0 → layout_in handle.new ≡ Some (layout_if is_reduced) }
-    ensures refused { (result ≡ 0) ⊎ (content handle.new ≡ content handle.old) }
-    ensures header { IfSome (header_answer (layout_byte (layout_if is_reduced)) 1073741824 memory_limit bytes.now) (λ r. (result ≡ file_status r) ⊎ (result ≡ 2)) }
-    ensures early { IfSome (early_refusal (layout_byte (layout_if is_reduced)) 1073741824 memory_limit bytes.now) (λ r. result ≡ file_status r) }
-    ensures behind { header_answer (layout_byte (layout_if is_reduced)) 1073741824 memory_limit bytes.now ≡ None → (result ≡ 0) ⊎ (result ≡ 2) ⊎ ((result ≡ 27) × IsOfNoTable 1073741824 bytes.now) }
-    ensures stands { result ≡ 0 → (a : AnyCedar) × (content handle.new ≡ Some a) × IsOnTable 1073741824 (dictionary_in a) }
-    ensures read { result ≢ 29 }
+    ensures loaded { result ≡ OK → (a : AnyCedar) × (content handle.new ≡ Some a) × IsFileOf (dictionary_in a).table bytes.now }
+    ensures layout { result ≡ OK → layout_in handle.new ≡ Some (layout_if is_reduced) }
+    ensures refused { (result ≡ OK) ⊎ (content handle.new ≡ content handle.old) }
+    ensures header { IfSome (header_answer (layout_byte (layout_if is_reduced)) most_slots memory_limit bytes.now) (λ r. (result ≡ file_status r) ⊎ (result ≡ MEMORY)) }
+    ensures early { IfSome (early_refusal (layout_byte (layout_if is_reduced)) most_slots memory_limit bytes.now) (λ r. result ≡ file_status r) }
+    ensures behind { header_answer (layout_byte (layout_if is_reduced)) most_slots memory_limit bytes.now ≡ None → (result ≡ OK) ⊎ (result ≡ MEMORY) ⊎ ((result ≡ FILE_CORRUPT) × IsOfNoTable most_slots bytes.now) }
+    ensures stands { result ≡ OK → (a : AnyCedar) × (content handle.new ≡ Some a) × IsOnTable most_slots (dictionary_in a) }
+    ensures read { result ≢ FILE_UNREAD }
 {
     match boxed(alloc, is_reduced, bytes, memory_limit) {
         Ok(cedar) => {
@@ -113,12 +116,12 @@ fn boxed(
 ) -> Result<Box<AnyCedar, Global>, u32>
     ensures loaded { IfOk result (λ b. IsFileOf (dictionary_in b.value).table bytes.now) }
     ensures layout { IfOk result (λ b. layout_of b.value ≡ layout_if is_reduced) }
-    ensures refused { IfErr result (λ status. 0 < status) }
-    ensures header { IfSome (header_answer (layout_byte (layout_if is_reduced)) 1073741824 memory_limit bytes.now) (λ r. IsErrAnd result (TellsHeader r)) }
-    ensures early { IfSome (early_refusal (layout_byte (layout_if is_reduced)) 1073741824 memory_limit bytes.now) (λ r. IsErrAnd result (λ status. status ≡ file_status r)) }
-    ensures behind { header_answer (layout_byte (layout_if is_reduced)) 1073741824 memory_limit bytes.now ≡ None → IfErr result (λ status. (status ≡ 2) ⊎ ((status ≡ 27) × IsOfNoTable 1073741824 bytes.now)) }
-    ensures stands { IfOk result (λ b. IsOnTable 1073741824 (dictionary_in b.value)) }
-    ensures read { IfErr result (λ status. status ≢ 29) }
+    ensures refused { IfErr result (λ status. status ≢ OK) }
+    ensures header { IfSome (header_answer (layout_byte (layout_if is_reduced)) most_slots memory_limit bytes.now) (λ r. IsErrAnd result (TellsHeader r)) }
+    ensures early { IfSome (early_refusal (layout_byte (layout_if is_reduced)) most_slots memory_limit bytes.now) (λ r. IsErrAnd result (λ status. status ≡ file_status r)) }
+    ensures behind { header_answer (layout_byte (layout_if is_reduced)) most_slots memory_limit bytes.now ≡ None → IfErr result (λ status. (status ≡ MEMORY) ⊎ ((status ≡ FILE_CORRUPT) × IsOfNoTable most_slots bytes.now)) }
+    ensures stands { IfOk result (λ b. IsOnTable most_slots (dictionary_in b.value)) }
+    ensures read { IfErr result (λ status. status ≢ FILE_UNREAD) }
 {
     match AnyCedar::loaded(alloc, is_reduced, bytes, memory_limit) {
         Ok(cedar) => match Box::new(alloc, cedar) {
@@ -140,12 +143,12 @@ impl AnyCedar {
     ) -> Result<AnyCedar, u32>
         ensures loaded { IfOk result (λ a. IsFileOf (dictionary_in a).table bytes.now) }
         ensures layout { IfOk result (λ a. layout_of a ≡ layout_if is_reduced) }
-        ensures refused { IfErr result (λ status. 0 < status) }
-        ensures header { IfSome (header_answer (layout_byte (layout_if is_reduced)) 1073741824 memory_limit bytes.now) (λ r. IsErrAnd result (TellsHeader r)) }
-        ensures early { IfSome (early_refusal (layout_byte (layout_if is_reduced)) 1073741824 memory_limit bytes.now) (λ r. IsErrAnd result (λ status. status ≡ file_status r)) }
-        ensures behind { header_answer (layout_byte (layout_if is_reduced)) 1073741824 memory_limit bytes.now ≡ None → IfErr result (λ status. (status ≡ 2) ⊎ ((status ≡ 27) × IsOfNoTable 1073741824 bytes.now)) }
-        ensures stands { IfOk result (λ a. IsOnTable 1073741824 (dictionary_in a)) }
-        ensures read { IfErr result (λ status. status ≢ 29) }
+        ensures refused { IfErr result (λ status. status ≢ OK) }
+        ensures header { IfSome (header_answer (layout_byte (layout_if is_reduced)) most_slots memory_limit bytes.now) (λ r. IsErrAnd result (TellsHeader r)) }
+        ensures early { IfSome (early_refusal (layout_byte (layout_if is_reduced)) most_slots memory_limit bytes.now) (λ r. IsErrAnd result (λ status. status ≡ file_status r)) }
+        ensures behind { header_answer (layout_byte (layout_if is_reduced)) most_slots memory_limit bytes.now ≡ None → IfErr result (λ status. (status ≡ MEMORY) ⊎ ((status ≡ FILE_CORRUPT) × IsOfNoTable most_slots bytes.now)) }
+        ensures stands { IfOk result (λ a. IsOnTable most_slots (dictionary_in a)) }
+        ensures read { IfErr result (λ status. status ≢ FILE_UNREAD) }
     {
         if is_reduced {
             match load(alloc, bytes, memory_limit) {
@@ -169,12 +172,12 @@ fn load<L: Layout, const SLOTS: usize>(
 ) -> Result<Trie<L, SLOTS, Global>, u32>
     requires limit { IsSlotLimit SLOTS }
     ensures loaded { IfOk result (λ d. (version : ℕ) × IsTableFile version SLOTS d.table bytes.now) }
-    ensures refused { IfErr result (λ status. 0 < status) }
+    ensures refused { IfErr result (λ status. status ≢ OK) }
     ensures header { IfSome (header_answer (layout_byte L.kind) SLOTS memory_limit bytes.now) (λ r. IsErrAnd result (TellsHeader r)) }
     ensures early { IfSome (early_refusal (layout_byte L.kind) SLOTS memory_limit bytes.now) (λ r. IsErrAnd result (λ status. status ≡ file_status r)) }
-    ensures behind { header_answer (layout_byte L.kind) SLOTS memory_limit bytes.now ≡ None → IfErr result (λ status. (status ≡ 2) ⊎ ((status ≡ 27) × IsOfNoTable SLOTS bytes.now)) }
+    ensures behind { header_answer (layout_byte L.kind) SLOTS memory_limit bytes.now ≡ None → IfErr result (λ status. (status ≡ MEMORY) ⊎ ((status ≡ FILE_CORRUPT) × IsOfNoTable SLOTS bytes.now)) }
     ensures stands { IfOk result (IsOnTable SLOTS) }
-    ensures read { IfErr result (λ status. status ≢ 29) }
+    ensures read { IfErr result (λ status. status ≢ FILE_UNREAD) }
 {
     let mut left = bytes;
     match Trie::load_from_reader_with_limit(alloc, &mut left, memory_limit) {
@@ -186,25 +189,22 @@ fn load<L: Layout, const SLOTS: usize>(
     }
 }
 
-/// The reading itself failed, which that of bytes in memory doesn't.
-const FAILED: u32 = 29;
-
 /// The number of a refusal.
 fn tell_refusal(error: CedarPersistenceError) -> u32
     ensures { result ≡ file_status (refusal_of error) }
 {
     match error {
-        CedarPersistenceError::Truncated => 20,
-        CedarPersistenceError::InvalidMagic => 21,
-        CedarPersistenceError::UnsupportedVersion { .. } => 22,
-        CedarPersistenceError::UnsupportedByteOrder { .. } => 23,
-        CedarPersistenceError::LayoutMismatch { .. } => 24,
-        CedarPersistenceError::InvalidHeader { .. } => 25,
-        CedarPersistenceError::AllocationLimitExceeded { .. } => 26,
+        CedarPersistenceError::Truncated => FILE_TRUNCATED,
+        CedarPersistenceError::InvalidMagic => FILE_MAGIC,
+        CedarPersistenceError::UnsupportedVersion { .. } => FILE_VERSION,
+        CedarPersistenceError::UnsupportedByteOrder { .. } => FILE_BYTE_ORDER,
+        CedarPersistenceError::LayoutMismatch { .. } => FILE_LAYOUT,
+        CedarPersistenceError::InvalidHeader { .. } => FILE_HEADER,
+        CedarPersistenceError::AllocationLimitExceeded { .. } => FILE_MEMORY_LIMIT,
         CedarPersistenceError::AllocationFailed { .. } => MEMORY,
-        CedarPersistenceError::CorruptData { .. } => 27,
-        CedarPersistenceError::TrailingData => 28,
-        CedarPersistenceError::Io(_) => FAILED,
+        CedarPersistenceError::CorruptData { .. } => FILE_CORRUPT,
+        CedarPersistenceError::TrailingData => FILE_TRAILING,
+        CedarPersistenceError::Io(_) => FILE_UNREAD,
         _ => OTHER,
     }
 }

@@ -9,7 +9,7 @@ ghost use Rattle.cedar_c.specs.Pairs.{keys_in};
 use crate::any::AnyCedar;
 use crate::handle::Handle;
 use crate::save::copy_whole;
-use crate::status::{CLOSED, MEMORY};
+use crate::status::{CLOSED, MEMORY, NO_ROOM, OK};
 use cedarwood::{Layout, Trie};
 use std::alloc::Global;
 
@@ -27,11 +27,11 @@ pub extern "C" fn cedar_keys(
     buffer: &mut [u8],
     needed: &mut usize,
 ) -> u32
-    ensures closed { (result ≡ 1) ↔ (content handle.old ≡ None) }
-    ensures written { result ≡ 0 → buffer.new ≡ keys_in (walk (tree_in handle.old)) ++ drop needed.new buffer.old }
-    ensures needed { (result ≡ 0) ⊎ (result ≡ 11) → needed.new ≡ length (keys_in (walk (tree_in handle.old))) }
-    ensures room { (result ≡ 0 → needed.new ≤ length buffer.old) × (result ≡ 11 → length buffer.old < needed.new) }
-    ensures refused { (result ≡ 0) ⊎ (((result ≡ 1) ⊎ (result ≡ 2) ⊎ (result ≡ 11)) × (buffer.new ≡ buffer.old)) }
+    ensures closed { (result ≡ CLOSED) ↔ (content handle.old ≡ None) }
+    ensures written { result ≡ OK → buffer.new ≡ keys_in (walk (tree_in handle.old)) ++ drop needed.new buffer.old }
+    ensures needed { (result ≡ OK) ⊎ (result ≡ NO_ROOM) → needed.new ≡ length (keys_in (walk (tree_in handle.old))) }
+    ensures room { (result ≡ OK → needed.new ≤ length buffer.old) × (result ≡ NO_ROOM → length buffer.old < needed.new) }
+    ensures refused { (result ≡ OK) ⊎ (((result ≡ CLOSED) ⊎ (result ≡ MEMORY) ⊎ (result ≡ NO_ROOM)) × (buffer.new ≡ buffer.old)) }
     ensures kept { content handle.new ≡ content handle.old }
 {
     if !handle.is_open() {

@@ -1,17 +1,17 @@
 //! Many pairs in one call.
 
-ghost use Rattle.std.specs.Prelude.{◌≡◌, ◌⊎◌, ◌<◌, ◌≤◌, ◌^◌, ◌↔◌, ℕ, length, map, take, None, Err, IsSome, IfSome, IfErr, OnOk, OnErr, option_map};
+ghost use Rattle.std.specs.Prelude.{◌≡◌, ◌⊎◌, ◌<◌, ◌≤◌, ◌↔◌, ℕ, length, map, take, None, Err, IsSome, IfSome, IfErr, OnOk, OnErr, option_map};
 ghost use Rattle.cedarwood.specs.Tree.{number_at};
 ghost use Rattle.cedarwood.specs.Fault.{IsShortage};
 ghost use Rattle.cedarwood.specs.Builds.{all_stored, first_fault, path_at};
 ghost use Rattle.cedar_c.specs.Content.{content, layout_in, size_in, state_in, tree_in, trials_in};
-ghost use Rattle.cedar_c.specs.Layouts.{dictionary_in, layout_of};
+ghost use Rattle.cedar_c.specs.Layouts.{dictionary_in, layout_of, most_slots};
 ghost use Rattle.cedar_c.specs.Pairs.{entries_in, taken_pair};
-ghost use Rattle.cedar_c.specs.Status.{status_of, position_of};
+ghost use Rattle.cedar_c.specs.Status.{position_of, status_of, TellsPosition};
 
 use crate::any::AnyCedar;
 use crate::handle::Handle;
-use crate::status::{CLOSED, OK, tell};
+use crate::status::{CLOSED, MEMORY, OK, SLOT_LIMIT, tell};
 use cedarwood::{CedarError, Layout, Trie};
 use std::alloc::Global;
 
@@ -62,7 +62,7 @@ impl AnyCedar {
         ensures front { (m : ℕ) × (m ≤ length (entries_in pairs.now)) × ((dictionary_in self.new).state ≡ all_stored (dictionary_in self.old).state (take m (entries_in pairs.now))) }
         ensures refused { first_fault (entries_in pairs.now) ≡ None → IfErr result IsShortage }
         ensures layout { layout_of self.new ≡ layout_of self.old }
-        ensures limit { result ≡ Err CedarError.SlotLimit → (dictionary_in self.new).size ≡ 1073741824 }
+        ensures limit { result ≡ Err CedarError.SlotLimit → (dictionary_in self.new).size ≡ most_slots }
         ensures part { OnErr result ((self.new ≡ self.old) ⊎ ((m : ℕ) × (m < length (entries_in pairs.now)) × ((dictionary_in self.new).state ≡ all_stored (dictionary_in self.old).state (take m (entries_in pairs.now))) × (number_at (dictionary_in self.new).state.tree (path_at (entries_in pairs.now) m) ≡ None))) }
         ensures max_trial { (dictionary_in self.new).max_trial ≡ (dictionary_in self.old).max_trial }
     {
@@ -85,22 +85,22 @@ pub extern "C" fn cedar_update_all(
     pairs: &[Pair<'_>],
     position: &mut usize,
 ) -> u32
-    ensures closed { (result ≡ 1) ↔ (content handle.old ≡ None) }
-    ensures ok { result ≡ 0 → state_in handle.new ≡ option_map (λ s. all_stored s (entries_in pairs.now)) (state_in handle.old) }
+    ensures closed { (result ≡ CLOSED) ↔ (content handle.old ≡ None) }
+    ensures ok { result ≡ OK → state_in handle.new ≡ option_map (λ s. all_stored s (entries_in pairs.now)) (state_in handle.old) }
     ensures faulty { IsSome (content handle.old) → IfSome (first_fault (entries_in pairs.now)) (λ e.
-        (content handle.new ≡ content handle.old) × ((result ≡ 2) ⊎ ((result ≡ status_of e) × (position.new ≡ position_of position.old e)))) }
+        (content handle.new ≡ content handle.old) × ((result ≡ MEMORY) ⊎ ((result ≡ status_of e) × (position.new ≡ position_of position.old e)))) }
 
     // Whatever it answers, a front of the pairs is stored, and nothing else has changed.
     ensures front { (m : ℕ) × (m ≤ length (entries_in pairs.now)) × (state_in handle.new ≡ option_map (λ s. all_stored s (take m (entries_in pairs.now))) (state_in handle.old)) }
     ensures layout { layout_in handle.new ≡ layout_in handle.old }
-    ensures refused { IsSome (content handle.old) → first_fault (entries_in pairs.now) ≡ None → (result ≡ 0) ⊎ (result ≡ 2) ⊎ (result ≡ 3) }
+    ensures refused { IsSome (content handle.old) → first_fault (entries_in pairs.now) ≡ None → (result ≡ OK) ⊎ (result ≡ MEMORY) ⊎ (result ≡ SLOT_LIMIT) }
 
     // Slots are wanted only where all are in use. After an error nothing has changed, or the pairs before one whose key isn't held then
     // are stored.
-    ensures limit { result ≡ 3 → size_in handle.new ≡ 2 ^ 30 }
-    ensures part { (result ≡ 0) ⊎ (content handle.new ≡ content handle.old) ⊎ ((m : ℕ) × (m < length (entries_in pairs.now))
+    ensures limit { result ≡ SLOT_LIMIT → size_in handle.new ≡ most_slots }
+    ensures part { (result ≡ OK) ⊎ (content handle.new ≡ content handle.old) ⊎ ((m : ℕ) × (m < length (entries_in pairs.now))
         × (state_in handle.new ≡ option_map (λ s. all_stored s (take m (entries_in pairs.now))) (state_in handle.old)) × (number_at (tree_in handle.new) (path_at (entries_in pairs.now) m) ≡ None)) }
-    ensures stays { (result ≡ 5) ⊎ (result ≡ 8) ⊎ (result ≡ 9) ⊎ (position.new ≡ position.old) }
+    ensures stays { TellsPosition result ⊎ (position.new ≡ position.old) }
     ensures trials { trials_in handle.new ≡ trials_in handle.old }
 {
     if !handle.is_open() {

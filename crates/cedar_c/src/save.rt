@@ -26,11 +26,11 @@ pub extern "C" fn cedar_save(
     buffer: &mut [u8],
     needed: &mut usize,
 ) -> u32
-    ensures closed { (result ≡ 1) ↔ (content handle.old ≡ None) }
-    ensures saved { result ≡ 0 → IfSome (content handle.old) (λ a. buffer.new ≡ table_bytes (minor_of is_full) (dictionary_in a).table ++ drop needed.new buffer.old) }
-    ensures needed { (result ≡ 0) ⊎ (result ≡ 11) → IfSome (content handle.old) (λ a. needed.new ≡ length (table_bytes (minor_of is_full) (dictionary_in a).table)) }
-    ensures room { (result ≡ 0 → needed.new ≤ length buffer.old) × (result ≡ 11 → length buffer.old < needed.new) }
-    ensures refused { (result ≡ 0) ⊎ (((result ≡ 1) ⊎ (result ≡ 2) ⊎ (result ≡ 11)) × (buffer.new ≡ buffer.old)) }
+    ensures closed { (result ≡ CLOSED) ↔ (content handle.old ≡ None) }
+    ensures saved { result ≡ OK → IfSome (content handle.old) (λ a. buffer.new ≡ table_bytes (minor_of is_full) (dictionary_in a).table ++ drop needed.new buffer.old) }
+    ensures needed { (result ≡ OK) ⊎ (result ≡ NO_ROOM) → IfSome (content handle.old) (λ a. needed.new ≡ length (table_bytes (minor_of is_full) (dictionary_in a).table)) }
+    ensures room { (result ≡ OK → needed.new ≤ length buffer.old) × (result ≡ NO_ROOM → length buffer.old < needed.new) }
+    ensures refused { (result ≡ OK) ⊎ (((result ≡ CLOSED) ⊎ (result ≡ MEMORY) ⊎ (result ≡ NO_ROOM)) × (buffer.new ≡ buffer.old)) }
     ensures kept { content handle.new ≡ content handle.old }
 {
     if !handle.is_open() {
@@ -42,10 +42,10 @@ pub extern "C" fn cedar_save(
 impl AnyCedar {
     /// Writes the dictionary's file into the first places of a buffer, and tells how many bytes it has.
     fn save(&self, alloc: Global, is_full: bool, buffer: &mut [u8], needed: &mut usize) -> u32
-        ensures saved { result ≡ 0 → buffer.new ≡ table_bytes (minor_of is_full) (dictionary_in self.now).table ++ drop needed.new buffer.old }
-        ensures needed { (result ≡ 0) ⊎ (result ≡ 11) → needed.new ≡ length (table_bytes (minor_of is_full) (dictionary_in self.now).table) }
-        ensures room { (result ≡ 0 → needed.new ≤ length buffer.old) × (result ≡ 11 → length buffer.old < needed.new) }
-        ensures refused { (result ≡ 0) ⊎ (((result ≡ 2) ⊎ (result ≡ 11)) × (buffer.new ≡ buffer.old)) }
+        ensures saved { result ≡ OK → buffer.new ≡ table_bytes (minor_of is_full) (dictionary_in self.now).table ++ drop needed.new buffer.old }
+        ensures needed { (result ≡ OK) ⊎ (result ≡ NO_ROOM) → needed.new ≡ length (table_bytes (minor_of is_full) (dictionary_in self.now).table) }
+        ensures room { (result ≡ OK → needed.new ≤ length buffer.old) × (result ≡ NO_ROOM → length buffer.old < needed.new) }
+        ensures refused { (result ≡ OK) ⊎ (((result ≡ MEMORY) ⊎ (result ≡ NO_ROOM)) × (buffer.new ≡ buffer.old)) }
     {
         match self.file(alloc, is_full) {
             Some(file) => copy_whole(file.as_slice(), buffer, needed),
@@ -109,8 +109,8 @@ fn file_v1_0<L: Layout, const SLOTS: usize>(
 /// Writes some bytes into the first places of a buffer, if it has room for all, and tells how many they are.
 pub(crate) fn copy_whole(bytes: &[u8], buffer: &mut [u8], needed: &mut usize) -> u32
     ensures needed { needed.new ≡ length bytes.now }
-    ensures written { result ≡ 0 → (buffer.new ≡ bytes.now ++ drop (length bytes.now) buffer.old) × (length bytes.now ≤ length buffer.old) }
-    ensures no_room { (result ≡ 0) ⊎ ((result ≡ 11) × (length buffer.old < length bytes.now) × (buffer.new ≡ buffer.old)) }
+    ensures written { result ≡ OK → (buffer.new ≡ bytes.now ++ drop (length bytes.now) buffer.old) × (length bytes.now ≤ length buffer.old) }
+    ensures no_room { (result ≡ OK) ⊎ ((result ≡ NO_ROOM) × (length buffer.old < length bytes.now) × (buffer.new ≡ buffer.old)) }
 {
     *needed = bytes.len();
     if buffer.len() < bytes.len() {

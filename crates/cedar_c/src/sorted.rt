@@ -6,14 +6,14 @@ ghost use Rattle.cedar_model.specs.Table.Layouts.{default_layout, reduced_layout
 ghost use Rattle.cedar_tree.specs.Queries.{asc, prefixes};
 ghost use Rattle.cedarwood.specs.Dictionary.{capacity_after};
 ghost use Rattle.cedar_c.specs.Content.{content, layout_in, state_in, trials_in, size_in, capacity_in};
-ghost use Rattle.cedar_c.specs.Layouts.{dictionary_in, layout_if, layout_of};
+ghost use Rattle.cedar_c.specs.Layouts.{dictionary_in, layout_if, layout_of, most_slots};
 ghost use Rattle.cedar_c.specs.Pairs.{entries_in, fault_in};
-ghost use Rattle.cedar_c.specs.Status.{status_of, position_of};
+ghost use Rattle.cedar_c.specs.Status.{position_of, status_of, TellsPosition};
 
 use crate::any::AnyCedar;
 use crate::handle::Handle;
 use crate::pairs::{Pair, taken};
-use crate::status::{INVALID_MAX_TRIAL, OK, tell};
+use crate::status::{INVALID_MAX_TRIAL, MEMORY, OK, SLOT_LIMIT, tell};
 use cedarwood::{CedarBuilder, CedarError, Layout, Trie};
 use std::alloc::Global;
 
@@ -52,7 +52,7 @@ impl AnyCedar {
         ensures size { IfOk result (λ a. (n : ℕ) × (n ≤ length (prefixes (asc (entries_in pairs.now)))) × ((dictionary_in a).size ≡ 256 + 256 * n) × ((dictionary_in a).capacity ≡ capacity_after n 256 256)) }
         ensures layout { IfOk result (λ a. layout_of a ≡ layout_if is_reduced) }
         ensures refused { fault_in pairs.now ≡ None → IfErr result (λ e.
-            (e ≡ CedarError.Memory) ⊎ ((e ≡ CedarError.SlotLimit) × (1073741824 ≤ 256 * length (prefixes (asc (entries_in pairs.now)))))) }
+            (e ≡ CedarError.Memory) ⊎ ((e ≡ CedarError.SlotLimit) × (most_slots ≤ 256 * length (prefixes (asc (entries_in pairs.now)))))) }
     {
         if is_reduced {
             let cedar = made(alloc, settings, pairs)?;
@@ -76,7 +76,7 @@ fn boxed(
     ensures size { IfOk result (λ b. (n : ℕ) × (n ≤ length (prefixes (asc (entries_in pairs.now)))) × ((dictionary_in b.value).size ≡ 256 + 256 * n) × ((dictionary_in b.value).capacity ≡ capacity_after n 256 256)) }
     ensures layout { IfOk result (λ b. layout_of b.value ≡ layout_if is_reduced) }
     ensures refused { fault_in pairs.now ≡ None → IfErr result (λ e.
-        (e ≡ CedarError.Memory) ⊎ ((e ≡ CedarError.SlotLimit) × (1073741824 ≤ 256 * length (prefixes (asc (entries_in pairs.now)))))) }
+        (e ≡ CedarError.Memory) ⊎ ((e ≡ CedarError.SlotLimit) × (most_slots ≤ 256 * length (prefixes (asc (entries_in pairs.now)))))) }
 {
     let cedar = AnyCedar::from_sorted(alloc, is_reduced, settings, pairs)?;
     match Box::new(alloc, cedar) {
@@ -94,14 +94,14 @@ fn renew(
     pairs: &[Pair<'_>],
     position: &mut usize,
 ) -> u32
-    ensures made { result ≡ 0 → state_in handle.new ≡ Some (record { tree = asc (entries_in pairs.now); ordered = settings.ordered }) }
-    ensures max_trial { result ≡ 0 → trials_in handle.new ≡ Some settings.max_trial }
-    ensures size { result ≡ 0 → (n : ℕ) × (n ≤ length (prefixes (asc (entries_in pairs.now)))) × (size_in handle.new ≡ 256 + 256 * n) × (capacity_in handle.new ≡ capacity_after n 256 256) }
-    ensures layout { result ≡ 0 → layout_in handle.new ≡ Some (layout_if is_reduced) }
-    ensures faulty { IfSome (fault_in pairs.now) (λ e. (result ≡ 2) ⊎ ((result ≡ status_of e) × (position.new ≡ position_of position.old e))) }
-    ensures refused { fault_in pairs.now ≡ None → (result ≡ 0) ⊎ (result ≡ 2) ⊎ ((result ≡ 3) × (1073741824 ≤ 256 * length (prefixes (asc (entries_in pairs.now))))) }
-    ensures kept { (result ≡ 0) ⊎ (content handle.new ≡ content handle.old) }
-    ensures stays { (result ≡ 5) ⊎ (result ≡ 8) ⊎ (result ≡ 9) ⊎ (position.new ≡ position.old) }
+    ensures made { result ≡ OK → state_in handle.new ≡ Some (record { tree = asc (entries_in pairs.now); ordered = settings.ordered }) }
+    ensures max_trial { result ≡ OK → trials_in handle.new ≡ Some settings.max_trial }
+    ensures size { result ≡ OK → (n : ℕ) × (n ≤ length (prefixes (asc (entries_in pairs.now)))) × (size_in handle.new ≡ 256 + 256 * n) × (capacity_in handle.new ≡ capacity_after n 256 256) }
+    ensures layout { result ≡ OK → layout_in handle.new ≡ Some (layout_if is_reduced) }
+    ensures faulty { IfSome (fault_in pairs.now) (λ e. (result ≡ MEMORY) ⊎ ((result ≡ status_of e) × (position.new ≡ position_of position.old e))) }
+    ensures refused { fault_in pairs.now ≡ None → (result ≡ OK) ⊎ (result ≡ MEMORY) ⊎ ((result ≡ SLOT_LIMIT) × (most_slots ≤ 256 * length (prefixes (asc (entries_in pairs.now))))) }
+    ensures kept { (result ≡ OK) ⊎ (content handle.new ≡ content handle.old) }
+    ensures stays { TellsPosition result ⊎ (position.new ≡ position.old) }
 {
     match boxed(alloc, is_reduced, settings, pairs) {
         Ok(cedar) => {
@@ -123,16 +123,16 @@ fn renew_with(
     pairs: &[Pair<'_>],
     position: &mut usize,
 ) -> u32
-    ensures made { result ≡ 0 → state_in handle.new ≡ Some (record { tree = asc (entries_in pairs.now); ordered = ordered }) }
-    ensures max_trial { result ≡ 0 → trials_in handle.new ≡ Some max_trial }
-    ensures size { result ≡ 0 → (n : ℕ) × (n ≤ length (prefixes (asc (entries_in pairs.now)))) × (size_in handle.new ≡ 256 + 256 * n) × (capacity_in handle.new ≡ capacity_after n 256 256) }
-    ensures layout { result ≡ 0 → layout_in handle.new ≡ Some (layout_if is_reduced) }
-    ensures invalid { max_trial <ℤ pos 1 → result ≡ 7 }
-    ensures faulty { pos 1 ≤ℤ max_trial → IfSome (fault_in pairs.now) (λ e. (result ≡ 2) ⊎ ((result ≡ status_of e) × (position.new ≡ position_of position.old e))) }
+    ensures made { result ≡ OK → state_in handle.new ≡ Some (record { tree = asc (entries_in pairs.now); ordered = ordered }) }
+    ensures max_trial { result ≡ OK → trials_in handle.new ≡ Some max_trial }
+    ensures size { result ≡ OK → (n : ℕ) × (n ≤ length (prefixes (asc (entries_in pairs.now)))) × (size_in handle.new ≡ 256 + 256 * n) × (capacity_in handle.new ≡ capacity_after n 256 256) }
+    ensures layout { result ≡ OK → layout_in handle.new ≡ Some (layout_if is_reduced) }
+    ensures invalid { max_trial <ℤ pos 1 → result ≡ INVALID_MAX_TRIAL }
+    ensures faulty { pos 1 ≤ℤ max_trial → IfSome (fault_in pairs.now) (λ e. (result ≡ MEMORY) ⊎ ((result ≡ status_of e) × (position.new ≡ position_of position.old e))) }
     ensures refused { pos 1 ≤ℤ max_trial → fault_in pairs.now ≡ None →
-        (result ≡ 0) ⊎ (result ≡ 2) ⊎ ((result ≡ 3) × (1073741824 ≤ 256 * length (prefixes (asc (entries_in pairs.now))))) }
-    ensures kept { (result ≡ 0) ⊎ (content handle.new ≡ content handle.old) }
-    ensures stays { (result ≡ 5) ⊎ (result ≡ 8) ⊎ (result ≡ 9) ⊎ (position.new ≡ position.old) }
+        (result ≡ OK) ⊎ (result ≡ MEMORY) ⊎ ((result ≡ SLOT_LIMIT) × (most_slots ≤ 256 * length (prefixes (asc (entries_in pairs.now))))) }
+    ensures kept { (result ≡ OK) ⊎ (content handle.new ≡ content handle.old) }
+    ensures stays { TellsPosition result ⊎ (position.new ≡ position.old) }
 {
     match CedarBuilder::new().ordered(ordered).max_trial(max_trial) {
         Ok(settings) => renew(handle, alloc, is_reduced, settings, pairs, position),
@@ -156,16 +156,16 @@ pub extern "C" fn cedar_build(
     pairs: &[Pair<'_>],
     position: &mut usize,
 ) -> u32
-    ensures made { result ≡ 0 → state_in handle.new ≡ Some (record { tree = asc (entries_in pairs.now); ordered = ordered }) }
-    ensures max_trial { result ≡ 0 → trials_in handle.new ≡ Some max_trial }
-    ensures size { result ≡ 0 → (n : ℕ) × (n ≤ length (prefixes (asc (entries_in pairs.now)))) × (size_in handle.new ≡ 256 + 256 * n) × (capacity_in handle.new ≡ capacity_after n 256 256) }
-    ensures layout { result ≡ 0 → layout_in handle.new ≡ Some default_layout }
-    ensures invalid { max_trial <ℤ pos 1 → result ≡ 7 }
-    ensures faulty { pos 1 ≤ℤ max_trial → IfSome (fault_in pairs.now) (λ e. (result ≡ 2) ⊎ ((result ≡ status_of e) × (position.new ≡ position_of position.old e))) }
+    ensures made { result ≡ OK → state_in handle.new ≡ Some (record { tree = asc (entries_in pairs.now); ordered = ordered }) }
+    ensures max_trial { result ≡ OK → trials_in handle.new ≡ Some max_trial }
+    ensures size { result ≡ OK → (n : ℕ) × (n ≤ length (prefixes (asc (entries_in pairs.now)))) × (size_in handle.new ≡ 256 + 256 * n) × (capacity_in handle.new ≡ capacity_after n 256 256) }
+    ensures layout { result ≡ OK → layout_in handle.new ≡ Some default_layout }
+    ensures invalid { max_trial <ℤ pos 1 → result ≡ INVALID_MAX_TRIAL }
+    ensures faulty { pos 1 ≤ℤ max_trial → IfSome (fault_in pairs.now) (λ e. (result ≡ MEMORY) ⊎ ((result ≡ status_of e) × (position.new ≡ position_of position.old e))) }
     ensures refused { pos 1 ≤ℤ max_trial → fault_in pairs.now ≡ None →
-        (result ≡ 0) ⊎ (result ≡ 2) ⊎ ((result ≡ 3) × (1073741824 ≤ 256 * length (prefixes (asc (entries_in pairs.now))))) }
-    ensures kept { (result ≡ 0) ⊎ (content handle.new ≡ content handle.old) }
-    ensures stays { (result ≡ 5) ⊎ (result ≡ 8) ⊎ (result ≡ 9) ⊎ (position.new ≡ position.old) }
+        (result ≡ OK) ⊎ (result ≡ MEMORY) ⊎ ((result ≡ SLOT_LIMIT) × (most_slots ≤ 256 * length (prefixes (asc (entries_in pairs.now))))) }
+    ensures kept { (result ≡ OK) ⊎ (content handle.new ≡ content handle.old) }
+    ensures stays { TellsPosition result ⊎ (position.new ≡ position.old) }
 {
     renew_with(handle, alloc, false, ordered, max_trial, pairs, position)
 }
@@ -183,16 +183,16 @@ pub extern "C" fn cedar_build_reduced(
     pairs: &[Pair<'_>],
     position: &mut usize,
 ) -> u32
-    ensures made { result ≡ 0 → state_in handle.new ≡ Some (record { tree = asc (entries_in pairs.now); ordered = ordered }) }
-    ensures max_trial { result ≡ 0 → trials_in handle.new ≡ Some max_trial }
-    ensures size { result ≡ 0 → (n : ℕ) × (n ≤ length (prefixes (asc (entries_in pairs.now)))) × (size_in handle.new ≡ 256 + 256 * n) × (capacity_in handle.new ≡ capacity_after n 256 256) }
-    ensures layout { result ≡ 0 → layout_in handle.new ≡ Some reduced_layout }
-    ensures invalid { max_trial <ℤ pos 1 → result ≡ 7 }
-    ensures faulty { pos 1 ≤ℤ max_trial → IfSome (fault_in pairs.now) (λ e. (result ≡ 2) ⊎ ((result ≡ status_of e) × (position.new ≡ position_of position.old e))) }
+    ensures made { result ≡ OK → state_in handle.new ≡ Some (record { tree = asc (entries_in pairs.now); ordered = ordered }) }
+    ensures max_trial { result ≡ OK → trials_in handle.new ≡ Some max_trial }
+    ensures size { result ≡ OK → (n : ℕ) × (n ≤ length (prefixes (asc (entries_in pairs.now)))) × (size_in handle.new ≡ 256 + 256 * n) × (capacity_in handle.new ≡ capacity_after n 256 256) }
+    ensures layout { result ≡ OK → layout_in handle.new ≡ Some reduced_layout }
+    ensures invalid { max_trial <ℤ pos 1 → result ≡ INVALID_MAX_TRIAL }
+    ensures faulty { pos 1 ≤ℤ max_trial → IfSome (fault_in pairs.now) (λ e. (result ≡ MEMORY) ⊎ ((result ≡ status_of e) × (position.new ≡ position_of position.old e))) }
     ensures refused { pos 1 ≤ℤ max_trial → fault_in pairs.now ≡ None →
-        (result ≡ 0) ⊎ (result ≡ 2) ⊎ ((result ≡ 3) × (1073741824 ≤ 256 * length (prefixes (asc (entries_in pairs.now))))) }
-    ensures kept { (result ≡ 0) ⊎ (content handle.new ≡ content handle.old) }
-    ensures stays { (result ≡ 5) ⊎ (result ≡ 8) ⊎ (result ≡ 9) ⊎ (position.new ≡ position.old) }
+        (result ≡ OK) ⊎ (result ≡ MEMORY) ⊎ ((result ≡ SLOT_LIMIT) × (most_slots ≤ 256 * length (prefixes (asc (entries_in pairs.now))))) }
+    ensures kept { (result ≡ OK) ⊎ (content handle.new ≡ content handle.old) }
+    ensures stays { TellsPosition result ⊎ (position.new ≡ position.old) }
 {
     renew_with(handle, alloc, true, ordered, max_trial, pairs, position)
 }

@@ -1,7 +1,7 @@
 //! The numbers that C is answered: those of `cedar.h`.
 
 ghost use Rattle.std.specs.Prelude.{◌≡◌, ◌⊎◌};
-ghost use Rattle.cedar_c.specs.Status.{status_of, position_of};
+ghost use Rattle.cedar_c.specs.Status.{position_of, status_of, TellsPosition};
 
 use cedarwood::CedarError;
 
@@ -17,18 +17,23 @@ pub(crate) const MEMORY: u32 = 2;
 /// The limit of slots doesn't allow what is wanted.
 pub(crate) const SLOT_LIMIT: u32 = 3;
 
-const EMPTY_KEY: u32 = 4;
+/// The key has no byte.
+pub(crate) const EMPTY_KEY: u32 = 4;
 
-const NUL_BYTE: u32 = 5;
+/// The key has a byte 0.
+pub(crate) const NUL_BYTE: u32 = 5;
 
-const INVALID_VALUE: u32 = 6;
+/// The value is below 0 or above 2147483645.
+pub(crate) const INVALID_VALUE: u32 = 6;
 
 /// The number of trials is 0 or less.
 pub(crate) const INVALID_MAX_TRIAL: u32 = 7;
 
-const DUPLICATE_KEY: u32 = 8;
+/// A sorted pair's key repeats the one before it.
+pub(crate) const DUPLICATE_KEY: u32 = 8;
 
-const KEYS_NOT_SORTED: u32 = 9;
+/// A sorted pair's key is below the one before it.
+pub(crate) const KEYS_NOT_SORTED: u32 = 9;
 
 /// An error that has no number yet.
 pub(crate) const OTHER: u32 = 10;
@@ -36,12 +41,42 @@ pub(crate) const OTHER: u32 = 10;
 /// The buffer has too few places.
 pub(crate) const NO_ROOM: u32 = 11;
 
+/// The file ends too early.
+pub(crate) const FILE_TRUNCATED: u32 = 20;
+
+/// It isn't a file of this format.
+pub(crate) const FILE_MAGIC: u32 = 21;
+
+/// The file is of another version than 1.0 and 1.1.
+pub(crate) const FILE_VERSION: u32 = 22;
+
+/// The file's byte order isn't the format's.
+pub(crate) const FILE_BYTE_ORDER: u32 = 23;
+
+/// The file is of a table of the other layout.
+pub(crate) const FILE_LAYOUT: u32 = 24;
+
+/// A number of the file's header is out of its rule.
+pub(crate) const FILE_HEADER: u32 = 25;
+
+/// The file asks for more memory than the limit that was given.
+pub(crate) const FILE_MEMORY_LIMIT: u32 = 26;
+
+/// The file's table isn't well-formed.
+pub(crate) const FILE_CORRUPT: u32 = 27;
+
+/// Something follows the file's table.
+pub(crate) const FILE_TRAILING: u32 = 28;
+
+/// The reading itself failed, which that of bytes in memory doesn't.
+pub(crate) const FILE_UNREAD: u32 = 29;
+
 /// The number of an error. Where a byte 0 was refused, it tells its position, and where a key isn't above the one before it, the index
 /// of its pair.
 pub(crate) fn tell(error: CedarError, position: &mut usize) -> u32
     ensures status { result ≡ status_of error }
     ensures position { position.new ≡ position_of position.old error }
-    ensures stays { (result ≡ 5) ⊎ (result ≡ 8) ⊎ (result ≡ 9) ⊎ (position.new ≡ position.old) }
+    ensures stays { TellsPosition result ⊎ (position.new ≡ position.old) }
 {
     match error {
         CedarError::Memory => MEMORY,

@@ -4,6 +4,11 @@ ghost use Rattle.std.specs.Prelude.{◌≡◌, ◌++◌, length, take, drop};
 ghost use Rattle.cedar_c.specs.Status.{status_text};
 
 use crate::save::copy_front;
+use crate::status::{
+    CLOSED, DUPLICATE_KEY, EMPTY_KEY, FILE_BYTE_ORDER, FILE_CORRUPT, FILE_HEADER, FILE_LAYOUT,
+    FILE_MAGIC, FILE_MEMORY_LIMIT, FILE_TRAILING, FILE_TRUNCATED, FILE_UNREAD, FILE_VERSION,
+    INVALID_MAX_TRIAL, INVALID_VALUE, KEYS_NOT_SORTED, MEMORY, NO_ROOM, NUL_BYTE, OK, SLOT_LIMIT,
+};
 
 /// Writes the text of a status into the first places of a buffer, as far as there is room, and says how many bytes it has. It has
 /// no byte 0 at its end.
@@ -20,27 +25,27 @@ fn text_of(status: u32) -> &'static str
     ensures { result.now ≡ status_text status }
 {
     match status {
-        0 => "done",
-        1 => "the dictionary is closed",
-        2 => "out of memory",
-        3 => "cedar trie has no slot left",
-        4 => "cedar keys must not be empty",
-        5 => "cedar keys must not contain the terminal byte 0x00",
-        6 => "cedar value is outside the supported range 0..=2147483645",
-        7 => "max_trial must be greater than zero",
-        8 => "duplicate key in sorted input",
-        9 => "key in sorted input is smaller than its predecessor",
-        11 => "the buffer is too short",
-        20 => "serialized cedar trie is truncated",
-        21 => "input is not a cedarwood serialized trie",
-        22 => "unsupported cedarwood format version",
-        23 => "unsupported cedarwood byte-order marker",
-        24 => "serialized trie layout does not match",
-        25 => "invalid serialized header field",
-        26 => "serialized trie requires more bytes while loading than the limit",
-        27 => "corrupt serialized trie",
-        28 => "serialized trie has trailing data",
-        29 => "persistence I/O error",
+        OK => "done",
+        CLOSED => "the dictionary is closed",
+        MEMORY => "out of memory",
+        SLOT_LIMIT => "cedar trie has no slot left",
+        EMPTY_KEY => "cedar keys must not be empty",
+        NUL_BYTE => "cedar keys must not contain the terminal byte 0x00",
+        INVALID_VALUE => "cedar value is outside the supported range 0..=2147483645",
+        INVALID_MAX_TRIAL => "max_trial must be greater than zero",
+        DUPLICATE_KEY => "duplicate key in sorted input",
+        KEYS_NOT_SORTED => "key in sorted input is smaller than its predecessor",
+        NO_ROOM => "the buffer is too short",
+        FILE_TRUNCATED => "serialized cedar trie is truncated",
+        FILE_MAGIC => "input is not a cedarwood serialized trie",
+        FILE_VERSION => "unsupported cedarwood format version",
+        FILE_BYTE_ORDER => "unsupported cedarwood byte-order marker",
+        FILE_LAYOUT => "serialized trie layout does not match",
+        FILE_HEADER => "invalid serialized header field",
+        FILE_MEMORY_LIMIT => "serialized trie requires more bytes while loading than the limit",
+        FILE_CORRUPT => "corrupt serialized trie",
+        FILE_TRAILING => "serialized trie has trailing data",
+        FILE_UNREAD => "persistence I/O error",
         _ => "an error without a text",
     }
 }
