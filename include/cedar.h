@@ -36,10 +36,9 @@ extern "C" {
 typedef struct cedar {
     void *held;
     uint32_t is_open;
-    uint32_t is_default;
 } cedar;
 
-#define CEDAR_CLOSED { NULL, 0, 0 }
+#define CEDAR_CLOSED { NULL, 0 }
 
 #define CEDAR_MIN_VALUE 0
 #define CEDAR_MAX_VALUE 2147483645

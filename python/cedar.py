@@ -25,7 +25,7 @@ from pathlib import Path
 
 
 class _Handle(ctypes.Structure):
-    _fields_ = [("held", c_void_p), ("is_open", c_uint32), ("is_default", c_uint32)]
+    _fields_ = [("held", c_void_p), ("is_open", c_uint32)]
 
 
 class _Match(ctypes.Structure):

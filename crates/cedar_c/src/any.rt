@@ -104,36 +104,6 @@ impl AnyCedar {
         }
     }
 
-    /// The dictionary, where the caller knows that it is of the default layout: which variant is there isn't read.
-    pub(crate) fn by_default(&self) -> &Cedar<Global>
-        requires { layout_of self.now ≡ default_layout }
-        ensures { result.now ≡ dictionary_in self.now }
-    {
-        match self {
-            AnyCedar::Default(cedar) => cedar,
-            AnyCedar::Reduced(_) => {
-                // Never taken. `unreachable!()` is compiled to a trap, and the test before it would stay. A shift by 64 has no value, so
-                // LLVM takes the other arm's without a test.
-                let none: &[Cedar<Global>] = &[];
-                &none[1 << 64]
-            }
-        }
-    }
-
-    /// The same for the reduced layout.
-    pub(crate) fn reduced(&self) -> &ReducedCedar<Global>
-        requires { layout_of self.now ≡ reduced_layout }
-        ensures { result.now ≡ dictionary_in self.now }
-    {
-        match self {
-            AnyCedar::Default(_) => {
-                let none: &[ReducedCedar<Global>] = &[];
-                &none[1 << 64]
-            }
-            AnyCedar::Reduced(cedar) => cedar,
-        }
-    }
-
     pub(crate) fn len(&self) -> usize
         ensures { result ≡ length (walk (dictionary_in self.now).state.tree) }
     {

@@ -240,13 +240,23 @@ pub extern "C" fn cedar_get(handle: &mut Handle, key: &[u8], value: &mut i32) ->
     ensures absent { number_at (tree_in handle.old) key.now ≡ None → value.new ≡ value.old }
     ensures kept { content handle.new ≡ content handle.old }
 {
-    if !handle.is_default() {
-        if !handle.is_open() {
-            return false;
-        }
-        return get(handle.held.lend().reduced(), key, value);
+    if !handle.is_open() {
+        return false;
     }
-    get(handle.held.lend().by_default(), key, value)
+    handle.held.lend().get(key, value)
+}
+
+impl AnyCedar {
+    fn get(&self, key: &[u8], value: &mut i32) -> bool
+        ensures answer { IsTrue result ↔ IsSome (number_at (dictionary_in self.now).state.tree key.now) }
+        ensures value { IfSome (number_at (dictionary_in self.now).state.tree key.now) (λ v. value.new ≡ v) }
+        ensures absent { number_at (dictionary_in self.now).state.tree key.now ≡ None → value.new ≡ value.old }
+    {
+        match self {
+            AnyCedar::Default(cedar) => get(cedar, key, value),
+            AnyCedar::Reduced(cedar) => get(cedar, key, value),
+        }
+    }
 }
 
 /// Tells the value at a key, and says whether the key is held.
