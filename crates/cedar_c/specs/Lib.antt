@@ -3,6 +3,7 @@ pub mod Files
 pub mod Layouts
 pub mod Lending
 pub mod Matches
+pub mod Opens
 pub mod Ownership
 pub mod Pairs
 pub mod Scans

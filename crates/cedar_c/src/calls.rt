@@ -1,12 +1,13 @@
 //! The calls that make, change and ask a dictionary.
 
-ghost use Rattle.std.specs.Prelude.{◌≡◌, ◌⊎◌, ◌-◌, ◌*◌, ◌<◌, ◌≤◌, ◌<ℤ◌, pos, length, None, Some, IsSome, IfSome, IsTrue, ◌↔◌, option_map, true};
+ghost use Rattle.std.specs.Prelude.{◌≡◌, ◌⊎◌, ◌-◌, ◌*◌, ◌<◌, ◌≤◌, pos, length, None, Some, IsSome, IfSome, IsTrue, ◌↔◌, option_map, true};
 ghost use Rattle.cedarwood.specs.Fault.{fault};
 ghost use Rattle.cedarwood.specs.State.{stored, erased};
 ghost use Rattle.cedarwood.specs.Tree.{empty_tree, number_at};
 ghost use Rattle.cedar_model.specs.Table.Layouts.{default_layout, reduced_layout};
 ghost use Rattle.cedar_c.specs.Content.{content, layout_in, state_in, tree_in, trials_in, size_in, capacity_in};
 ghost use Rattle.cedar_c.specs.Layouts.{dictionary_in, layout_if, layout_of, most_slots};
+ghost use Rattle.cedar_c.specs.Opens.{OpensNew};
 ghost use Rattle.cedar_c.specs.Status.{position_of, status_of, TellsPosition};
 
 use crate::any::AnyCedar;
@@ -50,13 +51,9 @@ fn renew(handle: &mut Handle, alloc: Global, is_reduced: bool, settings: CedarBu
 /// 2 where a request for memory was refused. Then the handle is as it was.
 #[unsafe(no_mangle)]
 pub extern "C" fn cedar_new(handle: &mut Handle, alloc: Global) -> u32
-    ensures made { result ≡ OK → state_in handle.new ≡ Some (record { tree = empty_tree; ordered = true }) }
-    ensures max_trial { result ≡ OK → trials_in handle.new ≡ Some (pos 1) }
-    ensures size { result ≡ OK → (size_in handle.new ≡ 256) × (capacity_in handle.new ≡ 256) }
-    ensures layout { result ≡ OK → layout_in handle.new ≡ Some default_layout }
-    ensures refused { (result ≡ OK) ⊎ ((result ≡ MEMORY) × (content handle.new ≡ content handle.old)) }
+    ensures opens { OpensNew default_layout true (pos 1) handle.old handle.new result }
 {
-    renew(handle, alloc, false, CedarBuilder::new())
+    renew_with(handle, alloc, false, true, 1)
 }
 
 /// As `cedar_new`, with settings: whether the labels of each node ascend, and how many failed searches for a place close a block.
@@ -70,12 +67,7 @@ pub extern "C" fn cedar_new_with(
     ordered: bool,
     max_trial: i32,
 ) -> u32
-    ensures made { result ≡ OK → state_in handle.new ≡ Some (record { tree = empty_tree; ordered = ordered }) }
-    ensures max_trial { result ≡ OK → trials_in handle.new ≡ Some max_trial }
-    ensures size { result ≡ OK → (size_in handle.new ≡ 256) × (capacity_in handle.new ≡ 256) }
-    ensures layout { result ≡ OK → layout_in handle.new ≡ Some default_layout }
-    ensures invalid { (result ≡ INVALID_MAX_TRIAL) ↔ (max_trial <ℤ pos 1) }
-    ensures refused { (result ≡ OK) ⊎ (((result ≡ INVALID_MAX_TRIAL) ⊎ (result ≡ MEMORY)) × (content handle.new ≡ content handle.old)) }
+    ensures opens { OpensNew default_layout ordered max_trial handle.old handle.new result }
 {
     renew_with(handle, alloc, false, ordered, max_trial)
 }
@@ -91,12 +83,7 @@ pub extern "C" fn cedar_new_reduced(
     ordered: bool,
     max_trial: i32,
 ) -> u32
-    ensures made { result ≡ OK → state_in handle.new ≡ Some (record { tree = empty_tree; ordered = ordered }) }
-    ensures max_trial { result ≡ OK → trials_in handle.new ≡ Some max_trial }
-    ensures size { result ≡ OK → (size_in handle.new ≡ 256) × (capacity_in handle.new ≡ 256) }
-    ensures layout { result ≡ OK → layout_in handle.new ≡ Some reduced_layout }
-    ensures invalid { (result ≡ INVALID_MAX_TRIAL) ↔ (max_trial <ℤ pos 1) }
-    ensures refused { (result ≡ OK) ⊎ (((result ≡ INVALID_MAX_TRIAL) ⊎ (result ≡ MEMORY)) × (content handle.new ≡ content handle.old)) }
+    ensures opens { OpensNew reduced_layout ordered max_trial handle.old handle.new result }
 {
     renew_with(handle, alloc, true, ordered, max_trial)
 }
@@ -109,12 +96,7 @@ fn renew_with(
     ordered: bool,
     max_trial: i32,
 ) -> u32
-    ensures made { result ≡ OK → state_in handle.new ≡ Some (record { tree = empty_tree; ordered = ordered }) }
-    ensures max_trial { result ≡ OK → trials_in handle.new ≡ Some max_trial }
-    ensures size { result ≡ OK → (size_in handle.new ≡ 256) × (capacity_in handle.new ≡ 256) }
-    ensures layout { result ≡ OK → layout_in handle.new ≡ Some (layout_if is_reduced) }
-    ensures invalid { (result ≡ INVALID_MAX_TRIAL) ↔ (max_trial <ℤ pos 1) }
-    ensures refused { (result ≡ OK) ⊎ (((result ≡ INVALID_MAX_TRIAL) ⊎ (result ≡ MEMORY)) × (content handle.new ≡ content handle.old)) }
+    ensures opens { OpensNew (layout_if is_reduced) ordered max_trial handle.old handle.new result }
 {
     match CedarBuilder::new().ordered(ordered).max_trial(max_trial) {
         Ok(settings) => renew(handle, alloc, is_reduced, settings),

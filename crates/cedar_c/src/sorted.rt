@@ -1,12 +1,13 @@
 //! A dictionary of sorted pairs, made at once.
 
-ghost use Rattle.std.specs.Prelude.{◌≡◌, ◌⊎◌, ◌+◌, ◌*◌, ◌≤◌, ◌≤ℤ◌, ◌<ℤ◌, ℕ, pos, length, None, Some, Err, IfOk, IfErr, IfSome};
+ghost use Rattle.std.specs.Prelude.{◌≡◌, ◌⊎◌, ◌+◌, ◌*◌, ◌≤◌, ℕ, length, None, Some, Err, IfOk, IfErr, IfSome};
 ghost use Rattle.cedar_slots.specs.Places.{IsSlotLimit};
 ghost use Rattle.cedar_model.specs.Table.Layouts.{default_layout, reduced_layout};
 ghost use Rattle.cedar_tree.specs.Queries.{asc, prefixes};
 ghost use Rattle.cedarwood.specs.Dictionary.{capacity_after};
 ghost use Rattle.cedar_c.specs.Content.{content, layout_in, state_in, trials_in, size_in, capacity_in};
 ghost use Rattle.cedar_c.specs.Layouts.{dictionary_in, layout_if, layout_of, most_slots};
+ghost use Rattle.cedar_c.specs.Opens.{OpensSorted};
 ghost use Rattle.cedar_c.specs.Pairs.{entries_in, fault_in};
 ghost use Rattle.cedar_c.specs.Status.{position_of, status_of, TellsPosition};
 
@@ -123,16 +124,7 @@ fn renew_with(
     pairs: &[Pair<'_>],
     position: &mut usize,
 ) -> u32
-    ensures made { result ≡ OK → state_in handle.new ≡ Some (record { tree = asc (entries_in pairs.now); ordered = ordered }) }
-    ensures max_trial { result ≡ OK → trials_in handle.new ≡ Some max_trial }
-    ensures size { result ≡ OK → (n : ℕ) × (n ≤ length (prefixes (asc (entries_in pairs.now)))) × (size_in handle.new ≡ 256 + 256 * n) × (capacity_in handle.new ≡ capacity_after n 256 256) }
-    ensures layout { result ≡ OK → layout_in handle.new ≡ Some (layout_if is_reduced) }
-    ensures invalid { max_trial <ℤ pos 1 → result ≡ INVALID_MAX_TRIAL }
-    ensures faulty { pos 1 ≤ℤ max_trial → IfSome (fault_in pairs.now) (λ e. (result ≡ MEMORY) ⊎ ((result ≡ status_of e) × (position.new ≡ position_of position.old e))) }
-    ensures refused { pos 1 ≤ℤ max_trial → fault_in pairs.now ≡ None →
-        (result ≡ OK) ⊎ (result ≡ MEMORY) ⊎ ((result ≡ SLOT_LIMIT) × (most_slots ≤ 256 * length (prefixes (asc (entries_in pairs.now))))) }
-    ensures kept { (result ≡ OK) ⊎ (content handle.new ≡ content handle.old) }
-    ensures stays { TellsPosition result ⊎ (position.new ≡ position.old) }
+    ensures opens { OpensSorted (layout_if is_reduced) ordered max_trial pairs.now handle.old handle.new position.old position.new result }
 {
     match CedarBuilder::new().ordered(ordered).max_trial(max_trial) {
         Ok(settings) => renew(handle, alloc, is_reduced, settings, pairs, position),
@@ -156,16 +148,7 @@ pub extern "C" fn cedar_build(
     pairs: &[Pair<'_>],
     position: &mut usize,
 ) -> u32
-    ensures made { result ≡ OK → state_in handle.new ≡ Some (record { tree = asc (entries_in pairs.now); ordered = ordered }) }
-    ensures max_trial { result ≡ OK → trials_in handle.new ≡ Some max_trial }
-    ensures size { result ≡ OK → (n : ℕ) × (n ≤ length (prefixes (asc (entries_in pairs.now)))) × (size_in handle.new ≡ 256 + 256 * n) × (capacity_in handle.new ≡ capacity_after n 256 256) }
-    ensures layout { result ≡ OK → layout_in handle.new ≡ Some default_layout }
-    ensures invalid { max_trial <ℤ pos 1 → result ≡ INVALID_MAX_TRIAL }
-    ensures faulty { pos 1 ≤ℤ max_trial → IfSome (fault_in pairs.now) (λ e. (result ≡ MEMORY) ⊎ ((result ≡ status_of e) × (position.new ≡ position_of position.old e))) }
-    ensures refused { pos 1 ≤ℤ max_trial → fault_in pairs.now ≡ None →
-        (result ≡ OK) ⊎ (result ≡ MEMORY) ⊎ ((result ≡ SLOT_LIMIT) × (most_slots ≤ 256 * length (prefixes (asc (entries_in pairs.now))))) }
-    ensures kept { (result ≡ OK) ⊎ (content handle.new ≡ content handle.old) }
-    ensures stays { TellsPosition result ⊎ (position.new ≡ position.old) }
+    ensures opens { OpensSorted default_layout ordered max_trial pairs.now handle.old handle.new position.old position.new result }
 {
     renew_with(handle, alloc, false, ordered, max_trial, pairs, position)
 }
@@ -183,16 +166,7 @@ pub extern "C" fn cedar_build_reduced(
     pairs: &[Pair<'_>],
     position: &mut usize,
 ) -> u32
-    ensures made { result ≡ OK → state_in handle.new ≡ Some (record { tree = asc (entries_in pairs.now); ordered = ordered }) }
-    ensures max_trial { result ≡ OK → trials_in handle.new ≡ Some max_trial }
-    ensures size { result ≡ OK → (n : ℕ) × (n ≤ length (prefixes (asc (entries_in pairs.now)))) × (size_in handle.new ≡ 256 + 256 * n) × (capacity_in handle.new ≡ capacity_after n 256 256) }
-    ensures layout { result ≡ OK → layout_in handle.new ≡ Some reduced_layout }
-    ensures invalid { max_trial <ℤ pos 1 → result ≡ INVALID_MAX_TRIAL }
-    ensures faulty { pos 1 ≤ℤ max_trial → IfSome (fault_in pairs.now) (λ e. (result ≡ MEMORY) ⊎ ((result ≡ status_of e) × (position.new ≡ position_of position.old e))) }
-    ensures refused { pos 1 ≤ℤ max_trial → fault_in pairs.now ≡ None →
-        (result ≡ OK) ⊎ (result ≡ MEMORY) ⊎ ((result ≡ SLOT_LIMIT) × (most_slots ≤ 256 * length (prefixes (asc (entries_in pairs.now))))) }
-    ensures kept { (result ≡ OK) ⊎ (content handle.new ≡ content handle.old) }
-    ensures stays { TellsPosition result ⊎ (position.new ≡ position.old) }
+    ensures opens { OpensSorted reduced_layout ordered max_trial pairs.now handle.old handle.new position.old position.new result }
 {
     renew_with(handle, alloc, true, ordered, max_trial, pairs, position)
 }
