@@ -48,7 +48,7 @@ fn renew(handle: &mut Handle, alloc: Global, is_reduced: bool, settings: CedarBu
 /// Opens a handle with an empty dictionary, in the place of the one that it has, if it is open.
 ///
 /// # Errors
-/// 2 where a request for memory was refused. Then the handle is as it was.
+/// `MEMORY` where a request for memory was refused. Then the handle is as it was.
 #[unsafe(no_mangle)]
 pub extern "C" fn cedar_new(handle: &mut Handle, alloc: Global) -> u32
     ensures opens { OpensNew default_layout true (pos 1) handle.old handle.new result }
@@ -59,7 +59,8 @@ pub extern "C" fn cedar_new(handle: &mut Handle, alloc: Global) -> u32
 /// As `cedar_new`, with settings: whether the labels of each node ascend, and how many failed searches for a place close a block.
 ///
 /// # Errors
-/// 7 where `max_trial` is 0 or less, and else 2 where a request for memory was refused. Then the handle is as it was.
+/// `INVALID_MAX_TRIAL` where `max_trial` is 0 or less, and else `MEMORY` where a request for memory was refused. Then the handle is as
+/// it was.
 #[unsafe(no_mangle)]
 pub extern "C" fn cedar_new_with(
     handle: &mut Handle,
@@ -115,7 +116,7 @@ pub extern "C" fn cedar_free(handle: &mut Handle, alloc: Global)
 /// Stores a value at a key, in place of the value that the key holds, if it holds one.
 ///
 /// # Errors
-/// 1 where the handle is closed, and else the number of the error. Then the dictionary holds what it held.
+/// `CLOSED` where the handle is closed, and else the number of the error. Then the dictionary holds what it held.
 #[unsafe(no_mangle)]
 pub extern "C" fn cedar_update(
     handle: &mut Handle,

@@ -25,7 +25,7 @@ use std::alloc::Global;
 /// `memory_limit` bytes at most.
 ///
 /// # Errors
-/// The number of the file's first refusal; 2 where a request for memory was refused. Then the handle is as it was.
+/// The number of the file's first refusal; `MEMORY` where a request for memory was refused. Then the handle is as it was.
 #[unsafe(no_mangle)]
 pub extern "C" fn cedar_load(
     handle: &mut Handle,

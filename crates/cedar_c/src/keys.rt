@@ -18,8 +18,8 @@ use std::alloc::Global;
 /// memory for a copy of them.
 ///
 /// # Errors
-/// 1 where the handle is closed, 11 where the keys have more bytes than the buffer has places: then it tells how many; 2 where a
-/// request for memory was refused. After an error the buffer is as it was.
+/// `CLOSED` where the handle is closed, `NO_ROOM` where the keys have more bytes than the buffer has places: then it tells how many;
+/// `MEMORY` where a request for memory was refused. After an error the buffer is as it was.
 #[unsafe(no_mangle)]
 pub extern "C" fn cedar_keys(
     handle: &mut Handle,

@@ -76,8 +76,9 @@ impl AnyCedar {
 /// Stores some pairs, one after another: a key's last value stands. All are tested first.
 ///
 /// # Errors
-/// 1 where the handle is closed; 2 where a request for memory was refused; the number of the first pair's fault that has one, and
-/// then nothing has changed; 2 or 3 where memory or slots were wanted for a pair: then those before it are stored.
+/// `CLOSED` where the handle is closed; `MEMORY` where a request for memory was refused; the number of the first pair's fault that has
+/// one, and then nothing has changed; `MEMORY` or `SLOT_LIMIT` where memory or slots were wanted for a pair: then those before it are
+/// stored.
 #[unsafe(no_mangle)]
 pub extern "C" fn cedar_update_all(
     handle: &mut Handle,

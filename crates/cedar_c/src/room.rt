@@ -14,8 +14,8 @@ use cedarwood::CedarError;
 /// keys of as many bytes together, needs none. While so many are spare, nothing changes.
 ///
 /// # Errors
-/// 1 where the handle is closed; 3 where the limit of slots doesn't allow so many blocks, else 2 where a request for memory was
-/// refused. After an error nothing has changed.
+/// `CLOSED` where the handle is closed; `SLOT_LIMIT` where the limit of slots doesn't allow so many blocks, else `MEMORY` where a request
+/// for memory was refused. After an error nothing has changed.
 #[unsafe(no_mangle)]
 pub extern "C" fn cedar_reserve(handle: &mut Handle, blocks: usize) -> u32
     ensures closed { (result ≡ CLOSED) ↔ (content handle.old ≡ None) }

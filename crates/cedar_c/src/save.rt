@@ -16,8 +16,8 @@ use std::alloc::Global;
 /// blocks that are in use, or, where `is_full`, all of them, as format 1.0 does. It asks for memory for a copy of the file.
 ///
 /// # Errors
-/// 1 where the handle is closed, 11 where the file has more bytes than the buffer has places: then it tells how many; 2 where a
-/// request for memory was refused. After an error the buffer is as it was.
+/// `CLOSED` where the handle is closed, `NO_ROOM` where the file has more bytes than the buffer has places: then it tells how many;
+/// `MEMORY` where a request for memory was refused. After an error the buffer is as it was.
 #[unsafe(no_mangle)]
 pub extern "C" fn cedar_save(
     handle: &mut Handle,

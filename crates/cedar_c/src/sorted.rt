@@ -136,9 +136,10 @@ fn renew_with(
 /// open. The settings are those of `cedar_new_with`.
 ///
 /// # Errors
-/// 7 where `max_trial` is 0 or less. Else the number of the first fault of the input: each pair's own, as of `cedar_update`, and then 8
-/// or 9 where its key repeats the one before it or is below it; `position` is then its index. Else 2 where a request for memory was
-/// refused (which may also come before a fault), and 3 where there can't be slots enough. Then the handle is as it was.
+/// `INVALID_MAX_TRIAL` where `max_trial` is 0 or less. Else the number of the first fault of the input: each pair's own, as of
+/// `cedar_update`, and then `DUPLICATE_KEY` or `KEYS_NOT_SORTED` where its key repeats the one before it or is below it; `position` is
+/// then its index. Else `MEMORY` where a request for memory was refused (which may also come before a fault), and `SLOT_LIMIT` where
+/// there can't be slots enough. Then the handle is as it was.
 #[unsafe(no_mangle)]
 pub extern "C" fn cedar_build(
     handle: &mut Handle,
