@@ -26,14 +26,6 @@ written ms p d x rest h =
     ∙ append_assoc (take p ms) (match_of x ∷ []) (filled (drop (p + 1) ms) rest)
     ∙ ap (λ u. take p ms ++ filled u (x ∷ rest)) (sym (drop_more ms p d h))
 
--- there is no next place
-pub no_place : (ms : List Match) (p : ℕ) (x : ℤ × ℕ) (rest : List (ℤ × ℕ)) → length ms ≤ p
-    → take (p + 1) ms ++ filled (drop (p + 1) ms) rest ≡ take p ms ++ filled (drop p ms) (x ∷ rest)
-no_place ms p x rest h =
-    let above : length ms ≤ p + 1 = omega arith in
-    ap (λ t. t ++ filled (drop (p + 1) ms) rest) (take_all (p + 1) ms above) ∙ ap (λ u. ms ++ filled u rest) (drop_all (p + 1) ms above)
-    ∙ sym (ap (λ t. t ++ filled (drop p ms) (x ∷ rest)) (take_all p ms h) ∙ ap (λ u. ms ++ filled u (x ∷ rest)) (drop_all p ms h))
-
 pub nothing_filled : (ms : List Match) → filled ms [] ≡ ms
 nothing_filled [] = refl
 nothing_filled (m ∷ ms) = refl

@@ -33,27 +33,11 @@ place_told t text all before now next was some is =
     ∙ sym (append_assoc before (map (spot next) (front t (drop next text))) (spots_from t (next + 1) (drop (next + 1) text)))
     ∙ ap (λ n. n ++ spots_from t (next + 1) (drop (next + 1) text)) (sym is)
 
--- nothing stands behind the end
-pub no_spots : (t : Tree) (place : ℕ) (rest : List ℕ) → length rest ≡ 0 → spots_from t place rest ≡ []
-no_spots t place [] h = refl
-no_spots t place (b ∷ rest) h = absurd (omega (arith, h))
-
 -- the token at a place comes first
 pub token_first : (t : Tree) (place : ℕ) (text : List ℕ) (found : Option (ℤ × ℕ)) → 0 < length text → longest t text ≡ found
     → tokens_from t place text ≡ token_spot (place, len_of found, number_of found) ∷ tokens_from t (place + len_of found) (drop (len_of found) text)
 token_first t place text found h is =
     ap (map token_spot) (tokens_step t place text (len_of found) (number_of found) h (ap len_of (sym is)) (ap number_of (sym is)))
-
--- a token is told
-pub token_told : (t : Tree) (text : List ℕ) (all xs : List Found) (count next : ℕ) (token : Found) (later : List Found)
-    → all ≡ take count xs ++ tokens_from t next (drop next text) → count < length xs
-    → tokens_from t next (drop next text) ≡ token ∷ tokens_from t (next + token.length) (drop token.length (drop next text))
-    → all ≡ take (count + 1) (set xs count token) ++ tokens_from t (next + token.length) (drop (next + token.length) text)
-token_told t text all xs count next token later was room first =
-    let rest : List Found = tokens_from t (next + token.length) (drop (next + token.length) text) in
-    was ∙ ap (λ s. take count xs ++ s) first
-    ∙ ap (λ r. take count xs ++ token ∷ tokens_from t (next + token.length) r) (drop-drop token.length next text)
-    ∙ sym (ap (λ s. s ++ rest) (take_more_set xs count token room) ∙ append_assoc (take count xs) (token ∷ []) rest)
 
 -- the fronts of a text have no more bytes than it
 fit_range : (t : Tree) (q : List ℕ) (n a : ℕ) → a + n < 2 ^ 64
