@@ -94,10 +94,10 @@ def refusals(cedar):
 
 def room_ahead(reduced):
     """Room for blocks more, within which the slots stay as many; too many blocks are refused, and nothing changes."""
-    cedar = Cedar({b"net": 7}, reduced=reduced)
+    cedar = Cedar(reduced=reduced)
     cedar.reserve(3)
     assert cedar.capacity() == 1024
-    cedar.update({b"x": 1, b"yz": 2})
+    cedar.update({b"net": 7, b"x": 1, b"yz": 2})
     assert cedar.capacity() == 1024 and len(cedar) == 3
     for blocks in [2**22, 2**63, 10**30]:
         assert refuses(MemoryError, lambda: cedar.reserve(blocks)) == "cedar trie has no slot left"

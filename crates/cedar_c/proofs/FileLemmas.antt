@@ -1,6 +1,7 @@
 -- What a load tells of a file.
 use Rattle.std.proofs.Common.{arith, ◌≡◌, ◌≢◌, ℕ, inl, inr, List, [], ◌∷◌, take, Option, None, Some, IfSome, MatchOption, Ok, Err, refl, ap, sym, subst, ◌∙◌}
 use Rattle.std.specs.Prelude.{◌⊎◌}
+use Rattle.std.proofs.lemmas.Option.{none-some}
 use Rattle.cedar_model.specs.Table.Layouts.{LayoutKind, layout_byte}
 use Rattle.cedar_model.specs.Table.TableFields.{Fields}
 use Rattle.cedar_format.specs.declared.error.CedarPersistenceError.{CedarPersistenceError}
@@ -12,9 +13,6 @@ use Rattle.cedar_format.specs.Refusal.{Refusal, first_refusal, refusal_of}
 use Rattle.cedarwood.specs.Loading.{IsDecided, LoadAnswers}
 use Rattle.cedar_format.specs.Tables.{IsTableFile}
 use Rattle.cedar_c.specs.Files.{early_refusal, file_status, IsOfNoTable, TellsHeader}
-
-none_some : {X : Type 0} (x : X) → ◌≡◌ {A = Option X} None (Some x) → ⊥
-none_some x h = cc
 
 -- whatever holds of each refusal
 pub always : {X : Type 0} (o : Option X) (P : X → Type 0) → ((x : X) → P x) → IfSome o P
@@ -32,7 +30,7 @@ module _ {X : Type 0} (table : X → Fields) (kind : LayoutKind) (slots limit : 
     where
       of : (o : Option Refusal) → MatchOption o (IsFile x) (λ r. ◌≡◌ {A = Option Refusal} None (Some r)) → IsFile x
       of None file = file
-      of (Some r) is = absurd (none_some r is)
+      of (Some r) is = absurd (none-some r is)
 
   -- and its header isn't refused
   pub loaded_header : (P : Refusal → Type 0) (x : X) → LoadAnswers table kind slots limit bytes (Ok x) → IfSome (header_answer (layout_byte kind) slots limit bytes) P
@@ -41,7 +39,7 @@ module _ {X : Type 0} (table : X → Fields) (kind : LayoutKind) (slots limit : 
     where
       of : (o : Option Refusal) → MatchOption o (IsFile x) (λ r. ◌≡◌ {A = Option Refusal} None (Some r)) → IfSome o P
       of None file = tt
-      of (Some r) is = absurd (none_some r is)
+      of (Some r) is = absurd (none-some r is)
 
   lack_is_memory : (h : Header) (e : CedarPersistenceError) → LacksTable h e → file_status (refusal_of e) ≡ 2
   lack_is_memory h (errors.AllocationFailed n) lacks = refl
@@ -83,7 +81,7 @@ module _ {X : Type 0} (table : X → Fields) (kind : LayoutKind) (slots limit : 
       here r h (inl lacks) =
           let none : early_refusal (layout_byte kind) slots limit bytes ≡ None =
           ap (λ a. first_refusal (a ∷ size_refusal slots limit (header_at (take 88 bytes)) ∷ [])) lacks.1 ∙ ap (λ b. first_refusal (None ∷ b ∷ [])) lacks.2 in
-          absurd (none_some r (sym none ∙ h))
+          absurd (none-some r (sym none ∙ h))
       here r h (inr told) =
           let is : ◌≡◌ {A = Option Refusal} (Some (refusal_of e)) (Some r) =
           subst (λ (o : Option Refusal). MatchOption o (IsDecided table slots bytes (Err e)) (λ r. ◌≡◌ {A = Option Refusal} (Some (refusal_of e)) (Some r))) (early_answer r h) told in

@@ -4,5 +4,4 @@ pub mod MatchLemmas
 pub mod HeldValues
 pub mod LooseValues
 pub mod PairLemmas
-pub mod RoomLemmas
 pub mod ScanLemmas

@@ -3,6 +3,7 @@ use Rattle.std.proofs.Common.{◌≡◌, ℕ, ◌+◌, ◌-◌, ◌<◌, ◌≤�
 use Rattle.std.specs.Prelude.{ℤ, nat_eq}
 use Rattle.std.specs.List.{Contains, filter, starts_with}
 use Rattle.std.proofs.lemmas.List.{append_assoc, drop-set-lt, drop-drop, drop_all, drop_more, take-append-drop, take_all}
+use Rattle.std.proofs.lemmas.Option.{none-some}
 use Rattle.std.proofs.Math.Seq.{take-suc-set}
 use Rattle.std.proofs.lemmas.List.Sums.{count_by-le-length, length-filter}
 use Rattle.std.proofs.lemmas.List.{length-map}
@@ -47,9 +48,6 @@ predictions_fit t q h =
     let kept : length (predict t q) ≡ length (filter test (walk t)) = length-map (filter test (walk t)) (λ (e : Entry). (e.1, length e.0 - length q)) in
     omega (arith, length-filter test (walk t), count_by-le-length test (walk t))
 
-some_none : (v : ℤ) → ◌≡◌ {A = Option ℤ} None (Some v) → ⊥
-some_none v h = cc
-
 -- where nothing is held, no text has a front
 pub no_fronts : (q : List ℕ) → front empty_tree q ≡ []
 no_fronts q =
@@ -58,7 +56,7 @@ no_fronts q =
       | x ∷ xs ↦ λ is.
           let first : Contains (front empty_tree q) x = subst (λ l. Contains l x) (sym is) (0, omega arith, refl) in
           let held = held_from_front empty_tree q x.0 x.1 first in
-          absurd (some_none x.0 (sym (number_at-empty (take (x.1 + 1) q)) ∙ held.1))
+          absurd (none-some x.0 (sym (number_at-empty (take (x.1 + 1) q)) ∙ held.1))
     ]) refl
 
 -- one more is passed

@@ -1,16 +1,20 @@
 -- What calls that open a handle say.
-use Rattle.std.specs.Prelude.{◌≡◌, ◌⊎◌, ◌↔◌, ◌+◌, ◌*◌, ◌≤◌, ◌≤ℤ◌, ◌<ℤ◌, ℕ, ℤ, pos, Bool, List, length, None, Some, IfSome}
-use Rattle.cedar_model.specs.Table.Layouts.{LayoutKind}
+use Rattle.std.specs.Prelude.{◌≡◌, ◌≢◌, ◌⊎◌, ◌↔◌, ◌+◌, ◌*◌, ◌≤◌, ◌≤ℤ◌, ◌<ℤ◌, ℕ, ℤ, pos, Bool, List, length, None, Some, IfSome}
+use Rattle.cedar_format.specs.Format.{header_answer}
+use Rattle.cedar_model.specs.Table.Layouts.{LayoutKind, layout_byte}
 use Rattle.cedar_tree.specs.Queries.{asc, prefixes}
 use Rattle.cedarwood.specs.Dictionary.{capacity_after}
+use Rattle.cedarwood.specs.OnTable.{IsOnTable}
 use Rattle.cedarwood.specs.Tree.{empty_tree}
 use Rattle.cedar_c.specs.Content.{content, layout_in, state_in, trials_in, size_in, capacity_in}
-use Rattle.cedar_c.specs.Layouts.{most_slots}
+use Rattle.cedar_c.specs.Files.{early_refusal, file_status, IsFileOf, IsOfNoTable, TellsHeader}
+use Rattle.cedar_c.specs.Layouts.{dictionary_in, most_slots}
 use Rattle.cedar_c.specs.Pairs.{entries_in, fault_in}
 use Rattle.cedar_c.specs.Status.{position_of, status_of, TellsPosition}
+use Rattle.cedar_c.specs.declared.any.AnyCedar.{AnyCedar}
 use Rattle.cedar_c.specs.declared.handle.Handle.{Handle}
 use Rattle.cedar_c.specs.declared.pairs.Pair.{Pair}
-use Rattle.cedar_c.specs.declared.status.TheConstants.{OK, MEMORY, SLOT_LIMIT, INVALID_MAX_TRIAL}
+use Rattle.cedar_c.specs.declared.status.TheConstants.{OK, MEMORY, SLOT_LIMIT, INVALID_MAX_TRIAL, FILE_CORRUPT, FILE_UNREAD}
 
 -- by OK the handle is opened with an empty dictionary of a layout and settings, in the place of what it had; by another status it is as it was
 pub record OpensNew (kind : LayoutKind) (ordered : Bool) (trials : ℤ) (before after : Handle) (status : ℕ) : Type 0 where
@@ -39,3 +43,18 @@ pub record OpensSorted (kind : LayoutKind) (ordered : Bool) (trials : ℤ) (pair
   pub kept : (status ≡ OK) ⊎ (content after ≡ content before)
   -- only an error that tells a position writes it
   pub stays : TellsPosition status ⊎ (told ≡ found)
+
+-- by OK the handle is opened with the dictionary that a file's bytes are of, in the place of what it had; by another status it is as it was
+pub record OpensLoaded (kind : LayoutKind) (limit : ℕ) (bytes : List ℕ) (before after : Handle) (status : ℕ) : Type 0 where
+  pub loaded : status ≡ OK → (a : AnyCedar) × (content after ≡ Some a) × IsFileOf (dictionary_in a).table bytes
+  pub stands : status ≡ OK → (a : AnyCedar) × (content after ≡ Some a) × IsOnTable most_slots (dictionary_in a)
+  pub layout : status ≡ OK → layout_in after ≡ Some kind
+  pub refused : (status ≡ OK) ⊎ (content after ≡ content before)
+  -- where a header is refused nothing else is told, but for want of memory
+  pub header : IfSome (header_answer (layout_byte kind) most_slots limit bytes) (λ r. TellsHeader r status)
+  -- before memory is asked for just this refusal's number is told
+  pub early : IfSome (early_refusal (layout_byte kind) most_slots limit bytes) (λ r. status ≡ file_status r)
+  -- behind a header that passes they are of this table, or of no well-formed one, or memory was wanted
+  pub behind : header_answer (layout_byte kind) most_slots limit bytes ≡ None
+      → (status ≡ OK) ⊎ (status ≡ MEMORY) ⊎ ((status ≡ FILE_CORRUPT) × IsOfNoTable most_slots bytes)
+  pub read : status ≢ FILE_UNREAD

@@ -6,11 +6,10 @@ ghost use Rattle.cedar_format.specs.Refusal.{refusal_of};
 ghost use Rattle.cedar_format.specs.Tables.{IsTableFile};
 ghost use Rattle.cedar_slots.specs.Places.{IsSlotLimit};
 ghost use Rattle.cedar_model.specs.Table.Layouts.{default_layout, layout_byte, reduced_layout};
-ghost use Rattle.cedar_c.specs.Content.{content, layout_in};
 ghost use Rattle.cedar_c.specs.Files.{early_refusal, file_status, IsFileOf, IsOfNoTable, TellsHeader};
 ghost use Rattle.cedarwood.specs.OnTable.{IsOnTable};
 ghost use Rattle.cedar_c.specs.Layouts.{dictionary_in, layout_if, layout_of, most_slots};
-ghost use Rattle.cedar_c.specs.declared.any.AnyCedar.{AnyCedar};
+ghost use Rattle.cedar_c.specs.Opens.{OpensLoaded};
 
 use crate::any::AnyCedar;
 use crate::handle::Handle;
@@ -33,20 +32,7 @@ pub extern "C" fn cedar_load(
     bytes: &[u8],
     memory_limit: usize,
 ) -> u32
-    ensures loaded { result ≡ OK → (a : AnyCedar) × (content handle.new ≡ Some a) × IsFileOf (dictionary_in a).table bytes.now }
-    ensures layout { result ≡ OK → layout_in handle.new ≡ Some default_layout }
-    ensures refused { (result ≡ OK) ⊎ (content handle.new ≡ content handle.old) }
-
-    // Behind a header that is refused nothing else is told, but for want of memory.
-    ensures header { IfSome (header_answer 0 most_slots memory_limit bytes.now) (λ r. (result ≡ file_status r) ⊎ (result ≡ MEMORY)) }
-
-    // Before memory is asked for just this refusal's number is told.
-    ensures early { IfSome (early_refusal 0 most_slots memory_limit bytes.now) (λ r. result ≡ file_status r) }
-
-    // Behind one that passes they are of this table, or of no well-formed one, or memory was wanted.
-    ensures behind { header_answer 0 most_slots memory_limit bytes.now ≡ None → (result ≡ OK) ⊎ (result ≡ MEMORY) ⊎ ((result ≡ FILE_CORRUPT) × IsOfNoTable most_slots bytes.now) }
-    ensures stands { result ≡ OK → (a : AnyCedar) × (content handle.new ≡ Some a) × IsOnTable most_slots (dictionary_in a) }
-    ensures read { result ≢ FILE_UNREAD }
+    ensures opens { OpensLoaded default_layout memory_limit bytes.now handle.old handle.new result }
 {
     renew(handle, alloc, false, bytes, memory_limit)
 }
@@ -62,20 +48,7 @@ pub extern "C" fn cedar_load_reduced(
     bytes: &[u8],
     memory_limit: usize,
 ) -> u32
-    ensures loaded { result ≡ OK → (a : AnyCedar) × (content handle.new ≡ Some a) × IsFileOf (dictionary_in a).table bytes.now }
-    ensures layout { result ≡ OK → layout_in handle.new ≡ Some reduced_layout }
-    ensures refused { (result ≡ OK) ⊎ (content handle.new ≡ content handle.old) }
-
-    // Behind a header that is refused nothing else is told, but for want of memory.
-    ensures header { IfSome (header_answer 1 most_slots memory_limit bytes.now) (λ r. (result ≡ file_status r) ⊎ (result ≡ MEMORY)) }
-
-    // Before memory is asked for just this refusal's number is told.
-    ensures early { IfSome (early_refusal 1 most_slots memory_limit bytes.now) (λ r. result ≡ file_status r) }
-
-    // Behind one that passes they are of this table, or of no well-formed one, or memory was wanted.
-    ensures behind { header_answer 1 most_slots memory_limit bytes.now ≡ None → (result ≡ OK) ⊎ (result ≡ MEMORY) ⊎ ((result ≡ FILE_CORRUPT) × IsOfNoTable most_slots bytes.now) }
-    ensures stands { result ≡ OK → (a : AnyCedar) × (content handle.new ≡ Some a) × IsOnTable most_slots (dictionary_in a) }
-    ensures read { result ≢ FILE_UNREAD }
+    ensures opens { OpensLoaded reduced_layout memory_limit bytes.now handle.old handle.new result }
 {
     renew(handle, alloc, true, bytes, memory_limit)
 }
@@ -88,14 +61,7 @@ fn renew(
     bytes: &[u8],
     memory_limit: usize,
 ) -> u32
-    ensures loaded { result ≡ OK → (a : AnyCedar) × (content handle.new ≡ Some a) × IsFileOf (dictionary_in a).table bytes.now }
-    ensures layout { result ≡ OK → layout_in handle.new ≡ Some (layout_if is_reduced) }
-    ensures refused { (result ≡ OK) ⊎ (content handle.new ≡ content handle.old) }
-    ensures header { IfSome (header_answer (layout_byte (layout_if is_reduced)) most_slots memory_limit bytes.now) (λ r. (result ≡ file_status r) ⊎ (result ≡ MEMORY)) }
-    ensures early { IfSome (early_refusal (layout_byte (layout_if is_reduced)) most_slots memory_limit bytes.now) (λ r. result ≡ file_status r) }
-    ensures behind { header_answer (layout_byte (layout_if is_reduced)) most_slots memory_limit bytes.now ≡ None → (result ≡ OK) ⊎ (result ≡ MEMORY) ⊎ ((result ≡ FILE_CORRUPT) × IsOfNoTable most_slots bytes.now) }
-    ensures stands { result ≡ OK → (a : AnyCedar) × (content handle.new ≡ Some a) × IsOnTable most_slots (dictionary_in a) }
-    ensures read { result ≢ FILE_UNREAD }
+    ensures opens { OpensLoaded (layout_if is_reduced) memory_limit bytes.now handle.old handle.new result }
 {
     match boxed(alloc, is_reduced, bytes, memory_limit) {
         Ok(cedar) => {
