@@ -3,3 +3,4 @@ pub mod Batch
 pub mod Fronts
 pub mod Visits
 pub mod Words
+pub mod Ranges

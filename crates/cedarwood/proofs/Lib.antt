@@ -16,3 +16,4 @@ mod OutcomeLemmas
 pub mod RoomLemmas
 pub mod SaveLemmas
 mod ValidLemmas
+pub mod LongestLemmas

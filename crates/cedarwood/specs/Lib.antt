@@ -20,3 +20,4 @@ pub use Rattle.cedar_format.specs.WatchedDevice
 pub mod Updates
 pub mod Saving
 pub mod Words
+pub use Rattle.cedar_walk.specs.Ranges

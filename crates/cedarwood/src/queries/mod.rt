@@ -4,6 +4,7 @@ mod batch;
 mod calls;
 pub(crate) mod counted;
 pub(crate) mod entries;
+mod lookups;
 pub(crate) mod predict;
 pub(crate) mod prefix;
 pub(crate) mod walked;

@@ -1,0 +1,20 @@
+-- The longest front of a text that is held is within it.
+use Rattle.std.proofs.Common.{◌≡◌, ℕ, zero, suc, ◌+◌, ◌<◌, ◌≤◌, ℤ, List, length, take, Option, Some, None, option_map, IfSome, refl, arith}
+use Rattle.std.specs.List.{filter_map, cons_option, range_with_len, last_or}
+use Rattle.cedar_tree.specs.Tree.{Tree, number_at}
+use Rattle.cedar_tree.specs.Queries.{front}
+
+abbrev found_at : Tree → List ℕ → ℕ → Option (ℤ × ℕ)
+found_at t q n = option_map (λ v. (v, n)) (number_at t (take (n + 1) q))
+
+last_within : (t : Tree) (q : List ℕ) (n a end : ℕ) (before : Option (ℤ × ℕ)) → a + n ≤ end → IfSome before (λ found. found.1 < end)
+    → IfSome (last_or before (filter_map (found_at t q) (range_with_len a n))) (λ found. found.1 < end)
+last_within t q zero a end before e h = h
+last_within t q (suc n) a end before e h =
+    elim (number_at t (take (a + 1) q)) as (λ o. IfSome (last_or before (cons_option (option_map (λ (v : ℤ). (v, a)) o) (filter_map (found_at t q) (range_with_len (a + 1) n)))) (λ found. found.1 < end)) [
+      | None ↦ last_within t q n (a + 1) end before (omega (arith, e)) h
+      | Some v ↦ last_within t q n (a + 1) end (Some (v, a)) (omega (arith, e)) (omega (arith, e))
+    ]
+
+pub front_within : (t : Tree) (q : List ℕ) → IfSome (last_or None (front t q)) (λ found. found.1 < length q)
+front_within t q = last_within t q (length q) 0 (length q) None (omega arith) tt
