@@ -4,3 +4,6 @@ pub mod Lanes
 pub mod NextFront
 pub mod NextNode
 pub mod NextNumber
+pub mod Prefixed
+pub mod Since
+pub mod Ranges

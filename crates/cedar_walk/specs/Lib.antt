@@ -4,3 +4,4 @@ pub mod Fronts
 pub mod Visits
 pub mod Words
 pub mod Ranges
+pub mod RangePlaces

@@ -3,8 +3,10 @@
 
 mod batch;
 mod fronts;
+mod ranges;
 mod visits;
 
 pub use batch::exact_match_search_batch;
 pub use fronts::{Front, next_held_front};
+pub use ranges::{first_since, write_path};
 pub use visits::{Numbered, Visited, first_numbered, node_after, numbered_after};

@@ -35,14 +35,14 @@ pub struct Numbered {
 /// began, and the last of these.
 #[derive(Clone, Copy)]
 pub(crate) struct Place {
-    slot: usize,
-    depth: usize,
+    pub(crate) slot: usize,
+    pub(crate) depth: usize,
     label: u8,
 }
 
 /// The label of a node's first child, or 0.
 #[inline(always)]
-fn first_child<L: Layout, const SLOTS: usize, A: Allocator>(
+pub(crate) fn first_child<L: Layout, const SLOTS: usize, A: Allocator>(
     table: &Table<L, SLOTS, A>,
     node: usize,
 ) -> u8
@@ -76,7 +76,7 @@ fn next_sibling<L: Layout, const SLOTS: usize, A: Allocator>(
 
 /// The node above a node.
 #[inline(always)]
-fn parent<L: Layout, const SLOTS: usize, A: Allocator>(
+pub(crate) fn parent<L: Layout, const SLOTS: usize, A: Allocator>(
     table: &Table<L, SLOTS, A>,
     node: usize,
 ) -> usize
@@ -124,7 +124,7 @@ fn label_after_number<L: Layout, const SLOTS: usize, A: Allocator>(
 
 /// The child of a node under a label that it has.
 #[inline(always)]
-fn child_under<L: Layout, const SLOTS: usize, A: Allocator>(
+pub(crate) fn child_under<L: Layout, const SLOTS: usize, A: Allocator>(
     table: &Table<L, SLOTS, A>,
     node: usize,
     label: u8,
@@ -146,7 +146,7 @@ fn child_under<L: Layout, const SLOTS: usize, A: Allocator>(
 /// The next node of a walk that is through with all below a node: the sibling after it, or the one after the nearest node above
 /// it that has one, short of the node `depth` labels above, where the walk began.
 #[inline(always)]
-fn next_after<L: Layout, const SLOTS: usize, A: Allocator>(
+pub(crate) fn next_after<L: Layout, const SLOTS: usize, A: Allocator>(
     table: &Table<L, SLOTS, A>,
     node: usize,
     depth: usize,
@@ -215,7 +215,7 @@ pub fn node_after<L: Layout, const SLOTS: usize, A: Allocator>(
 /// began, and go on below it. A node that names a first label has no number, and each other one has: nothing else is asked on the
 /// way down.
 #[inline(always)]
-fn numbered_from<L: Layout, const SLOTS: usize, A: Allocator>(
+pub(crate) fn numbered_from<L: Layout, const SLOTS: usize, A: Allocator>(
     table: &Table<L, SLOTS, A>,
     node: usize,
     depth: usize,

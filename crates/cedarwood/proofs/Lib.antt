@@ -17,3 +17,4 @@ pub mod RoomLemmas
 pub mod SaveLemmas
 mod ValidLemmas
 pub mod LongestLemmas
+pub mod RangeLemmas

@@ -1,5 +1,5 @@
 -- The longest front of a text that is held is within it.
-use Rattle.std.proofs.Common.{◌≡◌, ℕ, zero, suc, ◌+◌, ◌<◌, ◌≤◌, ℤ, List, length, take, Option, Some, None, option_map, IfSome, refl, arith}
+use Rattle.std.proofs.Common.{ℕ, zero, suc, ◌+◌, ◌<◌, ◌≤◌, ℤ, List, length, take, Option, Some, None, option_map, IfSome, arith}
 use Rattle.std.specs.List.{filter_map, cons_option, range_with_len, last_or}
 use Rattle.cedar_tree.specs.Tree.{Tree, number_at}
 use Rattle.cedar_tree.specs.Queries.{front}

@@ -20,4 +20,5 @@ pub use Rattle.cedar_format.specs.WatchedDevice
 pub mod Updates
 pub mod Saving
 pub mod Words
+pub mod RangeWalks
 pub use Rattle.cedar_walk.specs.Ranges

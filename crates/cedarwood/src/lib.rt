@@ -53,6 +53,7 @@ pub use queries::counted::CountedPrefixIter;
 pub use queries::entries::{Entries, EntryError, Utf8Entries};
 pub use queries::predict::PrefixPredictIter;
 pub use queries::prefix::PrefixIter;
+pub use queries::ranged::RangeEntries;
 pub use queries::walked::Walked;
 pub use trie::{Cedar, ReducedCedar, Trie};
 

@@ -7,4 +7,5 @@ pub(crate) mod entries;
 mod lookups;
 pub(crate) mod predict;
 pub(crate) mod prefix;
+pub(crate) mod ranged;
 pub(crate) mod walked;

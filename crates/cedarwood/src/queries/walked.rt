@@ -1,12 +1,14 @@
 //! What walks that are under way ask of a dictionary.
 
-ghost use Rattle.std.specs.Prelude.{◌*◌, ◌+◌, ◌-◌, ◌<◌, ◌∷◌, ◌≡◌, ◌≤◌, List, MatchOption, [], length, ℕ};
+ghost use Rattle.std.specs.Prelude.{◌*◌, ◌++◌, ◌+◌, ◌-◌, ◌<◌, ◌∷◌, ◌≡◌, ◌≤◌, List, MatchOption, [], length, take, true, ℕ};
 ghost use Rattle.cedarwood.specs.Words.{ComesTo, ComesToNumber, Fields, IsBelow, IsNumberedBelow, IsOnQuery, IsWellFormed, cells_in, front_from, left_at, node_at, passed, path_to, tree_of, walk};
 ghost use Rattle.cedar_tree.specs.Walks.{entries_of};
+ghost use Rattle.cedar_walk.specs.Ranges.{entries_since};
 
 use crate::{Layout, Ticks, Trie};
 use cedar_walk::{
-    Front, Numbered, Visited, first_numbered, next_held_front, node_after, numbered_after,
+    Front, Numbered, Visited, first_numbered, first_since, next_held_front, node_after,
+    numbered_after, write_path,
 };
 use std::alloc::Allocator;
 use std::sync::ledger::Ledger;
@@ -50,6 +52,19 @@ pub trait Walked {
         requires well_formed { IsWellFormed slots (shown self.now) }
         requires below { (start : List ℕ) × IsBelow (cells_in (shown self.now)) start depth node }
         ensures { (start : List ℕ) → IsBelow (cells_in (shown self.now)) start depth node → MatchOption result (left_at (shown self.now) start depth node ≡ []) (ComesTo (shown self.now) start (left_at (shown self.now) start depth node) (path_to (shown self.now) depth node)) };
+
+    /// The first node with a number at a key or after it by bytes, of a dictionary whose labels ascend.
+    fn first_since(&self, key: &[u8]) -> Option<Numbered>
+        requires well_formed { IsWellFormed slots (shown self.now) }
+        requires ordered { (shown self.now).ordered ≡ true }
+        ensures { MatchOption result (entries_since (tree_of (shown self.now)) key.now ≡ []) (ComesToNumber (shown self.now) [] (entries_since (tree_of (shown self.now)) key.now)) };
+
+    /// Writes the last labels on the way to a node, `depth` of them, behind the front of a key.
+    fn write_path(&self, node: usize, depth: usize, key: &mut [u8])
+        requires well_formed { IsWellFormed slots (shown self.now) }
+        requires below { (start : List ℕ) × IsBelow (cells_in (shown self.now)) start depth node }
+        requires room { depth ≤ length key.old }
+        ensures { key.new ≡ take (length key.old - depth) key.old ++ path_to (shown self.now) depth node };
 }
 
 impl<L: Layout, const SLOTS: usize, A: Allocator + Copy> Walked for Trie<L, SLOTS, A> {
@@ -80,5 +95,13 @@ impl<L: Layout, const SLOTS: usize, A: Allocator + Copy> Walked for Trie<L, SLOT
     #[inline(always)]
     fn next_node(&self, node: usize, depth: usize) -> Option<Visited> {
         node_after(&self.table, node, depth)
+    }
+
+    fn first_since(&self, key: &[u8]) -> Option<Numbered> {
+        first_since(&self.table, key)
+    }
+
+    fn write_path(&self, node: usize, depth: usize, key: &mut [u8]) {
+        write_path(&self.table, node, depth, key);
     }
 }

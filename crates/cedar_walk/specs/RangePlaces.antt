@@ -1,0 +1,41 @@
+-- Where a walk over a range of keys begins in a table.
+use Rattle.std.specs.Prelude.{◌≡◌, ◌⊎◌, ℕ, ◌<◌, ◌≤◌, false, true, get_or, List, [], ◌++◌, length, map, take}
+use Rattle.cedar_tree.specs.Tree.{Forest, has_label}
+use Rattle.cedar_tree.specs.Queries.{node_at}
+use Rattle.cedar_tree.specs.Walks.{behind, entries_of, node_up, Visit, visit_from, visits_below}
+use Rattle.cedar_model.specs.Edit.NodeEdits.{IsAt}
+use Rattle.cedar_model.specs.Table.TableFields.{Fields}
+use Rattle.cedar_model.specs.Meaning.WellFormed.{cells_in, tree_of}
+use Rattle.cedar_walk.specs.declared.ranges.Reached.{Reached}
+use Rattle.cedar_walk.specs.declared.visits.Place.{Place}
+use Rattle.cedar_walk.specs.Visits.{entries_at, first_of, IsBelow, left_after, path_to, way_up}
+use Rattle.cedar_walk.specs.Ranges.{siblings_above}
+
+-- some last siblings: all, or those behind one
+abbrev pub AreLast : Forest → Forest → Type 0
+AreLast f g = (g ≡ f) ⊎ ((l : ℕ) × (has_label f l ≡ true) × (g ≡ behind f l))
+
+-- those above a label are among some last ones, which begin at this label
+pub record AboveFrom (f : Forest) (m next : ℕ) : Type 0 where
+  pub rest : Forest
+  pub last : AreLast f rest
+  pub same : siblings_above f m ≡ siblings_above rest m
+  pub first : next ≡ first_of rest
+
+-- the deepest node on the way along a key
+pub record IsReached (T : Fields) (key : List ℕ) (reached : Reached) : Type 0 where
+  pub within : reached.depth ≤ length key
+  pub at : IsAt (cells_in T) (take reached.depth key) reached.slot
+  pub ends : reached.depth < length key → has_label (node_at (tree_of T) (take reached.depth key)).children (get_or key reached.depth 0) ≡ false
+
+-- the nodes below slot s, n labels below the root, that hang under labels above this one, and then those that a walk comes to once it
+-- is through with all below s
+abbrev pub left_above : Fields → ℕ → ℕ → ℕ → List Visit
+left_above T n s label =
+    map (visit_from (path_to T n s)) (visits_below (siblings_above (node_up (tree_of T) (way_up (cells_in T) n s)).children label)) ++ left_after T [] n s
+
+-- a walk that had these nodes left comes to a place below the root, where the first of them is
+pub record BeginsAt (T : Fields) (left : List Visit) (place : Place) : Type 0 where
+  pub below : IsBelow (cells_in T) [] place.depth place.slot
+  pub deep : 0 < place.depth
+  pub entries : entries_of left ≡ entries_at T [] place.depth place.slot

@@ -1,0 +1,148 @@
+//! Walks over a range of keys: the first entry at a key or after it, and the path of a node that a walk has come to.
+
+ghost use Rattle.std.specs.Prelude.{◌≡◌, ◌⊎◌, ℕ, List, [], ◌∷◌, ◌++◌, ◌-◌, ◌<◌, ◌≤◌, false, get_or, length, MatchOption, take, true};
+ghost use Rattle.cedar_tree.specs.Tree.{has_label};
+ghost use Rattle.cedar_tree.specs.Queries.{node_at};
+ghost use Rattle.cedar_model.specs.Edit.NodeEdits.{IsAt};
+ghost use Rattle.cedar_model.specs.Meaning.Family.{below};
+ghost use Rattle.cedar_model.specs.Meaning.WellFormed.{IsWellFormed, tree_of};
+ghost use Rattle.cedar_table.specs.Table.Views.{cells, fields};
+ghost use Rattle.cedar_walk.specs.Visits.{ComesToNumber, IsBelow, path_to};
+ghost use Rattle.cedar_walk.specs.Ranges.{entries_since};
+ghost use Rattle.cedar_walk.specs.RangePlaces.{AboveFrom, BeginsAt, IsReached, left_above};
+
+use crate::visits::{
+    Numbered, Place, child_under, first_child, first_numbered, next_after, numbered_from, parent,
+};
+use cedar_model::Layout;
+use cedar_table::Table;
+use std::alloc::Allocator;
+
+/// The deepest node on the way along a key: its slot, and how many bytes of the key lead to it.
+#[derive(Clone, Copy)]
+pub(crate) struct Reached {
+    slot: usize,
+    depth: usize,
+}
+
+/// The label of a node below the one above it: a slot is its owner's base with this label.
+#[inline(always)]
+fn label_below<L: Layout, const SLOTS: usize, A: Allocator>(
+    table: &Table<L, SLOTS, A>,
+    above: usize,
+    node: usize,
+) -> u8
+    requires well_formed { IsWellFormed SLOTS (fields table.now) }
+    requires at { (w : List ℕ) × (l : ℕ) × IsAt (cells table.now) w above × IsAt (cells table.now) (w ++ l ∷ []) node }
+    ensures { result ≡ below (cells table.now) above node }
+{
+    (table.base_of(above) ^ node) as u8
+}
+
+/// Writes the last labels on the way to a node, `depth` of them, behind the front of a key, by climbing: so a walk holds no path.
+pub fn write_path<L: Layout, const SLOTS: usize, A: Allocator>(
+    table: &Table<L, SLOTS, A>,
+    node: usize,
+    depth: usize,
+    key: &mut [u8],
+)
+    requires well_formed { IsWellFormed SLOTS (fields table.now) }
+    requires below { (start : List ℕ) × IsBelow (cells table.now) start depth node }
+    requires room { depth ≤ length key.old }
+    ensures { key.new ≡ take (length key.old - depth) key.old ++ path_to (fields table.now) depth node }
+{
+    let front = key.len() - depth;
+    let mut slot = node;
+    let mut steps = depth;
+    while steps != 0 {
+        steps -= 1;
+        let above = parent(table, slot);
+        key[front + steps] = label_below(table, above, slot);
+        slot = above;
+    }
+}
+
+/// Goes along a key as far as its bytes lead to nodes.
+fn way_along<L: Layout, const SLOTS: usize, A: Allocator>(
+    table: &Table<L, SLOTS, A>,
+    key: &[u8],
+) -> Reached
+    requires { IsWellFormed SLOTS (fields table.now) }
+    ensures { IsReached (fields table.now) key.now result }
+{
+    let mut slot = 0;
+    let mut depth = 0;
+    while depth < key.len() {
+        let label = key[depth];
+        let below = table.slot_below(slot, label);
+        // Label 0 leads to the slot of a number, which is no node.
+        if label == 0 || !table.is_owned_by(below, slot) {
+            return Reached { slot, depth };
+        }
+        slot = below;
+        depth += 1;
+    }
+    Reached { slot, depth }
+}
+
+/// The label of a node's first child above a label, or 0.
+fn child_above<L: Layout, const SLOTS: usize, A: Allocator>(
+    table: &Table<L, SLOTS, A>,
+    node: usize,
+    label: u8,
+) -> u8
+    requires well_formed { IsWellFormed SLOTS (fields table.now) }
+    requires ordered { (fields table.now).ordered ≡ true }
+    requires at { (w : List ℕ) × IsAt (cells table.now) w node }
+    ensures first { (w : List ℕ) → IsAt (cells table.now) w node → AboveFrom (node_at (tree_of (fields table.now)) w).children label result }
+    ensures above { (result ≡ 0) ⊎ (label < result) }
+{
+    let mut next = first_child(table, node);
+    while next != 0 {
+        if next > label {
+            return next;
+        }
+        next = table.sibling(table.slot_below(node, next));
+    }
+    next
+}
+
+/// Where a walk goes on below a node, behind a label under which it has no child: to the first child above that label, or else as
+/// a walk does that is through with all below the node.
+fn place_above<L: Layout, const SLOTS: usize, A: Allocator>(
+    table: &Table<L, SLOTS, A>,
+    node: usize,
+    depth: usize,
+    label: u8,
+) -> Option<Place>
+    requires well_formed { IsWellFormed SLOTS (fields table.now) }
+    requires ordered { (fields table.now).ordered ≡ true }
+    requires below { IsBelow (cells table.now) [] depth node }
+    ensures { MatchOption result (left_above (fields table.now) depth node label ≡ []) (BeginsAt (fields table.now) (left_above (fields table.now) depth node label)) }
+{
+    let next = child_above(table, node, label);
+    if next != 0 {
+        return Some(child_under(table, node, next, depth + 1));
+    }
+    next_after(table, node, depth)
+}
+
+/// The first entry at a key or after it by bytes, of a table whose labels ascend. It takes no memory.
+pub fn first_since<L: Layout, const SLOTS: usize, A: Allocator>(
+    table: &Table<L, SLOTS, A>,
+    key: &[u8],
+) -> Option<Numbered>
+    requires well_formed { IsWellFormed SLOTS (fields table.now) }
+    requires ordered { (fields table.now).ordered ≡ true }
+    ensures { MatchOption result (entries_since (tree_of (fields table.now)) key.now ≡ []) (ComesToNumber (fields table.now) [] (entries_since (tree_of (fields table.now)) key.now)) }
+{
+    if key.is_empty() {
+        return first_numbered(table, key);
+    }
+    let reached = way_along(table, key);
+    if reached.depth == key.len() {
+        return Some(numbered_from(table, reached.slot, reached.depth));
+    }
+    let place = place_above(table, reached.slot, reached.depth, key[reached.depth])?;
+    Some(numbered_from(table, place.slot, place.depth))
+}

@@ -1,0 +1,222 @@
+//! The entries of a range of keys: those that begin with a prefix, and those from a key on.
+
+ghost use Rattle.std.specs.Prelude.{◌≡◌, ◌<◌, ◌++◌, List, [], ◌∷◌, false, IfErr, IfOk, IfSome, length, MatchOption, MatchResult, true, ⊤};
+ghost use Rattle.std.specs.Iterator.{item_count, UpTo};
+ghost use Rattle.std.specs.Iterator.SizeHint.{IsWithinCount};
+ghost use Rattle.cedar_tree.specs.Queries.{Entry};
+ghost use Rattle.cedar_walk.specs.Visits.{IsNumberedBelow, path_to};
+ghost use Rattle.cedar_model.specs.Meaning.WellFormed.{IsWellFormed};
+ghost use Rattle.cedarwood.specs.declared.error.CedarError.TheVariants.{Memory};
+
+use crate::queries::walked::Walked;
+use crate::{CedarError, Layout, Trie};
+use cedar_walk::Numbered;
+use std::alloc::{AllocError, Allocator};
+use std::iter::FusedIterator;
+use std::marker::Model;
+
+/// The entries at the keys of a range, each key before its extensions and in the order of the walk. Each key is written for its item
+/// by climbing from its node: so the walk itself holds no memory. Where a request for memory is refused, the error is the last item.
+///
+/// A contract sees the entries that are left.
+#[derive(Drop)]
+pub struct RangeEntries<'a, T: Walked, A: Allocator + Copy> {
+    trie: &'a T,
+    // What all keys begin with, and the node of the first entry that is to come, so many labels below that.
+    start: &'a [u8],
+    next: Option<Numbered>,
+    alloc: A,
+}
+
+impl<'a, T: Walked, A: Allocator + Copy> Model for RangeEntries<'a, T, A> {
+    ghost use Rattle.std.specs.Prelude.{List};
+    ghost use Rattle.cedar_tree.specs.Queries.{Entry};
+    ghost use Rattle.cedar_model.specs.Meaning.WellFormed.{IsWellFormed};
+    ghost use Rattle.cedarwood.specs.RangeWalks.{IsRangePlace, ranged};
+
+    ghost Value = { List Entry };
+
+    ghost view = { λ it. ranged (T.shown it.trie.now) it.start.now it.next };
+
+    ghost invariant = { λ it. IsWellFormed T.slots (T.shown it.trie.now) × IsRangePlace (T.shown it.trie.now) it.start.now it.next };
+}
+
+/// Writes the key of a node into a buffer, in place of what that held: a path, and then the labels below it.
+fn write_key<T: Walked, A: Allocator>(
+    trie: &T,
+    start: &[u8],
+    slot: usize,
+    depth: usize,
+    key: &mut Vec<u8, A>,
+) -> Result<(), AllocError>
+    requires well_formed { IsWellFormed T.slots (T.shown trie.now) }
+    requires below { IsNumberedBelow (T.shown trie.now) start.now depth slot }
+    ensures { IfOk result (λ _. key.new.items ≡ start.now ++ path_to (T.shown trie.now) depth slot) }
+{
+    let len = start.len() + depth;
+    key.clear();
+    key.reserve(len)?;
+    key.extend_from_slice(start)?;
+    key.resize(len, 0)?;
+    trie.write_path(slot, depth, key);
+    Ok(())
+}
+
+impl<'a, T: Walked, A: Allocator + Copy> RangeEntries<'a, T, A> {
+    ghost use Rattle.cedar_model.specs.Meaning.WellFormed.{tree_of};
+    ghost use Rattle.cedar_walk.specs.Ranges.{entries_since, entries_with};
+
+    // The entries at keys that begin with a prefix.
+    pub(crate) fn with_prefix(trie: &'a T, prefix: &'a [u8], alloc: A) -> Self
+        requires { IsWellFormed T.slots (T.shown trie.now) }
+        ensures { result ≡ entries_with (tree_of (T.shown trie.now)) prefix.now }
+    {
+        RangeEntries {
+            trie,
+            start: prefix,
+            next: trie.first_numbered(prefix),
+            alloc,
+        }
+    }
+
+    // The entries at a key and after it.
+    pub(crate) fn since(trie: &'a T, key: &'a [u8], alloc: A) -> Self
+        requires well_formed { IsWellFormed T.slots (T.shown trie.now) }
+        requires ordered { (T.shown trie.now).ordered ≡ true }
+        ensures { result ≡ entries_since (tree_of (T.shown trie.now)) key.now }
+    {
+        RangeEntries {
+            trie,
+            start: &key[..0],
+            next: trie.first_since(key),
+            alloc,
+        }
+    }
+
+    /// Writes the next key into a buffer, in place of what that held, and returns the key's value: None where no entry is left. So many
+    /// keys take the memory of one buffer. After a refused request the walk stands where it stood, and the buffer may hold anything.
+    ///
+    /// ```
+    /// cedar.build(&[("ne", 1), ("net", 7)])?;
+    /// let mut entries = cedar.entries_with_prefix("ne");
+    /// let mut key = Vec::new(rt.alloc());
+    /// assert_eq!(rt; entries.next_into(&mut key)?, Some(1));
+    /// assert_eq!(rt; key.as_slice(), b"ne".as_slice());
+    /// ```
+    ///
+    /// # Errors
+    /// `Memory` where a request was refused.
+    pub fn next_into<B: Allocator>(
+        &mut self,
+        key: &mut Vec<u8, B>,
+    ) -> Result<Option<i32>, CedarError>
+        ensures found { IfOk result (λ found. MatchOption found ((self.old ≡ []) × (self.new ≡ [])) (λ value. self.old ≡ (key.new.items, value) ∷ self.new)) }
+        ensures refused { IfErr result (λ e. (e ≡ CedarError.Memory) × (self.new ≡ self.old) × (0 < length self.old)) }
+    {
+        let Some(next) = self.next else {
+            return Ok(None);
+        };
+        match write_key(self.trie, self.start, next.slot, next.depth, key) {
+            Ok(()) => {
+                self.next = self.trie.next_numbered(next.slot, next.depth);
+                Ok(Some(next.number))
+            }
+            Err(_) => Err(CedarError::Memory),
+        }
+    }
+}
+
+impl<'a, T: Walked, A: Allocator + Copy> Iterator for RangeEntries<'a, T, A> {
+    type Item = Result<(Vec<u8, A>, i32), CedarError>;
+
+    ghost next_gives = { λ rest item later. MatchOption item ((rest ≡ []) × (later ≡ [])) (λ found. MatchResult found
+        (λ entry. rest ≡ (entry.0.items, entry.1) ∷ later)
+        (λ error. (error ≡ Memory) × (later ≡ []) × (0 < length rest))) };
+
+    ghost remaining = { item_count (λ (rest : List Entry). rest) };
+
+    fn next(&mut self) -> Option<Result<(Vec<u8, A>, i32), CedarError>> {
+        let mut key = Vec::new(self.alloc);
+        match self.next_into(&mut key) {
+            Ok(Some(number)) => Some(Ok((key, number))),
+            Ok(None) => None,
+            Err(error) => {
+                self.next = None;
+                Some(Err(error))
+            }
+        }
+    }
+
+    fn size_hint(&self) -> (usize, Option<usize>)
+        ensures lower { IsWithinCount result.0 (item_count (λ (rest : List Entry). rest) self.now) }
+        ensures upper { IfSome result.1 (UpTo (item_count (λ (rest : List Entry). rest) self.now)) }
+        ensures hint { result ≡ (0, None) }
+    {
+        (0, None)
+    }
+}
+
+impl<'a, T: Walked, A: Allocator + Copy> FusedIterator for RangeEntries<'a, T, A> {}
+
+impl<L: Layout, const SLOTS: usize, A: Allocator + Copy> Trie<L, SLOTS, A> {
+    ghost use Rattle.cedar_walk.specs.Ranges.{entries_since, entries_with};
+
+    /// The entries at keys that begin with a prefix, each key before its extensions and in the order of the walk. Nothing outside the
+    /// prefix's node is walked over. Each key is written for its item, in memory of the dictionary's own allocator;
+    /// [`RangeEntries::next_into`] writes it into a buffer of the caller.
+    ///
+    /// ```
+    /// cedar.build(&[("net", 7), ("ten", 2)])?;
+    /// let mut entries = cedar.entries_with_prefix_bytes(b"t");
+    /// let (key, value) = entries.next().ok_or("an entry")??;
+    /// assert_eq!(rt; (key.as_slice(), value), (b"ten".as_slice(), 2));
+    /// ```
+    pub fn entries_with_prefix_bytes<'a>(&'a self, prefix: &'a [u8]) -> RangeEntries<'a, Self, A>
+        ensures { result ≡ entries_with self.now.state.tree prefix.now }
+    {
+        RangeEntries::with_prefix(self, prefix, self.table.allocator())
+    }
+
+    /// `entries_with_prefix_bytes` for a text prefix.
+    ///
+    /// ```
+    /// cedar.build(&[("net", 7), ("ten", 2)])?;
+    /// assert_eq!(rt; cedar.entries_with_prefix("n").count(), 1);
+    /// ```
+    pub fn entries_with_prefix<'a>(&'a self, prefix: &'a str) -> RangeEntries<'a, Self, A>
+        ensures { result ≡ entries_with self.now.state.tree prefix.now }
+    {
+        self.entries_with_prefix_bytes(prefix.as_bytes())
+    }
+
+    /// The entries at a key and at those after it by bytes, in ascending order; None of a dictionary whose labels don't ascend. It looks
+    /// the key up once, and walks over no entry before it. Keys are written as those of [`Trie::entries_with_prefix_bytes`].
+    ///
+    /// ```
+    /// cedar.build(&[("net", 7), ("ten", 2)])?;
+    /// let mut entries = cedar.entries_from_bytes(b"neu").ok_or("ascending labels")?;
+    /// let (key, value) = entries.next().ok_or("an entry")??;
+    /// assert_eq!(rt; (key.as_slice(), value), (b"ten".as_slice(), 2));
+    /// ```
+    pub fn entries_from_bytes<'a>(&'a self, key: &'a [u8]) -> Option<RangeEntries<'a, Self, A>>
+        ensures { MatchOption result (self.now.state.ordered ≡ false) (λ entries. (self.now.state.ordered ≡ true) × (entries ≡ entries_since self.now.state.tree key.now)) }
+    {
+        if !self.table.ordered() {
+            return None;
+        }
+        Some(RangeEntries::since(self, key, self.table.allocator()))
+    }
+
+    /// `entries_from_bytes` for a text key.
+    ///
+    /// ```
+    /// cedar.build(&[("net", 7), ("ten", 2)])?;
+    /// let entries = cedar.entries_from("net").ok_or("ascending labels")?;
+    /// assert_eq!(rt; entries.count(), 2);
+    /// ```
+    pub fn entries_from<'a>(&'a self, key: &'a str) -> Option<RangeEntries<'a, Self, A>>
+        ensures { MatchOption result (self.now.state.ordered ≡ false) (λ entries. (self.now.state.ordered ≡ true) × (entries ≡ entries_since self.now.state.tree key.now)) }
+    {
+        self.entries_from_bytes(key.as_bytes())
+    }
+}
