@@ -7,7 +7,7 @@ use Rattle.std.proofs.lemmas.List.{map-append}
 use Rattle.cedar_tree.specs.Tree.{Tree, empty_tree, number_at}
 use Rattle.cedar_tree.specs.Queries.{asc, exact, front, predict}
 use Rattle.cedar_tree.specs.State.{State, erased, stored}
-use Rattle.cedar_bulk.specs.Sorted.{entries_of}
+use Rattle.cedarwood.specs.Words.{entries_of}
 use Rattle.cedar_model.specs.Meaning.WellFormed.{tree_of}
 use Rattle.cedar_model.specs.Table.Layouts.{LayoutKind, default_layout, layout_byte}
 use Rattle.cedar_model.specs.Table.TableFields.{Fields}

@@ -6,7 +6,7 @@ use Rattle.cedar_tree.specs.State.{State, stored}
 use Rattle.cedar_tree.proofs.BuildLemmas.{is_path_itself, same_path}
 use Rattle.cedar_tree.proofs.TreeLemmas.{number_at-cut_other, number_at-cut_same, number_at-empty, number_at-put_other, number_at-put_same}
 use Rattle.cedarwood.specs.declared.error.CedarError.{CedarError}
-use Rattle.cedar_bulk.specs.Sorted.{entries_of}
+use Rattle.cedarwood.specs.Words.{entries_of}
 use Rattle.cedarwood.specs.Builds.{all_stored, first_fault}
 use Rattle.cedarwood.specs.Fault.{fault}
 use Rattle.cedar_calls.specs.Keys.{held_after, AreSoundAlong}

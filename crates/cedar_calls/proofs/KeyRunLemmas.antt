@@ -10,7 +10,7 @@ use Rattle.cedar_tree.specs.Queries.{Entry, is_path, last_at}
 use Rattle.cedar_tree.proofs.BuildLemmas.{number_at-asc}
 use Rattle.cedar_tree.proofs.TreeLemmas.{number_at-empty}
 use Rattle.cedarwood.specs.declared.error.CedarError.{CedarError}
-use Rattle.cedar_bulk.specs.Sorted.{Pair, entries_of}
+use Rattle.cedarwood.specs.Words.{Pair, entries_of}
 use Rattle.cedar_model.specs.Table.Layouts.{LayoutKind}
 use Rattle.cedar_format.specs.declared.error.CedarPersistenceError.{CedarPersistenceError}
 use Rattle.cedarwood.specs.declared.builder.CedarBuilder.{CedarBuilder}
@@ -19,7 +19,8 @@ use Rattle.cedarwood.specs.Dictionary.{Dictionary}
 use Rattle.cedarwood.proofs.LoadLemmas.{loaded_saves_again}
 use Rattle.cedar_calls.specs.Changes.{IsChange, IsWholeBuild}
 use Rattle.cedar_calls.specs.Keys.{if_made, numbers_at, IsHeldAfter, IsKeyRun, IsKeyStep, IsNumberInFile}
-use Rattle.cedar_calls.specs.Making.{IsCopy, IsLoad, IsNew, IsSortedBuild, Joins}
+use Rattle.cedarwood.specs.Making.{IsNew, IsSortedBuild}
+use Rattle.cedar_calls.specs.Making.{IsCopy, IsLoad, Joins}
 use Rattle.cedar_calls.specs.Runs.{IsRun, IsStep}
 use Rattle.cedar_calls.specs.declared.call.Call.{Call}
 use Rattle.cedar_calls.specs.declared.call.Call.TheVariants as call
@@ -76,7 +77,7 @@ module _ (key : List ℕ) where
   new_number settings (Ok d) h = ap (λ t. number_at t key) h.tree ∙ number_at-empty key
   new_number settings (Err e) h = tt
 
-  sorted_number : (layout : LayoutKind) (slots : ℕ) (settings : CedarBuilder) (pairs : List Pair) (made : Result Dictionary CedarError) → IsSortedBuild layout slots settings pairs made
+  sorted_number : (layout : LayoutKind) (slots : ℕ) (settings : CedarBuilder) (pairs : List Pair) (made : Result Dictionary CedarError) → IsSortedBuild layout slots settings (entries_of pairs) made
       → IfOk made (λ d. number_in d ≡ last_at key None (entries_of pairs))
   sorted_number layout slots settings pairs (Ok d) h = ap (λ t. number_at t key) h.sorted.tree ∙ number_at-asc (entries_of pairs) key
   sorted_number layout slots settings pairs (Err e) h = tt

@@ -1,6 +1,5 @@
 mod BatchLemmas
 mod TextLemmas
-mod MakingLemmas
 mod PlaceLemmas
 mod RunLemmas
 mod PlainLemmas

@@ -6,7 +6,7 @@ use Rattle.cedar_tree.specs.Queries.{Entry, used, walk}
 use Rattle.cedar_tree.specs.State.{State, stored}
 use Rattle.cedarwood.specs.declared.error.CedarError.{CedarError}
 use Rattle.cedarwood.specs.declared.error.CedarError.TheVariants.{Memory}
-use Rattle.cedar_bulk.specs.Sorted.{entries_of}
+use Rattle.cedarwood.specs.Words.{entries_of}
 use Rattle.cedar_model.specs.Table.Layouts.{LayoutKind, default_layout}
 use Rattle.cedarwood.specs.Builds.{all_stored, first_fault, outcome}
 use Rattle.cedarwood.specs.Dictionary.{Dictionary}

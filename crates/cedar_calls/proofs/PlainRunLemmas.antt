@@ -9,13 +9,14 @@ use Rattle.cedar_tree.specs.Queries.{asc, prefixes}
 use Rattle.cedar_tree.specs.State.{State}
 use Rattle.cedarwood.specs.declared.error.CedarError.{CedarError}
 use Rattle.cedarwood.specs.declared.error.CedarError.TheVariants.{Memory, SlotLimit}
-use Rattle.cedar_bulk.specs.Sorted.{Pair, entries_of}
+use Rattle.cedarwood.specs.Words.{Pair, entries_of}
 use Rattle.cedar_model.specs.Table.Layouts.{LayoutKind, default_layout}
 use Rattle.cedarwood.specs.declared.builder.CedarBuilder.{CedarBuilder}
 use Rattle.cedarwood.specs.Dictionary.{Dictionary}
 use Rattle.cedarwood.specs.Fault.{IsShortage}
 use Rattle.cedarwood.specs.SortedInput.{sorted_fault}
-use Rattle.cedar_calls.specs.Making.{IsCopy, IsNew, IsSortedBuild, Joins}
+use Rattle.cedarwood.specs.Making.{IsNew, IsSortedBuild}
+use Rattle.cedar_calls.specs.Making.{IsCopy, Joins}
 use Rattle.cedar_calls.specs.Plain.{all_said, at_state, call_says, change_says, changed_state, done, IsLoadless, IsMet, kept_at_fault, missing, reply_says, run_says, said, said_result, states_after, states_left, states_of, unless_fault}
 use Rattle.cedar_calls.specs.Runs.{IsRun, IsStep}
 use Rattle.cedar_calls.specs.declared.call.Call.{Call}
@@ -48,7 +49,7 @@ module _ (before after : List Dictionary) (r : Result (Unit {0}) CedarError) whe
   copy_goes d (Err e) p j met = absurd (met_at e j.0 met (short e p))
 
   sorted_goes : (layout : LayoutKind) (slots : ℕ) (settings : CedarBuilder) (pairs : List Pair) (f : Option CedarError) → sorted_fault pairs ≡ f → (made : Result Dictionary CedarError)
-      → IsSortedBuild layout slots settings pairs made → Joins before made r after → IsMet (said_result (λ _. done) r)
+      → IsSortedBuild layout slots settings (entries_of pairs) made → Joins before made r after → IsMet (said_result (λ _. done) r)
       → (said_result (λ _. done) r ≡ unless_fault f done)
       × (states_of after ≡ kept_at_fault f (states_of before) (states_of before ++ record { tree = asc (entries_of pairs); ordered = settings.ordered } ∷ []))
   sorted_goes layout slots settings pairs (Some e) same made p j met =

@@ -1,9 +1,8 @@
 -- That two runs of the same calls agree, loads among them.
 use Rattle.std.specs.Prelude.{◌≡◌, ◌⊎◌, ℕ, Bool, true, List, [], ◌∷◌}
 use Rattle.std.specs.List.{AllByRecursion}
-use Rattle.cedar_bulk.specs.Sorted.{entries_of}
+use Rattle.cedarwood.specs.Words.{entries_of, keys_of}
 use Rattle.cedar_model.specs.Table.Layouts.{LayoutKind, default_layout}
-use Rattle.cedar_walk.specs.Batch.{keys_of}
 use Rattle.cedarwood.specs.Dictionary.{Dictionary}
 use Rattle.cedar_calls.specs.Plain.{all_said, states_of, IsLoadless, IsMet}
 use Rattle.cedar_calls.specs.Runs.{IsRun}

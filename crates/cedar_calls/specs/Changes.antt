@@ -1,17 +1,16 @@
 -- What a change of a dictionary answers, and the dictionary after it.
-use Rattle.std.specs.Prelude.{◌≡◌, ℕ, List, IfErr, IfOk, IfSome, IsSome, IsTrue, ◌↔◌, None, MatchResult, OnOk, Result, Err}
+use Rattle.std.specs.Prelude.{◌≡◌, ℕ, List, IfErr, IfOk, IfSome, IsSome, IsTrue, ◌↔◌, None, OnOk, Result, Err}
 use Rattle.cedar_tree.specs.Tree.{number_at}
 use Rattle.cedar_tree.specs.Queries.{Entry}
 use Rattle.cedar_tree.specs.State.{erased}
 use Rattle.cedarwood.specs.declared.error.CedarError.{CedarError}
-use Rattle.cedarwood.specs.declared.error.CedarError.TheVariants.{Memory}
-use Rattle.cedar_bulk.specs.Sorted.{entries_of}
+use Rattle.cedarwood.specs.Words.{entries_of}
 use Rattle.cedar_model.specs.Meaning.Marks.{MarksCut}
 use Rattle.cedar_model.specs.Table.Layouts.{LayoutKind}
 use Rattle.cedarwood.specs.Builds.{all_stored, first_fault, outcome, IsBuild, IsRefusedBuild}
 use Rattle.cedarwood.specs.Dictionary.{Dictionary}
 use Rattle.cedarwood.specs.Updates.{IsUpdate}
-use Rattle.cedar_calls.specs.Making.{IsEmpty}
+use Rattle.cedarwood.specs.Making.{IsRenewed}
 use Rattle.cedar_calls.specs.declared.call.Change.{Change}
 use Rattle.cedar_calls.specs.declared.call.Change.TheVariants as change
 use Rattle.cedar_calls.specs.declared.answer.Changed.{Changed}
@@ -39,6 +38,6 @@ IsChange layout slots before (change.Update key v) (changed.Updated result) afte
 IsChange layout slots before (change.Insert key v) (changed.Inserted result) after =
     IsUpdate layout slots before after key.now v (outcome result) × IfOk result (λ held. held ≡ number_at before.state.tree key.now)
 IsChange layout slots before (change.Erase key) (changed.Erased held) after = (IsTrue held ↔ IsSome (number_at before.state.tree key.now)) × IsErased before after key.now
-IsChange layout slots before (change.Renew settings) (changed.Renewed result) after = MatchResult result (λ _. IsEmpty settings after) (λ e. (e ≡ Memory) × (after ≡ before))
+IsChange layout slots before (change.Renew settings) (changed.Renewed result) after = IsRenewed settings before after result
 IsChange layout slots before (change.Build pairs) (changed.Built result) after = IsWholeBuild layout slots before after (entries_of pairs.now) result
 IsChange layout slots before c answer after = ⊥

@@ -3,7 +3,7 @@ use Rattle.std.specs.Prelude.{◌≡◌, ◌<◌, ℕ, ℤ, List, [], ◌∷◌,
 use Rattle.cedar_tree.specs.Tree.{number_at, IsSoundBelow}
 use Rattle.cedar_tree.specs.Queries.{is_path, last_at}
 use Rattle.cedar_tree.specs.State.{State}
-use Rattle.cedar_bulk.specs.Sorted.{entries_of}
+use Rattle.cedarwood.specs.Words.{entries_of}
 use Rattle.cedar_model.specs.Meaning.WellFormed.{tree_of}
 use Rattle.cedar_model.specs.Table.Layouts.{LayoutKind}
 use Rattle.cedar_model.specs.Table.TableFields.{Fields}

@@ -6,9 +6,8 @@ use Rattle.cedar_tree.specs.Tree.{empty_tree, number_at}
 use Rattle.cedar_tree.specs.Queries.{Entry, asc, exact, front, predict, used, walk}
 use Rattle.cedar_tree.specs.State.{State, erased, stored}
 use Rattle.cedarwood.specs.declared.error.CedarError.{CedarError}
-use Rattle.cedar_bulk.specs.Sorted.{entries_of}
+use Rattle.cedarwood.specs.Words.{entries_of, keys_of}
 use Rattle.cedar_model.specs.Table.Layouts.{LayoutKind, default_layout}
-use Rattle.cedar_walk.specs.Batch.{keys_of}
 use Rattle.cedar_format.specs.declared.error.CedarPersistenceError.{CedarPersistenceError}
 use Rattle.cedar_format.specs.Refusal.{Refusal, AllocationFailed, refusal_of}
 use Rattle.cedarwood.specs.Builds.{all_stored, first_fault}

@@ -5,7 +5,7 @@ use Rattle.cedar_tree.specs.Queries.{Entry, exact, front, predict, prefixes, use
 use Rattle.cedarwood.specs.declared.error.CedarError.{CedarError}
 use Rattle.cedarwood.specs.declared.error.CedarError.TheVariants.{Memory}
 use Rattle.cedar_model.specs.Table.Layouts.{LayoutKind, default_layout}
-use Rattle.cedar_walk.specs.Batch.{keys_of}
+use Rattle.cedarwood.specs.Words.{keys_of}
 use Rattle.cedar_format.specs.Tables.{IsTableFile}
 use Rattle.cedarwood.specs.Dictionary.{Dictionary}
 use Rattle.cedarwood.specs.declared.figures.MemoryStats.{MemoryStats}

@@ -3,7 +3,9 @@ use Rattle.std.specs.Prelude.{◌≡◌, ℕ, List, [], ◌∷◌, slice_get, sl
 use Rattle.cedar_model.specs.Table.Layouts.{LayoutKind}
 use Rattle.cedarwood.specs.Dictionary.{Dictionary, IsValid}
 use Rattle.cedarwood.specs.OnTable.{IsOnTable}
-use Rattle.cedar_calls.specs.Making.{IsCopy, IsLoad, IsNew, IsSortedBuild, Makes}
+use Rattle.cedarwood.specs.Words.{entries_of}
+use Rattle.cedarwood.specs.Making.{IsNew, IsSortedBuild}
+use Rattle.cedar_calls.specs.Making.{IsCopy, IsLoad, Makes}
 use Rattle.cedar_calls.specs.Changes.{IsChange}
 use Rattle.cedar_calls.specs.Replies.{IsReply}
 use Rattle.cedar_calls.specs.declared.call.Call.{Call}
@@ -28,7 +30,7 @@ MissesAt before index after = (slice_get before index ≡ None) × (after ≡ be
 -- it
 abbrev pub IsStep : {A : Type 0} → LayoutKind → ℕ → List Dictionary → Call → Answer A → List Dictionary → Type 0
 IsStep layout slots before (call.New settings) (answer.Made result) after = Makes (IsNew settings) before result after
-IsStep layout slots before (call.Sorted settings pairs) (answer.Made result) after = Makes (IsSortedBuild layout slots settings pairs.now) before result after
+IsStep layout slots before (call.Sorted settings pairs) (answer.Made result) after = Makes (IsSortedBuild layout slots settings (entries_of pairs.now)) before result after
 IsStep layout slots before (call.Load bytes limit) (answer.Loaded result) after = Makes (IsLoad layout slots limit bytes.now) before result after
 IsStep layout slots before (call.Clone index) (answer.Made result) after = (d : Dictionary) × (slice_get before index ≡ Some d) × Makes (IsCopy d) before result after
 IsStep layout slots before (call.Clone index) answer.Missing after = MissesAt before index after

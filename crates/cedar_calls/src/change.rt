@@ -1,6 +1,6 @@
 //! Changes of a dictionary.
 
-ghost use Rattle.cedarwood.specs.Dictionary.{IsValid};
+ghost use Rattle.cedarwood.specs.Words.{IsValid};
 ghost use Rattle.cedar_calls.specs.Changes.{IsChange};
 
 use crate::{Change, Changed};

@@ -2,7 +2,7 @@
 
 ghost use Rattle.std.specs.Prelude.{◌≡◌, ◌+◌, ◌<◌, ◌≤◌, slice_get, Some, vec_len};
 ghost use Rattle.std.specs.Vec.{vec_capacity};
-ghost use Rattle.cedar_slots.specs.Places.{IsSlotLimit};
+ghost use Rattle.cedarwood.specs.Words.{IsSlotLimit};
 ghost use Rattle.cedar_calls.specs.Making.{IsCopy, Joins};
 ghost use Rattle.cedar_calls.specs.Runs.{IsStep};
 ghost use Rattle.cedar_calls.specs.declared.call.Call.TheVariants as call;

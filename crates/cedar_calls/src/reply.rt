@@ -2,7 +2,7 @@
 
 ghost use Rattle.std.specs.Prelude.{◌≡◌, cond, map, option_map, string_bytes};
 ghost use Rattle.cedar_tree.specs.Queries.{exact, walk};
-ghost use Rattle.cedar_walk.specs.Batch.{keys_of};
+ghost use Rattle.cedarwood.specs.Words.{keys_of};
 ghost use Rattle.cedar_format.specs.Tables.{IsTableFile};
 ghost use Rattle.cedar_calls.specs.Replies.{AreTexts, Collects, IsFigure, IsReply};
 

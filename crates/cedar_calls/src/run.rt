@@ -2,7 +2,7 @@
 
 ghost use Rattle.std.specs.Prelude.{◌≡◌, ◌+◌, ◌<◌, ◌≤◌, IfOk, OnErr, vec_len};
 ghost use Rattle.std.specs.Vec.{vec_capacity};
-ghost use Rattle.cedar_slots.specs.Places.{IsSlotLimit};
+ghost use Rattle.cedarwood.specs.Words.{IsSlotLimit};
 ghost use Rattle.cedar_calls.specs.Runs.{IsRun, IsStep};
 
 use crate::change::{is_valid, make_change};

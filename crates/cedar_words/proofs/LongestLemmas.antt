@@ -2,7 +2,7 @@
 use Rattle.std.proofs.Common.{◌≡◌, ℕ, zero, suc, ◌+◌, ◌-◌, ◌<◌, ◌≤◌, ℤ, List, length, take, drop, Option, Some, None, option_map, MatchOption, IfSome, refl, sym, ap, ◌∙◌, arith, inl, inr, ◌⊎◌}
 use Rattle.std.specs.List.{filter_map, cons_option, range_with_len, last_or}
 use Rattle.std.proofs.lemmas.Bool.Decides.{eqb_tells}
-use Rattle.cedar_tree.specs.Tree.{Tree, number_at}
+use Rattle.cedarwood.specs.Tree.{Tree, number_at}
 use Rattle.cedar_words.specs.Words.{IsLongest, len_of, longest, number_of}
 
 abbrev found_at : Tree → List ℕ → ℕ → Option (ℤ × ℕ)

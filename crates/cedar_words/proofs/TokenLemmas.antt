@@ -2,8 +2,8 @@
 use Rattle.std.proofs.Common.{◌≡◌, ℕ, zero, suc, ◌+◌, ◌-◌, ◌<◌, ◌≤◌, ℤ, List, [], ◌∷◌, length, drop, Option, Some, None, refl, sym, ap, subst, ◌∙◌, arith, All, min}
 use Rattle.std.proofs.lemmas.List.Elements.{All-cons, All-nil}
 use Rattle.std.proofs.lemmas.List.Sums.{sum-map, sum_by-cons}
-use Rattle.cedar_tree.specs.Tree.{Tree}
-use Rattle.cedar_words.specs.Words.{bytes_in, Covers, IsLongest, len_of, longest, number_of, segments, Token, tokens_behind}
+use Rattle.cedarwood.specs.Tree.{Tree}
+use Rattle.cedar_words.specs.Words.{bytes_in, AreAdjacent, IsLongest, len_of, longest, number_of, segments, Token, tokens_behind}
 use Rattle.cedar_words.proofs.LongestLemmas.{len_within, token_longest}
 
 -- bytes that belong to the token before are passed
@@ -75,13 +75,13 @@ pub segments_bytes : (t : Tree) (place : ℕ) (text : List ℕ) → bytes_in (to
 segments_bytes t place text = let all = tokens_bytes t 0 place text in omega (arith, all)
 
 -- and they cover them
-tokens_cover : (t : Tree) (k place : ℕ) (text : List ℕ) → k ≤ length text → Covers (tokens_behind t k place text) (place + k) (place + length text)
+tokens_cover : (t : Tree) (k place : ℕ) (text : List ℕ) → k ≤ length text → AreAdjacent (tokens_behind t k place text) (place + k) (place + length text)
 tokens_cover t k place [] h = omega (arith, h)
 tokens_cover t (suc k) place (b ∷ rest) h =
     let begin : place + 1 + k ≡ place + suc k = omega arith in
     let end : place + 1 + length rest ≡ place + suc (length rest) = omega arith in
-    subst (λ p. Covers (tokens_behind t k (place + 1) rest) p (place + suc (length rest))) begin
-    (subst (λ e. Covers (tokens_behind t k (place + 1) rest) (place + 1 + k) e) end (tokens_cover t k (place + 1) rest (omega (arith, h))))
+    subst (λ p. AreAdjacent (tokens_behind t k (place + 1) rest) p (place + suc (length rest))) begin
+    (subst (λ e. AreAdjacent (tokens_behind t k (place + 1) rest) (place + 1 + k) e) end (tokens_cover t k (place + 1) rest (omega (arith, h))))
 tokens_cover t zero place (b ∷ rest) h =
     let o : Option (ℤ × ℕ) = longest t (b ∷ rest) in
     let within = len_within t (b ∷ rest) (omega arith) in
@@ -91,14 +91,14 @@ tokens_cover t zero place (b ∷ rest) h =
     let more = tokens_cover t (len_of o - 1) (place + 1) rest (omega (arith, some, within)) in (
       omega arith,
       some,
-      subst (λ p. Covers (tokens_behind t (len_of o - 1) (place + 1) rest) p (place + suc (length rest))) begin
-          (subst (λ e. Covers (tokens_behind t (len_of o - 1) (place + 1) rest) (place + 1 + (len_of o - 1)) e) end more),
+      subst (λ p. AreAdjacent (tokens_behind t (len_of o - 1) (place + 1) rest) p (place + suc (length rest))) begin
+          (subst (λ e. AreAdjacent (tokens_behind t (len_of o - 1) (place + 1) rest) (place + 1 + (len_of o - 1)) e) end more),
     )
 
-pub segments_cover : (t : Tree) (text : List ℕ) → Covers (segments t text) 0 (length text)
+pub segments_cover : (t : Tree) (text : List ℕ) → AreAdjacent (segments t text) 0 (length text)
 segments_cover t text =
     let end : 0 + length text ≡ length text = omega arith in
-    subst (λ e. Covers (segments t text) 0 e) end (tokens_cover t 0 0 text (omega arith))
+    subst (λ e. AreAdjacent (segments t text) 0 e) end (tokens_cover t 0 0 text (omega arith))
 
 drop_one : (place : ℕ) (text rest : List ℕ) (b : ℕ) → drop place text ≡ b ∷ rest → drop (place + 1) text ≡ rest
 drop_one zero text rest b e = ap (drop 1) e

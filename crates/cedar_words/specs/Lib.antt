@@ -1,3 +1,3 @@
-pub use Rattle.cedar_tree.specs.Tree
-pub use Rattle.cedar_tree.specs.Queries
+pub use Rattle.cedarwood.specs.Tree
+pub use Rattle.cedarwood.specs.Queries
 pub mod Words

@@ -1,8 +1,8 @@
 -- A text that is cut into tokens: from each place the longest key that a tree holds there, or else one byte.
 use Rattle.std.specs.Prelude.{◌≡◌, ℕ, zero, suc, ◌+◌, ◌-◌, ◌<◌, ◌≤◌, ℤ, List, [], ◌∷◌, length, drop, take, sum, map, Option, Some, None, option_map}
 use Rattle.std.specs.List.{last_or}
-use Rattle.cedar_tree.specs.Tree.{Tree, number_at}
-use Rattle.cedar_tree.specs.Queries.{front}
+use Rattle.cedarwood.specs.Tree.{Tree, number_at}
+use Rattle.cedarwood.specs.Queries.{front}
 
 -- where it begins, how many bytes it has, and its number if it has one
 abbrev pub Token : Type 0
@@ -37,9 +37,9 @@ abbrev pub bytes_in : List Token → ℕ
 bytes_in tokens = sum (map (λ t. t.1) tokens)
 
 -- from a place to an end each token begins where the one before it ended, and has one byte or more
-abbrev pub Covers : List Token → ℕ → ℕ → Type 0
-Covers [] place end = place ≡ end
-Covers (t ∷ tokens) place end = (t.0 ≡ place) × (0 < t.1) × Covers tokens (place + t.1) end
+abbrev pub AreAdjacent : List Token → ℕ → ℕ → Type 0
+AreAdjacent [] place end = place ≡ end
+AreAdjacent (t ∷ tokens) place end = (t.0 ≡ place) × (0 < t.1) × AreAdjacent tokens (place + t.1) end
 
 -- a token of a text has the number that its bytes hold, nothing longer is held from its place on, and without a number it
 -- is one byte

@@ -1,13 +1,13 @@
 //! Laws of the tokens of a text.
 
 ghost use Rattle.std.specs.Prelude.{◌≡◌, ℕ, ◌+◌, ◌<◌, ℤ, List, [], ◌∷◌, length, drop, All, Option};
-ghost use Rattle.cedar_tree.specs.Tree.{Tree};
-ghost use Rattle.cedar_words.specs.Words.{bytes_in, Covers, IsLongest, len_of, longest, number_of, segments, tokens_behind};
+ghost use Rattle.cedarwood.specs.Tree.{Tree};
+ghost use Rattle.cedar_words.specs.Words.{bytes_in, AreAdjacent, IsLongest, len_of, longest, number_of, segments, tokens_behind};
 
 /// The tokens of a text cover it in order: each begins where the one before it ended, has one byte or more, and together they have
 /// the bytes of the text.
 pub fn tokens_cover()
-    ensures covers { (tree : Tree) (text : List ℕ) → Covers (segments tree text) 0 (length text) }
+    ensures covers { (tree : Tree) (text : List ℕ) → AreAdjacent (segments tree text) 0 (length text) }
     ensures bytes { (tree : Tree) (text : List ℕ) → bytes_in (segments tree text) ≡ length text }
 {}
 

@@ -6,7 +6,7 @@ use std::alloc::Allocator;
 /// What tells the longest key that a text begins with: any dictionary. The tokens of a text ask for nothing else.
 pub trait LongestPrefix {
     ghost use Rattle.std.specs.Prelude.{◌≡◌, ◌<◌, IfSome, length};
-    ghost use Rattle.cedar_tree.specs.Tree.{Tree};
+    ghost use Rattle.cedarwood.specs.Tree.{Tree};
     ghost use Rattle.cedar_words.specs.Words.{longest};
 
     /// The labelled tree that the answers come from.

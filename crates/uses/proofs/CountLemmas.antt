@@ -7,9 +7,9 @@ use Rattle.std.specs.Str.{bytes_eq}
 use Rattle.std.proofs.lemmas.Bool.{true≢false}
 use Rattle.std.proofs.lemmas.List.Sums.{count_by_more_no, count_by_more_yes}
 use Rattle.std.proofs.lemmas.Slice.Eq.{bytes_eq-Decides}
-use Rattle.cedar_tree.specs.Tree.{Tree, empty_tree, number_at, put}
-use Rattle.cedar_tree.specs.Queries.{exact}
-use Rattle.cedar_tree.proofs.TreeLemmas.{number_at-empty, number_at-put_other, number_at-put_same}
+use Rattle.cedarwood.specs.Tree.{Tree, empty_tree, number_at, put}
+use Rattle.cedarwood.specs.Queries.{exact}
+use Rattle.cedarwood.proofs.TreeLemmas.{number_at-empty, number_at-put_other, number_at-put_same}
 use Rattle.uses.specs.Counts.{count_of, one_more, times}
 
 -- where the first words are counted, so are these and the next one once it is stored with one more

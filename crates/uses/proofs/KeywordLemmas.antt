@@ -6,9 +6,9 @@ use Rattle.std.proofs.lemmas.Bool.{false≢true, true≢false}
 use Rattle.std.proofs.lemmas.List.{take_all}
 use borrow.Author.Count.{below_more}
 use Rattle.std.proofs.Math.ListN.{length-drop}
-use Rattle.cedar_tree.specs.Tree.{Tree, number_at}
-use Rattle.cedar_tree.specs.Queries.{front}
-use Rattle.cedar_tree.proofs.FrontLemmas.{front_from_held, held_from_front}
+use Rattle.cedarwood.specs.Tree.{Tree, number_at}
+use Rattle.cedarwood.specs.Queries.{front}
+use Rattle.cedarwood.proofs.FrontLemmas.{front_from_held, held_from_front}
 use Rattle.uses.specs.Keywords.{HasKeyword}
 
 -- where a walk gives a key, the text has it

@@ -1,6 +1,6 @@
 -- Keywords in a text.
 use Rattle.std.specs.Prelude.{ℕ, ◌+◌, ◌<◌, ◌≤◌, List, length, take, drop, IsSome}
-use Rattle.cedar_tree.specs.Tree.{Tree, number_at}
+use Rattle.cedarwood.specs.Tree.{Tree, number_at}
 
 -- some bytes of the text, one or more, are a key
 abbrev pub HasKeyword : Tree → List ℕ → Type 0

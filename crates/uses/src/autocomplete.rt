@@ -1,7 +1,7 @@
 //! What a typed text may become.
 
 ghost use Rattle.std.specs.Prelude.{◌≡◌, IfOk, take};
-ghost use Rattle.cedarwood.specs.Queries.{predict};
+ghost use Rattle.cedarwood.specs.Words.{predict};
 
 use cedarwood::{Layout, Trie};
 use std::alloc::{AllocError, Allocator, Global};

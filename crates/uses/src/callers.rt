@@ -1,10 +1,8 @@
 //! What a caller has to say more, over any allocator and any limit of slots.
 
 ghost use Rattle.std.specs.Prelude.{◌≡◌, ◌≤◌, IsTrue, OnOk, ◌↔◌, IsSome, pos};
-ghost use Rattle.cedar_slots.specs.Places.{IsSlotLimit};
+ghost use Rattle.cedarwood.specs.Words.{IsSlotLimit, number_at, stored};
 ghost use Rattle.cedarwood.specs.Memory.{CedarFitsInMemory};
-ghost use Rattle.cedarwood.specs.State.{stored};
-ghost use Rattle.cedarwood.specs.Tree.{number_at};
 
 use cedarwood::{Cedar, CedarBuilder, CedarError, DefaultLayout, Layout, Trie};
 use std::alloc::Allocator;

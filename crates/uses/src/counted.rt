@@ -1,7 +1,7 @@
 //! A search whose comparisons are counted.
 
-ghost use Rattle.std.specs.Prelude.{◌≡◌, ◌<◌};
-ghost use Rattle.cedarwood.specs.Queries.{exact};
+ghost use Rattle.std.specs.Prelude.{◌≡◌};
+ghost use Rattle.cedarwood.specs.Words.{IsBlankOf, exact};
 
 use cedarwood::{Cedar, Ticks};
 use std::alloc::Global;
@@ -16,9 +16,7 @@ pub fn search(cedar: &Cedar<Global>, key: &[u8]) -> Option<(i32, usize)>
 }
 
 fn search_in<C: Ledger>(cedar: &Cedar<Global>, key: &[u8], blank: Blank) -> Option<(i32, usize)>
-    requires name { blank.name ≡ C.name }
-    requires parts { blank.parts ≡ C.parts }
-    requires some { 0 < blank.parts }
+    requires { IsBlankOf C.name C.parts blank }
     ensures { result ≡ exact cedar.now.state.tree key.now }
 {
     let mut ticks = Ticks::<C>::new(blank);

@@ -1,8 +1,7 @@
 //! How often each word comes.
 
 ghost use Rattle.std.specs.Prelude.{◌≡◌, ℕ, List, IfOk, OnOk, option_map};
-ghost use Rattle.cedarwood.specs.State.{stored};
-ghost use Rattle.cedarwood.specs.Tree.{number_at};
+ghost use Rattle.cedarwood.specs.Words.{number_at, stored};
 ghost use Rattle.uses.specs.Counts.{count_of, one_more};
 
 use cedarwood::{Cedar, CedarError, Layout, MAX_VALUE, Trie};

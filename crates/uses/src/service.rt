@@ -1,8 +1,7 @@
 //! A dictionary that a service answers from.
 
 ghost use Rattle.std.specs.Prelude.{◌≡◌, OnOk, OnErr};
-ghost use Rattle.cedar_bulk.specs.Sorted.{entries_of};
-ghost use Rattle.cedarwood.specs.Builds.{all_stored};
+ghost use Rattle.cedarwood.specs.Words.{all_stored, entries_of};
 
 use cedarwood::{CedarError, Layout, Trie};
 use std::alloc::Allocator;

@@ -2,9 +2,7 @@
 
 ghost use Rattle.std.specs.Prelude.{◌≡◌, ℕ, IfOk};
 ghost use Rattle.std.specs.Io.KnownBytes.{Consumes};
-ghost use Rattle.cedar_format.specs.Format.{IsVersion};
-ghost use Rattle.cedar_format.specs.Tables.{table_bytes};
-ghost use Rattle.cedarwood.specs.WatchedDevice.{device_of};
+ghost use Rattle.cedarwood.specs.Words.{IsVersion, device_of, table_bytes};
 ghost use Rattle.cedar_words.specs.Words.{segments};
 
 use cedar_words::segment;

@@ -1,7 +1,7 @@
 use Rattle.std.proofs.Common.{rules, ◌≡◌, length, sym, ◌∙◌}
 use Rattle.std.proofs.lemmas.List.{length-map}
 use Rattle.cedar_tree.specs.Queries.{exact}
-use Rattle.cedar_walk.specs.Batch.{keys_of}
+use Rattle.cedarwood.specs.Words.{keys_of}
 use Rattle.cedar_calls.proofs.BatchLemmas.{all_filled}
 use Rattle.cedar_calls.proofs.reply.batch.Goals as goal
 

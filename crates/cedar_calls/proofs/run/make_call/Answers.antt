@@ -1,25 +1,15 @@
 use Rattle.std.proofs.Common.{rules, ◌≡◌, ◌<◌, ◌≤◌, length, sym, subst, slice_set, refl, Some, None}
 use Rattle.std.specs.List.{slice_get}
-use Rattle.cedar_bulk.specs.Sorted.{entries_of}
 use Rattle.cedar_calls.specs.declared.answer.Answer.TheVariants as answer
 use Rattle.cedar_calls.specs.Runs.{IsStep}
-use Rattle.cedar_calls.proofs.MakingLemmas.{sorted_made}
 use Rattle.cedar_calls.proofs.PlaceLemmas.{none_at, stands_at}
 use Rattle.cedar_calls.proofs.run.make_call.Goals as goal
 
 pub returns-in-Sorted-clause-step : goal.returns-in-Sorted-clause-step
 returns-in-Sorted-clause-step g c =
     let m = c.from_sorted_bytes_with-made in
-    let e = m.ensures in
-    subst (λ call. IsStep {A = g.row.A.Denot} g.L.Layout.kind g.row.SLOTS c.args.tries.now.items call (answer.Made c.join-in-Sorted.result) c.join-in-Sorted.new.tries.items) (sym c.in-Sorted.is) (
-      m.result,
-      record {
-        faulty = e.faulty;
-        sorted = sorted_made g.L.Layout.kind c.in-Sorted.settings (entries_of c.in-Sorted.pairs.now) m.result e.tree e.marks e.ordered e.max_trial e.size;
-        refused = e.refused;
-      },
-      c.join-in-Sorted.ensures.joins,
-    )
+    subst (λ call. IsStep {A = g.row.A.Denot} g.L.Layout.kind g.row.SLOTS c.args.tries.now.items call (answer.Made c.join-in-Sorted.result) c.join-in-Sorted.new.tries.items) (sym c.in-Sorted.is)
+    (m.result, m.ensures.built, c.join-in-Sorted.ensures.joins)
 
 pub returns-in-Some-clause-step : goal.returns-in-Some-clause-step
 returns-in-Some-clause-step g c =

@@ -7,7 +7,7 @@ use Rattle.uses.proofs.CountLemmas.{counted_more, nothing_counted}
 use Rattle.uses.proofs.counter.count.Goals as goal
 
 pub loop-word-init : goal.loop-word-init
-loop-word-init c = λ w. nothing_counted c.in_ok-counts.counts.state.tree w c.in_ok-counts.ensures.empty
+loop-word-init c = λ w. nothing_counted c.in_ok-counts.counts.state.tree w c.in_ok-counts.ensures.made.tree
 
 pub loop-word-preserved : goal.loop-word-preserved
 loop-word-preserved c = λ w.

@@ -1,5 +1,5 @@
 use Rattle.std.proofs.Common.{◌≡◌, ℕ, List, take}
-use Rattle.cedar_tree.specs.Tree.{number_at}
+use Rattle.cedarwood.specs.Tree.{number_at}
 use Rattle.uses.specs.Counts.{count_of}
 use Rattle.uses.proofs.counter.count.Given as goal
 

@@ -1,5 +1,5 @@
 use Rattle.std.proofs.Common.{◌≡◌, ◌<◌, ℕ, [], drop}
-use Rattle.cedar_tree.specs.Queries.{front}
+use Rattle.cedarwood.specs.Queries.{front}
 use Rattle.uses.proofs.filter.has_keyword.Given as goal
 
 -- no key begins at a place before this one
