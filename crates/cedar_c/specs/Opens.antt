@@ -1,14 +1,13 @@
 -- What calls that open a handle say.
-use Rattle.std.specs.Prelude.{◌≡◌, ◌≢◌, ◌⊎◌, ◌↔◌, ◌+◌, ◌*◌, ◌≤◌, ◌≤ℤ◌, ◌<ℤ◌, ℕ, ℤ, pos, Bool, List, length, None, Some, IfSome}
+use Rattle.std.specs.Prelude.{◌≡◌, ◌≢◌, ◌⊎◌, ◌↔◌, ◌*◌, ◌≤◌, ◌≤ℤ◌, ◌<ℤ◌, ℕ, ℤ, pos, Bool, List, length, None, Some, IfSome}
 use Rattle.cedar_format.specs.Format.{header_answer}
 use Rattle.cedar_model.specs.Table.Layouts.{LayoutKind, layout_byte}
 use Rattle.cedar_tree.specs.Queries.{asc, prefixes}
-use Rattle.cedarwood.specs.Dictionary.{capacity_after}
-use Rattle.cedarwood.specs.OnTable.{IsOnTable}
-use Rattle.cedarwood.specs.Tree.{empty_tree}
-use Rattle.cedar_c.specs.Content.{content, layout_in, state_in, trials_in, size_in, capacity_in}
+use Rattle.cedarwood.specs.Words.{IsEmpty, IsOnTable, IsSorted}
+use Rattle.cedarwood.specs.declared.builder.CedarBuilder.{CedarBuilder}
+use Rattle.cedar_c.specs.Content.{content, layout_in}
 use Rattle.cedar_c.specs.Files.{early_refusal, file_status, IsFileOf, IsOfNoTable, TellsHeader}
-use Rattle.cedar_c.specs.Layouts.{dictionary_in, most_slots}
+use Rattle.cedar_c.specs.Layouts.{dictionary_in, layout_of, most_slots}
 use Rattle.cedar_c.specs.Pairs.{entries_in, fault_in}
 use Rattle.cedar_c.specs.Status.{position_of, status_of, TellsPosition}
 use Rattle.cedar_c.specs.declared.any.AnyCedar.{AnyCedar}
@@ -18,9 +17,8 @@ use Rattle.cedar_c.specs.declared.status.TheConstants.{OK, MEMORY, SLOT_LIMIT, I
 
 -- by OK the handle is opened with an empty dictionary of a layout and settings, in the place of what it had; by another status it is as it was
 pub record OpensNew (kind : LayoutKind) (ordered : Bool) (trials : ℤ) (before after : Handle) (status : ℕ) : Type 0 where
-  pub made : status ≡ OK → state_in after ≡ Some (record { tree = empty_tree; ordered = ordered })
-  pub max_trial : status ≡ OK → trials_in after ≡ Some trials
-  pub size : status ≡ OK → (size_in after ≡ 256) × (capacity_in after ≡ 256)
+  pub made : status ≡ OK → (settings : CedarBuilder) × (settings.ordered ≡ ordered) × (settings.max_trial ≡ trials)
+      × ((a : AnyCedar) × (content after ≡ Some a) × IsEmpty settings (dictionary_in a))
   pub layout : status ≡ OK → layout_in after ≡ Some kind
   -- a number of trials below 1 is refused, and no other one
   pub invalid : (status ≡ INVALID_MAX_TRIAL) ↔ (trials <ℤ pos 1)
@@ -29,10 +27,8 @@ pub record OpensNew (kind : LayoutKind) (ordered : Bool) (trials : ℤ) (before 
 -- by OK the handle is opened with a dictionary of just these pairs, in the place of what it had; by another status it is as it was. `found`
 -- and `told` are the position before and after
 pub record OpensSorted (kind : LayoutKind) (ordered : Bool) (trials : ℤ) (pairs : List Pair) (before after : Handle) (found told status : ℕ) : Type 0 where
-  pub made : status ≡ OK → state_in after ≡ Some (record { tree = asc (entries_in pairs); ordered = ordered })
-  pub max_trial : status ≡ OK → trials_in after ≡ Some trials
-  -- it took a block for each of some of the distinct prefixes at most
-  pub size : status ≡ OK → (n : ℕ) × (n ≤ length (prefixes (asc (entries_in pairs)))) × (size_in after ≡ 256 + 256 * n) × (capacity_in after ≡ capacity_after n 256 256)
+  pub made : status ≡ OK → (settings : CedarBuilder) × (settings.ordered ≡ ordered) × (settings.max_trial ≡ trials)
+      × ((a : AnyCedar) × (content after ≡ Some a) × IsSorted (layout_of a) settings (entries_in pairs) (dictionary_in a))
   pub layout : status ≡ OK → layout_in after ≡ Some kind
   pub invalid : trials <ℤ pos 1 → status ≡ INVALID_MAX_TRIAL
   -- the first fault of the pairs is told, unless memory was wanted before it was found

@@ -8,8 +8,9 @@ ghost use Rattle.cedarwood.specs.Dictionary.{capacity_after};
 ghost use Rattle.cedarwood.specs.Fault.{fault};
 ghost use Rattle.cedarwood.specs.Room.{LacksRoom};
 ghost use Rattle.cedarwood.specs.State.{erased};
-ghost use Rattle.cedarwood.specs.Tree.{empty_tree, number_at};
+ghost use Rattle.cedarwood.specs.Tree.{number_at};
 ghost use Rattle.cedarwood.specs.Updates.{IsUpdate};
+ghost use Rattle.cedarwood.specs.Words.{IsEmpty};
 ghost use Rattle.cedar_c.specs.Layouts.{dictionary_in, layout_if, layout_of, most_slots};
 
 use cedarwood::{Cedar, CedarBuilder, CedarError, ReducedCedar};
@@ -26,9 +27,7 @@ impl AnyCedar {
     /// An empty dictionary with these settings, or None for want of memory.
     #[tactic(auto, using(cedarwood::proofs::DictionaryLemmas::default_limit))]
     pub(crate) fn new(alloc: Global, is_reduced: bool, settings: CedarBuilder) -> Option<AnyCedar>
-        ensures state { IfSome result (λ a. (dictionary_in a).state ≡ record { tree = empty_tree; ordered = settings.ordered }) }
-        ensures max_trial { IfSome result (λ a. (dictionary_in a).max_trial ≡ settings.max_trial) }
-        ensures size { IfSome result (λ a. ((dictionary_in a).size ≡ 256) × ((dictionary_in a).capacity ≡ 256)) }
+        ensures made { IfSome result (λ a. IsEmpty settings (dictionary_in a)) }
         ensures layout { IfSome result (λ a. layout_of a ≡ layout_if is_reduced) }
     {
         if is_reduced {

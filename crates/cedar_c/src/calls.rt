@@ -3,12 +3,14 @@
 ghost use Rattle.std.specs.Prelude.{◌≡◌, ◌⊎◌, ◌-◌, ◌*◌, ◌<◌, ◌≤◌, pos, length, None, Some, IsSome, IfSome, IsTrue, ◌↔◌, option_map, true};
 ghost use Rattle.cedarwood.specs.Fault.{fault};
 ghost use Rattle.cedarwood.specs.State.{stored, erased};
-ghost use Rattle.cedarwood.specs.Tree.{empty_tree, number_at};
+ghost use Rattle.cedarwood.specs.Tree.{number_at};
+ghost use Rattle.cedarwood.specs.Words.{IsEmpty};
 ghost use Rattle.cedar_model.specs.Table.Layouts.{default_layout, reduced_layout};
 ghost use Rattle.cedar_c.specs.Content.{content, layout_in, state_in, tree_in, trials_in, size_in, capacity_in};
 ghost use Rattle.cedar_c.specs.Layouts.{dictionary_in, layout_if, layout_of, most_slots};
 ghost use Rattle.cedar_c.specs.Opens.{OpensNew};
 ghost use Rattle.cedar_c.specs.Status.{position_of, status_of, TellsPosition};
+ghost use Rattle.cedar_c.specs.declared.any.AnyCedar.{AnyCedar};
 
 use crate::any::AnyCedar;
 use crate::handle::Handle;
@@ -18,9 +20,7 @@ use std::alloc::Global;
 
 /// An empty dictionary with these settings on the heap.
 fn make(alloc: Global, is_reduced: bool, settings: CedarBuilder) -> Option<Box<AnyCedar, Global>>
-    ensures state { IfSome result (λ b. (dictionary_in b.value).state ≡ record { tree = empty_tree; ordered = settings.ordered }) }
-    ensures max_trial { IfSome result (λ b. (dictionary_in b.value).max_trial ≡ settings.max_trial) }
-    ensures size { IfSome result (λ b. ((dictionary_in b.value).size ≡ 256) × ((dictionary_in b.value).capacity ≡ 256)) }
+    ensures made { IfSome result (λ b. IsEmpty settings (dictionary_in b.value)) }
     ensures layout { IfSome result (λ b. layout_of b.value ≡ layout_if is_reduced) }
 {
     let cedar = AnyCedar::new(alloc, is_reduced, settings)?;
@@ -29,9 +29,7 @@ fn make(alloc: Global, is_reduced: bool, settings: CedarBuilder) -> Option<Box<A
 
 /// Opens a handle with an empty dictionary of these settings.
 fn renew(handle: &mut Handle, alloc: Global, is_reduced: bool, settings: CedarBuilder) -> u32
-    ensures made { result ≡ OK → state_in handle.new ≡ Some (record { tree = empty_tree; ordered = settings.ordered }) }
-    ensures max_trial { result ≡ OK → trials_in handle.new ≡ Some settings.max_trial }
-    ensures size { result ≡ OK → (size_in handle.new ≡ 256) × (capacity_in handle.new ≡ 256) }
+    ensures made { result ≡ OK → (a : AnyCedar) × (content handle.new ≡ Some a) × IsEmpty settings (dictionary_in a) }
     ensures layout { result ≡ OK → layout_in handle.new ≡ Some (layout_if is_reduced) }
     ensures refused { (result ≡ OK) ⊎ ((result ≡ MEMORY) × (content handle.new ≡ content handle.old)) }
 {

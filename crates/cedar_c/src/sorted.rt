@@ -1,15 +1,16 @@
 //! A dictionary of sorted pairs, made at once.
 
-ghost use Rattle.std.specs.Prelude.{◌≡◌, ◌⊎◌, ◌+◌, ◌*◌, ◌≤◌, ℕ, length, None, Some, Err, IfOk, IfErr, IfSome};
+ghost use Rattle.std.specs.Prelude.{◌≡◌, ◌⊎◌, ◌*◌, ◌≤◌, length, None, Some, Err, IfOk, IfErr, IfSome};
 ghost use Rattle.cedar_slots.specs.Places.{IsSlotLimit};
 ghost use Rattle.cedar_model.specs.Table.Layouts.{default_layout, reduced_layout};
 ghost use Rattle.cedar_tree.specs.Queries.{asc, prefixes};
-ghost use Rattle.cedarwood.specs.Dictionary.{capacity_after};
-ghost use Rattle.cedar_c.specs.Content.{content, layout_in, state_in, trials_in, size_in, capacity_in};
+ghost use Rattle.cedarwood.specs.Words.{IsSorted};
+ghost use Rattle.cedar_c.specs.Content.{content, layout_in};
 ghost use Rattle.cedar_c.specs.Layouts.{dictionary_in, layout_if, layout_of, most_slots};
 ghost use Rattle.cedar_c.specs.Opens.{OpensSorted};
 ghost use Rattle.cedar_c.specs.Pairs.{entries_in, fault_in};
 ghost use Rattle.cedar_c.specs.Status.{position_of, status_of, TellsPosition};
+ghost use Rattle.cedar_c.specs.declared.any.AnyCedar.{AnyCedar};
 
 use crate::any::AnyCedar;
 use crate::handle::Handle;
@@ -26,9 +27,7 @@ fn made<L: Layout, const SLOTS: usize>(
 ) -> Result<Trie<L, SLOTS, Global>, CedarError>
     requires limit { IsSlotLimit SLOTS }
     ensures faulty { IfSome (fault_in pairs.now) (λ e. (result ≡ Err e) ⊎ (result ≡ Err CedarError.Memory)) }
-    ensures state { IfOk result (λ d. d.state ≡ record { tree = asc (entries_in pairs.now); ordered = settings.ordered }) }
-    ensures max_trial { IfOk result (λ d. d.max_trial ≡ settings.max_trial) }
-    ensures size { IfOk result (λ d. (n : ℕ) × (n ≤ length (prefixes (asc (entries_in pairs.now)))) × (d.size ≡ 256 + 256 * n) × (d.capacity ≡ capacity_after n 256 256)) }
+    ensures made { IfOk result (IsSorted L.kind settings (entries_in pairs.now)) }
     ensures refused { fault_in pairs.now ≡ None → IfErr result (λ e.
         (e ≡ CedarError.Memory) ⊎ ((e ≡ CedarError.SlotLimit) × (SLOTS ≤ 256 * length (prefixes (asc (entries_in pairs.now)))))) }
 {
@@ -48,9 +47,7 @@ impl AnyCedar {
         pairs: &[Pair<'_>],
     ) -> Result<AnyCedar, CedarError>
         ensures faulty { IfSome (fault_in pairs.now) (λ e. (result ≡ Err e) ⊎ (result ≡ Err CedarError.Memory)) }
-        ensures state { IfOk result (λ a. (dictionary_in a).state ≡ record { tree = asc (entries_in pairs.now); ordered = settings.ordered }) }
-        ensures max_trial { IfOk result (λ a. (dictionary_in a).max_trial ≡ settings.max_trial) }
-        ensures size { IfOk result (λ a. (n : ℕ) × (n ≤ length (prefixes (asc (entries_in pairs.now)))) × ((dictionary_in a).size ≡ 256 + 256 * n) × ((dictionary_in a).capacity ≡ capacity_after n 256 256)) }
+        ensures made { IfOk result (λ a. IsSorted (layout_of a) settings (entries_in pairs.now) (dictionary_in a)) }
         ensures layout { IfOk result (λ a. layout_of a ≡ layout_if is_reduced) }
         ensures refused { fault_in pairs.now ≡ None → IfErr result (λ e.
             (e ≡ CedarError.Memory) ⊎ ((e ≡ CedarError.SlotLimit) × (most_slots ≤ 256 * length (prefixes (asc (entries_in pairs.now)))))) }
@@ -72,9 +69,7 @@ fn boxed(
     pairs: &[Pair<'_>],
 ) -> Result<Box<AnyCedar, Global>, CedarError>
     ensures faulty { IfSome (fault_in pairs.now) (λ e. (result ≡ Err e) ⊎ (result ≡ Err CedarError.Memory)) }
-    ensures state { IfOk result (λ b. (dictionary_in b.value).state ≡ record { tree = asc (entries_in pairs.now); ordered = settings.ordered }) }
-    ensures max_trial { IfOk result (λ b. (dictionary_in b.value).max_trial ≡ settings.max_trial) }
-    ensures size { IfOk result (λ b. (n : ℕ) × (n ≤ length (prefixes (asc (entries_in pairs.now)))) × ((dictionary_in b.value).size ≡ 256 + 256 * n) × ((dictionary_in b.value).capacity ≡ capacity_after n 256 256)) }
+    ensures made { IfOk result (λ b. IsSorted (layout_of b.value) settings (entries_in pairs.now) (dictionary_in b.value)) }
     ensures layout { IfOk result (λ b. layout_of b.value ≡ layout_if is_reduced) }
     ensures refused { fault_in pairs.now ≡ None → IfErr result (λ e.
         (e ≡ CedarError.Memory) ⊎ ((e ≡ CedarError.SlotLimit) × (most_slots ≤ 256 * length (prefixes (asc (entries_in pairs.now)))))) }
@@ -95,9 +90,7 @@ fn renew(
     pairs: &[Pair<'_>],
     position: &mut usize,
 ) -> u32
-    ensures made { result ≡ OK → state_in handle.new ≡ Some (record { tree = asc (entries_in pairs.now); ordered = settings.ordered }) }
-    ensures max_trial { result ≡ OK → trials_in handle.new ≡ Some settings.max_trial }
-    ensures size { result ≡ OK → (n : ℕ) × (n ≤ length (prefixes (asc (entries_in pairs.now)))) × (size_in handle.new ≡ 256 + 256 * n) × (capacity_in handle.new ≡ capacity_after n 256 256) }
+    ensures made { result ≡ OK → (a : AnyCedar) × (content handle.new ≡ Some a) × IsSorted (layout_of a) settings (entries_in pairs.now) (dictionary_in a) }
     ensures layout { result ≡ OK → layout_in handle.new ≡ Some (layout_if is_reduced) }
     ensures faulty { IfSome (fault_in pairs.now) (λ e. (result ≡ MEMORY) ⊎ ((result ≡ status_of e) × (position.new ≡ position_of position.old e))) }
     ensures refused { fault_in pairs.now ≡ None → (result ≡ OK) ⊎ (result ≡ MEMORY) ⊎ ((result ≡ SLOT_LIMIT) × (most_slots ≤ 256 * length (prefixes (asc (entries_in pairs.now))))) }
