@@ -4,27 +4,27 @@ use Rattle.std.specs.Prelude.{MatchOption, Result, Ok, Err, OnOk, bytes_eq, code
 use Rattle.cedar_tree.specs.Tree.{Tree, empty_tree}
 use Rattle.cedar_model.specs.Table.Layouts.{LayoutKind, default_layout, reduced_layout}
 use Rattle.cedarwood.specs.Dictionary.{Dictionary}
-use Rattle.cedar_cli.specs.Options.{Asked, BeginsWith, asked_besides, empty, in_reduced, in_v1_0, is_new, loading, saving, shown, unordered}
+use Rattle.cedar_cli.specs.Options.{Request, BeginsWith, request_besides, empty, with_reduced, with_v1_0, is_new, with_load, with_save, request_in, with_any_order}
 use Rattle.cedar_cli.specs.declared.options.Options.{Options}
-use Rattle.cedar_cli.specs.Seen.{Seen, marked_in, seen}
+use Rattle.cedar_cli.specs.View.{View, marked_in, view_of}
 
-by_load : (load : Option (List ℕ)) (s : Seen) → MatchOption load (s ≡ s) (λ _. Unit {0})
+by_load : (load : Option (List ℕ)) (s : View) → MatchOption load (s ≡ s) (λ _. Unit {0})
 by_load None s = refl
 by_load (Some path) s = tt
 
 -- an empty dictionary will do, whatever was asked
-pub begins_empty : (layout : LayoutKind) (a : Asked) → BeginsWith layout a (empty layout a.ordered)
+pub begins_empty : (layout : LayoutKind) (a : Request) → BeginsWith layout a (empty layout a.ordered)
 begins_empty layout a = (refl, by_load a.load (empty layout a.ordered))
 
 -- a new dictionary is seen as an empty one
 pub seen_new : (layout : LayoutKind) (d : Dictionary) (ordered : Bool) → d.state.tree ≡ empty_tree → d.marked ≡ empty_tree → d.state.ordered ≡ ordered
-    → seen layout d ≡ empty layout ordered
+    → view_of layout d ≡ empty layout ordered
 seen_new layout d ordered tree unmarked order = same (marked_in layout d) (by_layout layout) where
   by_layout : (l : LayoutKind) → marked_in l d ≡ empty_tree
   by_layout default_layout = tree
   by_layout reduced_layout = unmarked
 
-  same : (m : Tree) → m ≡ empty_tree → ◌≡◌ {A = Seen} (record { layout = layout; state = d.state; marked = m }) (empty layout ordered)
+  same : (m : Tree) → m ≡ empty_tree → ◌≡◌ {A = View} (record { layout = layout; state = d.state; marked = m }) (empty layout ordered)
   same m e =
       ap (λ (t : Tree). record { layout = layout; state = d.state; marked = t }) e
       ∙ ap (λ (t : Tree). record { layout = layout; state = record { tree = t; ordered = d.state.ordered }; marked = empty_tree }) tree
@@ -32,7 +32,7 @@ seen_new layout d ordered tree unmarked order = same (marked_in layout d) (by_la
 
 -- so a run may begin with one where none is loaded
 pub begins_new : (layout : LayoutKind) (o : Options) (d : Dictionary) → o.load ≡ None → d.state.tree ≡ empty_tree → d.marked ≡ empty_tree → d.state.ordered ≡ o.ordered
-    → BeginsWith layout (shown o) (seen layout d)
+    → BeginsWith layout (request_in o) (view_of layout d)
 begins_new layout o d none tree unmarked order = (refl, rw none (seen_new layout d o.ordered tree unmarked order))
 
 pub on_ok : {T E P : Type 0} (r : Result T E) → P → OnOk r P
@@ -63,29 +63,29 @@ some_given None h = h
 some_given (Some p) h = refl
 
 -- an option and what follows it
-pub unordered_first : (a : Asked) (word : List ℕ) (rest : List (List ℕ)) → bytes_eq word (codes "--unordered") ≡ true → a.ordered ≡ true
-    → asked_besides a (word ∷ rest) ≡ asked_besides (unordered a) rest
+pub unordered_first : (a : Request) (word : List ℕ) (rest : List (List ℕ)) → bytes_eq word (codes "--unordered") ≡ true → a.ordered ≡ true
+    → request_besides a (word ∷ rest) ≡ request_besides (with_any_order a) rest
 unordered_first a word [] e o = rw (e, o) refl
 unordered_first a word (path ∷ rest) e o = rw (e, o) refl
 
-pub v1_0_first : (a : Asked) (word : List ℕ) (rest : List (List ℕ)) → is_new word (codes "--unordered") (not a.ordered) ≡ false
-    → bytes_eq word (codes "--v1-0") ≡ true → a.v1_0 ≡ false → asked_besides a (word ∷ rest) ≡ asked_besides (in_v1_0 a) rest
+pub v1_0_first : (a : Request) (word : List ℕ) (rest : List (List ℕ)) → is_new word (codes "--unordered") (not a.ordered) ≡ false
+    → bytes_eq word (codes "--v1-0") ≡ true → a.v1_0 ≡ false → request_besides a (word ∷ rest) ≡ request_besides (with_v1_0 a) rest
 v1_0_first a word [] other e new = rw (other, e, new) refl
 v1_0_first a word (path ∷ rest) other e new = rw (other, e, new) refl
 
-pub reduced_first : (a : Asked) (word : List ℕ) (rest : List (List ℕ)) → is_new word (codes "--unordered") (not a.ordered) ≡ false
+pub reduced_first : (a : Request) (word : List ℕ) (rest : List (List ℕ)) → is_new word (codes "--unordered") (not a.ordered) ≡ false
     → is_new word (codes "--v1-0") a.v1_0 ≡ false
-    → bytes_eq word (codes "--reduced") ≡ true → a.reduced ≡ false → asked_besides a (word ∷ rest) ≡ asked_besides (in_reduced a) rest
+    → bytes_eq word (codes "--reduced") ≡ true → a.reduced ≡ false → request_besides a (word ∷ rest) ≡ request_besides (with_reduced a) rest
 reduced_first a word [] other full e new = rw (other, full, e, new) refl
 reduced_first a word (path ∷ rest) other full e new = rw (other, full, e, new) refl
 
-pub load_first : (a : Asked) (word path : List ℕ) (rest : List (List ℕ)) → is_new word (codes "--unordered") (not a.ordered) ≡ false
+pub load_first : (a : Request) (word path : List ℕ) (rest : List (List ℕ)) → is_new word (codes "--unordered") (not a.ordered) ≡ false
     → is_new word (codes "--v1-0") a.v1_0 ≡ false → is_new word (codes "--reduced") a.reduced ≡ false
-    → bytes_eq word (codes "--load") ≡ true → is_some a.load ≡ false → asked_besides a (word ∷ path ∷ rest) ≡ asked_besides (loading a path) rest
+    → bytes_eq word (codes "--load") ≡ true → is_some a.load ≡ false → request_besides a (word ∷ path ∷ rest) ≡ request_besides (with_load a path) rest
 load_first a word path rest other full wide e new = rw (other, full, wide, e, new) refl
 
-pub save_first : (a : Asked) (word path : List ℕ) (rest : List (List ℕ)) → is_new word (codes "--unordered") (not a.ordered) ≡ false
+pub save_first : (a : Request) (word path : List ℕ) (rest : List (List ℕ)) → is_new word (codes "--unordered") (not a.ordered) ≡ false
     → is_new word (codes "--v1-0") a.v1_0 ≡ false → is_new word (codes "--reduced") a.reduced ≡ false
     → is_new word (codes "--load") (is_some a.load) ≡ false
-    → bytes_eq word (codes "--save") ≡ true → is_some a.save ≡ false → asked_besides a (word ∷ path ∷ rest) ≡ asked_besides (saving a path) rest
+    → bytes_eq word (codes "--save") ≡ true → is_some a.save ≡ false → request_besides a (word ∷ path ∷ rest) ≡ request_besides (with_save a path) rest
 save_first a word path rest other full wide old e new = rw (other, full, wide, old, e, new) refl

@@ -1,6 +1,7 @@
 -- A call that failed, and why.
-use Rattle.std.proofs.Common.{◌≡◌, Ok, Err}
+use Rattle.std.proofs.Common.{◌≡◌, Ok, Err, Bool, refl, subst}
 use Rattle.std.specs.Prelude.{OnOk, Result}
+use Rattle.cedar_cli.specs.Script.{LineFault, WritesOrFails}
 use Rattle.cedar_cli.specs.declared.script.ScriptError.{ScriptError}
 use Rattle.cedar_cli.specs.declared.script.ScriptError.TheVariants.{Read, Write, Memory, SlotLimit}
 
@@ -51,3 +52,48 @@ ok_no_fault x e same = absurd (cc)
 pub no_success : {T E : Type 0} (P : Type 0) (r : Result T E) (e : E) → r ≡ Err e → OnOk r P
 no_success P (Ok x) e is = absurd (cc)
 no_success P (Err f) e is = tt
+
+-- what fails by its writer alone is a line's fault
+pub writers_fault : (before after : Bool) (r : Result (Unit {0}) ScriptError) → WritesOrFails before after r → LineFault before after r
+writers_fault before after (Ok x) h = record {
+  unfailed = h.unfailed;
+  cause = λ same. ok_no_fault x Write same;
+  never_read = λ same. ok_no_fault x Read same;
+  starved = λ same. ok_no_fault x Memory same;
+  full = λ same. ok_no_fault x SlotLimit same;
+}
+writers_fault before after (Err fault) h =
+    let is = h.cause.0 in record {
+      unfailed = tt;
+      cause = λ _. h.cause.1;
+      never_read = λ same. write_no_read (cc);
+      starved = λ same. write_no_memory (cc);
+      full = λ same. write_no_limit (cc);
+    }
+
+-- where memory or slots are wanting the writer is as it was
+pub memory_fault : (b : Bool) → LineFault b b (Err Memory)
+memory_fault b = record {
+  unfailed = tt;
+  cause = λ same. memory_no_write same;
+  never_read = λ same. memory_no_read same;
+  starved = λ _. refl;
+  full = λ _. refl;
+}
+
+pub limit_fault : (b : Bool) → LineFault b b (Err SlotLimit)
+limit_fault b = record {
+  unfailed = tt;
+  cause = λ same. limit_no_write same;
+  never_read = λ same. limit_no_read same;
+  starved = λ _. refl;
+  full = λ _. refl;
+}
+
+-- after what left the writer as it was
+pub fault_after : (first before after : Bool) (r : Result (Unit {0}) ScriptError) → before ≡ first → LineFault before after r → LineFault first after r
+fault_after first before after r same h = subst (λ (b : Bool). LineFault b after r) same h
+
+-- the same fault, handed on
+pub fault_on : (before after : Bool) (r s : Result (Unit {0}) ScriptError) → r ≡ s → LineFault before after r → LineFault before after s
+fault_on before after r s same h = subst (LineFault before after) same h

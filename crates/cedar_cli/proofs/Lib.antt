@@ -7,5 +7,5 @@ pub mod JoinedLines
 pub mod Newlines
 pub mod Orders
 pub mod Runs
-pub mod SlotsSeen
+pub mod SlotsInView
 pub mod Text

@@ -9,14 +9,16 @@ use Rattle.std.proofs.lemmas.List.Quantifiers.{position-Some}
 use Rattle.std.specs.Prelude.{IfSome}
 use Rattle.std.specs.List.{position, position_or_len, before_first, after_first}
 use Rattle.cedar_cli.specs.Command.{order_of}
-use Rattle.cedar_cli.specs.Lines.{IsOpen, is_newline}
-use Rattle.cedar_cli.specs.Script.{Obeys, Leaves, Advances, Stops}
-use Rattle.cedar_cli.specs.Seen.{Seen}
+use Rattle.cedar_cli.specs.Lines.{HasNoNewline, is_newline, lines_of}
+use Rattle.cedarwood.specs.Dictionary.{Dictionary}
+use Rattle.cedar_cli.specs.Script.{LineMayLackMemory, MayStop, Obeys, Leaves, Advances, Stops}
+use Rattle.cedar_cli.specs.View.{View}
 use Rattle.cedar_cli.specs.declared.script.ScriptError.{ScriptError}
-use Rattle.cedar_cli.proofs.Bytes.{line_done, line_left, bytes_on, not_begun, Advances-append, Stops-append, Stops-more}
+use Rattle.cedar_cli.specs.declared.script.ScriptError.TheVariants.{Memory}
+use Rattle.cedar_cli.proofs.Bytes.{line_done, line_left, long_stop, may_stop, bytes_on, not_begun, Advances-append, Stops-append, Stops-more}
 use Rattle.cedar_cli.proofs.Text.{before_at, after_at, before_none}
 
-pub open_append : (a b : List ℕ) → IsOpen a → IsOpen b → IsOpen (a ++ b)
+pub open_append : (a b : List ℕ) → HasNoNewline a → HasNoNewline b → HasNoNewline (a ++ b)
 open_append [] b p q = q
 open_append (c ∷ a) b p q = (p.0, open_append a b p.1 q)
 
@@ -28,20 +30,20 @@ not_true {b = true} h = absurd (h refl)
 not_true {b = false} h = refl
 
 -- before the first byte 10 there is none
-pub open_before : (text : List ℕ) → IsOpen (before_first is_newline text)
+pub open_before : (text : List ℕ) → HasNoNewline (before_first is_newline text)
 open_before [] = tt
 open_before (b ∷ rest) =
-    (elim (b == 10) as (λ ends. (b == 10) ≡ ends → IsOpen (before_first is_newline (b ∷ rest))) [
+    (elim (b == 10) as (λ ends. (b == 10) ≡ ends → HasNoNewline (before_first is_newline (b ∷ rest))) [
       | true ↦ λ e. rw e tt
-      | false ↦ λ e. rw e (subst IsOpen (sym (take_after (position_or_len is_newline rest) b rest)) (e, open_before rest))
+      | false ↦ λ e. rw e (subst HasNoNewline (sym (take_after (position_or_len is_newline rest) b rest)) (e, open_before rest))
     ]) refl
 
 -- a text in which no byte 10 is found is open
-pub open_none : (text : List ℕ) → position is_newline text ≡ None → IsOpen text
+pub open_none : (text : List ℕ) → position is_newline text ≡ None → HasNoNewline text
 open_none text e = rw (before_none is_newline text e) (open_before text)
 
 -- and so is what stands before the first one
-pub open_at : (text : List ℕ) (at : ℕ) → position is_newline text ≡ Some at → IsOpen (take at text)
+pub open_at : (text : List ℕ) (at : ℕ) → position is_newline text ≡ Some at → HasNoNewline (take at text)
 open_at text at e = rw (before_at is_newline text at e) (open_before text)
 
 -- where a byte 10 is found, the first one stands within the text
@@ -61,32 +63,35 @@ cut_at text at e =
     ∙ ap (λ l. (take at text ++ 10 ∷ []) ++ l) (sym (after_at is_newline text at e))
 
 -- a line was taken where its answer was written
-pub taken_on_ok : {T E : Type 0} (r : Result T E) (old new : Seen) (held holds : Option (List ℕ)) (line : List ℕ)
-    → IsOpen line → OnOk r (Obeys (order_of line) old new held holds) → OnOk r (Advances old new held holds (line ++ 10 ∷ []) [])
+pub taken_on_ok : {T E : Type 0} (r : Result T E) (old new : View) (held holds : Option (List ℕ)) (line : List ℕ)
+    → HasNoNewline line → OnOk r (Obeys (order_of line) old new held holds) → OnOk r (Advances old new held holds (line ++ 10 ∷ []) [])
 taken_on_ok (Ok x) old new held holds line o h = line_done old new held holds line o h
 taken_on_ok (Err e) old new held holds line o h = tt
 
 -- and the run stops in it where it was not
-pub stopped_on_err : {T : Type 0} (r : Result T ScriptError) (old new : Seen) (held holds : Option (List ℕ)) (line : List ℕ)
-    → IsOpen line → IfErr r (λ fault. Leaves fault (order_of line) old new held holds) → IfErr r (λ fault. Stops fault old new held holds (line ++ 10 ∷ []))
-stopped_on_err (Ok x) old new held holds line o h = tt
-stopped_on_err (Err fault) old new held holds line o h = line_left fault old new held holds line o h
+pub stopped_on_err : (slots : ℕ) (d : Dictionary) (r : Result (Unit {0}) ScriptError) (old new : View) (held holds : Option (List ℕ)) (line : List ℕ)
+    → HasNoNewline line → (r ≡ Err Memory → LineMayLackMemory slots line d)
+    → IfErr r (λ fault. Leaves fault (order_of line) old new held holds) → IfErr r (λ fault. Stops slots d fault old new held holds (line ++ 10 ∷ []))
+stopped_on_err slots d (Ok x) old new held holds line o may h = tt
+stopped_on_err slots d (Err fault) old new held holds line o may h =
+    line_left slots d fault old new held holds line o (λ lines. may_stop slots d line lines (Err fault) fault refl may) h
 
 -- a further line of a chunk was taken
-pub line_taken : (old mid new : Seen) (a b c : Option (List ℕ)) (begun gone line piece left : List ℕ)
+pub line_taken : (old mid new : View) (a b c : Option (List ℕ)) (begun gone line piece left : List ℕ)
     → Advances old mid a b (begun ++ gone) line → Advances mid new b c (line ++ (piece ++ 10 ∷ [])) [] → left ≡ []
     → Advances old new a c (begun ++ (gone ++ (piece ++ 10 ∷ []))) left
 line_taken old mid new a b c begun gone line piece left p q empty =
     rw (empty, ← append_assoc begun gone (piece ++ 10 ∷ [])) (Advances-append old mid new a b c (begun ++ gone) line (piece ++ 10 ∷ []) [] p q)
 
 -- the run stopped in a line of a chunk
-pub line_stopped : (fault : ScriptError) (old mid new : Seen) (a b c : Option (List ℕ)) (begun gone line piece after chunk : List ℕ)
-    → Advances old mid a b (begun ++ gone) line → Stops fault mid new b c (line ++ (piece ++ 10 ∷ []))
+pub line_stopped : (slots : ℕ) (d : Dictionary) (fault : ScriptError) (old mid new : View) (a b c : Option (List ℕ)) (begun gone line piece after chunk : List ℕ)
+    → Advances old mid a b (begun ++ gone) line → Stops slots d fault mid new b c (line ++ (piece ++ 10 ∷ []))
     → chunk ≡ (gone ++ (piece ++ 10 ∷ [])) ++ after
-    → Stops fault old new a c (begun ++ chunk)
-line_stopped fault old mid new a b c begun gone line piece after chunk p q whole =
-    subst (Stops fault old new a c) same
-    (Stops-more fault old new a c ((begun ++ gone) ++ (piece ++ 10 ∷ [])) after (Stops-append fault old mid new a b c (begun ++ gone) line (piece ++ 10 ∷ []) p q)) where
+    → Stops slots d fault old new a c (begun ++ chunk)
+line_stopped slots d fault old mid new a b c begun gone line piece after chunk p q whole =
+    subst (Stops slots d fault old new a c) same
+    (Stops-more slots d fault old new a c ((begun ++ gone) ++ (piece ++ 10 ∷ [])) after
+    (Stops-append slots d fault old mid new a b c (begun ++ gone) line (piece ++ 10 ∷ []) p q)) where
       same : ((begun ++ gone) ++ (piece ++ 10 ∷ [])) ++ after ≡ begun ++ chunk
       same =
           ap (λ l. l ++ after) (append_assoc begun gone (piece ++ 10 ∷ []))
@@ -94,18 +99,20 @@ line_stopped fault old mid new a b c begun gone line piece after chunk p q whole
           ∙ ap (λ l. begun ++ l) (sym whole)
 
 -- the rest of a chunk begins the next line
-pub rest_taken : (old new : Seen) (a b : Option (List ℕ)) (begun gone line rest chunk : List ℕ)
+pub rest_taken : (old new : View) (a b : Option (List ℕ)) (begun gone line rest chunk : List ℕ)
     → Advances old new a b (begun ++ gone) line → chunk ≡ gone ++ rest → Advances old new a b (begun ++ chunk) (line ++ rest)
 rest_taken old new a b begun gone line rest chunk p whole =
     subst (λ text. Advances old new a b text (line ++ rest)) (append_assoc begun gone rest ∙ ap (λ l. begun ++ l) (sym whole))
     (Advances-append old new new a b b (begun ++ gone) line rest (line ++ rest) p (bytes_on new b (line ++ rest)))
 
 -- or the run stops before it
-pub rest_left : (fault : ScriptError) (old new : Seen) (a b : Option (List ℕ)) (begun gone line rest chunk : List ℕ)
-    → Advances old new a b (begun ++ gone) line → chunk ≡ gone ++ rest → Stops fault old new a b (begun ++ chunk)
-rest_left fault old new a b begun gone line rest chunk p whole =
-    subst (Stops fault old new a b) (append_assoc begun gone rest ∙ ap (λ l. begun ++ l) (sym whole))
-    (Stops-append fault old new new a b b (begun ++ gone) line rest p (not_begun fault new b (line ++ rest)))
+pub rest_left : (slots : ℕ) (d : Dictionary) (old new : View) (a b : Option (List ℕ)) (begun gone line rest chunk : List ℕ)
+    → Advances old new a b (begun ++ gone) line → chunk ≡ gone ++ rest → HasNoNewline (line ++ rest) → 8192 < length (line ++ rest)
+    → Stops slots d Memory old new a b (begun ++ chunk)
+rest_left slots d old new a b begun gone line rest chunk p whole o long =
+    subst (Stops slots d Memory old new a b) (append_assoc begun gone rest ∙ ap (λ l. begun ++ l) (sym whole))
+    (Stops-append slots d Memory old new new a b b (begun ++ gone) line rest p
+    (not_begun slots d Memory new b (line ++ rest) (λ more. long_stop slots d (line ++ rest) more o long)))
 
 -- what was taken of a chunk, once its next line is
 pub gone_further : (chunk gone rest : List ℕ) (at : ℕ) → chunk ≡ gone ++ rest → position is_newline rest ≡ Some at
@@ -127,10 +134,18 @@ first_byte b text (Some at) first = sym (rw at_first (grind (arith, common_steps
   at_first = position_or_len_is (is_byte b) text at 0 (omega arith) (λ k low. not_true (first.0.before k (omega arith) low)) (λ _. first.1)
 
 -- before the first byte
-pub none_taken : (t : Seen) (held : Option (List ℕ)) (line : List ℕ) → Advances t t held held (line ++ []) line
+pub none_taken : (t : View) (held : Option (List ℕ)) (line : List ℕ) → Advances t t held held (line ++ []) line
 none_taken t held line = subst (λ (text : List ℕ). Advances t t held held text line) (sym (append-nil line)) (bytes_on t held line)
 
 -- where a byte 10 is found, it stands within the text
 pub newline_within : (text : List ℕ) (found : Option ℕ) → found ≡ position is_newline text → IfSome found (λ at. at < length text)
 newline_within text None e = tt
 newline_within text (Some at) e = (position-Some is_newline text at 0 (sym e)).0
+
+-- a line of two pieces that is longer than those that there is room for
+pub long_line_stop : (slots : ℕ) (d : Dictionary) (line piece rest : List ℕ) → HasNoNewline line → HasNoNewline piece → 8192 < length (line ++ piece)
+    → MayStop slots d Memory (lines_of ((line ++ (piece ++ 10 ∷ [])) ++ rest))
+long_line_stop slots d line piece rest p q long =
+    subst (λ (text : List ℕ). MayStop slots d Memory (lines_of text)) (sym same) (long_stop slots d (line ++ piece) (10 ∷ rest) (open_append line piece p q) long) where
+      same : (line ++ (piece ++ 10 ∷ [])) ++ rest ≡ (line ++ piece) ++ (10 ∷ rest)
+      same = ap (λ l. l ++ rest) (sym (append_assoc line piece (10 ∷ []))) ∙ append_assoc (line ++ piece) (10 ∷ []) rest

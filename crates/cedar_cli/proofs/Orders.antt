@@ -12,13 +12,15 @@ use Rattle.cedarwood.specs.declared.error.CedarError.{CedarError}
 use Rattle.cedarwood.specs.declared.error.CedarError.TheVariants.{EmptyKey, NulByte, InvalidValue, InvalidMaxTrial, DuplicateKey, KeysNotSorted, Memory, SlotLimit}
 use Rattle.cedar_cli.specs.Command.{Order}
 use Rattle.cedarwood.specs.Fault.{fault, key_fault, or_else, value_fault, IsShortage}
-use Rattle.cedar_cli.specs.Seen.{Seen}
-use Rattle.cedar_cli.specs.Script.{refusal, IsPairFault, figures_text, found_text, reply, Leaves, WritesFront}
+use Rattle.cedar_model.specs.Table.Layouts.{LayoutKind}
+use Rattle.cedarwood.specs.Dictionary.{Dictionary}
+use Rattle.cedar_cli.specs.View.{View, view_of}
+use Rattle.cedar_cli.specs.Script.{Answers, put_text, view_after_order, IsPairFault, figures_text, found_text, reply, Leaves, WritesFront}
 use Rattle.cedar_cli.specs.declared.command.Verb.TheVariants.{Erase}
 use Rattle.cedar_cli.specs.declared.script.ScriptError.{ScriptError}
 use Rattle.cedar_cli.specs.declared.script.ScriptError.TheVariants.{Read, Write, Memory as NoMemory, SlotLimit as NoSlot}
 use Rattle.std.specs.Io.KnownBytes.{Appends}
-use Rattle.cedar_cli.proofs.Bytes.{Appends-none, all_stays}
+use Rattle.cedar_cli.proofs.Bytes.{Appends-none, Leaves-on_err, Obeys-on_ok, all_stays}
 
 -- what an exact search that missed says
 pub exact_missed : (t : Tree) (key : List ℕ) → None ≡ exact t key → number_at t key ≡ None
@@ -39,19 +41,19 @@ pub found_reply : (t : Tree) (key : List ℕ) (v : ℤ) (n : ℕ) → ◌≡◌ 
 found_reply t key v n h = let p = exact_found t key v n h in rw (p.0, p.1) refl
 
 -- the answer to an erasure, where the key is held and where it isn't
-pub erased_reply : (s : Seen) (key : List ℕ) (found : ℤ × ℕ) → ◌≡◌ {A = Option (ℤ × ℕ)} (Some found) (exact s.state.tree key) → codes "erased" ≡ reply s (Some (Erase, key))
+pub erased_reply : (s : View) (key : List ℕ) (found : ℤ × ℕ) → ◌≡◌ {A = Option (ℤ × ℕ)} (Some found) (exact s.state.tree key) → codes "erased" ≡ reply s (Some (Erase, key))
 erased_reply s key found h = rw (exact_found s.state.tree key found.0 found.1 h).0 refl
 
-pub absent_reply : (s : Seen) (key : List ℕ) → None ≡ exact s.state.tree key → codes "absent" ≡ reply s (Some (Erase, key))
+pub absent_reply : (s : View) (key : List ℕ) → None ≡ exact s.state.tree key → codes "absent" ≡ reply s (Some (Erase, key))
 absent_reply s key h = rw (exact_missed s.state.tree key h) refl
 
 -- the line of a fault that has a number in it
 pub nul_line : (e : CedarError) (at : ℕ) (figures : List ℕ) → e ≡ NulByte at → figures ≡ decimal at
-    → codes "refused NulByte " ++ (figures ++ 10 ∷ []) ≡ refusal (Some e) ++ 10 ∷ []
+    → codes "refused NulByte " ++ (figures ++ 10 ∷ []) ≡ put_text (Some e) ++ 10 ∷ []
 nul_line e at figures is text = rw (is, text) (sym (append_assoc (codes "refused NulByte ") (decimal at) (10 ∷ [])))
 
 pub value_line : (e : CedarError) (v : ℤ) (figures : List ℕ) → e ≡ InvalidValue v → figures ≡ signed_decimal v
-    → codes "refused InvalidValue " ++ (figures ++ 10 ∷ []) ≡ refusal (Some e) ++ 10 ∷ []
+    → codes "refused InvalidValue " ++ (figures ++ 10 ∷ []) ≡ put_text (Some e) ++ 10 ∷ []
 value_line e v figures is text = rw (is, text) (sym (append_assoc (codes "refused InvalidValue ") (signed_decimal v) (10 ∷ [])))
 
 -- the line of a number that was found
@@ -115,7 +117,7 @@ taken_back (Some w) old mid new key v answer sound range none done back =
       held = rw (done, number_at-put_same old.tree old.ordered key v) refl
 
 -- nothing of the answer is written, and the order is left
-pub Leaves-unanswered : (fault : ScriptError) (order : Option Order) (old new : Seen) (held : Option (List ℕ)) → new ≡ old → Leaves fault order old new held held
+pub Leaves-unanswered : (fault : ScriptError) (order : Option Order) (old new : View) (held : Option (List ℕ)) → new ≡ old → Leaves fault order old new held held
 Leaves-unanswered fault order old new held same =
     (all_stays fault old new same, ([], reply old order ++ 10 ∷ [], omega (arith, length-append (reply old order) (10 ∷ [])), refl, Appends-none held))
 
@@ -130,12 +132,12 @@ put_back (Err e) old new key v done refused fine held = absurd (not_held (number
   not_held (Some x) h e = absurd (cc)
 
 -- an answer of which a front alone was written leaves its order
-pub Leaves-front : (fault : ScriptError) (order : Option Order) (s : Seen) (held holds : Option (List ℕ)) (line : List ℕ)
+pub Leaves-front : (fault : ScriptError) (order : Option Order) (s : View) (held holds : Option (List ℕ)) (line : List ℕ)
     → line ≡ reply s order → WritesFront held holds (line ++ 10 ∷ []) → Leaves fault order s s held holds
 Leaves-front fault order s held holds line e h = (all_stays fault s s refl, subst (λ l. WritesFront held holds (l ++ 10 ∷ [])) e h)
 
 -- an answer that the writer didn't take whole leaves its order, where the state is then the old one
-pub Leaves-if_err : (P : Type 0) (r : Result (Unit {0}) ScriptError) (order : Option Order) (old new : Seen) (held holds : Option (List ℕ)) (bytes : List ℕ)
+pub Leaves-if_err : (P : Type 0) (r : Result (Unit {0}) ScriptError) (order : Option Order) (old new : View) (held holds : Option (List ℕ)) (bytes : List ℕ)
     → OnErr r ((r ≡ Err Write) × P) → (is_err r ≡ true → new.state ≡ old.state) → bytes ≡ reply old order ++ 10 ∷ []
     → OnErr r (WritesFront held holds bytes) → IfErr r (λ fault. Leaves fault order old new held holds)
 Leaves-if_err P (Ok x) order old new held holds bytes cause same e h = tt
@@ -184,10 +186,22 @@ pub none_reply : (t : Tree) (key : List ℕ) → None ≡ exact t key → codes 
 none_reply t key h = rw (exact_missed t key h) refl
 
 -- what an erasure answers was written
-pub erased_written : (s : Seen) (key : List ℕ) (found : ℤ × ℕ) (held holds : Option (List ℕ)) → ◌≡◌ {A = Option (ℤ × ℕ)} (Some found) (exact s.state.tree key)
+pub erased_written : (s : View) (key : List ℕ) (found : ℤ × ℕ) (held holds : Option (List ℕ)) → ◌≡◌ {A = Option (ℤ × ℕ)} (Some found) (exact s.state.tree key)
     → Appends held holds (codes "erased" ++ 10 ∷ []) → Appends held holds (reply s (Some (Erase, key)) ++ 10 ∷ [])
 erased_written s key found held holds h p = subst (λ (l : List ℕ). Appends held holds (l ++ 10 ∷ [])) (erased_reply s key found h) p
 
-pub absent_written : (s : Seen) (key : List ℕ) (held holds : Option (List ℕ)) → None ≡ exact s.state.tree key
+pub absent_written : (s : View) (key : List ℕ) (held holds : Option (List ℕ)) → None ≡ exact s.state.tree key
     → Appends held holds (codes "absent" ++ 10 ∷ []) → Appends held holds (reply s (Some (Erase, key)) ++ 10 ∷ [])
 absent_written s key held holds h p = subst (λ (l : List ℕ). Appends held holds (l ++ 10 ∷ [])) (absent_reply s key h) p
+
+-- an answer that changes nothing was written whole, or not
+pub told : (layout : LayoutKind) (order : Option Order) (before after : Dictionary) (held holds : Option (List ℕ)) (bytes : List ℕ) (r : Result (Unit {0}) ScriptError)
+    → view_of layout after ≡ view_of layout before → view_of layout after ≡ view_after_order (view_of layout before) order
+    → bytes ≡ reply (view_of layout before) order ++ 10 ∷ []
+    → OnOk r (Appends held holds bytes) → OnErr r (WritesFront held holds bytes) → Answers layout order before after held holds r
+told layout order before after held holds bytes r same done e ok err =
+    let old = view_of layout before in
+    let new = view_of layout after in record {
+      ok = Obeys-on_ok r order old new held holds bytes done e ok;
+      err = Leaves-on_err r order old new held holds bytes same e err;
+    }

@@ -5,9 +5,10 @@ use Rattle.std.proofs.lemmas.List.{nil_from_length}
 use Rattle.std.specs.Prelude.{IfSome, ◌⊎◌}
 use Rattle.std.specs.Io.KnownBytes.{Consumes, Appends, Keeps, IsAtEnd}
 use Rattle.cedar_cli.specs.Command.{order_of}
-use Rattle.cedar_cli.specs.Lines.{lines_of, IsOpen}
-use Rattle.cedar_cli.specs.Script.{Obeys, Stays, Leaves, Finishes, Splits, Advances, Stops, EndsEarly, IsCutShort, AppendsFront, answers, obeyed, seen_after}
-use Rattle.cedar_cli.specs.Seen.{Seen}
+use Rattle.cedar_cli.specs.Lines.{lines_of, HasNoNewline}
+use Rattle.cedarwood.specs.Dictionary.{Dictionary}
+use Rattle.cedar_cli.specs.Script.{MayStop, Obeys, Stays, Leaves, Finishes, Splits, Advances, Stops, EndsEarly, IsCutShort, AppendsFront, answers, view_after_order, view_after}
+use Rattle.cedar_cli.specs.View.{View}
 use Rattle.cedar_cli.specs.declared.script.ScriptError.{ScriptError}
 use Rattle.cedar_cli.proofs.Bytes.{all_stays, Appends-append, Appends-kept, Appends-none, answers-append, cut_short_none, lines_of-last, Finishes-append, line_finished}
 
@@ -50,24 +51,33 @@ of_script None h f = tt
 of_script (Some input) h f = f input h
 
 -- a run that stopped in what came ended early
-pub ended_early : (fault : ScriptError) (old new : Seen) (held holds a b : Option (List ℕ)) (came : List ℕ)
-    → Consumes a b came → Stops fault old new held holds came → IfSome a (λ input. length input < 9223372036854775808 → EndsEarly fault old new held holds input)
-ended_early fault old new held holds None b came p h = tt
-ended_early fault old new held holds (Some input) None came p h = absurd p
-ended_early fault old new held holds (Some input) (Some rest) came p h = λ _.
-    (h.0, lines_of (h.1 ++ rest), ap lines_of p ∙ h.3 rest, (h.2, h.4, h.5, h.6 rest))
+pub ended_early : (slots : ℕ) (d : Dictionary) (fault : ScriptError) (old new : View) (held holds a b : Option (List ℕ)) (came : List ℕ)
+    → Consumes a b came → Stops slots d fault old new held holds came
+    → IfSome a (λ input. length input < 9223372036854775808 → EndsEarly slots d fault old new held holds input)
+ended_early slots d fault old new held holds None b came p h = tt
+ended_early slots d fault old new held holds (Some input) None came p h = absurd p
+ended_early slots d fault old new held holds (Some input) (Some rest) came p h = λ _.
+    (h.0, lines_of (h.1 ++ rest), ap lines_of p ∙ h.3 rest, (h.2, h.4, h.5, h.6 rest, inr (h.7 rest)))
+
+-- so did one that found no room for lines
+pub ended_first : (slots : ℕ) (d : Dictionary) (fault : ScriptError) (t : View) (held a : Option (List ℕ))
+    → IfSome a (λ input. length input < 9223372036854775808 → EndsEarly slots d fault t t held held input)
+ended_first slots d fault t held None = tt
+ended_first slots d fault t held (Some input) = λ _.
+    ([], lines_of input, refl, ([], all_stays fault t t refl, Appends-none held, cut_short_none t (lines_of input), inl refl))
 
 -- a run that has only advanced can stop
-pub Stops-from_advances : (fault : ScriptError) (old new : Seen) (held holds : Option (List ℕ)) (text left : List ℕ)
-    → Advances old new held holds text left → Stops fault old new held holds text
-Stops-from_advances fault old new held holds text left h = (
+pub Stops-from_advances : (slots : ℕ) (d : Dictionary) (fault : ScriptError) (old new : View) (held holds : Option (List ℕ)) (text left : List ℕ)
+    → ((lines : List (List ℕ)) → MayStop slots d fault lines) → Advances old new held holds text left → Stops slots d fault old new held holds text
+Stops-from_advances slots d fault old new held holds text left may h = (
   h.0,
   left,
   [],
   h.1,
-  all_stays fault (seen_after old h.0) new h.2.0,
+  all_stays fault (view_after old h.0) new h.2.0,
   rw (append-nil (answers old h.0)) h.2.1,
-  (λ rest. cut_short_none (seen_after old h.0) (lines_of (left ++ rest))),
+  (λ rest. cut_short_none (view_after old h.0) (lines_of (left ++ rest))),
+  (λ rest. may (lines_of (left ++ rest))),
 )
 
 -- the lines of a whole text
@@ -75,39 +85,41 @@ whole : (text left : List ℕ) (finished : List (List ℕ)) → Splits text fini
 whole text left finished h = ap lines_of (sym (append-nil text)) ∙ h [] ∙ ap (λ l. finished ++ lines_of l) (append-nil left)
 
 -- a last piece that isn't empty is a line
-last_line : (line : List ℕ) → IsOpen line → 0 < length line → lines_of line ≡ line ∷ []
+last_line : (line : List ℕ) → HasNoNewline line → 0 < length line → lines_of line ≡ line ∷ []
 last_line [] o h = absurd (omega arith)
 last_line (b ∷ line) o h = lines_of-last b line o
 
 -- all lines are finished where nothing is left
-pub all_finished : (old new : Seen) (held holds : Option (List ℕ)) (text left : List ℕ)
+pub all_finished : (old new : View) (held holds : Option (List ℕ)) (text left : List ℕ)
     → Advances old new held holds text left → left ≡ [] → Finishes old new held holds (lines_of text)
 all_finished old new held holds text left h e =
     rw (whole text left h.0 h.1 ∙ ap (λ l. h.0 ++ lines_of l) e ∙ append-nil h.0) h.2
 
 -- and where the last piece was answered
-pub last_finished : (old mid new : Seen) (a b c : Option (List ℕ)) (text line : List ℕ)
-    → IsOpen line → 0 < length line → Advances old mid a b text line → Obeys (order_of line) mid new b c
+pub last_finished : (old mid new : View) (a b c : Option (List ℕ)) (text line : List ℕ)
+    → HasNoNewline line → 0 < length line → Advances old mid a b text line → Obeys (order_of line) mid new b c
     → Finishes old new a c (lines_of text)
 last_finished old mid new a b c text line o long h k =
     rw (whole text line h.0 h.1 ∙ ap (λ l. h.0 ++ l) (last_line line o long))
     (Finishes-append old mid new a b c h.0 (line ∷ []) h.2 (line_finished mid new b c line k))
 
 -- the answer to the last piece was not written whole
-pub last_left : (fault : ScriptError) (old mid new : Seen) (a b c : Option (List ℕ)) (text line : List ℕ)
-    → IsOpen line → 0 < length line → Advances old mid a b text line → Leaves fault (order_of line) mid new b c
-    → EndsEarly fault old new a c text
-last_left fault old mid new a b c text line o long h k =
+pub last_left : (slots : ℕ) (d : Dictionary) (fault : ScriptError) (old mid new : View) (a b c : Option (List ℕ)) (text line : List ℕ)
+    → HasNoNewline line → 0 < length line → ((lines : List (List ℕ)) → MayStop slots d fault (line ∷ lines))
+    → Advances old mid a b text line → Leaves fault (order_of line) mid new b c
+    → EndsEarly slots d fault old new a c text
+last_left slots d fault old mid new a b c text line o long may h k =
     let front = k.1 in
-    let same : mid ≡ seen_after old h.0 = h.2.0 in (
+    let same : mid ≡ view_after old h.0 = h.2.0 in (
       h.0,
       line ∷ [],
       whole text line h.0 h.1 ∙ ap (λ l. h.0 ++ l) (last_line line o long),
       (
         front.0,
-        subst (λ (t : Seen). Stays fault t new) same k.0,
+        subst (λ (t : View). Stays fault t new) same k.0,
         Appends-append a b c (answers old h.0) front.0 h.2.1 front.4,
-        subst (λ (t : Seen). IsCutShort t (line ∷ []) front.0) same (front.1, front.2, front.3),
+        subst (λ (t : View). IsCutShort t (line ∷ []) front.0) same (front.1, front.2, front.3),
+        inr (may []),
       ),
     )
 
@@ -124,21 +136,21 @@ pub short_line : (line : List ℕ) (n : ℕ) → length line ≡ n → (n == 0) 
 short_line line n e h = nil_from_length line (e ∙ eqb-true n 0 h)
 
 -- what is cut short is a front of the answers
-cut_front : (s : Seen) (others : List (List ℕ)) (part : List ℕ) → IsCutShort s others part → (rest : List ℕ) × (answers s others ≡ part ++ rest)
+cut_front : (s : View) (others : List (List ℕ)) (part : List ℕ) → IsCutShort s others part → (rest : List ℕ) × (answers s others ≡ part ++ rest)
 cut_front s [] part cut = ([], sym (append-nil part ∙ cut))
 cut_front s (line ∷ lines) part cut = (
-  cut.0 ++ answers (obeyed s (order_of line)) lines,
-  ap (λ l. l ++ answers (obeyed s (order_of line)) lines) cut.2 ∙ append_assoc part cut.0 (answers (obeyed s (order_of line)) lines),
+  cut.0 ++ answers (view_after_order s (order_of line)) lines,
+  ap (λ l. l ++ answers (view_after_order s (order_of line)) lines) cut.2 ∙ append_assoc part cut.0 (answers (view_after_order s (order_of line)) lines),
 )
 
 -- a run that ended early wrote a front of its script's answers
-pub ended_front : (fault : ScriptError) (old new : Seen) (held holds kept : Option (List ℕ)) (script : List ℕ)
-    → EndsEarly fault old new held holds script → Keeps holds kept → AppendsFront held kept (answers old (lines_of script))
-ended_front fault old new held holds kept script h k =
+pub ended_front : (slots : ℕ) (d : Dictionary) (fault : ScriptError) (old new : View) (held holds kept : Option (List ℕ)) (script : List ℕ)
+    → EndsEarly slots d fault old new held holds script → Keeps holds kept → AppendsFront held kept (answers old (lines_of script))
+ended_front slots d fault old new held holds kept script h k =
     let finished = h.0 in
     let others = h.1 in
     let part = h.3.0 in
-    let more = cut_front (seen_after old finished) others part h.3.3 in (
+    let more = cut_front (view_after old finished) others part h.3.3 in (
       answers old finished ++ part,
       more.0,
       ap (answers old) h.2 ∙ answers-append old finished others
@@ -148,20 +160,20 @@ ended_front fault old new held holds kept script h k =
     )
 
 -- one that finished wrote them all
-pub finished_front : (old new : Seen) (held holds kept : Option (List ℕ)) (lines : List (List ℕ))
+pub finished_front : (old new : View) (held holds kept : Option (List ℕ)) (lines : List (List ℕ))
     → Finishes old new held holds lines → Keeps holds kept → AppendsFront held kept (answers old lines)
 finished_front old new held holds kept lines h k =
     (answers old lines, [], sym (append-nil (answers old lines)), Appends-kept held holds kept (answers old lines) h.1 k)
 
 -- what a program's run that ended early wrote
-pub ended_fronts : (fault : ScriptError) (old new : Seen) (held holds kept input : Option (List ℕ)) → Keeps holds kept
-    → IfSome input (λ script. length script < 9223372036854775808 → EndsEarly fault old new held holds script)
+pub ended_fronts : (slots : ℕ) (d : Dictionary) (fault : ScriptError) (old new : View) (held holds kept input : Option (List ℕ)) → Keeps holds kept
+    → IfSome input (λ script. length script < 9223372036854775808 → EndsEarly slots d fault old new held holds script)
     → IfSome input (λ script. length script < 9223372036854775808 → AppendsFront held kept (answers old (lines_of script)))
-ended_fronts fault old new held holds kept None k h = tt
-ended_fronts fault old new held holds kept (Some script) k h = λ few. ended_front fault old new held holds kept script (h few) k
+ended_fronts slots d fault old new held holds kept None k h = tt
+ended_fronts slots d fault old new held holds kept (Some script) k h = λ few. ended_front slots d fault old new held holds kept script (h few) k
 
 -- what a program's run that answered its whole script wrote, where the writer keeps its bytes
-pub finished_whole : (old new : Seen) (held holds kept input : Option (List ℕ)) → Keeps holds kept
+pub finished_whole : (old new : View) (held holds kept input : Option (List ℕ)) → Keeps holds kept
     → IfSome input (λ script. length script < 9223372036854775808 → Finishes old new held holds (lines_of script))
     → IfSome input (λ script. length script < 9223372036854775808 → Appends held kept (answers old (lines_of script)))
 finished_whole old new held holds kept None k h = tt
@@ -169,14 +181,14 @@ finished_whole old new held holds kept (Some script) k h = λ few.
     Appends-kept held holds kept (answers old (lines_of script)) (h few).1 k
 
 -- and that is a front of its answers
-pub finished_fronts : (old new : Seen) (held holds kept input : Option (List ℕ)) → Keeps holds kept
+pub finished_fronts : (old new : View) (held holds kept input : Option (List ℕ)) → Keeps holds kept
     → IfSome input (λ script. length script < 9223372036854775808 → Finishes old new held holds (lines_of script))
     → IfSome input (λ script. length script < 9223372036854775808 → AppendsFront held kept (answers old (lines_of script)))
 finished_fronts old new held holds kept None k h = tt
 finished_fronts old new held holds kept (Some script) k h = λ few. finished_front old new held holds kept (lines_of script) (h few) k
 
 -- nothing written is a front of all answers
-pub none_front : (s : Seen) (held input : Option (List ℕ))
+pub none_front : (s : View) (held input : Option (List ℕ))
     → IfSome input (λ script. length script < 9223372036854775808 → AppendsFront held held (answers s (lines_of script)))
 none_front s held None = tt
 none_front s held (Some script) = λ few. ([], answers s (lines_of script), refl, Appends-none held)

@@ -9,4 +9,5 @@ pub mod Command
 pub mod Lines
 pub mod Options
 pub mod Script
-pub mod Seen
+pub mod View
+pub mod Words

@@ -1,21 +1,23 @@
 -- What a script's run writes, and what it leaves: first of one order, then of the lines of a script,
 -- and last of a run that has come to some place in its script.
-use Rattle.std.specs.Prelude.{◌≡◌, ℕ, ◌<◌, if◌then◌else◌, ℤ, List, [], ◌∷◌, ◌++◌, length, Option, Some, None, codes, decimal, is_some}
+use Rattle.std.specs.Prelude.{◌≡◌, ◌⊎◌, ℕ, ◌<◌, Bool, true, false, if◌then◌else◌, ℤ, List, [], ◌∷◌, ◌++◌, length, Option, Some, None, Result, Err, OnOk, OnErr, IfErr, codes, decimal, is_some}
 use Rattle.std.specs.Fmt.{signed_decimal}
 use Rattle.std.specs.Io.KnownBytes.{Appends}
 use Rattle.cedar_tree.specs.Tree.{number_at}
 use Rattle.cedar_tree.specs.Queries.{Entry, front, predict, walk}
+use Rattle.cedar_model.specs.Table.Layouts.{LayoutKind}
 use Rattle.cedar_cli.specs.declared.command.Verb.TheVariants.{Put, Erase, Exact, Segment, Prefixes, Predict, Entries, Figures}
 use Rattle.cedar_cli.specs.declared.script.ScriptError.{ScriptError}
-use Rattle.cedar_cli.specs.declared.script.ScriptError.TheVariants.{Write}
+use Rattle.cedar_cli.specs.declared.script.ScriptError.TheVariants.{Read, Write, Memory, SlotLimit}
 use Rattle.cedarwood.specs.declared.error.CedarError.{CedarError}
 use Rattle.cedarwood.specs.declared.error.CedarError.TheVariants.{EmptyKey, NulByte, InvalidValue}
+use Rattle.cedarwood.specs.Dictionary.{Dictionary}
 use Rattle.cedarwood.specs.Fault.{fault}
 use Rattle.hex.specs.Hex.{encode_lower}
 use Rattle.cedar_words.specs.Words.{Token, segments}
 use Rattle.cedar_cli.specs.Command.{Order, order_of}
 use Rattle.cedar_cli.specs.Lines.{lines_of}
-use Rattle.cedar_cli.specs.Seen.{Seen, cut_in, is_held, put_in, slots_held}
+use Rattle.cedar_cli.specs.View.{View, cut_in, is_held, put_in, slots_held, view_of}
 
 -- a pair was at fault, and no call wanted memory or slots
 abbrev pub IsPairFault : CedarError → Type 0
@@ -25,12 +27,12 @@ IsPairFault (InvalidValue v) = Unit {0}
 IsPairFault _ = ⊥
 
 -- what is answered to a put, by its pair's fault
-abbrev pub refusal : Option CedarError → List ℕ
-refusal None = codes "ok"
-refusal (Some EmptyKey) = codes "refused EmptyKey"
-refusal (Some (NulByte at)) = codes "refused NulByte " ++ decimal at
-refusal (Some (InvalidValue v)) = codes "refused InvalidValue " ++ signed_decimal v
-refusal (Some _) = []
+abbrev pub put_text : Option CedarError → List ℕ
+put_text None = codes "ok"
+put_text (Some EmptyKey) = codes "refused EmptyKey"
+put_text (Some (NulByte at)) = codes "refused NulByte " ++ decimal at
+put_text (Some (InvalidValue v)) = codes "refused InvalidValue " ++ signed_decimal v
+put_text (Some _) = []
 
 -- a number and the key's length, or `none`
 abbrev pub found_text : Option ℤ → ℕ → List ℕ
@@ -51,18 +53,18 @@ abbrev pub token_text : Token → List ℕ
 token_text t = field t.0 ++ (field t.1 ++ number_text t.2)
 
 -- the texts of some things, each after a space
-abbrev pub spaced : {T : Type 0} → (T → List ℕ) → List T → List ℕ
-spaced text [] = []
-spaced text (thing ∷ things) = (codes " " ++ text thing) ++ spaced text things
+abbrev pub spaced_texts : {T : Type 0} → (T → List ℕ) → List T → List ℕ
+spaced_texts text [] = []
+spaced_texts text (thing ∷ things) = (codes " " ++ text thing) ++ spaced_texts text things
 
 -- their texts with one space between them, or `none`
-abbrev pub joined : {T : Type 0} → (T → List ℕ) → List T → List ℕ
-joined text [] = codes "none"
-joined text (thing ∷ things) = text thing ++ spaced text things
+abbrev pub joined_texts : {T : Type 0} → (T → List ℕ) → List T → List ℕ
+joined_texts text [] = codes "none"
+joined_texts text (thing ∷ things) = text thing ++ spaced_texts text things
 
 -- tokens with one space between them, or `none`
 abbrev pub tokens_text : List Token → List ℕ
-tokens_text tokens = joined token_text tokens
+tokens_text tokens = joined_texts token_text tokens
 
 -- what a walk found: a number, and a count of bytes
 abbrev pub pair_text : ℤ × ℕ → List ℕ
@@ -70,7 +72,7 @@ pair_text pair = signed_decimal pair.0 ++ (codes ":" ++ decimal pair.1)
 
 -- all that it found, with one space between them, or `none`
 abbrev pub pairs_text : List (ℤ × ℕ) → List ℕ
-pairs_text pairs = joined pair_text pairs
+pairs_text pairs = joined_texts pair_text pairs
 
 -- the line of an entry: its key in hexadecimal, its number and byte 10
 abbrev pub entry_line : Entry → List ℕ
@@ -86,9 +88,9 @@ abbrev pub figures_text : ℕ → ℕ → List ℕ
 figures_text keys slots = decimal keys ++ 32 ∷ decimal slots
 
 -- what is answered to an order, without the byte 10 at its end
-abbrev pub reply : Seen → Option Order → List ℕ
+abbrev pub reply : View → Option Order → List ℕ
 reply s None = codes "bad line"
-reply s (Some (Put v, key)) = refusal (fault key v)
+reply s (Some (Put v, key)) = put_text (fault key v)
 reply s (Some (Erase, key)) = if is_held s key then codes "erased" else codes "absent"
 reply s (Some (Exact, key)) = found_text (number_at s.state.tree key) (length key)
 reply s (Some (Segment, key)) = tokens_text (segments s.state.tree key)
@@ -98,11 +100,11 @@ reply s (Some (Entries, key)) = entry_lines (walk s.state.tree) ++ codes "end"
 reply s (Some (Figures, key)) = figures_text (length (walk s.state.tree)) (slots_held s)
 
 -- what is seen after an order
-abbrev pub obeyed : Seen → Option Order → Seen
-obeyed s None = s
-obeyed s (Some (Put v, key)) = if is_some (fault key v) then s else put_in s key v
-obeyed s (Some (Erase, key)) = cut_in s key
-obeyed s (Some (verb, key)) = s
+abbrev pub view_after_order : View → Option Order → View
+view_after_order s None = s
+view_after_order s (Some (Put v, key)) = if is_some (fault key v) then s else put_in s key v
+view_after_order s (Some (Erase, key)) = cut_in s key
+view_after_order s (Some (verb, key)) = s
 
 -- What a device holds is known or not: `Some` bytes, or `None` where it doesn't tell. Below, `held` is what the
 -- writer held at first, and `holds` what it holds in the end.
@@ -116,55 +118,94 @@ abbrev pub AppendsFront : Option (List ℕ) → Option (List ℕ) → List ℕ �
 AppendsFront held holds bytes = (part : List ℕ) × (rest : List ℕ) × (bytes ≡ part ++ rest) × Appends held holds part
 
 -- an order was obeyed, and its answer written whole
-abbrev pub Obeys : Option Order → Seen → Seen → Option (List ℕ) → Option (List ℕ) → Type 0
-Obeys order old new held holds = (new ≡ obeyed old order) × Appends held holds (reply old order ++ 10 ∷ [])
+abbrev pub Obeys : Option Order → View → View → Option (List ℕ) → Option (List ℕ) → Type 0
+Obeys order old new held holds = (new ≡ view_after_order old order) × Appends held holds (reply old order ++ 10 ∷ [])
 
 -- What stays when this fault ends a run: all that is seen, but after one of the writer the state alone. A value whose answer can't be
 -- written is taken back, and in the reduced layout the numbers that moved into slots for its key stay there.
-abbrev pub Stays : ScriptError → Seen → Seen → Type 0
+abbrev pub Stays : ScriptError → View → View → Type 0
 Stays Write old new = new.state ≡ old.state
 Stays fault old new = new ≡ old
 
 -- an order was not obeyed: its answer was not written whole, and what is seen stays as far as the fault lets it
-abbrev pub Leaves : ScriptError → Option Order → Seen → Seen → Option (List ℕ) → Option (List ℕ) → Type 0
+abbrev pub Leaves : ScriptError → Option Order → View → View → Option (List ℕ) → Option (List ℕ) → Type 0
 Leaves fault order old new held holds = Stays fault old new × WritesFront held holds (reply old order ++ 10 ∷ [])
 
+-- an order was obeyed, and its answer written whole; or it was not
+pub record Answers (layout : LayoutKind) (order : Option Order) (before after : Dictionary) (held holds : Option (List ℕ)) (result : Result (Unit {0}) ScriptError) : Type 0 where
+  pub ok : OnOk result (Obeys order (view_of layout before) (view_of layout after) held holds)
+  pub err : IfErr result (λ fault. Leaves fault order (view_of layout before) (view_of layout after) held holds)
+
+-- Whether a writer has failed is a test before a call and one after it. Some bytes were written without a fault, or the writer failed.
+pub record WritesOrFails (before after : Bool) (result : Result (Unit {0}) ScriptError) : Type 0 where
+  pub unfailed : OnOk result (after ≡ before)
+  pub cause : OnErr result ((result ≡ Err Write) × (after ≡ true))
+
+-- the same of lines, which may want memory or slots, and then the writer did not fail; the reader isn't asked
+pub record LineFault (before after : Bool) (result : Result (Unit {0}) ScriptError) : Type 0 where
+  pub unfailed : OnOk result (after ≡ before)
+  pub cause : result ≡ Err Write → after ≡ true
+  pub never_read : result ≡ Err Read → ⊥
+  pub starved : result ≡ Err Memory → after ≡ before
+  pub full : result ≡ Err SlotLimit → after ≡ before
+
+-- whether an order lists all entries
+abbrev pub lists_all : Option Order → Bool
+lists_all None = false
+lists_all (Some (Entries, key)) = true
+lists_all (Some (verb, key)) = false
+
+-- An order may be told that memory is wanting: it lists all entries, and so copies keys, or the dictionary has no block spare and may have
+-- more slots.
+abbrev pub MayLackMemory : ℕ → Option Order → Dictionary → Type 0
+MayLackMemory slots order d = (lists_all order ≡ true) ⊎ ((d.size ≡ d.capacity) × (d.capacity < slots))
+
+-- so may its line, or that line is longer than those that there is always room for
+abbrev pub LineMayLackMemory : ℕ → List ℕ → Dictionary → Type 0
+LineMayLackMemory slots line d = (8192 < length line) ⊎ MayLackMemory slots (order_of line) d
+
+-- this fault may end a run at the first of these lines: if it is want of memory, the line may be told that
+abbrev pub MayStop : ℕ → Dictionary → ScriptError → List (List ℕ) → Type 0
+MayStop slots d Memory (line ∷ lines) = LineMayLackMemory slots line d
+MayStop slots d fault lines = Unit {0}
+
 -- the answer to a line, with its byte 10
-abbrev pub answer : Seen → List ℕ → List ℕ
+abbrev pub answer : View → List ℕ → List ℕ
 answer s line = reply s (order_of line) ++ 10 ∷ []
 
 -- the answers to some lines, one after another
-abbrev pub answers : Seen → List (List ℕ) → List ℕ
+abbrev pub answers : View → List (List ℕ) → List ℕ
 answers s [] = []
-answers s (line ∷ lines) = answer s line ++ answers (obeyed s (order_of line)) lines
+answers s (line ∷ lines) = answer s line ++ answers (view_after_order s (order_of line)) lines
 
 -- what is seen after some lines
-abbrev pub seen_after : Seen → List (List ℕ) → Seen
-seen_after s [] = s
-seen_after s (line ∷ lines) = seen_after (obeyed s (order_of line)) lines
+abbrev pub view_after : View → List (List ℕ) → View
+view_after s [] = s
+view_after s (line ∷ lines) = view_after (view_after_order s (order_of line)) lines
 
 -- a dictionary came from one state to another by these lines, and the writer took their answers
-abbrev pub Finishes : Seen → Seen → Option (List ℕ) → Option (List ℕ) → List (List ℕ) → Type 0
-Finishes old new held holds lines = (new ≡ seen_after old lines) × Appends held holds (answers old lines)
+abbrev pub Finishes : View → View → Option (List ℕ) → Option (List ℕ) → List (List ℕ) → Type 0
+Finishes old new held holds lines = (new ≡ view_after old lines) × Appends held holds (answers old lines)
 
 -- some bytes are part of the answer to the first of these lines, and not all of it
-abbrev pub IsCutShort : Seen → List (List ℕ) → List ℕ → Type 0
+abbrev pub IsCutShort : View → List (List ℕ) → List ℕ → Type 0
 IsCutShort s [] part = part ≡ []
 IsCutShort s (line ∷ lines) part = (rest : List ℕ) × (0 < length rest) × (answer s line ≡ part ++ rest)
 
--- Some lines of a script were finished, and no other: their answers were written whole, the next one's was
--- not, and what is seen is theirs as far as the fault lets it stay.
-abbrev pub StopsAfter : ScriptError → Seen → Seen → Option (List ℕ) → Option (List ℕ) → List (List ℕ) → List (List ℕ) → Type 0
-StopsAfter fault old new held holds finished others =
-    (part : List ℕ) × Stays fault (seen_after old finished) new
-    × Appends held holds (answers old finished ++ part) × IsCutShort (seen_after old finished) others part
+-- Some lines of a script were finished, and no other: their answers were written whole, the next one's was not, and what is seen is theirs as
+-- far as the fault lets it stay. Want of memory has a reason in the next line, or no line was finished: room for lines is asked for first.
+abbrev pub StopsAfter : ℕ → Dictionary → ScriptError → View → View → Option (List ℕ) → Option (List ℕ) → List (List ℕ) → List (List ℕ) → Type 0
+StopsAfter slots d fault old new held holds finished others =
+    (part : List ℕ) × Stays fault (view_after old finished) new
+    × Appends held holds (answers old finished ++ part) × IsCutShort (view_after old finished) others part
+    × ((finished ≡ []) ⊎ MayStop slots d fault others)
 
 -- This fault ended a run before its script did: the script's first lines are finished, and no other. Here nothing follows
 -- the script, so its last piece is a line without a byte 10 too.
-abbrev pub EndsEarly : ScriptError → Seen → Seen → Option (List ℕ) → Option (List ℕ) → List ℕ → Type 0
-EndsEarly fault old new held holds script =
+abbrev pub EndsEarly : ℕ → Dictionary → ScriptError → View → View → Option (List ℕ) → Option (List ℕ) → List ℕ → Type 0
+EndsEarly slots d fault old new held holds script =
     (finished : List (List ℕ)) × (others : List (List ℕ)) × (lines_of script ≡ finished ++ others)
-    × StopsAfter fault old new held holds finished others
+    × StopsAfter slots d fault old new held holds finished others
 
 -- However a text goes on, its lines are these, and then those of what is left of it. So the finished lines all
 -- have their byte 10 in the text: a line that could still grow is not among them.
@@ -172,13 +213,14 @@ abbrev pub Splits : List ℕ → List (List ℕ) → List ℕ → Type 0
 Splits text finished left = (rest : List ℕ) → lines_of (text ++ rest) ≡ finished ++ lines_of (left ++ rest)
 
 -- a text was taken: its whole lines are finished, and this is left of it
-abbrev pub Advances : Seen → Seen → Option (List ℕ) → Option (List ℕ) → List ℕ → List ℕ → Type 0
+abbrev pub Advances : View → View → Option (List ℕ) → Option (List ℕ) → List ℕ → List ℕ → Type 0
 Advances old new held holds text left =
     (finished : List (List ℕ)) × Splits text finished left × Finishes old new held holds finished
 
 -- this fault stopped the run in a text: some of its lines are finished, and the next one's answer was not written whole
-abbrev pub Stops : ScriptError → Seen → Seen → Option (List ℕ) → Option (List ℕ) → List ℕ → Type 0
-Stops fault old new held holds text =
+abbrev pub Stops : ℕ → Dictionary → ScriptError → View → View → Option (List ℕ) → Option (List ℕ) → List ℕ → Type 0
+Stops slots d fault old new held holds text =
     (finished : List (List ℕ)) × (left : List ℕ) × (part : List ℕ) × Splits text finished left
-    × Stays fault (seen_after old finished) new × Appends held holds (answers old finished ++ part)
-    × ((rest : List ℕ) → IsCutShort (seen_after old finished) (lines_of (left ++ rest)) part)
+    × Stays fault (view_after old finished) new × Appends held holds (answers old finished ++ part)
+    × ((rest : List ℕ) → IsCutShort (view_after old finished) (lines_of (left ++ rest)) part)
+    × ((rest : List ℕ) → MayStop slots d fault (lines_of (left ++ rest)))

@@ -1,9 +1,9 @@
-ghost use Rattle.std.specs.Prelude.{◌≡◌, [], IfOk, option_map, position};
-ghost use Rattle.std.specs.List.{before_first, after_first};
-ghost use Rattle.cedar_cli.specs.Command.{order_of, key_of, value_of, is_space, with_key};
+//! A line of a script, read as an order.
+
+ghost use Rattle.std.specs.Prelude.{◌≡◌, ◌≤◌, ◌*◌, IfSome, length, option_map, position, take};
+ghost use Rattle.cedar_cli.specs.Words.{after_first, before_first, is_space, key_of, order_of, value_of, with_key};
 
 use memchr::memchr;
-use std::alloc::{AllocError, Allocator};
 
 /// What a line asks for.
 #[derive(Clone, Copy, Debug, PartialEq, Eq)]
@@ -24,68 +24,56 @@ pub(crate) enum Verb {
     Segment,
 }
 
-/// What to do, and with which key.
-#[derive(Drop)]
-pub(crate) struct Command<A: Allocator> {
+/// What to do, and how many bytes the key has that it is done with.
+#[derive(Clone, Copy)]
+pub(crate) struct Command {
     pub verb: Verb,
-    pub key: Vec<u8, A>,
+    pub key_len: usize,
 }
 
-/// Reads a line. None is a bad one.
-pub(crate) fn parse_line<A: Allocator + Copy>(
-    alloc: A,
-    line: &[u8],
-) -> Result<Option<Command<A>>, AllocError>
-    ensures { IfOk result (λ command. option_map (λ c. (c.verb, c.key.items)) command ≡ order_of line.now) }
+/// Reads a line, and writes its key to the front of `room`, which has a byte for two of the line's. None is a bad line.
+pub(crate) fn parse_line(line: &[u8], room: &mut [u8]) -> Option<Command>
+    requires room { length line.now ≤ 2 * length room.old }
+    ensures order { option_map (λ c. (c.verb, take c.key_len room.new)) result ≡ order_of line.now }
+    ensures len { length room.new ≡ length room.old }
+    ensures within { IfSome result (λ c. c.key_len ≤ length room.old) }
 {
     match line {
         [b'+', b' ', rest @ ..] => {
             let (key, value) = split_at_space(rest);
-            let Some(key) = parse_key(alloc, key)? else {
-                return Ok(None);
-            };
-            let Some(value) = parse_value(value) else {
-                return Ok(None);
-            };
-            Ok(Some(Command {
-                verb: Verb::Put(value),
-                key,
-            }))
+            let key_len = parse_key(key, room)?;
+            let value = parse_value(value)?;
+            let verb = Verb::Put(value);
+            Some(Command { verb, key_len })
         }
-        [b'-', b' ', rest @ ..] => keyed(alloc, Verb::Erase, rest),
-        [b'=', b' ', rest @ ..] => keyed(alloc, Verb::Exact, rest),
-        [b'<', b' ', rest @ ..] => keyed(alloc, Verb::Prefixes, rest),
-        [b'>', b' ', rest @ ..] => keyed(alloc, Verb::Predict, rest),
-        [b'/', b' ', rest @ ..] => keyed(alloc, Verb::Segment, rest),
-        [b'*'] => Ok(Some(keyless(alloc, Verb::Entries))),
-        [b'#'] => Ok(Some(keyless(alloc, Verb::Figures))),
-        _ => Ok(None),
+        [b'-', b' ', rest @ ..] => parse_keyed(Verb::Erase, rest, room),
+        [b'=', b' ', rest @ ..] => parse_keyed(Verb::Exact, rest, room),
+        [b'<', b' ', rest @ ..] => parse_keyed(Verb::Prefixes, rest, room),
+        [b'>', b' ', rest @ ..] => parse_keyed(Verb::Predict, rest, room),
+        [b'/', b' ', rest @ ..] => parse_keyed(Verb::Segment, rest, room),
+        [b'*'] => Some(keyless(Verb::Entries)),
+        [b'#'] => Some(keyless(Verb::Figures)),
+        _ => None,
     }
 }
 
 /// The command of a line without a key.
-fn keyless<A: Allocator>(alloc: A, verb: Verb) -> Command<A>
+fn keyless(verb: Verb) -> Command
     ensures verb { result.verb ≡ verb }
-    ensures key { result.key.items ≡ [] }
+    ensures key { result.key_len ≡ 0 }
 {
-    Command {
-        verb,
-        key: Vec::new(alloc),
-    }
+    Command { verb, key_len: 0 }
 }
 
-/// Reads a line that has a key alone.
-fn keyed<A: Allocator + Copy>(
-    alloc: A,
-    verb: Verb,
-    text: &[u8],
-) -> Result<Option<Command<A>>, AllocError>
-    ensures { IfOk result (λ command. option_map (λ c. (c.verb, c.key.items)) command ≡ with_key verb text.now) }
+/// Reads what follows the verb in a line that has a key alone.
+fn parse_keyed(verb: Verb, text: &[u8], room: &mut [u8]) -> Option<Command>
+    requires room { length text.now ≤ 2 * length room.old }
+    ensures order { option_map (λ c. (c.verb, take c.key_len room.new)) result ≡ with_key verb text.now }
+    ensures len { length room.new ≡ length room.old }
+    ensures within { IfSome result (λ c. c.key_len ≤ length room.old) }
 {
-    let Some(key) = parse_key(alloc, text)? else {
-        return Ok(None);
-    };
-    Ok(Some(Command { verb, key }))
+    let key_len = parse_key(text, room)?;
+    Some(Command { verb, key_len })
 }
 
 /// Where the first space is.
@@ -106,18 +94,23 @@ fn split_at_space(text: &[u8]) -> (&[u8], &[u8])
     }
 }
 
-/// Reads a key: `.`, or pairs of hexadecimal digits.
-fn parse_key<A: Allocator>(alloc: A, text: &[u8]) -> Result<Option<Vec<u8, A>>, AllocError>
-    ensures { IfOk result (λ key. option_map (λ k. k.items) key ≡ key_of text.now) }
+/// Reads a key, `.` or pairs of hexadecimal digits, writes it to the front of `room`, and says how many bytes it has.
+fn parse_key(text: &[u8], room: &mut [u8]) -> Option<usize>
+    requires room { length text.now ≤ 2 * length room.old }
+    ensures key { option_map (λ n. take n room.new) result ≡ key_of text.now }
+    ensures len { length room.new ≡ length room.old }
+    ensures within { IfSome result (λ n. n ≤ length room.old) }
 {
     match text {
-        [] => Ok(None),
-        b"." => Ok(Some(Vec::new(alloc))),
-        _ => match hex::decode(alloc, text) {
-            Ok(key) => Ok(Some(key)),
-            Err(hex::FromHexError::OutOfMemory) => Err(AllocError),
-            Err(_) => Ok(None),
-        },
+        [] => None,
+        b"." => Some(0),
+        _ => {
+            let len = text.len() / 2;
+            match hex::decode_to_slice(text, &mut room[..len]) {
+                Ok(()) => Some(len),
+                Err(_) => None,
+            }
+        }
     }
 }
 

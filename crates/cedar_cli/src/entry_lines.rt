@@ -1,13 +1,10 @@
 //! The lines of a dictionary's entries. They take no memory but the walk's own.
 
-ghost use Rattle.std.specs.Prelude.{◌≡◌, ◌*◌, ◌++◌, ◌∷◌, [], true, OnOk, OnErr, codes, length};
-ghost use Rattle.std.specs.Io.KnownBytes.{Appends};
-ghost use Rattle.hex.specs.Hex.{encode_lower};
-ghost use Rattle.cedarwood.specs.WatchedDevice.{device_of, has_failed};
-ghost use Rattle.cedar_cli.specs.Script.{WritesFront, entry_line, entry_lines};
+ghost use Rattle.std.specs.Prelude.{◌≡◌, ◌*◌, ◌++◌, ◌∷◌, [], OnOk, OnErr, codes, length};
+ghost use Rattle.cedar_cli.specs.Words.{Appends, LineFault, WritesFront, WritesOrFails, device_of, encode_lower, entry_line, entry_lines, has_failed};
 
-use crate::answers::{write_line, write_whole};
 use crate::script::ScriptError;
+use crate::write::{write_line, write_whole};
 use cedarwood::{Entries, Walked, Watched};
 use itoa::Buffer;
 use std::alloc::Allocator;
@@ -23,11 +20,8 @@ pub(crate) fn write_entries<T: Walked, A: Allocator + Copy, W: Write>(
 ) -> Result<(), ScriptError>
     ensures ok { OnOk result (Appends (W.contents (device_of writer.old)) (W.contents (device_of writer.new)) ((entry_lines entries.entry ++ codes "end") ++ 10 ∷ [])) }
     ensures err { OnErr result (WritesFront (W.contents (device_of writer.old)) (W.contents (device_of writer.new)) ((entry_lines entries.entry ++ codes "end") ++ 10 ∷ [])) }
-    ensures cause { result ≡ Err ScriptError.Write → has_failed writer.new ≡ true }
-    ensures starved { result ≡ Err ScriptError.Memory → has_failed writer.new ≡ has_failed writer.old }
-    ensures never_read { result ≡ Err ScriptError.Read → ⊥ }
+    ensures faults { LineFault (has_failed writer.old) (has_failed writer.new) result }
     ensures never_full { result ≡ Err ScriptError.SlotLimit → ⊥ }
-    ensures unfailed { OnOk result (has_failed writer.new ≡ has_failed writer.old) }
 {
     while let Some(entry) = entries.next() {
         let Ok((key, value)) = entry else {
@@ -42,8 +36,7 @@ pub(crate) fn write_entries<T: Walked, A: Allocator + Copy, W: Write>(
 fn write_entry<W: Write>(writer: &mut Watched<W>, key: &[u8], value: i32) -> Result<(), ScriptError>
     ensures ok { OnOk result (Appends (W.contents (device_of writer.old)) (W.contents (device_of writer.new)) (entry_line (key.now, value))) }
     ensures err { OnErr result (WritesFront (W.contents (device_of writer.old)) (W.contents (device_of writer.new)) (entry_line (key.now, value))) }
-    ensures cause { OnErr result ((result ≡ Err ScriptError.Write) × (has_failed writer.new ≡ true)) }
-    ensures unfailed { OnOk result (has_failed writer.new ≡ has_failed writer.old) }
+    ensures faults { WritesOrFails (has_failed writer.old) (has_failed writer.new) result }
 {
     write_digits(writer, key)?;
     let mut figures = Buffer::new();
@@ -54,8 +47,7 @@ fn write_entry<W: Write>(writer: &mut Watched<W>, key: &[u8], value: i32) -> Res
 fn write_digits<W: Write>(writer: &mut Watched<W>, bytes: &[u8]) -> Result<(), ScriptError>
     ensures ok { OnOk result (Appends (W.contents (device_of writer.old)) (W.contents (device_of writer.new)) (encode_lower bytes.now)) }
     ensures err { OnErr result (WritesFront (W.contents (device_of writer.old)) (W.contents (device_of writer.new)) (encode_lower bytes.now)) }
-    ensures cause { OnErr result ((result ≡ Err ScriptError.Write) × (has_failed writer.new ≡ true)) }
-    ensures unfailed { OnOk result (has_failed writer.new ≡ has_failed writer.old) }
+    ensures faults { WritesOrFails (has_failed writer.old) (has_failed writer.new) result }
 {
     let mut digits = [0u8; 2 * PIECE];
     let mut rest = bytes;
@@ -76,8 +68,7 @@ fn write_piece<W: Write>(
     requires room { length digits.old ≡ 2 * length bytes.now }
     ensures ok { OnOk result (Appends (W.contents (device_of writer.old)) (W.contents (device_of writer.new)) (encode_lower bytes.now)) }
     ensures err { OnErr result (WritesFront (W.contents (device_of writer.old)) (W.contents (device_of writer.new)) (encode_lower bytes.now)) }
-    ensures cause { OnErr result ((result ≡ Err ScriptError.Write) × (has_failed writer.new ≡ true)) }
-    ensures unfailed { OnOk result (has_failed writer.new ≡ has_failed writer.old) }
+    ensures faults { WritesOrFails (has_failed writer.old) (has_failed writer.new) result }
 {
     let _ = hex::encode_to_slice(bytes, digits);
     write_whole(writer, digits)

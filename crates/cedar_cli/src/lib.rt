@@ -18,7 +18,6 @@
 //! an optional sign and decimal digits, in the range of an `i32`. One space parts the fields.
 #![tactic(auto)]
 
-mod answers;
 mod command;
 mod entry_lines;
 mod fits;
@@ -27,6 +26,8 @@ mod pairs;
 mod program;
 mod script;
 mod tokens;
+mod verbs;
+mod write;
 
 pub use program::{DONE, FAULT, REFUSED, USAGE, USAGE_LINE, run_program};
 pub use script::{ScriptError, run_script};

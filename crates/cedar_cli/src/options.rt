@@ -1,7 +1,7 @@
 //! The program's options.
 
 ghost use Rattle.std.specs.Prelude.{◌≡◌, option_map};
-ghost use Rattle.cedar_cli.specs.Options.{asked_besides, asked_by, is_excluded, shown, words};
+ghost use Rattle.cedar_cli.specs.Options.{request_besides, request_of, is_excluded, request_in, words};
 
 /// What the arguments ask for.
 #[derive(Clone, Copy, Debug)]
@@ -20,7 +20,7 @@ pub(crate) struct Options<'a> {
 
 /// What the arguments ask for, or None where they are wrong.
 pub(crate) fn options_of<'a>(arguments: &[&'a str]) -> Option<Options<'a>>
-    ensures { option_map shown result ≡ asked_by arguments.now }
+    ensures { option_map request_in result ≡ request_of arguments.now }
 {
     let nothing = Options {
         ordered: true,
@@ -34,7 +34,7 @@ pub(crate) fn options_of<'a>(arguments: &[&'a str]) -> Option<Options<'a>>
 
 /// What some arguments ask for beside what has been asked, or None where they are wrong.
 fn with_options<'a>(options: Options<'a>, arguments: &[&'a str]) -> Option<Options<'a>>
-    ensures { option_map shown result ≡ asked_besides (shown options.entry) (words arguments.now) }
+    ensures { option_map request_in result ≡ request_besides (request_in options.entry) (words arguments.now) }
 {
     let Some((word, after)) = arguments.split_first() else {
         return if is_excluded(options) {
@@ -69,7 +69,7 @@ fn with_options<'a>(options: Options<'a>, arguments: &[&'a str]) -> Option<Optio
 
 /// Whether the options don't go together: a loaded dictionary has its own order, and a format is one to save in.
 fn is_excluded(options: Options<'_>) -> bool
-    ensures { result ≡ is_excluded (shown options.entry) }
+    ensures { result ≡ is_excluded (request_in options.entry) }
 {
     let two_orders = !options.ordered && options.load.is_some();
     let no_save = options.v1_0 && options.save.is_none();

@@ -1,12 +1,10 @@
 //! The line of what a prefix walk or a prediction found. It takes no memory.
 
-ghost use Rattle.std.specs.Prelude.{◌≡◌, ◌++◌, ◌∷◌, [], true, OnOk, OnErr, codes};
-ghost use Rattle.std.specs.Io.KnownBytes.{Appends};
-ghost use Rattle.cedarwood.specs.WatchedDevice.{device_of, has_failed};
-ghost use Rattle.cedar_cli.specs.Script.{WritesFront, pair_text, pairs_text, spaced};
+ghost use Rattle.std.specs.Prelude.{◌++◌, ◌∷◌, [], OnOk, OnErr, codes};
+ghost use Rattle.cedar_cli.specs.Words.{Appends, WritesFront, WritesOrFails, device_of, has_failed, pair_text, pairs_text, spaced_texts};
 
-use crate::answers::{write_both, write_whole};
 use crate::script::ScriptError;
+use crate::write::{write_both, write_whole};
 use cedarwood::{PrefixIter, PrefixPredictIter, Walked, Watched};
 use itoa::Buffer;
 use std::io::Write;
@@ -46,8 +44,7 @@ pub(crate) fn write_pairs<P: Pairs, W: Write>(
 ) -> Result<(), ScriptError>
     ensures ok { OnOk result (Appends (W.contents (device_of writer.old)) (W.contents (device_of writer.new)) (pairs_text (P.left pairs.old) ++ 10 ∷ [])) }
     ensures err { OnErr result (WritesFront (W.contents (device_of writer.old)) (W.contents (device_of writer.new)) (pairs_text (P.left pairs.old) ++ 10 ∷ [])) }
-    ensures cause { OnErr result ((result ≡ Err ScriptError.Write) × (has_failed writer.new ≡ true)) }
-    ensures unfailed { OnOk result (has_failed writer.new ≡ has_failed writer.old) }
+    ensures faults { WritesOrFails (has_failed writer.old) (has_failed writer.new) result }
 {
     let Some(first) = pairs.next_pair() else {
         return write_whole(writer, b"none\n");
@@ -61,10 +58,9 @@ fn write_further<P: Pairs, W: Write>(
     writer: &mut Watched<W>,
     pairs: &mut P,
 ) -> Result<(), ScriptError>
-    ensures ok { OnOk result (Appends (W.contents (device_of writer.old)) (W.contents (device_of writer.new)) (spaced pair_text (P.left pairs.old) ++ 10 ∷ [])) }
-    ensures err { OnErr result (WritesFront (W.contents (device_of writer.old)) (W.contents (device_of writer.new)) (spaced pair_text (P.left pairs.old) ++ 10 ∷ [])) }
-    ensures cause { OnErr result ((result ≡ Err ScriptError.Write) × (has_failed writer.new ≡ true)) }
-    ensures unfailed { OnOk result (has_failed writer.new ≡ has_failed writer.old) }
+    ensures ok { OnOk result (Appends (W.contents (device_of writer.old)) (W.contents (device_of writer.new)) (spaced_texts pair_text (P.left pairs.old) ++ 10 ∷ [])) }
+    ensures err { OnErr result (WritesFront (W.contents (device_of writer.old)) (W.contents (device_of writer.new)) (spaced_texts pair_text (P.left pairs.old) ++ 10 ∷ [])) }
+    ensures faults { WritesOrFails (has_failed writer.old) (has_failed writer.new) result }
 {
     while let Some(pair) = pairs.next_pair() {
         write_after_space(writer, pair)?;
@@ -79,8 +75,7 @@ fn write_after_space<W: Write>(
 ) -> Result<(), ScriptError>
     ensures ok { OnOk result (Appends (W.contents (device_of writer.old)) (W.contents (device_of writer.new)) (codes " " ++ pair_text pair)) }
     ensures err { OnErr result (WritesFront (W.contents (device_of writer.old)) (W.contents (device_of writer.new)) (codes " " ++ pair_text pair)) }
-    ensures cause { OnErr result ((result ≡ Err ScriptError.Write) × (has_failed writer.new ≡ true)) }
-    ensures unfailed { OnOk result (has_failed writer.new ≡ has_failed writer.old) }
+    ensures faults { WritesOrFails (has_failed writer.old) (has_failed writer.new) result }
 {
     write_whole(writer, b" ")?;
     write_pair(writer, pair)
@@ -90,8 +85,7 @@ fn write_after_space<W: Write>(
 fn write_pair<W: Write>(writer: &mut Watched<W>, pair: (i32, usize)) -> Result<(), ScriptError>
     ensures ok { OnOk result (Appends (W.contents (device_of writer.old)) (W.contents (device_of writer.new)) (pair_text pair)) }
     ensures err { OnErr result (WritesFront (W.contents (device_of writer.old)) (W.contents (device_of writer.new)) (pair_text pair)) }
-    ensures cause { OnErr result ((result ≡ Err ScriptError.Write) × (has_failed writer.new ≡ true)) }
-    ensures unfailed { OnOk result (has_failed writer.new ≡ has_failed writer.old) }
+    ensures faults { WritesOrFails (has_failed writer.old) (has_failed writer.new) result }
 {
     let (value, count) = pair;
     let mut figures = Buffer::new();

@@ -1,13 +1,7 @@
 //! The program: arguments, files and three streams in, a status out.
 
 ghost use Rattle.std.specs.Prelude.{◌≡◌, ◌<◌, ◌≤◌, ◌^◌, ◌↔◌, true, length, None, OnOk, OnErr, IfErr, IfOk, IfSome};
-ghost use Rattle.std.specs.Io.KnownBytes.{Appends};
-ghost use Rattle.cedar_slots.specs.Places.{IsSlotLimit};
-ghost use Rattle.cedarwood.specs.WatchedDevice.{device_of, has_failed};
-ghost use Rattle.cedar_cli.specs.Lines.{lines_of};
-ghost use Rattle.cedar_cli.specs.Options.{asked_by, layout_of, shown, BeginsWith};
-ghost use Rattle.cedar_cli.specs.Script.{answers, AppendsFront};
-ghost use Rattle.cedar_cli.specs.Seen.{Seen, seen};
+ghost use Rattle.cedar_cli.specs.Words.{Appends, AppendsFront, BeginsWith, IsSlotLimit, View, answers, device_of, has_failed, layout_of, lines_of, request_in, request_of, view_of};
 
 use crate::fits::fits;
 use crate::options::{Options, options_of};
@@ -66,19 +60,19 @@ pub fn run_program<const SLOTS: usize, F: Files, A: Allocator + Copy, R: Read, W
 ) -> u8
     requires limit { IsSlotLimit SLOTS }
     ensures status { result ≤ 3 }
-    ensures usage { (result ≡ 2) ↔ (asked_by arguments.now ≡ None) }
+    ensures usage { (result ≡ 2) ↔ (request_of arguments.now ≡ None) }
     ensures untouched { result ≡ 2 → (reader.new ≡ reader.old) × (writer.new ≡ writer.old) }
     ensures silent { result ≡ 0 → errors.new ≡ errors.old }
 
     // All lines of the input are answered, from a dictionary of the layout that is asked for, and nothing else was written.
-    ensures done { result ≡ 0 → IfSome (asked_by arguments.now) (λ asked. (begun : Seen) × BeginsWith (layout_of asked) asked begun × IfSome (R.remaining (device_of reader.old)) (λ input. length input < 2 ^ 63 →
+    ensures done { result ≡ 0 → IfSome (request_of arguments.now) (λ asked. (begun : View) × BeginsWith (layout_of asked) asked begun × IfSome (R.remaining (device_of reader.old)) (λ input. length input < 2 ^ 63 →
         Appends (W.contents (device_of writer.old)) (W.contents (device_of writer.new)) (answers begun (lines_of input)))) }
 
     // No call of the reader or the writer failed.
     ensures unfailed { result ≡ 0 → (has_failed reader.new ≡ has_failed reader.old) × (has_failed writer.new ≡ has_failed writer.old) }
 
     // Whatever happens, what was written begins the answers.
-    ensures begun { IfSome (asked_by arguments.now) (λ asked. (begun : Seen) × BeginsWith (layout_of asked) asked begun × IfSome (R.remaining (device_of reader.old)) (λ input. length input < 2 ^ 63 →
+    ensures begun { IfSome (request_of arguments.now) (λ asked. (begun : View) × BeginsWith (layout_of asked) asked begun × IfSome (R.remaining (device_of reader.old)) (λ input. length input < 2 ^ 63 →
         AppendsFront (W.contents (device_of writer.old)) (W.contents (device_of writer.new)) (answers begun (lines_of input)))) }
 {
     let Some(options) = options_of(arguments) else {
@@ -122,9 +116,9 @@ fn run_layout<const SLOTS: usize, F: Files, A: Allocator + Copy, R: Read, W: Wri
     writer: &mut Watched<W>,
 ) -> Result<(), Fault>
     requires limit { IsSlotLimit SLOTS }
-    ensures ok { OnOk result ((begun : Seen) × BeginsWith (layout_of (shown options.entry)) (shown options.entry) begun × IfSome (R.remaining (device_of reader.old)) (λ input. length input < 2 ^ 63 →
+    ensures ok { OnOk result ((begun : View) × BeginsWith (layout_of (request_in options.entry)) (request_in options.entry) begun × IfSome (R.remaining (device_of reader.old)) (λ input. length input < 2 ^ 63 →
         Appends (W.contents (device_of writer.old)) (W.contents (device_of writer.new)) (answers begun (lines_of input)))) }
-    ensures begun { (begun : Seen) × BeginsWith (layout_of (shown options.entry)) (shown options.entry) begun × IfSome (R.remaining (device_of reader.old)) (λ input. length input < 2 ^ 63 →
+    ensures begun { (begun : View) × BeginsWith (layout_of (request_in options.entry)) (request_in options.entry) begun × IfSome (R.remaining (device_of reader.old)) (λ input. length input < 2 ^ 63 →
         AppendsFront (W.contents (device_of writer.old)) (W.contents (device_of writer.new)) (answers begun (lines_of input))) }
     ensures unfailed { OnOk result ((has_failed reader.new ≡ has_failed reader.old) × (has_failed writer.new ≡ has_failed writer.old)) }
 {
@@ -144,9 +138,9 @@ fn run_options<L: Layout, const SLOTS: usize, F: Files, A: Allocator + Copy, R: 
     writer: &mut Watched<W>,
 ) -> Result<(), Fault>
     requires limit { IsSlotLimit SLOTS }
-    ensures ok { OnOk result ((begun : Seen) × BeginsWith L.kind (shown options.entry) begun × IfSome (R.remaining (device_of reader.old)) (λ input. length input < 2 ^ 63 →
+    ensures ok { OnOk result ((begun : View) × BeginsWith L.kind (request_in options.entry) begun × IfSome (R.remaining (device_of reader.old)) (λ input. length input < 2 ^ 63 →
         Appends (W.contents (device_of writer.old)) (W.contents (device_of writer.new)) (answers begun (lines_of input)))) }
-    ensures begun { (begun : Seen) × BeginsWith L.kind (shown options.entry) begun × IfSome (R.remaining (device_of reader.old)) (λ input. length input < 2 ^ 63 →
+    ensures begun { (begun : View) × BeginsWith L.kind (request_in options.entry) begun × IfSome (R.remaining (device_of reader.old)) (λ input. length input < 2 ^ 63 →
         AppendsFront (W.contents (device_of writer.old)) (W.contents (device_of writer.new)) (answers begun (lines_of input))) }
     ensures unfailed { OnOk result ((has_failed reader.new ≡ has_failed reader.old) × (has_failed writer.new ≡ has_failed writer.old)) }
 {
@@ -185,7 +179,7 @@ fn first_trie<L: Layout, const SLOTS: usize, F: Files, A: Allocator + Copy>(
     options: Options<'_>,
 ) -> Result<Trie<L, SLOTS, A>, Fault>
     requires limit { IsSlotLimit SLOTS }
-    ensures { IfOk result (λ trie. BeginsWith L.kind (shown options.entry) (seen L.kind trie)) }
+    ensures { IfOk result (λ trie. BeginsWith L.kind (request_in options.entry) (view_of L.kind trie)) }
 {
     match options.load {
         Some(path) => Trie::load_from_path(alloc, files, path).map_err(Fault::Load),
@@ -207,9 +201,9 @@ fn answer_script<L: Layout, const SLOTS: usize, A: Allocator + Copy, R: Read, W:
     writer: &mut Watched<W>,
 ) -> Result<(), ScriptError>
     ensures ok { OnOk result (IfSome (R.remaining (device_of reader.old)) (λ input. length input < 2 ^ 63 →
-        Appends (W.contents (device_of writer.old)) (W.contents (device_of writer.new)) (answers (seen L.kind trie.old) (lines_of input)))) }
+        Appends (W.contents (device_of writer.old)) (W.contents (device_of writer.new)) (answers (view_of L.kind trie.old) (lines_of input)))) }
     ensures begun { IfSome (R.remaining (device_of reader.old)) (λ input. length input < 2 ^ 63 →
-        AppendsFront (W.contents (device_of writer.old)) (W.contents (device_of writer.new)) (answers (seen L.kind trie.old) (lines_of input))) }
+        AppendsFront (W.contents (device_of writer.old)) (W.contents (device_of writer.new)) (answers (view_of L.kind trie.old) (lines_of input))) }
     ensures read_cause { result ≡ Err ScriptError.Read → has_failed reader.new ≡ true }
     ensures write_cause { result ≡ Err ScriptError.Write → has_failed writer.new ≡ true }
     ensures unfailed { OnOk result ((has_failed reader.new ≡ has_failed reader.old) × (has_failed writer.new ≡ has_failed writer.old)) }

@@ -1,14 +1,10 @@
 //! A run of a script: lines in, answers out.
 
-ghost use Rattle.std.specs.Prelude.{◌≡◌, ◌<◌, ◌^◌, ◌+◌, List, ℕ, [], ◌∷◌, ◌++◌, length, true, OnOk, OnErr, IfErr, IfSome, position};
-ghost use Rattle.std.specs.Io.KnownBytes.{Consumes};
-ghost use Rattle.cedarwood.specs.WatchedDevice.{device_of, has_failed};
-ghost use Rattle.cedar_cli.specs.Blocks.{GrowsBefore, GrowsWithin};
-ghost use Rattle.cedar_cli.specs.Lines.{lines_of, IsOpen, is_newline};
-ghost use Rattle.cedar_cli.specs.Script.{Finishes, Advances, Stops, EndsEarly};
-ghost use Rattle.cedar_cli.specs.Seen.{seen};
+ghost use Rattle.std.specs.Prelude.{◌≡◌, ◌⊎◌, ◌<◌, ◌≤◌, ◌^◌, ◌+◌, List, ℕ, [], ◌∷◌, ◌++◌, length, true, OnOk, OnErr, IfErr, IfOk, IfSome, position, vec_capacity};
+ghost use Rattle.cedar_cli.specs.Words.{Advances, Answers, Consumes, EndsEarly, Finishes, GrowsBefore, GrowsWithin, HasNoNewline, HasRoom, LineFault};
+ghost use Rattle.cedar_cli.specs.Words.{LineMayLackMemory, Stops, device_of, has_failed, is_newline, lines_of, order_of, view_of};
 
-use crate::answers::answer_line;
+use crate::verbs::answer_line;
 use cedarwood::{Layout, Trie, Watched};
 use memchr::memchr;
 use std::alloc::{AllocError, Allocator};
@@ -33,7 +29,13 @@ const MAX_READS: u64 = 1 << 63;
 /// A read takes this many bytes at most.
 const CHUNK: usize = 8192;
 
-/// Answers each line of what the reader has left. Memory holds one line and at most two keys at a time. The writer
+/// A line of up to this many bytes has room that is asked for once.
+const LINE_ROOM: usize = 8192;
+
+/// So has its key, which has a byte for two of the line's.
+const KEY_ROOM: usize = 4096;
+
+/// Answers each line of what the reader has left. Memory holds one line, half as many bytes for its key, and one key of a walk. The writer
 /// is flushed before each read, so that one who waits for an answer before the next line gets it.
 ///
 /// A line is the bytes up to byte 10 (`\n`); a last nonempty piece without it is a line too. A line is
@@ -43,7 +45,8 @@ const CHUNK: usize = 8192;
 /// # Errors
 /// The first fault ends the run: `Read` or `Write` where the device failed (an interrupted call is a fault),
 /// `Memory` where a request was refused, `SlotLimit` where all slots that there may be are in use. What was written then begins with the answers of the finished
-/// lines. A line that a read fault cut isn't answered.
+/// lines. A line that a read fault cut isn't answered. Room for lines of up to 8,192 bytes is asked for before the first read. Behind it a line is told `Memory`
+/// only if it is longer, if it lists all entries, or if the dictionary has no block spare and fewer slots than it may have.
 pub fn run_script<L: Layout, const SLOTS: usize, A: Allocator + Copy, R: Read, W: Write>(
     alloc: A,
     trie: &mut Trie<L, SLOTS, A>,
@@ -52,19 +55,20 @@ pub fn run_script<L: Layout, const SLOTS: usize, A: Allocator + Copy, R: Read, W
 ) -> Result<(), ScriptError>
     // All lines of what the reader had left are finished, and nothing else was written.
     ensures ok { OnOk result (IfSome (R.remaining (device_of reader.old)) (λ input. length input < 2 ^ 63 →
-        Finishes (seen L.kind trie.old) (seen L.kind trie.new)
+        Finishes (view_of L.kind trie.old) (view_of L.kind trie.new)
         (W.contents (device_of writer.old)) (W.contents (device_of writer.new)) (lines_of input))) }
 
     // The first lines are finished, the next one's answer was not written whole, and the state is theirs; after any fault but `Write` so are the marks.
+    // `Memory` has a reason in that line, or no line is finished.
     ensures err { IfErr result (λ fault. IfSome (R.remaining (device_of reader.old)) (λ input. length input < 2 ^ 63 →
-        EndsEarly fault (seen L.kind trie.old) (seen L.kind trie.new)
+        EndsEarly SLOTS trie.new fault (view_of L.kind trie.old) (view_of L.kind trie.new)
         (W.contents (device_of writer.old)) (W.contents (device_of writer.new)) input)) }
 
     // After a fault of the reader the finished lines are those that came whole.
     ensures read { result ≡ Err ScriptError.Read → IfSome (R.remaining (device_of reader.old)) (λ input.
         (came : List ℕ) × (line : List ℕ)
         × Consumes (R.remaining (device_of reader.old)) (R.remaining (device_of reader.new)) came
-        × IsOpen line × Advances (seen L.kind trie.old) (seen L.kind trie.new)
+        × HasNoNewline line × Advances (view_of L.kind trie.old) (view_of L.kind trie.new)
         (W.contents (device_of writer.old)) (W.contents (device_of writer.new)) came line) }
 
     ensures read_cause { result ≡ Err ScriptError.Read → has_failed reader.new ≡ true }
@@ -83,7 +87,9 @@ pub fn run_script<L: Layout, const SLOTS: usize, A: Allocator + Copy, R: Read, W
     ensures full { result ≡ Err ScriptError.SlotLimit → (has_failed reader.new ≡ has_failed reader.old) × (has_failed writer.new ≡ has_failed writer.old) }
     ensures max_trial { trie.new.max_trial ≡ trie.old.max_trial }
 {
-    let mut line = Vec::new(alloc);
+    let Ok((mut line, mut key)) = line_room(alloc) else {
+        return Err(ScriptError::Memory);
+    };
     let mut chunk = [0u8; CHUNK];
     for turn in 0..MAX_READS {
         // Whoever waits for the answers so far gets them before more input is asked for.
@@ -96,41 +102,50 @@ pub fn run_script<L: Layout, const SLOTS: usize, A: Allocator + Copy, R: Read, W
         if count == 0 {
             break;
         }
-        take_bytes(alloc, trie, &mut line, &chunk[..count], writer)?;
+        take_bytes(trie, &mut line, &mut key, &chunk[..count], writer)?;
     }
     if !line.is_empty() {
-        answer_line(alloc, trie, line.as_slice(), writer)?;
+        answer_with_room(trie, line.as_slice(), &mut key, writer)?;
     }
     Ok(())
 }
 
+/// Room for a line, which is empty, and for its key.
+fn line_room<A: Allocator + Copy>(alloc: A) -> Result<(Vec<u8, A>, Vec<u8, A>), AllocError>
+    ensures empty { IfOk result (λ made. made.0.items ≡ []) }
+    ensures room { IfOk result (λ made. HasRoom (vec_capacity made.0) (length made.1.items)) }
+{
+    let line = Vec::with_capacity(alloc, LINE_ROOM)?;
+    let mut key = Vec::new(alloc);
+    key.resize(KEY_ROOM, 0)?;
+    Ok((line, key))
+}
+
 /// Takes some bytes: each byte 10 among them ends a line, and what follows the last one begins the next.
 fn take_bytes<L: Layout, const SLOTS: usize, A: Allocator + Copy, W: Write>(
-    alloc: A,
     trie: &mut Trie<L, SLOTS, A>,
     line: &mut Vec<u8, A>,
+    key: &mut Vec<u8, A>,
     bytes: &[u8],
     writer: &mut Watched<W>,
 ) -> Result<(), ScriptError>
-    requires open { IsOpen line.old.items }
-    ensures still_open { OnOk result (IsOpen line.new.items) }
-    ensures ok { OnOk result (Advances (seen L.kind trie.old) (seen L.kind trie.new)
+    requires open { HasNoNewline line.old.items }
+    requires room { HasRoom (vec_capacity line.old) (length key.old.items) }
+    ensures still_open { OnOk result (HasNoNewline line.new.items) }
+    ensures kept { HasRoom (vec_capacity line.new) (length key.new.items) }
+    ensures ok { OnOk result (Advances (view_of L.kind trie.old) (view_of L.kind trie.new)
         (W.contents (device_of writer.old)) (W.contents (device_of writer.new)) (line.old.items ++ bytes.now) line.new.items) }
-    ensures err { IfErr result (λ fault. Stops fault (seen L.kind trie.old) (seen L.kind trie.new)
+    ensures err { IfErr result (λ fault. Stops SLOTS trie.new fault (view_of L.kind trie.old) (view_of L.kind trie.new)
         (W.contents (device_of writer.old)) (W.contents (device_of writer.new)) (line.old.items ++ bytes.now)) }
-    ensures cause { result ≡ Err ScriptError.Write → has_failed writer.new ≡ true }
-    ensures unfailed { OnOk result (has_failed writer.new ≡ has_failed writer.old) }
-    ensures never_read { result ≡ Err ScriptError.Read → ⊥ }
+    ensures faults { LineFault (has_failed writer.old) (has_failed writer.new) result }
     ensures limit { result ≡ Err ScriptError.SlotLimit → trie.new.size ≡ SLOTS }
-    ensures starved { result ≡ Err ScriptError.Memory → has_failed writer.new ≡ has_failed writer.old }
-    ensures full { result ≡ Err ScriptError.SlotLimit → has_failed writer.new ≡ has_failed writer.old }
     ensures blocks_taken { OnOk result (GrowsBefore (length line.new.items) (length line.old.items + length bytes.now) trie.old trie.new) }
     ensures blocks_left { OnErr result (GrowsWithin (length line.old.items + length bytes.now) trie.old trie.new) }
     ensures max_trial { trie.new.max_trial ≡ trie.old.max_trial }
 {
     let mut rest = bytes;
     while let Some(at) = position_of_newline(rest) {
-        end_line(alloc, trie, line, &rest[..at], writer)?;
+        end_line(trie, line, key, &rest[..at], writer)?;
         rest = &rest[at + 1..];
     }
     match line.extend_from_slice(rest) {
@@ -149,35 +164,67 @@ fn position_of_newline(text: &[u8]) -> Option<usize>
 
 /// Answers a line that ends with a piece and byte 10. A line of one piece is answered where it stands.
 fn end_line<L: Layout, const SLOTS: usize, A: Allocator + Copy, W: Write>(
-    alloc: A,
     trie: &mut Trie<L, SLOTS, A>,
     line: &mut Vec<u8, A>,
+    key: &mut Vec<u8, A>,
     piece: &[u8],
     writer: &mut Watched<W>,
 ) -> Result<(), ScriptError>
-    requires open { IsOpen line.old.items }
-    requires open_piece { IsOpen piece.now }
+    requires open { HasNoNewline line.old.items }
+    requires open_piece { HasNoNewline piece.now }
+    requires room { HasRoom (vec_capacity line.old) (length key.old.items) }
     ensures empty { OnOk result (line.new.items ≡ []) }
-    ensures ok { OnOk result (Advances (seen L.kind trie.old) (seen L.kind trie.new)
+    ensures kept { HasRoom (vec_capacity line.new) (length key.new.items) }
+    ensures ok { OnOk result (Advances (view_of L.kind trie.old) (view_of L.kind trie.new)
         (W.contents (device_of writer.old)) (W.contents (device_of writer.new)) (line.old.items ++ (piece.now ++ 10 ∷ [])) []) }
-    ensures err { IfErr result (λ fault. Stops fault (seen L.kind trie.old) (seen L.kind trie.new)
+    ensures err { IfErr result (λ fault. Stops SLOTS trie.new fault (view_of L.kind trie.old) (view_of L.kind trie.new)
         (W.contents (device_of writer.old)) (W.contents (device_of writer.new)) (line.old.items ++ (piece.now ++ 10 ∷ []))) }
-    ensures cause { result ≡ Err ScriptError.Write → has_failed writer.new ≡ true }
-    ensures unfailed { OnOk result (has_failed writer.new ≡ has_failed writer.old) }
-    ensures never_read { result ≡ Err ScriptError.Read → ⊥ }
+    ensures faults { LineFault (has_failed writer.old) (has_failed writer.new) result }
     ensures limit { result ≡ Err ScriptError.SlotLimit → trie.new.size ≡ SLOTS }
-    ensures starved { result ≡ Err ScriptError.Memory → has_failed writer.new ≡ has_failed writer.old }
-    ensures full { result ≡ Err ScriptError.SlotLimit → has_failed writer.new ≡ has_failed writer.old }
     ensures blocks { GrowsWithin (length line.old.items + length piece.now) trie.old trie.new }
     ensures max_trial { trie.new.max_trial ≡ trie.old.max_trial }
 {
     if line.is_empty() {
-        return answer_line(alloc, trie, piece, writer);
+        return answer_with_room(trie, piece, key, writer);
     }
     let Ok(()) = line.extend_from_slice(piece) else {
         return Err(ScriptError::Memory);
     };
-    answer_line(alloc, trie, line.as_slice(), writer)?;
+    answer_with_room(trie, line.as_slice(), key, writer)?;
     line.clear();
+    Ok(())
+}
+
+/// Answers a line once there is room for its key. Only a line of more than 8,192 bytes asks for more of it.
+fn answer_with_room<L: Layout, const SLOTS: usize, A: Allocator + Copy, W: Write>(
+    trie: &mut Trie<L, SLOTS, A>,
+    line: &[u8],
+    key: &mut Vec<u8, A>,
+    writer: &mut Watched<W>,
+) -> Result<(), ScriptError>
+    requires room { 4096 ≤ length key.old.items }
+    ensures kept { 4096 ≤ length key.new.items }
+    ensures answer { Answers L.kind (order_of line.now) trie.old trie.new (W.contents (device_of writer.old)) (W.contents (device_of writer.new)) result }
+    ensures faults { LineFault (has_failed writer.old) (has_failed writer.new) result }
+    ensures memory { result ≡ Err ScriptError.Memory → LineMayLackMemory SLOTS line.now trie.new }
+    ensures limit { result ≡ Err ScriptError.SlotLimit → trie.new.size ≡ SLOTS }
+    ensures blocks { GrowsWithin (length line.now) trie.old trie.new }
+    ensures max_trial { trie.new.max_trial ≡ trie.old.max_trial }
+{
+    let Ok(()) = make_room(key, line.len() - line.len() / 2) else {
+        return Err(ScriptError::Memory);
+    };
+    answer_line(trie, line, key.as_mut_slice(), writer)
+}
+
+/// Makes the room for a key at least so long, if it isn't.
+fn make_room<A: Allocator>(key: &mut Vec<u8, A>, wanted: usize) -> Result<(), AllocError>
+    ensures ok { OnOk result (wanted ≤ length key.new.items) }
+    ensures kept { length key.old.items ≤ length key.new.items }
+    ensures refused { OnErr result (length key.old.items < wanted) }
+{
+    if key.len() < wanted {
+        key.resize(wanted, 0)?;
+    }
     Ok(())
 }

@@ -1,12 +1,10 @@
 //! The line of a text's tokens. It takes no memory.
 
-ghost use Rattle.std.specs.Prelude.{◌≡◌, ◌++◌, ◌∷◌, [], true, OnOk, OnErr, codes};
-ghost use Rattle.std.specs.Io.KnownBytes.{Appends};
-ghost use Rattle.cedarwood.specs.WatchedDevice.{device_of, has_failed};
-ghost use Rattle.cedar_cli.specs.Script.{WritesFront, field, number_text, spaced, token_text, tokens_text};
+ghost use Rattle.std.specs.Prelude.{◌++◌, ◌∷◌, [], OnOk, OnErr, codes};
+ghost use Rattle.cedar_cli.specs.Words.{Appends, WritesFront, WritesOrFails, device_of, field, has_failed, number_text, spaced_texts, token_text, tokens_text};
 
-use crate::answers::write_whole;
 use crate::script::ScriptError;
+use crate::write::write_whole;
 use cedar_words::{LongestPrefix, Segments};
 use cedarwood::Watched;
 use itoa::Buffer;
@@ -19,8 +17,7 @@ pub(crate) fn write_tokens<T: LongestPrefix, W: Write>(
 ) -> Result<(), ScriptError>
     ensures ok { OnOk result (Appends (W.contents (device_of writer.old)) (W.contents (device_of writer.new)) (tokens_text tokens.entry ++ 10 ∷ [])) }
     ensures err { OnErr result (WritesFront (W.contents (device_of writer.old)) (W.contents (device_of writer.new)) (tokens_text tokens.entry ++ 10 ∷ [])) }
-    ensures cause { OnErr result ((result ≡ Err ScriptError.Write) × (has_failed writer.new ≡ true)) }
-    ensures unfailed { OnOk result (has_failed writer.new ≡ has_failed writer.old) }
+    ensures faults { WritesOrFails (has_failed writer.old) (has_failed writer.new) result }
 {
     let Some(first) = tokens.next() else {
         return write_whole(writer, b"none\n");
@@ -34,10 +31,9 @@ fn write_spaced<T: LongestPrefix, W: Write>(
     writer: &mut Watched<W>,
     mut tokens: Segments<'_, T>,
 ) -> Result<(), ScriptError>
-    ensures ok { OnOk result (Appends (W.contents (device_of writer.old)) (W.contents (device_of writer.new)) (spaced token_text tokens.entry ++ 10 ∷ [])) }
-    ensures err { OnErr result (WritesFront (W.contents (device_of writer.old)) (W.contents (device_of writer.new)) (spaced token_text tokens.entry ++ 10 ∷ [])) }
-    ensures cause { OnErr result ((result ≡ Err ScriptError.Write) × (has_failed writer.new ≡ true)) }
-    ensures unfailed { OnOk result (has_failed writer.new ≡ has_failed writer.old) }
+    ensures ok { OnOk result (Appends (W.contents (device_of writer.old)) (W.contents (device_of writer.new)) (spaced_texts token_text tokens.entry ++ 10 ∷ [])) }
+    ensures err { OnErr result (WritesFront (W.contents (device_of writer.old)) (W.contents (device_of writer.new)) (spaced_texts token_text tokens.entry ++ 10 ∷ [])) }
+    ensures faults { WritesOrFails (has_failed writer.old) (has_failed writer.new) result }
 {
     while let Some(token) = tokens.next() {
         write_next(writer, token)?;
@@ -52,8 +48,7 @@ fn write_next<W: Write>(
 ) -> Result<(), ScriptError>
     ensures ok { OnOk result (Appends (W.contents (device_of writer.old)) (W.contents (device_of writer.new)) (codes " " ++ token_text token)) }
     ensures err { OnErr result (WritesFront (W.contents (device_of writer.old)) (W.contents (device_of writer.new)) (codes " " ++ token_text token)) }
-    ensures cause { OnErr result ((result ≡ Err ScriptError.Write) × (has_failed writer.new ≡ true)) }
-    ensures unfailed { OnOk result (has_failed writer.new ≡ has_failed writer.old) }
+    ensures faults { WritesOrFails (has_failed writer.old) (has_failed writer.new) result }
 {
     write_whole(writer, b" ")?;
     write_token(writer, token)
@@ -66,8 +61,7 @@ fn write_token<W: Write>(
 ) -> Result<(), ScriptError>
     ensures ok { OnOk result (Appends (W.contents (device_of writer.old)) (W.contents (device_of writer.new)) (token_text token)) }
     ensures err { OnErr result (WritesFront (W.contents (device_of writer.old)) (W.contents (device_of writer.new)) (token_text token)) }
-    ensures cause { OnErr result ((result ≡ Err ScriptError.Write) × (has_failed writer.new ≡ true)) }
-    ensures unfailed { OnOk result (has_failed writer.new ≡ has_failed writer.old) }
+    ensures faults { WritesOrFails (has_failed writer.old) (has_failed writer.new) result }
 {
     let (start, len, value) = token;
     write_field(writer, start)?;
@@ -79,8 +73,7 @@ fn write_token<W: Write>(
 fn write_field<W: Write>(writer: &mut Watched<W>, number: usize) -> Result<(), ScriptError>
     ensures ok { OnOk result (Appends (W.contents (device_of writer.old)) (W.contents (device_of writer.new)) (field number)) }
     ensures err { OnErr result (WritesFront (W.contents (device_of writer.old)) (W.contents (device_of writer.new)) (field number)) }
-    ensures cause { OnErr result ((result ≡ Err ScriptError.Write) × (has_failed writer.new ≡ true)) }
-    ensures unfailed { OnOk result (has_failed writer.new ≡ has_failed writer.old) }
+    ensures faults { WritesOrFails (has_failed writer.old) (has_failed writer.new) result }
 {
     let mut figures = Buffer::new();
     write_whole(writer, figures.format(number).as_bytes())?;
@@ -91,8 +84,7 @@ fn write_field<W: Write>(writer: &mut Watched<W>, number: usize) -> Result<(), S
 fn write_value<W: Write>(writer: &mut Watched<W>, value: Option<i32>) -> Result<(), ScriptError>
     ensures ok { OnOk result (Appends (W.contents (device_of writer.old)) (W.contents (device_of writer.new)) (number_text value)) }
     ensures err { OnErr result (WritesFront (W.contents (device_of writer.old)) (W.contents (device_of writer.new)) (number_text value)) }
-    ensures cause { OnErr result ((result ≡ Err ScriptError.Write) × (has_failed writer.new ≡ true)) }
-    ensures unfailed { OnOk result (has_failed writer.new ≡ has_failed writer.old) }
+    ensures faults { WritesOrFails (has_failed writer.old) (has_failed writer.new) result }
 {
     match value {
         Some(value) => {

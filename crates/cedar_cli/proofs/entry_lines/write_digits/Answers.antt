@@ -19,4 +19,4 @@ loop-rest-preserved g c =
     let i = c.loop-rest.invariant in
     let more = digits_more (g.W.Write.contents (device_of c.args.writer.now)) (g.W.Write.contents (device_of c.loop-rest.writer)) (g.W.Write.contents (device_of c.write_piece.new.writer))
     c.args.bytes.now i.0 c.loop-rest.rest.now c.min-count.result i.1 i.2 c.in_ok-write_piece.ensures.ok in
-    (more.0, more.1, more.2, c.in_ok-write_piece.ensures.unfailed ∙ i.3)
+    (more.0, more.1, more.2, c.in_ok-write_piece.ensures.faults.unfailed ∙ i.3)

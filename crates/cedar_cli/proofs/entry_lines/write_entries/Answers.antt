@@ -41,7 +41,7 @@ loop-entry-preserved g c =
       i.1 ∙ ap (λ l. came ++ l) step ∙ sym (append_assoc came (e ∷ []) c.next.new.self),
       subst (Appends held holds) (sym (lines_push came e)) (Appends-append held begun holds (entry_lines came) (entry_line e) i.2
           (subst (λ (x : Entry). Appends begun holds (entry_line x)) same c.in_ok-write_entry.ensures.ok)),
-      c.in_ok-write_entry.ensures.unfailed ∙ i.3,
+      c.in_ok-write_entry.ensures.faults.unfailed ∙ i.3,
     )
 
 pub returns-clause-ok : goal.returns-clause-ok

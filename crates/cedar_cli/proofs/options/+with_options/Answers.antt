@@ -1,20 +1,20 @@
 use Rattle.std.proofs.Common.{◌≡◌, ◌∷◌, false, not, sym, ap, ◌∙◌}
 use Rattle.std.specs.Prelude.{codes, is_some}
-use Rattle.cedar_cli.specs.Options.{asked_besides, is_new, shown, words}
+use Rattle.cedar_cli.specs.Options.{request_besides, is_new, request_in, words}
 use Rattle.cedar_cli.proofs.Begun.{given_before, load_first, none_given, ordered_given, other_word, reduced_first, save_first, some_given, unordered_first, v1_0_first}
 use Rattle.cedar_cli.proofs.options.+with_options.Goals as goal
 use Rattle.cedar_cli.proofs.options.+with_options.Goals.{else-eq-via-then-eq+else-options, else-eq-via-else-eq, else-eq-2-via-then-eq-2+else-not-options, else-eq-2-via-else-eq-2, else-eq-3-via-then-eq-3+else-not-options-2, else-eq-3-via-else-eq-3, else-eq-4-via-then-eq-4+else-is_none, else-eq-4-via-else-eq-4}
 
 pub returns-then-options : goal.returns-then-options
 returns-then-options t c =
-    let asked = shown c.args.options in
+    let asked = request_in c.args.options in
     c.with_options.ensures
     ∙ sym (unordered_first asked c.in-Some.word.now.now (words c.in-Some.after.now) (sym c.eq.ensures ∙ c.if-eq.true) c.if-options.true)
-    ∙ ap (λ ws. asked_besides asked (words ws)) (sym c.in-Some.ensures.cases.0)
+    ∙ ap (λ ws. request_besides asked (words ws)) (sym c.in-Some.ensures.cases.0)
 
 pub returns-then-not-options : goal.returns-then-not-options
 returns-then-not-options t c =
-    let asked = shown c.args.options in
+    let asked = request_in c.args.options in
     let word = c.in-Some.word.now.now in
     let other : is_new word (codes "--unordered") (not asked.ordered) ≡ false = elim c.else-eq.branch [
       | else-eq-via-then-eq+else-options w ↦ ordered_given word (codes "--unordered") asked.ordered w.if-options.false
@@ -22,11 +22,11 @@ returns-then-not-options t c =
     ] in
     c.with_options-then-not-options.ensures
     ∙ sym (v1_0_first asked word (words c.in-Some.after.now) other (sym c.eq-2.ensures ∙ c.if-eq-2.true) c.if-not-options.true)
-    ∙ ap (λ ws. asked_besides asked (words ws)) (sym c.in-Some.ensures.cases.0)
+    ∙ ap (λ ws. request_besides asked (words ws)) (sym c.in-Some.ensures.cases.0)
 
 pub returns-then-not-options-2 : goal.returns-then-not-options-2
 returns-then-not-options-2 t c =
-    let asked = shown c.args.options in
+    let asked = request_in c.args.options in
     let word = c.in-Some.word.now.now in
     let other : is_new word (codes "--unordered") (not asked.ordered) ≡ false = elim c.else-eq.branch [
       | else-eq-via-then-eq+else-options w ↦ ordered_given word (codes "--unordered") asked.ordered w.if-options.false
@@ -38,11 +38,11 @@ returns-then-not-options-2 t c =
     ] in
     c.with_options-then-not-options-2.ensures
     ∙ sym (reduced_first asked word (words c.in-Some.after.now) other kept (sym c.eq-3.ensures ∙ c.if-eq-3.true) c.if-not-options-2.true)
-    ∙ ap (λ ws. asked_besides asked (words ws)) (sym c.in-Some.ensures.cases.0)
+    ∙ ap (λ ws. request_besides asked (words ws)) (sym c.in-Some.ensures.cases.0)
 
 pub returns-then-is_none : goal.returns-then-is_none
 returns-then-is_none t c =
-    let asked = shown c.args.options in
+    let asked = request_in c.args.options in
     let word = c.in-Some.word.now.now in
     let other : is_new word (codes "--unordered") (not asked.ordered) ≡ false = elim c.else-eq.branch [
       | else-eq-via-then-eq+else-options w ↦ ordered_given word (codes "--unordered") asked.ordered w.if-options.false
@@ -58,12 +58,12 @@ returns-then-is_none t c =
     ] in
     c.with_options-then-is_none.ensures
     ∙ sym (load_first asked word c.in_ok-path.path.now.now (words c.in_ok-path.after.now) other kept wide (sym c.eq-4.ensures ∙ c.if-eq-4.true) (none_given c.args.options.load (c.is_none.ensures ∙ ap not c.if-is_none.true)))
-    ∙ ap (λ ws. asked_besides asked (word ∷ words ws)) (sym c.in_ok-path.ensures.cases.0)
-    ∙ ap (λ ws. asked_besides asked (words ws)) (sym c.in-Some.ensures.cases.0)
+    ∙ ap (λ ws. request_besides asked (word ∷ words ws)) (sym c.in_ok-path.ensures.cases.0)
+    ∙ ap (λ ws. request_besides asked (words ws)) (sym c.in-Some.ensures.cases.0)
 
 pub returns-then-is_none-2 : goal.returns-then-is_none-2
 returns-then-is_none-2 t c =
-    let asked = shown c.args.options in
+    let asked = request_in c.args.options in
     let word = c.in-Some.word.now.now in
     let other : is_new word (codes "--unordered") (not asked.ordered) ≡ false = elim c.else-eq.branch [
       | else-eq-via-then-eq+else-options w ↦ ordered_given word (codes "--unordered") asked.ordered w.if-options.false
@@ -83,5 +83,5 @@ returns-then-is_none-2 t c =
     ] in
     c.with_options-then-is_none-2.ensures
     ∙ sym (save_first asked word c.in_ok-path.path.now.now (words c.in_ok-path.after.now) other kept wide old (sym c.eq-5.ensures ∙ c.if-eq-5.true) (none_given c.args.options.save (c.is_none-then-eq-5.ensures ∙ ap not c.if-is_none-2.true)))
-    ∙ ap (λ ws. asked_besides asked (word ∷ words ws)) (sym c.in_ok-path.ensures.cases.0)
-    ∙ ap (λ ws. asked_besides asked (words ws)) (sym c.in-Some.ensures.cases.0)
+    ∙ ap (λ ws. request_besides asked (word ∷ words ws)) (sym c.in_ok-path.ensures.cases.0)
+    ∙ ap (λ ws. request_besides asked (words ws)) (sym c.in-Some.ensures.cases.0)

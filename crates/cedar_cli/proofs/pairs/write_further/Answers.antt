@@ -2,7 +2,7 @@ use Rattle.std.proofs.Common.{◌++◌, ◌∷◌, ◌∙◌, [], ℕ, ℤ, ap, 
 use Rattle.std.specs.Prelude.{codes}
 use Rattle.std.specs.Io.KnownBytes.{Appends}
 use Rattle.cedarwood.specs.WatchedDevice.{device_of}
-use Rattle.cedar_cli.specs.Script.{pair_text, spaced}
+use Rattle.cedar_cli.specs.Script.{pair_text, spaced_texts}
 use Rattle.cedar_cli.proofs.Bytes.{Appends-append, Appends-none, on_err}
 use Rattle.cedar_cli.proofs.JoinedLines.{spaced_push, spaced_stopped}
 use Rattle.cedar_cli.proofs.pairs.write_further.Goals as goal
@@ -20,8 +20,8 @@ loop-pair-preserved g c =
     let holds = g.W.Write.contents (device_of c.write_after_space.new.writer) in (
       came ++ pair ∷ [],
       i.1 ∙ ap (λ l. came ++ l) c.in-Some.ensures ∙ sym (append_assoc came (pair ∷ []) (g.P.Pairs.left c.next_pair.new.self)),
-      subst (Appends held holds) (sym (spaced_push pair_text came pair)) (Appends-append held begun holds (spaced pair_text came) (codes " " ++ pair_text pair) i.2 c.in_ok-write_after_space.ensures.ok),
-      c.in_ok-write_after_space.ensures.unfailed ∙ i.3,
+      subst (Appends held holds) (sym (spaced_push pair_text came pair)) (Appends-append held begun holds (spaced_texts pair_text came) (codes " " ++ pair_text pair) i.2 c.in_ok-write_after_space.ensures.ok),
+      c.in_ok-write_after_space.ensures.faults.unfailed ∙ i.3,
     )
 
 pub returns-in_err-write_after_space-clause-err : goal.returns-in_err-write_after_space-clause-err

@@ -1,7 +1,7 @@
 use Rattle.std.proofs.Common.{◌++◌, ◌∷◌, [], ℕ, List, subst}
 use Rattle.std.specs.Prelude.{OnErr}
 use Rattle.cedarwood.specs.WatchedDevice.{device_of}
-use Rattle.cedar_cli.specs.Script.{WritesFront, pair_text, spaced}
+use Rattle.cedar_cli.specs.Script.{WritesFront, pair_text, spaced_texts}
 use Rattle.cedar_cli.proofs.Bytes.{front_more, on_err, then_err}
 use Rattle.cedar_cli.proofs.JoinedLines.{joined_line}
 use Rattle.cedar_cli.proofs.pairs.write_pairs.Goals as goal
@@ -13,7 +13,7 @@ returns-in_err-write_pair-clause-err g c =
     let holds = g.W.Write.contents (device_of c.write_pair.new.writer) in
     on_err c.from_residual.result
     (subst (WritesFront held holds) (joined_line pair_text (g.P.Pairs.left c.args.pairs.now) later c.in-Some.first c.in-Some.ensures)
-    (front_more held holds (pair_text c.in-Some.first) (spaced pair_text later ++ 10 ∷ []) c.in_err-write_pair.ensures.err))
+    (front_more held holds (pair_text c.in-Some.first) (spaced_texts pair_text later ++ 10 ∷ []) c.in_err-write_pair.ensures.err))
 
 pub returns-clause-err : goal.returns-clause-err
 returns-clause-err g c =
@@ -22,4 +22,4 @@ returns-clause-err g c =
     let begun = g.W.Write.contents (device_of c.write_pair.new.writer) in
     let holds = g.W.Write.contents (device_of c.write_further.new.writer) in
     subst (λ (line : List ℕ). OnErr c.write_further.result (WritesFront held holds line)) (joined_line pair_text (g.P.Pairs.left c.args.pairs.now) later c.in-Some.first c.in-Some.ensures)
-    (then_err c.write_further.result held begun holds (pair_text c.in-Some.first) (spaced pair_text later ++ 10 ∷ []) c.in_ok-write_pair.ensures.ok c.write_further.ensures.err)
+    (then_err c.write_further.result held begun holds (pair_text c.in-Some.first) (spaced_texts pair_text later ++ 10 ∷ []) c.in_ok-write_pair.ensures.ok c.write_further.ensures.err)

@@ -1,8 +1,8 @@
 use Rattle.std.proofs.lemmas.Result.{err_from_is_err_and}
 use Rattle.cedar_cli.proofs.Faults.{no_success}
 use Rattle.cedarwood.specs.WatchedDevice.{device_of}
-use Rattle.cedar_cli.specs.Options.{empty, shown}
-use Rattle.cedar_cli.specs.Seen.{seen}
+use Rattle.cedar_cli.specs.Options.{empty, request_in}
+use Rattle.cedar_cli.specs.View.{view_of}
 use Rattle.cedar_cli.proofs.Begun.{begins_empty, on_ok}
 use Rattle.cedar_cli.proofs.Runs.{none_front}
 use Rattle.cedar_cli.proofs.program.run_options.Goals as goal
@@ -10,15 +10,15 @@ use Rattle.cedar_cli.proofs.program.run_options.Goals as goal
 pub returns-then-not-fits-clause-begun : goal.returns-then-not-fits-clause-begun
 returns-then-not-fits-clause-begun g c =
     let s = empty g.L.Layout.kind c.args.options.ordered in
-    (s, begins_empty g.L.Layout.kind (shown c.args.options), none_front s (g.W.Write.contents (device_of c.args.writer.now)) (g.R.Read.remaining (device_of c.args.reader.now)))
+    (s, begins_empty g.L.Layout.kind (request_in c.args.options), none_front s (g.W.Write.contents (device_of c.args.writer.now)) (g.R.Read.remaining (device_of c.args.reader.now)))
 
 pub returns-in_err-trie-clause-begun : goal.returns-in_err-trie-clause-begun
 returns-in_err-trie-clause-begun g c =
     let s = empty g.L.Layout.kind c.args.options.ordered in
-    (s, begins_empty g.L.Layout.kind (shown c.args.options), none_front s (g.W.Write.contents (device_of c.args.writer.now)) (g.R.Read.remaining (device_of c.args.reader.now)))
+    (s, begins_empty g.L.Layout.kind (request_in c.args.options), none_front s (g.W.Write.contents (device_of c.args.writer.now)) (g.R.Read.remaining (device_of c.args.reader.now)))
 
 pub returns-in-Ok-clause-ok : goal.returns-in-Ok-clause-ok
-returns-in-Ok-clause-ok g c = on_ok c.save.result (seen g.L.Layout.kind c.in_ok-trie.trie, c.in_ok-trie.ensures, c.in-Ok.ensures.ok)
+returns-in-Ok-clause-ok g c = on_ok c.save.result (view_of g.L.Layout.kind c.in_ok-trie.trie, c.in_ok-trie.ensures, c.in-Ok.ensures.ok)
 
 pub returns-in-Ok-clause-unfailed : goal.returns-in-Ok-clause-unfailed
 returns-in-Ok-clause-unfailed g c = on_ok c.save.result c.in-Ok.ensures.unfailed
@@ -34,7 +34,7 @@ returns-in_err-trie-clause-unfailed g c =
     no_success _ c.from_residual.result p.0 p.1
 
 pub returns-in-Ok-clause-begun : goal.returns-in-Ok-clause-begun
-returns-in-Ok-clause-begun g c = (seen g.L.Layout.kind c.in_ok-trie.trie, c.in_ok-trie.ensures, c.answer_script.ensures.begun)
+returns-in-Ok-clause-begun g c = (view_of g.L.Layout.kind c.in_ok-trie.trie, c.in_ok-trie.ensures, c.answer_script.ensures.begun)
 
 pub returns-clause-begun : goal.returns-clause-begun
-returns-clause-begun g c = (seen g.L.Layout.kind c.in_ok-trie.trie, c.in_ok-trie.ensures, c.answer_script.ensures.begun)
+returns-clause-begun g c = (view_of g.L.Layout.kind c.in_ok-trie.trie, c.in_ok-trie.ensures, c.answer_script.ensures.begun)

@@ -1,159 +1,118 @@
 use Rattle.std.proofs.lemmas.Result.{err_from_is_err_and}
-use Rattle.cedar_cli.specs.declared.script.ScriptError.TheVariants.{Write, Memory, SlotLimit}
-use Rattle.cedar_cli.proofs.Begun.{on_ok}
-use Rattle.std.proofs.Common.{Err, refl, ap, length-append, ◌+◌, ◌≡◌, arith, length, sym, subst, ◌∙◌, ◌++◌, ◌∷◌, [], List, ℕ, append_assoc}
-use Rattle.cedarwood.specs.WatchedDevice.{device_of}
+use Rattle.std.proofs.Common.{Err, refl, ap, length-append, ◌+◌, ◌≡◌, ◌<◌, arith, length, sym, subst, ◌∙◌, ◌++◌, ◌∷◌, [], List, ℕ, append_assoc}
+use Rattle.cedarwood.specs.WatchedDevice.{device_of, has_failed}
 use Rattle.cedar_cli.specs.Command.{order_of}
-use Rattle.cedar_cli.specs.Script.{Obeys, Leaves, Advances, Stops}
-use Rattle.cedar_cli.specs.Seen.{seen}
+use Rattle.cedar_cli.specs.Script.{LineMayLackMemory, Obeys, Leaves, Advances, Stops}
+use Rattle.cedar_cli.specs.View.{view_of}
+use Rattle.cedar_cli.specs.declared.script.ScriptError.TheVariants.{Memory}
+use Rattle.cedar_cli.proofs.Begun.{on_ok}
 use Rattle.cedar_cli.proofs.BlockCounts.{no_blocks, within_more}
-use Rattle.cedar_cli.proofs.Bytes.{line_done, line_left, not_begun, that_fault}
+use Rattle.cedar_cli.proofs.Bytes.{line_done, line_left, may_stop, not_begun, that_fault}
 use Rattle.cedar_cli.proofs.Runs.{short_line}
-use Rattle.cedar_cli.proofs.Newlines.{open_append, taken_on_ok, stopped_on_err}
-use Rattle.cedar_cli.proofs.Faults.{memory_no_write, memory_no_read, memory_no_limit, no_success}
+use Rattle.cedar_cli.proofs.Newlines.{long_line_stop, open_append, taken_on_ok, stopped_on_err}
+use Rattle.cedar_cli.proofs.Faults.{fault_on, memory_fault, memory_no_limit, no_success}
 use Rattle.cedar_cli.proofs.script.end_line.Goals as goal
 
-pub returns-then-is_empty-clause-ok : goal.returns-then-is_empty-clause-ok
-returns-then-is_empty-clause-ok g c =
-    let len : length c.args.line.now.items ≡ c.args.line.now.len = omega (arith, c.args.line.now.ok.0) in
-    let none : c.args.line.now.items ≡ [] = short_line c.args.line.now.items c.args.line.now.len len (sym c.is_empty.ensures ∙ c.if-is_empty.true) in
-    rw none (taken_on_ok c.answer_line.result (seen g.L.Layout.kind c.args.trie.now) (seen g.L.Layout.kind c.answer_line.new.trie) (g.W.Write.contents (device_of c.args.writer.now)) (g.W.Write.contents (device_of c.answer_line.new.writer)) c.args.piece.now
-    c.requires.open_piece c.answer_line.ensures.ok)
-
-pub returns-then-is_empty-clause-err : goal.returns-then-is_empty-clause-err
-returns-then-is_empty-clause-err g c =
-    let len : length c.args.line.now.items ≡ c.args.line.now.len = omega (arith, c.args.line.now.ok.0) in
-    let none : c.args.line.now.items ≡ [] = short_line c.args.line.now.items c.args.line.now.len len (sym c.is_empty.ensures ∙ c.if-is_empty.true) in
-    rw none (stopped_on_err c.answer_line.result (seen g.L.Layout.kind c.args.trie.now) (seen g.L.Layout.kind c.answer_line.new.trie) (g.W.Write.contents (device_of c.args.writer.now)) (g.W.Write.contents (device_of c.answer_line.new.writer)) c.args.piece.now
-    c.requires.open_piece c.answer_line.ensures.err)
-
-pub returns-in_default-clause-err : goal.returns-in_default-clause-err
-returns-in_default-clause-err g c =
-    not_begun Memory (seen g.L.Layout.kind c.args.trie.now) (g.W.Write.contents (device_of c.args.writer.now)) (c.args.line.now.items ++ (c.args.piece.now ++ 10 ∷ []))
-
-pub returns-in_err-answer_line-clause-err : goal.returns-in_err-answer_line-clause-err
-returns-in_err-answer_line-clause-err g c =
-    let fault = c.in_err-answer_line.field-0.0 in
-    let old = seen g.L.Layout.kind c.args.trie.now in
-    let new = seen g.L.Layout.kind c.answer_line-2.new.trie in
+pub returns-then-is_empty : goal.returns-then-is_empty
+returns-then-is_empty g c =
+    let slots = g.row.SLOTS in
+    let line = c.args.line.now.items in
+    let piece = c.args.piece.now in
+    let before = c.args.trie.now in
+    let after = c.answer_with_room.new.trie in
+    let old = view_of g.L.Layout.kind before in
+    let new = view_of g.L.Layout.kind after in
     let held = g.W.Write.contents (device_of c.args.writer.now) in
-    let holds = g.W.Write.contents (device_of c.answer_line-2.new.writer) in
+    let holds = g.W.Write.contents (device_of c.answer_with_room.new.writer) in
+    let answered = c.answer_with_room.ensures in
+    let len : length line ≡ c.args.line.now.len = omega (arith, c.args.line.now.ok.0) in
+    let none : line ≡ [] = short_line line c.args.line.now.len len (sym c.is_empty.ensures ∙ c.if-is_empty.true) in
+    record {
+      empty = on_ok c.answer_with_room.result none;
+      kept = (c.requires.room.0, answered.kept);
+      ok = rw none (taken_on_ok c.answer_with_room.result old new held holds piece c.requires.open_piece answered.answer.ok);
+      err = rw none (stopped_on_err slots after c.answer_with_room.result old new held holds piece c.requires.open_piece answered.memory answered.answer.err);
+      faults = answered.faults;
+      limit = answered.limit;
+      blocks = within_more (length piece) (length line + length piece) before after (omega arith) answered.blocks;
+      max_trial = answered.max_trial;
+    }
+
+pub returns-in_default : goal.returns-in_default
+returns-in_default g c =
+    let line = c.args.line.now.items in
+    let piece = c.args.piece.now in
+    let d = c.args.trie.now in
+    let room = c.requires.room.0 in
+    let full = c.in_default.ensures.full in
+    let long : 8192 < length (line ++ piece) = omega (arith, room, full, c.args.line.now.ok.0, length-append line piece) in
+    record {
+      empty = tt;
+      kept = ((let grown = c.extend_from_slice.ensures.capacity in omega (arith, room, grown)), c.requires.room.1);
+      ok = tt;
+      err = not_begun g.row.SLOTS d Memory (view_of g.L.Layout.kind d) (g.W.Write.contents (device_of c.args.writer.now)) (line ++ (piece ++ 10 ∷ []))
+          (λ rest. long_line_stop g.row.SLOTS d line piece rest c.requires.«open» c.requires.open_piece long);
+      faults = memory_fault (has_failed c.args.writer.now);
+      limit = λ same. memory_no_limit same;
+      blocks = no_blocks (length line + length piece) d;
+      max_trial = refl;
+    }
+
+pub returns-in_err-answer_with_room : goal.returns-in_err-answer_with_room
+returns-in_err-answer_with_room g c =
+    let slots = g.row.SLOTS in
+    let fault = c.in_err-answer_with_room.field-0.0 in
+    let before = c.args.trie.now in
+    let after = c.answer_with_room-2.new.trie in
+    let old = view_of g.L.Layout.kind before in
+    let new = view_of g.L.Layout.kind after in
+    let held = g.W.Write.contents (device_of c.args.writer.now) in
+    let holds = g.W.Write.contents (device_of c.answer_with_room-2.new.writer) in
     let line = c.args.line.now.items in
     let piece = c.args.piece.now in
     let whole : c.as_slice.result.now ≡ line ++ piece = c.as_slice.ensures.value ∙ c.in-Ok.ensures.items in
-    let left : Leaves fault (order_of (line ++ piece)) old new held holds = subst (λ (l : List ℕ). Leaves fault (order_of l) old new held holds) whole c.in_err-answer_line.ensures.err in
+    let left : Leaves fault (order_of (line ++ piece)) old new held holds = subst (λ (l : List ℕ). Leaves fault (order_of l) old new held holds) whole c.in_err-answer_with_room.ensures.answer.err in
     let p = err_from_is_err_and c.from_residual.result c.from_residual.ensures.1 in
     let is : c.from_residual.result ≡ Err fault = cc (p.1, p.2) in
-    that_fault _ c.from_residual.result fault is (subst (Stops fault old new held holds) (append_assoc line piece (10 ∷ []))
-    (line_left fault old new held holds (line ++ piece) (open_append line piece c.requires.«open» c.requires.open_piece) left))
+    let was : c.answer_with_room-2.result ≡ Err fault = cc (c.in_err-answer_with_room.was) in
+    let same : c.answer_with_room-2.result ≡ c.from_residual.result = was ∙ sym is in
+    let may : c.answer_with_room-2.result ≡ Err Memory → LineMayLackMemory slots (line ++ piece) after =
+    λ starved. subst (λ (l : List ℕ). LineMayLackMemory slots l after) whole (c.answer_with_room-2.ensures.memory starved) in
+    record {
+      empty = no_success _ c.from_residual.result p.0 p.1;
+      kept = ((let room = c.requires.room.0 in let grown = c.extend_from_slice.ensures.capacity in omega (arith, room, grown)), c.answer_with_room-2.ensures.kept);
+      ok = no_success _ c.from_residual.result p.0 p.1;
+      err = that_fault _ c.from_residual.result fault is (subst (Stops slots after fault old new held holds) (append_assoc line piece (10 ∷ []))
+          (line_left slots after fault old new held holds (line ++ piece) (open_append line piece c.requires.«open» c.requires.open_piece)
+          (λ lines. may_stop slots after (line ++ piece) lines c.answer_with_room-2.result fault was may) left));
+      faults = fault_on (has_failed c.args.writer.now) (has_failed c.answer_with_room-2.new.writer) c.answer_with_room-2.result c.from_residual.result same c.answer_with_room-2.ensures.faults;
+      limit = λ full. c.answer_with_room-2.ensures.limit (same ∙ full);
+      blocks = within_more (length c.as_slice.result.now) (length line + length piece) before after (let equal = ap length whole in omega (arith, equal, length-append line piece)) c.answer_with_room-2.ensures.blocks;
+      max_trial = c.answer_with_room-2.ensures.max_trial;
+    }
 
 pub returns-clause-ok : goal.returns-clause-ok
 returns-clause-ok g c =
-    let old = seen g.L.Layout.kind c.args.trie.now in
-    let new = seen g.L.Layout.kind c.answer_line-2.new.trie in
+    let old = view_of g.L.Layout.kind c.args.trie.now in
+    let new = view_of g.L.Layout.kind c.answer_with_room-2.new.trie in
     let held = g.W.Write.contents (device_of c.args.writer.now) in
-    let holds = g.W.Write.contents (device_of c.answer_line-2.new.writer) in
+    let holds = g.W.Write.contents (device_of c.answer_with_room-2.new.writer) in
     let line = c.args.line.now.items in
     let piece = c.args.piece.now in
     let whole : c.as_slice.result.now ≡ line ++ piece = c.as_slice.ensures.value ∙ c.in-Ok.ensures.items in
-    let obeyed : Obeys (order_of (line ++ piece)) old new held holds = subst (λ (l : List ℕ). Obeys (order_of l) old new held holds) whole c.in_ok-answer_line.ensures.ok in
+    let answered : Obeys (order_of (line ++ piece)) old new held holds = subst (λ (l : List ℕ). Obeys (order_of l) old new held holds) whole c.in_ok-answer_with_room.ensures.answer.ok in
     subst (λ (text : List ℕ). Advances old new held holds text []) (append_assoc line piece (10 ∷ []))
-    (line_done old new held holds (line ++ piece) (open_append line piece c.requires.«open» c.requires.open_piece) obeyed)
+    (line_done old new held holds (line ++ piece) (open_append line piece c.requires.«open» c.requires.open_piece) answered)
 
-pub returns-then-is_empty-clause-blocks : goal.returns-then-is_empty-clause-blocks
-returns-then-is_empty-clause-blocks g c =
-    let piece = c.args.piece.now in
-    within_more (length piece) (length c.args.line.now.items + length piece) c.args.trie.now c.answer_line.new.trie (omega arith) c.answer_line.ensures.blocks
-
-pub returns-in_default-clause-blocks : goal.returns-in_default-clause-blocks
-returns-in_default-clause-blocks g c = no_blocks (length c.args.line.now.items + length c.args.piece.now) c.args.trie.now
-
-pub returns-in_err-answer_line-clause-blocks : goal.returns-in_err-answer_line-clause-blocks
-returns-in_err-answer_line-clause-blocks g c =
-    let line = c.args.line.now.items in
-    let piece = c.args.piece.now in
-    let whole : c.as_slice.result.now ≡ line ++ piece = c.as_slice.ensures.value ∙ c.in-Ok.ensures.items in
-    within_more (length c.as_slice.result.now) (length line + length piece) c.args.trie.now c.answer_line-2.new.trie (let same = ap length whole in omega (arith, same, length-append line piece)) c.answer_line-2.ensures.blocks
+pub returns-clause-kept : goal.returns-clause-kept
+returns-clause-kept g c = (
+  (let room = c.requires.room.0 in let grown = c.extend_from_slice.ensures.capacity in let kept = c.clear.ensures.capacity in omega (arith, room, grown, kept)),
+  c.answer_with_room-2.ensures.kept,
+)
 
 pub returns-clause-blocks : goal.returns-clause-blocks
 returns-clause-blocks g c =
     let line = c.args.line.now.items in
     let piece = c.args.piece.now in
     let whole : c.as_slice.result.now ≡ line ++ piece = c.as_slice.ensures.value ∙ c.in-Ok.ensures.items in
-    within_more (length c.as_slice.result.now) (length line + length piece) c.args.trie.now c.answer_line-2.new.trie (let same = ap length whole in omega (arith, same, length-append line piece)) c.answer_line-2.ensures.blocks
-
-pub returns-then-is_empty-clause-empty : goal.returns-then-is_empty-clause-empty
-returns-then-is_empty-clause-empty g c =
-    let len : length c.args.line.now.items ≡ c.args.line.now.len = omega (arith, c.args.line.now.ok.0) in
-    on_ok c.answer_line.result (short_line c.args.line.now.items c.args.line.now.len len (sym c.is_empty.ensures ∙ c.if-is_empty.true))
-
-pub returns-then-is_empty-clause-cause : goal.returns-then-is_empty-clause-cause
-returns-then-is_empty-clause-cause g c = c.answer_line.ensures.cause
-
-pub returns-then-is_empty-clause-unfailed : goal.returns-then-is_empty-clause-unfailed
-returns-then-is_empty-clause-unfailed g c = c.answer_line.ensures.unfailed
-
-pub returns-then-is_empty-clause-never_read : goal.returns-then-is_empty-clause-never_read
-returns-then-is_empty-clause-never_read g c = c.answer_line.ensures.never_read
-
-pub returns-then-is_empty-clause-limit : goal.returns-then-is_empty-clause-limit
-returns-then-is_empty-clause-limit g c = c.answer_line.ensures.limit
-
-pub returns-then-is_empty-clause-starved : goal.returns-then-is_empty-clause-starved
-returns-then-is_empty-clause-starved g c = c.answer_line.ensures.starved
-
-pub returns-then-is_empty-clause-full : goal.returns-then-is_empty-clause-full
-returns-then-is_empty-clause-full g c = c.answer_line.ensures.full
-
-pub returns-then-is_empty-clause-max_trial : goal.returns-then-is_empty-clause-max_trial
-returns-then-is_empty-clause-max_trial g c = c.answer_line.ensures.max_trial
-
-pub returns-in_default-clause-cause : goal.returns-in_default-clause-cause
-returns-in_default-clause-cause g c = λ same. memory_no_write same
-
-pub returns-in_default-clause-never_read : goal.returns-in_default-clause-never_read
-returns-in_default-clause-never_read g c = λ same. memory_no_read same
-
-pub returns-in_default-clause-limit : goal.returns-in_default-clause-limit
-returns-in_default-clause-limit g c = λ same. memory_no_limit same
-
-pub returns-in_default-clause-starved : goal.returns-in_default-clause-starved
-returns-in_default-clause-starved g c = λ same. refl
-
-pub returns-in_default-clause-full : goal.returns-in_default-clause-full
-returns-in_default-clause-full g c = λ same. refl
-
-pub returns-in_err-answer_line-clause-empty : goal.returns-in_err-answer_line-clause-empty
-returns-in_err-answer_line-clause-empty g c =
-    let p = err_from_is_err_and c.from_residual.result c.from_residual.ensures.1 in
-    no_success _ c.from_residual.result p.0 p.1
-
-pub returns-in_err-answer_line-clause-ok : goal.returns-in_err-answer_line-clause-ok
-returns-in_err-answer_line-clause-ok g c =
-    let p = err_from_is_err_and c.from_residual.result c.from_residual.ensures.1 in
-    no_success _ c.from_residual.result p.0 p.1
-
-pub returns-in_err-answer_line-clause-unfailed : goal.returns-in_err-answer_line-clause-unfailed
-returns-in_err-answer_line-clause-unfailed g c =
-    let p = err_from_is_err_and c.from_residual.result c.from_residual.ensures.1 in
-    no_success _ c.from_residual.result p.0 p.1
-
-pub returns-in_err-answer_line-clause-cause : goal.returns-in_err-answer_line-clause-cause
-returns-in_err-answer_line-clause-cause g c = λ is.
-    let p = err_from_is_err_and c.from_residual.result c.from_residual.ensures.1 in
-    let was : c.answer_line-2.result ≡ Err Write = cc (p.1, p.2, c.in_err-answer_line.was, is) in c.answer_line-2.ensures.cause was
-
-pub returns-in_err-answer_line-clause-limit : goal.returns-in_err-answer_line-clause-limit
-returns-in_err-answer_line-clause-limit g c = λ is.
-    let p = err_from_is_err_and c.from_residual.result c.from_residual.ensures.1 in
-    let was : c.answer_line-2.result ≡ Err SlotLimit = cc (p.1, p.2, c.in_err-answer_line.was, is) in c.answer_line-2.ensures.limit was
-
-pub returns-in_err-answer_line-clause-starved : goal.returns-in_err-answer_line-clause-starved
-returns-in_err-answer_line-clause-starved g c = λ is.
-    let p = err_from_is_err_and c.from_residual.result c.from_residual.ensures.1 in
-    let was : c.answer_line-2.result ≡ Err Memory = cc (p.1, p.2, c.in_err-answer_line.was, is) in c.answer_line-2.ensures.starved was
-
-pub returns-in_err-answer_line-clause-full : goal.returns-in_err-answer_line-clause-full
-returns-in_err-answer_line-clause-full g c = λ is.
-    let p = err_from_is_err_and c.from_residual.result c.from_residual.ensures.1 in
-    let was : c.answer_line-2.result ≡ Err SlotLimit = cc (p.1, p.2, c.in_err-answer_line.was, is) in c.answer_line-2.ensures.full was
+    within_more (length c.as_slice.result.now) (length line + length piece) c.args.trie.now c.answer_with_room-2.new.trie (let same = ap length whole in omega (arith, same, length-append line piece)) c.answer_with_room-2.ensures.blocks

@@ -3,7 +3,7 @@ use Rattle.std.specs.Prelude.{codes}
 use Rattle.std.specs.Io.KnownBytes.{Appends}
 use Rattle.cedarwood.specs.WatchedDevice.{device_of}
 use Rattle.cedar_words.specs.Words.{Token}
-use Rattle.cedar_cli.specs.Script.{spaced, token_text}
+use Rattle.cedar_cli.specs.Script.{spaced_texts, token_text}
 use Rattle.cedar_cli.proofs.Bytes.{Appends-append, on_err}
 use Rattle.cedar_cli.proofs.JoinedLines.{spaced_push, spaced_stopped}
 use Rattle.cedar_cli.proofs.tokens.write_spaced.Goals as goal
@@ -18,8 +18,8 @@ loop-token-preserved g c =
     let holds = g.W.Write.contents (device_of c.write_next.new.writer) in
     record {
       came = i.came ∙ ap (λ l. came ++ l) c.in-Some.ensures.steps ∙ sym (append_assoc came (t ∷ []) c.next.new.self);
-      written = subst (Appends held holds) (sym (spaced_push token_text came t)) (Appends-append held begun holds (spaced token_text came) (codes " " ++ token_text t) i.written c.in_ok-write_next.ensures.ok);
-      unfailed = c.in_ok-write_next.ensures.unfailed ∙ i.unfailed;
+      written = subst (Appends held holds) (sym (spaced_push token_text came t)) (Appends-append held begun holds (spaced_texts token_text came) (codes " " ++ token_text t) i.written c.in_ok-write_next.ensures.ok);
+      unfailed = c.in_ok-write_next.ensures.faults.unfailed ∙ i.unfailed;
     }
 
 pub returns-in_err-write_next-clause-err : goal.returns-in_err-write_next-clause-err

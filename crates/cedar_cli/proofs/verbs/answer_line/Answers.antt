@@ -1,0 +1,33 @@
+use Rattle.std.proofs.Common.{length, refl, take, ◌≡◌, Option, Some, None}
+use Rattle.std.specs.Prelude.{codes}
+use Rattle.cedarwood.specs.WatchedDevice.{device_of, has_failed}
+use Rattle.cedar_cli.specs.Command.{Order, order_of}
+use Rattle.cedar_cli.proofs.BlockCounts.{no_blocks, key_blocks}
+use Rattle.cedar_cli.proofs.Orders.{never_memory, told, write_alone}
+use Rattle.cedar_cli.proofs.Faults.{writers_fault}
+use Rattle.cedar_cli.proofs.verbs.answer_line.Goals as goal
+
+pub returns-in-None-clause-answer : goal.returns-in-None-clause-answer
+returns-in-None-clause-answer g c =
+    let e : ◌≡◌ {A = Option Order} None (order_of c.args.line.now) = rw c.in-None.is at c.parse_line.ensures.order in
+    let d = c.args.trie.now in
+    rw (← e) (told g.L.Layout.kind None d d (g.W.Write.contents (device_of c.args.writer.now)) (g.W.Write.contents (device_of c.write_whole.new.writer)) (codes "bad line\n")
+    c.write_whole.result refl refl refl c.write_whole.ensures.ok c.write_whole.ensures.err)
+
+pub returns-in-None-clause-faults : goal.returns-in-None-clause-faults
+returns-in-None-clause-faults g c = writers_fault (has_failed c.args.writer.now) (has_failed c.write_whole.new.writer) c.write_whole.result c.write_whole.ensures.faults
+
+pub returns-in-None-clause-memory : goal.returns-in-None-clause-memory
+returns-in-None-clause-memory g c = λ starved. absurd (never_memory _ c.write_whole.result c.write_whole.ensures.faults.cause starved)
+
+pub returns-in-None-clause-limit : goal.returns-in-None-clause-limit
+returns-in-None-clause-limit g c = λ full. let alone = write_alone _ c.write_whole.result c.write_whole.ensures.faults.cause in absurd (alone.1 full)
+
+pub returns-in-None-clause-blocks : goal.returns-in-None-clause-blocks
+returns-in-None-clause-blocks g c = no_blocks (length c.args.line.now) c.args.trie.now
+
+pub returns-in-Some-clause-blocks : goal.returns-in-Some-clause-blocks
+returns-in-Some-clause-blocks g c =
+    let key = take c.in-Some.command.key_len c.parse_line.new.room in
+    let e : ◌≡◌ {A = Option Order} (Some (c.in-Some.command.verb, key)) (order_of c.args.line.now) = rw c.in-Some.is at c.parse_line.ensures.order in
+    key_blocks c.args.line.now key c.in-Some.command.verb c.args.trie.now c.answer_command.new.trie e c.answer_command.ensures.blocks

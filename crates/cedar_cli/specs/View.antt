@@ -1,0 +1,71 @@
+-- What a script sees of a dictionary, and how storing and removing a key change that.
+use Rattle.std.specs.Prelude.{ℕ, ◌+◌, ℤ, Bool, true, false, not, ◌&&◌, ◌||◌, ◌==◌, if◌then◌else◌, List, [], ◌∷◌, length, is_some}
+use Rattle.cedar_tree.specs.Tree.{Tree, is_bare, number_at}
+use Rattle.cedar_tree.specs.Queries.{is_path, node_at, prefixes, used, walk}
+use Rattle.cedar_tree.specs.State.{State, stored, erased}
+use Rattle.cedar_model.specs.Table.Layouts.{LayoutKind, default_layout, reduced_layout}
+use Rattle.cedarwood.specs.Dictionary.{Dictionary, some_numbers}
+
+-- its layout, the state that its answers come from, and the tree with just those numbers that have slots of their own
+pub record View : Type 0 where
+  pub layout : LayoutKind
+  pub state : State
+  pub marked : Tree
+
+-- by default each number has a slot of its own
+abbrev pub marked_in : LayoutKind → Dictionary → Tree
+marked_in default_layout d = d.state.tree
+marked_in reduced_layout d = d.marked
+
+abbrev pub view_of : LayoutKind → Dictionary → View
+view_of layout d = record { layout = layout; state = d.state; marked = marked_in layout d }
+
+-- how many slots are held: one for the root, one for each nonempty front of a key, and one for each number that has a slot of
+-- its own, which by default is each
+abbrev pub slots_in : LayoutKind → View → ℕ
+slots_in default_layout s = used s.state.tree
+slots_in reduced_layout s = 1 + length (prefixes s.state.tree) + length (walk s.marked)
+
+abbrev pub slots_held : View → ℕ
+slots_held s = slots_in s.layout s
+
+-- of a tree's numbers those that have slots of their own: by default all, and else those whose paths pass a test
+abbrev pub marked_by : LayoutKind → (List ℕ → Bool) → Tree → Tree
+marked_by default_layout test t = t
+marked_by reduced_layout test t = some_numbers test t
+
+-- this state, where the numbers that have slots of their own are told by a test
+abbrev pub with_state : View → (List ℕ → Bool) → State → View
+with_state s test state = record { layout = s.layout; state = state; marked = marked_by s.layout test state.tree }
+
+-- whether the number at a path has a slot of its own
+abbrev pub has_slot : View → List ℕ → Bool
+has_slot s path = is_some (number_at s.marked path)
+
+abbrev pub is_held : View → List ℕ → Bool
+is_held s path = is_some (number_at s.state.tree path)
+
+-- whether a path is a shorter front of a key
+abbrev pub is_proper_front : List ℕ → List ℕ → Bool
+is_proper_front path [] = false
+is_proper_front [] (b ∷ key) = true
+is_proper_front (a ∷ path) (b ∷ key) = a == b && is_proper_front path key
+
+-- whether a path has a node, and so is a front of a key that is held
+abbrev pub has_node : Tree → List ℕ → Bool
+has_node t path = not (is_bare (node_at t path))
+
+-- whether the number at a path has a slot of its own once a key is stored. Over a number none moves. Those of a new key's fronts
+-- move into slots, and the new number is put into one where longer keys are held
+abbrev pub has_slot_beside : View → List ℕ → List ℕ → Bool
+has_slot_beside s key path =
+    if is_held s key then has_slot s path
+    else has_slot s path || ((is_proper_front path key && is_held s path) || (is_path path key && has_node s.state.tree key))
+
+-- what is seen once a key is stored
+abbrev pub put_in : View → List ℕ → ℤ → View
+put_in s key v = with_state s (has_slot_beside s key) (stored s.state key v)
+
+-- what is seen once a key is removed
+abbrev pub cut_in : View → List ℕ → View
+cut_in s key = with_state s (λ path. not (is_path path key) && has_slot s path) (erased s.state key)

@@ -1,0 +1,277 @@
+//! The answer to one line. A line whose answer isn't written whole changes no key and no value.
+
+ghost use Rattle.std.specs.Prelude.{◌≡◌, ◌⊎◌, ◌<◌, ◌≤◌, ◌*◌, ◌++◌, ◌∷◌, [], length, Some, None, MatchOption, IsSome, OnOk, OnErr};
+ghost use Rattle.cedar_cli.specs.Words.{Appends, Answers, Grows, GrowsWithin, IsPairFault, LineFault, MayLackMemory, WritesFront, WritesOrFails};
+ghost use Rattle.cedar_cli.specs.Words.{device_of, erased, fault, figures_text, found_text, has_failed, number_at, order_of, put_text, stored};
+
+use crate::command::{Verb, parse_line};
+use crate::entry_lines::write_entries;
+use crate::pairs::write_pairs;
+use crate::script::ScriptError;
+use crate::tokens::write_tokens;
+use crate::write::{write_line, write_whole};
+use cedar_words::segment;
+use cedarwood::{CedarError, Layout, Trie, Watched};
+use itoa::Buffer;
+use std::alloc::Allocator;
+use std::io::Write;
+
+/// Does what a line asks, and writes the answer. The line's key is read into `room`, which has a byte for two of the line's. A line whose answer
+/// isn't written whole changes no key and no value.
+pub(crate) fn answer_line<L: Layout, const SLOTS: usize, A: Allocator + Copy, W: Write>(
+    trie: &mut Trie<L, SLOTS, A>,
+    line: &[u8],
+    room: &mut [u8],
+    writer: &mut Watched<W>,
+) -> Result<(), ScriptError>
+    requires room { length line.now ≤ 2 * length room.old }
+    ensures answer { Answers L.kind (order_of line.now) trie.old trie.new (W.contents (device_of writer.old)) (W.contents (device_of writer.new)) result }
+    ensures faults { LineFault (has_failed writer.old) (has_failed writer.new) result }
+
+    // The line itself asks for no memory.
+    ensures memory { result ≡ Err ScriptError.Memory → MayLackMemory SLOTS (order_of line.now) trie.new }
+    ensures limit { result ≡ Err ScriptError.SlotLimit → trie.new.size ≡ SLOTS }
+    ensures blocks { GrowsWithin (length line.now) trie.old trie.new }
+    ensures max_trial { trie.new.max_trial ≡ trie.old.max_trial }
+    ensures len { length room.new ≡ length room.old }
+{
+    match parse_line(line, room) {
+        None => write_whole(writer, b"bad line\n"),
+        Some(command) => {
+            let key = &room[..command.key_len];
+            answer_command(trie, command.verb, key, writer)
+        }
+    }
+}
+
+/// Does what an order asks, and writes the answer.
+fn answer_command<L: Layout, const SLOTS: usize, A: Allocator + Copy, W: Write>(
+    trie: &mut Trie<L, SLOTS, A>,
+    verb: Verb,
+    key: &[u8],
+    writer: &mut Watched<W>,
+) -> Result<(), ScriptError>
+    ensures answer { Answers L.kind (Some (verb, key.now)) trie.old trie.new (W.contents (device_of writer.old)) (W.contents (device_of writer.new)) result }
+    ensures faults { LineFault (has_failed writer.old) (has_failed writer.new) result }
+
+    // Want of memory is told where the dictionary was refused a block that it may have, or a walk over all entries was refused its own.
+    ensures memory { result ≡ Err ScriptError.Memory → MayLackMemory SLOTS (Some (verb, key.now)) trie.new }
+    ensures limit { result ≡ Err ScriptError.SlotLimit → trie.new.size ≡ SLOTS }
+    ensures blocks { GrowsWithin (length key.now) trie.old trie.new }
+    ensures max_trial { trie.new.max_trial ≡ trie.old.max_trial }
+{
+    match verb {
+        Verb::Put(value) => answer_put(trie, key, value, writer),
+        Verb::Erase => answer_erase(trie, key, writer),
+        Verb::Exact => answer_exact(trie, key, writer),
+        Verb::Prefixes => answer_prefixes(trie, key, writer),
+        Verb::Predict => answer_predict(trie, key, writer),
+        Verb::Entries => answer_entries(trie, key, writer),
+        Verb::Figures => answer_figures(trie, key, writer),
+        Verb::Segment => answer_segment(trie, key, writer),
+    }
+}
+
+/// Stores a value, and answers. Where the answer can't be written, the value is taken back, which takes no
+/// memory: the key is erased, or its old value stored over the new one.
+fn answer_put<L: Layout, const SLOTS: usize, A: Allocator + Copy, W: Write>(
+    trie: &mut Trie<L, SLOTS, A>,
+    key: &[u8],
+    value: i32,
+    writer: &mut Watched<W>,
+) -> Result<(), ScriptError>
+    ensures answer { Answers L.kind (Some (Verb.Put value, key.now)) trie.old trie.new (W.contents (device_of writer.old)) (W.contents (device_of writer.new)) result }
+    ensures faults { LineFault (has_failed writer.old) (has_failed writer.new) result }
+    ensures memory { result ≡ Err ScriptError.Memory → (trie.new.size ≡ trie.new.capacity) × (trie.new.capacity < SLOTS) }
+    ensures limit { result ≡ Err ScriptError.SlotLimit → trie.new.size ≡ SLOTS }
+    ensures blocks { GrowsWithin (length key.now) trie.old trie.new }
+    ensures max_trial { trie.new.max_trial ≡ trie.old.max_trial }
+{
+    match trie.insert_bytes(key, value) {
+        Ok(before) => {
+            let written = write_whole(writer, b"ok\n");
+            if written.is_err() {
+                take_back(trie, key, before);
+            }
+            written
+        }
+        Err(error) => match error {
+            CedarError::Memory => Err(ScriptError::Memory),
+            CedarError::SlotLimit => Err(ScriptError::SlotLimit),
+            error => write_refusal(writer, error),
+        },
+    }
+}
+
+/// Answers whether a key is held, and then removes it.
+fn answer_erase<L: Layout, const SLOTS: usize, A: Allocator + Copy, W: Write>(
+    trie: &mut Trie<L, SLOTS, A>,
+    key: &[u8],
+    writer: &mut Watched<W>,
+) -> Result<(), ScriptError>
+    ensures answer { Answers L.kind (Some (Verb.Erase, key.now)) trie.old trie.new (W.contents (device_of writer.old)) (W.contents (device_of writer.new)) result }
+    ensures faults { WritesOrFails (has_failed writer.old) (has_failed writer.new) result }
+    ensures blocks { Grows 0 trie.old trie.new }
+    ensures max_trial { trie.new.max_trial ≡ trie.old.max_trial }
+{
+    match trie.exact_match_search_bytes(key) {
+        Some(_) => write_whole(writer, b"erased\n")?,
+        None => write_whole(writer, b"absent\n")?,
+    }
+    trie.erase_bytes(key);
+    Ok(())
+}
+
+/// Answers what a key holds.
+fn answer_exact<L: Layout, const SLOTS: usize, A: Allocator + Copy, W: Write>(
+    trie: &Trie<L, SLOTS, A>,
+    key: &[u8],
+    writer: &mut Watched<W>,
+) -> Result<(), ScriptError>
+    ensures answer { Answers L.kind (Some (Verb.Exact, key.now)) trie.now trie.now (W.contents (device_of writer.old)) (W.contents (device_of writer.new)) result }
+    ensures faults { WritesOrFails (has_failed writer.old) (has_failed writer.new) result }
+{
+    match trie.exact_match_search_bytes(key) {
+        Some((value, length)) => write_found(writer, value, length),
+        None => write_whole(writer, b"none\n"),
+    }
+}
+
+/// Answers the fronts of a query that are held.
+fn answer_prefixes<L: Layout, const SLOTS: usize, A: Allocator + Copy, W: Write>(
+    trie: &Trie<L, SLOTS, A>,
+    key: &[u8],
+    writer: &mut Watched<W>,
+) -> Result<(), ScriptError>
+    ensures answer { Answers L.kind (Some (Verb.Prefixes, key.now)) trie.now trie.now (W.contents (device_of writer.old)) (W.contents (device_of writer.new)) result }
+    ensures faults { WritesOrFails (has_failed writer.old) (has_failed writer.new) result }
+{
+    write_pairs(writer, &mut trie.common_prefix_iter_bytes(key))
+}
+
+/// Answers the keys that begin with a query.
+fn answer_predict<L: Layout, const SLOTS: usize, A: Allocator + Copy, W: Write>(
+    trie: &Trie<L, SLOTS, A>,
+    key: &[u8],
+    writer: &mut Watched<W>,
+) -> Result<(), ScriptError>
+    ensures answer { Answers L.kind (Some (Verb.Predict, key.now)) trie.now trie.now (W.contents (device_of writer.old)) (W.contents (device_of writer.new)) result }
+    ensures faults { WritesOrFails (has_failed writer.old) (has_failed writer.new) result }
+{
+    write_pairs(writer, &mut trie.common_prefix_predict_iter_bytes(key))
+}
+
+/// Answers all entries. The line has no key, so any key will do.
+fn answer_entries<L: Layout, const SLOTS: usize, A: Allocator + Copy, W: Write>(
+    trie: &Trie<L, SLOTS, A>,
+    key: &[u8],
+    writer: &mut Watched<W>,
+) -> Result<(), ScriptError>
+    ensures answer { Answers L.kind (Some (Verb.Entries, key.now)) trie.now trie.now (W.contents (device_of writer.old)) (W.contents (device_of writer.new)) result }
+    ensures faults { LineFault (has_failed writer.old) (has_failed writer.new) result }
+    ensures never_full { result ≡ Err ScriptError.SlotLimit → ⊥ }
+{
+    let Ok(entries) = trie.entries() else {
+        return Err(ScriptError::Memory);
+    };
+    write_entries(writer, entries)
+}
+
+/// Answers how many keys are held, and how many slots. The line has no key, so any key will do.
+fn answer_figures<L: Layout, const SLOTS: usize, A: Allocator + Copy, W: Write>(
+    trie: &Trie<L, SLOTS, A>,
+    key: &[u8],
+    writer: &mut Watched<W>,
+) -> Result<(), ScriptError>
+    ensures answer { Answers L.kind (Some (Verb.Figures, key.now)) trie.now trie.now (W.contents (device_of writer.old)) (W.contents (device_of writer.new)) result }
+    ensures faults { WritesOrFails (has_failed writer.old) (has_failed writer.new) result }
+{
+    write_figures(writer, trie.len(), trie.used_node_slots())
+}
+
+/// Answers the tokens of a text.
+fn answer_segment<L: Layout, const SLOTS: usize, A: Allocator + Copy, W: Write>(
+    trie: &Trie<L, SLOTS, A>,
+    text: &[u8],
+    writer: &mut Watched<W>,
+) -> Result<(), ScriptError>
+    ensures answer { Answers L.kind (Some (Verb.Segment, text.now)) trie.now trie.now (W.contents (device_of writer.old)) (W.contents (device_of writer.new)) result }
+    ensures faults { WritesOrFails (has_failed writer.old) (has_failed writer.new) result }
+{
+    write_tokens(writer, segment(trie, text))
+}
+
+/// Puts back what a key held before a value was stored.
+fn take_back<L: Layout, const SLOTS: usize, A: Allocator + Copy>(
+    trie: &mut Trie<L, SLOTS, A>,
+    key: &[u8],
+    before: Option<i32>,
+)
+    ensures blocks { MatchOption before (Grows 0 trie.old trie.new) (λ _. IsSome (number_at trie.old.state.tree key.now) → Grows 0 trie.old trie.new) }
+    ensures max_trial { trie.new.max_trial ≡ trie.old.max_trial }
+    ensures state { MatchOption before
+        (trie.new.state ≡ erased trie.old.state key.now)
+        (λ v. fault key.now v ≡ None → IsSome (number_at trie.old.state.tree key.now)
+        → trie.new.state ≡ stored trie.old.state key.now v) }
+{
+    match before {
+        Some(value) => {
+            let _ = trie.update_bytes(key, value);
+        }
+        None => {
+            trie.erase_bytes(key);
+        }
+    }
+}
+
+/// Writes the line of a pair's fault. It takes no memory.
+fn write_refusal<W: Write>(writer: &mut Watched<W>, error: CedarError) -> Result<(), ScriptError>
+    requires { IsPairFault error }
+    ensures ok { OnOk result (Appends (W.contents (device_of writer.old)) (W.contents (device_of writer.new)) (put_text (Some error) ++ 10 ∷ [])) }
+    ensures err { OnErr result (WritesFront (W.contents (device_of writer.old)) (W.contents (device_of writer.new)) (put_text (Some error) ++ 10 ∷ [])) }
+    ensures faults { WritesOrFails (has_failed writer.old) (has_failed writer.new) result }
+{
+    let mut figures = Buffer::new();
+    match error {
+        CedarError::EmptyKey => write_whole(writer, b"refused EmptyKey\n"),
+        CedarError::NulByte { position } => {
+            let position = figures.format(position);
+            write_line(writer, b"refused NulByte ", position.as_bytes())
+        }
+        CedarError::InvalidValue { value } => {
+            let value = figures.format(value);
+            write_line(writer, b"refused InvalidValue ", value.as_bytes())
+        }
+        _ => unreachable!(),
+    }
+}
+
+/// Writes the line of a key that is held. It takes no memory.
+fn write_found<W: Write>(
+    writer: &mut Watched<W>,
+    value: i32,
+    length: usize,
+) -> Result<(), ScriptError>
+    ensures ok { OnOk result (Appends (W.contents (device_of writer.old)) (W.contents (device_of writer.new)) (found_text (Some value) length ++ 10 ∷ [])) }
+    ensures err { OnErr result (WritesFront (W.contents (device_of writer.old)) (W.contents (device_of writer.new)) (found_text (Some value) length ++ 10 ∷ [])) }
+    ensures faults { WritesOrFails (has_failed writer.old) (has_failed writer.new) result }
+{
+    let mut figures = Buffer::new();
+    write_whole(writer, figures.format(value).as_bytes())?;
+    write_line(writer, b" ", figures.format(length).as_bytes())
+}
+
+/// Writes the line of two figures. It takes no memory.
+fn write_figures<W: Write>(
+    writer: &mut Watched<W>,
+    keys: usize,
+    slots: usize,
+) -> Result<(), ScriptError>
+    ensures ok { OnOk result (Appends (W.contents (device_of writer.old)) (W.contents (device_of writer.new)) (figures_text keys slots ++ 10 ∷ [])) }
+    ensures err { OnErr result (WritesFront (W.contents (device_of writer.old)) (W.contents (device_of writer.new)) (figures_text keys slots ++ 10 ∷ [])) }
+    ensures faults { WritesOrFails (has_failed writer.old) (has_failed writer.new) result }
+{
+    let mut figures = Buffer::new();
+    write_whole(writer, figures.format(keys).as_bytes())?;
+    write_line(writer, b" ", figures.format(slots).as_bytes())
+}
