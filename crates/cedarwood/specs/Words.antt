@@ -27,7 +27,7 @@ pub use Rattle.cedarwood.specs.Loading.{LacksByPath, LoadAnswers, LoadedFilesSav
 pub use Rattle.cedarwood.specs.Making.{IsEmpty, IsNew, IsRenewed, IsSorted, IsSortedBuild, default_settings}
 pub use Rattle.cedarwood.specs.OnTable.{IsOnTable}
 pub use Rattle.cedarwood.specs.Room.{LacksRoom}
-pub use Rattle.cedarwood.specs.Saving.{FailsToSave, FailsToWrite}
+pub use Rattle.cedarwood.specs.Saving.{FailsToSave, FailsToWrite, PassesAgain}
 pub use Rattle.cedarwood.specs.Shown.{entry_error_text, error_text, shown}
 pub use Rattle.cedarwood.specs.SortedInput.{AreBytes, HasNoNul, IsSharedFront, fault_behind, fault_from, fault_of_order, key_at, sorted_fault}
 pub use Rattle.cedarwood.specs.Told.{told}

@@ -1,10 +1,11 @@
 //! Files by their paths, through a buffer.
 
-ghost use Rattle.std.specs.Prelude.{◌≡◌, ◌≤◌, IfErr, IfOk, None, OnOk, length, ℕ};
-ghost use Rattle.cedarwood.specs.Words.{FailsToSave, IsSlotLimit, IsTableFile, IsWellFormed, LacksByPath, header_answer, header_of, layout_byte, need, table_bytes};
+ghost use Rattle.std.specs.Prelude.{IfErr, IfOk, OnOk, length};
+ghost use Rattle.cedarwood.specs.Words.{FailsToSave, IsSlotLimit, IsTableFile, IsWellFormed, LacksByPath, PassesAgain, layout_byte, table_bytes};
 
-use crate::persistence::replace::{Version, no_buffer};
+use crate::persistence::replace::no_buffer;
 use crate::{CedarPersistenceError, Layout, Trie, Watched};
+use cedar_format::{FULL_MINOR, MINOR};
 use std::alloc::Allocator;
 use std::fs::File;
 use std::io::BufReader;
@@ -32,9 +33,9 @@ impl<L: Layout, const SLOTS: usize, A: Allocator + Copy> Trie<L, SLOTS, A> {
         // The bytes that are written are the file of a well-formed table, which passes all steps of a load but those on
         // memory. What a device has kept of them no clause can say.
         ensures file { OnOk result (IsTableFile 1 SLOTS self.now.table (table_bytes 1 self.now.table)) }
-        ensures passes { OnOk result ((limit : ℕ) → need (header_of 1 self.now.table) ≤ limit → header_answer (layout_byte L.kind) SLOTS limit (table_bytes 1 self.now.table) ≡ None) }
+        ensures passes { OnOk result (PassesAgain L.kind SLOTS 1 self.now.table) }
     {
-        self.save_file(files, path, Version::Latest)
+        self.save_file(files, path, MINOR)
     }
 
     /// `save_to_path` in format 1.0.
@@ -52,9 +53,9 @@ impl<L: Layout, const SLOTS: usize, A: Allocator + Copy> Trie<L, SLOTS, A> {
     ) -> Result<(), CedarPersistenceError>
         ensures err { IfErr result (FailsToSave (length path.bytes)) }
         ensures file { OnOk result (IsTableFile 0 SLOTS self.now.table (table_bytes 0 self.now.table)) }
-        ensures passes { OnOk result ((limit : ℕ) → need (header_of 0 self.now.table) ≤ limit → header_answer (layout_byte L.kind) SLOTS limit (table_bytes 0 self.now.table) ≡ None) }
+        ensures passes { OnOk result (PassesAgain L.kind SLOTS 0 self.now.table) }
     {
-        self.save_file(files, path, Version::First)
+        self.save_file(files, path, FULL_MINOR)
     }
 
     /// Loads the dictionary that was saved in a file, through a buffer of 8192 bytes and with the limit by default. Both take their

@@ -1,10 +1,11 @@
 //! Files that are written beside the one of their name and take its place once they are whole.
 
-ghost use Rattle.std.specs.Prelude.{◌≡◌, ◌+◌, IfErr, length};
+ghost use Rattle.std.specs.Prelude.{◌+◌, ◌≡◌, IfErr, IsOk, OnOk, length};
 ghost use Rattle.cedar_format.specs.declared.error.CedarPersistenceError.TheVariants.{AllocationFailed};
-ghost use Rattle.cedarwood.specs.Words.{FailsToSave, FailsToWrite};
+ghost use Rattle.cedarwood.specs.Words.{FailsToSave, FailsToWrite, IsTableFile, IsVersion, PassesAgain, table_bytes};
 
 use crate::{CedarPersistenceError, Layout, Trie, Watched};
+use cedar_file::write_table;
 use std::alloc::{AllocError, Allocator};
 use std::fs::{File, OpenFile};
 use std::io::{BufWriter, Write};
@@ -17,29 +18,25 @@ const BUFFER_LEN: usize = 8192;
 /// What stands behind the name of a file while it is written.
 const SUFFIX: &str = ".new";
 
-/// Which version of the format is written.
-#[derive(Clone, Copy)]
-pub(crate) enum Version {
-    First,
-    Latest,
-}
-
 impl<L: Layout, const SLOTS: usize, A: Allocator + Copy> Trie<L, SLOTS, A> {
-    /// Puts the dictionary's file in the place of what is at `path`.
+    /// Puts the dictionary's file in a minor version of the format in the place of what is at `path`.
     pub(crate) fn save_file<F: Files>(
         &self,
         files: &F,
         path: &str,
-        version: Version,
+        minor: u16,
     ) -> Result<(), CedarPersistenceError>
+        requires version { IsVersion minor }
         ensures err { IfErr result (FailsToSave (length path.bytes)) }
+        ensures file { OnOk result (IsTableFile minor SLOTS self.now.table (table_bytes minor self.now.table)) }
+        ensures passes { OnOk result (PassesAgain L.kind SLOTS minor self.now.table) }
     {
         if is_special(files, path) {
-            self.write_file(files, path, version)?;
+            self.write_file(files, path, minor)?;
             return Ok(());
         }
         let name = name_beside(self.table.allocator(), path)?;
-        let written = self.write_synced(files, &name, version);
+        let written = self.write_synced(files, &name, minor);
         put_in_place(files, &name, path, written)
     }
 
@@ -48,11 +45,14 @@ impl<L: Layout, const SLOTS: usize, A: Allocator + Copy> Trie<L, SLOTS, A> {
         &self,
         files: &F,
         path: &str,
-        version: Version,
+        minor: u16,
     ) -> Result<(), CedarPersistenceError>
+        requires version { IsVersion minor }
         ensures err { IfErr result FailsToWrite }
+        ensures file { OnOk result (IsTableFile minor SLOTS self.now.table (table_bytes minor self.now.table)) }
+        ensures passes { OnOk result (PassesAgain L.kind SLOTS minor self.now.table) }
     {
-        let written = self.write_file(files, path, version)?;
+        let written = self.write_file(files, path, minor)?;
         written.get_ref().sync_all()?;
         Ok(())
     }
@@ -62,17 +62,17 @@ impl<L: Layout, const SLOTS: usize, A: Allocator + Copy> Trie<L, SLOTS, A> {
         &self,
         files: &F,
         path: &str,
-        version: Version,
+        minor: u16,
     ) -> Result<BufWriter<F::File, A>, CedarPersistenceError>
+        requires version { IsVersion minor }
         ensures err { IfErr result FailsToWrite }
+        ensures file { OnOk result (IsTableFile minor SLOTS self.now.table (table_bytes minor self.now.table)) }
+        ensures passes { OnOk result (PassesAgain L.kind SLOTS minor self.now.table) }
     {
         let file = File::create(files, path)?;
         let buffered = BufWriter::new(self.table.allocator(), file).map_err(no_buffer)?;
         let mut writer = Watched::new(buffered);
-        match version {
-            Version::First => self.save_v1_0_to_writer(&mut writer)?,
-            Version::Latest => self.save_to_writer(&mut writer)?,
-        }
+        write_table(&self.table, minor, &mut writer)?;
         writer.flush()?;
         Ok(writer.into_inner())
     }
@@ -115,6 +115,7 @@ fn put_in_place<F: Files>(
 ) -> Result<(), CedarPersistenceError>
     requires err { IfErr written FailsToWrite }
     ensures err { IfErr result FailsToWrite }
+    ensures written { IsOk result → IsOk written }
 {
     let placed = match written {
         Ok(()) => rename(files, new, old),

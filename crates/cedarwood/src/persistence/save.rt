@@ -1,7 +1,7 @@
 //! How a dictionary is saved.
 
-ghost use Rattle.std.specs.Prelude.{◌≡◌, ◌≤◌, IfErr, None, OnOk, true, ℕ};
-ghost use Rattle.cedarwood.specs.Words.{Appends, IsIo, IsTableFile, device_of, has_failed, header_answer, header_of, layout_byte, need, table_bytes};
+ghost use Rattle.std.specs.Prelude.{◌≡◌, IfErr, OnOk, true};
+ghost use Rattle.cedarwood.specs.Words.{Appends, IsIo, IsTableFile, PassesAgain, device_of, has_failed, table_bytes};
 
 use crate::{CedarPersistenceError, Layout, Trie, Watched};
 use cedar_file::write_table;
@@ -29,7 +29,7 @@ impl<L: Layout, const SLOTS: usize, A: Allocator + Copy> Trie<L, SLOTS, A> {
 
         // They are the file of a well-formed table, which passes all steps of a load but those on memory.
         ensures file { OnOk result (IsTableFile 1 SLOTS self.now.table (table_bytes 1 self.now.table)) }
-        ensures passes { OnOk result ((limit : ℕ) → need (header_of 1 self.now.table) ≤ limit → header_answer (layout_byte L.kind) SLOTS limit (table_bytes 1 self.now.table) ≡ None) }
+        ensures passes { OnOk result (PassesAgain L.kind SLOTS 1 self.now.table) }
         ensures err { IfErr result (λ e. IsIo e × (has_failed writer.new ≡ true)) }
         ensures failed { has_failed writer.old ≡ true → has_failed writer.new ≡ true }
     {
@@ -55,7 +55,7 @@ impl<L: Layout, const SLOTS: usize, A: Allocator + Copy> Trie<L, SLOTS, A> {
 
         // They are the file of a well-formed table, which passes all steps of a load but those on memory.
         ensures file { OnOk result (IsTableFile 0 SLOTS self.now.table (table_bytes 0 self.now.table)) }
-        ensures passes { OnOk result ((limit : ℕ) → need (header_of 0 self.now.table) ≤ limit → header_answer (layout_byte L.kind) SLOTS limit (table_bytes 0 self.now.table) ≡ None) }
+        ensures passes { OnOk result (PassesAgain L.kind SLOTS 0 self.now.table) }
         ensures err { IfErr result (λ e. IsIo e × (has_failed writer.new ≡ true)) }
         ensures failed { has_failed writer.old ≡ true → has_failed writer.new ≡ true }
     {
