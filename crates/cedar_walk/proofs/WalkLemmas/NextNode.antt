@@ -143,6 +143,9 @@ module _ (slots : ℕ) (T : Fields) (k : IsWellFormed slots T) where
   pub child_is_at : (w : List ℕ) (s l : ℕ) → 0 < l → IsAt (cells_in T) w s → has_label (node_at (tree_of T) w).children l ≡ true → IsAt (cells_in T) (w ++ l ∷ []) (below (cells_in T) s l)
   child_is_at w s l p at has = at_child (size_of T) (cells_in T) (tree_of T).children w s k.stands at l p (child_owned w s l at has)
 
+  pub child_inside : (w : List ℕ) (s l : ℕ) → IsAt (cells_in T) w s → has_label (node_at (tree_of T) w).children l ≡ true → below (cells_in T) s l < size_of T
+  child_inside w s l at has = in_use T (below (cells_in T) s l) s (child_owned w s l at has)
+
   -- the label after a node's
   pub next_label : (w : List ℕ) (l s : ℕ) → IsAt (cells_in T) (w ++ l ∷ []) s → (cells_in T).sibling s ≡ first_of (behind (node_at (tree_of T) w).children l)
   next_label w l s at =
