@@ -1,5 +1,5 @@
 -- Settings count by what they say: one is made alike by two that say the same. And what a refused build says.
-use Rattle.std.proofs.Common.{◌≡◌, ◌∙◌, ◌⊎◌, inl, inr, ℕ, ◌*◌, ◌≤◌, List, [], length, None, IfOk, Result, Ok, Err, ap, sym, subst}
+use Rattle.std.proofs.Common.{◌≡◌, ◌∙◌, ◌⊎◌, inl, inr, ℕ, ◌*◌, ◌≤◌, List, [], length, None, IfOk, Result, Ok, Err, ap, subst}
 use Rattle.cedar_slots.specs.declared.shortage.Shortage.{Shortage}
 use Rattle.cedar_slots.specs.declared.shortage.Shortage.TheVariants as shortage
 use Rattle.cedar_tree.specs.Queries.{Entry, asc, prefixes}

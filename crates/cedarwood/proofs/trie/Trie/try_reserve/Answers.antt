@@ -1,4 +1,4 @@
-use Rattle.std.proofs.Common.{arith, ◌≡◌, ◌<◌, ◌≤◌, ◌+◌, ◌*◌, ◌-◌, Err, IfErr, IsOk, OnErr, OnOk, Result, subst}
+use Rattle.std.proofs.Common.{arith, ◌≡◌, ◌≤◌, ◌+◌, ◌*◌, ◌-◌, Err, IfErr, IsOk, OnErr, OnOk, Result, subst}
 use Rattle.std.proofs.lemmas.Result.{IfErr-weaker, on_err_weaker, on_ok_weaker}
 use Rattle.cedar_table.specs.Table.Views.{fields}
 use Rattle.cedar_model.specs.Table.TableFields.{capacity_of, size_of}
