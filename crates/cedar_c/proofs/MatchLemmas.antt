@@ -1,5 +1,5 @@
 -- A buffer that is filled a place at a time.
-use Rattle.std.proofs.Common.{◌≡◌, ℕ, ◌+◌, ◌-◌, ◌<◌, ◌≤◌, ◌^◌, List, [], ◌∷◌, ◌++◌, length, take, drop, set, add-one, None, Option, Some, Bool, refl, sym, ap, subst, ◌∙◌, arith}
+use Rattle.std.proofs.Common.{◌≡◌, ℕ, ◌+◌, ◌-◌, ◌<◌, ◌≤◌, ◌^◌, List, [], ◌∷◌, ◌++◌, length, take, drop, set, add-one, Bool, refl, sym, ap, subst, ◌∙◌, arith}
 use Rattle.std.specs.Prelude.{ℤ, nat_eq}
 use Rattle.std.specs.List.{Contains, filter, starts_with}
 use Rattle.std.proofs.lemmas.List.{append_assoc, drop-set-lt, drop-drop, drop_all, drop_more, take-append-drop, take_all}

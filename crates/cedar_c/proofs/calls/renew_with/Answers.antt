@@ -5,9 +5,9 @@ pub returns-in-Ok : goal.returns-in-Ok
 returns-in-Ok c = record {
   opens = record {
     made = λ ok.
-      let ordered : c.in-Ok.settings.ordered ≡ c.args.ordered = search rules in
-      let trials : c.in-Ok.settings.max_trial ≡ c.args.max_trial = search rules in
-      (c.in-Ok.settings, ordered, trials, c.renew.ensures.made ok);
+        let ordered : c.in-Ok.settings.ordered ≡ c.args.ordered = search rules in
+        let trials : c.in-Ok.settings.max_trial ≡ c.args.max_trial = search rules in
+        (c.in-Ok.settings, ordered, trials, c.renew.ensures.made ok);
     layout = search rules;
     invalid = search rules;
     refused = search rules;
