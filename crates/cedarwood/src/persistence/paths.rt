@@ -28,7 +28,7 @@ impl<L: Layout, const SLOTS: usize, A: Allocator + Copy> Trie<L, SLOTS, A> {
     /// `Io` where a call on a file failed; `AllocationFailed` with the length of the new name, which is asked for first, or with 8192
     /// where there is no memory for the buffer, which is asked for once the file is made.
     pub fn save_to_path<F: Files>(&self, files: &F, path: &str) -> Result<(), CedarPersistenceError>
-        ensures err { IfErr result (FailsToSave (length path.bytes)) }
+        ensures err { IfErr result (FailsToSave (length path.now)) }
 
         // The bytes that are written are the file of a well-formed table, which passes all steps of a load but those on
         // memory. What a device has kept of them no clause can say.
@@ -51,7 +51,7 @@ impl<L: Layout, const SLOTS: usize, A: Allocator + Copy> Trie<L, SLOTS, A> {
         files: &F,
         path: &str,
     ) -> Result<(), CedarPersistenceError>
-        ensures err { IfErr result (FailsToSave (length path.bytes)) }
+        ensures err { IfErr result (FailsToSave (length path.now)) }
         ensures file { OnOk result (IsTableFile 0 SLOTS self.now.table (table_bytes 0 self.now.table)) }
         ensures passes { OnOk result (PassesAgain L.kind SLOTS 0 self.now.table) }
     {

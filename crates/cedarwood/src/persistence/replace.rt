@@ -27,7 +27,7 @@ impl<L: Layout, const SLOTS: usize, A: Allocator + Copy> Trie<L, SLOTS, A> {
         minor: u16,
     ) -> Result<(), CedarPersistenceError>
         requires version { IsVersion minor }
-        ensures err { IfErr result (FailsToSave (length path.bytes)) }
+        ensures err { IfErr result (FailsToSave (length path.now)) }
         ensures file { OnOk result (IsTableFile minor SLOTS self.now.table (table_bytes minor self.now.table)) }
         ensures passes { OnOk result (PassesAgain L.kind SLOTS minor self.now.table) }
     {
@@ -88,7 +88,7 @@ fn is_special<F: Files>(files: &F, path: &str) -> bool {
 
 /// The name of the file that is written beside the one at `path`.
 fn name_beside<A: Allocator>(alloc: A, path: &str) -> Result<String<A>, CedarPersistenceError>
-    ensures err { IfErr result (λ e. e ≡ AllocationFailed (length path.bytes + 4)) }
+    ensures err { IfErr result (λ e. e ≡ AllocationFailed (length path.now + 4)) }
 {
     match with_suffix(alloc, path) {
         Ok(name) => Ok(name),
