@@ -18,3 +18,5 @@ pub mod SaveLemmas
 mod ValidLemmas
 pub mod LongestLemmas
 pub mod RangeLemmas
+pub mod BetweenLemmas
+pub mod BoundedLemmas

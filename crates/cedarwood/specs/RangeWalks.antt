@@ -1,11 +1,14 @@
 -- Where walks over the entries of a range stand in a table.
-use Rattle.std.specs.Prelude.{ℕ, List, [], ◌∷◌, ◌++◌, map, None, Option, Some}
+use Rattle.std.specs.Prelude.{◌≡◌, ℕ, List, [], ◌∷◌, ◌++◌, filter, map, None, Option, Some}
+use Rattle.std.specs.Cmp.Lexicographic.{slice_cmp}
+use Rattle.std.specs.Ordering.{is_ge, is_lt, nat_cmp}
+use Rattle.cedar_tree.specs.Tree.{Tree}
 use Rattle.cedar_tree.specs.Queries.{Entry}
 use Rattle.cedar_tree.specs.Walks.{entries_of}
 use Rattle.cedar_model.specs.Table.TableFields.{Fields}
 use Rattle.cedar_walk.specs.declared.visits.Numbered.{Numbered}
 use Rattle.cedar_walk.specs.Visits.{IsNumberedBelow, left_at, path_to}
-use Rattle.cedar_walk.specs.Ranges.{behind_path}
+use Rattle.cedar_walk.specs.Ranges.{behind_path, entries_since}
 
 -- the entries that a walk below the path `start` has left, whose first one is that of a node
 abbrev pub ranged : Fields → List ℕ → Option Numbered → List Entry
@@ -17,3 +20,15 @@ ranged T start (Some next) =
 abbrev pub IsRangePlace : Fields → List ℕ → Option Numbered → Type 0
 IsRangePlace T start None = Unit {0}
 IsRangePlace T start (Some next) = IsNumberedBelow T start next.depth next.slot
+
+-- the entries at the path `from` and after it by bytes, but not at `to` or after that
+abbrev pub entries_between : Tree → List ℕ → List ℕ → List Entry
+entries_between t from to = filter (λ e. is_lt (slice_cmp nat_cmp e.0 to)) (entries_since t from)
+
+-- what a walk from the root has left that ends before the path `to`
+abbrev pub bounded : Fields → List ℕ → Option Numbered → List Entry
+bounded T to next = filter (λ e. is_lt (slice_cmp nat_cmp e.0 to)) (ranged T [] next)
+
+-- the node where it ends: that of the first entry at `to` or after it
+abbrev pub IsEnd : Fields → List ℕ → Option Numbered → Option Numbered → Type 0
+IsEnd T to next end = filter (λ e. is_ge (slice_cmp nat_cmp e.0 to)) (ranged T [] next) ≡ ranged T [] end

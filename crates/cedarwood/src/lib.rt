@@ -49,6 +49,7 @@ pub use laws::{
     figures_are_equal_by_their_fields, loaded_files_save_again, saved_tables_load_again,
     sorted_is_stored_in_turn,
 };
+pub use queries::bounded::BoundedEntries;
 pub use queries::counted::CountedPrefixIter;
 pub use queries::entries::{Entries, EntryError, Utf8Entries};
 pub use queries::predict::PrefixPredictIter;

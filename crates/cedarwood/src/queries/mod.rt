@@ -1,6 +1,7 @@
 //! What a dictionary answers: exact searches, prefix walks, predictions and entries.
 
 mod batch;
+pub(crate) mod bounded;
 mod calls;
 pub(crate) mod counted;
 pub(crate) mod entries;

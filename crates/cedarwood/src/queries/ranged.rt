@@ -42,7 +42,7 @@ impl<'a, T: Walked, A: Allocator + Copy> Model for RangeEntries<'a, T, A> {
 }
 
 /// Writes the key of a node into a buffer, in place of what that held: a path, and then the labels below it.
-fn write_key<T: Walked, A: Allocator>(
+pub(crate) fn write_key<T: Walked, A: Allocator>(
     trie: &T,
     start: &[u8],
     slot: usize,
