@@ -8,7 +8,7 @@ use Rattle.cedar_model.specs.Table.TableFields.{Fields, size_of}
 use Rattle.cedar_model.specs.Edit.NodeEdits.{Above, IsNodeOf}
 use Rattle.cedar_model.specs.Meaning.Family.{Among, base_of, below, InRange}
 use Rattle.cedar_model.specs.Meaning.WellFormed.{cells_in}
-use Rattle.cedar_bulk.specs.Sorted.{Ends, IsBareNode, IsChildless, with_number}
+use Rattle.cedar_bulk.specs.Sorted.{GoesLast, IsBareNode, IsChildless, slot_labels}
 
 -- the node s has neither number nor label, nor a base
 pub record IsUnfilled (slots : ℕ) (T : Fields) (s : ℕ) : Type 0 where
@@ -56,7 +56,7 @@ pub record WantsLabel (slots : ℕ) (T : Fields) (s base : ℕ) (before : Option
   pub based : (s ≡ 0 → ⊥) → InRange (size_of T) ((cells_in T).stored s)
   pub base_is : base ≡ base_of (cells_in T) s
   pub free : Held (cells_in T) (below (cells_in T) s label) → ⊥
-  pub ends : Ends (size_of T) (cells_in T) s label before
+  pub ends : GoesLast (size_of T) (cells_in T) s label before
 
 -- the node s has this base and no label, and the slots of these ascending labels are free
 pub record WantsLabels (slots : ℕ) (T : Fields) (s base : ℕ) (before : Option ℕ) (labels : List ℕ) : Type 0 where
@@ -67,7 +67,7 @@ pub record WantsLabels (slots : ℕ) (T : Fields) (s base : ℕ) (before : Optio
   pub base_is : base ≡ base_of (cells_in T) s
   pub ascends : Above 0 labels
   pub free : (l : ℕ) → Among labels l → Held (cells_in T) (below (cells_in T) s l) → ⊥
-  pub ends : (l : ℕ) → Ends (size_of T) (cells_in T) s l before
+  pub ends : (l : ℕ) → GoesLast (size_of T) (cells_in T) s l before
 
 -- the node s has neither number nor label, nor a base; it is to have this number and these ascending labels, listed with 0 for the number
 pub record WantsSlots (slots : ℕ) (T : Fields) (s : ℕ) (number : Option ℤ) (listed labels : List ℕ) : Type 0 where
@@ -76,7 +76,7 @@ pub record WantsSlots (slots : ℕ) (T : Fields) (s : ℕ) (number : Option ℤ)
   pub not_root : s ≡ 0 → number ≡ None
   pub node : IsBareNode (size_of T) (cells_in T) s
   pub leaf : (cells_in T).stored s ≡ AtBase 0
-  pub wanted : listed ≡ with_number number labels
+  pub wanted : listed ≡ slot_labels number labels
   pub some : 0 < length listed
   pub few : length listed ≤ 256
   pub ascends : Above 0 labels

@@ -42,7 +42,7 @@ leaves [] = none
 leaves (l ∷ ls) = child l None none (leaves ls)
 
 -- the label l goes behind all that slot a's chain has: behind the slot before, or first of all
-pub record Ends (size : ℕ) (T : Cells) (a l : ℕ) (before : Option ℕ) : Type 0 where
+pub record GoesLast (size : ℕ) (T : Cells) (a l : ℕ) (before : Option ℕ) : Type 0 where
   pub goes : MatchOption before (GoesFirst T true a l) (λ b. GoesBehind size T true a l b)
   pub last : MatchOption before (T.child a ≡ 0) (λ b. T.sibling b ≡ 0)
 
@@ -65,9 +65,9 @@ pub record GetsNumber (size : ℕ) (T T' : Cells) (a : ℕ) (number : Option ℤ
   pub held : (x : ℕ) → Held T' x → Held T x ⊎ (x ≡ below T a 0)
 
 -- the labels of a node's slots, its number's being 0
-abbrev pub with_number : Option ℤ → List ℕ → List ℕ
-with_number None ls = ls
-with_number (Some v) ls = 0 ∷ ls
+abbrev pub slot_labels : Option ℤ → List ℕ → List ℕ
+slot_labels None ls = ls
+slot_labels (Some v) ls = 0 ∷ ls
 
 -- the base of slot a is one from which the slots of all these labels are free; the tree is as before
 pub record GetsBase (size size' : ℕ) (T T' : Cells) (a : ℕ) (ls : List ℕ) : Type 0 where

@@ -29,9 +29,9 @@ abbrev pub parts_of : {K : Type 0} → (K → List ℕ) → List (Span K) → Li
 parts_of bytes spans = map (part_of bytes) spans
 
 -- the entries without the first d bytes of each key
-abbrev pub stripped : ℕ → List Entry → List Entry
-stripped d [] = []
-stripped d (e ∷ es) = (drop d e.0, e.1) ∷ stripped d es
+abbrev pub entries_behind : ℕ → List Entry → List Entry
+entries_behind d [] = []
+entries_behind d (e ∷ es) = (drop d e.0, e.1) ∷ entries_behind d es
 
 -- the number of the first entry, if its key ends within d bytes
 abbrev pub first_number : ℕ → List Entry → Option ℤ
@@ -54,7 +54,7 @@ IsAlike d es = (length es ≡ 1) ⊎ (IsDeeper d es × (run d (first_label d es)
 
 -- the entries are just what stands below a node with these children, d bytes deep
 pub record Lists (d : ℕ) (entries : List Entry) (f : Forest) : Type 0 where
-  pub walks : walk_forest f ≡ stripped d entries
+  pub walks : walk_forest f ≡ entries_behind d entries
   pub sound : IsSoundBelow f
   pub ascending : IsAscending f
 
@@ -63,21 +63,21 @@ abbrev pub Covers : ℕ → List Part → Forest → Forest → Type 0
 Covers base [] f todo = f ≡ todo
 Covers base (s ∷ ss) none todo = ⊥
 Covers base (s ∷ ss) (child l n u rest) todo =
-    (s.node ≡ bit_xor base l) × (walk (record { number = n; children = u }) ≡ stripped s.depth s.entries) × Covers base ss rest todo
+    (s.node ≡ bit_xor base l) × (walk (record { number = n; children = u }) ≡ entries_behind s.depth s.entries) × Covers base ss rest todo
 
 -- a span whose slots begin at 0, once they begin at a base
 abbrev pub based_at : ℕ → Part → Part
 based_at base s = record { node = bit_xor base s.node; depth = s.depth; entries = s.entries }
 
 -- how many bytes there are, and entries
-abbrev pub bytes_in : List Entry → ℕ
-bytes_in [] = 0
-bytes_in (e ∷ es) = 1 + length e.0 + bytes_in es
+abbrev pub entry_bytes : List Entry → ℕ
+entry_bytes [] = 0
+entry_bytes (e ∷ es) = 1 + length e.0 + entry_bytes es
 
 -- how much is left to do
 abbrev pub work : List Part → ℕ
 work [] = 0
-work (s ∷ ss) = bytes_in (stripped s.depth s.entries) + work ss
+work (s ∷ ss) = entry_bytes (entries_behind s.depth s.entries) + work ss
 
 -- each number of the tree t is one that a key may have
 abbrev pub HasValues : Tree → Type 0
@@ -85,7 +85,7 @@ HasValues t = IfSome t.number (λ v. is_value v ≡ true) × AllNumbers (λ v. i
 
 -- the entries are just what the tree t has, d bytes deep; it isn't empty
 pub record IsTreeOfSpan (d : ℕ) (entries : List Entry) (t : Tree) : Type 0 where
-  pub walks : walk t ≡ stripped d entries
+  pub walks : walk t ≡ entries_behind d entries
   pub some : is_bare t ≡ false
   pub sound : IsSoundBelow t.children
   pub ascending : IsAscending t.children

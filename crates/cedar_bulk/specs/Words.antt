@@ -1,6 +1,6 @@
 -- The words of clauses, from one place.
 pub use Rattle.cedar_bulk.specs.Asked.{IsUnfilled, WantsBase, WantsChain, WantsLabel, WantsLabels, WantsNumber, WantsSlots}
-pub use Rattle.cedar_bulk.specs.Sorted.{Ends, entries_by, Fills, GetsBase, GetsLabels, GetsNumber, run, with_number}
+pub use Rattle.cedar_bulk.specs.Sorted.{GoesLast, entries_by, Fills, GetsBase, GetsLabels, GetsNumber, run, slot_labels}
 pub use Rattle.cedar_bulk.specs.SortedMarks.{KeepsOwn, SortedMarks}
 pub use Rattle.cedar_bulk.specs.Spans.{based_at, Covers, Filling, first_label, first_number, IsAlike, IsDeeper, IsTreeOfSpan, Lists, Part, parts_of}
 pub use Rattle.cedar_model.specs.Edit.NodeEdits.{IsAt}

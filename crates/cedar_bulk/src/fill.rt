@@ -1,7 +1,7 @@
 //! A node with all of its slots at once: its number's and its labels'.
 
 ghost use Rattle.std.specs.Prelude.{◌≡◌, ℕ, ◌≤◌, IfErr, IfOk, IfSome, length, MatchOption, OnErr, OnOk, Option, Some, None, true};
-ghost use Rattle.cedar_bulk.specs.Words.{base_of, cells, Ends, fields, Fills, GetsBase, GetsNumber, is_value, IsTable, KeepsOwn, MakesBlocks, MayRefuse, reduced_layout, SameFrame, SameSettings, size_of, WantsBase, WantsChain, WantsNumber, WantsSlots};
+ghost use Rattle.cedar_bulk.specs.Words.{base_of, cells, GoesLast, fields, Fills, GetsBase, GetsNumber, is_value, IsTable, KeepsOwn, MakesBlocks, MayRefuse, reduced_layout, SameFrame, SameSettings, size_of, WantsBase, WantsChain, WantsNumber, WantsSlots};
 
 use crate::append::{append_labels, slot_at};
 use cedar_slots::Shortage;
@@ -44,7 +44,7 @@ fn take_number<L: Layout, const SLOTS: usize, A: Allocator>(
     requires { WantsNumber SLOTS (fields table.old) node base }
     ensures sound { IsTable SLOTS (fields table.new).places }
     ensures gets { GetsNumber (size_of (fields table.old)) (cells table.old) (cells table.new) node (Some value) }
-    ensures ends { (l : ℕ) → Ends (size_of (fields table.new)) (cells table.new) node l (Some result) }
+    ensures ends { (l : ℕ) → GoesLast (size_of (fields table.new)) (cells table.new) node l (Some result) }
     ensures root_check { (cells table.new).check 0 ≡ (cells table.old).check 0 }
     ensures frame { SameFrame (fields table.old) (fields table.new) }
 {
@@ -65,7 +65,7 @@ fn begin_chain<L: Layout, const SLOTS: usize, A: Allocator>(
     requires { WantsChain SLOTS (fields table.old) node base number }
     ensures sound { IsTable SLOTS (fields table.new).places }
     ensures gets { GetsNumber (size_of (fields table.old)) (cells table.old) (cells table.new) node number }
-    ensures ends { (l : ℕ) → Ends (size_of (fields table.new)) (cells table.new) node l result }
+    ensures ends { (l : ℕ) → GoesLast (size_of (fields table.new)) (cells table.new) node l result }
     ensures root_check { (cells table.new).check 0 ≡ (cells table.old).check 0 }
     ensures frame { SameFrame (fields table.old) (fields table.new) }
 {

@@ -1,7 +1,7 @@
 //! Sorted pairs that go on below one node, and what they say of its number and its labels.
 
 ghost use Rattle.std.specs.Prelude.{◌≡◌, ◌↔◌, ◌<◌, ◌≤◌, ◌+◌, ◌++◌, ℕ, List, [], drop, get_or, IsTrue, length, map, OnOk, take};
-ghost use Rattle.cedar_bulk.specs.Words.{based_at, Covers, entries_by, first_label, first_number, Forest, IsAlike, IsDeeper, IsTreeOfSpan, labels, Lists, none, Part, parts_of, run, Tree, with_number};
+ghost use Rattle.cedar_bulk.specs.Words.{based_at, Covers, entries_by, first_label, first_number, Forest, IsAlike, IsDeeper, IsTreeOfSpan, labels, Lists, none, Part, parts_of, run, Tree, slot_labels};
 
 use arrayvec::ArrayVec;
 use std::alloc::{AllocError, Allocator};
@@ -158,7 +158,7 @@ fn first_label_at<K: AsSlice<u8>>(pairs: &[(K, i32)], depth: usize) -> u8
 
 /// Makes a list of labels the label 0 alone if there is a number, and else no label.
 fn begin_labels(wanted: &mut Labels, number: Option<i32>)
-    ensures { wanted.new.items ≡ with_number number [] }
+    ensures { wanted.new.items ≡ slot_labels number [] }
 {
     wanted.clear();
     if number.is_some() {
@@ -176,7 +176,7 @@ pub(crate) fn list_spans<'a, K: AsSlice<u8>, A: Allocator>(
     depth: usize,
 ) -> Result<(), AllocError>
     requires { (f : Forest) × Lists depth (entries_by K.items pairs.now) f }
-    ensures labels { OnOk result ((f : Forest) → Lists depth (entries_by K.items pairs.now) f → wanted.new.items ≡ with_number number (labels f)) }
+    ensures labels { OnOk result ((f : Forest) → Lists depth (entries_by K.items pairs.now) f → wanted.new.items ≡ slot_labels number (labels f)) }
     ensures spans { OnOk result ((f : Forest) → Lists depth (entries_by K.items pairs.now) f → (parts : List Part) × (parts_of K.items pending.new.items ≡ parts_of K.items pending.old.items ++ parts) × Covers 0 parts f none) }
 {
     begin_labels(wanted, number);

@@ -13,28 +13,28 @@ use Rattle.cedar_tree.proofs.FrontLemmas.{held_from_front}
 use Rattle.cedar_tree.proofs.TreeLemmas.{number_at-empty}
 use Rattle.cedar_tree.proofs.FrontFromLemmas.{front_begins, front_short}
 use Rattle.cedar_c.specs.declared.walks.Match.{Match}
-use Rattle.cedar_c.specs.Matches.{filled, match_of}
+use Rattle.cedar_c.specs.Matches.{filled_matches, match_of}
 
 -- the next place is written
 pub written : (ms : List Match) (p : ℕ) (d : Match) (x : ℤ × ℕ) (rest : List (ℤ × ℕ)) → p < length ms
-    → take (p + 1) (set ms p (match_of x)) ++ filled (drop (p + 1) (set ms p (match_of x))) rest ≡ take p ms ++ filled (drop p ms) (x ∷ rest)
+    → take (p + 1) (set ms p (match_of x)) ++ filled_matches (drop (p + 1) (set ms p (match_of x))) rest ≡ take p ms ++ filled_matches (drop p ms) (x ∷ rest)
 written ms p d x rest h =
     let now = set ms p (match_of x) in
     let front_of : take (p + 1) now ≡ take p ms ++ match_of x ∷ [] = rw add-one (take-suc-set ms p (match_of x) h) in
     let below : p < p + 1 = omega arith in
-    ap (λ t. t ++ filled (drop (p + 1) now) rest) front_of
-    ∙ ap (λ u. (take p ms ++ match_of x ∷ []) ++ filled u rest) (drop-set-lt (p + 1) ms p (match_of x) below)
-    ∙ append_assoc (take p ms) (match_of x ∷ []) (filled (drop (p + 1) ms) rest)
-    ∙ ap (λ u. take p ms ++ filled u (x ∷ rest)) (sym (drop_more ms p d h))
+    ap (λ t. t ++ filled_matches (drop (p + 1) now) rest) front_of
+    ∙ ap (λ u. (take p ms ++ match_of x ∷ []) ++ filled_matches u rest) (drop-set-lt (p + 1) ms p (match_of x) below)
+    ∙ append_assoc (take p ms) (match_of x ∷ []) (filled_matches (drop (p + 1) ms) rest)
+    ∙ ap (λ u. take p ms ++ filled_matches u (x ∷ rest)) (sym (drop_more ms p d h))
 
-pub nothing_filled : (ms : List Match) → filled ms [] ≡ ms
+pub nothing_filled : (ms : List Match) → filled_matches ms [] ≡ ms
 nothing_filled [] = refl
 nothing_filled (m ∷ ms) = refl
 
 -- nothing is left
-pub all_written : (ms : List Match) (p : ℕ) (left : List (ℤ × ℕ)) → left ≡ [] → take p ms ++ filled (drop p ms) left ≡ ms
+pub all_written : (ms : List Match) (p : ℕ) (left : List (ℤ × ℕ)) → left ≡ [] → take p ms ++ filled_matches (drop p ms) left ≡ ms
 all_written ms p left none =
-    ap (λ l. take p ms ++ filled (drop p ms) l) none ∙ ap (λ u. take p ms ++ u) (nothing_filled (drop p ms)) ∙ take-append-drop p ms
+    ap (λ l. take p ms ++ filled_matches (drop p ms) l) none ∙ ap (λ u. take p ms ++ u) (nothing_filled (drop p ms)) ∙ take-append-drop p ms
 
 -- a text has no more fronts than bytes
 pub fronts_fit : (t : Tree) (q : List ℕ) → length q < 2 ^ 64 → length (front t q) < 2 ^ 64
@@ -73,8 +73,8 @@ nothing_left n all none = let short : length all ≤ n = omega (arith, ap length
 
 -- and nothing is told
 pub nothing_told : (ms : List Match) (n : ℕ) (all : List (ℤ × ℕ)) → all ≡ []
-    → (◌≡◌ {A = ℕ} 0 (length (take (length ms) (drop n all)))) × (ms ≡ filled ms (drop n all))
+    → (◌≡◌ {A = ℕ} 0 (length (take (length ms) (drop n all)))) × (ms ≡ filled_matches ms (drop n all))
 nothing_told ms n all none =
     let left = nothing_left n all none in
     let within : length {A = ℤ × ℕ} [] ≤ length ms = omega arith in
-    (sym (ap (λ l. length (take (length ms) l)) left ∙ ap length (take_all (length ms) [] within)), sym (ap (filled ms) left ∙ nothing_filled ms))
+    (sym (ap (λ l. length (take (length ms) l)) left ∙ ap length (take_all (length ms) [] within)), sym (ap (filled_matches ms) left ∙ nothing_filled ms))

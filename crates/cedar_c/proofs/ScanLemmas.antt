@@ -4,7 +4,7 @@ use Rattle.std.specs.List.{filter_map, cons_option, range_with_len}
 use Rattle.std.proofs.lemmas.List.{append_assoc, drop-drop, length-drop, take_all, take_more_set}
 use Rattle.cedar_tree.specs.Tree.{Tree, number_at}
 use Rattle.cedar_tree.specs.Queries.{front}
-use Rattle.cedar_words.specs.Words.{longest, len_of, number_of}
+use Rattle.cedar_words.specs.Words.{longest, len_of, found_number}
 use Rattle.cedar_c.specs.Scans.{Fit, spot, spots_from, token_spot, tokens_from}
 use Rattle.cedar_c.specs.declared.scans.Found.{Found}
 use Rattle.cedar_words.proofs.TokenLemmas.{tokens_step}
@@ -35,9 +35,9 @@ place_told t text all before now next was some is =
 
 -- the token at a place comes first
 pub token_first : (t : Tree) (place : ℕ) (text : List ℕ) (found : Option (ℤ × ℕ)) → 0 < length text → longest t text ≡ found
-    → tokens_from t place text ≡ token_spot (place, len_of found, number_of found) ∷ tokens_from t (place + len_of found) (drop (len_of found) text)
+    → tokens_from t place text ≡ token_spot (place, len_of found, found_number found) ∷ tokens_from t (place + len_of found) (drop (len_of found) text)
 token_first t place text found h is =
-    ap (map token_spot) (tokens_step t place text (len_of found) (number_of found) h (ap len_of (sym is)) (ap number_of (sym is)))
+    ap (map token_spot) (tokens_step t place text (len_of found) (found_number found) h (ap len_of (sym is)) (ap found_number (sym is)))
 
 -- the fronts of a text have no more bytes than it
 fit_range : (t : Tree) (q : List ℕ) (n a : ℕ) → a + n < 2 ^ 64

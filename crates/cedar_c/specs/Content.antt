@@ -28,13 +28,13 @@ marks_in h = option_map (λ a. (dictionary_in a).marked) (content h)
 abbrev pub trials_in : Handle → Option ℤ
 trials_in h = option_map (λ a. (dictionary_in a).max_trial) (content h)
 
-abbrev pub tree_of : Option AnyCedar → Tree
-tree_of None = empty_tree
-tree_of (Some a) = (dictionary_in a).state.tree
+abbrev pub content_tree : Option AnyCedar → Tree
+content_tree None = empty_tree
+content_tree (Some a) = (dictionary_in a).state.tree
 
 -- the tree that answers come from. A closed handle answers as one that holds no key
 abbrev pub tree_in : Handle → Tree
-tree_in h = tree_of (content h)
+tree_in h = content_tree (content h)
 
 abbrev figure : (Dictionary → ℕ) → Option AnyCedar → ℕ
 figure f None = 0

@@ -6,7 +6,7 @@ abbrev pub match_of : ℤ × ℕ → Match
 match_of found = record { value = found.0; length = found.1 }
 
 -- the first places have what was found, one after another, as far as there are places; the others are as they were
-abbrev pub filled : List Match → List (ℤ × ℕ) → List Match
-filled [] found = []
-filled (m ∷ matches) [] = m ∷ matches
-filled (m ∷ matches) (x ∷ found) = match_of x ∷ filled matches found
+abbrev pub filled_matches : List Match → List (ℤ × ℕ) → List Match
+filled_matches [] found = []
+filled_matches (m ∷ matches) [] = m ∷ matches
+filled_matches (m ∷ matches) (x ∷ found) = match_of x ∷ filled_matches matches found

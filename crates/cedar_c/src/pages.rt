@@ -4,7 +4,7 @@ ghost use Rattle.std.specs.Prelude.{◌≡◌, ◌+◌, ◌<◌, ◌^◌, [], le
 ghost use Rattle.cedarwood.specs.Queries.{front, predict};
 ghost use Rattle.cedar_c.specs.Content.{content, tree_in};
 ghost use Rattle.cedar_c.specs.Layouts.{dictionary_in};
-ghost use Rattle.cedar_c.specs.Matches.{filled};
+ghost use Rattle.cedar_c.specs.Matches.{filled_matches};
 
 use crate::any::AnyCedar;
 use crate::handle::Handle;
@@ -30,7 +30,7 @@ fn pass<F: Finds>(walk: &mut F, count: usize) -> bool
 /// Writes what a walk finds into the places of a buffer, till it is full or nothing is left, and says how many it wrote.
 fn fill_page<F: Finds>(walk: &mut F, matches: &mut [Match]) -> usize
     ensures count { result ≡ length (take (length matches.old) (F.left walk.old)) }
-    ensures filled { matches.new ≡ filled matches.old (F.left walk.old) }
+    ensures filled { matches.new ≡ filled_matches matches.old (F.left walk.old) }
 {
     let mut count = 0;
     while count < matches.len() {
@@ -47,7 +47,7 @@ fn fill_page<F: Finds>(walk: &mut F, matches: &mut [Match]) -> usize
 fn go_on<F: Finds>(walk: &mut F, next: &mut usize, matches: &mut [Match]) -> usize
     requires { length (F.left walk.old) < 2 ^ 64 }
     ensures count { result ≡ length (take (length matches.old) (drop next.old (F.left walk.old))) }
-    ensures filled { matches.new ≡ filled matches.old (drop next.old (F.left walk.old)) }
+    ensures filled { matches.new ≡ filled_matches matches.old (drop next.old (F.left walk.old)) }
     ensures next { next.new ≡ next.old + result }
 {
     if !pass(walk, *next) {
@@ -66,7 +66,7 @@ fn go_on_prefixes<L: Layout, const SLOTS: usize>(
     matches: &mut [Match],
 ) -> usize
     ensures count { result ≡ length (take (length matches.old) (drop next.old (front trie.now.state.tree text.now))) }
-    ensures filled { matches.new ≡ filled matches.old (drop next.old (front trie.now.state.tree text.now)) }
+    ensures filled { matches.new ≡ filled_matches matches.old (drop next.old (front trie.now.state.tree text.now)) }
     ensures next { next.new ≡ next.old + result }
 {
     go_on(&mut trie.common_prefix_iter_bytes(text), next, matches)
@@ -80,7 +80,7 @@ fn go_on_predictions<L: Layout, const SLOTS: usize>(
     matches: &mut [Match],
 ) -> usize
     ensures count { result ≡ length (take (length matches.old) (drop next.old (predict trie.now.state.tree text.now))) }
-    ensures filled { matches.new ≡ filled matches.old (drop next.old (predict trie.now.state.tree text.now)) }
+    ensures filled { matches.new ≡ filled_matches matches.old (drop next.old (predict trie.now.state.tree text.now)) }
     ensures next { next.new ≡ next.old + result }
 {
     // There are no more of them than keys.
@@ -95,7 +95,7 @@ fn go_on_predictions<L: Layout, const SLOTS: usize>(
 impl AnyCedar {
     fn prefixes_from(&self, text: &[u8], next: &mut usize, matches: &mut [Match]) -> usize
         ensures count { result ≡ length (take (length matches.old) (drop next.old (front (dictionary_in self.now).state.tree text.now))) }
-        ensures filled { matches.new ≡ filled matches.old (drop next.old (front (dictionary_in self.now).state.tree text.now)) }
+        ensures filled { matches.new ≡ filled_matches matches.old (drop next.old (front (dictionary_in self.now).state.tree text.now)) }
         ensures next { next.new ≡ next.old + result }
     {
         match self {
@@ -106,7 +106,7 @@ impl AnyCedar {
 
     fn predictions_from(&self, text: &[u8], next: &mut usize, matches: &mut [Match]) -> usize
         ensures count { result ≡ length (take (length matches.old) (drop next.old (predict (dictionary_in self.now).state.tree text.now))) }
-        ensures filled { matches.new ≡ filled matches.old (drop next.old (predict (dictionary_in self.now).state.tree text.now)) }
+        ensures filled { matches.new ≡ filled_matches matches.old (drop next.old (predict (dictionary_in self.now).state.tree text.now)) }
         ensures next { next.new ≡ next.old + result }
     {
         match self {
@@ -125,7 +125,7 @@ pub extern "C" fn cedar_prefixes_from(
     matches: &mut [Match],
 ) -> usize
     ensures count { result ≡ length (take (length matches.old) (drop next.old (front (tree_in handle.old) text.now))) }
-    ensures filled { matches.new ≡ filled matches.old (drop next.old (front (tree_in handle.old) text.now)) }
+    ensures filled { matches.new ≡ filled_matches matches.old (drop next.old (front (tree_in handle.old) text.now)) }
     ensures next { next.new ≡ next.old + result }
     ensures kept { content handle.new ≡ content handle.old }
 {
@@ -144,7 +144,7 @@ pub extern "C" fn cedar_predictions_from(
     matches: &mut [Match],
 ) -> usize
     ensures count { result ≡ length (take (length matches.old) (drop next.old (predict (tree_in handle.old) text.now))) }
-    ensures filled { matches.new ≡ filled matches.old (drop next.old (predict (tree_in handle.old) text.now)) }
+    ensures filled { matches.new ≡ filled_matches matches.old (drop next.old (predict (tree_in handle.old) text.now)) }
     ensures next { next.new ≡ next.old + result }
     ensures kept { content handle.new ≡ content handle.old }
 {

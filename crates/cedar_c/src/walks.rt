@@ -4,7 +4,7 @@ ghost use Rattle.std.specs.Prelude.{◌≡◌, ℕ, ℤ, List, ◌∷◌, ◌++�
 ghost use Rattle.cedarwood.specs.Queries.{front, predict};
 ghost use Rattle.cedar_c.specs.Content.{content, tree_in};
 ghost use Rattle.cedar_c.specs.Layouts.{dictionary_in};
-ghost use Rattle.cedar_c.specs.Matches.{filled};
+ghost use Rattle.cedar_c.specs.Matches.{filled_matches};
 
 use crate::any::AnyCedar;
 use crate::handle::Handle;
@@ -51,7 +51,7 @@ impl<'a, T: Walked> Finds for PrefixPredictIter<'a, T> {
 fn fill<F: Finds>(walk: &mut F, matches: &mut [Match]) -> usize
     requires { length (F.left walk.old) < 2 ^ 64 }
     ensures count { result ≡ length (F.left walk.old) }
-    ensures filled { matches.new ≡ filled matches.old (F.left walk.old) }
+    ensures filled { matches.new ≡ filled_matches matches.old (F.left walk.old) }
 {
     let mut count = 0;
     while let Some(found) = walk.next_found() {
@@ -63,7 +63,7 @@ fn fill<F: Finds>(walk: &mut F, matches: &mut [Match]) -> usize
 
 /// Writes what was found at a place, if there is this place.
 pub(crate) fn put_at(matches: &mut [Match], place: usize, found: (i32, usize))
-    ensures { (rest : List (ℤ × ℕ)) → take (place + 1) matches.new ++ filled (drop (place + 1) matches.new) rest ≡ take place matches.old ++ filled (drop place matches.old) (found ∷ rest) }
+    ensures { (rest : List (ℤ × ℕ)) → take (place + 1) matches.new ++ filled_matches (drop (place + 1) matches.new) rest ≡ take place matches.old ++ filled_matches (drop place matches.old) (found ∷ rest) }
 {
     if place < matches.len() {
         matches[place] = Match {
@@ -80,7 +80,7 @@ fn fill_prefixes<L: Layout, const SLOTS: usize>(
     matches: &mut [Match],
 ) -> usize
     ensures count { result ≡ length (front trie.now.state.tree text.now) }
-    ensures filled { matches.new ≡ filled matches.old (front trie.now.state.tree text.now) }
+    ensures filled { matches.new ≡ filled_matches matches.old (front trie.now.state.tree text.now) }
 {
     fill(&mut trie.common_prefix_iter_bytes(text), matches)
 }
@@ -92,7 +92,7 @@ fn fill_predictions<L: Layout, const SLOTS: usize>(
     matches: &mut [Match],
 ) -> usize
     ensures count { result ≡ length (predict trie.now.state.tree text.now) }
-    ensures filled { matches.new ≡ filled matches.old (predict trie.now.state.tree text.now) }
+    ensures filled { matches.new ≡ filled_matches matches.old (predict trie.now.state.tree text.now) }
 {
     // There are no more of them than keys.
     let _ = trie.len();
@@ -102,7 +102,7 @@ fn fill_predictions<L: Layout, const SLOTS: usize>(
 impl AnyCedar {
     fn prefixes(&self, text: &[u8], matches: &mut [Match]) -> usize
         ensures count { result ≡ length (front (dictionary_in self.now).state.tree text.now) }
-        ensures filled { matches.new ≡ filled matches.old (front (dictionary_in self.now).state.tree text.now) }
+        ensures filled { matches.new ≡ filled_matches matches.old (front (dictionary_in self.now).state.tree text.now) }
     {
         match self {
             AnyCedar::Default(cedar) => fill_prefixes(cedar, text, matches),
@@ -112,7 +112,7 @@ impl AnyCedar {
 
     fn predictions(&self, text: &[u8], matches: &mut [Match]) -> usize
         ensures count { result ≡ length (predict (dictionary_in self.now).state.tree text.now) }
-        ensures filled { matches.new ≡ filled matches.old (predict (dictionary_in self.now).state.tree text.now) }
+        ensures filled { matches.new ≡ filled_matches matches.old (predict (dictionary_in self.now).state.tree text.now) }
     {
         match self {
             AnyCedar::Default(cedar) => fill_predictions(cedar, text, matches),
@@ -126,7 +126,7 @@ impl AnyCedar {
 #[unsafe(no_mangle)]
 pub extern "C" fn cedar_prefixes(handle: &mut Handle, text: &[u8], matches: &mut [Match]) -> usize
     ensures count { result ≡ length (front (tree_in handle.old) text.now) }
-    ensures filled { matches.new ≡ filled matches.old (front (tree_in handle.old) text.now) }
+    ensures filled { matches.new ≡ filled_matches matches.old (front (tree_in handle.old) text.now) }
     ensures kept { content handle.new ≡ content handle.old }
 {
     if !handle.is_open() {
@@ -144,7 +144,7 @@ pub extern "C" fn cedar_predictions(
     matches: &mut [Match],
 ) -> usize
     ensures count { result ≡ length (predict (tree_in handle.old) text.now) }
-    ensures filled { matches.new ≡ filled matches.old (predict (tree_in handle.old) text.now) }
+    ensures filled { matches.new ≡ filled_matches matches.old (predict (tree_in handle.old) text.now) }
     ensures kept { content handle.new ≡ content handle.old }
 {
     if !handle.is_open() {

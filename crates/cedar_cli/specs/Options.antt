@@ -38,8 +38,8 @@ abbrev pub with_reduced : Request → Request
 with_reduced a = record { ordered = a.ordered; load = a.load; save = a.save; v1_0 = a.v1_0; reduced = true }
 
 -- the layout of the dictionary and its files
-abbrev pub layout_of : Request → LayoutKind
-layout_of a = if a.reduced then reduced_layout else default_layout
+abbrev pub asked_layout : Request → LayoutKind
+asked_layout a = if a.reduced then reduced_layout else default_layout
 
 -- options that don't go together: `--unordered` beside `--load`, `--v1-0` without `--save`
 abbrev pub is_excluded : Request → Bool

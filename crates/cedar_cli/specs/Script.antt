@@ -17,7 +17,7 @@ use Rattle.hex.specs.Hex.{encode_lower}
 use Rattle.cedar_words.specs.Words.{Token, segments}
 use Rattle.cedar_cli.specs.Command.{Order, order_of}
 use Rattle.cedar_cli.specs.Lines.{lines_of}
-use Rattle.cedar_cli.specs.View.{View, cut_in, is_held, put_in, slots_held, view_of}
+use Rattle.cedar_cli.specs.View.{View, cut_in, holds_path, put_in, slots_held, view_of}
 
 -- a pair was at fault, and no call wanted memory or slots
 abbrev pub IsPairFault : CedarError → Type 0
@@ -91,7 +91,7 @@ figures_text keys slots = decimal keys ++ 32 ∷ decimal slots
 abbrev pub reply : View → Option Order → List ℕ
 reply s None = codes "bad line"
 reply s (Some (Put v, key)) = put_text (fault key v)
-reply s (Some (Erase, key)) = if is_held s key then codes "erased" else codes "absent"
+reply s (Some (Erase, key)) = if holds_path s key then codes "erased" else codes "absent"
 reply s (Some (Exact, key)) = found_text (number_at s.state.tree key) (length key)
 reply s (Some (Segment, key)) = tokens_text (segments s.state.tree key)
 reply s (Some (Prefixes, key)) = pairs_text (front s.state.tree key)

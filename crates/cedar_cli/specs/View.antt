@@ -42,8 +42,8 @@ with_state s test state = record { layout = s.layout; state = state; marked = ma
 abbrev pub has_slot : View → List ℕ → Bool
 has_slot s path = is_some (number_at s.marked path)
 
-abbrev pub is_held : View → List ℕ → Bool
-is_held s path = is_some (number_at s.state.tree path)
+abbrev pub holds_path : View → List ℕ → Bool
+holds_path s path = is_some (number_at s.state.tree path)
 
 -- whether a path is a shorter front of a key
 abbrev pub is_proper_front : List ℕ → List ℕ → Bool
@@ -59,8 +59,8 @@ has_node t path = not (is_bare (node_at t path))
 -- move into slots, and the new number is put into one where longer keys are held
 abbrev pub has_slot_beside : View → List ℕ → List ℕ → Bool
 has_slot_beside s key path =
-    if is_held s key then has_slot s path
-    else has_slot s path || ((is_proper_front path key && is_held s path) || (is_path path key && has_node s.state.tree key))
+    if holds_path s key then has_slot s path
+    else has_slot s path || ((is_proper_front path key && holds_path s path) || (is_path path key && has_node s.state.tree key))
 
 -- what is seen once a key is stored
 abbrev pub put_in : View → List ℕ → ℤ → View

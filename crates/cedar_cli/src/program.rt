@@ -1,7 +1,7 @@
 //! The program: arguments, files and three streams in, a status out.
 
 ghost use Rattle.std.specs.Prelude.{◌≡◌, ◌<◌, ◌≤◌, ◌^◌, ◌↔◌, true, length, None, OnOk, OnErr, IfErr, IfOk, IfSome};
-ghost use Rattle.cedar_cli.specs.Words.{Appends, AppendsFront, BeginsWith, IsSlotLimit, View, answers, device_of, has_failed, layout_of, lines_of, request_in, request_of, view_of};
+ghost use Rattle.cedar_cli.specs.Words.{Appends, AppendsFront, BeginsWith, IsSlotLimit, View, answers, device_of, has_failed, asked_layout, lines_of, request_in, request_of, view_of};
 
 use crate::fits::fits;
 use crate::options::{Options, options_of};
@@ -65,14 +65,14 @@ pub fn run_program<const SLOTS: usize, F: Files, A: Allocator + Copy, R: Read, W
     ensures silent { result ≡ 0 → errors.new ≡ errors.old }
 
     // All lines of the input are answered, from a dictionary of the layout that is asked for, and nothing else was written.
-    ensures done { result ≡ 0 → IfSome (request_of arguments.now) (λ asked. (begun : View) × BeginsWith (layout_of asked) asked begun × IfSome (R.remaining (device_of reader.old)) (λ input. length input < 2 ^ 63 →
+    ensures done { result ≡ 0 → IfSome (request_of arguments.now) (λ asked. (begun : View) × BeginsWith (asked_layout asked) asked begun × IfSome (R.remaining (device_of reader.old)) (λ input. length input < 2 ^ 63 →
         Appends (W.contents (device_of writer.old)) (W.contents (device_of writer.new)) (answers begun (lines_of input)))) }
 
     // No call of the reader or the writer failed.
     ensures unfailed { result ≡ 0 → (has_failed reader.new ≡ has_failed reader.old) × (has_failed writer.new ≡ has_failed writer.old) }
 
     // Whatever happens, what was written begins the answers.
-    ensures begun { IfSome (request_of arguments.now) (λ asked. (begun : View) × BeginsWith (layout_of asked) asked begun × IfSome (R.remaining (device_of reader.old)) (λ input. length input < 2 ^ 63 →
+    ensures begun { IfSome (request_of arguments.now) (λ asked. (begun : View) × BeginsWith (asked_layout asked) asked begun × IfSome (R.remaining (device_of reader.old)) (λ input. length input < 2 ^ 63 →
         AppendsFront (W.contents (device_of writer.old)) (W.contents (device_of writer.new)) (answers begun (lines_of input)))) }
 {
     let Some(options) = options_of(arguments) else {
@@ -116,9 +116,9 @@ fn run_layout<const SLOTS: usize, F: Files, A: Allocator + Copy, R: Read, W: Wri
     writer: &mut Watched<W>,
 ) -> Result<(), Fault>
     requires limit { IsSlotLimit SLOTS }
-    ensures ok { OnOk result ((begun : View) × BeginsWith (layout_of (request_in options.entry)) (request_in options.entry) begun × IfSome (R.remaining (device_of reader.old)) (λ input. length input < 2 ^ 63 →
+    ensures ok { OnOk result ((begun : View) × BeginsWith (asked_layout (request_in options.entry)) (request_in options.entry) begun × IfSome (R.remaining (device_of reader.old)) (λ input. length input < 2 ^ 63 →
         Appends (W.contents (device_of writer.old)) (W.contents (device_of writer.new)) (answers begun (lines_of input)))) }
-    ensures begun { (begun : View) × BeginsWith (layout_of (request_in options.entry)) (request_in options.entry) begun × IfSome (R.remaining (device_of reader.old)) (λ input. length input < 2 ^ 63 →
+    ensures begun { (begun : View) × BeginsWith (asked_layout (request_in options.entry)) (request_in options.entry) begun × IfSome (R.remaining (device_of reader.old)) (λ input. length input < 2 ^ 63 →
         AppendsFront (W.contents (device_of writer.old)) (W.contents (device_of writer.new)) (answers begun (lines_of input))) }
     ensures unfailed { OnOk result ((has_failed reader.new ≡ has_failed reader.old) × (has_failed writer.new ≡ has_failed writer.old)) }
 {

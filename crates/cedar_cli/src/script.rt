@@ -1,7 +1,7 @@
 //! A run of a script: lines in, answers out.
 
 ghost use Rattle.std.specs.Prelude.{◌≡◌, ◌⊎◌, ◌<◌, ◌≤◌, ◌^◌, ◌+◌, List, ℕ, [], ◌∷◌, ◌++◌, length, true, OnOk, OnErr, IfErr, IfOk, IfSome, position, vec_capacity};
-ghost use Rattle.cedar_cli.specs.Words.{Advances, Answers, Consumes, EndsEarly, Finishes, GrowsBefore, GrowsWithin, HasNoNewline, HasRoom, LineFault};
+ghost use Rattle.cedar_cli.specs.Words.{Advances, Answers, Consumes, EndsEarly, Finishes, GrowsBefore, GrowsWithin, HasNoNewline, HasLineRoom, LineFault};
 ghost use Rattle.cedar_cli.specs.Words.{LineMayLackMemory, Stops, device_of, has_failed, is_newline, lines_of, order_of, view_of};
 
 use crate::verbs::answer_line;
@@ -113,7 +113,7 @@ pub fn run_script<L: Layout, const SLOTS: usize, A: Allocator + Copy, R: Read, W
 /// Room for a line, which is empty, and for its key.
 fn line_room<A: Allocator + Copy>(alloc: A) -> Result<(Vec<u8, A>, Vec<u8, A>), AllocError>
     ensures empty { IfOk result (λ made. made.0.items ≡ []) }
-    ensures room { IfOk result (λ made. HasRoom (vec_capacity made.0) (length made.1.items)) }
+    ensures room { IfOk result (λ made. HasLineRoom (vec_capacity made.0) (length made.1.items)) }
 {
     let line = Vec::with_capacity(alloc, LINE_ROOM)?;
     let mut key = Vec::new(alloc);
@@ -130,9 +130,9 @@ fn take_bytes<L: Layout, const SLOTS: usize, A: Allocator + Copy, W: Write>(
     writer: &mut Watched<W>,
 ) -> Result<(), ScriptError>
     requires open { HasNoNewline line.old.items }
-    requires room { HasRoom (vec_capacity line.old) (length key.old.items) }
+    requires room { HasLineRoom (vec_capacity line.old) (length key.old.items) }
     ensures still_open { OnOk result (HasNoNewline line.new.items) }
-    ensures kept { HasRoom (vec_capacity line.new) (length key.new.items) }
+    ensures kept { HasLineRoom (vec_capacity line.new) (length key.new.items) }
     ensures ok { OnOk result (Advances (view_of L.kind trie.old) (view_of L.kind trie.new)
         (W.contents (device_of writer.old)) (W.contents (device_of writer.new)) (line.old.items ++ bytes.now) line.new.items) }
     ensures err { IfErr result (λ fault. Stops SLOTS trie.new fault (view_of L.kind trie.old) (view_of L.kind trie.new)
@@ -172,9 +172,9 @@ fn end_line<L: Layout, const SLOTS: usize, A: Allocator + Copy, W: Write>(
 ) -> Result<(), ScriptError>
     requires open { HasNoNewline line.old.items }
     requires open_piece { HasNoNewline piece.now }
-    requires room { HasRoom (vec_capacity line.old) (length key.old.items) }
+    requires room { HasLineRoom (vec_capacity line.old) (length key.old.items) }
     ensures empty { OnOk result (line.new.items ≡ []) }
-    ensures kept { HasRoom (vec_capacity line.new) (length key.new.items) }
+    ensures kept { HasLineRoom (vec_capacity line.new) (length key.new.items) }
     ensures ok { OnOk result (Advances (view_of L.kind trie.old) (view_of L.kind trie.new)
         (W.contents (device_of writer.old)) (W.contents (device_of writer.new)) (line.old.items ++ (piece.now ++ 10 ∷ [])) []) }
     ensures err { IfErr result (λ fault. Stops SLOTS trie.new fault (view_of L.kind trie.old) (view_of L.kind trie.new)

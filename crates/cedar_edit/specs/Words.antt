@@ -4,16 +4,16 @@ pub use Rattle.cedar_model.specs.Edit.Asked.{SeeksBehind, SeeksPlace}
 pub use Rattle.cedar_model.specs.Edit.KeyWalk.{TakenBack, Walked}
 pub use Rattle.cedar_model.specs.Edit.NodeEdits.{AddsLabel, DropsNumber, GoesBehind, GoesFirst, HasChain, IsAt, IsNodeOf, LeadsTo, Removes, SetsChild, SetsNumber, SetsSibling}
 pub use Rattle.cedar_model.specs.Edit.Own.{FieldSet, HasWay, IsOwnAt, LacksNode}
-pub use Rattle.cedar_model.specs.Edit.Steps.{HasNode, MakesBlocks, MayAddBlock, Placed, root_of, SameModes, StepsTo, trimmed}
+pub use Rattle.cedar_model.specs.Edit.Steps.{HasNode, MakesBlocks, MayAddBlock, Placed, root_of, SameModes, StepsTo, tree_after_trim}
 pub use Rattle.cedar_model.specs.Edit.Trims.{LosesLeaf, TellsBare}
-pub use Rattle.cedar_model.specs.Meaning.Family.{Among, base_of, below, Family, Head, InRange, Links, Node, owned}
+pub use Rattle.cedar_model.specs.Meaning.Family.{Among, base_of, below, Family, Head, InRange, Links, Node, owned_slots}
 pub use Rattle.cedar_model.specs.Meaning.Marks.{KeepsMarks, KeepsOtherMarks, mark, marks, MarksCut, MarksPut, MovesOut, NewMark, PutsMark, PutsMarks}
 pub use Rattle.cedar_model.specs.Meaning.Reading.{first_in}
 pub use Rattle.cedar_model.specs.Meaning.StandsFor.{HoldsTree}
 pub use Rattle.cedar_model.specs.Meaning.WellFormed.{is_value, IsWellFormed, TableHolds, tree_of}
 pub use Rattle.cedar_model.specs.Relocation.Asked.{MayReserve, MovesSlot, Repoints, RepointsUnder, StandsBelow, WantsRoom, WantsSlot}
 pub use Rattle.cedar_model.specs.Relocation.Renaming.{Always, IsNode, IsNumber, Movable, OwnsLabels, OwnsNothing, Relocated, Renames, Repointed, single}
-pub use Rattle.cedar_model.specs.Relocation.Reserved.{freed, Reserves, seen, SetReserved}
+pub use Rattle.cedar_model.specs.Relocation.Reserved.{cells_without, Reserves, without_reserved, SetReserved}
 pub use Rattle.cedar_model.specs.Relocation.Wanted.{goes_before, rest_of, with_label}
 pub use Rattle.cedar_model.specs.Table.Cells.{Held, IsPlace, NoPlace, SameHeld}
 pub use Rattle.cedar_model.specs.Table.Layouts.{default_layout, reduced_layout}

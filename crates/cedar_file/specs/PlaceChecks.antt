@@ -7,7 +7,7 @@ use Rattle.cedar_slots.specs.declared.blocks.BlockType.TheVariants.{Open, Closed
 use Rattle.cedar_slots.specs.declared.records.NodeRecord.{NodeRecord}
 use Rattle.cedar_slots.specs.Places.{Bounded, PlaceFields}
 use Rattle.cedar_slots.specs.Ring.{first_of, occurs, Ring}
-use Rattle.cedar_slots.specs.Slots.{blank_info, blank_node, info_at, is_free, node_at, SlotFields}
+use Rattle.cedar_slots.specs.Slots.{blank_info, blank_node, info_at, is_free, node_record_at, SlotFields}
 
 -- xs has each number that passes the test once, and nothing else, and they are linked as a ring that begins at first
 pub record RingOf (Link : ℕ → ℕ → Type 0) (test : ℕ → Bool) (first : ℕ) (xs : List ℕ) : Type 0 where
@@ -45,7 +45,7 @@ HasBlankLabels slots b = (s : ℕ) → is_free slots.nodes s ≡ true → s / 25
 
 -- the slots that are not in use are blank
 abbrev pub BlankSlots : PlaceFields → Type 0
-BlankSlots table = (s : ℕ) → 256 * table.blocks.active ≤ s → (node_at table.slots.nodes s ≡ blank_node) × (info_at table.slots.infos s ≡ blank_info)
+BlankSlots table = (s : ℕ) → 256 * table.blocks.active ≤ s → (node_record_at table.slots.nodes s ≡ blank_node) × (info_at table.slots.infos s ≡ blank_info)
 
 -- the blocks that are not in use are blank
 abbrev pub BlankBlocks : BlockFields → Type 0

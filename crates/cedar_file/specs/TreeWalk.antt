@@ -33,8 +33,8 @@ pub record LooksLikeRoot (T : Cells) : Type 0 where
 abbrev pub slots_at : Cells → ℕ → ℕ
 slots_at T s = 1 + cond (has_number_slot T s) 1 0
 
-abbrev pub numbers_at : Cells → ℕ → ℕ
-numbers_at T s = cond (is_some (number_in T s)) 1 0
+abbrev pub number_count_at : Cells → ℕ → ℕ
+number_count_at T s = cond (is_some (number_in T s)) 1 0
 
 -- the walk once it has come to slot s, and to the label c below it
 abbrev pub walk_at : Cells → ℕ → ℕ → ℕ → ℕ → Walk
@@ -53,7 +53,7 @@ pub record GoesDown (size : ℕ) (T : Cells) (w : Walk) : Type 0 where
 
 -- the walk once it has met the node at slot s
 abbrev pub walk_met : Cells → Walk → ℕ → Walk
-walk_met T w s = walk_at T s (first_in T s) (w.met + slots_at T s) (w.numbers + numbers_at T s)
+walk_met T w s = walk_at T s (first_in T s) (w.met + slots_at T s) (w.numbers + number_count_at T s)
 
 -- a node was met if its slot looks like one, and only then; the walk goes on below it
 pub record MeetsNode {E : Type 0} (size : ℕ) (T : Cells) (w : Walk) (s : ℕ) (result : Result Walk E) : Type 0 where

@@ -14,7 +14,7 @@ pub use Rattle.cedar_model.specs.Table.Layouts.{layout_byte, reading}
 pub use Rattle.cedar_model.specs.Table.TableFields.{capacity_of, size_of}
 pub use Rattle.cedar_slots.specs.Blocks.{BlockLink, HasLists, Sized, block_at, counts_at}
 pub use Rattle.cedar_slots.specs.Places.{FreeBlock, HasFree, IsPowerOfTwo, IsSlotLimit, IsTable, Pruned, Rejects, Shaped, Sound, reject_at}
-pub use Rattle.cedar_slots.specs.Slots.{SlotLink, info_at, is_free, node_at}
+pub use Rattle.cedar_slots.specs.Slots.{SlotLink, info_at, is_free, node_record_at}
 pub use Rattle.cedar_slots.specs.Views.{blocks_of, places_of, slots_of}
 pub use Rattle.cedar_table.specs.Table.Views.{cells, fields}
 pub use Rattle.std.specs.Io.KnownBytes.{Appends}

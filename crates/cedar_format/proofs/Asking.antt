@@ -3,10 +3,10 @@ use Rattle.std.proofs.Common.{◌≡◌, ℕ, ◌+◌, ◌≤◌, List, length, 
 use Rattle.std.specs.Io.KnownBytes.{Consumes}
 use Rattle.cedar_format.specs.declared.header.Header.{Header}
 use Rattle.cedar_format.specs.Format.{tables_len, need, size_refusal, CountsWithin, IsHeader, Passes}
-use Rattle.cedar_format.specs.Reading.{BeginsWith}
+use Rattle.cedar_format.specs.Reading.{BeginsWithFront}
 use Rattle.cedar_format.proofs.Sizes.{within_need}
 
-begins : (old now : Option (List ℕ)) (front : List ℕ) → Consumes old now front → BeginsWith old front
+begins : (old now : Option (List ℕ)) (front : List ℕ) → Consumes old now front → BeginsWithFront old front
 begins None now front took = tt
 begins (Some bytes) None front took = absurd took
 begins (Some bytes) (Some rest) front took = ap (take (length front)) took ∙ take_at front rest (length front) refl

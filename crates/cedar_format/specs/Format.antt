@@ -13,7 +13,7 @@ use Rattle.cedar_format.specs.Records.{body_bytes, FitsBody}
 use Rattle.cedar_format.specs.declared.header.Header.{Header}
 use Rattle.cedar_format.specs.Refusal.{Refusal, InvalidMagic, UnsupportedVersion, UnsupportedByteOrder, LayoutMismatch, InvalidHeader, AllocationLimitExceeded, Truncated, TrailingData, unless, first_refusal, refusal}
 use Rattle.cedar_format.specs.declared.error.CedarPersistenceError.{CedarPersistenceError}
-use Rattle.cedar_format.specs.Reading.{BeginsWith, LacksTable}
+use Rattle.cedar_format.specs.Reading.{BeginsWithFront, LacksTable}
 
 -- the number that stands at a place of the bytes, the lowest byte first
 abbrev pub u8_at : ℕ → List ℕ → ℕ
@@ -199,7 +199,7 @@ pub record Passes (layout slots limit : ℕ) (bytes : Option (List ℕ)) (h : He
   pub front : List ℕ
   pub is : IsHeader layout front h
   pub sizes : size_refusal slots limit h ≡ None
-  pub first : BeginsWith bytes front
+  pub first : BeginsWithFront bytes front
 
 -- nothing is counted before the header has passed, and then as much as it allows
 abbrev pub CountsWithin : ℕ → ℕ → ℕ → Option (List ℕ) → (Header → ℕ) → ℕ → ℕ → Type 0

@@ -54,6 +54,6 @@ LacksNoMore passed (AllocationFailed n) = (h : Header) × passed h × ((n ≡ h.
 LacksNoMore passed _ = ⊤
 
 -- these bytes come first
-abbrev pub BeginsWith : Option (List ℕ) → List ℕ → Type 0
-BeginsWith None front = ⊤
-BeginsWith (Some bytes) front = take (length front) bytes ≡ front
+abbrev pub BeginsWithFront : Option (List ℕ) → List ℕ → Type 0
+BeginsWithFront None front = ⊤
+BeginsWithFront (Some bytes) front = take (length front) bytes ≡ front

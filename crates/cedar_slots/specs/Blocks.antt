@@ -70,16 +70,16 @@ ring_of Closed xs = xs
 ring_of Full xs = 0 ∷ xs
 
 -- the three lists, one of which is now xs
-abbrev pub replaced : (BlockType → List ℕ) → BlockType → List ℕ → BlockType → List ℕ
-replaced lists Open xs Open = xs
-replaced lists Open xs Closed = lists Closed
-replaced lists Open xs Full = lists Full
-replaced lists Closed xs Open = lists Open
-replaced lists Closed xs Closed = xs
-replaced lists Closed xs Full = lists Full
-replaced lists Full xs Open = lists Open
-replaced lists Full xs Closed = lists Closed
-replaced lists Full xs Full = xs
+abbrev pub lists_with : (BlockType → List ℕ) → BlockType → List ℕ → BlockType → List ℕ
+lists_with lists Open xs Open = xs
+lists_with lists Open xs Closed = lists Closed
+lists_with lists Open xs Full = lists Full
+lists_with lists Closed xs Open = lists Open
+lists_with lists Closed xs Closed = xs
+lists_with lists Closed xs Full = lists Full
+lists_with lists Full xs Open = lists Open
+lists_with lists Full xs Closed = lists Closed
+lists_with lists Full xs Full = xs
 
 -- how often a block stands in the three rings
 abbrev pub total : (BlockType → List ℕ) → ℕ → ℕ
@@ -121,5 +121,5 @@ pub record Sized (blocks : BlockFields) : Type 0 where
 -- what is left of the lists once a block has left one
 pub record Popped (after : BlockFields) (lists : BlockType → List ℕ) (list : BlockType) (b : ℕ) : Type 0 where
   pub rest : List ℕ
-  pub rings : ListRings after (replaced lists list rest)
+  pub rings : ListRings after (lists_with lists list rest)
   pub others : (x : ℕ) → occurs x (lists list) ≡ occurs x (b ∷ rest)

@@ -8,7 +8,7 @@ use Rattle.cedar_slots.specs.declared.shortage.Shortage.TheVariants.{Memory, Slo
 use Rattle.cedar_slots.specs.declared.blocks.Counts.{Counts}
 use Rattle.cedar_slots.specs.declared.records.BlockRecord.{BlockRecord}
 use Rattle.cedar_slots.specs.declared.records.NodeRecord.{NodeRecord}
-use Rattle.cedar_slots.specs.Slots.{AllFree, blank_info, blank_node, FreeRing, info_at, is_free, node_at, SlotFields, SlotLink}
+use Rattle.cedar_slots.specs.Slots.{AllFree, blank_info, blank_node, FreeRing, info_at, is_free, node_record_at, SlotFields, SlotLink}
 use Rattle.cedar_slots.specs.Ring.{first_of}
 
 -- the slots, the blocks in which they stand, and the reject values, as a file has them too
@@ -57,7 +57,7 @@ pub record Pruned (blocks : BlockFields) : Type 0 where
 
 -- what is not in use is blank
 pub record Inactive (table : PlaceFields) : Type 0 where
-  pub nodes : (s : ℕ) → 256 * table.blocks.active ≤ s → node_at table.slots.nodes s ≡ blank_node
+  pub nodes : (s : ℕ) → 256 * table.blocks.active ≤ s → node_record_at table.slots.nodes s ≡ blank_node
   pub infos : (s : ℕ) → 256 * table.blocks.active ≤ s → info_at table.slots.infos s ≡ blank_info
   pub blocks : (b : ℕ) → table.blocks.active ≤ b → block_at table.blocks.records b ≡ blank_block
 
@@ -82,23 +82,23 @@ pub record Sound (table : PlaceFields) : Type 0 where
 
 -- the slot e, which was free, holds the node given, and no other slot that was in use has changed
 pub record TakesSlot (before after : SlotFields) (e : ℕ) (node : NodeRecord) : Type 0 where
-  pub holds : node_at after.nodes e ≡ node
+  pub holds : node_record_at after.nodes e ≡ node
   pub used : is_free after.nodes e ≡ false
   pub free : (s : ℕ) → (s ≡ e → ⊥) → is_free after.nodes s ≡ is_free before.nodes s
-  pub kept : (s : ℕ) → (s ≡ e → ⊥) → is_free before.nodes s ≡ false → node_at after.nodes s ≡ node_at before.nodes s
+  pub kept : (s : ℕ) → (s ≡ e → ⊥) → is_free before.nodes s ≡ false → node_record_at after.nodes s ≡ node_record_at before.nodes s
   pub infos : after.infos ≡ before.infos
 
 -- the slot e, which was in use, is free, and no other slot that is in use has changed
 pub record FreesSlot (before after : SlotFields) (e : ℕ) : Type 0 where
   pub now_free : is_free after.nodes e ≡ true
   pub free : (s : ℕ) → (s ≡ e → ⊥) → is_free after.nodes s ≡ is_free before.nodes s
-  pub kept : (s : ℕ) → (s ≡ e → ⊥) → is_free before.nodes s ≡ false → node_at after.nodes s ≡ node_at before.nodes s
+  pub kept : (s : ℕ) → (s ≡ e → ⊥) → is_free before.nodes s ≡ false → node_record_at after.nodes s ≡ node_record_at before.nodes s
   pub infos : (s : ℕ) → (s ≡ e → ⊥) → info_at after.infos s ≡ info_at before.infos s
   pub blank : info_at after.infos e ≡ blank_info
 
 -- the two tables are the same, but that blank slots and blocks may have come to their ends
 pub record Grown (before after : PlaceFields) : Type 0 where
-  pub nodes : (s : ℕ) → node_at after.slots.nodes s ≡ node_at before.slots.nodes s
+  pub nodes : (s : ℕ) → node_record_at after.slots.nodes s ≡ node_record_at before.slots.nodes s
   pub infos : (s : ℕ) → info_at after.slots.infos s ≡ info_at before.slots.infos s
   pub records : (b : ℕ) → block_at after.blocks.records b ≡ block_at before.blocks.records b
   pub heads : (list : BlockType) → head_of after.blocks list ≡ head_of before.blocks list
@@ -115,7 +115,7 @@ pub record AddsBlock (before after : PlaceFields) (b : ℕ) : Type 0 where
   pub is_next : b ≡ before.blocks.active
   pub active : after.blocks.active ≡ before.blocks.active + 1
   pub free : (s : ℕ) → s / 256 ≡ b → is_free after.slots.nodes s ≡ true
-  pub nodes : (s : ℕ) → (s / 256 ≡ b → ⊥) → node_at after.slots.nodes s ≡ node_at before.slots.nodes s
+  pub nodes : (s : ℕ) → (s / 256 ≡ b → ⊥) → node_record_at after.slots.nodes s ≡ node_record_at before.slots.nodes s
   pub infos : (s : ℕ) → info_at after.slots.infos s ≡ info_at before.slots.infos s
   pub capacity : length after.blocks.records ≡ room_for_one before
   pub max_trial : after.blocks.max_trial ≡ before.blocks.max_trial
@@ -147,7 +147,7 @@ abbrev pub NoneFree : PlaceFields → Type 0
 NoneFree table = (slot : ℕ) → 0 < slot / 256 → slot / 256 < table.blocks.active → is_free table.slots.nodes slot ≡ false
 
 -- the block b stands in the open list
-pub record IsOpen (blocks : BlockFields) (b : ℕ) : Type 0 where
+pub record IsOpenBlock (blocks : BlockFields) (b : ℕ) : Type 0 where
   pub not_root : 0 < b
   pub is_active : b < blocks.active
   pub open_kind : kind_of blocks.max_trial (counts_at blocks.records b) ≡ Open
@@ -176,7 +176,7 @@ abbrev pub root_block : BlockRecord
 root_block = record { prev = pos 0; next = pos 0; num = pos 256; reject = pos 257; trial = pos 0; e_head = pos 1 }
 
 -- one block, whose slots but the root's are free, each before the next one in their ring
-pub record IsNew (places : PlaceFields) (trials : ℤ) : Type 0 where
+pub record IsNewPlaces (places : PlaceFields) (trials : ℤ) : Type 0 where
   pub nodes_len : length places.slots.nodes ≡ 256
   pub steps : (s : ℕ) → 1 ≤ s → s < 255 → SlotLink places.slots.nodes s (s + 1)
   pub last : SlotLink places.slots.nodes 255 1

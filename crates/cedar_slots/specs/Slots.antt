@@ -16,17 +16,17 @@ blank_node = record { base = pos 0; check = pos 0 }
 abbrev pub blank_info : NInfoRecord
 blank_info = record { sibling = 0; child = 0 }
 
-abbrev pub node_at : List NodeRecord → ℕ → NodeRecord
-node_at nodes s = slice_index_or nodes s blank_node
+abbrev pub node_record_at : List NodeRecord → ℕ → NodeRecord
+node_record_at nodes s = slice_index_or nodes s blank_node
 
 abbrev pub info_at : List NInfoRecord → ℕ → NInfoRecord
 info_at infos s = slice_index_or infos s blank_info
 
 abbrev pub check_at : List NodeRecord → ℕ → ℤ
-check_at nodes s = (node_at nodes s).check
+check_at nodes s = (node_record_at nodes s).check
 
 abbrev pub base_at : List NodeRecord → ℕ → ℤ
-base_at nodes s = (node_at nodes s).base
+base_at nodes s = (node_record_at nodes s).base
 
 abbrev pub set_check : List NodeRecord → ℕ → ℤ → List NodeRecord
 set_check nodes s z = slice_set nodes s (record { base = base_at nodes s; check = z })
@@ -39,15 +39,15 @@ abbrev pub SlotLink : List NodeRecord → ℕ → ℕ → Type 0
 SlotLink nodes a b = (check_at nodes a ≡ neg_ℤ (pos b)) × (base_at nodes b ≡ neg_ℤ (pos a))
 
 -- the nodes once b stands after a
-unfoldable pub linked : List NodeRecord → ℕ → ℕ → List NodeRecord
-linked nodes a b = set_base (set_check nodes a (neg_ℤ (pos b))) b (neg_ℤ (pos a))
+unfoldable pub nodes_after_link : List NodeRecord → ℕ → ℕ → List NodeRecord
+nodes_after_link nodes a b = set_base (set_check nodes a (neg_ℤ (pos b))) b (neg_ℤ (pos a))
 
 -- the nodes once s has left its ring, where it stood between a and b, and holds the node given
 abbrev pub taken_between : List NodeRecord → ℕ → ℕ → ℕ → NodeRecord → List NodeRecord
-taken_between nodes a b s node = slice_set (linked nodes a b) s node
+taken_between nodes a b s node = slice_set (nodes_after_link nodes a b) s node
 
-unfoldable pub taken : List NodeRecord → ℕ → NodeRecord → List NodeRecord
-taken nodes s node = taken_between nodes (unsigned_abs (base_at nodes s)) (unsigned_abs (check_at nodes s)) s node
+unfoldable pub nodes_after_take : List NodeRecord → ℕ → NodeRecord → List NodeRecord
+nodes_after_take nodes s node = taken_between nodes (unsigned_abs (base_at nodes s)) (unsigned_abs (check_at nodes s)) s node
 
 -- a slot is free where its check is below 0; the root is not
 abbrev pub is_free : List NodeRecord → ℕ → Bool
@@ -65,15 +65,15 @@ pub record FreeRing (nodes : List NodeRecord) (infos : List NInfoRecord) (b : �
 
 -- the node of each slot outside the block b is as it was
 abbrev pub SameOutside : ℕ → List NodeRecord → List NodeRecord → Type 0
-SameOutside b before after = (s : ℕ) → (s / 256 ≡ b → ⊥) → node_at after s ≡ node_at before s
+SameOutside b before after = (s : ℕ) → (s / 256 ≡ b → ⊥) → node_record_at after s ≡ node_record_at before s
 
 -- the nodes once the slot s stands in a ring of its own
 unfoldable pub given_alone : List NodeRecord → ℕ → List NodeRecord
-given_alone nodes s = linked nodes s s
+given_alone nodes s = nodes_after_link nodes s s
 
 -- the nodes once s stands between a and b
 abbrev pub given_between : List NodeRecord → ℕ → ℕ → ℕ → List NodeRecord
-given_between nodes a b s = linked (linked nodes a s) s b
+given_between nodes a b s = nodes_after_link (nodes_after_link nodes a s) s b
 
 -- the nodes once s stands after the free slot h
 unfoldable pub given_after : List NodeRecord → ℕ → ℕ → List NodeRecord

@@ -1,7 +1,7 @@
 //! The blocks, and the lists in which they stand.
 
 ghost use Rattle.std.specs.Prelude.{◌≡◌, ℕ, ◌+◌, ◌^◌, ◌<◌, ◌≤◌, ◌+ℤ◌, ◌<ℤ◌, ◌≤ℤ◌, ℤ, List, ◌∷◌, IsTrue, length, unsigned_abs, pos};
-ghost use Rattle.cedar_slots.specs.Words.{block_at, blocks_of, counts_at, fresh_counts, HasLists, head_of, KeepsCounts, KeepsLinks, kind_of, linked_blocks, ListRings, next_at, occurs, Popped, prev_at, replaced, SameFrom, Sized, total};
+ghost use Rattle.cedar_slots.specs.Words.{block_at, blocks_of, counts_at, fresh_counts, HasLists, head_of, KeepsCounts, KeepsLinks, kind_of, linked_blocks, ListRings, next_at, occurs, Popped, prev_at, lists_with, SameFrom, Sized, total};
 ghost use Rattle.std.specs.Int.{int_max};
 ghost use Rattle.cedar_slots.specs.declared.blocks.BlockType.{BlockType};
 
@@ -278,7 +278,7 @@ impl<A: Allocator> Blocks<A> {
         requires active_in { self.old.active ≤ length self.old.records.items }
         requires fits { length self.old.records.items ≤ 2 ^ 30 }
         ensures idle { SameFrom self.old.active self.old.records.items self.new.records.items }
-        ensures pushed { (lists : BlockType → List ℕ) → ListRings (blocks_of self.old) lists → total lists block ≡ 0 → ListRings (blocks_of self.new) (replaced lists list (block ∷ lists list)) }
+        ensures pushed { (lists : BlockType → List ℕ) → ListRings (blocks_of self.old) lists → total lists block ≡ 0 → ListRings (blocks_of self.new) (lists_with lists list (block ∷ lists list)) }
         ensures counts { KeepsCounts self.old.records.items self.new.records.items }
         ensures len { length self.new.records.items ≡ length self.old.records.items }
         ensures active { self.new.active ≡ self.old.active }

@@ -2,7 +2,7 @@
 
 ghost use Rattle.std.specs.List.{range_with_len};
 ghost use Rattle.std.specs.Prelude.{◌+◌, count_by, not, slice_set, IfErr, IfNone, IfOk, IfSome, length, OnErr, OnOk, ◌≡◌, ◌≤◌, ◌⊎◌, ℕ, ◌==◌, if◌then◌else◌, ◌<◌, ◌*◌, ◌/◌, ◌^◌, ◌≤ℤ◌, false, int_lt, pos, true};
-ghost use Rattle.cedar_slots.specs.Words.{AddsBlock, blocks_of, counts_at, FreesSlot, Grown, is_free, IsBase, IsFreePlace, IsNew, IsOpen, IsPowerOfTwo, IsSlotLimit, IsStart, MayRefuse, node_at, NoneFree, places_of, reject_at, Rejects, room_for_one, SameSlots, Shaped, slots_of, Sound, TakesSlot, Within};
+ghost use Rattle.cedar_slots.specs.Words.{AddsBlock, blocks_of, counts_at, FreesSlot, Grown, is_free, IsBase, IsFreePlace, IsNewPlaces, IsOpenBlock, IsPowerOfTwo, IsSlotLimit, IsStart, MayRefuse, node_record_at, NoneFree, places_of, reject_at, Rejects, room_for_one, SameSlots, Shaped, slots_of, Sound, TakesSlot, Within};
 
 use crate::blocks::{BlockType, Blocks};
 use crate::records::{BlockRecord, NInfoRecord, NodeRecord};
@@ -44,8 +44,8 @@ impl<A: Allocator> Places<A> {
         A: Copy,
         requires { pos 1 ≤ℤ max_trial }
         ensures sound { IfOk result (λ places. Sound (places_of places)) }
-        ensures made { IfOk result (λ places. IsNew (places_of places) max_trial) }
-        ensures root { IfOk result (λ places. node_at places.slots.nodes.items 0 ≡ root) }
+        ensures made { IfOk result (λ places. IsNewPlaces (places_of places) max_trial) }
+        ensures root { IfOk result (λ places. node_record_at places.slots.nodes.items 0 ≡ root) }
     {
         let mut slots = Slots {
             nodes: vec![in alloc; NodeRecord::BLANK; BLOCK_SIZE]?,
@@ -304,7 +304,7 @@ impl<A: Allocator> Places<A> {
     /// Notes that `wanted` labels found no place in `block`, which is closed after `max_trial` times.
     fn count_failure(&mut self, block: usize, wanted: i16)
         requires sound { Sound (places_of self.old) }
-        requires open { IsOpen (blocks_of self.old.blocks) block }
+        requires open { IsOpenBlock (blocks_of self.old.blocks) block }
         requires some { pos 1 ≤ℤ wanted }
         requires few { wanted ≤ℤ pos 256 }
         ensures sound { Sound (places_of self.new) }

@@ -1,7 +1,7 @@
 //! The slots, and the rings in which the free ones stand.
 
 ghost use Rattle.std.specs.Prelude.{◌≡◌, ℕ, ◌+◌, ◌*◌, ◌/◌, ◌^◌, ◌<◌, ◌≤◌, ◌⊎◌, ◌-◌, bit_xor, IsTrue, length, slice_index_or, slice_set, true, unsigned_abs};
-ghost use Rattle.cedar_slots.specs.Slots.{AllFree, base_at, blank_info, check_at, given_after, given_alone, is_free, linked, node_at, SlotLink, taken};
+ghost use Rattle.cedar_slots.specs.Slots.{AllFree, base_at, blank_info, check_at, given_after, given_alone, is_free, nodes_after_link, node_record_at, SlotLink, nodes_after_take};
 
 use crate::records::{NInfoRecord, NodeRecord};
 use std::alloc::Allocator;
@@ -39,7 +39,7 @@ impl<A: Allocator> Slots<A> {
         requires to_in { to < length self.old.nodes.items }
         requires from_fits { from < 2 ^ 31 }
         requires to_fits { to < 2 ^ 31 }
-        ensures nodes { self.new.nodes.items ≡ linked self.old.nodes.items from to }
+        ensures nodes { self.new.nodes.items ≡ nodes_after_link self.old.nodes.items from to }
         ensures infos { self.new.infos.items ≡ self.old.infos.items }
         ensures len { length self.new.nodes.items ≡ length self.old.nodes.items }
     {
@@ -48,13 +48,13 @@ impl<A: Allocator> Slots<A> {
     }
 
     /// Takes `slot` out of its ring, and stores `node` in it.
-    #[tactic(auto, unfolding(crate::specs::Slots::taken))]
+    #[tactic(auto, unfolding(crate::specs::Slots::nodes_after_take))]
     pub(crate) fn take(&mut self, slot: usize, node: NodeRecord)
         requires slot_in { slot < length self.old.nodes.items }
         requires previous_in { unsigned_abs (base_at self.old.nodes.items slot) < length self.old.nodes.items }
         requires next_in { unsigned_abs (check_at self.old.nodes.items slot) < length self.old.nodes.items }
         requires fits { length self.old.nodes.items ≤ 2 ^ 30 }
-        ensures nodes { self.new.nodes.items ≡ taken self.old.nodes.items slot node }
+        ensures nodes { self.new.nodes.items ≡ nodes_after_take self.old.nodes.items slot node }
         ensures infos { self.new.infos.items ≡ self.old.infos.items }
         ensures len { length self.new.nodes.items ≡ length self.old.nodes.items }
     {
@@ -104,7 +104,7 @@ impl<A: Allocator> Slots<A> {
         requires fits { length self.old.nodes.items ≤ 2 ^ 30 }
         ensures steps { (s : ℕ) → first ≤ s → s < first + 255 → SlotLink self.new.nodes.items s (s + 1) }
         ensures last { SlotLink self.new.nodes.items (first + 255) first }
-        ensures outside { (s : ℕ) → (s < first) ⊎ (first + 256 ≤ s) → node_at self.new.nodes.items s ≡ node_at self.old.nodes.items s }
+        ensures outside { (s : ℕ) → (s < first) ⊎ (first + 256 ≤ s) → node_record_at self.new.nodes.items s ≡ node_record_at self.old.nodes.items s }
         ensures infos { self.new.infos.items ≡ self.old.infos.items }
         ensures len { length self.new.nodes.items ≡ length self.old.nodes.items }
     {
@@ -118,7 +118,7 @@ impl<A: Allocator> Slots<A> {
     /// Stores the root, and frees all other slots of block 0, each before the next one in their ring.
     pub(crate) fn free_root_block(&mut self, root: NodeRecord)
         requires { length self.old.nodes.items ≡ 256 }
-        ensures root { node_at self.new.nodes.items 0 ≡ root }
+        ensures root { node_record_at self.new.nodes.items 0 ≡ root }
         ensures steps { (s : ℕ) → 1 ≤ s → s < 255 → SlotLink self.new.nodes.items s (s + 1) }
         ensures last { SlotLink self.new.nodes.items 255 1 }
         ensures infos { self.new.infos.items ≡ self.old.infos.items }

@@ -4,7 +4,7 @@ use Rattle.std.proofs.lemmas.Bool.{cases_eq, cond-false, cond-true, eq-eqb, ne_e
 use Rattle.cedar_slots.specs.Places.{Grown, IsPowerOfTwo, IsTable, PlaceFields}
 use Rattle.cedar_slots.proofs.PlacementLemmas.Growth.{double_within, power-doubled}
 use Rattle.cedar_model.specs.Edit.Steps.{blocks_after}
-use Rattle.cedar_model.specs.Meaning.Marks.{marked, marks}
+use Rattle.cedar_model.specs.Meaning.Marks.{marks_below, marks}
 use Rattle.cedar_model.specs.Meaning.WellFormed.{cells_in, IsWellFormed, tree_of}
 use Rattle.cedar_model.specs.Meaning.StandsFor.{HoldsTree}
 use Rattle.cedar_model.specs.Table.Cells.{Cells, cells_of}
@@ -124,4 +124,4 @@ module _ (slots : ℕ) (T T' : Fields) (well : IsWellFormed slots T) (table : Is
   grown_tree = kept.1
 
   pub grown_marks : marks T' ≡ marks T
-  grown_marks = λ i. record { number = None; children = marked (same_cells i) 0 (kept.1 i).children }
+  grown_marks = λ i. record { number = None; children = marks_below (same_cells i) 0 (kept.1 i).children }

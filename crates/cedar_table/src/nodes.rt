@@ -7,7 +7,7 @@ use cedar_slots::NodeRecord;
 use std::alloc::Allocator;
 
 impl<L: Layout, const SLOTS: usize, A: Allocator> Table<L, SLOTS, A> {
-    ghost use Rattle.cedar_table.specs.Words.{base_of, below, cells, ChecksAt, edit_at, empty_tree, Family, fields, FieldSet, Forest, HasNode, HasPath, Head, Held, is_value, IsAt, IsNode, IsTable, IsWellFormed, Links, node_at, number_at, owned, OwnsNothing, Rebased, reduced_layout, SameFrame, size_of, TableHolds, tree_of};
+    ghost use Rattle.cedar_table.specs.Words.{base_of, below, cells, ChecksAt, edit_at, empty_tree, Family, fields, FieldSet, Forest, HasNode, HasPath, Head, Held, is_value, IsAt, IsNode, IsTable, IsWellFormed, Links, node_at, number_at, owned_slots, OwnsNothing, Rebased, reduced_layout, SameFrame, size_of, TableHolds, tree_of};
     ghost use Rattle.cedar_model.specs.declared.layout.Stored.TheVariants.{Nothing, OwnNumber};
     ghost use Rattle.std.specs.Prelude.{◌<◌, ◌^◌, ◌↔◌, ◌≡◌, ◌≢◌, IsTrue, List, MatchOption, None, [], false, pos, ℕ, Some, true};
 
@@ -121,7 +121,7 @@ impl<L: Layout, const SLOTS: usize, A: Allocator> Table<L, SLOTS, A> {
         requires node_in { node < size_of (fields self.now) }
         requires not_root { node ≢ 0 }
         requires node { IsNode (size_of (fields self.now)) (cells self.now) node }
-        ensures { (h : Head) (ls : List ℕ) → Family (size_of (fields self.now)) (cells self.now) node h ls → result.items ≡ owned h [] }
+        ensures { (h : Head) (ls : List ℕ) → Family (size_of (fields self.now)) (cells self.now) node h ls → result.items ≡ owned_slots h [] }
     {
         let mut labels = ArrayVec::new();
         if self.has_number_slot(node) {
@@ -137,7 +137,7 @@ impl<L: Layout, const SLOTS: usize, A: Allocator> Table<L, SLOTS, A> {
         requires node_in { node < size_of (fields self.now) }
         requires not_root { node ≢ 0 }
         requires node { IsNode (size_of (fields self.now)) (cells self.now) node }
-        ensures { (h : Head) (ls : List ℕ) → Family (size_of (fields self.now)) (cells self.now) node h ls → result.items ≡ owned h ls }
+        ensures { (h : Head) (ls : List ℕ) → Family (size_of (fields self.now)) (cells self.now) node h ls → result.items ≡ owned_slots h ls }
     {
         let mut labels = self.number_label(node);
         let base = self.base_of(node);

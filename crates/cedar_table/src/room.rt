@@ -1,7 +1,7 @@
 //! Room for blocks that are still to come into use.
 
 ghost use Rattle.std.specs.Prelude.{◌≡◌, ◌<◌, ◌≤◌, ◌+◌, ◌*◌, ◌^◌, IfErr, length, OnErr, OnOk};
-ghost use Rattle.cedar_table.specs.Words.{blocks_after, capacity_of, cells, fields, Grown, IsWellFormed, LacksRoom, marks, SameSettings, size_of, tree_of};
+ghost use Rattle.cedar_table.specs.Words.{blocks_after, capacity_of, cells, fields, Grown, IsWellFormed, LacksBlocks, marks, SameSettings, size_of, tree_of};
 
 use crate::table::Table;
 use cedar_model::Layout;
@@ -37,7 +37,7 @@ impl<L: Layout, const SLOTS: usize, A: Allocator> Table<L, SLOTS, A> {
         ensures capacity { OnOk result (length (fields self.new).places.blocks.records ≡ blocks_after blocks (fields self.old).places.blocks.active (length (fields self.old).places.blocks.records)) }
         ensures spare { OnOk result (size_of (fields self.new) + 256 * blocks ≤ capacity_of (fields self.new)) }
         ensures enough { size_of (fields self.old) + 256 * blocks ≤ capacity_of (fields self.old) → fields self.new ≡ fields self.old }
-        ensures refused { IfErr result (LacksRoom (fields self.old) SLOTS blocks) }
+        ensures refused { IfErr result (LacksBlocks (fields self.old) SLOTS blocks) }
         ensures unchanged { OnErr result (fields self.new ≡ fields self.old) }
     {
         if blocks <= self.spare_blocks() {

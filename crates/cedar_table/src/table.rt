@@ -31,7 +31,7 @@ impl<L: Layout, const SLOTS: usize, A: Allocator> Table<L, SLOTS, A> {
     ghost use Rattle.std.specs.Prelude.{ℕ, ◌<◌, ◌^◌, ◌⊎◌, ◌+◌, ◌-◌, ◌/◌, ◌↔◌, count_by, IfErr, IfOk, IsTrue, negsuc, OnErr};
     ghost use Rattle.std.specs.List.{range_with_len};
     ghost use Rattle.cedar_slots.specs.declared.shortage.Shortage.TheVariants.{Memory};
-    ghost use Rattle.cedar_table.specs.Words.{AddsBlock, block_at, capacity_of, cells, check_at, empty_tree, fields, freed, Gives, HasPlaces, Held, InfoWritten, is_held, IsNew, IsPlace, IsWellFormed, MakesBlocks, MayClaim, MayRefuse, NodeWritten, NoPlace, reading, reject_at, SameFrame, SameHeld, SameSettings, SameSlots, size_of, Takes, tree_of};
+    ghost use Rattle.cedar_table.specs.Words.{AddsBlock, block_at, capacity_of, cells, check_at, empty_tree, fields, cells_without, Gives, HasPlaces, Held, InfoWritten, is_held, IsNewPlaces, IsPlace, IsWellFormed, MakesBlocks, MayClaim, MayRefuse, NodeWritten, NoPlace, reading, reject_at, SameFrame, SameHeld, SameSettings, SameSlots, size_of, Takes, tree_of};
 
     /// A table with one block, in which the root alone is held. It stands for the empty tree.
     pub fn new(alloc: A, ordered: bool, max_trial: i32) -> Result<Self, Shortage>
@@ -42,7 +42,7 @@ impl<L: Layout, const SLOTS: usize, A: Allocator> Table<L, SLOTS, A> {
         ensures well_formed { IfOk result (λ table. IsWellFormed SLOTS (fields table)) }
         ensures tree { IfOk result (λ table. tree_of (fields table) ≡ empty_tree) }
         ensures sound { IfOk result (λ table. IsTable SLOTS (fields table).places) }
-        ensures made { IfOk result (λ table. IsNew (fields table).places max_trial) }
+        ensures made { IfOk result (λ table. IsNewPlaces (fields table).places max_trial) }
         ensures root_check { IfOk result (λ table. (cells table).check 0 ≡ negsuc 0) }
         ensures root_base { IfOk result (λ table. (cells table).stored 0 ≡ Stored.AtBase 0) }
         ensures ordered { IfOk result (λ table. (fields table).ordered ≡ ordered) }
@@ -93,7 +93,7 @@ impl<L: Layout, const SLOTS: usize, A: Allocator> Table<L, SLOTS, A> {
     pub fn claim(&mut self, slot: usize, base: i32, owner: usize)
         requires { MayClaim SLOTS (fields self.old) slot owner }
         ensures sound { IsTable SLOTS (fields self.new).places }
-        ensures takes { Takes (freed (cells self.old) slot) (cells self.new) slot owner }
+        ensures takes { Takes (cells_without (cells self.old) slot) (cells self.new) slot owner }
         ensures base { (cells self.new).base slot ≡ base }
         ensures stored { (cells self.new).stored slot ≡ reading L.kind base }
         ensures frame { SameFrame (fields self.old) (fields self.new) }

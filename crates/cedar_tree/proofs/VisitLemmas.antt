@@ -6,7 +6,7 @@ use Rattle.std.proofs.lemmas.List.{append-nil, map-append}
 use Rattle.std.proofs.lemmas.List.Elements.{filter_map-append}
 use Rattle.cedar_tree.specs.Tree.{Forest, none, child, Tree, has_label, subtree, IsSoundBelow}
 use Rattle.cedar_tree.specs.Queries.{Entry, own_entry, under, walk_forest, walk, predict, node_at}
-use Rattle.cedar_tree.specs.Walks.{Visit, visit_from, visits_below, entries_of, behind, forwards, node_up, visits_after, visits_left}
+use Rattle.cedar_tree.specs.Walks.{Visit, visit_from, visits_below, visited_entries, behind, forwards, node_up, visits_after, visits_left}
 use Rattle.cedar_tree.proofs.CutLemmas.{node_at-end}
 use Rattle.cedar_tree.proofs.PredictLemmas.{map-after, predict-node}
 
@@ -100,36 +100,36 @@ goes_up t up l is = ap (λ (f : Forest). map (visit_from (forwards up)) (visits_
 
 -- ---- where it begins
 
-entries_under : (l : ℕ) (vs : List Visit) → entries_of (map (visit_from (l ∷ [])) vs) ≡ map (under l) (entries_of vs)
+entries_under : (l : ℕ) (vs : List Visit) → visited_entries (map (visit_from (l ∷ [])) vs) ≡ map (under l) (visited_entries vs)
 entries_under l [] = refl
 entries_under l (v ∷ vs) =
-    elim v.1 as (λ o. cons_option (option_map (λ (x : ℤ). (l ∷ v.0, x)) o) (entries_of (map (visit_from (l ∷ [])) vs)) ≡ map (under l) (cons_option (option_map (λ (x : ℤ). (v.0, x)) o) (entries_of vs))) [
+    elim v.1 as (λ o. cons_option (option_map (λ (x : ℤ). (l ∷ v.0, x)) o) (visited_entries (map (visit_from (l ∷ [])) vs)) ≡ map (under l) (cons_option (option_map (λ (x : ℤ). (v.0, x)) o) (visited_entries vs))) [
       | None ↦ entries_under l vs
       | Some x ↦ ap (λ (r : List Entry). (l ∷ v.0, x) ∷ r) (entries_under l vs)
     ]
 
-entries_own : (n : Option ℤ) (vs : List Visit) → entries_of (([], n) ∷ vs) ≡ own_entry n ++ entries_of vs
+entries_own : (n : Option ℤ) (vs : List Visit) → visited_entries (([], n) ∷ vs) ≡ own_entry n ++ visited_entries vs
 entries_own None vs = refl
 entries_own (Some v) vs = refl
 
-entries_below : (f : Forest) → entries_of (visits_below f) ≡ walk_forest f
+entries_below : (f : Forest) → visited_entries (visits_below f) ≡ walk_forest f
 entries_below none = refl
 entries_below (child l n below rest) =
     filter_map-append (λ (v : Visit). option_map (λ (x : ℤ). (v.0, x)) v.1) (map (visit_from (l ∷ [])) (([], n) ∷ visits_below below)) (visits_below rest)
-    ∙ ap (λ (x : List Entry). x ++ entries_of (visits_below rest)) (entries_under l (([], n) ∷ visits_below below) ∙ ap (map (under l)) (entries_own n (visits_below below) ∙ ap (λ (x : List Entry). own_entry n ++ x) (entries_below below)))
+    ∙ ap (λ (x : List Entry). x ++ visited_entries (visits_below rest)) (entries_under l (([], n) ∷ visits_below below) ∙ ap (map (under l)) (entries_own n (visits_below below) ∙ ap (λ (x : List Entry). own_entry n ++ x) (entries_below below)))
     ∙ ap (λ (x : List Entry). map (under l) (own_entry n ++ walk_forest below) ++ x) (entries_below rest)
 
 visits_from_none : (vs : List Visit) → map (visit_from []) vs ≡ vs
 visits_from_none [] = refl
 visits_from_none (v ∷ vs) = ap (λ (r : List Visit). v ∷ r) (visits_from_none vs)
 
-pub walk_visits : (t : Tree) → walk t ≡ entries_of (([], t.number) ∷ visits_left t [])
+pub walk_visits : (t : Tree) → walk t ≡ visited_entries (([], t.number) ∷ visits_left t [])
 walk_visits t =
     ap (λ (x : List Entry). own_entry t.number ++ x) (sym (entries_below t.children))
-    ∙ ap (λ (x : List Visit). own_entry t.number ++ entries_of x) (sym (append-nil (map (visit_from []) (visits_below t.children)) ∙ visits_from_none (visits_below t.children)))
+    ∙ ap (λ (x : List Visit). own_entry t.number ++ visited_entries x) (sym (append-nil (map (visit_from []) (visits_below t.children)) ∙ visits_from_none (visits_below t.children)))
     ∙ sym (entries_own t.number (visits_left t []))
 
-pub predict_visits : (t : Tree) (q : List ℕ) → IsSoundBelow t.children → predict t q ≡ map (λ entry. (entry.1, length entry.0)) (entries_of (([], (node_at t q).number) ∷ visits_left (node_at t q) []))
+pub predict_visits : (t : Tree) (q : List ℕ) → IsSoundBelow t.children → predict t q ≡ map (λ entry. (entry.1, length entry.0)) (visited_entries (([], (node_at t q).number) ∷ visits_left (node_at t q) []))
 predict_visits t q s = predict-node t q s ∙ ap (map (λ (entry : Entry). (entry.1, length entry.0))) (walk_visits (node_at t q))
 
 pub node_up_is : (t : Tree) (up : List ℕ) → node_up t up ≡ node_at t (forwards up)

@@ -23,8 +23,8 @@ visits_below none = []
 visits_below (child l n below rest) = map (visit_from (l ∷ [])) (([], n) ∷ visits_below below) ++ visits_below rest
 
 -- the entries of some nodes: those that have a number
-abbrev pub entries_of : List Visit → List Entry
-entries_of visits = filter_map (λ visit. option_map (λ v. (visit.0, v)) visit.1) visits
+abbrev pub visited_entries : List Visit → List Entry
+visited_entries visits = filter_map (λ visit. option_map (λ v. (visit.0, v)) visit.1) visits
 
 -- the siblings after the one with this label
 abbrev pub behind : Forest → ℕ → Forest

@@ -4,7 +4,7 @@ ghost use Rattle.std.specs.Prelude.{◌≡◌, ℕ, ◌+◌, ◌-◌, ◌<◌, �
 ghost use Rattle.std.specs.List.{cons_option};
 ghost use Rattle.cedar_tree.specs.Tree.{empty_tree, Forest, none, child, Tree, has_label, IsSoundBelow, number_at, subtree};
 ghost use Rattle.cedar_tree.specs.Queries.{front, node_at, predict, walk};
-ghost use Rattle.cedar_tree.specs.Walks.{behind, entries_of, forwards, front_from, node_up, visits_after, visits_left};
+ghost use Rattle.cedar_tree.specs.Walks.{behind, visited_entries, forwards, front_from, node_up, visits_after, visits_left};
 
 /// A walk over all nodes goes on to the first child of its node, or else to the sibling after it, or else to the one after the
 /// nearest node above that has one; and then it is where the walk from there on is what it has left.
@@ -18,8 +18,8 @@ pub fn walks_go_on()
 /// From the root on a walk over all nodes comes to all entries, in their order; from the node of a query on to what is predicted
 /// for it.
 pub fn walks_begin()
-    ensures entries { (t : Tree) → walk t ≡ entries_of (([], t.number) ∷ visits_left t []) }
-    ensures predicted { (t : Tree) (q : List ℕ) → IsSoundBelow t.children → predict t q ≡ map (λ entry. (entry.1, length entry.0)) (entries_of (([], (node_at t q).number) ∷ visits_left (node_at t q) [])) }
+    ensures entries { (t : Tree) → walk t ≡ visited_entries (([], t.number) ∷ visits_left t []) }
+    ensures predicted { (t : Tree) (q : List ℕ) → IsSoundBelow t.children → predict t q ≡ map (λ entry. (entry.1, length entry.0)) (visited_entries (([], (node_at t q).number) ∷ visits_left (node_at t q) [])) }
     ensures nodes { (t : Tree) (up : List ℕ) → node_up t up ≡ node_at t (forwards up) }
 {}
 

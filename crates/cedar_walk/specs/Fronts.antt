@@ -13,6 +13,6 @@ pub record IsOnQuery (T : Fields) (query : List ℕ) (place s : ℕ) : Type 0 wh
   pub stands : Stands (size_of T) (cells_in T) s (node_at (tree_of T) (take place query))
 
 -- how many bytes of a query were looked at
-abbrev pub passed : List ℕ → Option Front → ℕ
-passed query (Some front) = front.len
-passed query None = length query
+abbrev pub front_length : List ℕ → Option Front → ℕ
+front_length query (Some front) = front.len
+front_length query None = length query

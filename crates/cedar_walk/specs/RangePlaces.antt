@@ -2,13 +2,13 @@
 use Rattle.std.specs.Prelude.{◌≡◌, ◌⊎◌, ℕ, ◌<◌, ◌≤◌, false, true, get_or, List, [], ◌++◌, length, map, take}
 use Rattle.cedar_tree.specs.Tree.{Forest, has_label}
 use Rattle.cedar_tree.specs.Queries.{node_at}
-use Rattle.cedar_tree.specs.Walks.{behind, entries_of, node_up, Visit, visit_from, visits_below}
+use Rattle.cedar_tree.specs.Walks.{behind, visited_entries, node_up, Visit, visit_from, visits_below}
 use Rattle.cedar_model.specs.Edit.NodeEdits.{IsAt}
 use Rattle.cedar_model.specs.Table.TableFields.{Fields}
 use Rattle.cedar_model.specs.Meaning.WellFormed.{cells_in, tree_of}
 use Rattle.cedar_walk.specs.declared.ranges.Reached.{Reached}
 use Rattle.cedar_walk.specs.declared.visits.Place.{Place}
-use Rattle.cedar_walk.specs.Visits.{entries_at, first_of, IsBelow, left_after, path_to, way_up}
+use Rattle.cedar_walk.specs.Visits.{entries_at, first_sibling_label, IsBelow, left_after, path_to, way_up}
 use Rattle.cedar_walk.specs.Ranges.{siblings_above}
 
 -- some last siblings: all, or those behind one
@@ -20,7 +20,7 @@ pub record AboveFrom (f : Forest) (m next : ℕ) : Type 0 where
   pub rest : Forest
   pub last : AreLast f rest
   pub same : siblings_above f m ≡ siblings_above rest m
-  pub first : next ≡ first_of rest
+  pub first : next ≡ first_sibling_label rest
 
 -- the deepest node on the way along a key
 pub record IsReached (T : Fields) (key : List ℕ) (reached : Reached) : Type 0 where
@@ -38,4 +38,4 @@ left_above T n s label =
 pub record BeginsAt (T : Fields) (left : List Visit) (place : Place) : Type 0 where
   pub below : IsBelow (cells_in T) [] place.depth place.slot
   pub deep : 0 < place.depth
-  pub entries : entries_of left ≡ entries_at T [] place.depth place.slot
+  pub entries : visited_entries left ≡ entries_at T [] place.depth place.slot

@@ -2,7 +2,7 @@
 use Rattle.std.specs.Prelude.{◌≡◌, ℕ, ℤ, zero, suc, ◌+◌, ◌-◌, ◌<◌, ◌≤◌, List, [], ◌∷◌, ◌++◌, length, Option, Some, take, unsigned_abs}
 use Rattle.cedar_tree.specs.Tree.{Forest, none, child}
 use Rattle.cedar_tree.specs.Queries.{Entry, node_at}
-use Rattle.cedar_tree.specs.Walks.{Visit, entries_of, forwards, visits_after, visits_left}
+use Rattle.cedar_tree.specs.Walks.{Visit, visited_entries, forwards, visits_after, visits_left}
 use Rattle.cedar_walk.specs.declared.visits.Numbered.{Numbered}
 use Rattle.cedar_walk.specs.declared.visits.Place.{Place}
 use Rattle.cedar_walk.specs.declared.visits.Visited.{Visited}
@@ -26,9 +26,9 @@ abbrev pub IsBelow : Cells → List ℕ → ℕ → ℕ → Type 0
 IsBelow T start n s = IsAt T (start ++ forwards (way_up T n s)) s
 
 -- the first label of some siblings, and 0 if there is none
-abbrev pub first_of : Forest → ℕ
-first_of none = 0
-first_of (child l n below rest) = l
+abbrev pub first_sibling_label : Forest → ℕ
+first_sibling_label none = 0
+first_sibling_label (child l n below rest) = l
 
 -- what a walk below the path `start` has left where it has been at slot s, n labels below, and not yet below it
 abbrev pub left_at : Fields → List ℕ → ℕ → ℕ → List Visit
@@ -69,10 +69,10 @@ visited_at T start place = record {
 
 -- the entries that a walk below the path `start` has left where it has come to slot s, n labels below, and not yet been at it
 abbrev pub entries_at : Fields → List ℕ → ℕ → ℕ → List Entry
-entries_at T start n s = entries_of ((path_to T n s, number_below T start n s) ∷ left_at T start n s)
+entries_at T start n s = visited_entries ((path_to T n s, number_below T start n s) ∷ left_at T start n s)
 
 -- a walk below the path `start` that had these entries left comes to a node with a number: the first of those left
 pub record ComesToNumber (T : Fields) (start : List ℕ) (left : List Entry) (next : Numbered) : Type 0 where
   pub below : IsBelow (cells_in T) start next.depth next.slot
   pub number : number_below T start next.depth next.slot ≡ Some next.number
-  pub entries : left ≡ (path_to T next.depth next.slot, next.number) ∷ entries_of (left_at T start next.depth next.slot)
+  pub entries : left ≡ (path_to T next.depth next.slot, next.number) ∷ visited_entries (left_at T start next.depth next.slot)

@@ -1,7 +1,7 @@
 //! The next front of a query that is held.
 
 ghost use Rattle.std.specs.Prelude.{◌≡◌, ◌∷◌, [], ◌+◌, ◌*◌, ◌-◌, ◌<◌, ◌≤◌, length, MatchOption};
-ghost use Rattle.cedar_walk.specs.Words.{fields, front_from, IsOnQuery, IsWellFormed, passed, tree_of};
+ghost use Rattle.cedar_walk.specs.Words.{fields, front_from, IsOnQuery, IsWellFormed, front_length, tree_of};
 
 use cedar_model::Layout;
 use cedar_slots::Ticks;
@@ -34,7 +34,7 @@ pub fn next_held_front<L: Layout, const SLOTS: usize, A: Allocator, C: Ledger>(
     ensures answer { MatchOption result (front_from (tree_of (fields table.now)) query.now place ≡ []) (λ front.
         (0 < front.len) × (front_from (tree_of (fields table.now)) query.now place ≡ (front.number, front.len - 1) ∷ front_from (tree_of (fields table.now)) query.now front.len)) }
     ensures on { MatchOption result (place ≤ length query.now) (λ front. (place < front.len) × IsOnQuery (fields table.now) query.now front.len front.slot) }
-    ensures cost { ticks.new ≤ ticks.old + 2 * (passed query.now result - place) }
+    ensures cost { ticks.new ≤ ticks.old + 2 * (front_length query.now result - place) }
 {
     let mut slot = node;
     let mut len = place;

@@ -1,7 +1,7 @@
 //! A walk over the nodes of a tree, each before its children: from a node to the next one, by the slots alone.
 
 ghost use Rattle.std.specs.Prelude.{◌≡◌, ◌≢◌, ℕ, ℤ, List, [], ◌∷◌, ◌++◌, ◌+◌, ◌<◌, MatchOption, pos, Some, true};
-ghost use Rattle.cedar_walk.specs.Words.{behind, below, cells, ComesTo, ComesToNumber, entries_at, entries_of, fields, first_of, has_label, IsAt, IsBelow, IsNumberedBelow, IsWellFormed, left_after, left_at, node_at, path_to, size_of, Stands, Tree, tree_of, visited_at, walk};
+ghost use Rattle.cedar_walk.specs.Words.{behind, below, cells, ComesTo, ComesToNumber, entries_at, visited_entries, fields, first_sibling_label, has_label, IsAt, IsBelow, IsNumberedBelow, IsWellFormed, left_after, left_at, node_at, path_to, size_of, Stands, Tree, tree_of, visited_at, walk};
 
 use cedar_model::{Layout, Stored};
 use cedar_table::Table;
@@ -48,7 +48,7 @@ pub(crate) fn first_child<L: Layout, const SLOTS: usize, A: Allocator>(
 ) -> u8
     requires well_formed { IsWellFormed SLOTS (fields table.now) }
     requires at { (w : List ℕ) × IsAt (cells table.now) w node }
-    ensures { (w : List ℕ) → IsAt (cells table.now) w node → result ≡ first_of (node_at (tree_of (fields table.now)) w).children }
+    ensures { (w : List ℕ) → IsAt (cells table.now) w node → result ≡ first_sibling_label (node_at (tree_of (fields table.now)) w).children }
 {
     // Most nodes name their first label, and neither the root nor one with a number does.
     let label = table.child(node);
@@ -69,7 +69,7 @@ fn next_sibling<L: Layout, const SLOTS: usize, A: Allocator>(
 ) -> u8
     requires well_formed { IsWellFormed SLOTS (fields table.now) }
     requires at { (w : List ℕ) × (l : ℕ) × IsAt (cells table.now) (w ++ l ∷ []) node }
-    ensures { (w : List ℕ) (l : ℕ) → IsAt (cells table.now) (w ++ l ∷ []) node → result ≡ first_of (behind (node_at (tree_of (fields table.now)) w).children l) }
+    ensures { (w : List ℕ) (l : ℕ) → IsAt (cells table.now) (w ++ l ∷ []) node → result ≡ first_sibling_label (behind (node_at (tree_of (fields table.now)) w).children l) }
 {
     table.sibling(node)
 }
@@ -113,7 +113,7 @@ fn label_after_number<L: Layout, const SLOTS: usize, A: Allocator>(
 ) -> u8
     requires well_formed { IsWellFormed SLOTS (fields table.now) }
     requires held { (w : List ℕ) × (v : ℤ) × IsAt (cells table.now) w node × ((node_at (tree_of (fields table.now)) w).number ≡ Some v) }
-    ensures { (w : List ℕ) → IsAt (cells table.now) w node → result ≡ first_of (node_at (tree_of (fields table.now)) w).children }
+    ensures { (w : List ℕ) → IsAt (cells table.now) w node → result ≡ first_sibling_label (node_at (tree_of (fields table.now)) w).children }
 {
     match table.stored_at_node(node) {
         Stored::AtBase(base) => table.sibling(base),
@@ -180,7 +180,7 @@ fn place_after<L: Layout, const SLOTS: usize, A: Allocator>(
 ) -> Option<Place>
     requires well_formed { IsWellFormed SLOTS (fields table.now) }
     requires below { (start : List ℕ) × IsBelow (cells table.now) start depth node }
-    requires first { (w : List ℕ) → IsAt (cells table.now) w node → label ≡ first_of (node_at (tree_of (fields table.now)) w).children }
+    requires first { (w : List ℕ) → IsAt (cells table.now) w node → label ≡ first_sibling_label (node_at (tree_of (fields table.now)) w).children }
     ensures { (start : List ℕ) → IsBelow (cells table.now) start depth node → MatchOption result (left_at (fields table.now) start depth node ≡ []) (λ place. ComesTo (fields table.now) start (left_at (fields table.now) start depth node) (path_to (fields table.now) depth node) (visited_at (fields table.now) start place)) }
 {
     if label != 0 {
@@ -250,7 +250,7 @@ pub fn numbered_after<L: Layout, const SLOTS: usize, A: Allocator>(
 ) -> Option<Numbered>
     requires well_formed { IsWellFormed SLOTS (fields table.now) }
     requires below { (start : List ℕ) × IsNumberedBelow (fields table.now) start depth node }
-    ensures { (start : List ℕ) → IsBelow (cells table.now) start depth node → MatchOption result (entries_of (left_at (fields table.now) start depth node) ≡ []) (ComesToNumber (fields table.now) start (entries_of (left_at (fields table.now) start depth node))) }
+    ensures { (start : List ℕ) → IsBelow (cells table.now) start depth node → MatchOption result (visited_entries (left_at (fields table.now) start depth node) ≡ []) (ComesToNumber (fields table.now) start (visited_entries (left_at (fields table.now) start depth node))) }
 {
     let label = label_after_number(table, node);
     let place = place_after(table, node, depth, label)?;

@@ -3,7 +3,7 @@ use Rattle.std.proofs.Common.{◌≡◌, ℕ, zero, suc, ◌+◌, ◌-◌, ◌<�
 use Rattle.std.specs.List.{filter_map, cons_option, range_with_len, last_or}
 use Rattle.std.proofs.lemmas.Bool.Decides.{eqb_tells}
 use Rattle.cedarwood.specs.Tree.{Tree, number_at}
-use Rattle.cedar_words.specs.Words.{IsLongest, len_of, longest, number_of}
+use Rattle.cedar_words.specs.Words.{IsLongest, len_of, longest, found_number}
 
 abbrev found_at : Tree → List ℕ → ℕ → Option (ℤ × ℕ)
 found_at t q n = option_map (λ v. (v, n)) (number_at t (take (n + 1) q))
@@ -62,10 +62,10 @@ len_within t q h = (elim (longest t q) as (λ o. IfSome o (λ found. found.1 < l
 ]) (longest_within t q)
 
 -- the token at a place of a text is the longest there
-pub token_longest : (t : Tree) (text : List ℕ) (place : ℕ) → 0 < length (drop place text) → IsLongest t text (place, len_of (longest t (drop place text)), number_of (longest t (drop place text)))
+pub token_longest : (t : Tree) (text : List ℕ) (place : ℕ) → 0 < length (drop place text) → IsLongest t text (place, len_of (longest t (drop place text)), found_number (longest t (drop place text)))
 token_longest t text place h =
     let q : List ℕ = drop place text in
-    (elim (longest t q) as (λ o. MatchOption o (NoneFrom t q 0 (length q)) (IsLast t q (length q)) → IsLongest t text (place, len_of o, number_of o)) [
+    (elim (longest t q) as (λ o. MatchOption o (NoneFrom t q 0 (length q)) (IsLast t q (length q)) → IsLongest t text (place, len_of o, found_number o)) [
       | None ↦ λ missing. (missing 0 (omega arith) h, λ n low high. at_length t q n (omega (arith, low)) (missing (n - 1) (omega arith) (omega (arith, low, high))), λ _. refl)
       | Some found ↦ λ is. (is.1, λ n low high. at_length t q n (omega (arith, low)) (is.2 (n - 1) (omega (arith, low)) (omega (arith, low, high))), λ gone. absurd (some_number found.0 gone))
     ]) (longest_is t q)

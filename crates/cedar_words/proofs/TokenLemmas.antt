@@ -3,7 +3,7 @@ use Rattle.std.proofs.Common.{◌≡◌, ℕ, zero, suc, ◌+◌, ◌-◌, ◌<�
 use Rattle.std.proofs.lemmas.List.Elements.{All-cons, All-nil}
 use Rattle.std.proofs.lemmas.List.Sums.{sum-map, sum_by-cons}
 use Rattle.cedarwood.specs.Tree.{Tree}
-use Rattle.cedar_words.specs.Words.{bytes_in, AreAdjacent, IsLongest, len_of, longest, number_of, segments, Token, tokens_behind}
+use Rattle.cedar_words.specs.Words.{bytes_in, AreAdjacent, IsLongest, len_of, longest, found_number, segments, Token, tokens_behind}
 use Rattle.cedar_words.proofs.LongestLemmas.{len_within, token_longest}
 
 -- bytes that belong to the token before are passed
@@ -16,7 +16,7 @@ taken t (suc k) place (b ∷ rest) =
 
 -- the token that was found at a place
 abbrev token : ℕ → Option (ℤ × ℕ) → Token
-token place found = (place, len_of found, number_of found)
+token place found = (place, len_of found, found_number found)
 
 some_len : (o : Option (ℤ × ℕ)) → 0 < len_of o
 some_len None = omega arith
@@ -24,7 +24,7 @@ some_len (Some found) = omega arith
 
 -- it comes first, and then those from its end on
 pub tokens_next : (t : Tree) (place : ℕ) (text : List ℕ) → 0 < length text → (found : Option (ℤ × ℕ)) → longest t text ≡ found
-    → tokens_behind t 0 place text ≡ (place, len_of found, number_of found) ∷ tokens_behind t 0 (place + len_of found) (drop (len_of found) text)
+    → tokens_behind t 0 place text ≡ (place, len_of found, found_number found) ∷ tokens_behind t 0 (place + len_of found) (drop (len_of found) text)
 tokens_next t place [] h found is = absurd (omega (arith, h))
 tokens_next t place (b ∷ rest) h found is =
     let some = some_len found in
@@ -37,11 +37,11 @@ tokens_next t place (b ∷ rest) h found is =
     ∙ ap (λ n. tokens_behind t 0 (place + len_of found) (drop n (b ∷ rest))) one)
 
 -- the same for what was found, by its parts
-pub tokens_step : (t : Tree) (place : ℕ) (text : List ℕ) (len : ℕ) (number : Option ℤ) → 0 < length text → len ≡ len_of (longest t text) → number ≡ number_of (longest t text)
+pub tokens_step : (t : Tree) (place : ℕ) (text : List ℕ) (len : ℕ) (number : Option ℤ) → 0 < length text → len ≡ len_of (longest t text) → number ≡ found_number (longest t text)
     → tokens_behind t 0 place text ≡ (place, len, number) ∷ tokens_behind t 0 (place + len) (drop len text)
 tokens_step t place text len number h len_is number_is =
     tokens_next t place text h (longest t text) refl
-    ∙ ap (λ n. (place, n, number_of (longest t text)) ∷ tokens_behind t 0 (place + n) (drop n text)) (sym len_is)
+    ∙ ap (λ n. (place, n, found_number (longest t text)) ∷ tokens_behind t 0 (place + n) (drop n text)) (sym len_is)
     ∙ ap (λ (v : Option ℤ). (place, len, v) ∷ tokens_behind t 0 (place + len) (drop len text)) (sym number_is)
 
 -- there are no more tokens than bytes, and one where there are any

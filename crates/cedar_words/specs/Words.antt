@@ -17,8 +17,8 @@ abbrev pub len_of : Option (ℤ × ℕ) → ℕ
 len_of None = 1
 len_of (Some found) = found.1 + 1
 
-abbrev pub number_of : Option (ℤ × ℕ) → Option ℤ
-number_of found = option_map (λ f. f.0) found
+abbrev pub found_number : Option (ℤ × ℕ) → Option ℤ
+found_number found = option_map (λ f. f.0) found
 
 -- the tokens of a text, of which these bytes are left from a place on: so many of them belong to the token before
 abbrev pub tokens_behind : Tree → ℕ → ℕ → List ℕ → List Token
@@ -26,7 +26,7 @@ tokens_behind tree taken place [] = []
 tokens_behind tree (suc taken) place (b ∷ rest) = tokens_behind tree taken (place + 1) rest
 tokens_behind tree zero place (b ∷ rest) =
     let found = longest tree (b ∷ rest) in
-    (place, len_of found, number_of found) ∷ tokens_behind tree (len_of found - 1) (place + 1) rest
+    (place, len_of found, found_number found) ∷ tokens_behind tree (len_of found - 1) (place + 1) rest
 
 -- the tokens of a text
 abbrev pub segments : Tree → List ℕ → List Token

@@ -2,7 +2,7 @@
 
 ghost use Rattle.std.specs.Prelude.{◌≡◌, ℕ, ◌+◌, ◌<◌, ℤ, List, [], ◌∷◌, length, drop, All, Option};
 ghost use Rattle.cedarwood.specs.Tree.{Tree};
-ghost use Rattle.cedar_words.specs.Words.{bytes_in, AreAdjacent, IsLongest, len_of, longest, number_of, segments, tokens_behind};
+ghost use Rattle.cedar_words.specs.Words.{bytes_in, AreAdjacent, IsLongest, len_of, longest, found_number, segments, tokens_behind};
 
 /// The tokens of a text cover it in order: each begins where the one before it ended, has one byte or more, and together they have
 /// the bytes of the text.
@@ -20,5 +20,5 @@ pub fn tokens_are_longest()
 pub fn tokens_go_on()
     ensures ends { (tree : Tree) (place : ℕ) → tokens_behind tree 0 place [] ≡ [] }
     ensures more { (tree : Tree) (place : ℕ) (text : List ℕ) → 0 < length text → (found : Option (ℤ × ℕ)) → longest tree text ≡ found
-        → tokens_behind tree 0 place text ≡ (place, len_of found, number_of found) ∷ tokens_behind tree 0 (place + len_of found) (drop (len_of found) text) }
+        → tokens_behind tree 0 place text ≡ (place, len_of found, found_number found) ∷ tokens_behind tree 0 (place + len_of found) (drop (len_of found) text) }
 {}

@@ -3,7 +3,7 @@
 ghost use Rattle.std.specs.Prelude.{◌≡◌, ◌<◌, ◌≤◌, ⊤, List, IfSome, Some, length, min};
 ghost use Rattle.std.specs.Iterator.{item_count, UpTo, YieldsFirst};
 ghost use Rattle.std.specs.Iterator.SizeHint.{IsWithinCount};
-ghost use Rattle.cedar_words.specs.Words.{bytes_in, len_of, longest, number_of, segments, Token};
+ghost use Rattle.cedar_words.specs.Words.{bytes_in, len_of, longest, found_number, segments, Token};
 
 use crate::longest::LongestPrefix;
 use cedarwood::{Layout, Trie};
@@ -60,7 +60,7 @@ pub fn segment<'a, L: Layout, const SLOTS: usize, A: Allocator + Copy>(
 fn first_token<T: LongestPrefix>(trie: &T, text: &[u8]) -> (usize, Option<i32>)
     requires { 0 < length text.now }
     ensures len { result.0 ≡ len_of (longest (T.tree trie.now) text.now) }
-    ensures number { result.1 ≡ number_of (longest (T.tree trie.now) text.now) }
+    ensures number { result.1 ≡ found_number (longest (T.tree trie.now) text.now) }
     ensures within { result.0 ≤ length text.now }
 {
     match trie.longest_prefix(text) {

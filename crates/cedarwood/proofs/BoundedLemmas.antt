@@ -4,7 +4,7 @@ use Rattle.std.specs.List.{filter}
 use Rattle.std.specs.Cmp.Lexicographic.{slice_cmp}
 use Rattle.std.specs.Ordering.{is_ge, is_lt, nat_cmp}
 use Rattle.cedar_tree.specs.Queries.{Entry}
-use Rattle.cedar_tree.specs.Walks.{entries_of}
+use Rattle.cedar_tree.specs.Walks.{visited_entries}
 use Rattle.cedar_model.specs.Edit.NodeEdits.{follow_on, IsAt}
 use Rattle.cedar_model.specs.Meaning.StandsFor.{slot_at}
 use Rattle.cedar_model.specs.Meaning.WellFormed.{cells_in, IsWellFormed}
@@ -29,7 +29,7 @@ use Rattle.std.proofs.lemmas.Bool.{true≢false}
 use Rattle.cedar_model.specs.Meaning.WellFormed.{tree_of}
 
 abbrev pub left_of : Fields → Numbered → List Entry
-left_of T n = map (behind_path []) (entries_of (left_at T [] n.depth n.slot))
+left_of T n = map (behind_path []) (visited_entries (left_at T [] n.depth n.slot))
 
 abbrev head_path : List Entry → List ℕ
 head_path [] = []
@@ -50,8 +50,8 @@ module _ (slots : ℕ) (T : Fields) (k : IsWellFormed slots T) (n e : Numbered) 
   ended to end s =
       let deep : n.depth ≡ e.depth = sym (path_length T n.depth n.slot) ∙ ap length (same_path s) ∙ path_length T e.depth e.slot in
       let long : length (ranged T [] (Some n)) ≡ length (ranged T [] (Some e)) =
-      ap (λ d. suc (length (map (behind_path []) (entries_of (left_at T [] d n.slot))))) deep
-      ∙ ap (λ x. suc (length (map (behind_path []) (entries_of (left_at T [] e.depth x))))) s in
+      ap (λ d. suc (length (map (behind_path []) (visited_entries (left_at T [] d n.slot))))) deep
+      ∙ ap (λ x. suc (length (map (behind_path []) (visited_entries (left_at T [] e.depth x))))) s in
       none_passes (λ (x : Entry). is_ge (slice_cmp nat_cmp x.0 to)) (λ x. is_lt (slice_cmp nat_cmp x.0 to)) (λ x. opposite (slice_cmp nat_cmp x.0 to)) (ranged T [] (Some n))
       (omega (arith, long, ap length end))
 
@@ -113,8 +113,8 @@ module _ (T : Fields) (from to : List ℕ) (next end : Option Numbered)
 
 -- and goes on
 pub step_of : (T : Fields) (to : List ℕ) (n : Numbered) (found : Option Numbered) → is_lt (slice_cmp nat_cmp (path_to T n.depth n.slot) to) ≡ true
-    → MatchOption found (entries_of (left_at T [] n.depth n.slot) ≡ []) (ComesToNumber T [] (entries_of (left_at T [] n.depth n.slot)))
+    → MatchOption found (visited_entries (left_at T [] n.depth n.slot) ≡ []) (ComesToNumber T [] (visited_entries (left_at T [] n.depth n.slot)))
     → bounded T to (Some n) ≡ (path_to T n.depth n.slot, n.number) ∷ bounded T to found
 step_of T to n found head m =
     ap (λ b. cond b ((path_to T n.depth n.slot, n.number) ∷ filter (λ (e : Entry). is_lt (slice_cmp nat_cmp e.0 to)) (left_of T n)) (filter (λ (e : Entry). is_lt (slice_cmp nat_cmp e.0 to)) (left_of T n))) head
-    ∙ ap (λ (es : List Entry). (path_to T n.depth n.slot, n.number) ∷ filter (λ (e : Entry). is_lt (slice_cmp nat_cmp e.0 to)) es) (sym (ranged_is T [] (entries_of (left_at T [] n.depth n.slot)) found m))
+    ∙ ap (λ (es : List Entry). (path_to T n.depth n.slot, n.number) ∷ filter (λ (e : Entry). is_lt (slice_cmp nat_cmp e.0 to)) es) (sym (ranged_is T [] (visited_entries (left_at T [] n.depth n.slot)) found m))

@@ -4,7 +4,7 @@ use Rattle.std.specs.List.{cons_option}
 use Rattle.std.proofs.lemmas.List.{nil_from_length}
 use Rattle.std.proofs.lemmas.Bool.Decides.{eqb_tells}
 use Rattle.cedar_tree.specs.Queries.{Entry, walk}
-use Rattle.cedar_tree.specs.Walks.{entries_of, visits_left}
+use Rattle.cedar_tree.specs.Walks.{visited_entries, visits_left}
 use Rattle.cedar_tree.proofs.VisitLemmas.{walk_visits}
 use Rattle.cedar_walk.specs.declared.visits.Visited.{Visited}
 use Rattle.cedar_model.specs.Table.TableFields.{Fields}
@@ -28,9 +28,9 @@ all_of n es e = elim (eqb_tells n 0) [
 
 pub entries_begin : (slots : ℕ) (T : Fields) (key : List ℕ) (n : ℕ) → IsWellFormed slots T → key ≡ [] → n ≡ length (walk (tree_of T)) → entries_from T key 0 n ≡ walk (tree_of T)
 entries_begin slots T key n k none_yet count =
-    let whole : walk (tree_of T) ≡ entries_of (left_at T [] 0 0) = walk_visits (tree_of T) ∙ ap (λ (o : Option ℤ). entries_of (([], o) ∷ visits_left (tree_of T) [])) (no_number slots T k) in
+    let whole : walk (tree_of T) ≡ visited_entries (left_at T [] 0 0) = walk_visits (tree_of T) ∙ ap (λ (o : Option ℤ). visited_entries (([], o) ∷ visits_left (tree_of T) [])) (no_number slots T k) in
     ap (λ w. entries_from T w 0 n) none_yet
-    ∙ all_of n (entries_of (left_at T [] 0 0)) (count ∙ ap length whole)
+    ∙ all_of n (visited_entries (left_at T [] 0 0)) (count ∙ ap length whole)
     ∙ sym whole
 
 -- ---- one node more
@@ -55,18 +55,18 @@ stepped T key s next key' at comes is =
           ∙ ap (λ d. (key', next.number) ∷ left_at T [] d next.slot) depth;
     }
 
-pub passes : (T : Fields) (key : List ℕ) (s : ℕ) (next : Visited) (key' : List ℕ) → Stepped T key s next key' → next.number ≡ None → entries_of (left_at T [] (length key) s) ≡ entries_of (left_at T [] (length key') next.slot)
+pub passes : (T : Fields) (key : List ℕ) (s : ℕ) (next : Visited) (key' : List ℕ) → Stepped T key s next key' → next.number ≡ None → visited_entries (left_at T [] (length key) s) ≡ visited_entries (left_at T [] (length key') next.slot)
 passes T key s next key' step is =
-    ap entries_of step.visits
-    ∙ ap (λ (n : Option ℤ). cons_option (option_map (λ (x : ℤ). (key', x)) n) (entries_of (left_at T [] (length key') next.slot))) is
+    ap visited_entries step.visits
+    ∙ ap (λ (n : Option ℤ). cons_option (option_map (λ (x : ℤ). (key', x)) n) (visited_entries (left_at T [] (length key') next.slot))) is
 
-pub comes_to : (T : Fields) (left : List Entry) (key : List ℕ) (s : ℕ) (next : Visited) (key' : List ℕ) (v w : ℤ) → left ≡ entries_of (left_at T [] (length key) s) → Stepped T key s next key' → next.number ≡ Some v → w ≡ v → ComesToEntry T left key' (next.slot, w)
+pub comes_to : (T : Fields) (left : List Entry) (key : List ℕ) (s : ℕ) (next : Visited) (key' : List ℕ) (v w : ℤ) → left ≡ visited_entries (left_at T [] (length key) s) → Stepped T key s next key' → next.number ≡ Some v → w ≡ v → ComesToEntry T left key' (next.slot, w)
 comes_to T left key s next key' v w so_far step is same = record {
   place = step.place;
   entries =
-      so_far ∙ ap entries_of step.visits
-      ∙ ap (λ (n : Option ℤ). cons_option (option_map (λ (x : ℤ). (key', x)) n) (entries_of (left_at T [] (length key') next.slot))) is
-      ∙ ap (λ (x : ℤ). (key', x) ∷ entries_of (left_at T [] (length key') next.slot)) (sym same);
+      so_far ∙ ap visited_entries step.visits
+      ∙ ap (λ (n : Option ℤ). cons_option (option_map (λ (x : ℤ). (key', x)) n) (visited_entries (left_at T [] (length key') next.slot))) is
+      ∙ ap (λ (x : ℤ). (key', x) ∷ visited_entries (left_at T [] (length key') next.slot)) (sym same);
 }
 
 -- what the next node is, by the length of the key
@@ -76,7 +76,7 @@ pub comes_here : (T : Fields) (key : List ℕ) (s d : ℕ) (next : Visited) → 
 comes_here T key s d next e at comes =
     subst (λ n. ComesTo T [] (left_at T [] n s) (path_to T n s) next) e (comes [] (subst (λ n. IsBelow (cells_in T) [] n s) (sym e) at.below))
 
-pub ends_here : (T : Fields) (left : List Entry) (key : List ℕ) (s d : ℕ) → d ≡ length key → IsEntriesPlace T key s → left ≡ entries_of (left_at T [] (length key) s)
+pub ends_here : (T : Fields) (left : List Entry) (key : List ℕ) (s d : ℕ) → d ≡ length key → IsEntriesPlace T key s → left ≡ visited_entries (left_at T [] (length key) s)
     → ((start : List ℕ) → IsBelow (cells_in T) start d s → left_at T start d s ≡ []) → left ≡ []
 ends_here T left key s d e at so_far ends =
-    so_far ∙ ap (λ n. entries_of (left_at T [] n s)) (sym e) ∙ ap entries_of (ends [] (subst (λ n. IsBelow (cells_in T) [] n s) (sym e) at.below))
+    so_far ∙ ap (λ n. visited_entries (left_at T [] n s)) (sym e) ∙ ap visited_entries (ends [] (subst (λ n. IsBelow (cells_in T) [] n s) (sym e) at.below))

@@ -6,7 +6,7 @@ use Rattle.std.proofs.lemmas.Bool.Decides.{eqb_tells}
 use Rattle.cedar_tree.specs.Tree.{Forest, none, child, has_label, IsSoundBelow, number_at, subtree, Tree}
 use Rattle.cedar_model.specs.Table.Cells.{Cells}
 use Rattle.cedar_model.specs.Meaning.Family.{below}
-use Rattle.cedar_model.specs.Meaning.Marks.{marked}
+use Rattle.cedar_model.specs.Meaning.Marks.{marks_below}
 use Rattle.cedar_model.specs.Meaning.Reading.{has_number_slot}
 use Rattle.cedar_model.specs.Edit.Steps.{root_of}
 use Rattle.cedar_model.specs.Table.TableFields.{Fields}
@@ -29,8 +29,8 @@ kept_number false n = refl
 
 -- a test that says which of the marked siblings' numbers are there keeps just these
 kept_are : (T : Cells) (s : ℕ) (f : Forest) (test : List ℕ → Bool) → IsSoundBelow f
-    → ((l : ℕ) (path : List ℕ) → has_label f l ≡ true → test (l ∷ path) ≡ is_some (number_at (root_of (marked T s f)) (l ∷ path)))
-    → with_some test f ≡ marked T s f
+    → ((l : ℕ) (path : List ℕ) → has_label f l ≡ true → test (l ∷ path) ≡ is_some (number_at (root_of (marks_below T s f)) (l ∷ path)))
+    → with_some test f ≡ marks_below T s f
 kept_are T s none test sound h = refl
 kept_are T s (child l n u rest) test sound h =
     ap (λ b. child l (cond b n None) (with_some (λ path. test (l ∷ path)) u) (with_some test rest)) (at_first [])
@@ -39,7 +39,7 @@ kept_are T s (child l n u rest) test sound h =
     ∙ ap (λ g. child l here.number here.children g) (kept_are T s rest test sound.5 at_rest)
   where
     here : Tree
-    here = record { number = cond (has_number_slot T (below T s l)) n None; children = marked T (below T s l) u }
+    here = record { number = cond (has_number_slot T (below T s l)) n None; children = marks_below T (below T s l) u }
 
     itself : (l == l) ≡ true
     itself = elim (eqb_tells l l) [ inl e ↦ e.0 | inr e ↦ absurd (e.1 refl) ]
@@ -47,14 +47,14 @@ kept_are T s (child l n u rest) test sound h =
     at_first : (path : List ℕ) → test (l ∷ path) ≡ is_some (number_at here path)
     at_first path =
         h l path (ap (λ b. b || has_label rest l) itself)
-        ∙ ap (λ b. is_some (number_at (cond b here (subtree (marked T s rest) l)) path)) itself
+        ∙ ap (λ b. is_some (number_at (cond b here (subtree (marks_below T s rest) l)) path)) itself
 
-    at_rest : (m : ℕ) (path : List ℕ) → has_label rest m ≡ true → test (m ∷ path) ≡ is_some (number_at (root_of (marked T s rest)) (m ∷ path))
+    at_rest : (m : ℕ) (path : List ℕ) → has_label rest m ≡ true → test (m ∷ path) ≡ is_some (number_at (root_of (marks_below T s rest)) (m ∷ path))
     at_rest m path there = elim (eqb_tells l m) [
       | inl e ↦ absurd (false≢true (sym sound.2 ∙ ap (has_label rest) e.1 ∙ there))
       | inr e ↦
           h m path (ap (λ b. b || has_label rest m) e.0 ∙ there)
-          ∙ ap (λ b. is_some (number_at (cond b here (subtree (marked T s rest) m)) path)) e.0
+          ∙ ap (λ b. is_some (number_at (cond b here (subtree (marks_below T s rest) m)) path)) e.0
     ]
 
 -- a well-formed table's tree of marks has some of its tree's numbers
@@ -62,4 +62,4 @@ pub is_marked : (slots : ℕ) (T : Fields) → IsWellFormed slots T → IsMarked
 is_marked slots T well =
     let f : Forest = (tree_of T).children in
     let c : Cells = cells_in T in
-    sym (ap root_of (kept_are c 0 f (λ path. is_some (number_at (root_of (marked c 0 f)) path)) well.sound (λ l path _. refl)))
+    sym (ap root_of (kept_are c 0 f (λ path. is_some (number_at (root_of (marks_below c 0 f)) path)) well.sound (λ l path _. refl)))

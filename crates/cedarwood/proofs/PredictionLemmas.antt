@@ -1,7 +1,7 @@
 -- How a prediction goes on.
 use Rattle.std.proofs.Common.{◌≡◌, ℕ, List, [], ◌∷◌, Option, Some, None, ap, ◌∙◌, MatchOption}
 use Rattle.cedar_tree.specs.Queries.{Entry}
-use Rattle.cedar_tree.specs.Walks.{entries_of}
+use Rattle.cedar_tree.specs.Walks.{visited_entries}
 use Rattle.cedar_walk.specs.declared.visits.Numbered.{Numbered}
 use Rattle.cedar_model.specs.Table.TableFields.{Fields}
 use Rattle.cedar_walk.specs.Visits.{ComesToNumber, left_at}
@@ -18,5 +18,5 @@ goes_on T query place left (Some next) is comes = record {
   rest =
       is
       ∙ ap answers_of comes.entries
-      ∙ ap (λ n. (next.number, n) ∷ answers_of (entries_of (left_at T query next.depth next.slot))) (path_length T next.depth next.slot);
+      ∙ ap (λ n. (next.number, n) ∷ answers_of (visited_entries (left_at T query next.depth next.slot))) (path_length T next.depth next.slot);
 }

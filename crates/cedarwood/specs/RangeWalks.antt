@@ -4,7 +4,7 @@ use Rattle.std.specs.Cmp.Lexicographic.{slice_cmp}
 use Rattle.std.specs.Ordering.{is_ge, is_lt, nat_cmp}
 use Rattle.cedar_tree.specs.Tree.{Tree}
 use Rattle.cedar_tree.specs.Queries.{Entry}
-use Rattle.cedar_tree.specs.Walks.{entries_of}
+use Rattle.cedar_tree.specs.Walks.{visited_entries}
 use Rattle.cedar_model.specs.Table.TableFields.{Fields}
 use Rattle.cedar_walk.specs.declared.visits.Numbered.{Numbered}
 use Rattle.cedar_walk.specs.Visits.{IsNumberedBelow, left_at, path_to}
@@ -14,7 +14,7 @@ use Rattle.cedar_walk.specs.Ranges.{behind_path, entries_since}
 abbrev pub ranged : Fields → List ℕ → Option Numbered → List Entry
 ranged T start None = []
 ranged T start (Some next) =
-    (start ++ path_to T next.depth next.slot, next.number) ∷ map (behind_path start) (entries_of (left_at T start next.depth next.slot))
+    (start ++ path_to T next.depth next.slot, next.number) ∷ map (behind_path start) (visited_entries (left_at T start next.depth next.slot))
 
 -- that node is there, and has a number
 abbrev pub IsRangePlace : Fields → List ℕ → Option Numbered → Type 0

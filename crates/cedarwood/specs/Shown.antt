@@ -12,8 +12,8 @@ abbrev pub flag_text : Bool → List ℕ
 flag_text b = if b then codes "true" else codes "false"
 
 -- how many keys are held, how many slots are in use, and whether labels ascend
-abbrev pub shown : Dictionary → List ℕ
-shown d =
+abbrev pub shown_text : Dictionary → List ℕ
+shown_text d =
     codes "Cedar(entries=" ++ (decimal (length (walk d.state.tree)) ++ (codes ", node_slots=" ++ (decimal d.size ++ (codes ", ordered=" ++ (flag_text d.state.ordered ++ codes ")")))))
 
 abbrev pub error_text : CedarError → List ℕ

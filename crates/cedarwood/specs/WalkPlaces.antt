@@ -1,7 +1,7 @@
 -- Where walks that are under way stand in a table.
 use Rattle.std.specs.Prelude.{◌≡◌, ◌==◌, cond, ℕ, ◌<◌, ◌≤◌, ℤ, List, [], ◌∷◌, length, map}
 use Rattle.cedar_tree.specs.Queries.{Entry, predict}
-use Rattle.cedar_tree.specs.Walks.{entries_of}
+use Rattle.cedar_tree.specs.Walks.{visited_entries}
 use Rattle.cedar_walk.specs.declared.visits.Numbered.{Numbered}
 use Rattle.cedar_walk.specs.Fronts.{IsOnQuery}
 use Rattle.cedar_model.specs.Table.TableFields.{Fields}
@@ -23,7 +23,7 @@ answers_of entries = map (λ entry. (entry.1, length entry.0)) entries
 -- what a prediction has left at a place
 abbrev pub predicted_from : Fields → List ℕ → PredictPlace → List (ℤ × ℕ)
 predicted_from T query Start = predict (tree_of T) query
-predicted_from T query (Node slot depth) = answers_of (entries_of (left_at T query depth slot))
+predicted_from T query (Node slot depth) = answers_of (visited_entries (left_at T query depth slot))
 predicted_from T query End = []
 
 -- it stands at a node with a number below its query
@@ -40,7 +40,7 @@ pub record GoesOnTo (T : Fields) (query : List ℕ) (place : PredictPlace) (next
 -- the entries that a walk over all keys has left, where it has been at slot s, at the end of the path `key`, and `left` entries are
 -- still to come
 abbrev pub entries_from : Fields → List ℕ → ℕ → ℕ → List Entry
-entries_from T key s left = cond (left == 0) [] (entries_of (left_at T [] (length key) s))
+entries_from T key s left = cond (left == 0) [] (visited_entries (left_at T [] (length key) s))
 
 -- it stands there as long as there are any
 pub record IsEntriesPlace (T : Fields) (key : List ℕ) (s : ℕ) : Type 0 where
@@ -50,4 +50,4 @@ pub record IsEntriesPlace (T : Fields) (key : List ℕ) (s : ℕ) : Type 0 where
 -- it comes to an entry: the first of those left
 pub record ComesToEntry (T : Fields) (left : List Entry) (key : List ℕ) (found : ℕ × ℤ) : Type 0 where
   pub place : IsEntriesPlace T key found.0
-  pub entries : left ≡ (key, found.1) ∷ entries_of (left_at T [] (length key) found.0)
+  pub entries : left ≡ (key, found.1) ∷ visited_entries (left_at T [] (length key) found.0)

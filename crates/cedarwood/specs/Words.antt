@@ -17,7 +17,7 @@ pub use Rattle.cedar_tree.specs.State.{State, erased, new_state, stored}
 pub use Rattle.cedar_tree.specs.Tree.{IsSound, Tree, empty_tree, has_label, number_at}
 pub use Rattle.cedar_tree.specs.Walks.{front_from}
 pub use Rattle.cedar_walk.specs.Batch.{keys_of}
-pub use Rattle.cedar_walk.specs.Fronts.{IsOnQuery, passed}
+pub use Rattle.cedar_walk.specs.Fronts.{IsOnQuery, front_length}
 pub use Rattle.cedar_walk.specs.Visits.{ComesTo, ComesToNumber, IsBelow, IsNumberedBelow, left_at, path_to}
 pub use Rattle.cedarwood.specs.Blanks.{IsBlankOf}
 pub use Rattle.cedarwood.specs.Builds.{IsBuild, IsRefusedBuild, all_stored, first_fault, outcome}
@@ -28,7 +28,7 @@ pub use Rattle.cedarwood.specs.Making.{IsEmpty, IsNew, IsRenewed, IsSorted, IsSo
 pub use Rattle.cedarwood.specs.OnTable.{IsOnTable}
 pub use Rattle.cedarwood.specs.Room.{LacksRoom}
 pub use Rattle.cedarwood.specs.Saving.{FailsToSave, FailsToWrite, PassesAgain}
-pub use Rattle.cedarwood.specs.Shown.{entry_error_text, error_text, shown}
+pub use Rattle.cedarwood.specs.Shown.{entry_error_text, error_text, shown_text}
 pub use Rattle.cedarwood.specs.SortedInput.{AreBytes, HasNoNul, IsSharedFront, fault_behind, fault_from, fault_of_order, key_at, sorted_fault}
 pub use Rattle.cedarwood.specs.Told.{told}
 pub use Rattle.cedarwood.specs.Updates.{IsUpdate}

@@ -1,7 +1,7 @@
 //! The figures of a dictionary, and how it is printed.
 
 ghost use Rattle.std.specs.Prelude.{◌*◌, ◌+◌, ◌/◌, ◌≡◌, Some, length};
-ghost use Rattle.cedarwood.specs.Words.{default_layout, prefixes, shown, used, walk};
+ghost use Rattle.cedarwood.specs.Words.{default_layout, prefixes, shown_text, used, walk};
 
 use crate::{Layout, Trie};
 use std::alloc::Allocator;
@@ -69,7 +69,7 @@ impl<L: Layout, const SLOTS: usize, A: Allocator + Copy> Trie<L, SLOTS, A> {
 /// assert_eq!(rt; text.as_str(), "Cedar(entries=1, node_slots=512, ordered=true)");
 /// ```
 impl<L: Layout, const SLOTS: usize, A: Allocator> fmt::Debug for Trie<L, SLOTS, A> {
-    ghost debug_output = { λ trie. Some (shown trie) };
+    ghost debug_output = { λ trie. Some (shown_text trie) };
 
     fn fmt<W: fmt::Write>(&self, f: &mut fmt::Formatter<W>) -> fmt::Result {
         let entries = self.table.entries();

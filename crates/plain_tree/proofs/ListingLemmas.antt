@@ -4,7 +4,7 @@ use Rattle.std.proofs.lemmas.List.{append-nil, append_assoc, map-append, map-id,
 use Rattle.cedar_tree.specs.Tree.{Tree}
 use Rattle.cedar_tree.specs.Queries.{Entry, own_entry, under, walk_forest, walk, prefixes_forest, prefixes}
 use Rattle.plain_tree.specs.Children.{forest_of}
-use Rattle.plain_tree.specs.Listing.{beneath, entries_of, paths_of}
+use Rattle.plain_tree.specs.Listing.{beneath, vector_entries, paths_of}
 
 walk_forest-push : (cs : List (ℕ × Tree)) (c : ℕ × Tree) → walk_forest (forest_of (cs ++ c ∷ [])) ≡ walk_forest (forest_of cs) ++ map (under c.0) (walk c.1)
 walk_forest-push [] c = append-nil (map (under c.0) (walk c.1))
@@ -88,10 +88,10 @@ prefixes_all path n cs t seen i end before after rest =
 
 -- a node's own number is listed at its path
 pub own_listed : {Z : Type 0} (path : List ℕ) (n : Option ℤ) (v w : ℤ) (copy : Vec ℕ Z) (entries after : List (Vec ℕ Z × ℤ)) → n ≡ Some v → w ≡ v → copy.items ≡ path
-    → after ≡ entries ++ (copy, w) ∷ [] → entries_of after ≡ entries_of entries ++ map (beneath path) (own_entry n)
+    → after ≡ entries ++ (copy, w) ∷ [] → vector_entries after ≡ vector_entries entries ++ map (beneath path) (own_entry n)
 own_listed path n v w copy entries after held same whole pushed =
     rw (pushed, held, same) (map-append (λ e. (e.0.items, e.1)) entries ((copy, v) ∷ [])
-    ∙ ap (λ (p : List ℕ). entries_of entries ++ (p, v) ∷ []) (whole ∙ sym (append-nil path)))
+    ∙ ap (λ (p : List ℕ). vector_entries entries ++ (p, v) ∷ []) (whole ∙ sym (append-nil path)))
 
 -- one more path is listed
 pub path_listed : {Z : Type 0} (path : Vec ℕ Z) (is : List ℕ) (paths after : List (Vec ℕ Z)) → path.items ≡ is

@@ -6,7 +6,7 @@ use Rattle.std.proofs.lemmas.List.Elements.{filter-append, filter_map-append}
 use Rattle.std.proofs.lemmas.List.FromFn.{map-range_with_len_more}
 use Rattle.cedar_tree.specs.Tree.{Tree, number_at}
 use Rattle.cedar_tree.specs.Queries.{Entry, walk, predict}
-use Rattle.plain_tree.specs.Listing.{entries_of}
+use Rattle.plain_tree.specs.Listing.{vector_entries}
 
 range-push : (n : ℕ) → range_with_len 0 (n + 1) ≡ range_with_len 0 n ++ n ∷ []
 range-push n =
@@ -44,18 +44,18 @@ abbrev pub told_of : List ℕ → List Entry → List (ℤ × ℕ)
 told_of q es = map (told q) (filter (λ e. starts_with nat_eq e.0 q) es)
 
 told_of-push : {Z : Type 0} (q : List ℕ) (xs : List (Vec ℕ Z × ℤ)) (i : ℕ) (x : Vec ℕ Z × ℤ) → i < length xs → x ≡ get_or xs i x
-    → told_of q (entries_of (take (i + 1) xs)) ≡ told_of q (entries_of (take i xs)) ++ told_of q ((x.0.items, x.1) ∷ [])
+    → told_of q (vector_entries (take (i + 1) xs)) ≡ told_of q (vector_entries (take i xs)) ++ told_of q ((x.0.items, x.1) ∷ [])
 told_of-push q xs i x within is =
-    ap (λ (ys : _). told_of q (entries_of ys)) (take_more xs i x within ∙ ap (λ (y : _). take i xs ++ y ∷ []) (sym is))
+    ap (λ (ys : _). told_of q (vector_entries ys)) (take_more xs i x within ∙ ap (λ (y : _). take i xs ++ y ∷ []) (sym is))
     ∙ ap (told_of q) (map-append (λ e. (e.0.items, e.1)) (take i xs) (x ∷ []))
-    ∙ ap (map (told q)) (filter-append (λ e. starts_with nat_eq e.0 q) (entries_of (take i xs)) ((x.0.items, x.1) ∷ []))
-    ∙ map-append (told q) (filter (λ e. starts_with nat_eq e.0 q) (entries_of (take i xs))) (filter (λ e. starts_with nat_eq e.0 q) ((x.0.items, x.1) ∷ []))
+    ∙ ap (map (told q)) (filter-append (λ e. starts_with nat_eq e.0 q) (vector_entries (take i xs)) ((x.0.items, x.1) ∷ []))
+    ∙ map-append (told q) (filter (λ e. starts_with nat_eq e.0 q) (vector_entries (take i xs))) (filter (λ e. starts_with nat_eq e.0 q) ((x.0.items, x.1) ∷ []))
 
 -- an entry's path begins with q
 pub predict_begins : {Z : Type 0} (q : List ℕ) (xs : List (Vec ℕ Z × ℤ)) (i : ℕ) (x : Vec ℕ Z × ℤ) → i < length xs → x ≡ get_or xs i x
     → (w : ℤ) (n : ℕ) (before after : List (ℤ × ℕ)) → starts_with nat_eq x.0.items q ≡ true → w ≡ x.1 → n ≡ length x.0.items - length q
-    → before ≡ told_of q (entries_of (take i xs)) → after ≡ before ++ (w, n) ∷ []
-    → after ≡ told_of q (entries_of (take (i + 1) xs))
+    → before ≡ told_of q (vector_entries (take i xs)) → after ≡ before ++ (w, n) ∷ []
+    → after ≡ told_of q (vector_entries (take (i + 1) xs))
 predict_begins q xs i x within is w n before after begins same left so_far pushed =
     pushed ∙ ap (λ (y : ℤ). before ++ (y, n) ∷ []) same ∙ ap (λ (k : ℕ). before ++ (x.1, k) ∷ []) left
     ∙ ap (λ (ys : List (ℤ × ℕ)). ys ++ told q (x.0.items, x.1) ∷ []) so_far
@@ -64,13 +64,13 @@ predict_begins q xs i x within is w n before after begins same left so_far pushe
 -- and does not
 pub predict_differs : {Z : Type 0} (q : List ℕ) (xs : List (Vec ℕ Z × ℤ)) (i : ℕ) (x : Vec ℕ Z × ℤ) → i < length xs → x ≡ get_or xs i x
     → (before : List (ℤ × ℕ)) → starts_with nat_eq x.0.items q ≡ false
-    → before ≡ told_of q (entries_of (take i xs))
-    → before ≡ told_of q (entries_of (take (i + 1) xs))
+    → before ≡ told_of q (vector_entries (take i xs))
+    → before ≡ told_of q (vector_entries (take (i + 1) xs))
 predict_differs q xs i x within is before differs so_far =
-    so_far ∙ sym (told_of-push q xs i x within is ∙ rw differs (append-nil (told_of q (entries_of (take i xs)))))
+    so_far ∙ sym (told_of-push q xs i x within is ∙ rw differs (append-nil (told_of q (vector_entries (take i xs)))))
 
 -- all entries are looked at
-pub predict_all : {Z : Type 0} (q : List ℕ) (t : Tree) (xs : List (Vec ℕ Z × ℤ)) (i : ℕ) → length xs ≤ i → entries_of xs ≡ walk t
-    → (found : List (ℤ × ℕ)) → found ≡ told_of q (entries_of (take i xs)) → found ≡ predict t q
+pub predict_all : {Z : Type 0} (q : List ℕ) (t : Tree) (xs : List (Vec ℕ Z × ℤ)) (i : ℕ) → length xs ≤ i → vector_entries xs ≡ walk t
+    → (found : List (ℤ × ℕ)) → found ≡ told_of q (vector_entries (take i xs)) → found ≡ predict t q
 predict_all q t xs i end whole found so_far =
-    so_far ∙ ap (λ (ys : _). told_of q (entries_of ys)) (take_all i xs end) ∙ ap (told_of q) whole
+    so_far ∙ ap (λ (ys : _). told_of q (vector_entries ys)) (take_all i xs end) ∙ ap (told_of q) whole

@@ -7,8 +7,8 @@ abbrev pub beneath : List ℕ → Entry → Entry
 beneath path entry = (path ++ entry.0, entry.1)
 
 -- the entries whose paths stand in vectors
-abbrev pub entries_of : {Z : Type 0} → List (Vec ℕ Z × ℤ) → List Entry
-entries_of entries = map (λ e. (e.0.items, e.1)) entries
+abbrev pub vector_entries : {Z : Type 0} → List (Vec ℕ Z × ℤ) → List Entry
+vector_entries entries = map (λ e. (e.0.items, e.1)) entries
 
 -- the paths that stand in vectors
 abbrev pub paths_of : {Z : Type 0} → List (Vec ℕ Z) → List (List ℕ)

@@ -3,7 +3,7 @@ ghost use Rattle.std.specs.Prelude.{◌≡◌, ◌==◌, nat_lt, true, position,
 ghost use Rattle.cedar_tree.specs.Tree.{empty_tree, number_at, put, cut, is_bare};
 ghost use Rattle.cedar_tree.specs.Queries.{walk, prefixes};
 ghost use Rattle.plain_tree.specs.Children.{place_of};
-ghost use Rattle.plain_tree.specs.Listing.{beneath, entries_of, paths_of};
+ghost use Rattle.plain_tree.specs.Listing.{beneath, vector_entries, paths_of};
 
 use std::alloc::{AllocError, Allocator};
 use std::marker::Model;
@@ -170,7 +170,7 @@ pub(crate) fn walk_into<A: Allocator + Copy>(
     path: &[u8],
     entries: &mut Vec<(Vec<u8, A>, i32), A>,
 ) -> Result<(), AllocError>
-    ensures { OnOk result (entries_of entries.new.items ≡ entries_of entries.old.items ++ map (beneath path.now) (walk node.now.1)) }
+    ensures { OnOk result (vector_entries entries.new.items ≡ vector_entries entries.old.items ++ map (beneath path.now) (walk node.now.1)) }
 {
     if let Some(number) = node.number {
         entries.push((path.to_vec(alloc)?, number))?;

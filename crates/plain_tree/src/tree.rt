@@ -2,7 +2,7 @@
 ghost use Rattle.std.specs.Prelude.{◌≡◌, is_some, OnOk, OnErr, IfOk, IsOk, IsSome, length};
 ghost use Rattle.cedar_tree.specs.Tree.{empty_tree, number_at, put, cut};
 ghost use Rattle.cedar_tree.specs.Queries.{walk, exact, front, predict, prefixes, used};
-ghost use Rattle.plain_tree.specs.Listing.{entries_of, paths_of};
+ghost use Rattle.plain_tree.specs.Listing.{vector_entries, paths_of};
 
 use crate::node;
 use crate::node::Node;
@@ -71,7 +71,7 @@ impl<A: Allocator + Copy> PlainTree<A> {
 
     /// Each path that has a number, with it: a node's before its children's, children in their order.
     pub fn walk(&self, alloc: A) -> Result<Vec<(Vec<u8, A>, i32), A>, AllocError>
-        ensures { IfOk result (λ entries. entries_of entries.items ≡ walk self.now) }
+        ensures { IfOk result (λ entries. vector_entries entries.items ≡ walk self.now) }
     {
         let mut entries = Vec::new(alloc);
         node::walk_into(alloc, &self.root, &[], &mut entries)?;

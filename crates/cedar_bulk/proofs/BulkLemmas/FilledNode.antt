@@ -13,7 +13,7 @@ use Rattle.cedar_model.specs.Meaning.Family.{Among, base_in, below, InRange}
 use Rattle.cedar_model.specs.Meaning.StandsFor.{HoldsTree}
 use Rattle.cedar_model.specs.Edit.Own.{FieldSet}
 use Rattle.cedar_model.specs.Relocation.Renaming.{Rebased}
-use Rattle.cedar_bulk.specs.Sorted.{Ends, Fills, GetsBase, GetsLabels, GetsNumber, IsBareNode, IsChildless, leaves, with_number}
+use Rattle.cedar_bulk.specs.Sorted.{GoesLast, Fills, GetsBase, GetsLabels, GetsNumber, IsBareNode, IsChildless, leaves, slot_labels}
 use Rattle.cedar_model.specs.Edit.Steps.{root_of}
 use Rattle.cedar_model.proofs.EditLemmas.AtPath.{held_node, number_set_at, paths_touched}
 use Rattle.cedar_bulk.proofs.BulkLemmas.BareNode.{Empty, empty_node}
@@ -122,20 +122,20 @@ module _ (size : ℕ) (T T₁ : Cells) (f : Forest) (w : List ℕ) (a : ℕ) (v 
       by_slot x k = elim (cases_eq x (below T a 0)) [ inl e ↦ inr e | inr n ↦ inl (t.free x n k) ]
 
   -- and the first label goes behind it
-  pub number_ends : (size' : ℕ) (l : ℕ) → below T a 0 < size' → Ends size' T₁ a l (Some (below T a 0))
+  pub number_ends : (size' : ℕ) (l : ℕ) → below T a 0 < size' → GoesLast size' T₁ a l (Some (below T a 0))
   number_ends size' l inside = record {
     goes = record { inside = inside; behind = inl (inr (ap T₁.check place ∙ t.at, sym place)); place = λ _. inl t.sibling };
     last = t.sibling;
   }
 
 -- without a number it begins the chain, unless the node is the root
-pub root_ends : (size : ℕ) (T : Cells) (a l : ℕ) → 0 < size → a ≡ 0 → Empty T a → Ends size T a l (Some 0)
+pub root_ends : (size : ℕ) (T : Cells) (a l : ℕ) → 0 < size → a ≡ 0 → Empty T a → GoesLast size T a l (Some 0)
 root_ends size T a l some z empty = record {
   goes = record { inside = some; behind = inl (inl (z, refl)); place = λ _. inl (empty.root z) };
   last = empty.root z;
 }
 
-pub first_ends : (size : ℕ) (T : Cells) (a l : ℕ) → (a ≡ 0 → ⊥) → Empty T a → Ends size T a l None
+pub first_ends : (size : ℕ) (T : Cells) (a l : ℕ) → (a ≡ 0 → ⊥) → Empty T a → GoesLast size T a l None
 first_ends size T a l z empty = record {
   goes = record { not_root = z; no_number = λ o. empty.alone _ o; place = λ _. inl empty.child };
   last = empty.child;
@@ -143,12 +143,12 @@ first_ends size T a l z empty = record {
 
 -- ---- all of it
 
-wanted_too : (number : Option ℤ) (ls : List ℕ) (l : ℕ) → Among ls l → Among (with_number number ls) l
+wanted_too : (number : Option ℤ) (ls : List ℕ) (l : ℕ) → Among ls l → Among (slot_labels number ls) l
 wanted_too None ls l h = h
 wanted_too (Some v) ls l h = inr h
 
 -- once the number has its slot, those of the labels are free still
-pub labels_free : (size size' : ℕ) (T T₁ T₂ : Cells) (a : ℕ) (number : Option ℤ) (ls : List ℕ) → Held T a → Above 0 ls → GetsBase size size' T T₁ a (with_number number ls) → GetsNumber size' T₁ T₂ a number
+pub labels_free : (size size' : ℕ) (T T₁ T₂ : Cells) (a : ℕ) (number : Option ℤ) (ls : List ℕ) → Held T a → Above 0 ls → GetsBase size size' T T₁ a (slot_labels number ls) → GetsNumber size' T₁ T₂ a number
     → (l : ℕ) → Among ls l → Held T₂ (below T₂ a l) → ⊥
 labels_free size size' T T₁ T₂ a number ls held up based numbered l among k =
     let there : Held T₂ (below T₁ a l) = subst (Held T₂) (ap (λ st. bit_xor (base_in st) l) (numbered.stays a (based.keeps a held))) k in
@@ -158,7 +158,7 @@ labels_free size size' T T₁ T₂ a number ls held up based numbered l among k 
     ]
 
 module _ (size size' : ℕ) (T T₁ T₂ T₃ : Cells) (a : ℕ) (number : Option ℤ) (ls : List ℕ) (w₀ : List ℕ) (at₀ : IsAt T w₀ a)
-    (based : GetsBase size size' T T₁ a (with_number number ls)) (numbered : GetsNumber size' T₁ T₂ a number) (labelled : GetsLabels size' T₂ T₃ a ls) where
+    (based : GetsBase size size' T T₁ a (slot_labels number ls)) (numbered : GetsNumber size' T₁ T₂ a number) (labelled : GetsLabels size' T₂ T₃ a ls) where
   held₁ : Held T₁ a
   held₁ = based.keeps a (held_node T w₀ a at₀)
 
@@ -217,7 +217,7 @@ no_labels (l ∷ ls) e = absurd (omega (arith, e))
 
 -- ---- the node on the way
 
-pub wanted_positive : (number : Option ℤ) (ls : List ℕ) → Above 0 ls → number ≡ None → (l : ℕ) → Among (with_number number ls) l → 0 < l
+pub wanted_positive : (number : Option ℤ) (ls : List ℕ) → Above 0 ls → number ≡ None → (l : ℕ) → Among (slot_labels number ls) l → 0 < l
 wanted_positive None ls up e l h = above_all 0 ls up l h
 wanted_positive (Some v) ls up e l h = cc
 

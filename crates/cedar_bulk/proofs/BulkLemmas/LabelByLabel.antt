@@ -12,7 +12,7 @@ use Rattle.cedar_model.specs.Meaning.Family.{Among, base_in, base_of, below, InR
 use Rattle.cedar_model.specs.Meaning.StandsFor.{HoldsTree}
 use Rattle.cedar_slots.specs.Places.{IsTable}
 use Rattle.cedar_bulk.specs.Asked.{WantsLabel}
-use Rattle.cedar_bulk.specs.Sorted.{Ends, GetsLabels, leaves}
+use Rattle.cedar_bulk.specs.Sorted.{GoesLast, GetsLabels, leaves}
 use Rattle.cedar_model.specs.Edit.Steps.{root_of}
 use Rattle.cedar_model.specs.Table.TableFields.{Fields, SameFrame, size_of}
 use Rattle.cedar_model.specs.Meaning.WellFormed.{cells_in}
@@ -148,9 +148,9 @@ pub record Appending (slots size : ℕ) (before after : Fields) (a : ℕ) (done 
   pub gets : GetsLabels size (cells_in before) (cells_in after) a done
   pub root_check : (cells_in after).check 0 ≡ (cells_in before).check 0
   pub frame : SameFrame before after
-  pub ends : (l : ℕ) → ((m : ℕ) → Among done m → m < l) → Ends size (cells_in after) a l last
+  pub ends : (l : ℕ) → ((m : ℕ) → Among done m → m < l) → GoesLast size (cells_in after) a l last
 
-pub append_begins : (slots : ℕ) (T : Fields) (a : ℕ) (last : Option ℕ) → IsTable slots T.places → ((l : ℕ) → Ends (size_of T) (cells_in T) a l last) → Appending slots (size_of T) T T a [] last
+pub append_begins : (slots : ℕ) (T : Fields) (a : ℕ) (last : Option ℕ) → IsTable slots T.places → ((l : ℕ) → GoesLast (size_of T) (cells_in T) a l last) → Appending slots (size_of T) T T a [] last
 append_begins slots T a last table ends = record {
   table = table;
   gets = no_labels (size_of T) (cells_in T) a;
@@ -208,5 +208,5 @@ append_ready slots before mid a base x done last f n bare up inside based is fre
       based = λ z. subst (λ m. InRange m ((cells_in mid).stored a)) same (subst (InRange (size_of before)) (sym (k.gets.stays a (held_node (cells_in before) n.path a n.at))) (based z));
       base_is = is ∙ ap base_in (sym (k.gets.stays a (held_node (cells_in before) n.path a n.at)));
       free = next_free (size_of before) (cells_in before) (cells_in mid) (cells_in mid) a x 0 done up n.path n.at k.gets free;
-      ends = subst (λ m. Ends m (cells_in mid) a x last) same (k.ends x high.1);
+      ends = subst (λ m. GoesLast m (cells_in mid) a x last) same (k.ends x high.1);
     }

@@ -7,7 +7,7 @@ use Rattle.cedar_tree.specs.Tree.{Forest, none, child, Tree, IsSoundBelow}
 use Rattle.cedar_tree.specs.Queries.{Entry, walk, walk_forest}
 use Rattle.cedar_model.specs.Meaning.StandsFor.{labels}
 use Rattle.cedar_bulk.specs.Sorted.{entries_by, label_of, run}
-use Rattle.cedar_bulk.specs.Spans.{Covers, IsAlike, IsTreeOfSpan, Lists, Part, stripped}
+use Rattle.cedar_bulk.specs.Spans.{Covers, IsAlike, IsTreeOfSpan, Lists, Part, entries_behind}
 use Rattle.cedar_bulk.proofs.BulkLemmas.Spans.{first_of, lists_none, number_first, walk_some}
 
 -- a tree has an entry
@@ -28,7 +28,7 @@ ends_here d e t k short =
     let first = number_first d t.number t.children e [] k.walks k.sound in
     let test : nat_lt d (length e.0) ≡ false = grind (arith, nat_tests) in
     let number : t.number ≡ Some e.1 = sym first.0 ∙ ap (λ b. cond b None (Some e.1)) test in
-    let nothing : walk_forest t.children ≡ [] = first.1 ∙ ap (λ o. stripped d (drop (cond (is_some o) 1 0) (e ∷ []))) number in
+    let nothing : walk_forest t.children ≡ [] = first.1 ∙ ap (λ o. entries_behind d (drop (cond (is_some o) 1 0) (e ∷ []))) number in
     record { number = number; alone = lists_none d t.children (record { walks = nothing; sound = k.sound; ascending = k.ascending }) }
 
 module _ (d : ℕ) (e : Entry) (es : List Entry) (t : Tree) (k : IsTreeOfSpan d (e ∷ es) t) (long : d < length e.0) where
@@ -42,7 +42,7 @@ module _ (d : ℕ) (e : Entry) (es : List Entry) (t : Tree) (k : IsTreeOfSpan d 
   pub lists_on : Lists d (e ∷ es) t.children
   lists_on =
       let first = number_first d t.number t.children e es k.walks k.sound in
-      record { walks = first.1 ∙ ap (λ o. stripped d (drop (cond (is_some o) 1 0) (e ∷ es))) no_number; sound = k.sound; ascending = k.ascending }
+      record { walks = first.1 ∙ ap (λ o. entries_behind d (drop (cond (is_some o) 1 0) (e ∷ es))) no_number; sound = k.sound; ascending = k.ascending }
 
   -- what is known where all go on with one label
   pub record GoesOn : Type 0 where
@@ -59,7 +59,7 @@ module _ (d : ℕ) (e : Entry) (es : List Entry) (t : Tree) (k : IsTreeOfSpan d 
       let nothing : drop (run d c.label all) all ≡ [] = ap (λ n. drop n all) whole ∙ drop_whole all in
       let rest : c.rest ≡ none = lists_none d c.rest (subst (λ xs. Lists d xs c.rest) nothing c.others) in
       let is : t.children ≡ child c.label c.number c.below none = c.is ∙ ap (child c.label c.number c.below) rest in
-      let below : walk (record { number = c.number; children = c.below }) ≡ stripped (suc d) all = c.walks ∙ ap (λ n. stripped (suc d) (take n all)) whole ∙ ap (stripped (suc d)) (take_all (length all) all (omega arith)) in
+      let below : walk (record { number = c.number; children = c.below }) ≡ entries_behind (suc d) all = c.walks ∙ ap (λ n. entries_behind (suc d) (take n all)) whole ∙ ap (entries_behind (suc d)) (take_all (length all) all (omega arith)) in
       record {
         number = no_number;
         label = ap labels is ∙ ap (λ l. l ∷ []) (sym c.same_label);

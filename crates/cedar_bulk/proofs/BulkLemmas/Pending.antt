@@ -14,7 +14,7 @@ use Rattle.cedar_model.specs.Edit.NodeEdits.{IsAt}
 use Rattle.cedar_model.specs.Meaning.Family.{Among}
 use Rattle.cedar_model.specs.Meaning.StandsFor.{labels}
 use Rattle.cedar_bulk.specs.Sorted.{leaves}
-use Rattle.cedar_bulk.specs.Spans.{bytes_in, Covers, Distinct, IsTreeOfSpan, nodes_of, Part, part_of, parts_of, Pending, stripped, work}
+use Rattle.cedar_bulk.specs.Spans.{entry_bytes, Covers, Distinct, IsTreeOfSpan, nodes_of, Part, part_of, parts_of, Pending, entries_behind, work}
 use Rattle.cedar_model.specs.Meaning.WellFormed.{is_value}
 use Rattle.cedar_model.proofs.MeaningLemmas.SearchStep.{has_among}
 use Rattle.cedar_bulk.proofs.BulkLemmas.OneAfterAnother.{edit_below, edit_twice}
@@ -186,11 +186,11 @@ distinct_on T ps s base cs c d covers sound held fresh =
 
 -- ---- less is left to do
 
-pub bytes_join : (xs ys : List Entry) → bytes_in (xs ++ ys) ≡ bytes_in xs + bytes_in ys
+pub bytes_join : (xs ys : List Entry) → entry_bytes (xs ++ ys) ≡ entry_bytes xs + entry_bytes ys
 bytes_join [] ys = omega arith
 bytes_join (e ∷ xs) ys = omega (arith, bytes_join xs ys)
 
-bytes_under : (l : ℕ) (es : List Entry) → bytes_in (map (under l) es) ≡ bytes_in es + length es
+bytes_under : (l : ℕ) (es : List Entry) → entry_bytes (map (under l) es) ≡ entry_bytes es + length es
 bytes_under l [] = omega arith
 bytes_under l (e ∷ es) = omega (arith, bytes_under l es)
 
@@ -198,12 +198,12 @@ pub work_join : (ps cs : List Part) → work (ps ++ cs) ≡ work ps + work cs
 work_join [] cs = omega arith
 work_join (p ∷ ps) cs = omega (arith, work_join ps cs)
 
-covers_work : (base : ℕ) (cs : List Part) (c : Forest) → Covers base cs c none → work cs + length (walk_forest c) ≤ bytes_in (walk_forest c)
+covers_work : (base : ℕ) (cs : List Part) (c : Forest) → Covers base cs c none → work cs + length (walk_forest c) ≤ entry_bytes (walk_forest c)
 covers_work base [] c covers = let nothing : walk_forest c ≡ [] = ap walk_forest covers in let none_there : length (walk_forest c) ≡ 0 = ap length nothing in omega (arith, none_there)
 covers_work base (s ∷ cs) none covers = absurd covers
 covers_work base (s ∷ cs) (child l n u rest) covers =
     let es : List Entry = own_entry n ++ walk_forest u in
-    let here : bytes_in es ≡ bytes_in (stripped s.depth s.entries) = ap bytes_in covers.1 in
+    let here : entry_bytes es ≡ entry_bytes (entries_behind s.depth s.entries) = ap entry_bytes covers.1 in
     let more = covers_work base cs rest covers.2 in
     let mapped : length (map (under l) es) ≡ length es = length-map es (under l) in
     omega (arith, here, more, mapped, bytes_join (map (under l) es) (walk_forest rest), bytes_under l es, length-append (map (under l) es) (walk_forest rest))
@@ -211,12 +211,12 @@ covers_work base (s ∷ cs) (child l n u rest) covers =
 -- a node's children have less to do than the node
 pub less_work : (base : ℕ) (ps cs : List Part) (s : Part) (t : Tree) → Covers base cs t.children none → IsTreeOfSpan s.depth s.entries t → work (ps ++ cs) < work (ps ++ s ∷ [])
 less_work base ps cs s t covers tree =
-    let entries : bytes_in (walk t) ≡ bytes_in (stripped s.depth s.entries) = ap bytes_in tree.walks in
+    let entries : entry_bytes (walk t) ≡ entry_bytes (entries_behind s.depth s.entries) = ap entry_bytes tree.walks in
     let below = covers_work base cs t.children covers in
     let parts = bytes_join (own_entry t.number) (walk_forest t.children) in
-    let more : work cs < bytes_in (walk t) = by_number t.number t.children (walk_some t.number t.children tree.some tree.sound) below in
+    let more : work cs < entry_bytes (walk t) = by_number t.number t.children (walk_some t.number t.children tree.some tree.sound) below in
     omega (arith, work_join ps cs, work_join ps (s ∷ []), entries, more)
   where
-    by_number : (n : Option ℤ) (c : Forest) → (e : Entry) × (es : List Entry) × (own_entry n ++ walk_forest c ≡ e ∷ es) → work cs + length (walk_forest c) ≤ bytes_in (walk_forest c) → work cs < bytes_in (own_entry n ++ walk_forest c)
+    by_number : (n : Option ℤ) (c : Forest) → (e : Entry) × (es : List Entry) × (own_entry n ++ walk_forest c ≡ e ∷ es) → work cs + length (walk_forest c) ≤ entry_bytes (walk_forest c) → work cs < entry_bytes (own_entry n ++ walk_forest c)
     by_number None c w below = let some : length (walk_forest c) ≡ suc (length w.1) = ap length w.2 in omega (arith, some, below)
     by_number (Some v) c w below = omega (arith, below)

@@ -5,7 +5,7 @@ use Rattle.std.proofs.lemmas.Bool.Decides.{eqb_tells}
 use Rattle.cedar_tree.specs.Tree.{Forest, none, child, has_label, IsSoundBelow}
 use Rattle.cedar_tree.specs.Queries.{Entry, own_entry, under, walk_forest}
 use Rattle.cedar_bulk.specs.Sorted.{label_of, run}
-use Rattle.cedar_bulk.specs.Spans.{first_label, Lists, stripped}
+use Rattle.cedar_bulk.specs.Spans.{first_label, Lists, entries_behind}
 use Rattle.cedar_bulk.proofs.BulkLemmas.Spans.{drop_label, first_of, First, run_other, run_same}
 
 -- no entry begins with this label
@@ -27,16 +27,16 @@ none_begins l (child m n u rest) h =
     other : (m == l) ≡ false → m ≡ l → ⊥
     other e same = elim (eqb_tells m l) [ inl t ↦ true≢false (sym t.0 ∙ e) | inr t ↦ t.1 same ]
 
-none_at : (d l : ℕ) (es : List Entry) (i : ℕ) (e : Entry) → NoneBegins l (stripped d es) → i < length es → label_of d (get_or es i e) ≡ l → ⊥
+none_at : (d l : ℕ) (es : List Entry) (i : ℕ) (e : Entry) → NoneBegins l (entries_behind d es) → i < length es → label_of d (get_or es i e) ≡ l → ⊥
 none_at d l [] i e n h same = absurd (omega (arith, h))
 none_at d l (x ∷ es) zero e n h same = by_path (drop d x.0) refl n
   where
-    by_path : (path : List ℕ) → drop d x.0 ≡ path → NoneBegins l ((path, x.1) ∷ stripped d es) → ⊥
+    by_path : (path : List ℕ) → drop d x.0 ≡ path → NoneBegins l ((path, x.1) ∷ entries_behind d es) → ⊥
     by_path [] is k = k
     by_path (m ∷ q) is k = k.0 (sym (drop_label d x.0 m q is).0 ∙ same)
 none_at d l (x ∷ es) (suc i) e n h same = none_at d l es i e (later (drop d x.0) n) (omega (arith, h)) same
   where
-    later : (path : List ℕ) → NoneBegins l ((path, x.1) ∷ stripped d es) → NoneBegins l (stripped d es)
+    later : (path : List ℕ) → NoneBegins l ((path, x.1) ∷ entries_behind d es) → NoneBegins l (entries_behind d es)
     later [] k = absurd k
     later (m ∷ q) k = k.1
 
@@ -68,7 +68,7 @@ run_tells d l (p ∷ ps) f i e k first h same =
         let n = run d l (p ∷ ps) in
         let rest : Lists d (drop n (p ∷ ps)) next.rest = subst (λ x. Lists d (drop (run d x (p ∷ ps)) (p ∷ ps)) next.rest) is next.others in
         let absent : has_label next.rest l ≡ false = ap (has_label next.rest) (sym is) ∙ (subst IsSoundBelow next.is k.sound).2 in
-        let begins : NoneBegins l (stripped d (drop n (p ∷ ps))) = subst (NoneBegins l) rest.walks (none_begins l next.rest absent) in
+        let begins : NoneBegins l (entries_behind d (drop n (p ∷ ps))) = subst (NoneBegins l) rest.walks (none_begins l next.rest absent) in
         let index : n + (i - n) ≡ i = omega (arith, more) in
         let at : get_or (drop n (p ∷ ps)) (i - n) e ≡ get_or (p ∷ ps) i e = get_or-drop n (p ∷ ps) (i - n) e ∙ ap (λ j. get_or (p ∷ ps) j e) index in
         none_at d l (drop n (p ∷ ps)) (i - n) e begins (omega (arith, h, more, length-drop n (p ∷ ps))) (ap (label_of d) at ∙ same)

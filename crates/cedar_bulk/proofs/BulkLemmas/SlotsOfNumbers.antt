@@ -18,7 +18,7 @@ use Rattle.cedar_model.specs.Table.TableFields.{Fields, size_of}
 use Rattle.cedar_model.specs.Edit.NodeEdits.{IsAt}
 use Rattle.cedar_model.specs.Edit.Steps.{root_of}
 use Rattle.cedar_model.specs.Meaning.Family.{Among, below, top}
-use Rattle.cedar_model.specs.Meaning.Marks.{HasMark, marked, MarkedAt, marks}
+use Rattle.cedar_model.specs.Meaning.Marks.{HasMark, marks_below, MarkedAt, marks}
 use Rattle.cedar_model.specs.Meaning.Reading.{has_number_slot, number_in, own_number}
 use Rattle.cedar_model.specs.Meaning.StandsFor.{ChildrenStand, labels}
 use Rattle.cedar_model.specs.Meaning.WellFormed.{cells_in, IsWellFormed, tree_of}
@@ -110,12 +110,12 @@ number_kept T s n no_own reads = by_test (has_number_slot T s) refl
         let nothing : n ≡ None = sym reads ∙ ap (λ b. cond b (Some (T.base (below T s 0))) (own_number (T.stored s))) e ∙ no_own in
         ap (λ b. cond b n None) e ∙ sym nothing
 
-all_kept : (size : ℕ) (T : Cells) → ((c : ℕ) → T.check 0 ≡ pos c → ⊥) → ((s : ℕ) → own_number (T.stored s) ≡ None) → (s : ℕ) (f : Forest) → ((l : ℕ) → Among (labels f) l → T.check (below T s l) ≡ pos s) → ChildrenStand size T s f → marked T s f ≡ f
+all_kept : (size : ℕ) (T : Cells) → ((c : ℕ) → T.check 0 ≡ pos c → ⊥) → ((s : ℕ) → own_number (T.stored s) ≡ None) → (s : ℕ) (f : Forest) → ((l : ℕ) → Among (labels f) l → T.check (below T s l) ≡ pos s) → ChildrenStand size T s f → marks_below T s f ≡ f
 all_kept size T root own s none mine g = refl
 all_kept size T root own s (child l n u rest) mine g =
     let b : ℕ = below T s l in
     let not_zero : b ≡ 0 → ⊥ = λ z. root s (ap T.check (sym z) ∙ mine l (inl refl)) in
-    same_children l (cond (has_number_slot T b) n None) n (marked T b u) u (marked T s rest) rest
+    same_children l (cond (has_number_slot T b) n None) n (marks_below T b u) u (marks_below T s rest) rest
     (number_kept T b n (own b) (node_reads size T b n (labels u) not_zero g.0).number)
     (all_kept size T root own b u (node_labels_own size T b n (labels u) g.0) g.1)
     (all_kept size T root own s rest (λ y a. mine y (inr a)) g.2)

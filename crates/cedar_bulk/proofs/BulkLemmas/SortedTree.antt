@@ -9,7 +9,7 @@ use Rattle.cedar_tree.specs.Queries.{asc, Entry, own_entry, walk, walk_forest}
 use Rattle.cedar_tree.proofs.BuildLemmas.{numbers-asc}
 use Rattle.cedar_tree.proofs.PairLemmas.{asc_is_tree_of}
 use Rattle.cedar_slots.specs.Slots.{check_at}
-use Rattle.cedar_bulk.specs.Spans.{Filling, IsTreeOfSpan, stripped}
+use Rattle.cedar_bulk.specs.Spans.{Filling, IsTreeOfSpan, entries_behind}
 use Rattle.cedar_model.specs.Table.TableFields.{Fields}
 use Rattle.cedar_model.specs.Table.Layouts.{reduced_layout}
 use Rattle.cedar_bulk.specs.SortedMarks.{KeepsLast, SortedMarks}
@@ -20,7 +20,7 @@ use Rattle.cedar_model.specs.Meaning.WellFormed.{cells_in, is_value, IsWellForme
 use Rattle.cedar_bulk.proofs.BulkLemmas.NodeByNode.{filling_ends}
 use Rattle.cedar_model.proofs.MeaningLemmas.TreeOf.{is_well_formed, tree_of_is}
 
-entries_stripped : (es : List Entry) → es ≡ stripped 0 es
+entries_stripped : (es : List Entry) → es ≡ entries_behind 0 es
 entries_stripped [] = refl
 entries_stripped (e ∷ es) = ap (λ (xs : List Entry). e ∷ xs) (entries_stripped es)
 

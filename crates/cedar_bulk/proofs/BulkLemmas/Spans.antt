@@ -8,8 +8,8 @@ use Rattle.std.proofs.lemmas.Bool.Decides.{eqb_tells, nat_tests}
 use Rattle.cedar_tree.specs.Tree.{AllAbove, Forest, none, child, Tree, has_label, is_bare, IsAscending, IsSoundBelow}
 use Rattle.cedar_tree.specs.Queries.{Entry, own_entry, under, walk, walk_forest}
 use Rattle.cedar_model.specs.Meaning.StandsFor.{labels}
-use Rattle.cedar_bulk.specs.Sorted.{entries_by, label_of, run, with_number}
-use Rattle.cedar_bulk.specs.Spans.{Covers, first_label, first_number, IsDeeper, IsTreeOfSpan, Lists, Part, stripped}
+use Rattle.cedar_bulk.specs.Sorted.{entries_by, label_of, run, slot_labels}
+use Rattle.cedar_bulk.specs.Spans.{Covers, first_label, first_number, IsDeeper, IsTreeOfSpan, Lists, Part, entries_behind}
 use Rattle.cedar_model.specs.Edit.NodeEdits.{Above}
 use Rattle.cedar_model.proofs.MeaningLemmas.AmongLabels.{above_labels}
 
@@ -72,10 +72,10 @@ some_none x xs e = cc
 
 -- the pairs of the first child are those with its label
 module _ (d l : ℕ) (rest : List Entry) (no : NotFirst l rest) where
-  label_other : (p : Entry) (ps : List Entry) → rest ≡ stripped d (p ∷ ps) → label_of d p ≡ l → ⊥
+  label_other : (p : Entry) (ps : List Entry) → rest ≡ entries_behind d (p ∷ ps) → label_of d p ≡ l → ⊥
   label_other p ps e same = by_path (drop d p.0) refl (subst (NotFirst l) e no)
     where
-      by_path : (path : List ℕ) → drop d p.0 ≡ path → NotFirst l ((path, p.1) ∷ stripped d ps) → ⊥
+      by_path : (path : List ℕ) → drop d p.0 ≡ path → NotFirst l ((path, p.1) ∷ entries_behind d ps) → ⊥
       by_path [] is n = n
       by_path (m ∷ q) is n = n (sym (drop_label d p.0 m q is).0 ∙ same)
 
@@ -91,8 +91,8 @@ module _ (d l : ℕ) (rest : List Entry) (no : NotFirst l rest) where
     | inr t ↦ absurd (t.1 e)
   ]
 
-  run_split : (es : List Entry) (ps : List Entry) → map (under l) es ++ rest ≡ stripped d ps
-      → (run d l ps ≡ length es) × (stripped (suc d) (take (length es) ps) ≡ es) × (stripped d (drop (length es) ps) ≡ rest) × (length es ≤ length ps)
+  run_split : (es : List Entry) (ps : List Entry) → map (under l) es ++ rest ≡ entries_behind d ps
+      → (run d l ps ≡ length es) × (entries_behind (suc d) (take (length es) ps) ≡ es) × (entries_behind d (drop (length es) ps) ≡ rest) × (length es ≤ length ps)
   run_split [] [] e = (refl, refl, sym e, omega arith)
   run_split [] (p ∷ ps) e = (run_other p ps (label_other p ps e), refl, sym e, omega arith)
   run_split (w ∷ es) [] e = absurd (some_none (under l w) (map (under l) es ++ rest) e)
@@ -103,7 +103,7 @@ module _ (d l : ℕ) (rest : List Entry) (no : NotFirst l rest) where
       let more = run_split es ps (ap later e) in
       let entry : ◌≡◌ {A = Entry} (drop (suc d) p.0, p.1) w = ap (λ q. (q, p.1)) key.1 ∙ ap (λ v. (w.0, v)) value in (
         omega (arith, run_same p ps key.0, more.0),
-        ap (λ x. x ∷ stripped (suc d) (take (length es) ps)) entry ∙ ap (λ xs. w ∷ xs) more.1,
+        ap (λ x. x ∷ entries_behind (suc d) (take (length es) ps)) entry ∙ ap (λ xs. w ∷ xs) more.1,
         more.2,
         omega (arith, more.3),
       )
@@ -111,18 +111,18 @@ module _ (d l : ℕ) (rest : List Entry) (no : NotFirst l rest) where
 -- ---- what a node's pairs say
 
 -- its number
-pub number_first : (d : ℕ) (n : Option ℤ) (f : Forest) (p : Entry) (ps : List Entry) → own_entry n ++ walk_forest f ≡ stripped d (p ∷ ps) → IsSoundBelow f
-    → (first_number d (p ∷ ps) ≡ n) × (walk_forest f ≡ stripped d (drop (cond (is_some n) 1 0) (p ∷ ps)))
+pub number_first : (d : ℕ) (n : Option ℤ) (f : Forest) (p : Entry) (ps : List Entry) → own_entry n ++ walk_forest f ≡ entries_behind d (p ∷ ps) → IsSoundBelow f
+    → (first_number d (p ∷ ps) ≡ n) × (walk_forest f ≡ entries_behind d (drop (cond (is_some n) 1 0) (p ∷ ps)))
 number_first d (Some v) f p ps e s =
     let path : drop d p.0 ≡ [] = sym (ap first_path e) in
     let value : p.1 ≡ v = sym (ap (first_value p.1) e) in
     let short : length p.0 ≤ d = drop_none d p.0 path in
     let test : nat_lt d (length p.0) ≡ false = grind (arith, nat_tests) in
     (ap (λ b. cond b None (Some p.1)) test ∙ ap Some value, ap later e)
-number_first d None none p ps e s = absurd (some_none (drop d p.0, p.1) (stripped d ps) (sym e))
+number_first d None none p ps e s = absurd (some_none (drop d p.0, p.1) (entries_behind d ps) (sym e))
 number_first d None (child l n u rest) p ps e s =
     let k = walk_some n u s.3 s.4 in
-    let begins : under l k.0 ∷ (map (under l) k.1 ++ walk_forest rest) ≡ stripped d (p ∷ ps) = sym (ap (λ es. map (under l) es ++ walk_forest rest) k.2) ∙ e in
+    let begins : under l k.0 ∷ (map (under l) k.1 ++ walk_forest rest) ≡ entries_behind d (p ∷ ps) = sym (ap (λ es. map (under l) es ++ walk_forest rest) k.2) ∙ e in
     let path : drop d p.0 ≡ l ∷ k.0.0 = sym (ap first_path begins) in
     let long : d < length p.0 = (drop_label d p.0 l k.0.0 path).2 in
     let test : nat_lt d (length p.0) ≡ true = grind (arith, nat_tests) in
@@ -146,15 +146,15 @@ pub record First (d : ℕ) (p : Entry) (ps : List Entry) (f : Forest) : Type 0 w
   pub long : d < length p.0
   pub some : 0 < run d label (p ∷ ps)
   pub few : run d label (p ∷ ps) ≤ length (p ∷ ps)
-  pub walks : walk (record { number = number; children = below }) ≡ stripped (suc d) (take (run d label (p ∷ ps)) (p ∷ ps))
+  pub walks : walk (record { number = number; children = below }) ≡ entries_behind (suc d) (take (run d label (p ∷ ps)) (p ∷ ps))
   pub others : Lists d (drop (run d label (p ∷ ps)) (p ∷ ps)) rest
 
 pub first_of : (d : ℕ) (p : Entry) (ps : List Entry) (f : Forest) → Lists d (p ∷ ps) f → First d p ps f
-first_of d p ps none k = absurd (some_none (drop d p.0, p.1) (stripped d ps) (sym k.walks))
+first_of d p ps none k = absurd (some_none (drop d p.0, p.1) (entries_behind d ps) (sym k.walks))
 first_of d p ps (child l n u rest) k =
     let w = walk_some n u k.sound.3 k.sound.4 in
     let es : List Entry = own_entry n ++ walk_forest u in
-    let begins : under l w.0 ∷ (map (under l) w.1 ++ walk_forest rest) ≡ stripped d (p ∷ ps) = sym (ap (λ xs. map (under l) xs ++ walk_forest rest) w.2) ∙ k.walks in
+    let begins : under l w.0 ∷ (map (under l) w.1 ++ walk_forest rest) ≡ entries_behind d (p ∷ ps) = sym (ap (λ xs. map (under l) xs ++ walk_forest rest) w.2) ∙ k.walks in
     let path : drop d p.0 ≡ l ∷ w.0.0 = sym (ap first_path begins) in
     let split = run_split d l (walk_forest rest) (not_first l rest k.sound.2 k.sound.5) es (p ∷ ps) k.walks in
     let count : run d l (p ∷ ps) ≡ length es = split.0 in
@@ -169,8 +169,8 @@ first_of d p ps (child l n u rest) k =
       long = (drop_label d p.0 l w.0.0 path).2;
       some = omega (arith, count, long);
       few = omega (arith, count, split.3);
-      walks = sym (ap (λ m. stripped (suc d) (take m (p ∷ ps))) count ∙ split.1);
-      others = record { walks = sym (ap (λ m. stripped d (drop m (p ∷ ps))) count ∙ split.2); sound = k.sound.5; ascending = k.ascending.2 };
+      walks = sym (ap (λ m. entries_behind (suc d) (take m (p ∷ ps))) count ∙ split.1);
+      others = record { walks = sym (ap (λ m. entries_behind d (drop m (p ∷ ps))) count ∙ split.2); sound = k.sound.5; ascending = k.ascending.2 };
     }
 
 -- ---- a scan for the labels
@@ -182,27 +182,27 @@ pub record Scan (d : ℕ) (ps : List Entry) (f : Forest) (number : Option ℤ) (
   pub low : ℕ
   pub above : AllAbove low todo
   pub count : length found ≤ low + 1
-  pub whole : found ++ labels todo ≡ with_number number (labels f)
+  pub whole : found ++ labels todo ≡ slot_labels number (labels f)
 
 pub all_positive : (f : Forest) → IsSoundBelow f → AllAbove 0 f
 all_positive none s = tt
 all_positive (child l n u rest) s = (s.0, all_positive rest s.5)
 
-pub scan_begins : (d : ℕ) (ps : List Entry) (f : Forest) (number : Option ℤ) (found : List ℕ) → found ≡ with_number number [] → Lists d ps f → Scan d ps f number found
+pub scan_begins : (d : ℕ) (ps : List Entry) (f : Forest) (number : Option ℤ) (found : List ℕ) → found ≡ slot_labels number [] → Lists d ps f → Scan d ps f number found
 scan_begins d ps f number found e k = record {
   todo = f;
   lists = k;
   low = 0;
   above = all_positive f k.sound;
   count = subst (λ xs. length xs ≤ 1) (sym e) (one number);
-  whole = subst (λ xs. xs ++ labels f ≡ with_number number (labels f)) (sym e) (all number);
+  whole = subst (λ xs. xs ++ labels f ≡ slot_labels number (labels f)) (sym e) (all number);
 }
   where
-    one : (o : Option ℤ) → length (with_number o []) ≤ 1
+    one : (o : Option ℤ) → length (slot_labels o []) ≤ 1
     one None = omega arith
     one (Some v) = omega arith
 
-    all : (o : Option ℤ) → with_number o [] ++ labels f ≡ with_number o (labels f)
+    all : (o : Option ℤ) → slot_labels o [] ++ labels f ≡ slot_labels o (labels f)
     all None = refl
     all (Some v) = refl
 
@@ -236,7 +236,7 @@ append_nothing : (xs : List ℕ) → xs ++ [] ≡ xs
 append_nothing [] = refl
 append_nothing (x ∷ xs) = ap (λ ys. x ∷ ys) (append_nothing xs)
 
-pub scan_ends : (d : ℕ) (f : Forest) (number : Option ℤ) (found : List ℕ) → Scan d [] f number found → found ≡ with_number number (labels f)
+pub scan_ends : (d : ℕ) (f : Forest) (number : Option ℤ) (found : List ℕ) → Scan d [] f number found → found ≡ slot_labels number (labels f)
 scan_ends d f number found k = sym (append_nothing found) ∙ ap (λ g. found ++ labels g) (sym (lists_none d k.todo k.lists)) ∙ k.whole
 
 -- ---- a scan for the spans
@@ -255,7 +255,7 @@ append_none (x ∷ xs) = ap (λ ys. x ∷ ys) (append_none xs)
 pub push_begins : (d : ℕ) (ps : List Entry) (f : Forest) (base : ℕ) (old : List Part) → Lists d ps f → Pushed d ps f base old old
 push_begins d ps f base old k = record { todo = f; lists = k; spans = []; whole = sym (append_none old); covers = refl }
 
-covers_more : (base : ℕ) (spans : List Part) (f : Forest) (l : ℕ) (n : Option ℤ) (u rest : Forest) (s : Part) → Covers base spans f (child l n u rest) → s.node ≡ bit_xor base l → walk (record { number = n; children = u }) ≡ stripped s.depth s.entries
+covers_more : (base : ℕ) (spans : List Part) (f : Forest) (l : ℕ) (n : Option ℤ) (u rest : Forest) (s : Part) → Covers base spans f (child l n u rest) → s.node ≡ bit_xor base l → walk (record { number = n; children = u }) ≡ entries_behind s.depth s.entries
     → Covers base (spans ++ s ∷ []) f rest
 covers_more base [] f l n u rest s c node walks = subst (λ g. Covers base (s ∷ []) g rest) (sym c) (node, walks, refl)
 covers_more base (x ∷ spans) none l n u rest s c node walks = absurd c
@@ -272,7 +272,7 @@ push_on d p ps f base old new new' s k more node depth pairs =
       spans = k.spans ++ s ∷ [];
       whole = more ∙ ap (λ xs. xs ++ s ∷ []) k.whole ∙ append_assoc old k.spans (s ∷ []);
       covers = covers_more base k.spans f next.label next.number next.below next.rest s (subst (Covers base k.spans f) next.is k.covers) (node ∙ ap (bit_xor base) label)
-          (next.walks ∙ ap (λ l. stripped (suc d) (take (run d l (p ∷ ps)) (p ∷ ps))) (sym label) ∙ sym (ap (λ m. stripped m (take (run d (label_of d p) (p ∷ ps)) (p ∷ ps))) depth) ∙ ap (stripped s.depth) (sym pairs));
+          (next.walks ∙ ap (λ l. entries_behind (suc d) (take (run d l (p ∷ ps)) (p ∷ ps))) (sym label) ∙ sym (ap (λ m. entries_behind m (take (run d (label_of d p) (p ∷ ps)) (p ∷ ps))) depth) ∙ ap (entries_behind s.depth) (sym pairs));
     }
 
 pub push_ends : (d : ℕ) (f : Forest) (base : ℕ) (old new : List Part) → Pushed d [] f base old new → (spans : List Part) × (new ≡ old ++ spans) × Covers base spans f none
@@ -343,10 +343,10 @@ pub record Below (d : ℕ) (ps : List Entry) (t : Tree) (number : Option ℤ) (s
   pub number_is : number ≡ t.number
   pub few : skipped ≤ length ps
   pub lists : Lists d (drop skipped ps) t.children
-  pub wanted : drop skipped (with_number number (labels t.children)) ≡ labels t.children
-  pub wanted_more : skipped ≤ length (with_number number (labels t.children))
-  pub some : 0 < length (with_number number (labels t.children))
-  pub most : length (with_number number (labels t.children)) ≤ 256
+  pub wanted : drop skipped (slot_labels number (labels t.children)) ≡ labels t.children
+  pub wanted_more : skipped ≤ length (slot_labels number (labels t.children))
+  pub some : 0 < length (slot_labels number (labels t.children))
+  pub most : length (slot_labels number (labels t.children)) ≤ 256
   pub ascends : Above 0 (labels t.children)
 
 -- labels are bytes, so there are not many
@@ -368,16 +368,16 @@ below_is d (p ∷ ps) t number skipped k is count =
     record {
       number_is = same;
       few = w.0;
-      lists = record { walks = first.1 ∙ ap (λ n. stripped d (drop n (p ∷ ps))) (sym count_is); sound = k.sound; ascending = k.ascending };
-      wanted = subst (λ o. drop skipped (with_number o (labels t.children)) ≡ labels t.children) (sym same) w.1;
-      wanted_more = subst (λ o. skipped ≤ length (with_number o (labels t.children))) (sym same) w.2;
-      some = subst (λ o. 0 < length (with_number o (labels t.children))) (sym same) w.3;
-      most = subst (λ o. length (with_number o (labels t.children)) ≤ 256) (sym same) w.4;
+      lists = record { walks = first.1 ∙ ap (λ n. entries_behind d (drop n (p ∷ ps))) (sym count_is); sound = k.sound; ascending = k.ascending };
+      wanted = subst (λ o. drop skipped (slot_labels o (labels t.children)) ≡ labels t.children) (sym same) w.1;
+      wanted_more = subst (λ o. skipped ≤ length (slot_labels o (labels t.children))) (sym same) w.2;
+      some = subst (λ o. 0 < length (slot_labels o (labels t.children))) (sym same) w.3;
+      most = subst (λ o. length (slot_labels o (labels t.children)) ≤ 256) (sym same) w.4;
       ascends = up;
     }
   where
     by_number : (o : Option ℤ) (s : ℕ) (f : Forest) → s ≡ cond (is_some o) 1 0 → is_bare (record { number = o; children = f }) ≡ false → length (labels f) + 0 ≤ 255
-        → (s ≤ length (p ∷ ps)) × (drop s (with_number o (labels f)) ≡ labels f) × (s ≤ length (with_number o (labels f))) × (0 < length (with_number o (labels f))) × (length (with_number o (labels f)) ≤ 256)
+        → (s ≤ length (p ∷ ps)) × (drop s (slot_labels o (labels f)) ≡ labels f) × (s ≤ length (slot_labels o (labels f))) × (0 < length (slot_labels o (labels f))) × (length (slot_labels o (labels f)) ≤ 256)
     by_number None s f e b few = (omega (arith, e), ap (λ m. drop m (labels f)) e, omega (arith, e), has_label_some f b, omega (arith, few))
       where
         has_label_some : (g : Forest) → is_bare (record { number = None; children = g }) ≡ false → 0 < length (labels g)

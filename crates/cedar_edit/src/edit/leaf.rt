@@ -1,7 +1,7 @@
 //! A label added to a node, and one taken away.
 
 ghost use Rattle.std.specs.Prelude.{◌≡◌, ◌≢◌, ℕ, List, ◌++◌, [], ◌∷◌, ◌<◌, MatchOption, None, pos, true};
-ghost use Rattle.cedar_edit.specs.Words.{add_leaf, AddsLabel, base_of, below, cells, edit_at, fields, Forest, freed, GoesBehind, GoesFirst, HasChain, HasNode, Held, HoldsTree, InRange, IsAscending, IsAt, IsNodeOf, IsTable, LeadsTo, Node, Removes, SameFrame, SeeksBehind, SeeksPlace, SetsChild, SetsSibling, size_of, TableHolds, without};
+ghost use Rattle.cedar_edit.specs.Words.{add_leaf, AddsLabel, base_of, below, cells, edit_at, fields, Forest, cells_without, GoesBehind, GoesFirst, HasChain, HasNode, Held, HoldsTree, InRange, IsAscending, IsAt, IsNodeOf, IsTable, LeadsTo, Node, Removes, SameFrame, SeeksBehind, SeeksPlace, SetsChild, SetsSibling, size_of, TableHolds, without};
 
 use cedar_model::Layout;
 use cedar_slots::BLOCK_SIZE;
@@ -93,16 +93,16 @@ pub(crate) fn add_reserved<L: Layout, const SLOTS: usize, A: Allocator>(
     requires sound { IsTable SLOTS (fields table.old).places }
     requires node_in { node < size_of (fields table.old) }
     requires not_root { node ≢ 0 }
-    requires node { (f : Forest) × IsNodeOf (size_of (fields table.old)) (freed (cells table.old) (below (cells table.old) node label)) (fields table.old).ordered f node }
+    requires node { (f : Forest) × IsNodeOf (size_of (fields table.old)) (cells_without (cells table.old) (below (cells table.old) node label)) (fields table.old).ordered f node }
     requires positive { 0 < label }
     requires based { InRange (size_of (fields table.old)) ((cells table.old).stored node) }
     requires reserved { (cells table.old).check (below (cells table.old) node label) ≡ pos 0 }
     ensures sound { IsTable SLOTS (fields table.new).places }
     ensures slot { result ≡ below (cells table.new) node label }
-    ensures added { AddsLabel (size_of (fields table.old)) (fields table.old).ordered (freed (cells table.old) (below (cells table.old) node label)) (cells table.new) node label }
-    ensures tree { (f : Forest) (w : List ℕ) → HoldsTree (size_of (fields table.old)) (freed (cells table.old) (below (cells table.old) node label)) f → ((fields table.old).ordered ≡ true → IsAscending f) → IsAt (freed (cells table.old) (below (cells table.old) node label)) w node
+    ensures added { AddsLabel (size_of (fields table.old)) (fields table.old).ordered (cells_without (cells table.old) (below (cells table.old) node label)) (cells table.new) node label }
+    ensures tree { (f : Forest) (w : List ℕ) → HoldsTree (size_of (fields table.old)) (cells_without (cells table.old) (below (cells table.old) node label)) f → ((fields table.old).ordered ≡ true → IsAscending f) → IsAt (cells_without (cells table.old) (below (cells table.old) node label)) w node
         → TableHolds (fields table.new) (edit_at w (λ n. n) (add_leaf (fields table.old).ordered label) f) }
-    ensures leaf { (w : List ℕ) → IsAt (freed (cells table.old) (below (cells table.old) node label)) w node → IsAt (cells table.new) (w ++ label ∷ []) result }
+    ensures leaf { (w : List ℕ) → IsAt (cells_without (cells table.old) (below (cells table.old) node label)) w node → IsAt (cells table.new) (w ++ label ∷ []) result }
     ensures root_check { (cells table.new).check 0 ≡ (cells table.old).check 0 }
     ensures frame { SameFrame (fields table.old) (fields table.new) }
 {

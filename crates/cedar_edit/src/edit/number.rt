@@ -1,7 +1,7 @@
 //! A node's number set, and taken away.
 
 ghost use Rattle.std.specs.Prelude.{◌≡◌, ◌⊎◌, ℕ, List, ◌<◌, None, pos, Some};
-ghost use Rattle.cedar_edit.specs.Words.{below, cells, DropsNumber, edit_at, fields, Forest, freed, HasNode, Held, HoldsTree, InRange, IsAt, IsNodeOf, IsTable, SameFrame, SetsNumber, size_of, TableHolds};
+ghost use Rattle.cedar_edit.specs.Words.{below, cells, DropsNumber, edit_at, fields, Forest, cells_without, HasNode, Held, HoldsTree, InRange, IsAt, IsNodeOf, IsTable, SameFrame, SetsNumber, size_of, TableHolds};
 
 use cedar_model::Layout;
 use cedar_slots::NodeRecord;
@@ -52,12 +52,12 @@ pub(crate) fn set_reserved<L: Layout, const SLOTS: usize, A: Allocator>(
     requires sound { IsTable SLOTS (fields table.old).places }
     requires node_in { node < size_of (fields table.old) }
     requires not_root { 0 < node }
-    requires node { (f : Forest) × IsNodeOf (size_of (fields table.old)) (freed (cells table.old) (below (cells table.old) node 0)) (fields table.old).ordered f node }
+    requires node { (f : Forest) × IsNodeOf (size_of (fields table.old)) (cells_without (cells table.old) (below (cells table.old) node 0)) (fields table.old).ordered f node }
     requires based { InRange (size_of (fields table.old)) ((cells table.old).stored node) }
     requires reserved { (cells table.old).check (below (cells table.old) node 0) ≡ pos 0 }
     ensures sound { IsTable SLOTS (fields table.new).places }
-    ensures set { SetsNumber (size_of (fields table.old)) (freed (cells table.old) (below (cells table.old) node 0)) (cells table.new) node value }
-    ensures tree { (f : Forest) (w : List ℕ) → HoldsTree (size_of (fields table.old)) (freed (cells table.old) (below (cells table.old) node 0)) f → IsAt (freed (cells table.old) (below (cells table.old) node 0)) w node
+    ensures set { SetsNumber (size_of (fields table.old)) (cells_without (cells table.old) (below (cells table.old) node 0)) (cells table.new) node value }
+    ensures tree { (f : Forest) (w : List ℕ) → HoldsTree (size_of (fields table.old)) (cells_without (cells table.old) (below (cells table.old) node 0)) f → IsAt (cells_without (cells table.old) (below (cells table.old) node 0)) w node
         → TableHolds (fields table.new) (edit_at w (λ _. Some value) (λ u. u) f) }
     ensures root_check { (cells table.new).check 0 ≡ (cells table.old).check 0 }
     ensures frame { SameFrame (fields table.old) (fields table.new) }

@@ -1,7 +1,7 @@
 //! A key taken away, and nodes that are left with neither number nor child.
 
 ghost use Rattle.std.specs.Prelude.{◌≡◌, ℕ, List, ◌<◌, ◌↔◌, is_some, IsTrue, None, true};
-ghost use Rattle.cedar_edit.specs.Words.{capacity_of, cells, cut, edit_at, fields, Forest, HasNode, is_bare, IsAt, IsTable, IsWellFormed, KeepsMarks, KeepsOtherMarks, LosesLeaf, marks, MarksCut, node_at, number_at, root_of, SameFrame, SameModes, size_of, TableHolds, TellsBare, tree_of, trimmed};
+ghost use Rattle.cedar_edit.specs.Words.{capacity_of, cells, cut, edit_at, fields, Forest, HasNode, is_bare, IsAt, IsTable, IsWellFormed, KeepsMarks, KeepsOtherMarks, LosesLeaf, marks, MarksCut, node_at, number_at, root_of, SameFrame, SameModes, size_of, TableHolds, TellsBare, tree_of, tree_after_trim};
 
 use crate::edit::leaf::remove_label;
 use crate::edit::number::drop_number;
@@ -81,7 +81,7 @@ pub(crate) fn trim<L: Layout, const SLOTS: usize, A: Allocator>(
     requires node { (f : Forest) × HasNode (fields table.old) f node }
     ensures sound { IsTable SLOTS (fields table.new).places }
     ensures tree { (f : Forest) (w : List ℕ) → TableHolds (fields table.old) f → IsAt (cells table.old) w node
-        → TableHolds (fields table.new) (trimmed (root_of f) w).children }
+        → TableHolds (fields table.new) (tree_after_trim (root_of f) w).children }
     ensures marks { KeepsMarks (cells table.old) (cells table.new) }
     ensures root_check { (cells table.new).check 0 ≡ (cells table.old).check 0 }
     ensures frame { SameFrame (fields table.old) (fields table.new) }

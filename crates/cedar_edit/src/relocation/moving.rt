@@ -1,7 +1,7 @@
 //! Moving the slots of a node to another base.
 
 ghost use Rattle.std.specs.Prelude.{bit_xor, ◌≡◌, ◌≢◌, ℕ, List, ◌<◌, ◌^◌, pos, true};
-ghost use Rattle.cedar_edit.specs.Words.{Always, Among, base_of, cells, Family, fields, freed, goes_before, Head, IsNode, IsNumber, IsPlace, IsTable, Links, MayReserve, Movable, MovesSlot, Relocated, Renames, Repointed, Repoints, RepointsUnder, SameFrame, SameHeld, seen, single, size_of};
+ghost use Rattle.cedar_edit.specs.Words.{Always, Among, base_of, cells, Family, fields, cells_without, goes_before, Head, IsNode, IsNumber, IsPlace, IsTable, Links, MayReserve, Movable, MovesSlot, Relocated, Renames, Repointed, Repoints, RepointsUnder, SameFrame, SameHeld, without_reserved, single, size_of};
 
 use cedar_model::Layout;
 use cedar_slots::NInfoRecord;
@@ -102,7 +102,7 @@ fn copy_slot<L: Layout, const SLOTS: usize, A: Allocator>(
     requires { MovesSlot SLOTS (fields table.old) from to owner label }
     ensures sound { IsTable SLOTS (fields table.new).places }
     ensures still { (cells table.new).check from ≡ pos owner }
-    ensures renamed { Renames (cells table.old) (freed (cells table.new) from) (single from to) }
+    ensures renamed { Renames (cells table.old) (cells_without (cells table.new) from) (single from to) }
     ensures frame { SameFrame (fields table.old) (fields table.new) }
 {
     repoint_under(table, from, to, label);
@@ -144,7 +144,7 @@ fn pass_slot<L: Layout, const SLOTS: usize, A: Allocator>(
     requires { MovesSlot SLOTS (fields table.old) from to owner label }
     ensures sound { IsTable SLOTS (fields table.new).places }
     ensures kept { from ≢ wanted → Renames (cells table.old) (cells table.new) (single from to) }
-    ensures passed { from ≡ wanted → Renames (cells table.old) (freed (cells table.new) wanted) (single from to) × ((cells table.new).check wanted ≡ pos 0) }
+    ensures passed { from ≡ wanted → Renames (cells table.old) (cells_without (cells table.new) wanted) (single from to) × ((cells table.new).check wanted ≡ pos 0) }
     ensures frame { SameFrame (fields table.old) (fields table.new) }
 {
     if from == wanted {
@@ -165,7 +165,7 @@ fn reserve<L: Layout, const SLOTS: usize, A: Allocator>(
     requires { MayReserve SLOTS (fields table.old) slot reserved }
     ensures sound { IsTable SLOTS (fields table.new).places }
     ensures marked { result ≡ true → (cells table.new).check slot ≡ pos 0 }
-    ensures seen { SameHeld (seen reserved (cells table.old) slot) (seen result (cells table.new) slot) }
+    ensures seen { SameHeld (without_reserved reserved (cells table.old) slot) (without_reserved result (cells table.new) slot) }
     ensures now { now ≡ true → result ≡ true }
     ensures frame { SameFrame (fields table.old) (fields table.new) }
 {
@@ -207,7 +207,7 @@ pub(crate) fn relocate_around<L: Layout, const SLOTS: usize, A: Allocator>(
     requires movable { Movable (size_of (fields table.old)) (cells table.old) parent base labels.now }
     requires mine { (cells table.old).check wanted ≡ pos parent }
     ensures sound { IsTable SLOTS (fields table.new).places }
-    ensures relocated { Relocated (size_of (fields table.old)) (cells table.old) (freed (cells table.new) wanted) parent base }
+    ensures relocated { Relocated (size_of (fields table.old)) (cells table.old) (cells_without (cells table.new) wanted) parent base }
     ensures reserved { (cells table.new).check wanted ≡ pos 0 }
     ensures root_check { (cells table.new).check 0 ≡ (cells table.old).check 0 }
     ensures frame { SameFrame (fields table.old) (fields table.new) }
@@ -236,7 +236,7 @@ pub(crate) fn relocate_with<L: Layout, const SLOTS: usize, A: Allocator>(
     requires new { Among labels.now label → ⊥ }
     requires place { IsPlace (size_of (fields table.old)) (cells table.old) (bit_xor new_base label) }
     ensures sound { IsTable SLOTS (fields table.new).places }
-    ensures relocated { Relocated (size_of (fields table.old)) (cells table.old) (freed (cells table.new) (bit_xor new_base label)) parent new_base }
+    ensures relocated { Relocated (size_of (fields table.old)) (cells table.old) (cells_without (cells table.new) (bit_xor new_base label)) parent new_base }
     ensures reserved { (cells table.new).check (bit_xor new_base label) ≡ pos 0 }
     ensures root_check { (cells table.new).check 0 ≡ (cells table.old).check 0 }
     ensures frame { SameFrame (fields table.old) (fields table.new) }

@@ -2,7 +2,7 @@
 //! kept back meanwhile.
 
 ghost use Rattle.std.specs.Prelude.{bit_xor, ◌≡◌, ◌≢◌, ℕ, List, ◌<◌, ◌≤◌, ◌↔◌, IfOk, IsTrue, length, OnOk, pos};
-ghost use Rattle.cedar_edit.specs.Words.{Among, below, cells, Family, fields, Head, IsNode, IsTable, Links, MayMakeBlock, owned, OwnsLabels, Reserves, rest_of, SetReserved, size_of, StandsBelow, WantsSlot, with_label};
+ghost use Rattle.cedar_edit.specs.Words.{Among, below, cells, Family, fields, Head, IsNode, IsTable, Links, MayMakeBlock, owned_slots, OwnsLabels, Reserves, rest_of, SetReserved, size_of, StandsBelow, WantsSlot, with_label};
 
 use crate::relocation::moving::{goes_before, relocate_around, relocate_with};
 use arrayvec::ArrayVec;
@@ -66,7 +66,7 @@ fn second_label<L: Layout, const SLOTS: usize, A: Allocator>(
     requires node_in { node < size_of (fields table.now) }
     requires not_root { node ≢ 0 }
     requires node { IsNode (size_of (fields table.now)) (cells table.now) node }
-    ensures { (h : Head) (ls : List ℕ) → Family (size_of (fields table.now)) (cells table.now) node h ls → Links (cells table.now) node result (rest_of (owned h ls)) }
+    ensures { (h : Head) (ls : List ℕ) → Family (size_of (fields table.now)) (cells table.now) node h ls → Links (cells table.now) node result (rest_of (owned_slots h ls)) }
 {
     let base = table.base_of(node);
     if table.has_number_slot(node) {
@@ -93,7 +93,7 @@ fn is_longer<L: Layout, const SLOTS: usize, A: Allocator>(
     requires one_node { IsNode (size_of (fields table.now)) (cells table.now) one }
     requires other_node { IsNode (size_of (fields table.now)) (cells table.now) other }
     ensures { (h k : Head) (ls ms : List ℕ) → Family (size_of (fields table.now)) (cells table.now) one h ls → Family (size_of (fields table.now)) (cells table.now) other k ms
-        → IsTrue result ↔ (length (rest_of (owned k ms)) < length (rest_of (owned h ls))) }
+        → IsTrue result ↔ (length (rest_of (owned_slots k ms)) < length (rest_of (owned_slots h ls))) }
 {
     let mut left = second_label(table, one);
     let mut right = second_label(table, other);

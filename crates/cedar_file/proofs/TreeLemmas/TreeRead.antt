@@ -6,7 +6,7 @@ use Rattle.std.proofs.lemmas.List.{length-map}
 use Rattle.cedar_tree.specs.Tree.{AllAbove, Forest, none, child}
 use Rattle.cedar_tree.specs.Queries.{own_entry, under, walk_forest}
 use Rattle.cedar_model.specs.Table.Cells.{Cells}
-use Rattle.cedar_file.specs.TreeWalk.{ComesBack, GoesDown, LooksLikeNode, numbers_at, slots_at, walk_at, walk_start}
+use Rattle.cedar_file.specs.TreeWalk.{ComesBack, GoesDown, LooksLikeNode, number_count_at, slots_at, walk_at, walk_start}
 use Rattle.cedar_model.specs.Meaning.Family.{base_of, below, Links}
 use Rattle.cedar_model.specs.Meaning.StandsFor.{labels}
 use Rattle.cedar_model.specs.Meaning.Reading.{first_in, has_number_slot, number_in}
@@ -36,9 +36,9 @@ slots-more T s l n u rest =
       length-append (number_slots T b) (slots_below T b u),
     )
 
-pub numbers-more : (T : Cells) (b l : ℕ) (n : Option ℤ) (u rest : Forest) → number_in T b ≡ n → length (walk_forest (child l n u rest)) ≡ numbers_at T b + length (walk_forest u) + length (walk_forest rest)
+pub numbers-more : (T : Cells) (b l : ℕ) (n : Option ℤ) (u rest : Forest) → number_in T b ≡ n → length (walk_forest (child l n u rest)) ≡ number_count_at T b + length (walk_forest u) + length (walk_forest rest)
 numbers-more T b l n u rest e =
-    let own : numbers_at T b ≡ length (own_entry n) = ap (λ m. cond (is_some m) 1 0) e ∙ sym (own_entry-length n) in
+    let own : number_count_at T b ≡ length (own_entry n) = ap (λ m. cond (is_some m) 1 0) e ∙ sym (own_entry-length n) in
     omega (
       arith,
       own,
@@ -120,9 +120,9 @@ module _ (size : ℕ) (ordered : Bool) (T : Cells) (root : (c : ℕ) → T.check
     back = same_counts n size ordered T s 0 met (met + 0) numbers (numbers + 0) m e (omega arith) (omega arith) (subst (λ y. ComesBack n size ordered T (walk_at T s y met numbers) m e) z h);
   }
 
-  read_child : (n k s c met numbers m e : ℕ) → GoesDown size T (walk_at T s c met numbers) → (under : ReadOn n size ordered T (below T s c) (first_in T (below T s c)) (met + slots_at T (below T s c)) (numbers + numbers_at T (below T s c)) m e)
-      → (off : LeftOff under.turns size ordered T (below T s c) s (met + slots_at T (below T s c) + length (slots_below T (below T s c) under.forest)) (numbers + numbers_at T (below T s c) + length (walk_forest under.forest)) m e)
-      → ReadOn off.turns size ordered T s (T.sibling (below T s c)) (met + slots_at T (below T s c) + length (slots_below T (below T s c) under.forest)) (numbers + numbers_at T (below T s c) + length (walk_forest under.forest)) m e
+  read_child : (n k s c met numbers m e : ℕ) → GoesDown size T (walk_at T s c met numbers) → (under : ReadOn n size ordered T (below T s c) (first_in T (below T s c)) (met + slots_at T (below T s c)) (numbers + number_count_at T (below T s c)) m e)
+      → (off : LeftOff under.turns size ordered T (below T s c) s (met + slots_at T (below T s c) + length (slots_below T (below T s c) under.forest)) (numbers + number_count_at T (below T s c) + length (walk_forest under.forest)) m e)
+      → ReadOn off.turns size ordered T s (T.sibling (below T s c)) (met + slots_at T (below T s c) + length (slots_below T (below T s c) under.forest)) (numbers + number_count_at T (below T s c) + length (walk_forest under.forest)) m e
       → n ≤ k → ReadOn k size ordered T s c met numbers m e
   read_child n k s c met numbers m e down under off behind le =
       let b : ℕ = below T s c in
@@ -155,9 +155,9 @@ module _ (size : ℕ) (ordered : Bool) (T : Cells) (root : (c : ℕ) → T.check
       | inr go ↦ elim go.1 [
         | inl down ↦
             let b : ℕ = below T s c in
-            let there : ComesBack n size ordered T (walk_at T b (first_in T b) (met + slots_at T b) (numbers + numbers_at T b)) m e = subst (λ w. ComesBack n size ordered T w m e) down.1 go.2 in
+            let there : ComesBack n size ordered T (walk_at T b (first_in T b) (met + slots_at T b) (numbers + number_count_at T b)) m e = subst (λ w. ComesBack n size ordered T w m e) down.1 go.2 in
             let not_zero : b ≡ 0 → ⊥ = λ y. root s (ap T.check (sym y) ∙ down.0.owned) in
-            let under = read_on bound n b (first_in T b) (met + slots_at T b) (numbers + numbers_at T b) m e (omega arith) there in
+            let under = read_on bound n b (first_in T b) (met + slots_at T b) (numbers + number_count_at T b) m e (omega arith) there in
             let off = left_off under.turns b s _ _ m e not_zero down.0.owned under.back in
             let behind = read_on bound off.turns s (T.sibling b) _ _ m e (omega (arith, under.fewer, off.fewer)) off.on in
             read_child n (suc n) s c met numbers m e down.0 under off behind (omega arith)

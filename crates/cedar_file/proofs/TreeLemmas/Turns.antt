@@ -3,7 +3,7 @@ use Rattle.std.proofs.Common.{◌≡◌, ◌≢◌, ℕ, zero, suc, ◌+◌, ◌
 use Rattle.std.specs.Prelude.{IfOk, OnErr, pos}
 use Rattle.cedar_file.specs.declared.check.tree.Walk.{Walk}
 use Rattle.cedar_model.specs.Table.Cells.{Cells}
-use Rattle.cedar_file.specs.TreeWalk.{ComesBack, GoesDown, GoesOn, GoesUp, numbers_at, slots_at, walk_down, walk_up}
+use Rattle.cedar_file.specs.TreeWalk.{ComesBack, GoesDown, GoesOn, GoesUp, number_count_at, slots_at, walk_down, walk_up}
 use Rattle.cedar_model.specs.Meaning.Family.{base_of, below}
 use Rattle.cedar_model.specs.Meaning.Reading.{has_number_slot, number_in}
 use Rattle.cedar_model.proofs.MeaningLemmas.ExclusiveOr.{pos_injective}
@@ -15,7 +15,7 @@ slots_few T s = by_test (has_number_slot T s)
     by_test true = omega arith
     by_test false = omega arith
 
-numbers_few : (T : Cells) (s : ℕ) → numbers_at T s ≤ 1
+numbers_few : (T : Cells) (s : ℕ) → number_count_at T s ≤ 1
 numbers_few T s = by_test (is_some (number_in T s))
   where
     by_test : (b : Bool) → cond {A = ℕ} b 1 0 ≤ 1

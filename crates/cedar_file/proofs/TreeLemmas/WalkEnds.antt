@@ -6,7 +6,7 @@ use Rattle.cedar_tree.specs.Tree.{AllAbove, AllNumbers, Forest, IsAscending, IsS
 use Rattle.cedar_tree.specs.Queries.{walk, walk_forest}
 use Rattle.cedar_file.specs.declared.check.tree.Walk.{Walk}
 use Rattle.cedar_model.specs.Table.Cells.{Cells, is_held}
-use Rattle.cedar_file.specs.TreeWalk.{ComesBack, GoesDown, GoesOn, GoesUp, IsBack, LooksLikeRoot, numbers_at, slots_at, walk_at, walk_down, walk_start, walk_up}
+use Rattle.cedar_file.specs.TreeWalk.{ComesBack, GoesDown, GoesOn, GoesUp, IsBack, LooksLikeRoot, number_count_at, slots_at, walk_at, walk_down, walk_start, walk_up}
 use Rattle.cedar_model.specs.Meaning.Family.{base_of, below, Links}
 use Rattle.cedar_model.specs.Meaning.StandsFor.{ChildrenStand, labels}
 use Rattle.cedar_model.specs.Meaning.Reading.{first_in}
@@ -61,7 +61,7 @@ module _ (size : ℕ) (ordered : Bool) (T : Cells) (root : (c : ℕ) → T.check
       let reads = node_reads size T b v (labels u) not_root g.0 in
       let looks = node_looks size T b v u not_root g.0 sound.3 values.0 in
       let met_here : ℕ = met + slots_at T b in
-      let numbers_here : ℕ = numbers + numbers_at T b in
+      let numbers_here : ℕ = numbers + number_count_at T b in
       let slots = slots-more T s l v u rest in
       let entries = numbers-more T b l v u rest reads.number in
       let beside : ComesBack (steps_below rest + n) size ordered T (walk_at T s (T.sibling b) (met_here + length (slots_below T b u)) (numbers_here + length (walk_forest u))) m e =

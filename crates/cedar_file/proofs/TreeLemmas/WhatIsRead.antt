@@ -6,7 +6,7 @@ use Rattle.std.proofs.lemmas.Bool.{false≢true}
 use Rattle.cedar_file.specs.declared.check.tree.Walk.{Walk}
 use Rattle.cedar_model.specs.declared.layout.Stored.TheVariants.{AtBase, OwnNumber, Nothing}
 use Rattle.cedar_model.specs.Table.Cells.{Cells}
-use Rattle.cedar_file.specs.TreeWalk.{GoesDown, IsOfNode, LooksLikeNode, LooksLikeRoot, numbers_at, slots_at, walk_down, walk_met}
+use Rattle.cedar_file.specs.TreeWalk.{GoesDown, IsOfNode, LooksLikeNode, LooksLikeRoot, number_count_at, slots_at, walk_down, walk_met}
 use Rattle.cedar_model.specs.Meaning.Family.{base_in, below}
 use Rattle.cedar_model.specs.Meaning.Reading.{first_in, has_number_slot, number_in, own_number}
 use Rattle.cedar_model.specs.Meaning.WellFormed.{is_value}
@@ -62,7 +62,7 @@ module _ (size : ℕ) (T : Cells) (s : ℕ) where
       let has = has_slot b is own in
       let first : first_in T s ≡ T.sibling b = ap (λ t. cond t (T.sibling (below T s 0)) (T.child s)) has ∙ ap T.sibling (number_slot_at b is) in
       let slots : slots_at T s ≡ 2 = ap (λ t. 1 + cond {A = ℕ} t 1 0) has in
-      let numbers : numbers_at T s ≡ 1 = ap (λ n. cond {A = ℕ} (is_some n) 1 0) (number_in_slot b is own) in
+      let numbers : number_count_at T s ≡ 1 = ap (λ n. cond {A = ℕ} (is_some n) 1 0) (number_in_slot b is own) in
       same_walk s _ _ _ _ _ _ _ _ (sym (ap base_in is)) (sym first) (omega (arith, slots)) (omega (arith, numbers))
 
   pub plain_child : (b : ℕ) → T.stored s ≡ AtBase b → T.check b ≢ pos s → T.child s ≡ 0 → LooksLikeNode size T s → ⊥
@@ -83,7 +83,7 @@ module _ (size : ℕ) (T : Cells) (s : ℕ) where
       let lacks = lacks_slot b is other in
       let first : first_in T s ≡ T.child s = ap (λ t. cond t (T.sibling (below T s 0)) (T.child s)) lacks in
       let slots : slots_at T s ≡ 1 = ap (λ t. 1 + cond {A = ℕ} t 1 0) lacks in
-      let numbers : numbers_at T s ≡ 0 = ap (λ n. cond {A = ℕ} (is_some n) 1 0) (number_none b is other) in
+      let numbers : number_count_at T s ≡ 0 = ap (λ n. cond {A = ℕ} (is_some n) 1 0) (number_none b is other) in
       same_walk s _ _ _ _ _ _ _ _ (sym (ap base_in is)) (sym first) (omega (arith, slots)) (omega (arith, numbers))
 
   -- ---- a node with a number of its own
@@ -118,7 +118,7 @@ module _ (size : ℕ) (T : Cells) (s : ℕ) where
       let lacks = own_lacks v root is in
       let first : first_in T s ≡ 0 = ap (λ t. cond t (T.sibling (below T s 0)) (T.child s)) lacks ∙ child in
       let slots : slots_at T s ≡ 1 = ap (λ t. 1 + cond {A = ℕ} t 1 0) lacks in
-      let numbers : numbers_at T s ≡ 1 = ap (λ n. cond {A = ℕ} (is_some n) 1 0) (own_is v root is) in
+      let numbers : number_count_at T s ≡ 1 = ap (λ n. cond {A = ℕ} (is_some n) 1 0) (own_is v root is) in
       same_walk s _ _ _ _ _ _ _ _ (sym (ap base_in is)) (sym first) (omega (arith, slots)) (omega (arith, numbers))
 
   pub nothing_looks : T.stored s ≡ Nothing → LooksLikeNode size T s → ⊥

@@ -5,7 +5,7 @@
 //! before its last step, it has met all free slots of the block, and its last step leads back. No marks are kept.
 
 ghost use Rattle.std.specs.Prelude.{◌≡◌, ℕ, ◌+◌, ◌*◌, ◌^◌, ◌<◌, ◌≤◌, length, true};
-ghost use Rattle.cedar_file.specs.Words.{HasBlankLabels, HasRing, OkIff, SlotLink, StepsFrom, free_count, free_here, info_at, is_free, node_at, slots_of};
+ghost use Rattle.cedar_file.specs.Words.{HasBlankLabels, HasRing, OkIff, SlotLink, StepsFrom, free_count, free_here, info_at, is_free, node_record_at, slots_of};
 
 use cedar_slots::{BLOCK_SIZE, Corrupt, NInfoRecord, NodeRecord, Slots, Ticks};
 use std::alloc::Allocator;
@@ -18,7 +18,7 @@ pub(crate) fn read_node<A: Allocator, C: Ledger>(
     reads: &mut Ticks<C>,
 ) -> NodeRecord
     requires { slot < length slots.now.nodes.items }
-    ensures value { result ≡ node_at slots.now.nodes.items slot }
+    ensures value { result ≡ node_record_at slots.now.nodes.items slot }
     ensures cost { reads.new ≡ reads.old + 1 }
 {
     reads.tick();

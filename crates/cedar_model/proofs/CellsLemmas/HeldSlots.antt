@@ -7,7 +7,7 @@ use Rattle.std.proofs.lemmas.Bool.Decides.{Decides-ltb, nat_tests}
 use Rattle.cedar_slots.specs.declared.records.NodeRecord.{NodeRecord}
 use Rattle.cedar_slots.specs.declared.records.NInfoRecord.{NInfoRecord}
 use Rattle.cedar_model.specs.Table.Layouts.{LayoutKind, reading}
-use Rattle.cedar_slots.specs.Slots.{blank_info, check_at, info_at, is_free, node_at, SlotFields}
+use Rattle.cedar_slots.specs.Slots.{blank_info, check_at, info_at, is_free, node_record_at, SlotFields}
 use Rattle.cedar_slots.specs.Places.{AddsBlock, FreesSlot, IsBase, IsFreePlace, NoneFree, PlaceFields, TakesSlot}
 use Rattle.cedar_model.specs.Table.Cells.{Cells, cells_of, Gives, HasPlaces, Held, IsPlace, NoPlace, SameAt, SameHeld, Takes}
 use Rattle.cedar_slots.proofs.RingsLemmas.InBlock.{xor_block}
@@ -81,7 +81,7 @@ held_natural T s z other read (inr (c, is)) = subst (λ y. pos 0 ≤ℤ y) (sym 
 -- ---- what the tree sees of a change
 
 module _ (k : LayoutKind) (old new : PlaceFields) (some : 0 < old.blocks.active) (grows : old.blocks.active ≤ new.blocks.active) where
-  same_at : (s : ℕ) → s < 256 * old.blocks.active → node_at new.slots.nodes s ≡ node_at old.slots.nodes s → info_at new.slots.infos s ≡ info_at old.slots.infos s → SameAt (cells_of k old) (cells_of k new) s s
+  same_at : (s : ℕ) → s < 256 * old.blocks.active → node_record_at new.slots.nodes s ≡ node_record_at old.slots.nodes s → info_at new.slots.infos s ≡ info_at old.slots.infos s → SameAt (cells_of k old) (cells_of k new) s s
   same_at s inside node info = record {
     base = ap (λ (n : NodeRecord). n.base) node;
     stored = ap (λ (n : NodeRecord). reading k n.base) node;
@@ -91,11 +91,11 @@ module _ (k : LayoutKind) (old new : PlaceFields) (some : 0 < old.blocks.active)
   }
 
   -- a slot that is held now was held before, if it was in use, and its node has not changed
-  held_before : (s : ℕ) → s < 256 * old.blocks.active → node_at new.slots.nodes s ≡ node_at old.slots.nodes s → Held (cells_of k new) s → Held (cells_of k old) s
+  held_before : (s : ℕ) → s < 256 * old.blocks.active → node_record_at new.slots.nodes s ≡ node_record_at old.slots.nodes s → Held (cells_of k new) s → Held (cells_of k old) s
   held_before s inside node (inl root) = inl root
   held_before s inside node (inr (c, is)) = inr (c, active_is k old s inside ∙ sym (ap (λ (n : NodeRecord). n.check) node) ∙ sym (active_is k new s (omega arith)) ∙ is)
 
-  pub SameHeld-of : ((s : ℕ) → s < 256 * old.blocks.active → node_at new.slots.nodes s ≡ node_at old.slots.nodes s) → ((s : ℕ) → info_at new.slots.infos s ≡ info_at old.slots.infos s) → ((s : ℕ) → 256 * old.blocks.active ≤ s → s < 256 * new.blocks.active → is_free new.slots.nodes s ≡ true) → SameHeld (cells_of k old) (cells_of k new)
+  pub SameHeld-of : ((s : ℕ) → s < 256 * old.blocks.active → node_record_at new.slots.nodes s ≡ node_record_at old.slots.nodes s) → ((s : ℕ) → info_at new.slots.infos s ≡ info_at old.slots.infos s) → ((s : ℕ) → 256 * old.blocks.active ≤ s → s < 256 * new.blocks.active → is_free new.slots.nodes s ≡ true) → SameHeld (cells_of k old) (cells_of k new)
   SameHeld-of nodes infos fresh = record {
     other = λ x held. let used = held_used k old x some held in same_at x used.0 (nodes x used.0) (infos x);
     free = λ x held. let used = held_used k new x (omega arith) held in elim (cases_lt x (256 * old.blocks.active)) [
@@ -105,10 +105,10 @@ module _ (k : LayoutKind) (old new : PlaceFields) (some : 0 < old.blocks.active)
   }
 
 module _ (k : LayoutKind) (old new : PlaceFields) (some : 0 < old.blocks.active) (same : new.blocks.active ≡ old.blocks.active) (q : ℕ) where
-  others_same : ((s : ℕ) → (s ≡ q → ⊥) → is_free old.slots.nodes s ≡ false → node_at new.slots.nodes s ≡ node_at old.slots.nodes s) → ((s : ℕ) → (s ≡ q → ⊥) → info_at new.slots.infos s ≡ info_at old.slots.infos s) → (x : ℕ) → (x ≡ q → ⊥) → Held (cells_of k old) x → SameAt (cells_of k old) (cells_of k new) x x
+  others_same : ((s : ℕ) → (s ≡ q → ⊥) → is_free old.slots.nodes s ≡ false → node_record_at new.slots.nodes s ≡ node_record_at old.slots.nodes s) → ((s : ℕ) → (s ≡ q → ⊥) → info_at new.slots.infos s ≡ info_at old.slots.infos s) → (x : ℕ) → (x ≡ q → ⊥) → Held (cells_of k old) x → SameAt (cells_of k old) (cells_of k new) x x
   others_same kept infos x other held = let used = held_used k old x some held in same_at k old new some (omega arith) x used.0 (kept x other used.1) (infos x other)
 
-  others_free : ((s : ℕ) → (s ≡ q → ⊥) → is_free new.slots.nodes s ≡ is_free old.slots.nodes s) → ((s : ℕ) → (s ≡ q → ⊥) → is_free old.slots.nodes s ≡ false → node_at new.slots.nodes s ≡ node_at old.slots.nodes s) → (x : ℕ) → (x ≡ q → ⊥) → Held (cells_of k new) x → Held (cells_of k old) x
+  others_free : ((s : ℕ) → (s ≡ q → ⊥) → is_free new.slots.nodes s ≡ is_free old.slots.nodes s) → ((s : ℕ) → (s ≡ q → ⊥) → is_free old.slots.nodes s ≡ false → node_record_at new.slots.nodes s ≡ node_record_at old.slots.nodes s) → (x : ℕ) → (x ≡ q → ⊥) → Held (cells_of k new) x → Held (cells_of k old) x
   others_free free kept x other held =
       let used = held_used k new x (omega arith) held in
       held_before k old new some (omega arith) x (omega (arith, used.0)) (kept x other (sym (free x other) ∙ used.1)) held
@@ -143,7 +143,7 @@ SameHeld-added k old new b some added = SameHeld-of k old new some (omega (arith
 
 pub SameHeld-same : (k : LayoutKind) (old new : PlaceFields) → 0 < old.blocks.active → new.slots ≡ old.slots → new.blocks.active ≡ old.blocks.active → SameHeld (cells_of k old) (cells_of k new)
 SameHeld-same k old new some slots active = SameHeld-of k old new some (omega (arith, active))
-    (λ s _. ap (λ (v : SlotFields). node_at v.nodes s) slots) (λ s. ap (λ (v : SlotFields). info_at v.infos s) slots) (λ s from upto. absurd (omega (arith, active)))
+    (λ s _. ap (λ (v : SlotFields). node_record_at v.nodes s) slots) (λ s. ap (λ (v : SlotFields). info_at v.infos s) slots) (λ s from upto. absurd (omega (arith, active)))
 
 -- ---- places in words of held slots
 

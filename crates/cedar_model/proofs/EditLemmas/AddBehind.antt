@@ -6,7 +6,7 @@ use Rattle.std.proofs.lemmas.Bool.Decides.{nat_tests}
 use Rattle.cedar_tree.specs.Tree.{Forest, none, child, empty_tree, insert_ascending}
 use Rattle.cedar_tree.specs.Edits.{edit_at}
 use Rattle.cedar_model.specs.Table.Cells.{Cells, Held}
-use Rattle.cedar_model.specs.Meaning.Family.{base_in, base_of, Head, plain, valued, own, top, Family, Node, below, Among, owned, Links, Based}
+use Rattle.cedar_model.specs.Meaning.Family.{base_in, base_of, Head, plain, valued, own, top, Family, Node, below, Among, owned_slots, Links, Based}
 use Rattle.cedar_model.specs.Meaning.StandsFor.{labels, ChildrenStand, slot_at, OnPath, HoldsTree}
 use Rattle.cedar_model.specs.Edit.NodeEdits.{Ascends, follow_on, AddsBehind, inserted, Above}
 use Rattle.cedar_model.proofs.MeaningLemmas.ExclusiveOr.{xor_back}
@@ -103,23 +103,23 @@ module _ (size : ℕ) (T T' : Cells) (a l : ℕ) (k : AddsBehind size T T' a l) 
   fresh : (h : Head) (ls : List ℕ) → Family size T a h ls → Among ls l → ⊥
   fresh h ls f b = k.free (subst (Held T) (sym (at l)) (inr (a, labels_own T a h ls f.begins l b)))
 
-  among_more : (h : Head) (ls : List ℕ) (y : ℕ) → Among (owned h ls) y → Among (owned h (inserted l ls)) y
+  among_more : (h : Head) (ls : List ℕ) (y : ℕ) → Among (owned_slots h ls) y → Among (owned_slots h (inserted l ls)) y
   among_more plain ls y b = among_inserted l y ls b
   among_more (valued v) ls y (inl e) = inl e
   among_more (valued v) ls y (inr b) = inr (among_inserted l y ls b)
   among_more (own v) ls y b = among_inserted l y ls b
   among_more top ls y b = among_inserted l y ls b
 
-  among_new : (h : Head) (ls : List ℕ) → Among (owned h (inserted l ls)) l
+  among_new : (h : Head) (ls : List ℕ) → Among (owned_slots h (inserted l ls)) l
   among_new plain ls = among_itself l ls
   among_new (valued v) ls = inr (among_itself l ls)
   among_new (own v) ls = among_itself l ls
   among_new top ls = among_itself l ls
 
-  only_more : (h : Head) (ls : List ℕ) → ((q : ℕ) → T.check q ≡ pos a → Among (owned h ls) (below T a q)) → (q : ℕ) → T'.check q ≡ pos a → Among (owned h (inserted l ls)) (below T' a q)
+  only_more : (h : Head) (ls : List ℕ) → ((q : ℕ) → T.check q ≡ pos a → Among (owned_slots h ls) (below T a q)) → (q : ℕ) → T'.check q ≡ pos a → Among (owned_slots h (inserted l ls)) (below T' a q)
   only_more h ls only q e = elim (k.touches.only q e) [
-    | inl o ↦ subst (Among (owned h (inserted l ls))) (sym (at q)) (among_more h ls _ (only q o))
-    | inr here ↦ subst (Among (owned h (inserted l ls))) (sym (ap (below T' a) here ∙ xor_back (base_of T' a) l)) (among_new h ls)
+    | inl o ↦ subst (Among (owned_slots h (inserted l ls))) (sym (at q)) (among_more h ls _ (only q o))
+    | inr here ↦ subst (Among (owned_slots h (inserted l ls))) (sym (ap (below T' a) here ∙ xor_back (base_of T' a) l)) (among_new h ls)
   ]
 
   plain_based : (ls : List ℕ) → (T.child a ≡ 0 → ⊥) → Family size T a plain ls → Based size (T'.stored a) plain (inserted l ls)

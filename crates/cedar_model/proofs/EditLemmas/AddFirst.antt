@@ -4,7 +4,7 @@ use Rattle.std.specs.Prelude.{pos, bit_xor}
 use Rattle.cedar_tree.specs.Tree.{Forest}
 use Rattle.cedar_tree.specs.Edits.{edit_at}
 use Rattle.cedar_model.specs.Table.Cells.{Cells, Held}
-use Rattle.cedar_model.specs.Meaning.Family.{base_in, base_of, Head, plain, valued, own, top, Family, Node, below, Among, owned, Links}
+use Rattle.cedar_model.specs.Meaning.Family.{base_in, base_of, Head, plain, valued, own, top, Family, Node, below, Among, owned_slots, Links}
 use Rattle.cedar_model.specs.Meaning.StandsFor.{labels, ChildrenStand, slot_at, OnPath, HoldsTree}
 use Rattle.cedar_model.specs.Edit.NodeEdits.{follow_on, AddsFirst, add_first}
 use Rattle.cedar_model.proofs.MeaningLemmas.ExclusiveOr.{xor_back, xor_injective}
@@ -30,23 +30,23 @@ module _ (size : ℕ) (T T' : Cells) (a l : ℕ) (k : AddsFirst size T T' a l) w
   chain : (c : ℕ) (ls : List ℕ) → T'.sibling (below T' a l) ≡ c → Links T a c ls → Links T' a l (l ∷ ls)
   chain c ls e h = (refl, k.positive, k.small, k.taken, subst (λ x. Links T' a x ls) (sym e) (links_same T T' a c ls at_label h))
 
-  among_more : (h : Head) (ls : List ℕ) (x : ℕ) → Among (owned h ls) x → Among (owned h (l ∷ ls)) x
+  among_more : (h : Head) (ls : List ℕ) (x : ℕ) → Among (owned_slots h ls) x → Among (owned_slots h (l ∷ ls)) x
   among_more plain ls x b = inr b
   among_more (valued v) ls x (inl e) = inl e
   among_more (valued v) ls x (inr b) = inr (inr b)
   among_more (own v) ls x b = inr b
   among_more top ls x b = inr b
 
-  among_new : (h : Head) (ls : List ℕ) → Among (owned h (l ∷ ls)) l
+  among_new : (h : Head) (ls : List ℕ) → Among (owned_slots h (l ∷ ls)) l
   among_new plain ls = inl refl
   among_new (valued v) ls = inr (inl refl)
   among_new (own v) ls = inl refl
   among_new top ls = inl refl
 
-  only_more : (h : Head) (ls : List ℕ) → ((q : ℕ) → T.check q ≡ pos a → Among (owned h ls) (below T a q)) → (q : ℕ) → T'.check q ≡ pos a → Among (owned h (l ∷ ls)) (below T' a q)
+  only_more : (h : Head) (ls : List ℕ) → ((q : ℕ) → T.check q ≡ pos a → Among (owned_slots h ls) (below T a q)) → (q : ℕ) → T'.check q ≡ pos a → Among (owned_slots h (l ∷ ls)) (below T' a q)
   only_more h ls only q e = elim (k.touches.only q e) [
-    | inl o ↦ subst (Among (owned h (l ∷ ls))) (ap (λ z. bit_xor (base_in z) q) (sym (k.touches.place q o))) (among_more h ls _ (only q o))
-    | inr at ↦ subst (Among (owned h (l ∷ ls))) (sym (ap (below T' a) at ∙ xor_back (base_of T' a) l)) (among_new h ls)
+    | inl o ↦ subst (Among (owned_slots h (l ∷ ls))) (ap (λ z. bit_xor (base_in z) q) (sym (k.touches.place q o))) (among_more h ls _ (only q o))
+    | inr at ↦ subst (Among (owned_slots h (l ∷ ls))) (sym (ap (below T' a) at ∙ xor_back (base_of T' a) l)) (among_new h ls)
   ]
 
   pub family_added : (h : Head) (ls : List ℕ) → (a ≡ 0 → ⊥) → Family size T a h ls → Family size T' a h (l ∷ ls)

@@ -7,7 +7,7 @@ use Rattle.cedar_tree.specs.Tree.{Forest, none, child, without}
 use Rattle.cedar_tree.specs.Edits.{edit_at}
 use Rattle.cedar_model.specs.declared.layout.Stored.TheVariants.{AtBase}
 use Rattle.cedar_model.specs.Table.Cells.{Cells}
-use Rattle.cedar_model.specs.Meaning.Family.{base_in, base_of, Head, plain, valued, own, top, Family, below, Among, owned, Links, Based, InRange}
+use Rattle.cedar_model.specs.Meaning.Family.{base_in, base_of, Head, plain, valued, own, top, Family, below, Among, owned_slots, Links, Based, InRange}
 use Rattle.cedar_model.specs.Meaning.StandsFor.{labels, ChildrenStand, slot_at, OnPath, HoldsTree}
 use Rattle.cedar_model.specs.Edit.NodeEdits.{follow_on, Removes, Touches, removed}
 use Rattle.cedar_model.proofs.MeaningLemmas.ExclusiveOr.{xor_back, xor_injective}
@@ -155,19 +155,19 @@ module _ (size : ℕ) (T T' : Cells) (a l : ℕ) (k : Removes size T T' a l) (a_
         (subst (Links (patched T' (below T a l)) a c) (sym (removed_other l m ms n)) kept)
   ]
 
-  among_owned : (h : Head) (ls : List ℕ) (y : ℕ) → (y ≡ l → ⊥) → Among (owned h ls) y → Among (owned h (removed l ls)) y
+  among_owned : (h : Head) (ls : List ℕ) (y : ℕ) → (y ≡ l → ⊥) → Among (owned_slots h ls) y → Among (owned_slots h (removed l ls)) y
   among_owned plain ls y n b = among_removed l y ls n b
   among_owned (valued v) ls y n (inl e) = inl e
   among_owned (valued v) ls y n (inr b) = inr (among_removed l y ls n b)
   among_owned (own v) ls y n b = among_removed l y ls n b
   among_owned top ls y n b = among_removed l y ls n b
 
-  only_cut : (h : Head) (ls : List ℕ) → ((q : ℕ) → T.check q ≡ pos a → Among (owned h ls) (below T a q)) → (q : ℕ) → T'.check q ≡ pos a → Among (owned h (removed l ls)) (below (patched T' (below T a l)) a q)
+  only_cut : (h : Head) (ls : List ℕ) → ((q : ℕ) → T.check q ≡ pos a → Among (owned_slots h ls) (below T a q)) → (q : ℕ) → T'.check q ≡ pos a → Among (owned_slots h (removed l ls)) (below (patched T' (below T a l)) a q)
   only_cut h ls only q e =
       let not_x : q ≡ below T a l → ⊥ = λ z. k.gone a (ap T'.check (sym z) ∙ e) in
       let was : T.check q ≡ pos a = elim (k.touches.only q e) [ inl o ↦ o | inr z ↦ absurd (not_x z) ] in
       let other : below T a q ≡ l → ⊥ = λ z. not_x (sym (xor_back (base_of T a) q) ∙ ap (below T a) z) in
-      subst (Among (owned h (removed l ls))) (sym (at_base q)) (among_owned h ls _ other (only q was))
+      subst (Among (owned_slots h (removed l ls))) (sym (at_base q)) (among_owned h ls _ other (only q was))
 
   stored_same : (patched T' (below T a l)).stored a ≡ T.stored a
   stored_same = patched_touches.place _ k.was

@@ -4,7 +4,7 @@ use Rattle.std.specs.Prelude.{ℤ, pos, bit_xor}
 use Rattle.cedar_tree.specs.Tree.{Forest}
 use Rattle.cedar_tree.specs.Edits.{edit_at}
 use Rattle.cedar_model.specs.Table.Cells.{Cells}
-use Rattle.cedar_model.specs.Meaning.Family.{base_in, base_of, Head, plain, valued, own, top, Node, below, Among, owned, Links, Based}
+use Rattle.cedar_model.specs.Meaning.Family.{base_in, base_of, Head, plain, valued, own, top, Node, below, Among, owned_slots, Links, Based}
 use Rattle.cedar_model.specs.Meaning.StandsFor.{labels, slot_at, OnPath, HoldsTree}
 use Rattle.cedar_model.specs.Edit.NodeEdits.{follow_on, SetsNumber, DropsNumber}
 use Rattle.cedar_model.specs.Meaning.Reading.{first_in}
@@ -14,7 +14,7 @@ use Rattle.cedar_model.proofs.EditLemmas.ChangeAtPath.{edited}
 use Rattle.cedar_model.proofs.EditLemmas.AddFirst.{links_same}
 use Rattle.cedar_model.proofs.MeaningLemmas.OneTree.{node_reads, owns_yes}
 
-among_zero : (h : Head) (ls : List ℕ) (y : ℕ) → Among (owned h ls) y → Among (0 ∷ ls) y
+among_zero : (h : Head) (ls : List ℕ) (y : ℕ) → Among (owned_slots h ls) y → Among (0 ∷ ls) y
 among_zero plain ls y a = inr a
 among_zero (valued v) ls y a = a
 among_zero (own v) ls y a = inr a

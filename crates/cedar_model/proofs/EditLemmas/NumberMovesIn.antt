@@ -7,7 +7,7 @@ use Rattle.cedar_tree.proofs.TreeLemmas.{all-number_at}
 use Rattle.cedar_model.specs.declared.layout.Stored.TheVariants.{OwnNumber}
 use Rattle.cedar_model.specs.Table.Cells.{Cells}
 use Rattle.cedar_model.specs.Edit.NodeEdits.{DropsNumber, follow_on, IsAt}
-use Rattle.cedar_model.specs.Meaning.Family.{Among, base_in, base_of, below, Head, Links, number_of, own, owned, plain, top, valued}
+use Rattle.cedar_model.specs.Meaning.Family.{Among, base_in, base_of, below, Head, Links, number_of, own, owned_slots, plain, top, valued}
 use Rattle.cedar_model.specs.Meaning.Marks.{KeepsOtherMarks, mark}
 use Rattle.cedar_model.specs.Meaning.StandsFor.{HoldsTree, labels}
 use Rattle.cedar_model.specs.Edit.Own.{FieldSet}
@@ -30,7 +30,7 @@ no_links : (T : Cells) (s c : ℕ) (ls : List ℕ) → c ≡ 0 → Links T s c l
 no_links T s c [] z k = refl
 no_links T s c (l ∷ ls) z k = let same : c ≡ l = k.0 in let some : 0 < l = k.1 in absurd (omega (arith, z, same, some))
 
-only_zero : (h : Head) (y : ℕ) → Among (owned h []) y → 0 ≡ y
+only_zero : (h : Head) (y : ℕ) → Among (owned_slots h []) y → 0 ≡ y
 only_zero plain y a = absurd a
 only_zero (valued v) y a = elim a [ inl e ↦ e | inr b ↦ absurd b ]
 only_zero (own v) y a = absurd a
@@ -59,7 +59,7 @@ module _ (slots : ℕ) (T : Fields) (w : IsWellFormed slots T) (key : List ℕ) 
       let reads = node_reads (size_of T) (cells_in T) s (number_of st.head) ls below_root (record { head = st.head; number = refl; family = st.family }) in
       let bare : ls ≡ [] = no_links (cells_in T) s (first_in (cells_in T) s) ls first reads.links in
       let was : (cells_in T).check q ≡ pos s = elim (d.touches.only q o) [ inl mine ↦ mine | inr x ↦ absurd (d.gone (ap T'.check (sym x) ∙ o)) ] in
-      let zero : 0 ≡ below (cells_in T) s q = only_zero st.head _ (subst (λ xs. Among (owned st.head xs) (below (cells_in T) s q)) bare (st.family.only q was)) in
+      let zero : 0 ≡ below (cells_in T) s q = only_zero st.head _ (subst (λ xs. Among (owned_slots st.head xs) (below (cells_in T) s q)) bare (st.family.only q was)) in
       let is : q ≡ below (cells_in T) s 0 = sym (xor_back (base_of (cells_in T) s) q) ∙ ap (below (cells_in T) s) (sym zero) in
       d.gone (ap T'.check (sym is) ∙ o)
 

@@ -7,7 +7,7 @@ use Rattle.cedar_tree.specs.Tree.{Forest}
 use Rattle.cedar_model.specs.declared.layout.Stored.{Stored}
 use Rattle.cedar_model.specs.declared.layout.Stored.TheVariants.{AtBase, OwnNumber}
 use Rattle.cedar_model.specs.Table.Cells.{Cells, Held, is_held}
-use Rattle.cedar_model.specs.Meaning.Family.{Among, base_in, base_of, below, Family, Head, InRange, own, owned, plain, top, valued}
+use Rattle.cedar_model.specs.Meaning.Family.{Among, base_in, base_of, below, Family, Head, InRange, own, owned_slots, plain, top, valued}
 use Rattle.cedar_model.specs.Meaning.StandsFor.{HoldsTree}
 use Rattle.cedar_model.specs.Edit.NodeEdits.{follow_on, IsNodeOf}
 use Rattle.cedar_model.proofs.CellsLemmas.PlacesFound.{held-is_held, is_held-true}
@@ -65,7 +65,7 @@ label_place size T ordered f a l k whole some small positive n (inr based) =
 -- ---- the slots of block 0
 
 -- a node other than the root owns slots outside block 0 alone
-far : (size : ℕ) (T : Cells) (a : ℕ) (hd : Head) (ls : List ℕ) (l : ℕ) → (a ≡ 0 → ⊥) → Family size T a hd ls → Among (owned hd ls) l → (256 ≤ base_of T a) × (l < 256)
+far : (size : ℕ) (T : Cells) (a : ℕ) (hd : Head) (ls : List ℕ) (l : ℕ) → (a ≡ 0 → ⊥) → Family size T a hd ls → Among (owned_slots hd ls) l → (256 ≤ base_of T a) × (l < 256)
 far size T a plain [] l z k b = absurd b
 far size T a plain (m ∷ ls) l z k b = (k.based.0, links_small T a _ (m ∷ ls) k.begins l b)
 far size T a (valued v) ls l z k (inl e) = (k.based.0, omega arith)

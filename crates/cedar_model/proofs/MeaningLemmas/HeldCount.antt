@@ -10,7 +10,7 @@ use Rattle.cedar_tree.specs.Queries.{own_entry, under, walk, walk_forest, prefix
 use Rattle.cedar_model.specs.Table.Cells.{Cells, is_held}
 use Rattle.cedar_model.specs.Meaning.Family.{below, top, Among}
 use Rattle.cedar_model.specs.Table.Layouts.{LayoutKind, default_layout, reading}
-use Rattle.cedar_model.specs.Meaning.Marks.{marked, marks}
+use Rattle.cedar_model.specs.Meaning.Marks.{marks_below, marks}
 use Rattle.cedar_model.specs.Meaning.StandsFor.{labels, ChildrenStand, HoldsTree}
 use Rattle.cedar_model.specs.Meaning.Reading.{has_number_slot, own_number, number_in, tree_read}
 use Rattle.cedar_slots.specs.Ring.{occurs}
@@ -131,7 +131,7 @@ mark_length T s n reads = by_test (has_number_slot T s) refl
         ap (λ b. length (cond {A = List ℕ} b (below T s 0 ∷ []) [])) e ∙ sym (ap (λ m. length (own_entry m)) some) ∙ sym (ap (λ b. length (own_entry (cond b n None))) e)
     by_test false e = ap (λ b. length (cond {A = List ℕ} b (below T s 0 ∷ []) [])) e ∙ sym (ap (λ b. length (own_entry (cond b n None))) e)
 
-marks_length : (size : ℕ) (T : Cells) → ((c : ℕ) → T.check 0 ≡ pos c → ⊥) → (s : ℕ) (f : Forest) → ((l : ℕ) → Among (labels f) l → T.check (below T s l) ≡ pos s) → ChildrenStand size T s f → length (slots_below T s f) ≡ length (prefixes_forest f) + length (walk_forest (marked T s f))
+marks_length : (size : ℕ) (T : Cells) → ((c : ℕ) → T.check 0 ≡ pos c → ⊥) → (s : ℕ) (f : Forest) → ((l : ℕ) → Among (labels f) l → T.check (below T s l) ≡ pos s) → ChildrenStand size T s f → length (slots_below T s f) ≡ length (prefixes_forest f) + length (walk_forest (marks_below T s f))
 marks_length size T root s none mine g = refl
 marks_length size T root s (child l n u rest) mine g =
     let b : ℕ = below T s l in
@@ -149,9 +149,9 @@ marks_length size T root s (child l n u rest) mine g =
       length-append (number_slots T b) (slots_below T b u),
       length-append (map (λ p. l ∷ p) (prefixes_forest u)) (prefixes_forest rest),
       length-map (prefixes_forest u) (λ p. l ∷ p),
-      length-append (map (under l) (own_entry m ++ walk_forest (marked T b u))) (walk_forest (marked T s rest)),
-      length-map (own_entry m ++ walk_forest (marked T b u)) (under l),
-      length-append (own_entry m) (walk_forest (marked T b u)),
+      length-append (map (under l) (own_entry m ++ walk_forest (marks_below T b u))) (walk_forest (marks_below T s rest)),
+      length-map (own_entry m ++ walk_forest (marks_below T b u)) (under l),
+      length-append (own_entry m) (walk_forest (marks_below T b u)),
     )
 
 pub default_own : (k : LayoutKind) (z : ℤ) → k ≡ default_layout → own_number (reading k z) ≡ None

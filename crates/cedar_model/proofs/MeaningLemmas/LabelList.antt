@@ -3,7 +3,7 @@ use Rattle.std.proofs.Common.{◌≡◌, ℕ, ◌+◌, ◌<◌, ◌≤◌, List,
 use Rattle.std.specs.Prelude.{pos}
 use Rattle.std.proofs.lemmas.List.{append_assoc, append-nil, length-append}
 use Rattle.cedar_model.specs.Table.Cells.{Cells}
-use Rattle.cedar_model.specs.Meaning.Family.{base_of, below, Head, plain, valued, own, top, Among, owned, Links, Family}
+use Rattle.cedar_model.specs.Meaning.Family.{base_of, below, Head, plain, valued, own, top, Among, owned_slots, Links, Family}
 use Rattle.cedar_model.specs.Meaning.Reading.{chain}
 use Rattle.cedar_model.proofs.MeaningLemmas.ExclusiveOr.{xor_back}
 use Rattle.cedar_model.proofs.MeaningLemmas.OneNode.{links_small}
@@ -79,20 +79,20 @@ listed_all T s first c before items z w ls h = by_rest w.rest refl
         let links : Links T s c (l ∷ rest) = subst (Links T s c) e w.links in
         absurd (omega (arith, z, links.0, links.1))
 
-pub owned_split : (h : Head) (ls : List ℕ) → owned h [] ++ ls ≡ owned h ls
+pub owned_split : (h : Head) (ls : List ℕ) → owned_slots h [] ++ ls ≡ owned_slots h ls
 owned_split plain ls = refl
 owned_split (valued v) ls = refl
 owned_split (own v) ls = refl
 owned_split top ls = refl
 
-pub owned_few : (h : Head) → length (owned h []) ≤ 1
+pub owned_few : (h : Head) → length (owned_slots h []) ≤ 1
 owned_few plain = omega arith
 owned_few (valued v) = omega arith
 owned_few (own v) = omega arith
 owned_few top = omega arith
 
 -- whether a node has a number's slot, by its head
-pub number_there : (size : ℕ) (T : Cells) (s x : ℕ) (h : Head) (ls : List ℕ) → (s ≡ 0 → ⊥) → x ≡ below T s 0 → T.check x ≡ pos s → Family size T s h ls → 0 ∷ [] ≡ owned h []
+pub number_there : (size : ℕ) (T : Cells) (s x : ℕ) (h : Head) (ls : List ℕ) → (s ≡ 0 → ⊥) → x ≡ below T s 0 → T.check x ≡ pos s → Family size T s h ls → 0 ∷ [] ≡ owned_slots h []
 number_there size T s x plain ls z at o f =
     let zero_label : Among ls 0 = has_zero ls f in
     absurd (no_zero T s (T.child s) ls f.begins zero_label)
@@ -103,7 +103,7 @@ number_there size T s x (valued v) ls z at o f = refl
 number_there size T s x (own v) ls z at o f = absurd (subst (λ xs. Among xs (below T s x)) f.begins.1 (f.only x o))
 number_there size T s x top ls z at o f = absurd (z f.begins.0)
 
-pub number_not_there : (size : ℕ) (T : Cells) (s x : ℕ) (h : Head) (ls : List ℕ) → x ≡ below T s 0 → (T.check x ≡ pos s → ⊥) → Family size T s h ls → [] ≡ owned h []
+pub number_not_there : (size : ℕ) (T : Cells) (s x : ℕ) (h : Head) (ls : List ℕ) → x ≡ below T s 0 → (T.check x ≡ pos s → ⊥) → Family size T s h ls → [] ≡ owned_slots h []
 number_not_there size T s x plain ls at n f = refl
 number_not_there size T s x (valued v) ls at n f = absurd (n (ap T.check at ∙ f.begins.1))
 number_not_there size T s x (own v) ls at n f = refl

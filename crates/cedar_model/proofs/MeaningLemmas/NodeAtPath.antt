@@ -8,7 +8,7 @@ use Rattle.cedar_tree.specs.Queries.{node_at}
 use Rattle.cedar_tree.specs.Edits.{HasPath}
 use Rattle.cedar_model.specs.declared.layout.Stored.TheVariants.{OwnNumber}
 use Rattle.cedar_model.specs.Table.Cells.{Cells}
-use Rattle.cedar_model.specs.Meaning.Family.{Among, base_of, below, Family, Head, number_of, own, owned, plain, top, valued}
+use Rattle.cedar_model.specs.Meaning.Family.{Among, base_of, below, Family, Head, number_of, own, owned_slots, plain, top, valued}
 use Rattle.cedar_model.specs.Meaning.StandsFor.{HoldsTree, labels, OnPath, slot_at, Stands}
 use Rattle.cedar_model.specs.Edit.NodeEdits.{follow_on, IsAt}
 use Rattle.cedar_model.specs.Edit.Steps.{root_of}
@@ -81,8 +81,8 @@ module _ (size : ℕ) (T : Cells) (f : Forest) (w : List ℕ) (a : ℕ) (h : Hol
   pub at_value : T.check (below T a 0) ≡ pos a → (node_at (root_of f) w).number ≡ Some (T.base (below T a 0))
   at_value o = sym at_node.number ∙ by_head at_node.head _ at_node.family
     where
-      zero_owned : (hd : Head) (ls : List ℕ) → Family size T a hd ls → Among (owned hd ls) 0
-      zero_owned hd ls k = subst (Among (owned hd ls)) (xor_back (base_of T a) 0) (k.only (below T a 0) o)
+      zero_owned : (hd : Head) (ls : List ℕ) → Family size T a hd ls → Among (owned_slots hd ls) 0
+      zero_owned hd ls k = subst (Among (owned_slots hd ls)) (xor_back (base_of T a) 0) (k.only (below T a 0) o)
 
       by_head : (hd : Head) (ls : List ℕ) → Family size T a hd ls → number_of hd ≡ Some (T.base (below T a 0))
       by_head plain ls k = absurd (no_zero T a _ ls k.begins (zero_owned plain ls k))

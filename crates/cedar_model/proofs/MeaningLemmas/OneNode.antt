@@ -3,7 +3,7 @@ use Rattle.std.proofs.Common.{◌≡◌, ℕ, ◌<◌, List, [], ◌∷◌, sym,
 use Rattle.std.specs.Prelude.{ℤ, pos}
 use Rattle.cedar_tree.specs.Tree.{Forest, none, child}
 use Rattle.cedar_model.specs.Table.Cells.{Cells}
-use Rattle.cedar_model.specs.Meaning.Family.{base_of, Head, plain, valued, own, top, Family, Node, below, Among, owned, Links, Begins}
+use Rattle.cedar_model.specs.Meaning.Family.{base_of, Head, plain, valued, own, top, Family, Node, below, Among, owned_slots, Links, Begins}
 use Rattle.cedar_model.specs.Meaning.StandsFor.{labels, ChildrenStand}
 use Rattle.cedar_model.proofs.MeaningLemmas.ExclusiveOr.{xor_back}
 
@@ -44,7 +44,7 @@ child_in size T s l none a g = absurd a
 child_in size T s l (child m n u rest) (inl e) g = subst (λ x. Subtree size T (below T s x)) e (record { number = n; children = u; node = g.0; lower = g.1 })
 child_in size T s l (child m n u rest) (inr a) g = child_in size T s l rest a g.2
 
-label_among : (h : Head) (ls : List ℕ) (l : ℕ) → (l ≡ 0 → ⊥) → Among (owned h ls) l → Among ls l
+label_among : (h : Head) (ls : List ℕ) (l : ℕ) → (l ≡ 0 → ⊥) → Among (owned_slots h ls) l → Among ls l
 label_among plain ls l n a = a
 label_among (valued v) ls l n (inl e) = absurd (n (sym e))
 label_among (valued v) ls l n (inr a) = a
@@ -53,4 +53,4 @@ label_among top ls l n a = a
 
 -- an owned slot of a node stands under one of its labels
 pub owned_label : (size : ℕ) (T : Cells) (s l : ℕ) (h : Head) (ls : List ℕ) → Family size T s h ls → (l ≡ 0 → ⊥) → T.check (below T s l) ≡ pos s → Among ls l
-owned_label size T s l h ls f n o = label_among h ls l n (subst (Among (owned h ls)) (xor_back (base_of T s) l) (f.only _ o))
+owned_label size T s l h ls f n o = label_among h ls l n (subst (Among (owned_slots h ls)) (xor_back (base_of T s) l) (f.only _ o))

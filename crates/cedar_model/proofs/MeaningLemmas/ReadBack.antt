@@ -9,7 +9,7 @@ use Rattle.cedar_tree.specs.Tree.{Forest, none, child}
 use Rattle.cedar_model.specs.Table.Cells.{Cells}
 use Rattle.cedar_model.specs.Meaning.Family.{below, top, Among, Links}
 use Rattle.cedar_model.specs.Meaning.StandsFor.{labels, ChildrenStand, RootStands, slot_at, OnPath, HoldsTree}
-use Rattle.cedar_model.specs.Meaning.Reading.{first_in, chain, forest_of, tree_from, tree_read}
+use Rattle.cedar_model.specs.Meaning.Reading.{first_in, chain, forest_by, tree_from, tree_read}
 use Rattle.cedar_model.proofs.MeaningLemmas.Paths.{one_path}
 use Rattle.cedar_model.proofs.MeaningLemmas.OneNode.{labels_own, node_labels_own, DistinctList, links_small}
 use Rattle.cedar_model.proofs.MeaningLemmas.OneTree.{node_reads, links_distinct, no_zero}
@@ -116,7 +116,7 @@ module _ (size : ℕ) (T : Cells) (root : (c : ℕ) → T.check 0 ≡ pos c → 
           let not_zero : slot_at T (l ∷ q) ≡ 0 → ⊥ = λ y. root _ (ap T.check (sym y) ∙ w.1) in
           no_zero T _ _ (labels u) (node_reads size T (slot_at T (l ∷ q)) m (labels u) not_zero g.0).links (subst (Among (labels u)) z a)
 
-  forest_read : (f : Forest) (n s : ℕ) → IsWithin n f → ((l : ℕ) → Among (labels f) l → T.check (below T s l) ≡ pos s) → ChildrenStand size T s f → forest_of (λ l. tree_from n T (below T s l)) (labels f) ≡ f
+  forest_read : (f : Forest) (n s : ℕ) → IsWithin n f → ((l : ℕ) → Among (labels f) l → T.check (below T s l) ≡ pos s) → ChildrenStand size T s f → forest_by (λ l. tree_from n T (below T s l)) (labels f) ≡ f
   unfolding tree_from
   forest_read none n s d mine g = refl
   forest_read (child l m u rest) zero s d mine g = absurd d
@@ -125,11 +125,11 @@ module _ (size : ℕ) (T : Cells) (root : (c : ℕ) → T.check 0 ≡ pos c → 
       let not_zero : below T s l ≡ 0 → ⊥ = λ z. root s (ap T.check (sym z) ∙ mine l (inl refl)) in
       let r = node_reads size T (below T s l) m (labels u) not_zero g.0 in
       let these : chain 256 T (below T s l) (first_in T (below T s l)) ≡ labels u = chain_is 256 T _ _ (labels u) r.links (chain_short T _ _ (labels u) r.links) in
-      let under : forest_of (λ y. tree_from n T (below T (below T s l) y)) (labels u) ≡ u = forest_read u n (below T s l) d.0 (node_labels_own size T (below T s l) m (labels u) g.0) g.1 in
-      let beside : forest_of (λ y. tree_from (suc n) T (below T s y)) (labels rest) ≡ rest = forest_read rest (suc n) s d.1 (λ y a. mine y (inr a)) g.2 in
-      ap (λ y. child l y (forest_of (λ y. tree_from n T (below T (below T s l) y)) (chain 256 T (below T s l) (first_in T (below T s l)))) (forest_of (λ y. tree_from (suc n) T (below T s y)) (labels rest))) r.number
-      ∙ ap (λ y. child l m (forest_of (λ y. tree_from n T (below T (below T s l) y)) y) (forest_of (λ y. tree_from (suc n) T (below T s y)) (labels rest))) these
-      ∙ ap (λ y. child l m y (forest_of (λ y. tree_from (suc n) T (below T s y)) (labels rest))) under
+      let under : forest_by (λ y. tree_from n T (below T (below T s l) y)) (labels u) ≡ u = forest_read u n (below T s l) d.0 (node_labels_own size T (below T s l) m (labels u) g.0) g.1 in
+      let beside : forest_by (λ y. tree_from (suc n) T (below T s y)) (labels rest) ≡ rest = forest_read rest (suc n) s d.1 (λ y a. mine y (inr a)) g.2 in
+      ap (λ y. child l y (forest_by (λ y. tree_from n T (below T (below T s l) y)) (chain 256 T (below T s l) (first_in T (below T s l)))) (forest_by (λ y. tree_from (suc n) T (below T s y)) (labels rest))) r.number
+      ∙ ap (λ y. child l m (forest_by (λ y. tree_from n T (below T (below T s l) y)) y) (forest_by (λ y. tree_from (suc n) T (below T s y)) (labels rest))) these
+      ∙ ap (λ y. child l m y (forest_by (λ y. tree_from (suc n) T (below T s y)) (labels rest))) under
       ∙ ap (λ y. child l m u y) beside
 
   pub children_read : (f : Forest) → RootStands size T f → (tree_read size T).children ≡ f
@@ -138,7 +138,7 @@ module _ (size : ℕ) (T : Cells) (root : (c : ℕ) → T.check 0 ≡ pos c → 
       let mine = labels_own T 0 top (labels f) st.0.begins in
       let links : Links T 0 (T.sibling 0) (labels f) = st.0.begins.2 in
       let deep : IsWithin size f = within f size [] tt (λ l a. ((λ z. no_zero T 0 _ (labels f) links (subst (Among (labels f)) z a)), mine l a)) st.1 (omega arith) in
-      ap (forest_of (λ l. tree_from size T (below T 0 l))) (chain_is 256 T 0 _ (labels f) links (chain_short T 0 _ (labels f) links))
+      ap (forest_by (λ l. tree_from size T (below T 0 l))) (chain_is 256 T 0 _ (labels f) links (chain_short T 0 _ (labels f) links))
       ∙ forest_read f size 0 deep mine st.1
 
 -- a table stands for the tree that is read from it

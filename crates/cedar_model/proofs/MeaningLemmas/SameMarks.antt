@@ -8,7 +8,7 @@ use Rattle.cedar_model.specs.declared.layout.Stored.TheVariants.{AtBase, OwnNumb
 use Rattle.cedar_model.specs.Table.Cells.{Cells, is_held}
 use Rattle.cedar_model.specs.Edit.NodeEdits.{IsAt}
 use Rattle.cedar_model.specs.Meaning.Family.{below, Family, Head, Node, number_of, own, plain, top, valued}
-use Rattle.cedar_model.specs.Meaning.Marks.{KeepsMarks, mark, marked, marks, own_mark}
+use Rattle.cedar_model.specs.Meaning.Marks.{KeepsMarks, mark, marks_below, marks, own_mark}
 use Rattle.cedar_model.specs.Meaning.StandsFor.{ChildrenStand, HoldsTree, labels}
 use Rattle.cedar_model.specs.Meaning.Reading.{has_number_slot}
 use Rattle.cedar_model.specs.Table.TableFields.{Fields, size_of}
@@ -62,7 +62,7 @@ module _ (size size' : ℕ) (T T' : Cells) (f : Forest) (h : HoldsTree size T f)
       let now : mark T' b' ≡ Some m.0 = ap (mark T') (sym same) ∙ there.2 in
       ap (λ t. cond t (Some v) None) (slot_of_mark T b m.0 m.1 ∙ sym (slot_of_mark T' b' m.0 now))
 
-  marked_same : (w : List ℕ) (s s' : ℕ) (u : Forest) → IsAt T w s → IsAt T' w s' → Belong T s u → Belong T' s' u → ChildrenStand size T s u → ChildrenStand size' T' s' u → marked T s u ≡ marked T' s' u
+  marked_same : (w : List ℕ) (s s' : ℕ) (u : Forest) → IsAt T w s → IsAt T' w s' → Belong T s u → Belong T' s' u → ChildrenStand size T s u → ChildrenStand size' T' s' u → marks_below T s u ≡ marks_below T' s' u
   marked_same w s s' none on on' mine mine' g g' = refl
   marked_same w s s' (child l n u rest) on on' mine mine' g g' =
       let o = mine l (inl refl) in
@@ -74,11 +74,11 @@ module _ (size size' : ℕ) (T T' : Cells) (f : Forest) (h : HoldsTree size T f)
       let number = number_same (w ++ l ∷ []) (below T s l) (below T' s' l) n (labels u) z at at' g.0 in
       let under_it = marked_same (w ++ l ∷ []) (below T s l) (below T' s' l) u at at' (family_belong size T (below T s l) g.0.head u g.0.family) (family_belong size' T' (below T' s' l) g'.0.head u g'.0.family) g.1 g'.1 in
       let beside = marked_same w s s' rest on on' (λ y a. mine y (inr a)) (λ y a. mine' y (inr a)) g.2 g'.2 in
-      ap (λ x. child l x (marked T (below T s l) u) (marked T s rest)) number
-      ∙ ap (λ x. child l (cond (has_number_slot T' (below T' s' l)) n None) x (marked T s rest)) under_it
-      ∙ ap (λ x. child l (cond (has_number_slot T' (below T' s' l)) n None) (marked T' (below T' s' l) u) x) beside
+      ap (λ x. child l x (marks_below T (below T s l) u) (marks_below T s rest)) number
+      ∙ ap (λ x. child l (cond (has_number_slot T' (below T' s' l)) n None) x (marks_below T s rest)) under_it
+      ∙ ap (λ x. child l (cond (has_number_slot T' (below T' s' l)) n None) (marks_below T' (below T' s' l) u) x) beside
 
-  pub root_marked : marked T 0 f ≡ marked T' 0 f
+  pub root_marked : marks_below T 0 f ≡ marks_below T' 0 f
   root_marked = marked_same [] 0 0 f (tt, refl) (tt, refl) (family_belong size T 0 top f h.stands.0) (family_belong size' T' 0 top f h'.stands.0) h.stands.1 h'.stands.1
 
 -- the tree of marks is as it was
@@ -86,8 +86,8 @@ pub marks_stay : (slots : ℕ) (T T' : Fields) → IsWellFormed slots T → IsWe
 marks_stay slots T T' w w' tree k =
     let f : Forest = (tree_of T).children in
     let holds : HoldsTree (size_of T') (cells_in T') f = subst (λ (t : Tree). HoldsTree (size_of T') (cells_in T') t.children) tree w'.stands in
-    let same : marked (cells_in T) 0 f ≡ marked (cells_in T') 0 f = root_marked (size_of T) (size_of T') (cells_in T) (cells_in T') f w.stands holds k in
-    ap (λ (t : Tree). record { number = None; children = marked (cells_in T') 0 t.children }) tree ∙ ap (λ (g : Forest). record { number = None; children = g }) (sym same)
+    let same : marks_below (cells_in T) 0 f ≡ marks_below (cells_in T') 0 f = root_marked (size_of T) (size_of T') (cells_in T) (cells_in T') f w.stands holds k in
+    ap (λ (t : Tree). record { number = None; children = marks_below (cells_in T') 0 t.children }) tree ∙ ap (λ (g : Forest). record { number = None; children = g }) (sym same)
 
 -- as many slots are held as before
 pub slots_stay : (slots : ℕ) (T T' : Fields) → IsWellFormed slots T → IsWellFormed slots T' → tree_of T' ≡ tree_of T → KeepsMarks (cells_in T) (cells_in T')

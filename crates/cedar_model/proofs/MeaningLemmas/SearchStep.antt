@@ -9,7 +9,7 @@ use Rattle.cedar_tree.specs.Queries.{exact}
 use Rattle.cedar_model.specs.declared.layout.Stored.{Stored}
 use Rattle.cedar_model.specs.declared.layout.Stored.TheVariants.{AtBase, OwnNumber, Nothing}
 use Rattle.cedar_model.specs.Table.Cells.{Cells}
-use Rattle.cedar_model.specs.Meaning.Family.{base_in, base_of, below, Head, plain, valued, own, top, number_of, Among, owned, InRange, Family}
+use Rattle.cedar_model.specs.Meaning.Family.{base_in, base_of, below, Head, plain, valued, own, top, number_of, Among, owned_slots, InRange, Family}
 use Rattle.cedar_model.specs.Meaning.StandsFor.{labels, ChildrenStand, Stands, RootStands}
 use Rattle.cedar_model.proofs.MeaningLemmas.ExclusiveOr.{xor_back, xor_within}
 use Rattle.cedar_model.proofs.MeaningLemmas.OneNode.{labels_own, owned_label}
@@ -130,8 +130,8 @@ module _ (size : ℕ) (T : Cells) (s : ℕ) (t : Tree) (k : Stands size T s t) w
       at : below T s 0 ≡ b
       at = ap (λ z. bit_xor (base_in z) 0) e ∙ xor_zero_r b
 
-      zero_owned : (h : Head) (ls : List ℕ) → Family size T s h ls → Among (owned h ls) 0
-      zero_owned h ls f = subst (Among (owned h ls)) (xor_back (base_of T s) 0) (f.only (below T s 0) (ap T.check at ∙ o))
+      zero_owned : (h : Head) (ls : List ℕ) → Family size T s h ls → Among (owned_slots h ls) 0
+      zero_owned h ls f = subst (Among (owned_slots h ls)) (xor_back (base_of T s) 0) (f.only (below T s 0) (ap T.check at ∙ o))
 
       by_head : (h : Head) (ls : List ℕ) → Family size T s h ls → number_of h ≡ Some (T.base b)
       by_head plain ls f = absurd (no_zero T s _ ls f.begins (zero_owned plain ls f))

@@ -9,7 +9,7 @@ use Rattle.cedar_model.specs.declared.layout.Stored.TheVariants.{AtBase}
 use Rattle.cedar_model.specs.Table.Cells.{Cells}
 use Rattle.cedar_model.specs.Meaning.StandsFor.{HoldsTree, Stands}
 use Rattle.cedar_model.specs.Meaning.Reading.{tree_read}
-use Rattle.cedar_slots.specs.Places.{IsNew, IsTable}
+use Rattle.cedar_slots.specs.Places.{IsNewPlaces, IsTable}
 use Rattle.cedar_slots.specs.Slots.{blank_info, check_at, info_at}
 use Rattle.cedar_slots.specs.declared.records.NInfoRecord.{NInfoRecord}
 use Rattle.cedar_model.specs.Table.TableFields.{Fields, size_of}
@@ -61,7 +61,7 @@ is_well_formed slots T f table root holds sound values ascending entries =
     }
 
 -- in a new table only the root's slot is in use
-pub new_holds : (T : Fields) (trials : ℤ) → IsNew T.places trials → (cells_in T).check 0 ≡ negsuc 0 → (cells_in T).stored 0 ≡ AtBase 0 → HoldsTree (size_of T) (cells_in T) none
+pub new_holds : (T : Fields) (trials : ℤ) → IsNewPlaces T.places trials → (cells_in T).check 0 ≡ negsuc 0 → (cells_in T).stored 0 ≡ AtBase 0 → HoldsTree (size_of T) (cells_in T) none
 new_holds T trials made root_check root_base =
     let blank : info_at T.places.slots.infos 0 ≡ blank_info = infos_blank T.places.slots.infos 256 made.infos 0 in
     new_stands (size_of T) (cells_in T) root_base (ap (λ (i : NInfoRecord). i.child) blank) (ap (λ (i : NInfoRecord). i.sibling) blank) owned
@@ -74,9 +74,9 @@ new_holds T trials made root_check root_base =
         let root : q ≡ 0 = bare_new T.layout T.places trials made q (inr (c, e)) in
         root_apart c (sym root_check ∙ ap (cells_in T).check (sym root) ∙ e)
 
-pub new_tree : (T : Fields) (trials : ℤ) → IsNew T.places trials → (cells_in T).check 0 ≡ negsuc 0 → (cells_in T).stored 0 ≡ AtBase 0 → tree_of T ≡ empty_tree
+pub new_tree : (T : Fields) (trials : ℤ) → IsNewPlaces T.places trials → (cells_in T).check 0 ≡ negsuc 0 → (cells_in T).stored 0 ≡ AtBase 0 → tree_of T ≡ empty_tree
 new_tree T trials made root_check root_base = tree_of_is T none (new_holds T trials made root_check root_base)
 
-pub new_well_formed : (slots : ℕ) (T : Fields) (trials : ℤ) → IsTable slots T.places → IsNew T.places trials → check_at T.places.slots.nodes 0 ≡ negsuc 0 → (cells_in T).check 0 ≡ negsuc 0 → (cells_in T).stored 0 ≡ AtBase 0 → T.entries ≡ 0 → IsWellFormed slots T
+pub new_well_formed : (slots : ℕ) (T : Fields) (trials : ℤ) → IsTable slots T.places → IsNewPlaces T.places trials → check_at T.places.slots.nodes 0 ≡ negsuc 0 → (cells_in T).check 0 ≡ negsuc 0 → (cells_in T).stored 0 ≡ AtBase 0 → T.entries ≡ 0 → IsWellFormed slots T
 new_well_formed slots T trials table made root root_check root_base entries =
     is_well_formed slots T none table root (new_holds T trials made root_check root_base) tt tt (λ _. tt) entries

@@ -4,7 +4,7 @@ use Rattle.std.proofs.Common.{◌≡◌, ℕ, List, [], ◌∷◌, sym, ◌∙�
 use Rattle.std.specs.Prelude.{pos}
 use Rattle.cedar_tree.specs.Tree.{Forest, none, child}
 use Rattle.cedar_model.specs.Table.Cells.{Cells}
-use Rattle.cedar_model.specs.Meaning.Family.{Head, plain, valued, own, top, Family, below, Among, owned, Links, Begins, Based, base_of}
+use Rattle.cedar_model.specs.Meaning.Family.{Head, plain, valued, own, top, Family, below, Among, owned_slots, Links, Begins, Based, base_of}
 use Rattle.cedar_model.specs.Meaning.StandsFor.{labels, ChildrenStand, RootStands}
 use Rattle.cedar_model.proofs.MeaningLemmas.OneNode.{labels_own, node_labels_own}
 use Rattle.cedar_model.proofs.MeaningLemmas.ExclusiveOr.{xor_back}
@@ -56,7 +56,7 @@ pub family_carried : (size : ℕ) (T T' : Cells) (r : ℕ → ℕ) (s : ℕ) (h 
 family_carried size T T' r s h ls k z b f = record {
   based = b f.based;
   begins = begins_carried T T' r s h ls k z f.begins;
-  only = only_carried T T' r s (owned h ls) k f.only;
+  only = only_carried T T' r s (owned_slots h ls) k f.only;
 }
 
 -- each node of T is the same node of T', and its children have the same slots

@@ -10,11 +10,11 @@ use Rattle.cedar_tree.specs.Tree.{Forest}
 use Rattle.cedar_model.specs.declared.layout.Stored.TheVariants.{AtBase}
 use Rattle.cedar_model.specs.Table.Cells.{Cells, Held}
 use Rattle.cedar_model.specs.Edit.NodeEdits.{follow_on, IsAt}
-use Rattle.cedar_model.specs.Meaning.Family.{Among, base_in, base_of, below, Family, Head, InRange, owned}
+use Rattle.cedar_model.specs.Meaning.Family.{Among, base_in, base_of, below, Family, Head, InRange, owned_slots}
 use Rattle.cedar_model.specs.Meaning.Marks.{KeepsMarks}
 use Rattle.cedar_model.specs.Meaning.StandsFor.{HoldsTree, OnPath, slot_at}
 use Rattle.cedar_model.specs.Relocation.Renaming.{IsNode}
-use Rattle.cedar_model.specs.Relocation.Reserved.{freed, Reserves, SetReserved}
+use Rattle.cedar_model.specs.Relocation.Reserved.{cells_without, Reserves, SetReserved}
 use Rattle.cedar_model.specs.Table.TableFields.{Fields, size_of}
 use Rattle.cedar_model.specs.Meaning.WellFormed.{cells_in}
 use Rattle.cedar_model.proofs.RelocationLemmas.CarriedTree.{path_kept}
@@ -30,27 +30,27 @@ use Rattle.cedar_slots.proofs.RingsLemmas.InBlock.{xor_block}
 -- ---- how many slots a node owns
 
 -- a new label is one of 256 that a node can have
-pub owned_short : (size : ℕ) (T : Cells) (s l : ℕ) (h : Head) (ls : List ℕ) → l < 256 → (T.check (below T s l) ≡ pos s → ⊥) → Family size T s h ls → length (owned h ls) < 256
+pub owned_short : (size : ℕ) (T : Cells) (s l : ℕ) (h : Head) (ls : List ℕ) → l < 256 → (T.check (below T s l) ≡ pos s → ⊥) → Family size T s h ls → length (owned_slots h ls) < 256
 owned_short size T s l h ls small new f =
-    let few : length (l ∷ owned h ls) ≤ 256 = short_list (l ∷ owned h ls) 256 ((λ a. new (owned_own T s h ls f.begins l a)), owned_distinct size T s h ls f) low in
+    let few : length (l ∷ owned_slots h ls) ≤ 256 = short_list (l ∷ owned_slots h ls) 256 ((λ a. new (owned_own T s h ls f.begins l a)), owned_distinct size T s h ls f) low in
     omega (arith, few)
   where
-    low : (q : ℕ) → Among (l ∷ owned h ls) q → q < 256
+    low : (q : ℕ) → Among (l ∷ owned_slots h ls) q → q < 256
     low q (inl e) = omega (arith, e, small)
     low q (inr a) = owned_small T s h ls f.begins q a
 
-pub not_owned : (size : ℕ) (T : Cells) (s l : ℕ) (h : Head) (ls : List ℕ) → (T.check (below T s l) ≡ pos s → ⊥) → Family size T s h ls → Among (owned h ls) l → ⊥
+pub not_owned : (size : ℕ) (T : Cells) (s l : ℕ) (h : Head) (ls : List ℕ) → (T.check (below T s l) ≡ pos s → ⊥) → Family size T s h ls → Among (owned_slots h ls) l → ⊥
 not_owned size T s l h ls new f a = new (owned_own T s h ls f.begins l a)
 
-pub owned_at_most : (size : ℕ) (T : Cells) (s : ℕ) (h : Head) (ls : List ℕ) → Family size T s h ls → length (owned h ls) ≤ 256
-owned_at_most size T s h ls f = short_list (owned h ls) 256 (owned_distinct size T s h ls f) (owned_small T s h ls f.begins)
+pub owned_at_most : (size : ℕ) (T : Cells) (s : ℕ) (h : Head) (ls : List ℕ) → Family size T s h ls → length (owned_slots h ls) ≤ 256
+owned_at_most size T s h ls f = short_list (owned_slots h ls) 256 (owned_distinct size T s h ls f) (owned_small T s h ls f.begins)
 
 among_some : (ls : List ℕ) (x : ℕ) → Among ls x → 0 < length ls
 among_some [] x a = absurd a
 among_some (y ∷ ls) x a = omega arith
 
-pub owned_some : (size : ℕ) (T : Cells) (s q : ℕ) (h : Head) (ls : List ℕ) → T.check q ≡ pos s → Family size T s h ls → 0 < length (owned h ls)
-owned_some size T s q h ls o f = among_some (owned h ls) (below T s q) (f.only q o)
+pub owned_some : (size : ℕ) (T : Cells) (s q : ℕ) (h : Head) (ls : List ℕ) → T.check q ≡ pos s → Family size T s h ls → 0 < length (owned_slots h ls)
+owned_some size T s q h ls o f = among_some (owned_slots h ls) (below T s q) (f.only q o)
 
 -- ---- the two nodes
 
@@ -127,16 +127,16 @@ module _ (F : Fields) (f : Forest) (a l : ℕ) (v : List ℕ) (w : HoldsTree (si
 -- ---- where the node is afterwards
 
 -- the slot that is kept back is the one of the node's base for the label
-reserved_at : (F F' : Fields) (a l s k : ℕ) → k ≡ below (cells_in F') s l → s < size_of F' → ((w : List ℕ) → IsAt (cells_in F) w a → IsAt (freed (cells_in F') k) w s) → (s ≡ 0 → ⊥) → InRange (size_of F') ((cells_in F').stored s)
-    → (cells_in F').check k ≡ pos 0 → ((f : Forest) → HoldsTree (size_of F) (cells_in F) f → HoldsTree (size_of F') (freed (cells_in F') k) f) → KeepsMarks (cells_in F) (freed (cells_in F') k) → Reserves F F' a l s
+reserved_at : (F F' : Fields) (a l s k : ℕ) → k ≡ below (cells_in F') s l → s < size_of F' → ((w : List ℕ) → IsAt (cells_in F) w a → IsAt (cells_without (cells_in F') k) w s) → (s ≡ 0 → ⊥) → InRange (size_of F') ((cells_in F').stored s)
+    → (cells_in F').check k ≡ pos 0 → ((f : Forest) → HoldsTree (size_of F) (cells_in F) f → HoldsTree (size_of F') (cells_without (cells_in F') k) f) → KeepsMarks (cells_in F) (cells_without (cells_in F') k) → Reserves F F' a l s
 reserved_at F F' a l s k is inside at z based reserved tree marks = record {
   inside = inside;
-  at = subst (λ x. (w : List ℕ) → IsAt (cells_in F) w a → IsAt (freed (cells_in F') x) w s) is at;
+  at = subst (λ x. (w : List ℕ) → IsAt (cells_in F) w a → IsAt (cells_without (cells_in F') x) w s) is at;
   not_root = z;
   based = based;
   reserved = subst (λ x. (cells_in F').check x ≡ pos 0) is reserved;
-  tree = subst (λ x. (f : Forest) → HoldsTree (size_of F) (cells_in F) f → HoldsTree (size_of F') (freed (cells_in F') x) f) is tree;
-  marks = subst (λ x. KeepsMarks (cells_in F) (freed (cells_in F') x)) is marks;
+  tree = subst (λ x. (f : Forest) → HoldsTree (size_of F) (cells_in F) f → HoldsTree (size_of F') (cells_without (cells_in F') x) f) is tree;
+  marks = subst (λ x. KeepsMarks (cells_in F) (cells_without (cells_in F') x)) is marks;
 }
 
 module _ (F F' : Fields) (f : Forest) (a l : ℕ) (v : List ℕ) (more : size_of F ≤ size_of F') (inside : a < size_of F) (w : HoldsTree (size_of F) (cells_in F) f) (on : OnPath (cells_in F) v) (at : slot_at (cells_in F) v ≡ a) (z : a ≡ 0 → ⊥) (based : 256 ≤ base_of (cells_in F) a) (small : l < 256) where
@@ -144,7 +144,7 @@ module _ (F F' : Fields) (f : Forest) (a l : ℕ) (v : List ℕ) (more : size_of
   pub reserves_own : (b : ℕ) (ls ws : List ℕ) → 256 ≤ bit_xor b l → bit_xor b l < size_of F' → SetReserved F F' a b (bit_xor b l) ls ws → Reserves F F' a l a
   reserves_own b ls ws first last k =
       let T = cells_in F in
-      let T' = freed (cells_in F') (bit_xor b l) in
+      let T' = cells_without (cells_in F') (bit_xor b l) in
       let stays : k.set.new_slot a ≡ a = k.set.moves.kept a (not_itself (size_of F) T f a v w on at) in
       let block = xor_block b l small in
       let low : 256 ≤ b = low_base b block first in
@@ -162,7 +162,7 @@ module _ (F F' : Fields) (f : Forest) (a l : ℕ) (v : List ℕ) (more : size_of
   reserves_other p b s ls ws o n k is =
       let T = cells_in F in
       let x : ℕ = below T a l in
-      let T' = freed (cells_in F') x in
+      let T' = cells_without (cells_in F') x in
       let c = owner_of T a v z on at in
       let there : T'.check s ≡ pos (k.set.new_slot c.0) = ap T'.check is ∙ k.set.renamed.check a c.0 c.1 in
       let apart : a ≡ p → ⊥ = λ e. n (o ∙ ap pos (sym e)) in

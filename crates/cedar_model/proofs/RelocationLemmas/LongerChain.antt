@@ -3,7 +3,7 @@ use Rattle.std.proofs.Common.{◌≡◌, ℕ, ◌+◌, ◌<◌, List, [], ◌∷
 use Rattle.std.specs.Prelude.{◌%◌, ◌==◌, ◌↔◌, bit_xor, IsTrue, pos}
 use Rattle.std.proofs.lemmas.Bool.{cases_eq, eq-eqb, false≢true, ne_eqb}
 use Rattle.cedar_model.specs.Table.Cells.{Cells}
-use Rattle.cedar_model.specs.Meaning.Family.{base_of, below, Family, Head, plain, valued, own, top, Links, owned}
+use Rattle.cedar_model.specs.Meaning.Family.{base_of, below, Family, Head, plain, valued, own, top, Links, owned_slots}
 use Rattle.cedar_model.specs.Meaning.Reading.{chain}
 use Rattle.cedar_model.specs.Relocation.Wanted.{rest_of}
 use Rattle.cedar_model.proofs.MeaningLemmas.LabelList.{after_number, listed_next, listed_none, number_there}
@@ -17,18 +17,18 @@ label_inside size T s b x h ls whole some f is small = xor_within size b x whole
 
 -- ---- the second label
 
-rest_valued : (h : Head) (ls : List ℕ) → 0 ∷ [] ≡ owned h [] → rest_of (owned h ls) ≡ ls
+rest_valued : (h : Head) (ls : List ℕ) → 0 ∷ [] ≡ owned_slots h [] → rest_of (owned_slots h ls) ≡ ls
 rest_valued plain ls e = cc
 rest_valued (valued v) ls e = refl
 rest_valued (own v) ls e = cc
 rest_valued top ls e = cc
 
-pub second_valued : (size : ℕ) (T : Cells) (s x c : ℕ) (h : Head) (ls : List ℕ) → (s ≡ 0 → ⊥) → x ≡ below T s 0 → T.check x ≡ pos s → c ≡ T.sibling x → Family size T s h ls → Links T s c (rest_of (owned h ls))
+pub second_valued : (size : ℕ) (T : Cells) (s x c : ℕ) (h : Head) (ls : List ℕ) → (s ≡ 0 → ⊥) → x ≡ below T s 0 → T.check x ≡ pos s → c ≡ T.sibling x → Family size T s h ls → Links T s c (rest_of (owned_slots h ls))
 second_valued size T s x c h ls z at mine is f =
     subst (Links T s c) (sym (rest_valued h ls (number_there size T s x h ls z at mine f))) (after_number size T s x c h ls z at mine is f)
 
 -- without a number's slot the chain holds all that the node owns
-chain_owned : (size : ℕ) (T : Cells) (s x : ℕ) (h : Head) (ls : List ℕ) → (s ≡ 0 → ⊥) → x ≡ below T s 0 → (T.check x ≡ pos s → ⊥) → Family size T s h ls → Links T s (T.child s) (owned h ls)
+chain_owned : (size : ℕ) (T : Cells) (s x : ℕ) (h : Head) (ls : List ℕ) → (s ≡ 0 → ⊥) → x ≡ below T s 0 → (T.check x ≡ pos s → ⊥) → Family size T s h ls → Links T s (T.child s) (owned_slots h ls)
 chain_owned size T s x plain ls z at n f = f.begins
 chain_owned size T s x (valued v) ls z at n f = absurd (n (ap T.check at ∙ f.begins.1))
 chain_owned size T s x (own v) ls z at n f = subst (Links T s (T.child s)) (sym f.begins.1) f.begins.0
@@ -42,14 +42,14 @@ links_none : (T : Cells) (s c : ℕ) (ls : List ℕ) → c ≡ 0 → Links T s c
 links_none T s c [] z h = refl
 links_none T s c (l ∷ ls) z h = absurd (omega (arith, z, h.0, h.1))
 
-pub second_after : (size : ℕ) (T : Cells) (s x c y d : ℕ) (h : Head) (ls : List ℕ) → (s ≡ 0 → ⊥) → x ≡ below T s 0 → (T.check x ≡ pos s → ⊥) → c ≡ T.child s → (c ≡ 0 → ⊥) → y ≡ below T s c → d ≡ T.sibling y → Family size T s h ls → Links T s d (rest_of (owned h ls))
+pub second_after : (size : ℕ) (T : Cells) (s x c y d : ℕ) (h : Head) (ls : List ℕ) → (s ≡ 0 → ⊥) → x ≡ below T s 0 → (T.check x ≡ pos s → ⊥) → c ≡ T.child s → (c ≡ 0 → ⊥) → y ≡ below T s c → d ≡ T.sibling y → Family size T s h ls → Links T s d (rest_of (owned_slots h ls))
 second_after size T s x c y d h ls z at n first some there is f =
-    let links : Links T s c (owned h ls) = subst (λ l. Links T s l (owned h ls)) (sym first) (chain_owned size T s x h ls z at n f) in
-    subst (λ l. Links T s l (rest_of (owned h ls))) (sym (is ∙ ap T.sibling there)) (links_rest T s c (owned h ls) some links)
+    let links : Links T s c (owned_slots h ls) = subst (λ l. Links T s l (owned_slots h ls)) (sym first) (chain_owned size T s x h ls z at n f) in
+    subst (λ l. Links T s l (rest_of (owned_slots h ls))) (sym (is ∙ ap T.sibling there)) (links_rest T s c (owned_slots h ls) some links)
 
-pub second_none : (size : ℕ) (T : Cells) (s x c : ℕ) (h : Head) (ls : List ℕ) → (s ≡ 0 → ⊥) → x ≡ below T s 0 → (T.check x ≡ pos s → ⊥) → c ≡ T.child s → c ≡ 0 → Family size T s h ls → Links T s 0 (rest_of (owned h ls))
+pub second_none : (size : ℕ) (T : Cells) (s x c : ℕ) (h : Head) (ls : List ℕ) → (s ≡ 0 → ⊥) → x ≡ below T s 0 → (T.check x ≡ pos s → ⊥) → c ≡ T.child s → c ≡ 0 → Family size T s h ls → Links T s 0 (rest_of (owned_slots h ls))
 second_none size T s x c h ls z at n first none f =
-    links_none T s (T.child s) (owned h ls) (sym first ∙ none) (chain_owned size T s x h ls z at n f)
+    links_none T s (T.child s) (owned_slots h ls) (sym first ∙ none) (chain_owned size T s x h ls z at n f)
 
 -- ---- a walk of one chain
 

@@ -4,7 +4,7 @@ use Rattle.std.specs.Prelude.{◌%◌, pos, bit_xor}
 use Rattle.std.specs.Int.Bits.{xor_zero_l}
 use Rattle.cedar_tree.specs.Tree.{Forest}
 use Rattle.cedar_model.specs.Table.Cells.{Cells, Held}
-use Rattle.cedar_model.specs.Meaning.Family.{base_in, base_of, below, Head, plain, valued, own, top, Among, owned, Begins, InRange, Family}
+use Rattle.cedar_model.specs.Meaning.Family.{base_in, base_of, below, Head, plain, valued, own, top, Among, owned_slots, Begins, InRange, Family}
 use Rattle.cedar_model.specs.Meaning.StandsFor.{labels, slot_at, OnPath, HoldsTree}
 use Rattle.cedar_model.specs.Relocation.Renaming.{CanMove, IsNode, Movable, OwnsNothing, Relocated}
 use Rattle.cedar_model.specs.declared.layout.Stored.TheVariants.{AtBase}
@@ -22,21 +22,21 @@ distinct_take (x ∷ xs) zero d h a = absurd a
 distinct_take (x ∷ xs) (suc i) d h (inl e) = d.0 (subst (Among xs) (sym e) (among_get xs i 0 (omega arith)))
 distinct_take (x ∷ xs) (suc i) d h (inr a) = distinct_take xs i d.1 (omega arith) a
 
-pub owned_small : (T : Cells) (s : ℕ) (h : Head) (ls : List ℕ) → Begins T s h ls → (l : ℕ) → Among (owned h ls) l → l < 256
+pub owned_small : (T : Cells) (s : ℕ) (h : Head) (ls : List ℕ) → Begins T s h ls → (l : ℕ) → Among (owned_slots h ls) l → l < 256
 owned_small T s plain ls b l a = links_small T s _ ls b l a
 owned_small T s (valued v) ls b l (inl e) = omega arith
 owned_small T s (valued v) ls b l (inr a) = links_small T s _ ls b.4 l a
 owned_small T s (own v) ls b l a = absurd (subst (λ x. Among x l) b.1 a)
 owned_small T s top ls b l a = links_small T s _ ls b.2 l a
 
-pub owned_own : (T : Cells) (s : ℕ) (h : Head) (ls : List ℕ) → Begins T s h ls → (l : ℕ) → Among (owned h ls) l → T.check (below T s l) ≡ pos s
+pub owned_own : (T : Cells) (s : ℕ) (h : Head) (ls : List ℕ) → Begins T s h ls → (l : ℕ) → Among (owned_slots h ls) l → T.check (below T s l) ≡ pos s
 owned_own T s plain ls b l a = labels_own T s plain ls b l a
 owned_own T s (valued v) ls b l (inl e) = subst (λ x. T.check (below T s x) ≡ pos s) e b.1
 owned_own T s (valued v) ls b l (inr a) = labels_own T s (valued v) ls b l a
 owned_own T s (own v) ls b l a = labels_own T s (own v) ls b l a
 owned_own T s top ls b l a = labels_own T s top ls b l a
 
-pub owned_distinct : (size : ℕ) (T : Cells) (s : ℕ) (h : Head) (ls : List ℕ) → Family size T s h ls → DistinctList (owned h ls)
+pub owned_distinct : (size : ℕ) (T : Cells) (s : ℕ) (h : Head) (ls : List ℕ) → Family size T s h ls → DistinctList (owned_slots h ls)
 owned_distinct size T s plain ls f = family_distinct size T s plain ls f
 owned_distinct size T s (valued v) ls f = (no_zero T s _ ls f.begins.4, family_distinct size T s (valued v) ls f)
 owned_distinct size T s (own v) ls f = family_distinct size T s (own v) ls f
@@ -84,7 +84,7 @@ module _ (size : ℕ) (T : Cells) (f : Forest) (b l : ℕ) (p : List ℕ) (whole
           let up : slot_at T v ≡ slot_at T (l ∷ p) = pos_injective _ _ (sym hv.1 ∙ ap T.check s ∙ o) in
           hv.0 (xor_injective (base_of T (slot_at T (l ∷ p))) m 0 (ap (λ x. below T x m) (sym up) ∙ s))
 
-  movable_at : (hd : Head) (ls : List ℕ) → Family size T (slot_at T (l ∷ p)) hd ls → 256 ≤ base_of T (slot_at T (l ∷ p)) → ((m : ℕ) → Among (owned hd ls) m → Held T (bit_xor b m) → ⊥) → Movable size T (slot_at T (l ∷ p)) b (owned hd ls)
+  movable_at : (hd : Head) (ls : List ℕ) → Family size T (slot_at T (l ∷ p)) hd ls → 256 ≤ base_of T (slot_at T (l ∷ p)) → ((m : ℕ) → Among (owned_slots hd ls) m → Held T (bit_xor b m) → ⊥) → Movable size T (slot_at T (l ∷ p)) b (owned_slots hd ls)
   movable_at hd ls fam based free =
       let a : ℕ = slot_at T (l ∷ p) in
       let r = ranged size T a hd ls (not_zero l p h) based fam in
@@ -105,10 +105,10 @@ module _ (size : ℕ) (T : Cells) (f : Forest) (b l : ℕ) (p : List ℕ) (whole
       }
 
 -- any node with a base, which is not the root, can be relocated
-pub movable : (size : ℕ) (T : Cells) (f : Forest) (b s : ℕ) (p : List ℕ) → size % 256 ≡ 0 → HoldsTree size T f → OnPath T p → slot_at T p ≡ s → (s ≡ 0 → ⊥) → 256 ≤ b → b < size → (hd : Head) (ls : List ℕ) → Family size T s hd ls → 256 ≤ base_of T s → ((m : ℕ) → Among (owned hd ls) m → Held T (bit_xor b m) → ⊥) → Movable size T s b (owned hd ls)
+pub movable : (size : ℕ) (T : Cells) (f : Forest) (b s : ℕ) (p : List ℕ) → size % 256 ≡ 0 → HoldsTree size T f → OnPath T p → slot_at T p ≡ s → (s ≡ 0 → ⊥) → 256 ≤ b → b < size → (hd : Head) (ls : List ℕ) → Family size T s hd ls → 256 ≤ base_of T s → ((m : ℕ) → Among (owned_slots hd ls) m → Held T (bit_xor b m) → ⊥) → Movable size T s b (owned_slots hd ls)
 movable size T f b s [] whole w on at z low high hd ls fam based free = absurd (z (sym at))
 movable size T f b s (l ∷ p) whole w on at z low high hd ls fam based free =
-    subst (λ a. Movable size T a b (owned hd ls)) at
+    subst (λ a. Movable size T a b (owned_slots hd ls)) at
     (movable_at size T f b l p whole w on low high hd ls (subst (λ a. Family size T a hd ls) (sym at) fam) (subst (λ a. 256 ≤ base_of T a) (sym at) based) free)
 
 -- a node at the end of a path, other than the root's

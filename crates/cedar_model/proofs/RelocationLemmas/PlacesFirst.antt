@@ -6,7 +6,7 @@ use Rattle.std.proofs.lemmas.List.{get_or_default}
 use lib.Bits.{xor_assoc, xor_zero_r}
 use Rattle.cedar_tree.specs.Tree.{Forest}
 use Rattle.cedar_model.specs.Table.Cells.{Cells, HasPlaces, Held, IsPlace, SameHeld}
-use Rattle.cedar_model.specs.Meaning.Family.{base_in, base_of, below, Head, Among, owned, Family}
+use Rattle.cedar_model.specs.Meaning.Family.{base_in, base_of, below, Head, Among, owned_slots, Family}
 use Rattle.cedar_model.specs.Meaning.StandsFor.{slot_at, OnPath, HoldsTree}
 use Rattle.cedar_model.specs.Relocation.Renaming.{Movable, Relocated, Renamed, SetMoved}
 use Rattle.cedar_slots.proofs.RingsLemmas.InBlock.{xor_block}
@@ -64,7 +64,7 @@ renamed_then size size' T T₁ T' r k m = record {
 module _ (size size' : ℕ) (T T₁ : Cells) (f : Forest) (p b : ℕ) (path : List ℕ) (hd : Head) (ls ws : List ℕ)
     (more : size ≤ size') (whole : size' % 256 ≡ 0) (same : SameHeld T T₁) (w : HoldsTree size T f)
     (on : OnPath T path) (at : slot_at T path ≡ p) (z : p ≡ 0 → ⊥) (fam : Family size T p hd ls) (based : 256 ≤ base_of T p)
-    (all : (l : ℕ) → Among (owned hd ls) l → Among ws l) (bytes : (i : ℕ) → get_or ws i 0 < 256) (some : 0 < length ws)
+    (all : (l : ℕ) → Among (owned_slots hd ls) l → Among ws l) (bytes : (i : ℕ) → get_or ws i 0 < 256) (some : 0 < length ws)
     (room : HasPlaces size' T₁ b ws) where
   first : Renamed size size' T T₁ (λ q. q)
   first = same_renamed size size' T T₁ more same w.root (owner_held size T f w)
@@ -88,14 +88,14 @@ module _ (size size' : ℕ) (T T₁ : Cells) (f : Forest) (p b : ℕ) (path : Li
     | inr h ↦ first.keeps.node h.0 p hd ls h.1 fam
   ]
 
-  pub can_relocate : Movable size' T₁ p b (owned hd ls)
+  pub can_relocate : Movable size' T₁ p b (owned_slots hd ls)
   can_relocate =
       let range = base_placed size' T₁ b ws whole some (bytes 0) room in
       movable size' T₁ f b p path whole (holds_renamed size size' T T₁ (λ q. q) first f w) kept.0 (kept.1 ∙ at) z range.0 range.1 hd ls node_there
       (subst (λ st. 256 ≤ base_in st) (sym stored_same) based)
       (λ m a. (place_of size' T₁ b ws room m (all m a)).free)
 
-  pub set_moved : (T' : Cells) → Relocated size' T₁ T' p b → SetMoved size size' T T' p b (owned hd ls) ws
+  pub set_moved : (T' : Cells) → Relocated size' T₁ T' p b → SetMoved size size' T T' p b (owned_slots hd ls) ws
   set_moved T' k = record {
     new_slot = k.new_slot;
     renamed = renamed_then size size' T T₁ T' k.new_slot first k.renamed;
@@ -105,10 +105,10 @@ module _ (size size' : ℕ) (T T₁ : Cells) (f : Forest) (p b : ℕ) (path : Li
     };
     set = k.set;
     stored = λ q h n. k.stored q (there q h) n ∙ (same.other q h).stored;
-    vacated = λ x o. vacated size' T₁ T' p b (owned hd ls) can_relocate k x (first.check x p o);
+    vacated = λ x o. vacated size' T₁ T' p b (owned_slots hd ls) can_relocate k x (first.check x p o);
     room = λ l a n.
         let place = place_of size' T₁ b ws room l a in
-        record { not_first = place.not_first; in_use = place.in_use; free = stays_free size' T₁ T' p b (owned hd ls) can_relocate k l n place.free };
+        record { not_first = place.not_first; in_use = place.in_use; free = stays_free size' T₁ T' p b (owned_slots hd ls) can_relocate k l n place.free };
   }
     where
       there : (q : ℕ) → Held T q → Held T₁ q

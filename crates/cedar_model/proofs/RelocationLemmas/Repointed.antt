@@ -5,7 +5,7 @@ use Rattle.std.proofs.lemmas.Bool.{cases_eq}
 use Rattle.std.proofs.lemmas.List.{append_assoc, append-nil}
 use Rattle.cedar_model.specs.declared.layout.Stored.{Stored}
 use Rattle.cedar_model.specs.Table.Cells.{Cells, Held, NodeWritten}
-use Rattle.cedar_model.specs.Meaning.Family.{base_in, base_of, below, Head, plain, valued, own, top, Among, Links, Begins, Family, owned}
+use Rattle.cedar_model.specs.Meaning.Family.{base_in, base_of, below, Head, plain, valued, own, top, Among, Links, Begins, Family, owned_slots}
 use Rattle.cedar_model.specs.Meaning.Reading.{chain}
 use Rattle.cedar_model.specs.Relocation.Renaming.{Always, ChecksAt, IsNode, IsNumber, OwnsNothing, Repointed}
 use Rattle.cedar_model.proofs.MeaningLemmas.ExclusiveOr.{xor_back, pos_injective}
@@ -240,7 +240,7 @@ repointed_both size T T₁ T₂ s t k z n r = record {
     same : (q : ℕ) → below T s q ≡ below T₁ s q
     same q = ap (λ st. bit_xor (base_in st) q) (sym (n.stored s))
 
-    label : (h : Head) (l : ℕ) → (l ≡ 0 → ⊥) → Among (owned h k.labels) l → Among k.labels l
+    label : (h : Head) (l : ℕ) → (l ≡ 0 → ⊥) → Among (owned_slots h k.labels) l → Among k.labels l
     label plain l m a = a
     label (valued v) l m (inl e) = absurd (m (sym e))
     label (valued v) l m (inr a) = a

@@ -17,7 +17,7 @@ use Rattle.cedar_model.specs.Meaning.StandsFor.{HoldsTree, OnPath, slot_at}
 use Rattle.cedar_model.specs.Edit.Own.{HasWay, NoOwn}
 use Rattle.cedar_slots.specs.Places.{IsTable, PlaceFields, SameSlots}
 use Rattle.cedar_slots.specs.Slots.{base_at, check_at, info_at}
-use Rattle.cedar_model.specs.Edit.Steps.{MakesBlocks, root_of, StepsTo, trimmed, with_child}
+use Rattle.cedar_model.specs.Edit.Steps.{MakesBlocks, root_of, StepsTo, tree_after_trim, with_child}
 use Rattle.cedar_model.specs.Table.TableFields.{Fields, SameSettings, size_of}
 use Rattle.cedar_model.specs.Meaning.WellFormed.{cells_in, IsWellFormed, tree_of}
 use Rattle.cedar_model.proofs.MeaningLemmas.NodeAtPath.{at_owned, at_owner, at_path, path_front}
@@ -125,8 +125,8 @@ module _ (slots : ℕ) (before mid after : Fields) (key w rest : List ℕ) (l a 
   number_on : number_at (root_of grown) key ≡ number_at (tree_of before) key
   number_on = ap (λ (u : Tree). number_at u key) grown_is ∙ number_at-with_child t o w l key there ∙ k.number
 
-  back_on : trimmed (root_of grown) (w ++ l ∷ []) ≡ tree_of before
-  back_on = ap (λ (u : Tree). trimmed u (w ++ l ∷ [])) grown_is ∙ trimmed_child (tree_of before) t o w l sound there k.back
+  back_on : tree_after_trim (root_of grown) (w ++ l ∷ []) ≡ tree_of before
+  back_on = ap (λ (u : Tree). tree_after_trim u (w ++ l ∷ [])) grown_is ∙ trimmed_child (tree_of before) t o w l sound there k.back
 
   blocks_on : (n : ℕ) × (n ≤ length (w ++ l ∷ [])) × (0 < length (w ++ l ∷ []) → n < length (w ++ l ∷ [])) × MakesBlocks n before after
   blocks_on = by_front w refl
@@ -150,7 +150,7 @@ module _ (slots : ℕ) (before mid after : Fields) (key w rest : List ℕ) (l a 
   leaf_on : (b : ℕ) → w ++ l ∷ [] ≡ b ∷ [] → has_label (tree_of before).children b ≡ false → (cells_in after).stored s ≡ AtBase 0
   leaf_on b e new =
       let first = first_label w l b e in
-      let same : t ≡ tree_of before = sym (trimmed_root k.forest) ∙ ap (trimmed t) (sym first.0) ∙ k.back in
+      let same : t ≡ tree_of before = sym (trimmed_root k.forest) ∙ ap (tree_after_trim t) (sym first.0) ∙ k.back in
       let lacks : has_label (node_at t w).children l ≡ false = ap (λ v. has_label (node_at t v).children l) first.0 ∙ ap (λ (u : Tree). has_label u.children l) same ∙ ap (has_label (tree_of before).children) first.1 ∙ new in
       step.stepped.leaf (λ own. true≢false (sym (at_owned (size_of mid) (cells_in mid) k.forest w a k.holds k.at l k.bytes.0 own) ∙ lacks))
 

@@ -12,7 +12,7 @@ use Rattle.cedar_model.specs.Meaning.Family.{base_in, base_of, below, InRange}
 use Rattle.cedar_model.specs.Meaning.Marks.{KeepsMarks}
 use Rattle.cedar_model.specs.Meaning.StandsFor.{HoldsTree}
 use Rattle.cedar_model.specs.Edit.NodeEdits.{AddsLabel, follow_on, IsAt, IsNodeOf, Touches}
-use Rattle.cedar_model.specs.Relocation.Reserved.{freed, Reserves}
+use Rattle.cedar_model.specs.Relocation.Reserved.{cells_without, Reserves}
 use Rattle.cedar_model.specs.Edit.Steps.{Placed, root_of, StepsTo}
 use Rattle.cedar_model.specs.Table.TableFields.{Fields, size_of}
 use Rattle.cedar_model.specs.Meaning.WellFormed.{cells_in}
@@ -118,12 +118,12 @@ child_added before mid after a l s r g u standing here placed kept same absent a
 
 -- the child is added over a slot that another node had
 pub child_added_over : (before mid after : Fields) (a l s r : ℕ) (f : Forest) (u : List ℕ) → HoldsTree (size_of before) (cells_in before) f → IsAt (cells_in before) u a → Reserves before mid a l s → mid.ordered ≡ before.ordered → ((cells_in before).check (below (cells_in before) a l) ≡ pos a → ⊥)
-    → AddsLabel (size_of mid) mid.ordered (freed (cells_in mid) (below (cells_in mid) s l)) (cells_in after) s l → r ≡ below (cells_in after) s l → 0 < after.places.blocks.active
-    → ((f : Forest) (w : List ℕ) → HoldsTree (size_of mid) (freed (cells_in mid) (below (cells_in mid) s l)) f → (mid.ordered ≡ true → IsAscending f) → IsAt (freed (cells_in mid) (below (cells_in mid) s l)) w s → HoldsTree (size_of after) (cells_in after) (edit_at w (λ n. n) (add_leaf mid.ordered l) f))
-    → ((w : List ℕ) → IsAt (freed (cells_in mid) (below (cells_in mid) s l)) w s → IsAt (cells_in after) (w ++ l ∷ []) r)
+    → AddsLabel (size_of mid) mid.ordered (cells_without (cells_in mid) (below (cells_in mid) s l)) (cells_in after) s l → r ≡ below (cells_in after) s l → 0 < after.places.blocks.active
+    → ((f : Forest) (w : List ℕ) → HoldsTree (size_of mid) (cells_without (cells_in mid) (below (cells_in mid) s l)) f → (mid.ordered ≡ true → IsAscending f) → IsAt (cells_without (cells_in mid) (below (cells_in mid) s l)) w s → HoldsTree (size_of after) (cells_in after) (edit_at w (λ n. n) (add_leaf mid.ordered l) f))
+    → ((w : List ℕ) → IsAt (cells_without (cells_in mid) (below (cells_in mid) s l)) w s → IsAt (cells_in after) (w ++ l ∷ []) r)
     → (a ≡ 0 → ⊥) → StepsTo before after a l r
 child_added_over before mid after a l s r g u standing here k same absent added is some tree leaf z =
-    let made = label_made (size_of mid) mid.ordered (freed (cells_in mid) (below (cells_in mid) s l)) (cells_in after) s l added in
+    let made = label_made (size_of mid) mid.ordered (cells_without (cells_in mid) (below (cells_in mid) s l)) (cells_in after) s l added in
     let held : Held (cells_in after) (below (cells_in after) s l) = inr (s, made.1) in
     record {
       inside = subst (λ x. x < size_of after) (sym is) (held_used after.layout after.places (below (cells_in after) s l) some held).0;
@@ -136,5 +136,5 @@ child_added_over before mid after a l s r g u standing here k same absent added 
           (subst (λ o. HoldsTree (size_of after) (cells_in after) (edit_at w (λ n. n) (add_leaf o l) f)) same there);
       leaf = λ _. ap (cells_in after).stored is ∙ made.0;
       outside = λ e. absurd (z e);
-      marks = marks_then (cells_in before) (freed (cells_in mid) (below (cells_in mid) s l)) (cells_in after) k.marks (added_marks (size_of mid) mid.ordered (freed (cells_in mid) (below (cells_in mid) s l)) (cells_in after) s l g u (k.tree g standing) (k.at u here) added);
+      marks = marks_then (cells_in before) (cells_without (cells_in mid) (below (cells_in mid) s l)) (cells_in after) k.marks (added_marks (size_of mid) mid.ordered (cells_without (cells_in mid) (below (cells_in mid) s l)) (cells_in after) s l g u (k.tree g standing) (k.at u here) added);
     }

@@ -26,7 +26,7 @@ use Rattle.cedar_model.specs.Edit.Own.{LacksNode}
 use Rattle.cedar_slots.specs.Places.{IsTable, MayRefuse, SameSlots}
 use Rattle.cedar_model.specs.Meaning.Reading.{tree_read}
 use Rattle.cedar_slots.specs.Slots.{check_at}
-use Rattle.cedar_model.specs.Edit.Steps.{MakesBlocks, root_of, SameModes, trimmed}
+use Rattle.cedar_model.specs.Edit.Steps.{MakesBlocks, root_of, SameModes, tree_after_trim}
 use Rattle.cedar_model.specs.Table.TableFields.{Fields, SameFrame, SameSettings, size_of}
 use Rattle.cedar_model.specs.Meaning.WellFormed.{cells_in, is_value, IsWellFormed, slots_below, slots_named, tree_of}
 use Rattle.cedar_model.proofs.MeaningLemmas.NodeAtPath.{at_path}
@@ -92,7 +92,7 @@ fewer_still slots before after key w rest l a k below_root =
 -- what `trim` makes of a table, from slot a on
 pub record Trims (slots : ℕ) (mid after : Fields) (a : ℕ) : Type 0 where
   pub table : IsTable slots after.places
-  pub tree : (f : Forest) (w : List ℕ) → HoldsTree (size_of mid) (cells_in mid) f → IsAt (cells_in mid) w a → HoldsTree (size_of after) (cells_in after) (trimmed (root_of f) w).children
+  pub tree : (f : Forest) (w : List ℕ) → HoldsTree (size_of mid) (cells_in mid) f → IsAt (cells_in mid) w a → HoldsTree (size_of after) (cells_in after) (tree_after_trim (root_of f) w).children
   pub root_check : (cells_in after).check 0 ≡ (cells_in mid).check 0
   pub frame : SameFrame mid after
   pub marks : KeepsMarks (cells_in mid) (cells_in after)

@@ -12,12 +12,12 @@ use Rattle.cedar_tree.proofs.EditLemmas.{cut-without_number, cut_stops_at_end}
 use Rattle.cedar_tree.proofs.OrderLemmas.{ascending-cut, number_of_node}
 use Rattle.cedar_tree.proofs.TreeLemmas.{all-cut, cut_not_held, sound-cut}
 use Rattle.cedar_model.specs.Table.Cells.{Cells}
-use Rattle.cedar_model.specs.Meaning.Family.{Among, base_of, below, Family, Head, InRange, own, owned, plain, top, valued}
+use Rattle.cedar_model.specs.Meaning.Family.{Among, base_of, below, Family, Head, InRange, own, owned_slots, plain, top, valued}
 use Rattle.cedar_model.specs.Meaning.StandsFor.{HoldsTree, labels}
 use Rattle.cedar_model.specs.Edit.NodeEdits.{DropsNumber, IsAt, IsNodeOf}
 use Rattle.cedar_slots.specs.Places.{IsTable}
 use Rattle.cedar_slots.specs.Slots.{check_at}
-use Rattle.cedar_model.specs.Edit.Steps.{root_of, trimmed}
+use Rattle.cedar_model.specs.Edit.Steps.{root_of, tree_after_trim}
 use Rattle.cedar_model.specs.Table.TableFields.{Fields, size_of}
 use Rattle.cedar_model.specs.Meaning.WellFormed.{cells_in, is_value, IsWellFormed, tree_of}
 use Rattle.cedar_model.proofs.EditLemmas.AtPath.{not_own_owner, paths_touched}
@@ -35,8 +35,8 @@ number_based size T f w a h at o =
     let st = at_node size T f w a h at in
     by_head st.head (labels (node_at (root_of f) w).children) st.family
   where
-    zero_owned : (hd : Head) (ls : List ℕ) → Family size T a hd ls → Among (owned hd ls) 0
-    zero_owned hd ls k = subst (Among (owned hd ls)) (xor_back (base_of T a) 0) (k.only (below T a 0) o)
+    zero_owned : (hd : Head) (ls : List ℕ) → Family size T a hd ls → Among (owned_slots hd ls) 0
+    zero_owned hd ls k = subst (Among (owned_slots hd ls)) (xor_back (base_of T a) 0) (k.only (below T a 0) o)
 
     by_head : (hd : Head) (ls : List ℕ) → Family size T a hd ls → InRange size (T.stored a)
     by_head plain ls k = absurd (no_zero T a _ ls k.begins (zero_owned plain ls k))
@@ -49,7 +49,7 @@ lead_of T a b e = xor_zero_r (base_of T a) ∙ sym e
 
 -- ---- the tree
 -- once a number was dropped, a trim makes it a cut
-pub dropped_trimmed : (t : Tree) (l : ℕ) (path : List ℕ) → HasPath t (l ∷ path) → trimmed (without_number t (l ∷ path)) (l ∷ path) ≡ cut t (l ∷ path)
+pub dropped_trimmed : (t : Tree) (l : ℕ) (path : List ℕ) → HasPath t (l ∷ path) → tree_after_trim (without_number t (l ∷ path)) (l ∷ path) ≡ cut t (l ∷ path)
 dropped_trimmed t l path there =
     let u : Tree = without_number t (l ∷ path) in
     let none_there : (node_at u (l ∷ path)).number ≡ None = ap (λ (x : Tree). x.number) (node_at-without_number t l path there) in
@@ -118,7 +118,7 @@ root_field slots T T' a b e root =
     sym (active_is T'.layout T'.places 0 there) ∙ e ∙ active_is T.layout T.places 0 here ∙ root
 
 module _ (slots : ℕ) (T T' : Fields) (wf : IsWellFormed slots T) (l : ℕ) (path : List ℕ) (there : HasPath (root_of (tree_of T).children) (l ∷ path))
-    (holds : HoldsTree (size_of T') (cells_in T') (trimmed (root_of (edit_at (l ∷ path) (λ _. None) (λ u. u) (tree_of T).children)) (l ∷ path)).children) where
+    (holds : HoldsTree (size_of T') (cells_in T') (tree_after_trim (root_of (edit_at (l ∷ path) (λ _. None) (λ u. u) (tree_of T).children)) (l ∷ path)).children) where
   cut_holds : HoldsTree (size_of T') (cells_in T') (cut (root_of (tree_of T).children) (l ∷ path)).children
   cut_holds = subst (HoldsTree (size_of T') (cells_in T')) (ap (λ (t : Tree). t.children) (dropped_trimmed (root_of (tree_of T).children) l path there)) holds
 
@@ -136,17 +136,17 @@ module _ (slots : ℕ) (T T' : Fields) (wf : IsWellFormed slots T) (l : ℕ) (pa
       (λ is. ascending-cut t (l ∷ path) (wf.ascending (sym ordered ∙ is))) (omega arith)
 
 module _ (slots : ℕ) (T T' : Fields) (wf : IsWellFormed slots T) (key : List ℕ) (s : ℕ) (at : IsAt (cells_in T) key s) (below_root : s ≡ 0 → ⊥)
-    (holds : HoldsTree (size_of T') (cells_in T') (trimmed (root_of (edit_at key (λ _. None) (λ u. u) (tree_of T).children)) key).children) where
+    (holds : HoldsTree (size_of T') (cells_in T') (tree_after_trim (root_of (edit_at key (λ _. None) (λ u. u) (tree_of T).children)) key).children) where
   pub erased_tree : tree_of T' ≡ cut (tree_of T) key
   erased_tree = by_key key at holds
     where
-      by_key : (w : List ℕ) → IsAt (cells_in T) w s → HoldsTree (size_of T') (cells_in T') (trimmed (root_of (edit_at w (λ _. None) (λ u. u) (tree_of T).children)) w).children → tree_of T' ≡ cut (tree_of T) w
+      by_key : (w : List ℕ) → IsAt (cells_in T) w s → HoldsTree (size_of T') (cells_in T') (tree_after_trim (root_of (edit_at w (λ _. None) (λ u. u) (tree_of T).children)) w).children → tree_of T' ≡ cut (tree_of T) w
       by_key [] on h = absurd (below_root (sym on.1))
       by_key (l ∷ w) on h = tree_along slots T T' wf l w (at_path (size_of T) (cells_in T) (tree_of T).children (l ∷ w) s wf.stands on) h
 
   pub erased_formed : is_some (number_at (tree_of T) key) ≡ true → IsTable slots T'.places → (cells_in T').check 0 ≡ (cells_in T).check 0 → T'.ordered ≡ T.ordered → T'.entries + 1 ≡ T.entries → IsWellFormed slots T'
   erased_formed held table root ordered entries = by_key key at holds held
     where
-      by_key : (w : List ℕ) → IsAt (cells_in T) w s → HoldsTree (size_of T') (cells_in T') (trimmed (root_of (edit_at w (λ _. None) (λ u. u) (tree_of T).children)) w).children → is_some (number_at (tree_of T) w) ≡ true → IsWellFormed slots T'
+      by_key : (w : List ℕ) → IsAt (cells_in T) w s → HoldsTree (size_of T') (cells_in T') (tree_after_trim (root_of (edit_at w (λ _. None) (λ u. u) (tree_of T).children)) w).children → is_some (number_at (tree_of T) w) ≡ true → IsWellFormed slots T'
       by_key [] on h is = absurd (below_root (sym on.1))
       by_key (l ∷ w) on h is = formed_along slots T T' wf l w (at_path (size_of T) (cells_in T) (tree_of T).children (l ∷ w) s wf.stands on) h is table root ordered entries

@@ -13,7 +13,7 @@ use Rattle.cedar_model.specs.Table.Cells.{Cells}
 use Rattle.cedar_model.specs.Edit.NodeEdits.{follow_on, IsAt}
 use Rattle.cedar_model.specs.Meaning.Family.{below}
 use Rattle.cedar_model.specs.Table.Layouts.{reduced_layout}
-use Rattle.cedar_model.specs.Meaning.Marks.{HasMark, IsProperFront, KeepsOtherMarks, marked, MarkedAt, marks, MarksCut, MarksPut, PutsMarks}
+use Rattle.cedar_model.specs.Meaning.Marks.{HasMark, IsProperFront, KeepsOtherMarks, marks_below, MarkedAt, marks, MarksCut, MarksPut, PutsMarks}
 use Rattle.cedar_model.specs.Meaning.StandsFor.{slot_at}
 use Rattle.cedar_model.specs.Meaning.Reading.{has_number_slot}
 use Rattle.cedar_model.specs.Edit.Steps.{root_of}
@@ -31,23 +31,23 @@ use Rattle.cedar_model.proofs.UpdateLemmas.FreeWay.{at_same, slot_held}
 
 -- a node of it at slot s, for the node t there
 abbrev marked_tree : Cells → ℕ → Tree → Tree
-marked_tree T s t = record { number = cond (has_number_slot T s) t.number None; children = marked T s t.children }
+marked_tree T s t = record { number = cond (has_number_slot T s) t.number None; children = marks_below T s t.children }
 
-marked_subtree : (T : Cells) (s : ℕ) (f : Forest) (l : ℕ) → subtree (marked T s f) l ≡ marked_tree T (below T s l) (subtree f l)
+marked_subtree : (T : Cells) (s : ℕ) (f : Forest) (l : ℕ) → subtree (marks_below T s f) l ≡ marked_tree T (below T s l) (subtree f l)
 marked_subtree T s none l = by_slot (has_number_slot T (below T s l))
   where
     by_slot : (b : Bool) → ◌≡◌ {A = Tree} (record { number = None; children = none }) (record { number = cond b None None; children = none })
     by_slot true = refl
     by_slot false = refl
 marked_subtree T s (child m n u rest) l =
-    let x : Tree = record { number = cond (has_number_slot T (below T s m)) n None; children = marked T (below T s m) u } in
+    let x : Tree = record { number = cond (has_number_slot T (below T s m)) n None; children = marks_below T (below T s m) u } in
     let y : Tree = record { number = n; children = u } in
     elim (eqb_tells m l) [
       | inl e ↦
-          ap (λ b. cond b x (subtree (marked T s rest) l)) e.0 ∙ ap (λ k. marked_tree T (below T s k) y) e.1
+          ap (λ b. cond b x (subtree (marks_below T s rest) l)) e.0 ∙ ap (λ k. marked_tree T (below T s k) y) e.1
           ∙ ap (λ b. marked_tree T (below T s l) (cond b y (subtree rest l))) (sym e.0)
       | inr e ↦
-          ap (λ b. cond b x (subtree (marked T s rest) l)) e.0 ∙ marked_subtree T s rest l
+          ap (λ b. cond b x (subtree (marks_below T s rest) l)) e.0 ∙ marked_subtree T s rest l
           ∙ ap (λ b. marked_tree T (below T s l) (cond b y (subtree rest l))) (sym e.0)
     ]
 
@@ -65,7 +65,7 @@ module _ (slots : ℕ) (T : Fields) (well : IsWellFormed slots T) where
 
   marks_at : (w : List ℕ) → number_at (marks T) w ≡ cond (has_number_slot (cells_in T) (at_end w)) (number_at (tree_of T) w) None
   marks_at w =
-      ap (λ (t : Tree). number_at t w) (sym (root_marked (has_number_slot (cells_in T) 0) (marked (cells_in T) 0 (tree_of T).children)))
+      ap (λ (t : Tree). number_at t w) (sym (root_marked (has_number_slot (cells_in T) 0) (marks_below (cells_in T) 0 (tree_of T).children)))
       ∙ number_marked (cells_in T) w [] (root_of (tree_of T).children)
       ∙ ap (λ (t : Tree). cond (has_number_slot (cells_in T) (at_end w)) (number_at t w) None) (sym (tree_root slots T well))
 

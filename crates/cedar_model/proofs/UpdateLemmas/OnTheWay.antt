@@ -9,7 +9,7 @@ use Rattle.cedar_tree.proofs.EditLemmas.{cut_stops, put-with_leaf}
 use Rattle.cedar_tree.proofs.OrderLemmas.{number_at-append}
 use Rattle.cedar_tree.proofs.TreeLemmas.{number_at-empty, subtree_absent}
 use Rattle.cedar_tree.proofs.PutLemmas.{ascending-with_leaf, bare_lacks, cut-with_leaf, cut_at_bare, cut_past_bare, leaf_is_bare, number_at-with_leaf}
-use Rattle.cedar_model.specs.Edit.Steps.{root_of, trimmed, with_child}
+use Rattle.cedar_model.specs.Edit.Steps.{root_of, tree_after_trim, with_child}
 
 -- what both cases have in common
 child_cases : (P : Tree → Type 0) (t : Tree) (o : Bool) (w : List ℕ) (l : ℕ) → (has_label (node_at t w).children l ≡ true → P t) → (has_label (node_at t w).children l ≡ false → P (with_leaf t o w l)) → P (with_child t o w l)
@@ -36,20 +36,20 @@ ascending-with_child t o w l there is a =
 
 -- ---- bare leaves taken back
 
-pub trimmed_bare : (t : Tree) (w : List ℕ) → is_bare (node_at t w) ≡ true → trimmed t w ≡ cut t w
+pub trimmed_bare : (t : Tree) (w : List ℕ) → is_bare (node_at t w) ≡ true → tree_after_trim t w ≡ cut t w
 trimmed_bare t w e = ap (λ b. cond b (cut t w) t) e
 
-pub trimmed_kept : (t : Tree) (w : List ℕ) → is_bare (node_at t w) ≡ false → trimmed t w ≡ t
+pub trimmed_kept : (t : Tree) (w : List ℕ) → is_bare (node_at t w) ≡ false → tree_after_trim t w ≡ t
 trimmed_kept t w e = ap (λ b. cond b (cut t w) t) e
 
-pub trimmed_sound : (t : Tree) (w : List ℕ) → IsSoundBelow t.children → trimmed t w ≡ t
+pub trimmed_sound : (t : Tree) (w : List ℕ) → IsSoundBelow t.children → tree_after_trim t w ≡ t
 trimmed_sound t w s =
     (elim (is_bare (node_at t w)) as (λ b. is_bare (node_at t w) ≡ b → cond b (cut t w) t ≡ t) [ true ↦ λ e. cut_at_bare t w s e | false ↦ λ _. refl ]) refl
 
-pub trimmed_root : (f : Forest) → trimmed (root_of f) [] ≡ root_of f
+pub trimmed_root : (f : Forest) → tree_after_trim (root_of f) [] ≡ root_of f
 trimmed_root f = elim (is_bare (root_of f)) as (λ b. cond b (cut (root_of f) []) (root_of f) ≡ root_of f) [ true ↦ refl | false ↦ refl ]
 
-trimmed_leaf : (t₀ t : Tree) (o : Bool) (w : List ℕ) (l : ℕ) → HasPath t w → has_label (node_at t w).children l ≡ false → trimmed t w ≡ t₀ → trimmed (with_leaf t o w l) (w ++ l ∷ []) ≡ t₀
+trimmed_leaf : (t₀ t : Tree) (o : Bool) (w : List ℕ) (l : ℕ) → HasPath t w → has_label (node_at t w).children l ≡ false → tree_after_trim t w ≡ t₀ → tree_after_trim (with_leaf t o w l) (w ++ l ∷ []) ≡ t₀
 trimmed_leaf t₀ t o w l there new back =
     trimmed_bare (with_leaf t o w l) (w ++ l ∷ []) (ap is_bare (leaf_is_bare t o w l there new))
     ∙ cut-with_leaf t o w l [] there new
@@ -58,18 +58,18 @@ trimmed_leaf t₀ t o w l there new back =
       | false ↦ λ e. cut_stops t w l [] (inr e) new ∙ sym (trimmed_kept t w e) ∙ back
     ]) refl
 
-trimmed_there : (t₀ t : Tree) (w : List ℕ) (l : ℕ) → IsSoundBelow t₀.children → has_label (node_at t w).children l ≡ true → trimmed t w ≡ t₀ → trimmed t (w ++ l ∷ []) ≡ t₀
+trimmed_there : (t₀ t : Tree) (w : List ℕ) (l : ℕ) → IsSoundBelow t₀.children → has_label (node_at t w).children l ≡ true → tree_after_trim t w ≡ t₀ → tree_after_trim t (w ++ l ∷ []) ≡ t₀
 trimmed_there t₀ t w l sound has back =
-    (elim (is_bare (node_at t w)) as (λ b. is_bare (node_at t w) ≡ b → trimmed t (w ++ l ∷ []) ≡ t₀) [
+    (elim (is_bare (node_at t w)) as (λ b. is_bare (node_at t w) ≡ b → tree_after_trim t (w ++ l ∷ []) ≡ t₀) [
       | true ↦ λ e. absurd (false≢true (sym (bare_lacks (node_at t w) l e) ∙ has))
       | false ↦ λ e.
           let same : t ≡ t₀ = sym (trimmed_kept t w e) ∙ back in
-          ap (λ u. trimmed u (w ++ l ∷ [])) same ∙ trimmed_sound t₀ (w ++ l ∷ []) sound
+          ap (λ u. tree_after_trim u (w ++ l ∷ [])) same ∙ trimmed_sound t₀ (w ++ l ∷ []) sound
     ]) refl
 
-pub trimmed_child : (t₀ t : Tree) (o : Bool) (w : List ℕ) (l : ℕ) → IsSoundBelow t₀.children → HasPath t w → trimmed t w ≡ t₀ → trimmed (with_child t o w l) (w ++ l ∷ []) ≡ t₀
+pub trimmed_child : (t₀ t : Tree) (o : Bool) (w : List ℕ) (l : ℕ) → IsSoundBelow t₀.children → HasPath t w → tree_after_trim t w ≡ t₀ → tree_after_trim (with_child t o w l) (w ++ l ∷ []) ≡ t₀
 trimmed_child t₀ t o w l sound there back =
-    child_cases (λ u. trimmed u (w ++ l ∷ []) ≡ t₀) t o w l (λ has. trimmed_there t₀ t w l sound has back) (λ new. trimmed_leaf t₀ t o w l there new back)
+    child_cases (λ u. tree_after_trim u (w ++ l ∷ []) ≡ t₀) t o w l (λ has. trimmed_there t₀ t w l sound has back) (λ new. trimmed_leaf t₀ t o w l there new back)
 
 -- the next node of a key that has a number is there
 pub held_on_way : (t : Tree) (w : List ℕ) (l : ℕ) (rest : List ℕ) → is_some (number_at t (w ++ l ∷ rest)) ≡ true → has_label (node_at t w).children l ≡ true

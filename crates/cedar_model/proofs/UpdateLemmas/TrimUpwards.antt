@@ -10,7 +10,7 @@ use Rattle.cedar_tree.proofs.EditLemmas.{cut-without_leaf, cut_stops}
 use Rattle.cedar_model.specs.Table.Cells.{Cells}
 use Rattle.cedar_model.specs.Meaning.StandsFor.{HoldsTree, OnPath, slot_at}
 use Rattle.cedar_model.specs.Edit.NodeEdits.{follow_on, IsAt}
-use Rattle.cedar_model.specs.Edit.Steps.{root_of, trimmed}
+use Rattle.cedar_model.specs.Edit.Steps.{root_of, tree_after_trim}
 use Rattle.cedar_model.specs.Edit.Trims.{LosesLeaf}
 use Rattle.cedar_model.proofs.MeaningLemmas.NodeAtPath.{at_node, at_path, follow_last}
 use Rattle.cedar_model.proofs.EditLemmas.LeafAtPlace.{below_root, ends}
@@ -74,7 +74,7 @@ module _ (size : ℕ) (T : Cells) (n : ℕ) (T' : Cells) (f : Forest) (w : List 
   ]
 
 -- ---- the end
-trimmed_root : (f : Forest) → (trimmed (root_of f) []).children ≡ f
+trimmed_root : (f : Forest) → (tree_after_trim (root_of f) []).children ≡ f
 trimmed_root f = elim (is_bare (root_of f)) as (λ b. (cond b (cut (root_of f) []) (root_of f)).children ≡ f) [ true ↦ refl | false ↦ refl ]
 
 -- only the empty path leads to the root
@@ -83,13 +83,13 @@ root_path T [] a root at z = refl
 root_path T (l ∷ w) a root at z =
     let e = ends l w in absurd (below_root T root e.0 e.1 (subst (OnPath T) e.2 at.0) (sym (ap (slot_at T) e.2) ∙ at.1 ∙ z))
 
-pub climb_end : (size : ℕ) (T : Cells) (f : Forest) (w : List ℕ) (a : ℕ) (k : Climbs size T f w a) → (a ≡ 0) ⊎ (is_bare (node_at (root_of k.tree) k.path) ≡ false) → HoldsTree size T (trimmed (root_of f) w).children
+pub climb_end : (size : ℕ) (T : Cells) (f : Forest) (w : List ℕ) (a : ℕ) (k : Climbs size T f w a) → (a ≡ 0) ⊎ (is_bare (node_at (root_of k.tree) k.path) ≡ false) → HoldsTree size T (tree_after_trim (root_of f) w).children
 climb_end size T f w a k stands = elim k.reached [
   | inl r ↦ subst (HoldsTree size T) (stopped r.0 r.1 stands) k.holds
   | inr r ↦ subst (HoldsTree size T) (climbed_all r.0 r.1 r.2 r.3 r.4) k.holds
 ] where
-  stopped : w ≡ k.path → k.tree ≡ f → (a ≡ 0) ⊎ (is_bare (node_at (root_of k.tree) k.path) ≡ false) → k.tree ≡ (trimmed (root_of f) w).children
-  stopped e same (inl z) = same ∙ sym (trimmed_root f) ∙ ap (λ v. (trimmed (root_of f) v).children) (sym (e ∙ root_path T k.path a k.holds.root k.at z))
+  stopped : w ≡ k.path → k.tree ≡ f → (a ≡ 0) ⊎ (is_bare (node_at (root_of k.tree) k.path) ≡ false) → k.tree ≡ (tree_after_trim (root_of f) w).children
+  stopped e same (inl z) = same ∙ sym (trimmed_root f) ∙ ap (λ v. (tree_after_trim (root_of f) v).children) (sym (e ∙ root_path T k.path a k.holds.root k.at z))
   stopped e same (inr n) =
       same ∙ sym (ap (λ (t : Tree). t.children) (trimmed_kept (root_of f) w (ap (λ v. is_bare (node_at (root_of f) v)) e ∙ ap (λ g. is_bare (node_at (root_of g) k.path)) (sym same) ∙ n)))
 
@@ -97,7 +97,7 @@ climb_end size T f w a k stands = elim k.reached [
   above_stands (inl z) = inl (root_path T k.path a k.holds.root k.at z)
   above_stands (inr n) = inr n
 
-  climbed_all : (l : ℕ) (rest : List ℕ) → w ≡ k.path ++ l ∷ rest → has_label (node_at (root_of k.tree) k.path).children l ≡ false → is_bare (node_at (root_of f) w) ≡ true → k.tree ≡ (trimmed (root_of f) w).children
+  climbed_all : (l : ℕ) (rest : List ℕ) → w ≡ k.path ++ l ∷ rest → has_label (node_at (root_of k.tree) k.path).children l ≡ false → is_bare (node_at (root_of f) w) ≡ true → k.tree ≡ (tree_after_trim (root_of f) w).children
   climbed_all l rest e out was =
       let left : cut (root_of k.tree) w ≡ root_of k.tree = ap (cut (root_of k.tree)) e ∙ cut_stops (root_of k.tree) k.path l rest (above_stands stands) out in
       sym (ap (λ (t : Tree). t.children) (trimmed_bare (root_of f) w was ∙ sym k.same ∙ left))

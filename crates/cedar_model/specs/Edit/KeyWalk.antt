@@ -9,7 +9,7 @@ use Rattle.cedar_model.specs.Table.Layouts.{default_layout, reduced_layout}
 use Rattle.cedar_model.specs.Meaning.Marks.{KeepsMarks}
 use Rattle.cedar_model.specs.Edit.Own.{LacksNode}
 use Rattle.cedar_slots.specs.Places.{IsTable, MayRefuse}
-use Rattle.cedar_model.specs.Edit.Steps.{MakesBlocks, root_of, SameModes, trimmed}
+use Rattle.cedar_model.specs.Edit.Steps.{MakesBlocks, root_of, SameModes, tree_after_trim}
 use Rattle.cedar_model.specs.Table.TableFields.{Fields, SameSettings, size_of}
 use Rattle.cedar_model.specs.Meaning.WellFormed.{cells_in, IsWellFormed, TableHolds, tree_of}
 
@@ -29,7 +29,7 @@ pub record Walked (slots : ℕ) (before after : Fields) (key w rest : List ℕ) 
   -- a put at the key, its number, and what is left once the bare leaves are taken away, are as before
   pub puts : (v : ℤ) → put (root_of forest) before.ordered key v ≡ put (tree_of before) before.ordered key v
   pub number : number_at (root_of forest) key ≡ number_at (tree_of before) key
-  pub back : trimmed (root_of forest) w ≡ tree_of before
+  pub back : tree_after_trim (root_of forest) w ≡ tree_of before
   -- a step makes one block at most, and the first one none; nor do steps to a key that has a number
   pub blocks : (n : ℕ) × (n ≤ length w) × (0 < length w → n < length w) × MakesBlocks n before after
   pub over : is_some (number_at (tree_of before) key) ≡ true → MakesBlocks 0 before after

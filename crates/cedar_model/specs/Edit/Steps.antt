@@ -61,8 +61,8 @@ pub record StepsTo (before after : Fields) (a l s : ℕ) : Type 0 where
   pub outside : a ≡ 0 → (x : ℕ) → 256 ≤ x → Held (cells_in after) x → Held (cells_in before) x
 
 -- the tree once a bare node at the end of a path was taken away, and each node above that then was bare
-abbrev pub trimmed : Tree → List ℕ → Tree
-trimmed t w = if is_bare (node_at t w) then cut t w else t
+abbrev pub tree_after_trim : Tree → List ℕ → Tree
+tree_after_trim t w = if is_bare (node_at t w) then cut t w else t
 
 -- what an update and an erasure leave as it is
 pub record SameModes (before after : Fields) : Type 0 where

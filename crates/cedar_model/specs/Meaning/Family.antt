@@ -32,11 +32,11 @@ number_of (own v) = Some v
 number_of top = None
 
 -- the labels of all slots that a node owns, the number's slot being label 0
-abbrev pub owned : Head → List ℕ → List ℕ
-owned plain ls = ls
-owned (valued _) ls = 0 ∷ ls
-owned (own _) ls = ls
-owned top ls = ls
+abbrev pub owned_slots : Head → List ℕ → List ℕ
+owned_slots plain ls = ls
+owned_slots (valued _) ls = 0 ∷ ls
+owned_slots (own _) ls = ls
+owned_slots top ls = ls
 
 abbrev pub Among : List ℕ → ℕ → Type 0
 Among [] x = ⊥
@@ -69,7 +69,7 @@ Based size st top ls = st ≡ AtBase 0
 pub record Family (size : ℕ) (T : Cells) (s : ℕ) (h : Head) (ls : List ℕ) : Type 0 where
   pub based : Based size (T.stored s) h ls
   pub begins : Begins T s h ls
-  pub only : (q : ℕ) → T.check q ≡ pos s → Among (owned h ls) (below T s q)
+  pub only : (q : ℕ) → T.check q ≡ pos s → Among (owned_slots h ls) (below T s q)
 
 -- slot s is a node with this number and these labels
 pub record Node (size : ℕ) (T : Cells) (s : ℕ) (n : Option ℤ) (ls : List ℕ) : Type 0 where

@@ -13,13 +13,13 @@ use Rattle.cedar_model.specs.Table.TableFields.{Fields}
 use Rattle.cedar_model.specs.Meaning.WellFormed.{cells_in, tree_of}
 
 -- siblings below slot s with just those of their numbers that stand in slots of their own
-abbrev pub marked : Cells → ℕ → Forest → Forest
-marked T s none = none
-marked T s (child l n f rest) = child l (cond (has_number_slot T (below T s l)) n None) (marked T (below T s l) f) (marked T s rest)
+abbrev pub marks_below : Cells → ℕ → Forest → Forest
+marks_below T s none = none
+marks_below T s (child l n f rest) = child l (cond (has_number_slot T (below T s l)) n None) (marks_below T (below T s l) f) (marks_below T s rest)
 
 -- a table's tree with just the keys whose numbers stand in slots of their own, and all nodes
 abbrev pub marks : Fields → Tree
-marks T = record { number = None; children = marked (cells_in T) 0 (tree_of T).children }
+marks T = record { number = None; children = marks_below (cells_in T) 0 (tree_of T).children }
 
 -- how the number of a node stands that has one: true for a slot of its own, false for the node's own base field
 abbrev pub own_mark : Stored → Option Bool

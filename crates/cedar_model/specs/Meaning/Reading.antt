@@ -30,21 +30,21 @@ chain zero T s c = []
 chain (suc n) T s c = cond (nat_eq c 0) [] (c ∷ chain n T s (T.sibling (below T s c)))
 
 -- siblings with these labels, each with its tree
-abbrev pub forest_of : (ℕ → Tree) → List ℕ → Forest
-forest_of tree [] = none
-forest_of tree (l ∷ ls) = child l (tree l).number (tree l).children (forest_of tree ls)
+abbrev pub forest_by : (ℕ → Tree) → List ℕ → Forest
+forest_by tree [] = none
+forest_by tree (l ∷ ls) = child l (tree l).number (tree l).children (forest_by tree ls)
 
 -- the tree at slot s, read n steps down
 unfoldable pub tree_from : ℕ → Cells → ℕ → Tree
 tree_from zero T s = empty_tree
 tree_from (suc n) T s = record {
   number = number_in T s;
-  children = forest_of (λ l. tree_from n T (below T s l)) (chain 256 T s (first_in T s));
+  children = forest_by (λ l. tree_from n T (below T s l)) (chain 256 T s (first_in T s));
 }
 
 -- the tree of a table with so many slots
 unfoldable pub tree_read : ℕ → Cells → Tree
 tree_read size T = record {
   number = None;
-  children = forest_of (λ l. tree_from size T (below T 0 l)) (chain 256 T 0 (T.sibling 0));
+  children = forest_by (λ l. tree_from size T (below T 0 l)) (chain 256 T 0 (T.sibling 0));
 }

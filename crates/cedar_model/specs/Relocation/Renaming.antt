@@ -2,7 +2,7 @@
 use Rattle.std.specs.Prelude.{◌≡◌, ℕ, ◌<◌, ◌≤◌, List, length, take, slice_index_or, pos, bit_xor, cond, nat_eq}
 use Rattle.cedar_model.specs.declared.layout.Stored.TheVariants.{AtBase}
 use Rattle.cedar_model.specs.Table.Cells.{Cells, Held, IsPlace}
-use Rattle.cedar_model.specs.Meaning.Family.{Among, base_of, below, Family, Head, owned, top}
+use Rattle.cedar_model.specs.Meaning.Family.{Among, base_of, below, Family, Head, owned_slots, top}
 
 -- slot q now belongs to c, and nothing else has changed
 pub record ChecksAt (T T' : Cells) (q c : ℕ) : Type 0 where
@@ -45,7 +45,7 @@ pub record OwnsLabels (size : ℕ) (T : Cells) (s : ℕ) (ls : List ℕ) : Type 
   pub head : Head
   pub labels : List ℕ
   pub family : Family size T s head labels
-  pub owns : ls ≡ owned head labels
+  pub owns : ls ≡ owned_slots head labels
 
 -- slot a becomes slot b
 abbrev pub single : ℕ → ℕ → ℕ → ℕ

@@ -11,8 +11,8 @@ use Rattle.cedar_model.specs.Table.TableFields.{Fields, size_of}
 use Rattle.cedar_model.specs.Meaning.WellFormed.{cells_in, TableHolds}
 
 -- the slots as if slot k were free, whatever it still holds
-abbrev pub freed : Cells → ℕ → Cells
-freed T k = record {
+abbrev pub cells_without : Cells → ℕ → Cells
+cells_without T k = record {
   base = T.base;
   stored = T.stored;
   check = λ s. cond (nat_eq s k) (negsuc 0) (T.check s);
@@ -21,22 +21,22 @@ freed T k = record {
 }
 
 -- the slots as the tree sees them: slot k doesn't count if it is reserved
-abbrev pub seen : Bool → Cells → ℕ → Cells
-seen reserved T k = cond reserved (freed T k) T
+abbrev pub without_reserved : Bool → Cells → ℕ → Cells
+without_reserved reserved T k = cond reserved (cells_without T k) T
 
 -- the slots of p have moved to base b, and slot k is held in the root's name, though it is no part of the tree
 pub record SetReserved (before after : Fields) (p b k : ℕ) (ls ws : List ℕ) : Type 0 where
-  pub set : SetMoved (size_of before) (size_of after) (cells_in before) (freed (cells_in after) k) p b ls ws
+  pub set : SetMoved (size_of before) (size_of after) (cells_in before) (cells_without (cells_in after) k) p b ls ws
   pub reserved : (cells_in after).check k ≡ pos 0
-  pub tree : (f : Forest) → TableHolds before f → HoldsTree (size_of after) (freed (cells_in after) k) f
+  pub tree : (f : Forest) → TableHolds before f → HoldsTree (size_of after) (cells_without (cells_in after) k) f
 
 -- the node that was at slot a is at slot s, whose slot for label l is held in the root's name, though it is no part of
 -- the tree yet
 pub record Reserves (before after : Fields) (a l s : ℕ) : Type 0 where
   pub inside : s < size_of after
-  pub at : (w : List ℕ) → IsAt (cells_in before) w a → IsAt (freed (cells_in after) (below (cells_in after) s l)) w s
+  pub at : (w : List ℕ) → IsAt (cells_in before) w a → IsAt (cells_without (cells_in after) (below (cells_in after) s l)) w s
   pub not_root : s ≡ 0 → ⊥
   pub based : InRange (size_of after) ((cells_in after).stored s)
   pub reserved : (cells_in after).check (below (cells_in after) s l) ≡ pos 0
-  pub tree : (f : Forest) → TableHolds before f → HoldsTree (size_of after) (freed (cells_in after) (below (cells_in after) s l)) f
-  pub marks : KeepsMarks (cells_in before) (freed (cells_in after) (below (cells_in after) s l))
+  pub tree : (f : Forest) → TableHolds before f → HoldsTree (size_of after) (cells_without (cells_in after) (below (cells_in after) s l)) f
+  pub marks : KeepsMarks (cells_in before) (cells_without (cells_in after) (below (cells_in after) s l))

@@ -4,7 +4,7 @@ use Rattle.std.proofs.lemmas.Int.{ints}
 use Rattle.std.proofs.lemmas.Bool.{cases_eq, cases_lt, false≢true}
 use denote.Enum.Bare.{sameb}
 use Rattle.cedar_slots.specs.contracts.blocks.BlockType.{the_type}
-use Rattle.cedar_slots.specs.Blocks.{BlockFields, BlockLink, BlockLists, counts_at, fresh_counts, head_of, KeepsLinks, kind_of, ListRings, next_at, Popped, prev_at, replaced, ring_of, total}
+use Rattle.cedar_slots.specs.Blocks.{BlockFields, BlockLink, BlockLists, counts_at, fresh_counts, head_of, KeepsLinks, kind_of, ListRings, next_at, Popped, prev_at, lists_with, ring_of, total}
 use Rattle.cedar_slots.specs.declared.blocks.Counts.{Counts}
 use Rattle.cedar_slots.specs.declared.blocks.BlockType.{BlockType}
 use Rattle.cedar_slots.specs.declared.blocks.BlockType.TheVariants.{Open, Closed, Full}
@@ -140,12 +140,12 @@ module _ (old new : BlockFields) (e : ℕ) (lists : BlockType → List ℕ) (hel
 
   module _ (from to : BlockType) (rest : List ℕ) (all : (x : ℕ) → occurs x (lists from) ≡ occurs x (e ∷ rest)) (other_list : from ≡ to → ⊥) where
     abbrev moved : BlockType → List ℕ
-    moved = replaced (replaced lists from rest) to (e ∷ replaced lists from rest to)
+    moved = lists_with (lists_with lists from rest) to (e ∷ lists_with lists from rest to)
 
     moved_other : (k : BlockType) (b : ℕ) → (b ≡ e → ⊥) → occurs b (moved k) ≡ occurs b (lists k)
     moved_other k b h = elim (cases_kind k to) [
-      | inl is_to ↦ rw is_to (rw (replaced_same (replaced lists from rest) to (e ∷ replaced lists from rest to)) (occurs_other b e _ h ∙ ap (occurs b) (replaced_other lists from rest to (λ same. other_list (sym same)))))
-      | inr not_to ↦ rw (replaced_other (replaced lists from rest) to (e ∷ replaced lists from rest to) k not_to) (elim (cases_kind k from) [
+      | inl is_to ↦ rw is_to (rw (replaced_same (lists_with lists from rest) to (e ∷ lists_with lists from rest to)) (occurs_other b e _ h ∙ ap (occurs b) (replaced_other lists from rest to (λ same. other_list (sym same)))))
+      | inr not_to ↦ rw (replaced_other (lists_with lists from rest) to (e ∷ lists_with lists from rest to) k not_to) (elim (cases_kind k from) [
         | inl is_from ↦ rw is_from (rw (replaced_same lists from rest) (sym (all b ∙ occurs_other b e rest h)))
         | inr not_from ↦ ap (occurs b) (replaced_other lists from rest k not_from)
       ])
@@ -166,14 +166,14 @@ module _ (old new : BlockFields) (e : ℕ) (lists : BlockType → List ℕ) (hel
     }
       where
         once_to : occurs e (moved to) ≡ 1
-        once_to = omega (arith, ap (occurs e) (replaced_same (replaced lists from rest) to (e ∷ replaced lists from rest to)), occurs_same e (replaced lists from rest to), rings.apart e, list-total moved to e)
+        once_to = omega (arith, ap (occurs e) (replaced_same (lists_with lists from rest) to (e ∷ lists_with lists from rest to)), occurs_same e (lists_with lists from rest to), rings.apart e, list-total moved to e)
 
         in_to : (k : BlockType) → 0 < occurs e (moved k) → k ≡ to
         in_to k p = elim (cases_kind k to) [
           | inl is_to ↦ is_to
           | inr not_to ↦ elim (cases_kind k from) [
-            | inl is_from ↦ absurd (omega (arith, p, ap (occurs e) (replaced_other (replaced lists from rest) to (e ∷ replaced lists from rest to) k not_to), ap (occurs e) (subst (λ j. replaced lists from rest j ≡ rest) (sym is_from) (replaced_same lists from rest)), all e, occurs_same e rest, held.rings.apart e, list-total lists from e))
-            | inr not_from ↦ absurd (not_from (sym (held.only k e (omega (arith, p, ap (occurs e) (replaced_other (replaced lists from rest) to (e ∷ replaced lists from rest to) k not_to), ap (occurs e) (replaced_other lists from rest k not_from)))).2 ∙ was))
+            | inl is_from ↦ absurd (omega (arith, p, ap (occurs e) (replaced_other (lists_with lists from rest) to (e ∷ lists_with lists from rest to) k not_to), ap (occurs e) (subst (λ j. lists_with lists from rest j ≡ rest) (sym is_from) (replaced_same lists from rest)), all e, occurs_same e rest, held.rings.apart e, list-total lists from e))
+            | inr not_from ↦ absurd (not_from (sym (held.only k e (omega (arith, p, ap (occurs e) (replaced_other (lists_with lists from rest) to (e ∷ lists_with lists from rest to) k not_to), ap (occurs e) (replaced_other lists from rest k not_from)))).2 ∙ was))
           ]
         ]
 
@@ -200,9 +200,9 @@ pub leaving_in : (old mid : BlockFields) (e : ℕ) (lists : BlockType → List �
 leaving_in old mid e lists from l = pop_in mid lists old.active l.rings l.below from e l.inside
 
 pub coming_in : (old mid popped : BlockFields) (e : ℕ) (lists : BlockType → List ℕ) (from to : BlockType) → Leaving old mid e lists from → Popped popped lists from e → (unsigned_abs (head_of popped to) < old.active) × (unsigned_abs (prev_at popped.records (unsigned_abs (head_of popped to))) < old.active)
-coming_in old mid popped e lists from to l p = push_in popped (replaced lists from p.rest) old.active p.rings (λ x h. l.below x (omega (arith, h, total-replaced lists from p.rest x, p.others x))) to
+coming_in old mid popped e lists from to l p = push_in popped (lists_with lists from p.rest) old.active p.rings (λ x h. l.below x (omega (arith, h, total-replaced lists from p.rest x, p.others x))) to
 
-pub popped_absent : (old mid popped : BlockFields) (e : ℕ) (lists : BlockType → List ℕ) (from : BlockType) → Leaving old mid e lists from → (p : Popped popped lists from e) → total (replaced lists from p.rest) e ≡ 0
+pub popped_absent : (old mid popped : BlockFields) (e : ℕ) (lists : BlockType → List ℕ) (from : BlockType) → Leaving old mid e lists from → (p : Popped popped lists from e) → total (lists_with lists from p.rest) e ≡ 0
 popped_absent old mid popped e lists from l p = omega (arith, total-replaced lists from p.rest e, p.others e, occurs_same e p.rest, l.rings.apart e)
 
 -- ---- a block comes into use
@@ -217,25 +217,25 @@ module _ (old mid new : BlockFields) (lists : BlockType → List ℕ) (some : 0 
   pub activated_in : ListRings mid lists → (k : BlockType) → (unsigned_abs (head_of mid k) < old.active) × (unsigned_abs (prev_at mid.records (unsigned_abs (head_of mid k))) < old.active)
   activated_in rings k = push_in mid lists old.active rings (members_below old lists some held) k
 
-  opened_other : (k : BlockType) (b : ℕ) → (b ≡ old.active → ⊥) → occurs b (replaced lists Open (old.active ∷ lists Open) k) ≡ occurs b (lists k)
+  opened_other : (k : BlockType) (b : ℕ) → (b ≡ old.active → ⊥) → occurs b (lists_with lists Open (old.active ∷ lists Open) k) ≡ occurs b (lists k)
   opened_other Open b h = occurs_other b old.active (lists Open) h
   opened_other Closed b h = refl
   opened_other Full b h = refl
 
-  opened_only : (k : BlockType) → 0 < occurs old.active (replaced lists Open (old.active ∷ lists Open) k) → Open ≡ k
+  opened_only : (k : BlockType) → 0 < occurs old.active (lists_with lists Open (old.active ∷ lists Open) k) → Open ≡ k
   opened_only Open p = refl
   opened_only Closed p = absurd (omega (arith, p, absent_active, list-total lists Closed old.active))
   opened_only Full p = absurd (omega (arith, p, absent_active, list-total lists Full old.active))
 
-  pub BlockLists-activated : new.active ≡ old.active + 1 → new.max_trial ≡ old.max_trial → ((b : ℕ) → (b ≡ old.active → ⊥) → counts_at new.records b ≡ counts_at old.records b) → kind_of new.max_trial (counts_at new.records old.active) ≡ Open → ListRings new (replaced lists Open (old.active ∷ lists Open)) → BlockLists new (replaced lists Open (old.active ∷ lists Open))
+  pub BlockLists-activated : new.active ≡ old.active + 1 → new.max_trial ≡ old.max_trial → ((b : ℕ) → (b ≡ old.active → ⊥) → counts_at new.records b ≡ counts_at old.records b) → kind_of new.max_trial (counts_at new.records old.active) ≡ Open → ListRings new (lists_with lists Open (old.active ∷ lists Open)) → BlockLists new (lists_with lists Open (old.active ∷ lists Open))
   BlockLists-activated active max_trial others is_open rings = record {
     rings = rings;
     listed = λ b p q. elim (cases_eq b old.active) [
-      | inl this ↦ subst (λ n. occurs n (replaced lists Open (old.active ∷ lists Open) (kind_of new.max_trial (counts_at new.records n))) ≡ 1) (sym this) (subst (λ k. occurs old.active (replaced lists Open (old.active ∷ lists Open) k) ≡ 1) (sym is_open) (omega (arith, occurs_same old.active (lists Open), absent_active, list-total lists Open old.active)))
+      | inl this ↦ subst (λ n. occurs n (lists_with lists Open (old.active ∷ lists Open) (kind_of new.max_trial (counts_at new.records n))) ≡ 1) (sym this) (subst (λ k. occurs old.active (lists_with lists Open (old.active ∷ lists Open) k) ≡ 1) (sym is_open) (omega (arith, occurs_same old.active (lists Open), absent_active, list-total lists Open old.active)))
       | inr other ↦ opened_other _ b other ∙ subst (λ k. occurs b (lists k) ≡ 1) (sym (kind_same b other)) (held.listed b p (omega arith))
     ];
     only = λ k b p. elim (cases_eq b old.active) [
-      | inl this ↦ subst (λ n. (0 < n) × (n < new.active) × (kind_of new.max_trial (counts_at new.records n) ≡ k)) (sym this) (some, omega arith, is_open ∙ opened_only k (subst (λ n. 0 < occurs n (replaced lists Open (old.active ∷ lists Open) k)) this p))
+      | inl this ↦ subst (λ n. (0 < n) × (n < new.active) × (kind_of new.max_trial (counts_at new.records n) ≡ k)) (sym this) (some, omega arith, is_open ∙ opened_only k (subst (λ n. 0 < occurs n (lists_with lists Open (old.active ∷ lists Open) k)) this p))
       | inr other ↦ let r = held.only k b (omega (arith, p, opened_other k b other)) in (r.0, omega (arith, r.1), kind_same b other ∙ r.2)
     ];
   }

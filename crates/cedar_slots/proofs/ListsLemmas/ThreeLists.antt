@@ -2,7 +2,7 @@
 use Rattle.std.proofs.Common.{◌≡◌, ℕ, ◌+◌, ◌<◌, ◌≤◌, ◌⊎◌, List, [], ◌∷◌, ◌++◌, length, length-append, refl, sym, ap, subst, inl, inr, ◌∙◌, arith, pos, unsigned_abs}
 use Rattle.std.proofs.lemmas.Bool.{cases_eq}
 use Rattle.cedar_slots.specs.declared.records.BlockRecord.{BlockRecord}
-use Rattle.cedar_slots.specs.Blocks.{BlockFields, BlockLink, head_of, linked_blocks, ListRings, next_at, Popped, prev_at, replaced, ring_of, total}
+use Rattle.cedar_slots.specs.Blocks.{BlockFields, BlockLink, head_of, linked_blocks, ListRings, next_at, Popped, prev_at, lists_with, ring_of, total}
 use Rattle.cedar_slots.specs.declared.blocks.BlockType.{BlockType}
 use Rattle.cedar_slots.specs.declared.blocks.BlockType.TheVariants.{Open, Closed, Full}
 use Rattle.cedar_slots.specs.Ring.{first_of, occurs, Ring, Relinked}
@@ -28,12 +28,12 @@ cases_list P x y z Open = x
 cases_list P x y z Closed = y
 cases_list P x y z Full = z
 
-pub replaced_same : (lists : BlockType → List ℕ) (k : BlockType) (xs : List ℕ) → replaced lists k xs k ≡ xs
+pub replaced_same : (lists : BlockType → List ℕ) (k : BlockType) (xs : List ℕ) → lists_with lists k xs k ≡ xs
 replaced_same lists Open xs = refl
 replaced_same lists Closed xs = refl
 replaced_same lists Full xs = refl
 
-pub replaced_other : (lists : BlockType → List ℕ) (k : BlockType) (xs : List ℕ) (j : BlockType) → (j ≡ k → ⊥) → replaced lists k xs j ≡ lists j
+pub replaced_other : (lists : BlockType → List ℕ) (k : BlockType) (xs : List ℕ) (j : BlockType) → (j ≡ k → ⊥) → lists_with lists k xs j ≡ lists j
 replaced_other lists Open xs Open h = absurd (h refl)
 replaced_other lists Open xs Closed h = refl
 replaced_other lists Open xs Full h = refl
@@ -44,7 +44,7 @@ replaced_other lists Full xs Open h = refl
 replaced_other lists Full xs Closed h = refl
 replaced_other lists Full xs Full h = absurd (h refl)
 
-pub total-replaced : (lists : BlockType → List ℕ) (k : BlockType) (xs : List ℕ) (x : ℕ) → total (replaced lists k xs) x + occurs x (lists k) ≡ total lists x + occurs x xs
+pub total-replaced : (lists : BlockType → List ℕ) (k : BlockType) (xs : List ℕ) (x : ℕ) → total (lists_with lists k xs) x + occurs x (lists k) ≡ total lists x + occurs x xs
 total-replaced lists Open xs x = omega arith
 total-replaced lists Closed xs x = omega arith
 total-replaced lists Full xs x = omega arith
@@ -77,7 +77,7 @@ ring_of-append Full xs ys = refl
 
 -- ---- lists put together again once one was replaced
 
-rings_of : (new : BlockFields) (lists : BlockType → List ℕ) (k : BlockType) (xs : List ℕ) → ((x : ℕ) → total (replaced lists k xs) x ≤ 1) → Ring (BlockLink new.records) (ring_of k xs) → ((j : BlockType) → (j ≡ k → ⊥) → Ring (BlockLink new.records) (ring_of j (lists j))) → head_of new k ≡ pos (first_of xs) → ((j : BlockType) → (j ≡ k → ⊥) → head_of new j ≡ pos (first_of (lists j))) → ListRings new (replaced lists k xs)
+rings_of : (new : BlockFields) (lists : BlockType → List ℕ) (k : BlockType) (xs : List ℕ) → ((x : ℕ) → total (lists_with lists k xs) x ≤ 1) → Ring (BlockLink new.records) (ring_of k xs) → ((j : BlockType) → (j ≡ k → ⊥) → Ring (BlockLink new.records) (ring_of j (lists j))) → head_of new k ≡ pos (first_of xs) → ((j : BlockType) → (j ≡ k → ⊥) → head_of new j ≡ pos (first_of (lists j))) → ListRings new (lists_with lists k xs)
 rings_of new lists k xs apart ring others head heads = record {
   apart = apart;
   is_linked = λ j. elim (cases_kind j k) [
@@ -217,16 +217,16 @@ module _ (old new : BlockFields) (k : BlockType) (e : ℕ) (lists : BlockType �
   absent_at Closed = omega arith
   absent_at Full = omega arith
 
-  pushed_of : Ring (BlockLink new.records) (ring_of k (e ∷ lists k)) → ((j : BlockType) → (j ≡ k → ⊥) → Ring (BlockLink new.records) (ring_of j (lists j))) → ListRings new (replaced lists k (e ∷ lists k))
+  pushed_of : Ring (BlockLink new.records) (ring_of k (e ∷ lists k)) → ((j : BlockType) → (j ≡ k → ⊥) → Ring (BlockLink new.records) (ring_of j (lists j))) → ListRings new (lists_with lists k (e ∷ lists k))
   pushed_of ring others = rings_of new lists k (e ∷ lists k)
       (λ x. elim (cases_eq x e) [
-        | inl same ↦ subst (λ n. total (replaced lists k (e ∷ lists k)) n ≤ 1) (sym same) (omega (arith, total-replaced lists k (e ∷ lists k) e, occurs_same e (lists k), absent))
+        | inl same ↦ subst (λ n. total (lists_with lists k (e ∷ lists k)) n ≤ 1) (sym same) (omega (arith, total-replaced lists k (e ∷ lists k) e, occurs_same e (lists k), absent))
         | inr other ↦ omega (arith, total-replaced lists k (e ∷ lists k) x, occurs_other x e (lists k) other, rings.apart x)
       ])
       ring others head (λ j other. heads j other ∙ rings.headed j)
 
   -- the list was empty, and is not the full one
-  pub pushed_alone : (k ≡ Full → ⊥) → lists k ≡ [] → e < length old.records → new.records ≡ linked_blocks old.records e e → ListRings new (replaced lists k (e ∷ lists k))
+  pub pushed_alone : (k ≡ Full → ⊥) → lists k ≡ [] → e < length old.records → new.records ≡ linked_blocks old.records e e → ListRings new (lists_with lists k (e ∷ lists k))
   pushed_alone not_full none e_in records =
       let rs = old.records in
       let step = Relinked-linked_blocks rs e e e_in e_in in
@@ -242,7 +242,7 @@ module _ (old new : BlockFields) (k : BlockType) (e : ℕ) (lists : BlockType �
       alone Full p step = absurd (p refl)
 
   -- the block now stands before the head h of the list, and after last
-  pub pushed_linked : (last : ℕ) → Gap (BlockLink old.records) k (lists k) last → ((k ≡ Full) ⊎ (0 < length (lists k))) → e < length old.records → last < length old.records → first_of (lists k) < length old.records → new.records ≡ linked_blocks (linked_blocks old.records last e) e (first_of (lists k)) → ListRings new (replaced lists k (e ∷ lists k))
+  pub pushed_linked : (last : ℕ) → Gap (BlockLink old.records) k (lists k) last → ((k ≡ Full) ⊎ (0 < length (lists k))) → e < length old.records → last < length old.records → first_of (lists k) < length old.records → new.records ≡ linked_blocks (linked_blocks old.records last e) e (first_of (lists k)) → ListRings new (lists_with lists k (e ∷ lists k))
   pushed_linked last gap some e_in last_in head_in records =
       let rs = old.records in
       let h = first_of (lists k) in
@@ -289,10 +289,10 @@ module _ (old new : BlockFields) (k : BlockType) (e : ℕ) (lists : BlockType �
     head_is : unsigned_abs (head_of old k) ≡ first_of (lists k)
     head_is = ap unsigned_abs (rings.headed k)
 
-    pub Pushed-alone : unsigned_abs (head_of old k) ≡ 0 → (k ≡ Full → ⊥) → new.records ≡ linked_blocks old.records e e → ListRings new (replaced lists k (e ∷ lists k))
+    pub Pushed-alone : unsigned_abs (head_of old k) ≡ 0 → (k ≡ Full → ⊥) → new.records ≡ linked_blocks old.records e e → ListRings new (lists_with lists k (e ∷ lists k))
     Pushed-alone none not_full records = pushed_alone old new k e lists rings absent heads head_new not_full (empty_list lists rings.apart k (sym head_is ∙ none)) e_in records
 
-    pub Pushed-linked : (head last : ℕ) → head ≡ unsigned_abs (head_of old k) → last ≡ unsigned_abs (prev_at old.records head) → ((k ≡ Full) ⊎ (head ≡ 0 → ⊥)) → head < length old.records → last < length old.records → new.records ≡ linked_blocks (linked_blocks old.records last e) e head → ListRings new (replaced lists k (e ∷ lists k))
+    pub Pushed-linked : (head last : ℕ) → head ≡ unsigned_abs (head_of old k) → last ≡ unsigned_abs (prev_at old.records head) → ((k ≡ Full) ⊎ (head ≡ 0 → ⊥)) → head < length old.records → last < length old.records → new.records ≡ linked_blocks (linked_blocks old.records last e) e head → ListRings new (lists_with lists k (e ∷ lists k))
     Pushed-linked head last head_eq last_eq some head_in last_in records =
         let head_same : head ≡ first_of (lists k) = head_eq ∙ head_is in
         let some' : (k ≡ Full) ⊎ (0 < length (lists k)) = elim some [ inl full ↦ inl full | inr h ↦ inr (nonempty (lists k) (λ none. h (head_same ∙ none))) ] in

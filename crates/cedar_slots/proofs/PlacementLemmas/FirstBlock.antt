@@ -7,7 +7,7 @@ use Rattle.cedar_slots.specs.declared.records.NodeRecord.{NodeRecord}
 use Rattle.cedar_slots.specs.declared.records.NInfoRecord.{NInfoRecord}
 use Rattle.cedar_slots.specs.Blocks.{blank_block, BlockFields, BlockLink, counts_at, counts_of, HasLists, head_of, ring_of}
 use Rattle.cedar_slots.specs.declared.blocks.BlockType.TheVariants.{Open, Closed, Full}
-use Rattle.cedar_slots.specs.Places.{Bounded, Counted, FreeBlock, IsNew, IsSlotLimit, IsTable, PlaceFields, reject_at, Rejects, root_block, Sound, Within}
+use Rattle.cedar_slots.specs.Places.{Bounded, Counted, FreeBlock, IsNewPlaces, IsSlotLimit, IsTable, PlaceFields, reject_at, Rejects, root_block, Sound, Within}
 use Rattle.cedar_slots.specs.Ring.{first_of, Ring}
 use Rattle.cedar_slots.specs.Slots.{blank_info, blank_node, check_at, info_at, is_free, FreeRing, SlotLink}
 use Rattle.std.proofs.Math.Pow.{pow_mono}
@@ -121,7 +121,7 @@ infos_blank infos n is s = ap (λ v. info_at v s) is ∙ elim (cases_lt s n) [
   | inr past ↦ get_or_past (replicate n blank_info) s blank_info (omega (arith, past, length-replicate n blank_info))
 ]
 
-pub Sound-fresh : (places : PlaceFields) (trials : ℤ) → IsNew places trials → pos 1 ≤ℤ trials → Sound places
+pub Sound-fresh : (places : PlaceFields) (trials : ℤ) → IsNewPlaces places trials → pos 1 ≤ℤ trials → Sound places
 Sound-fresh places trials new tried = Sound-new places new.nodes_len (ap length new.infos ∙ length-replicate 256 blank_info) (infos_blank places.slots.infos 256 new.infos) new.steps new.last new.records (ap length new.records)
     (HasLists-new places.blocks new.records (new.heads Full) (new.heads Closed) (new.heads Open) new.active) new.active
     (subst (λ z. pos 1 ≤ℤ z) (sym new.max_trial) tried)
@@ -131,7 +131,7 @@ Sound-fresh places trials new tried = Sound-new places new.nodes_len (ap length 
 pub limit_least : (slots : ℕ) → IsSlotLimit slots → 256 ≤ slots
 limit_least slots limit = omega (arith, limit.power.1, pow_mono {i = 0} {j = limit.power.0} (omega arith))
 
-pub IsTable-new : (slots : ℕ) (places : PlaceFields) (trials : ℤ) → IsSlotLimit slots → Sound places → IsNew places trials → IsTable slots places
+pub IsTable-new : (slots : ℕ) (places : PlaceFields) (trials : ℤ) → IsSlotLimit slots → Sound places → IsNewPlaces places trials → IsTable slots places
 IsTable-new slots places trials limit sound new = record {
   sound = sound;
   limit = limit;

@@ -9,7 +9,7 @@ use Rattle.cedar_slots.specs.declared.records.BlockRecord.{BlockRecord}
 use Rattle.cedar_slots.specs.declared.blocks.Counts.{Counts}
 use Rattle.cedar_slots.specs.Places.{AddsBlock, Bounded, Counted, FreeBlock, Grown, IsPowerOfTwo, IsSlotLimit, PlaceFields, Rejects, room_for_one, Shaped, Sound}
 use Rattle.cedar_slots.specs.Ring.{first_of, occurs}
-use Rattle.cedar_slots.specs.Slots.{info_at, is_free, node_at, FreeRing, SlotLink}
+use Rattle.cedar_slots.specs.Slots.{info_at, is_free, node_record_at, FreeRing, SlotLink}
 use Rattle.cedar_slots.specs.Blocks.{counts_at, counts_of, fresh_counts, HasLists, kind_of, SameFrom}
 use Rattle.cedar_slots.proofs.RingsLemmas.LinkedSlots.{FreeRing-frame, member_free}
 use Rattle.cedar_slots.proofs.ListsLemmas.BlockMoved.{ListRings-kept}
@@ -92,7 +92,7 @@ Sound-grown old new sound grown shaped doubled =
 pub record Activated (old new : PlaceFields) : Type 0 where
   pub steps : (s : ℕ) → 256 * old.blocks.active ≤ s → s < 256 * old.blocks.active + 255 → SlotLink new.slots.nodes s (s + 1)
   pub last : SlotLink new.slots.nodes (256 * old.blocks.active + 255) (256 * old.blocks.active)
-  pub outside : (s : ℕ) → (s < 256 * old.blocks.active) ⊎ (256 * old.blocks.active + 256 ≤ s) → node_at new.slots.nodes s ≡ node_at old.slots.nodes s
+  pub outside : (s : ℕ) → (s < 256 * old.blocks.active) ⊎ (256 * old.blocks.active + 256 ≤ s) → node_record_at new.slots.nodes s ≡ node_record_at old.slots.nodes s
   pub infos : new.slots.infos ≡ old.slots.infos
   pub nodes_len : length new.slots.nodes ≡ length old.slots.nodes
   pub lists : HasLists new.blocks
@@ -115,7 +115,7 @@ counted_fresh counts n xs b positive len first num e_head = record {
 }
 
 module _ (old new : PlaceFields) (sound : Sound old) (room : old.blocks.active < length old.blocks.records) (made : Activated old new) where
-  nodes_outside : (s : ℕ) → (s / 256 ≡ old.blocks.active → ⊥) → node_at new.slots.nodes s ≡ node_at old.slots.nodes s
+  nodes_outside : (s : ℕ) → (s / 256 ≡ old.blocks.active → ⊥) → node_record_at new.slots.nodes s ≡ node_record_at old.slots.nodes s
   nodes_outside s away = made.outside s (beside old.blocks.active s away)
 
   infos_same : (s : ℕ) → info_at new.slots.infos s ≡ info_at old.slots.infos s

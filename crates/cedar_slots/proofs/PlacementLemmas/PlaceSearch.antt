@@ -14,9 +14,9 @@ use Rattle.cedar_slots.specs.Blocks.{BlockFields, BlockLists, counts_at, HasList
 use Rattle.cedar_slots.specs.declared.blocks.Counts.{Counts}
 use Rattle.cedar_slots.specs.declared.blocks.BlockType.{BlockType}
 use Rattle.cedar_slots.specs.declared.blocks.BlockType.TheVariants.{Open, Closed, Full}
-use Rattle.cedar_slots.specs.Places.{AddsBlock, Bounded, Counted, IsBase, IsFreePlace, IsOpen, IsStart, PlaceFields, Pruned, reject_at, Rejects, SameSlots, Sound, Within}
+use Rattle.cedar_slots.specs.Places.{AddsBlock, Bounded, Counted, IsBase, IsFreePlace, IsOpenBlock, IsStart, PlaceFields, Pruned, reject_at, Rejects, SameSlots, Sound, Within}
 use Rattle.cedar_slots.specs.Ring.{first_of, occurs}
-use Rattle.cedar_slots.specs.Slots.{AllFree, check_at, node_at, info_at, is_free, FreeRing, SlotLink}
+use Rattle.cedar_slots.specs.Slots.{AllFree, check_at, node_record_at, info_at, is_free, FreeRing, SlotLink}
 use Rattle.cedar_slots.proofs.RingsLemmas.Ring.{around, length-le-range, occurs-append, occurs-le-length, occurs_same, occurs_other, place_of, Ring-turn}
 use Rattle.cedar_slots.proofs.RingsLemmas.LinkedSlots.{free_in, free_member, FreeRing-apart, member_free, neighbours_of, next_is}
 use Rattle.cedar_slots.proofs.ListsLemmas.LinkedBlocks.{kind_of_closed, kind_of_full}
@@ -32,14 +32,14 @@ pub Sound-recounted : (old new : PlaceFields) (b : ℕ) → Sound old → b < ol
 Sound-recounted old new b sound b_in was now blocks slots ys ring counted = record {
   shaped = Shaped-kept old new sound.shaped blocks.active blocks.len (ap (λ v. length v.nodes) slots) (ap (λ v. length v.infos) slots);
   doubled = (sound.doubled.0, blocks.len ∙ sound.doubled.1);
-  free = HasFree-changed old new b sound.free blocks.active (λ s _. ap (λ v. node_at v.nodes s) slots) (λ s _. ap (λ v. info_at v.infos s) slots) blocks.others ys (record {
+  free = HasFree-changed old new b sound.free blocks.active (λ s _. ap (λ v. node_record_at v.nodes s) slots) (λ s _. ap (λ v. info_at v.infos s) slots) blocks.others ys (record {
     ring = subst (λ v. FreeRing v.nodes v.infos b ys) (sym slots) ring;
     counted = subst (λ n. Counted n b ys) (sym blocks.now_is) counted;
   });
   lists = blocks.lists;
   pruned = blocks.pruned;
   rejects = blocks.rejects;
-  inactive = Inactive-changed old new b sound.inactive b_in blocks.active (λ s _. ap (λ v. node_at v.nodes s) slots) (λ s _. ap (λ v. info_at v.infos s) slots) blocks.idle;
+  inactive = Inactive-changed old new b sound.inactive b_in blocks.active (λ s _. ap (λ v. node_record_at v.nodes s) slots) (λ s _. ap (λ v. info_at v.infos s) slots) blocks.idle;
 }
 
 -- ---- a ring that begins at another of its members
@@ -122,7 +122,7 @@ open_not_tried z counts is_open tried = elim (cases_Bool (int_eq counts.num (pos
     other_kind : (k : BlockType) → k ≡ Open → (k ≡ Open → ⊥) → ⊥
     other_kind k e h = h e
 
-pub open_trial : (blocks : BlockFields) (b : ℕ) → Pruned blocks → IsOpen blocks b → (counts : Counts) → counts ≡ counts_at blocks.records b → (pos 0 ≤ℤ counts.trial) × (counts.trial <ℤ blocks.max_trial)
+pub open_trial : (blocks : BlockFields) (b : ℕ) → Pruned blocks → IsOpenBlock blocks b → (counts : Counts) → counts ≡ counts_at blocks.records b → (pos 0 ≤ℤ counts.trial) × (counts.trial <ℤ blocks.max_trial)
 open_trial blocks b pruned is counts read =
     let bounds = subst (Bounded blocks.max_trial) (sym read) (pruned.bounded b is.is_active) in
     (bounds.trial.least, strictly counts.trial blocks.max_trial bounds.trial.most (open_not_tried blocks.max_trial counts (ap (kind_of blocks.max_trial) read ∙ is.open_kind)))
@@ -140,7 +140,7 @@ pub Counted-same : (was now : Counts) (b : ℕ) (xs : List ℕ) → Counted was 
 Counted-same was now b xs counted num e_head = record { num = num ∙ counted.num; e_head = λ some. e_head ∙ counted.e_head some }
 
 -- the table once a search has failed in the block b, between which the reject values were lowered
-pub Sound-failed : (old mid new : PlaceFields) (b : ℕ) (sound : Sound old) → IsOpen old.blocks b → (was now : Counts) → was ≡ counts_at old.blocks.records b → mid.slots ≡ old.slots → mid.blocks ≡ old.blocks → Rejects mid.reject → counts_at new.blocks.records b ≡ now → HasLists new.blocks → new.blocks.active ≡ mid.blocks.active → length new.blocks.records ≡ length mid.blocks.records → new.blocks.max_trial ≡ mid.blocks.max_trial → ((c : ℕ) → (c ≡ b → ⊥) → counts_at new.blocks.records c ≡ counts_at mid.blocks.records c) → SameFrom mid.blocks.active mid.blocks.records new.blocks.records → Bounded old.blocks.max_trial now → now.num ≡ was.num → now.e_head ≡ was.e_head → new.slots ≡ mid.slots → new.reject ≡ mid.reject → Sound new
+pub Sound-failed : (old mid new : PlaceFields) (b : ℕ) (sound : Sound old) → IsOpenBlock old.blocks b → (was now : Counts) → was ≡ counts_at old.blocks.records b → mid.slots ≡ old.slots → mid.blocks ≡ old.blocks → Rejects mid.reject → counts_at new.blocks.records b ≡ now → HasLists new.blocks → new.blocks.active ≡ mid.blocks.active → length new.blocks.records ≡ length mid.blocks.records → new.blocks.max_trial ≡ mid.blocks.max_trial → ((c : ℕ) → (c ≡ b → ⊥) → counts_at new.blocks.records c ≡ counts_at mid.blocks.records c) → SameFrom mid.blocks.active mid.blocks.records new.blocks.records → Bounded old.blocks.max_trial now → now.num ≡ was.num → now.e_head ≡ was.e_head → new.slots ≡ mid.slots → new.reject ≡ mid.reject → Sound new
 Sound-failed old mid new b sound is was now read slots blocks rejects made lists active len max_trial others idle bounded num e_head new_slots new_reject =
     let here = sound.free b is.is_active in
     let max_same : new.blocks.max_trial ≡ old.blocks.max_trial = max_trial ∙ ap (λ (v : BlockFields). v.max_trial) blocks in
@@ -241,13 +241,13 @@ open_around blocks lists rings e inside =
           ];
     }
 
-listed_open : (blocks : BlockFields) (lists : BlockType → List ℕ) → BlockLists blocks lists → (b : ℕ) → 0 < occurs b (lists Open) → IsOpen blocks b
+listed_open : (blocks : BlockFields) (lists : BlockType → List ℕ) → BlockLists blocks lists → (b : ℕ) → 0 < occurs b (lists Open) → IsOpenBlock blocks b
 listed_open blocks lists held b inside = let only = held.only Open b inside in record { not_root = only.0; is_active = only.1; open_kind = only.2 }
 
-open_listed : (blocks : BlockFields) (lists : BlockType → List ℕ) → BlockLists blocks lists → (b : ℕ) → IsOpen blocks b → 0 < occurs b (lists Open)
+open_listed : (blocks : BlockFields) (lists : BlockType → List ℕ) → BlockLists blocks lists → (b : ℕ) → IsOpenBlock blocks b → 0 < occurs b (lists Open)
 open_listed blocks lists held b is = let one : occurs b (lists Open) ≡ 1 = subst (λ k. occurs b (lists k) ≡ 1) is.open_kind (held.listed b is.not_root is.is_active) in omega arith
 
-pub head_open : (table : PlaceFields) → Sound table → (b : ℕ) → b ≡ unsigned_abs (head_of table.blocks Open) → (b ≡ 0 → ⊥) → IsOpen table.blocks b
+pub head_open : (table : PlaceFields) → Sound table → (b : ℕ) → b ≡ unsigned_abs (head_of table.blocks Open) → (b ≡ 0 → ⊥) → IsOpenBlock table.blocks b
 head_open table sound b first some =
     let held = sound.lists.1 in
     listed_open table.blocks sound.lists.0 held b (first_occurs (sound.lists.0 Open) b (first ∙ ap unsigned_abs (held.rings.headed Open)) some)
@@ -256,23 +256,23 @@ head_open table sound b first some =
     first_occurs [] b e h = absurd (h e)
     first_occurs (x ∷ xs) b e h = subst (λ n. 0 < occurs n (x ∷ xs)) (sym e) (omega (arith, occurs_same x xs))
 
-pub last_open : (table : PlaceFields) → Sound table → (b last : ℕ) → IsOpen table.blocks b → last ≡ unsigned_abs (prev_at table.blocks.records b) → IsOpen table.blocks last
+pub last_open : (table : PlaceFields) → Sound table → (b last : ℕ) → IsOpenBlock table.blocks b → last ≡ unsigned_abs (prev_at table.blocks.records b) → IsOpenBlock table.blocks last
 last_open table sound b last is last_is =
     let held = sound.lists.1 in
     rw last_is (listed_open table.blocks sound.lists.0 held _ (open_around table.blocks sound.lists.0 held.rings b (open_listed table.blocks sound.lists.0 held b is)).last_in)
 
-pub next_open : (table : PlaceFields) → Sound table → (b next : ℕ) → IsOpen table.blocks b → next ≡ unsigned_abs (next_at table.blocks.records b) → IsOpen table.blocks next
+pub next_open : (table : PlaceFields) → Sound table → (b next : ℕ) → IsOpenBlock table.blocks b → next ≡ unsigned_abs (next_at table.blocks.records b) → IsOpenBlock table.blocks next
 next_open table sound b next is next_is =
     let held = sound.lists.1 in
     rw next_is (listed_open table.blocks sound.lists.0 held _ (open_around table.blocks sound.lists.0 held.rings b (open_listed table.blocks sound.lists.0 held b is)).next_in)
 
 -- the block after one that isn't the last is another one
-pub next_other : (table : PlaceFields) → Sound table → (b next last : ℕ) → IsOpen table.blocks b → IsOpen table.blocks last → (b ≡ last → ⊥) → next ≡ unsigned_abs (next_at table.blocks.records b) → next ≡ b → ⊥
+pub next_other : (table : PlaceFields) → Sound table → (b next last : ℕ) → IsOpenBlock table.blocks b → IsOpenBlock table.blocks last → (b ≡ last → ⊥) → next ≡ unsigned_abs (next_at table.blocks.records b) → next ≡ b → ⊥
 next_other table sound b next last is last_is other next_is same =
     let held = sound.lists.1 in
     other (sym ((open_around table.blocks sound.lists.0 held.rings b (open_listed table.blocks sound.lists.0 held b is)).alone (sym next_is ∙ same) last (open_listed table.blocks sound.lists.0 held last last_is)))
 
-pub IsOpen-kept : (old new : BlockFields) (e : ℕ) → new.active ≡ old.active → new.max_trial ≡ old.max_trial → ((b : ℕ) → (b ≡ e → ⊥) → counts_at new.records b ≡ counts_at old.records b) → (b : ℕ) → (b ≡ e → ⊥) → IsOpen old b → IsOpen new b
+pub IsOpen-kept : (old new : BlockFields) (e : ℕ) → new.active ≡ old.active → new.max_trial ≡ old.max_trial → ((b : ℕ) → (b ≡ e → ⊥) → counts_at new.records b ≡ counts_at old.records b) → (b : ℕ) → (b ≡ e → ⊥) → IsOpenBlock old b → IsOpenBlock new b
 IsOpen-kept old new e active max_trial others b other is = record {
   not_root = is.not_root;
   is_active = omega (arith, is.is_active, active);
@@ -304,7 +304,7 @@ AddsBlock-from old mid new b slots active len max_trial added = record {
   is_next = added.is_next ∙ active;
   active = added.active ∙ ap (λ n. n + 1) active;
   free = added.free;
-  nodes = λ s away. added.nodes s away ∙ ap (λ v. node_at v.nodes s) slots;
+  nodes = λ s away. added.nodes s away ∙ ap (λ v. node_record_at v.nodes s) slots;
   infos = λ s. added.infos s ∙ ap (λ v. info_at v.infos s) slots;
   capacity = added.capacity ∙ ap (λ n. cond (eqb n (length mid.blocks.records)) (2 * length mid.blocks.records) (length mid.blocks.records)) active ∙ ap (λ n. cond (eqb old.blocks.active n) (2 * n) n) len;
   max_trial = added.max_trial ∙ max_trial;

@@ -6,11 +6,11 @@ use Rattle.std.proofs.lemmas.Bool.{cases_eq, cases_lt, cases_Bool, ne_eqb, eq-eq
 use Rattle.cedar_slots.specs.declared.records.NodeRecord.{NodeRecord}
 use Rattle.cedar_slots.specs.declared.records.NInfoRecord.{NInfoRecord}
 use Rattle.cedar_slots.specs.Ring.{first_of, occurs, Ring, Relinked}
-use Rattle.cedar_slots.specs.Slots.{blank_node, node_at, base_at, check_at, set_check, set_base, SlotLink, linked, taken, taken_between, given_alone, given_between, given_after, SameOutside, is_free, FreeRing, info_at, blank_info}
+use Rattle.cedar_slots.specs.Slots.{blank_node, node_record_at, base_at, check_at, set_check, set_base, SlotLink, nodes_after_link, nodes_after_take, taken_between, given_alone, given_between, given_after, SameOutside, is_free, FreeRing, info_at, blank_info}
 use Rattle.cedar_slots.proofs.RingsLemmas.Ring.{OneToOne, place_of, Around, around, around_first, Ring-frame, Ring-remove, Ring-insert, Apart, occurs-append, occurs_same, occurs_other}
 
-pub linked_is : (nodes : List NodeRecord) (a b : ℕ) (x y : NodeRecord) (to from : ℤ) → a < length nodes → b < length nodes → x ≡ get_or nodes a x → y ≡ get_or (set nodes a (record x { check = to })) b y → to ≡ neg_ℤ (pos b) → from ≡ neg_ℤ (pos a) → set (set nodes a (record x { check = to })) b (record y { base = from }) ≡ linked nodes a b
-unfolding linked
+pub linked_is : (nodes : List NodeRecord) (a b : ℕ) (x y : NodeRecord) (to from : ℤ) → a < length nodes → b < length nodes → x ≡ get_or nodes a x → y ≡ get_or (set nodes a (record x { check = to })) b y → to ≡ neg_ℤ (pos b) → from ≡ neg_ℤ (pos a) → set (set nodes a (record x { check = to })) b (record y { base = from }) ≡ nodes_after_link nodes a b
+unfolding nodes_after_link
 linked_is nodes a b x y to from a_in b_in p q r s =
     let p' = get_or_read nodes a x a_in p blank_node in
     let q' = get_or_read (set nodes a (record x { check = to })) b y (omega (arith, b_in, length-set nodes a (record x { check = to }))) q blank_node in
@@ -64,52 +64,52 @@ check-set_base nodes a z s h = elim (cases_eq s a) [
   | inr e ↦ ap (λ (n : NodeRecord). n.check) (get_or-set_other nodes a s _ blank_node e)
 ]
 
-pub length-linked : (nodes : List NodeRecord) (a b : ℕ) → length (linked nodes a b) ≡ length nodes
-unfolding linked
+pub length-linked : (nodes : List NodeRecord) (a b : ℕ) → length (nodes_after_link nodes a b) ≡ length nodes
+unfolding nodes_after_link
 length-linked nodes a b = length-set _ b _ ∙ length-set nodes a _
 
 module _ (nodes : List NodeRecord) (a b : ℕ) (a_in : a < length nodes) (b_in : b < length nodes) where
   b_in' : b < length (set_check nodes a (neg_ℤ (pos b)))
   b_in' = subst (λ n. b < n) (sym (length-set nodes a _)) b_in
 
-  pub check-linked_same : check_at (linked nodes a b) a ≡ neg_ℤ (pos b)
-  unfolding linked
+  pub check-linked_same : check_at (nodes_after_link nodes a b) a ≡ neg_ℤ (pos b)
+  unfolding nodes_after_link
   check-linked_same = check-set_base _ b _ a b_in' ∙ check-set_check_same nodes a _ a_in
 
-  pub check-linked_other : (s : ℕ) → (s ≡ a → ⊥) → check_at (linked nodes a b) s ≡ check_at nodes s
-  unfolding linked
+  pub check-linked_other : (s : ℕ) → (s ≡ a → ⊥) → check_at (nodes_after_link nodes a b) s ≡ check_at nodes s
+  unfolding nodes_after_link
   check-linked_other s h = check-set_base _ b _ s b_in' ∙ check-set_check_other nodes a _ s h
 
-  pub base-linked_same : base_at (linked nodes a b) b ≡ neg_ℤ (pos a)
-  unfolding linked
+  pub base-linked_same : base_at (nodes_after_link nodes a b) b ≡ neg_ℤ (pos a)
+  unfolding nodes_after_link
   base-linked_same = base-set_base_same _ b _ b_in'
 
-  pub base-linked_other : (s : ℕ) → (s ≡ b → ⊥) → base_at (linked nodes a b) s ≡ base_at nodes s
-  unfolding linked
+  pub base-linked_other : (s : ℕ) → (s ≡ b → ⊥) → base_at (nodes_after_link nodes a b) s ≡ base_at nodes s
+  unfolding nodes_after_link
   base-linked_other s h = base-set_base_other _ b _ s h ∙ base-set_check nodes a _ s a_in
 
-  pub Relinked-linked : Relinked (SlotLink nodes) (SlotLink (linked nodes a b)) a b
+  pub Relinked-linked : Relinked (SlotLink nodes) (SlotLink (nodes_after_link nodes a b)) a b
   Relinked-linked = record {
     made = (check-linked_same, base-linked_same);
     kept = λ x y p q h. (check-linked_other x p ∙ h.0, base-linked_other y q ∙ h.1);
   }
 
-  pub free-linked_same : 0 < a → 0 < b → is_free (linked nodes a b) a ≡ true
+  pub free-linked_same : 0 < a → 0 < b → is_free (nodes_after_link nodes a b) a ≡ true
   free-linked_same p q = and_from _ _ (ap not (ne_eqb a 0 (λ e. omega arith))) (ap (λ z. int_lt z (pos 0)) check-linked_same ∙ neg_pos_below b q)
 
-  pub free-linked_other : (s : ℕ) → (s ≡ a → ⊥) → is_free (linked nodes a b) s ≡ is_free nodes s
+  pub free-linked_other : (s : ℕ) → (s ≡ a → ⊥) → is_free (nodes_after_link nodes a b) s ≡ is_free nodes s
   free-linked_other s h = ap (λ z. not (eqb s 0) && int_lt z (pos 0)) (check-linked_other s h)
 
 -- ---- a slot that is taken from between a and b
 
 module _ (nodes : List NodeRecord) (a b e : ℕ) (node : NodeRecord) (a_in : a < length nodes) (b_in : b < length nodes) (e_in : e < length nodes) where
-  e_in' : e < length (linked nodes a b)
+  e_in' : e < length (nodes_after_link nodes a b)
   e_in' = omega (arith, e_in, length-linked nodes a b)
 
-  pub node-taken_same : node_at (taken_between nodes a b e node) e ≡ node
+  pub node-taken_same : node_record_at (taken_between nodes a b e node) e ≡ node
   node-taken_same = get_or-set_same _ e node blank_node e_in'
 
-  node-taken_other : (s : ℕ) → (s ≡ e → ⊥) → node_at (taken_between nodes a b e node) s ≡ node_at (linked nodes a b) s
+  node-taken_other : (s : ℕ) → (s ≡ e → ⊥) → node_record_at (taken_between nodes a b e node) s ≡ node_record_at (nodes_after_link nodes a b) s
   node-taken_other s h = get_or-set_other _ e s node blank_node h
 
   check-taken_other : (s : ℕ) → (s ≡ a → ⊥) → (s ≡ e → ⊥) → check_at (taken_between nodes a b e node) s ≡ check_at nodes s
@@ -214,7 +214,7 @@ neighbours_of nodes infos b xs ring e rest e_in all near = elim (cases_eq (lengt
 ]
 
 -- a ring depends on the slots of its block alone
-pub FreeRing-frame : (nodes nodes' : List NodeRecord) (infos infos' : List NInfoRecord) (b : ℕ) (xs : List ℕ) → ((s : ℕ) → s / 256 ≡ b → node_at nodes' s ≡ node_at nodes s) → ((s : ℕ) → s / 256 ≡ b → info_at infos' s ≡ info_at infos s) → FreeRing nodes infos b xs → FreeRing nodes' infos' b xs
+pub FreeRing-frame : (nodes nodes' : List NodeRecord) (infos infos' : List NInfoRecord) (b : ℕ) (xs : List ℕ) → ((s : ℕ) → s / 256 ≡ b → node_record_at nodes' s ≡ node_record_at nodes s) → ((s : ℕ) → s / 256 ≡ b → info_at infos' s ≡ info_at infos s) → FreeRing nodes infos b xs → FreeRing nodes' infos' b xs
 FreeRing-frame nodes nodes' infos infos' b xs same same_infos ring = record {
   once = λ s. elim (cases_eq (s / 256) b) [
     | inl here ↦ ring.once s ∙ ap (λ (n : NodeRecord). cond (not (eqb s 0) && int_lt n.check (pos 0) && eqb (s / 256) b) 1 0) (sym (same s here))
@@ -232,22 +232,22 @@ FreeRing-frame nodes nodes' infos infos' b xs same same_infos ring = record {
 -- what taking e leaves of the ring xs of its block b
 pub record RingAfterTake (nodes : List NodeRecord) (infos : List NInfoRecord) (b e : ℕ) (node : NodeRecord) (xs : List ℕ) : Type 0 where
   pub rest : List ℕ
-  pub ring : FreeRing (taken nodes e node) infos b rest
+  pub ring : FreeRing (nodes_after_take nodes e node) infos b rest
   pub less : Less e (unsigned_abs (check_at nodes e)) xs rest
   pub last_in : unsigned_abs (base_at nodes e) < length nodes
   pub next_in : unsigned_abs (check_at nodes e) < length nodes
-  pub outside : SameOutside b nodes (taken nodes e node)
-  pub holds : node_at (taken nodes e node) e ≡ node
-  pub now_used : is_free (taken nodes e node) e ≡ false
-  pub others : (s : ℕ) → (s ≡ e → ⊥) → is_free (taken nodes e node) s ≡ is_free nodes s
-  pub used_kept : (s : ℕ) → (s ≡ e → ⊥) → is_free nodes s ≡ false → node_at (taken nodes e node) s ≡ node_at nodes s
+  pub outside : SameOutside b nodes (nodes_after_take nodes e node)
+  pub holds : node_record_at (nodes_after_take nodes e node) e ≡ node
+  pub now_used : is_free (nodes_after_take nodes e node) e ≡ false
+  pub others : (s : ℕ) → (s ≡ e → ⊥) → is_free (nodes_after_take nodes e node) s ≡ is_free nodes s
+  pub used_kept : (s : ℕ) → (s ≡ e → ⊥) → is_free nodes s ≡ false → node_record_at (nodes_after_take nodes e node) s ≡ node_record_at nodes s
 
-pub node-linked_other : (nodes : List NodeRecord) (a b s : ℕ) → (s ≡ a → ⊥) → (s ≡ b → ⊥) → node_at (linked nodes a b) s ≡ node_at nodes s
-unfolding linked
+pub node-linked_other : (nodes : List NodeRecord) (a b s : ℕ) → (s ≡ a → ⊥) → (s ≡ b → ⊥) → node_record_at (nodes_after_link nodes a b) s ≡ node_record_at nodes s
+unfolding nodes_after_link
 node-linked_other nodes a b s p q = get_or-set_other _ b s _ blank_node q ∙ get_or-set_other nodes a s _ blank_node p
 
-taken_is : (nodes : List NodeRecord) (b e last next : ℕ) (node : NodeRecord) → Neighbours nodes b e last next → taken nodes e node ≡ taken_between nodes last next e node
-unfolding taken
+taken_is : (nodes : List NodeRecord) (b e last next : ℕ) (node : NodeRecord) → Neighbours nodes b e last next → nodes_after_take nodes e node ≡ taken_between nodes last next e node
+unfolding nodes_after_take
 taken_is nodes b e last next node near = ap (λ n. taken_between nodes n (unsigned_abs (check_at nodes e)) e node) (last_is nodes b e last next near) ∙ ap (λ n. taken_between nodes last n e node) (next_is nodes b e last next near)
 
 take_from : (nodes : List NodeRecord) (infos : List NInfoRecord) (b : ℕ) (node : NodeRecord) (e : ℕ) (before after : List ℕ) → FreeRing nodes infos b (before ++ e ∷ after) → int_lt node.check (pos 0) ≡ false → RingAfterTake nodes infos b e node (before ++ e ∷ after)
@@ -263,10 +263,10 @@ take_from nodes infos b node e before after ring used =
     let last_in = free_in nodes last near.last_free in
     let next_in = free_in nodes next near.next_free in
     let e_in = free_in nodes e here.0 in
-    let is : taken nodes e node ≡ taken_between nodes last next e node = taken_is nodes b e last next node near in
+    let is : nodes_after_take nodes e node ≡ taken_between nodes last next e node = taken_is nodes b e last next node near in
     let others : (s : ℕ) → (s ≡ e → ⊥) → is_free (taken_between nodes last next e node) s ≡ is_free nodes s = free-taken_other nodes last next e node last_in next_in e_in near.last_free (free_positive nodes last near.last_free) (free_positive nodes next near.next_free) in
     let now_used : is_free (taken_between nodes last next e node) e ≡ false = free-taken_same nodes last next e node last_in next_in e_in used in
-    let kept : (s : ℕ) → (s ≡ last → ⊥) → (s ≡ next → ⊥) → (s ≡ e → ⊥) → node_at (taken_between nodes last next e node) s ≡ node_at nodes s = λ s p q r. node-taken_other nodes last next e node last_in next_in e_in s r ∙ node-linked_other nodes last next s p q in
+    let kept : (s : ℕ) → (s ≡ last → ⊥) → (s ≡ next → ⊥) → (s ≡ e → ⊥) → node_record_at (taken_between nodes last next e node) s ≡ node_record_at nodes s = λ s p q r. node-taken_other nodes last next e node last_in next_in e_in s r ∙ node-linked_other nodes last next s p q in
     let new_ring : FreeRing (taken_between nodes last next e node) infos b (before ++ after) = record {
       once = λ s. elim (cases_eq s e) [
         | inl same ↦ rw same (let none : occurs e (before ++ after) ≡ 0 = omega (arith, apart e, occurs-append e before (e ∷ after), occurs-append e before after, occurs_same e after) in none ∙ sym (cond-false _ 1 0 (and_left _ _ now_used)))
@@ -284,7 +284,7 @@ take_from nodes infos b node e before after ring used =
       cleared = λ s p. ring.cleared s (omega (arith, p, occurs-append s before (e ∷ after), occurs-append s before after));
     } in
     let outside : SameOutside b nodes (taken_between nodes last next e node) = λ s away. kept s (λ same. away (ap (λ n. n / 256) same ∙ near.last_here)) (λ same. away (ap (λ n. n / 256) same ∙ near.next_here)) (λ same. away (ap (λ n. n / 256) same ∙ here.1)) in
-    let used_kept : (s : ℕ) → (s ≡ e → ⊥) → is_free nodes s ≡ false → node_at (taken_between nodes last next e node) s ≡ node_at nodes s = λ s other not_free. kept s (λ same. false≢true (sym not_free ∙ ap (is_free nodes) same ∙ near.last_free)) (λ same. false≢true (sym not_free ∙ ap (is_free nodes) same ∙ near.next_free)) other in
+    let used_kept : (s : ℕ) → (s ≡ e → ⊥) → is_free nodes s ≡ false → node_record_at (taken_between nodes last next e node) s ≡ node_record_at nodes s = λ s other not_free. kept s (λ same. false≢true (sym not_free ∙ ap (is_free nodes) same ∙ near.last_free)) (λ same. false≢true (sym not_free ∙ ap (is_free nodes) same ∙ near.next_free)) other in
     record {
       rest = before ++ after;
       ring = subst (λ ns. FreeRing ns infos b (before ++ after)) (sym is) new_ring;
@@ -292,10 +292,10 @@ take_from nodes infos b node e before after ring used =
       last_in = subst (λ n. n < length nodes) (sym (last_is nodes b e last next near)) last_in;
       next_in = subst (λ n. n < length nodes) (sym (next_is nodes b e last next near)) next_in;
       outside = subst (λ ns. SameOutside b nodes ns) (sym is) outside;
-      holds = subst (λ ns. node_at ns e ≡ node) (sym is) (node-taken_same nodes last next e node last_in next_in e_in);
+      holds = subst (λ ns. node_record_at ns e ≡ node) (sym is) (node-taken_same nodes last next e node last_in next_in e_in);
       now_used = subst (λ ns. is_free ns e ≡ false) (sym is) now_used;
       others = subst (λ ns. (s : ℕ) → (s ≡ e → ⊥) → is_free ns s ≡ is_free nodes s) (sym is) others;
-      used_kept = subst (λ ns. (s : ℕ) → (s ≡ e → ⊥) → is_free nodes s ≡ false → node_at ns s ≡ node_at nodes s) (sym is) used_kept;
+      used_kept = subst (λ ns. (s : ℕ) → (s ≡ e → ⊥) → is_free nodes s ≡ false → node_record_at ns s ≡ node_record_at nodes s) (sym is) used_kept;
     }
 
 pub FreeRing-taken : (nodes : List NodeRecord) (infos : List NInfoRecord) (b e : ℕ) (node : NodeRecord) (xs : List ℕ) → FreeRing nodes infos b xs → is_free nodes e ≡ true → e / 256 ≡ b → int_lt node.check (pos 0) ≡ false → RingAfterTake nodes infos b e node xs
@@ -310,7 +310,7 @@ pub record Freed (nodes nodes' : List NodeRecord) (b e : ℕ) : Type 0 where
   pub outside : SameOutside b nodes nodes'
   pub now_free : is_free nodes' e ≡ true
   pub others : (s : ℕ) → (s ≡ e → ⊥) → is_free nodes' s ≡ is_free nodes s
-  pub used_kept : (s : ℕ) → (s ≡ e → ⊥) → is_free nodes s ≡ false → node_at nodes' s ≡ node_at nodes s
+  pub used_kept : (s : ℕ) → (s ≡ e → ⊥) → is_free nodes s ≡ false → node_record_at nodes' s ≡ node_record_at nodes s
 
 -- the ring's members once e is one of them
 given_once : (nodes nodes' : List NodeRecord) (infos : List NInfoRecord) (b e : ℕ) (xs ys : List ℕ) → FreeRing nodes infos b xs → Freed nodes nodes' b e → is_free nodes e ≡ false → e / 256 ≡ b → ((s : ℕ) → occurs s ys ≡ occurs s (e ∷ xs)) → (s : ℕ) → occurs s ys ≡ cond (is_free nodes' s && eqb (s / 256) b) 1 0
@@ -339,7 +339,7 @@ module _ (nodes : List NodeRecord) (infos : List NInfoRecord) (b e : ℕ) (e_pos
   pub FreeRing-given_alone : FreeRing nodes infos b [] → FreeRing (given_alone nodes e) (set infos e blank_info) b (e ∷ [])
   unfolding given_alone
   FreeRing-given_alone ring = record {
-    once = given_once nodes (linked nodes e e) infos b e [] (e ∷ []) ring Freed-given_alone used here (λ s. refl);
+    once = given_once nodes (nodes_after_link nodes e e) infos b e [] (e ∷ []) ring Freed-given_alone used here (λ s. refl);
     is_linked = (check-linked_same nodes e e e_in e_in, base-linked_same nodes e e e_in e_in);
     cleared = given_cleared nodes infos b e [] (e ∷ []) ring e_in_infos (λ s. refl);
   }
@@ -366,10 +366,10 @@ module _ (nodes : List NodeRecord) (infos : List NInfoRecord) (b e : ℕ) (e_pos
         let next = near_ring.next in
         let h_in = given_after_in.0 in
         let next_in = free_in nodes next near.next_free in
-        let nodes' = linked nodes h e in
+        let nodes' = nodes_after_link nodes h e in
         let e_in' : e < length nodes' = omega (arith, length-linked nodes h e) in
         let next_in' : next < length nodes' = omega (arith, length-linked nodes h e, next_in) in
-        let kept : (s : ℕ) → (s ≡ h → ⊥) → (s ≡ e → ⊥) → (s ≡ next → ⊥) → node_at (linked nodes' e next) s ≡ node_at nodes s = λ s p q r. node-linked_other nodes' e next s q r ∙ node-linked_other nodes h e s p q in
+        let kept : (s : ℕ) → (s ≡ h → ⊥) → (s ≡ e → ⊥) → (s ≡ next → ⊥) → node_record_at (nodes_after_link nodes' e next) s ≡ node_record_at nodes s = λ s p q r. node-linked_other nodes' e next s q r ∙ node-linked_other nodes h e s p q in
         record {
           outside = λ s away. kept s (λ same. away (ap (λ n. n / 256) same ∙ head_free.1)) (λ same. away (ap (λ n. n / 256) same ∙ here)) (λ same. away (ap (λ n. n / 256) same ∙ near.next_here));
           now_free = free-linked_same nodes' e next e_in' next_in' e_positive (free_positive nodes next near.next_free);
@@ -386,7 +386,7 @@ module _ (nodes : List NodeRecord) (infos : List NInfoRecord) (b e : ℕ) (e_pos
     pub FreeRing-given_after : FreeRing (given_after nodes h e) (set infos e blank_info) b (h ∷ e ∷ ys)
     FreeRing-given_after =
         let next = near_ring.next in
-        let nodes' = linked nodes h e in
+        let nodes' = nodes_after_link nodes h e in
         let next_in' : next < length nodes' = omega (arith, length-linked nodes h e, free_in nodes next near.next_free) in
         let e_in' : e < length nodes' = omega (arith, length-linked nodes h e) in
         let none : occurs e (h ∷ ys) ≡ 0 = ring.once e ∙ cond-false _ 1 0 (and_left _ _ used) in
@@ -400,15 +400,15 @@ module _ (nodes : List NodeRecord) (infos : List NInfoRecord) (b e : ℕ) (e_pos
 
 -- ---- the slots of a block, linked one after another
 
-pub steps_more : (nodes after : List NodeRecord) (first slot : ℕ) → after ≡ linked nodes slot (slot + 1) → slot + 1 < length nodes → ((s : ℕ) → first ≤ s → s < slot → SlotLink nodes s (s + 1)) → (s : ℕ) → first ≤ s → s < slot + 1 → SlotLink after s (s + 1)
+pub steps_more : (nodes after : List NodeRecord) (first slot : ℕ) → after ≡ nodes_after_link nodes slot (slot + 1) → slot + 1 < length nodes → ((s : ℕ) → first ≤ s → s < slot → SlotLink nodes s (s + 1)) → (s : ℕ) → first ≤ s → s < slot + 1 → SlotLink after s (s + 1)
 steps_more nodes after first slot is slot_in steps s low high =
     let step = Relinked-linked nodes slot (slot + 1) (omega arith) slot_in in
     subst (λ ns. SlotLink ns s (s + 1)) (sym is) (elim (cases_eq s slot) [
-      | inl same ↦ subst (λ n. SlotLink (linked nodes slot (slot + 1)) n (n + 1)) (sym same) step.made
+      | inl same ↦ subst (λ n. SlotLink (nodes_after_link nodes slot (slot + 1)) n (n + 1)) (sym same) step.made
       | inr other ↦ step.kept s (s + 1) other (λ same. other (omega arith)) (steps s low (omega arith))
     ])
 
-pub steps_kept : (nodes after : List NodeRecord) (first last : ℕ) → after ≡ linked nodes last first → first < length nodes → last < length nodes → ((s : ℕ) → first ≤ s → s < last → SlotLink nodes s (s + 1)) → (s : ℕ) → first ≤ s → s < last → SlotLink after s (s + 1)
+pub steps_kept : (nodes after : List NodeRecord) (first last : ℕ) → after ≡ nodes_after_link nodes last first → first < length nodes → last < length nodes → ((s : ℕ) → first ≤ s → s < last → SlotLink nodes s (s + 1)) → (s : ℕ) → first ≤ s → s < last → SlotLink after s (s + 1)
 steps_kept nodes after first last is first_in last_in steps s low high =
     subst (λ ns. SlotLink ns s (s + 1)) (sym is) ((Relinked-linked nodes last first last_in first_in).kept s (s + 1) (λ same. absurd (omega arith)) (λ same. absurd (omega arith)) (steps s low high))
 

@@ -5,7 +5,7 @@ use Rattle.std.proofs.lemmas.Int.{ints}
 use Rattle.std.proofs.lemmas.List.{get_or-set_other, get_or-set_same, nil_from_length}
 use Rattle.std.proofs.lemmas.Bool.{cases_eq, cases_Bool, cond-true, cond-false, eq-eqb, ne_eqb, and_left}
 use Rattle.cedar_slots.specs.declared.records.NodeRecord.{NodeRecord}
-use Rattle.cedar_slots.specs.Slots.{blank_info, check_at, FreeRing, given_after, given_alone, info_at, is_free, node_at, SlotFields, taken}
+use Rattle.cedar_slots.specs.Slots.{blank_info, check_at, FreeRing, given_after, given_alone, info_at, is_free, node_record_at, SlotFields, nodes_after_take}
 use Rattle.cedar_slots.specs.declared.blocks.Counts.{Counts}
 use Rattle.cedar_slots.specs.declared.blocks.BlockType.{BlockType}
 use Rattle.cedar_slots.specs.declared.blocks.BlockType.TheVariants.{Open, Closed, Full}
@@ -19,7 +19,7 @@ use Rattle.cedar_slots.proofs.RingsLemmas.Ring.{occurs-le-length, length-le-rang
 use Rattle.cedar_slots.proofs.RingsLemmas.LinkedSlots.{free_member, member_free, FreeRing-apart, RingAfterTake, FreeRing-taken, FreeRing-frame, Less, Freed, FreeRing-given_alone, Freed-given_alone, FreeRing-given_after, Freed-given_after, given_after_in}
 
 -- a table whose change lies in one block has all its rings, if that block has its ring
-pub HasFree-changed : (old new : PlaceFields) (b : ℕ) → HasFree old → new.blocks.active ≡ old.blocks.active → ((s : ℕ) → (s / 256 ≡ b → ⊥) → node_at new.slots.nodes s ≡ node_at old.slots.nodes s) → ((s : ℕ) → (s / 256 ≡ b → ⊥) → info_at new.slots.infos s ≡ info_at old.slots.infos s) → ((c : ℕ) → (c ≡ b → ⊥) → counts_at new.blocks.records c ≡ counts_at old.blocks.records c) → (xs : List ℕ) → FreeBlock new b xs → HasFree new
+pub HasFree-changed : (old new : PlaceFields) (b : ℕ) → HasFree old → new.blocks.active ≡ old.blocks.active → ((s : ℕ) → (s / 256 ≡ b → ⊥) → node_record_at new.slots.nodes s ≡ node_record_at old.slots.nodes s) → ((s : ℕ) → (s / 256 ≡ b → ⊥) → info_at new.slots.infos s ≡ info_at old.slots.infos s) → ((c : ℕ) → (c ≡ b → ⊥) → counts_at new.blocks.records c ≡ counts_at old.blocks.records c) → (xs : List ℕ) → FreeBlock new b xs → HasFree new
 HasFree-changed old new b free active nodes infos counts xs changed c c_in = elim (cases_eq c b) [
   | inl same ↦ (xs, subst (λ n. FreeBlock new n xs) (sym same) changed)
   | inr other ↦ let kept = free c (omega arith) in (
@@ -78,7 +78,7 @@ Pruned-changed old new b pruned active max_trial others b_in bounded root = reco
   ];
 }
 
-pub Inactive-changed : (old new : PlaceFields) (b : ℕ) → Inactive old → b < old.blocks.active → new.blocks.active ≡ old.blocks.active → ((s : ℕ) → (s / 256 ≡ b → ⊥) → node_at new.slots.nodes s ≡ node_at old.slots.nodes s) → ((s : ℕ) → (s / 256 ≡ b → ⊥) → info_at new.slots.infos s ≡ info_at old.slots.infos s) → SameFrom old.blocks.active old.blocks.records new.blocks.records → Inactive new
+pub Inactive-changed : (old new : PlaceFields) (b : ℕ) → Inactive old → b < old.blocks.active → new.blocks.active ≡ old.blocks.active → ((s : ℕ) → (s / 256 ≡ b → ⊥) → node_record_at new.slots.nodes s ≡ node_record_at old.slots.nodes s) → ((s : ℕ) → (s / 256 ≡ b → ⊥) → info_at new.slots.infos s ≡ info_at old.slots.infos s) → SameFrom old.blocks.active old.blocks.records new.blocks.records → Inactive new
 Inactive-changed old new b inactive b_in active nodes infos idle = record {
   nodes = λ s above. nodes s (λ here. absurd (omega arith)) ∙ inactive.nodes s (omega arith);
   infos = λ s above. infos s (λ here. absurd (omega arith)) ∙ inactive.infos s (omega arith);
@@ -128,7 +128,7 @@ counted_taken old new b e next xs rest counted less num head_taken head_kept = r
       ];
 }
 
-pub Sound-taken : (old new : PlaceFields) (e : ℕ) (node : NodeRecord) (sound : Sound old) (e_in : e / 256 < old.blocks.active) → is_free old.slots.nodes e ≡ true → int_lt node.check (pos 0) ≡ false → new.slots.nodes ≡ taken old.slots.nodes e node → new.slots.infos ≡ old.slots.infos → length new.slots.nodes ≡ length old.slots.nodes
+pub Sound-taken : (old new : PlaceFields) (e : ℕ) (node : NodeRecord) (sound : Sound old) (e_in : e / 256 < old.blocks.active) → is_free old.slots.nodes e ≡ true → int_lt node.check (pos 0) ≡ false → new.slots.nodes ≡ nodes_after_take old.slots.nodes e node → new.slots.infos ≡ old.slots.infos → length new.slots.nodes ≡ length old.slots.nodes
     → (was now : Counts) → Recounted old new (e / 256) was now
     → ((n : ℕ) → was.num ≡ pos (n + 1) → now.num ≡ pos n)
     → (was.e_head ≡ pos e → now.e_head ≡ pos (unsigned_abs (check_at old.slots.nodes e)))
@@ -137,14 +137,14 @@ Sound-taken old new e node sound e_in free used nodes infos nodes_len was now bl
     let b = e / 256 in
     let t = taking old e node sound e_in free used in
     let here = sound.free b e_in in
-    let outside : (s : ℕ) → (s / 256 ≡ b → ⊥) → node_at new.slots.nodes s ≡ node_at old.slots.nodes s = λ s away. ap (λ ns. node_at ns s) nodes ∙ t.outside s away in
+    let outside : (s : ℕ) → (s / 256 ≡ b → ⊥) → node_record_at new.slots.nodes s ≡ node_record_at old.slots.nodes s = λ s away. ap (λ ns. node_record_at ns s) nodes ∙ t.outside s away in
     let infos_outside : (s : ℕ) → (s / 256 ≡ b → ⊥) → info_at new.slots.infos s ≡ info_at old.slots.infos s = λ s away. ap (λ v. info_at v s) infos in
     record {
       shaped = Shaped-kept old new sound.shaped blocks.active blocks.len nodes_len (ap length infos);
       doubled = (sound.doubled.0, blocks.len ∙ sound.doubled.1);
       free = HasFree-changed old new b sound.free blocks.active outside infos_outside
           blocks.others t.rest (record {
-            ring = subst (λ ns. FreeRing ns new.slots.infos b t.rest) (sym nodes) (subst (λ v. FreeRing (taken old.slots.nodes e node) v b t.rest) (sym infos) t.ring);
+            ring = subst (λ ns. FreeRing ns new.slots.infos b t.rest) (sym nodes) (subst (λ v. FreeRing (nodes_after_take old.slots.nodes e node) v b t.rest) (sym infos) t.ring);
             counted = subst (λ n. Counted n b t.rest) (sym blocks.now_is) (counted_taken was now b e _ here.0 t.rest (subst (λ n. Counted n b here.0) (sym blocks.was_is) here.1.counted) t.less num head_taken head_kept);
           });
       lists = blocks.lists;
@@ -153,14 +153,14 @@ Sound-taken old new e node sound e_in free used nodes infos nodes_len was now bl
       inactive = Inactive-changed old new b sound.inactive e_in blocks.active outside infos_outside blocks.idle;
     }
 
-pub TakesSlot-taken : (old new : PlaceFields) (e : ℕ) (node : NodeRecord) (sound : Sound old) (e_in : e / 256 < old.blocks.active) → is_free old.slots.nodes e ≡ true → int_lt node.check (pos 0) ≡ false → new.slots.nodes ≡ taken old.slots.nodes e node → new.slots.infos ≡ old.slots.infos → TakesSlot old.slots new.slots e node
+pub TakesSlot-taken : (old new : PlaceFields) (e : ℕ) (node : NodeRecord) (sound : Sound old) (e_in : e / 256 < old.blocks.active) → is_free old.slots.nodes e ≡ true → int_lt node.check (pos 0) ≡ false → new.slots.nodes ≡ nodes_after_take old.slots.nodes e node → new.slots.infos ≡ old.slots.infos → TakesSlot old.slots new.slots e node
 TakesSlot-taken old new e node sound e_in free used nodes infos =
     let t = taking old e node sound e_in free used in
     record {
-      holds = ap (λ ns. node_at ns e) nodes ∙ t.holds;
+      holds = ap (λ ns. node_record_at ns e) nodes ∙ t.holds;
       used = ap (λ ns. is_free ns e) nodes ∙ t.now_used;
       free = λ s other. ap (λ ns. is_free ns s) nodes ∙ t.others s other;
-      kept = λ s other not_free. ap (λ ns. node_at ns s) nodes ∙ t.used_kept s other not_free;
+      kept = λ s other not_free. ap (λ ns. node_record_at ns s) nodes ∙ t.used_kept s other not_free;
       infos = infos;
     }
 

@@ -14,7 +14,7 @@ use Rattle.cedar_model.specs.Meaning.Family.{Among, base_of, below, Begins, Head
 use Rattle.cedar_model.specs.Meaning.StandsFor.{labels, OnPath, slot_at, Stands}
 use Rattle.cedar_model.specs.Edit.NodeEdits.{follow_on, IsAt}
 use Rattle.cedar_model.specs.Table.TableFields.{Fields, size_of}
-use Rattle.cedar_walk.specs.Visits.{ComesTo, first_of, IsBelow, left_after, left_at, owner_of, path_to, way_up}
+use Rattle.cedar_walk.specs.Visits.{ComesTo, first_sibling_label, IsBelow, left_after, left_at, owner_of, path_to, way_up}
 use Rattle.cedar_model.specs.Meaning.WellFormed.{cells_in, IsWellFormed, tree_of}
 use Rattle.cedar_model.proofs.MeaningLemmas.NodeAtPath.{among_has, at_child, at_node, follow_last}
 use Rattle.cedar_model.proofs.MeaningLemmas.KeyPath.{tree_root}
@@ -26,7 +26,7 @@ use Rattle.cedar_model.proofs.MeaningLemmas.TreeOf.{in_use}
 
 -- ---- chains
 
-pub links_first : (T : Cells) (s c : ℕ) (f : Forest) → Links T s c (labels f) → c ≡ first_of f
+pub links_first : (T : Cells) (s c : ℕ) (f : Forest) → Links T s c (labels f) → c ≡ first_sibling_label f
 links_first T s c none h = h
 links_first T s c (child l n u rest) h = h.0
 
@@ -121,16 +121,16 @@ module _ (slots : ℕ) (T : Fields) (k : IsWellFormed slots T) where
   pub node_stands : (w : List ℕ) (s : ℕ) → IsAt (cells_in T) w s → Stands (size_of T) (cells_in T) s (node_at (tree_of T) w)
   node_stands w s at = subst (λ (t : Tree). Stands (size_of T) (cells_in T) s (node_at t w)) (sym (tree_root slots T k)) (at_node (size_of T) (cells_in T) (tree_of T).children w s k.stands at)
 
-  pub root_first : (w : List ℕ) → IsAt (cells_in T) w 0 → (cells_in T).sibling 0 ≡ first_of (node_at (tree_of T) w).children
+  pub root_first : (w : List ℕ) → IsAt (cells_in T) w 0 → (cells_in T).sibling 0 ≡ first_sibling_label (node_at (tree_of T) w).children
   root_first w at =
       links_first (cells_in T) 0 ((cells_in T).sibling 0) (tree_of T).children k.stands.stands.0.begins.2
-      ∙ ap (λ v. first_of (node_at (tree_of T) v).children) (sym (at_root (cells_in T) k.stands.root w at))
+      ∙ ap (λ v. first_sibling_label (node_at (tree_of T) v).children) (sym (at_root (cells_in T) k.stands.root w at))
 
   -- a label that the node itself names is its first
-  pub named_first : (w : List ℕ) (s : ℕ) → IsAt (cells_in T) w s → ((cells_in T).child s ≡ 0 → ⊥) → (cells_in T).child s ≡ first_of (node_at (tree_of T) w).children
+  pub named_first : (w : List ℕ) (s : ℕ) → IsAt (cells_in T) w s → ((cells_in T).child s ≡ 0 → ⊥) → (cells_in T).child s ≡ first_sibling_label (node_at (tree_of T) w).children
   named_first w s at n = let st = node_stands w s at in by_head st.head (node_at (tree_of T) w).children st.family.begins
     where
-      by_head : (h : Head) (f : Forest) → Begins (cells_in T) s h (labels f) → (cells_in T).child s ≡ first_of f
+      by_head : (h : Head) (f : Forest) → Begins (cells_in T) s h (labels f) → (cells_in T).child s ≡ first_sibling_label f
       by_head plain f b = links_first (cells_in T) s ((cells_in T).child s) f b
       by_head (valued v) f b = absurd (n b.0)
       by_head (own v) f b = absurd (n b.0)
@@ -147,7 +147,7 @@ module _ (slots : ℕ) (T : Fields) (k : IsWellFormed slots T) where
   child_inside w s l at has = in_use T (below (cells_in T) s l) s (child_owned w s l at has)
 
   -- the label after a node's
-  pub next_label : (w : List ℕ) (l s : ℕ) → IsAt (cells_in T) (w ++ l ∷ []) s → (cells_in T).sibling s ≡ first_of (behind (node_at (tree_of T) w).children l)
+  pub next_label : (w : List ℕ) (l s : ℕ) → IsAt (cells_in T) (w ++ l ∷ []) s → (cells_in T).sibling s ≡ first_sibling_label (behind (node_at (tree_of T) w).children l)
   next_label w l s at =
       let last = last_of (cells_in T) w l s at in
       let st = node_stands w last.above last.at in
@@ -202,12 +202,12 @@ positive : (l : ℕ) → (l ≡ 0 → ⊥) → 0 < l
 positive zero some = absurd (some refl)
 positive (suc l) some = omega arith
 
-no_first : (f : Forest) → IsSoundBelow f → first_of f ≡ 0 → f ≡ none
+no_first : (f : Forest) → IsSoundBelow f → first_sibling_label f ≡ 0 → f ≡ none
 no_first none sound z = refl
 no_first (child l n u rest) sound z = absurd (omega (arith, z, sound.0))
 
 -- the first child is a child
-pub first_there : (f : Forest) {l : ℕ} → l ≡ first_of f → (l ≡ 0 → ⊥) → has_label f l ≡ true
+pub first_there : (f : Forest) {l : ℕ} → l ≡ first_sibling_label f → (l ≡ 0 → ⊥) → has_label f l ≡ true
 first_there none e some = absurd (some e)
 first_there (child m n u rest) {l} e some = subst (λ x. has_label (child m n u rest) x ≡ true) (sym e) (has_here (child m n u rest) m n u rest refl)
 
@@ -216,15 +216,15 @@ whole_front T n s d e = let len = path_length T n s in take_all (d - 1) (path_to
 
 module _ (slots : ℕ) (T : Fields) (k : IsWellFormed slots T) (start : List ℕ) where
   -- a child is next
-  pub comes_down : (n s l : ℕ) (next : Visited) → IsBelow (cells_in T) start n s → l ≡ first_of (node_at (tree_of T) (start ++ path_to T n s)).children → (l ≡ 0 → ⊥)
+  pub comes_down : (n s l : ℕ) (next : Visited) → IsBelow (cells_in T) start n s → l ≡ first_sibling_label (node_at (tree_of T) (start ++ path_to T n s)).children → (l ≡ 0 → ⊥)
       → next.slot ≡ below (cells_in T) s l → next.depth ≡ n + 1 → next.label ≡ l → next.number ≡ (subtree (node_at (tree_of T) (start ++ path_to T n s)).children l).number
       → ComesTo T start (left_at T start n s) (path_to T n s) next
   comes_down n s l next at first some slot depth label number = by_forest (node_at (tree_of T) (start ++ path_to T n s)).children refl
     where
       by_forest : (f : Forest) → (node_at (tree_of T) (start ++ path_to T n s)).children ≡ f → ComesTo T start (left_at T start n s) (path_to T n s) next
-      by_forest none e = absurd (some (first ∙ ap first_of e))
+      by_forest none e = absurd (some (first ∙ ap first_sibling_label e))
       by_forest (child m v u rest) e =
-          let same : l ≡ m = first ∙ ap first_of e in
+          let same : l ≡ m = first ∙ ap first_sibling_label e in
           let has : has_label (node_at (tree_of T) (start ++ path_to T n s)).children l ≡ true = subst (λ x. has_label (node_at (tree_of T) (start ++ path_to T n s)).children x ≡ true) (sym same) (has_here (node_at (tree_of T) (start ++ path_to T n s)).children m v u rest e) in
           let there = child_below slots T k start n s l (positive l some) at has in
           let mine : next.number ≡ v = number ∙ ap (λ x. (subtree (node_at (tree_of T) (start ++ path_to T n s)).children x).number) same ∙ ap (λ (f : Forest). (subtree f m).number) e ∙ ap (λ (t : Tree). t.number) (subtree_here m v u rest) in
@@ -239,7 +239,7 @@ module _ (slots : ℕ) (T : Fields) (k : IsWellFormed slots T) (start : List ℕ
             deep = (omega (arith, depth), omega (arith, depth, path_length T n s));
           }
 
-  pub none_below : (n s l : ℕ) → l ≡ first_of (node_at (tree_of T) (start ++ path_to T n s)).children → l ≡ 0 → left_at T start n s ≡ left_after T start n s
+  pub none_below : (n s l : ℕ) → l ≡ first_sibling_label (node_at (tree_of T) (start ++ path_to T n s)).children → l ≡ 0 → left_at T start n s ≡ left_after T start n s
   none_below n s l first z = goes_past_leaf (node_at (tree_of T) start) (way_up (cells_in T) n s) (forest_here slots T k start n s ∙ no_first (node_at (tree_of T) (start ++ path_to T n s)).children (sound_node_at (tree_of T) (start ++ path_to T n s) k.sound) (sym first ∙ z))
 
 -- the climb of a walk that began n labels below `start` at slot s, and has come to slot s' with n' labels left
@@ -264,7 +264,7 @@ sound_behind (child m n u rest) l s = elim (eqb_tells m l) [
   | inr e ↦ subst IsSoundBelow (sym (ap (λ b. cond b rest (behind rest l)) e.0)) (sound_behind rest l s.5)
 ]
 
-module _ (slots : ℕ) (T : Fields) (k : IsWellFormed slots T) (start : List ℕ) (n s m s' p l : ℕ) (c : Climbed T start n s (suc m) s') (o : (cells_in T).check s' ≡ pos p) (first : l ≡ first_of (behind (node_at (tree_of T) (start ++ path_to T m p)).children (below (cells_in T) p s'))) where
+module _ (slots : ℕ) (T : Fields) (k : IsWellFormed slots T) (start : List ℕ) (n s m s' p l : ℕ) (c : Climbed T start n s (suc m) s') (o : (cells_in T).check s' ≡ pos p) (first : l ≡ first_sibling_label (behind (node_at (tree_of T) (start ++ path_to T m p)).children (below (cells_in T) p s'))) where
   front : path_to T m p ≡ take m (path_to T n s)
   front =
       let whole : path_to T m p ++ below (cells_in T) p s' ∷ [] ≡ take (suc m) (path_to T n s) = ap forwards (sym (way_above slots T k m s' p o)) ∙ c.path in
@@ -294,9 +294,9 @@ module _ (slots : ℕ) (T : Fields) (k : IsWellFormed slots T) (start : List ℕ
   sibling_there some = by_forest (behind (node_at (tree_of T) (start ++ path_to T m p)).children (below (cells_in T) p s')) refl
     where
       by_forest : (f : Forest) → behind (node_at (tree_of T) (start ++ path_to T m p)).children (below (cells_in T) p s') ≡ f → has_label (node_at (tree_of T) (start ++ path_to T m p)).children l ≡ true
-      by_forest none e = absurd (some (first ∙ ap first_of e))
+      by_forest none e = absurd (some (first ∙ ap first_sibling_label e))
       by_forest (child j v u rest) e =
-          let same : l ≡ j = first ∙ ap first_of e in
+          let same : l ≡ j = first ∙ ap first_sibling_label e in
           subst (λ x. has_label (node_at (tree_of T) (start ++ path_to T m p)).children x ≡ true) (sym same) (has_behind (node_at (tree_of T) (start ++ path_to T m p)).children (below (cells_in T) p s') j v u rest e)
 
   -- and the next node
@@ -305,9 +305,9 @@ module _ (slots : ℕ) (T : Fields) (k : IsWellFormed slots T) (start : List ℕ
   comes_right next some slot depth label number = by_forest (behind (node_at (tree_of T) (start ++ path_to T m p)).children (below (cells_in T) p s')) refl
     where
       by_forest : (f : Forest) → behind (node_at (tree_of T) (start ++ path_to T m p)).children (below (cells_in T) p s') ≡ f → ComesTo T start (left_after T start n s) (path_to T n s) next
-      by_forest none e = absurd (some (first ∙ ap first_of e))
+      by_forest none e = absurd (some (first ∙ ap first_sibling_label e))
       by_forest (child j v u rest) e =
-          let same : l ≡ j = first ∙ ap first_of e in
+          let same : l ≡ j = first ∙ ap first_sibling_label e in
           let above : IsBelow (cells_in T) start m p = parent_below slots T k start m s' p c.below o in
           let there = child_below slots T k start m p l (positive l some) above (sibling_there some) in
           let found = next_behind (node_at (tree_of T) (start ++ path_to T m p)).children (below (cells_in T) p s') j v u rest (sound_node_at (tree_of T) (start ++ path_to T m p) k.sound) e in
@@ -338,8 +338,8 @@ module _ (slots : ℕ) (T : Fields) (k : IsWellFormed slots T) (start : List ℕ
   pub at_last : IsAt (cells_in T) ((start ++ path_to T (n' - 1) (owner_of (cells_in T) s')) ++ below (cells_in T) (owner_of (cells_in T) s') s' ∷ []) s'
   at_last = up_of slots T k start (n' - 1) s' stepped.below
 
-  pub first_is : (p l : ℕ) → (cells_in T).check s' ≡ pos p → ((w : List ℕ) (j : ℕ) → IsAt (cells_in T) (w ++ j ∷ []) s' → l ≡ first_of (behind (node_at (tree_of T) w).children j))
-      → l ≡ first_of (behind (node_at (tree_of T) (start ++ path_to T (n' - 1) p)).children (below (cells_in T) p s'))
+  pub first_is : (p l : ℕ) → (cells_in T).check s' ≡ pos p → ((w : List ℕ) (j : ℕ) → IsAt (cells_in T) (w ++ j ∷ []) s' → l ≡ first_sibling_label (behind (node_at (tree_of T) w).children j))
+      → l ≡ first_sibling_label (behind (node_at (tree_of T) (start ++ path_to T (n' - 1) p)).children (below (cells_in T) p s'))
   first_is p l o read =
       let owner : owner_of (cells_in T) s' ≡ p = ap unsigned_abs o in
-      subst (λ x. l ≡ first_of (behind (node_at (tree_of T) (start ++ path_to T (n' - 1) x)).children (below (cells_in T) x s'))) owner (read (start ++ path_to T (n' - 1) (owner_of (cells_in T) s')) (below (cells_in T) (owner_of (cells_in T) s') s') at_last)
+      subst (λ x. l ≡ first_sibling_label (behind (node_at (tree_of T) (start ++ path_to T (n' - 1) x)).children (below (cells_in T) x s'))) owner (read (start ++ path_to T (n' - 1) (owner_of (cells_in T) s')) (below (cells_in T) (owner_of (cells_in T) s') s') at_last)

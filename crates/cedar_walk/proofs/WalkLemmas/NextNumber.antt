@@ -6,7 +6,7 @@ use Rattle.std.proofs.lemmas.Bool.{true≢false}
 use Rattle.std.proofs.lemmas.List.{append-nil, length-append}
 use Rattle.cedar_tree.specs.Tree.{Forest, none, child, Tree, has_label, is_bare, is_leafless, subtree}
 use Rattle.cedar_tree.specs.Queries.{node_at, walk}
-use Rattle.cedar_tree.specs.Walks.{entries_of, forwards}
+use Rattle.cedar_tree.specs.Walks.{visited_entries, forwards}
 use Rattle.cedar_tree.proofs.CutLemmas.{node_at-end}
 use Rattle.cedar_tree.proofs.OrderLemmas.{sound_node_at}
 use Rattle.cedar_tree.proofs.TreeLemmas.{bare-subtree}
@@ -25,12 +25,12 @@ use Rattle.cedar_model.proofs.MeaningLemmas.OneNode.{owned_label}
 use Rattle.cedar_model.proofs.MeaningLemmas.Paths.{one_path}
 use Rattle.cedar_model.proofs.MeaningLemmas.SearchStep.{has_among, number_named}
 use Rattle.cedar_model.proofs.UpdateLemmas.MarksAfterUpdate.{follow_one}
-use Rattle.cedar_walk.specs.Visits.{ComesTo, ComesToNumber, entries_at, first_of, IsBelow, left_at, number_below, path_to, visited_at}
+use Rattle.cedar_walk.specs.Visits.{ComesTo, ComesToNumber, entries_at, first_sibling_label, IsBelow, left_at, number_below, path_to, visited_at}
 use Rattle.cedar_walk.proofs.WalkLemmas.NextNode.{at_root, child_owned, comes_down, first_there, last_of, links_first, named_first, node_stands, path_length, way_one_more}
 
 -- ---- what is read of a node that has a number
 
-no_labels : (f : Forest) → labels f ≡ [] → 0 ≡ first_of f
+no_labels : (f : Forest) → labels f ≡ [] → 0 ≡ first_sibling_label f
 no_labels none e = refl
 no_labels (child l n u rest) e = cc
 
@@ -49,26 +49,26 @@ module _ (size : ℕ) (T : Cells) (s : ℕ) (t : Tree) (k : Stands size T s t) (
       by_head top ls f n = cc
 
   -- and the sibling of that slot is its first child
-  pub first_held : (b : ℕ) → T.stored s ≡ AtBase b → T.sibling b ≡ first_of t.children
+  pub first_held : (b : ℕ) → T.stored s ≡ AtBase b → T.sibling b ≡ first_sibling_label t.children
   first_held b e = by_head k.head t.children k.family (k.number ∙ has)
     where
       at : below T s 0 ≡ b
       at = ap (λ z. bit_xor (base_in z) 0) e ∙ xor_zero_r b
 
-      by_head : (h : Head) (f : Forest) → Family size T s h (labels f) → number_of h ≡ Some v → T.sibling b ≡ first_of f
+      by_head : (h : Head) (f : Forest) → Family size T s h (labels f) → number_of h ≡ Some v → T.sibling b ≡ first_sibling_label f
       by_head plain f y n = cc
       by_head (valued u) f y n = ap T.sibling (sym at) ∙ links_first T s (T.sibling (below T s 0)) f y.begins.4
       by_head (own u) f y n = let z : AtBase b ≡ OwnNumber u = sym e ∙ y.based in cc
       by_head top f y n = cc
 
   -- where the number stands in the node's own field there is none
-  pub none_held : (u : ℤ) → T.stored s ≡ OwnNumber u → 0 ≡ first_of t.children
+  pub none_held : (u : ℤ) → T.stored s ≡ OwnNumber u → 0 ≡ first_sibling_label t.children
   none_held u e = by_head k.head t.children k.family (k.number ∙ has)
     where
       low : InRange size (T.stored s) → ⊥
       low r = let z : 256 ≤ base_in (OwnNumber u) = subst (λ x. 256 ≤ base_in x) e r.0 in omega arith
 
-      by_head : (h : Head) (f : Forest) → Family size T s h (labels f) → number_of h ≡ Some v → 0 ≡ first_of f
+      by_head : (h : Head) (f : Forest) → Family size T s h (labels f) → number_of h ≡ Some v → 0 ≡ first_sibling_label f
       by_head plain f y n = cc
       by_head (valued x) f y n = absurd (low y.based)
       by_head (own x) f y n = no_labels f y.begins.1
@@ -136,7 +136,7 @@ module _ (slots : ℕ) (T : Fields) (k : IsWellFormed slots T) (start : List ℕ
       omega (arith, len, deep, length-append start (path_to T n s), path_length T n s)
 
   -- the first child of a node
-  pub comes_first : (n s l : ℕ) (place : Place) → IsBelow (cells_in T) start n s → l ≡ first_of (node_at (tree_of T) (start ++ path_to T n s)).children → (l ≡ 0 → ⊥)
+  pub comes_first : (n s l : ℕ) (place : Place) → IsBelow (cells_in T) start n s → l ≡ first_sibling_label (node_at (tree_of T) (start ++ path_to T n s)).children → (l ≡ 0 → ⊥)
       → place.slot ≡ below (cells_in T) s l → place.depth ≡ n + 1 → place.label ≡ l → ComesTo T start (left_at T start n s) (path_to T n s) (visited_at T start place)
   comes_first n s l place at first some slot depth label =
       comes_down slots T k start n s l (visited_at T start place) at first some slot depth label
@@ -157,7 +157,7 @@ descended_on slots T k start n s n' s' l d is some =
     record {
       below = comes.below;
       not_root = deep_not_root slots T k start (n' + 1) (below (cells_in T) s' l) comes.below (omega arith);
-      entries = d.entries ∙ ap (λ (o : Option ℤ). entries_of ((path_to T n' s', o) ∷ left_at T start n' s')) number ∙ ap entries_of comes.visits;
+      entries = d.entries ∙ ap (λ (o : Option ℤ). visited_entries ((path_to T n' s', o) ∷ left_at T start n' s')) number ∙ ap visited_entries comes.visits;
     }
 
 -- at its end is the first entry
@@ -165,7 +165,7 @@ pub descended_to : (T : Fields) (start : List ℕ) (n s : ℕ) (next : Numbered)
 descended_to T start n s next d has = record {
   below = d.below;
   number = has;
-  entries = d.entries ∙ ap (λ (o : Option ℤ). entries_of ((path_to T next.depth next.slot, o) ∷ left_at T start next.depth next.slot)) has;
+  entries = d.entries ∙ ap (λ (o : Option ℤ). visited_entries ((path_to T next.depth next.slot, o) ∷ left_at T start next.depth next.slot)) has;
 }
 
 -- ---- where it begins
@@ -173,11 +173,11 @@ descended_to T start n s next d has = record {
 pub walk_at : (T : Fields) (query : List ℕ) (s : ℕ) → walk (node_at (tree_of T) query) ≡ entries_at T query 0 s
 walk_at T query s =
     walk_visits (node_at (tree_of T) query)
-    ∙ ap (λ w. entries_of (([], (node_at (tree_of T) w).number) ∷ left_at T query 0 s)) (sym (append-nil query))
+    ∙ ap (λ w. visited_entries (([], (node_at (tree_of T) w).number) ∷ left_at T query 0 s)) (sym (append-nil query))
 
 -- the root has no number
-pub root_walk : (slots : ℕ) (T : Fields) → IsWellFormed slots T → (query : List ℕ) (s : ℕ) → IsAt (cells_in T) query s → s ≡ 0 → walk (node_at (tree_of T) query) ≡ entries_of (left_at T query 0 s)
+pub root_walk : (slots : ℕ) (T : Fields) → IsWellFormed slots T → (query : List ℕ) (s : ℕ) → IsAt (cells_in T) query s → s ≡ 0 → walk (node_at (tree_of T) query) ≡ visited_entries (left_at T query 0 s)
 root_walk slots T k query s at z =
     let whole = at_root (cells_in T) k.stands.root query (subst (IsAt (cells_in T) query) z at) in
     let number : (node_at (tree_of T) query).number ≡ None = ap (λ w. (node_at (tree_of T) w).number) whole ∙ ap (λ (t : Tree). t.number) (tree_root slots T k) in
-    walk_visits (node_at (tree_of T) query) ∙ ap (λ (o : Option ℤ). entries_of (([], o) ∷ left_at T query 0 s)) number
+    walk_visits (node_at (tree_of T) query) ∙ ap (λ (o : Option ℤ). visited_entries (([], o) ∷ left_at T query 0 s)) number

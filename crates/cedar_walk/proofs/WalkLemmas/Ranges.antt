@@ -7,7 +7,7 @@ use Rattle.std.proofs.lemmas.List.{append-nil, drop_all, drop_more, drop-set, le
 use Rattle.cedar_tree.specs.Edits.{HasPath}
 use Rattle.cedar_tree.specs.Tree.{Forest, none, child, Tree, has_label, IsSoundBelow, subtree}
 use Rattle.cedar_tree.specs.Queries.{node_at, walk}
-use Rattle.cedar_tree.specs.Walks.{behind, entries_of, forwards, node_up, visits_left}
+use Rattle.cedar_tree.specs.Walks.{behind, visited_entries, forwards, node_up, visits_left}
 use Rattle.cedar_tree.proofs.OrderLemmas.{sound_node_at}
 use Rattle.cedar_tree.proofs.VisitLemmas.{node_up_is}
 use Rattle.cedar_model.specs.Meaning.Family.{Among, base_of, below}
@@ -23,7 +23,7 @@ use Rattle.cedar_model.proofs.MeaningLemmas.SearchStep.{has_among}
 use Rattle.cedar_walk.specs.declared.ranges.Reached.{Reached}
 use Rattle.cedar_walk.specs.declared.visits.Numbered.{Numbered}
 use Rattle.cedar_walk.specs.declared.visits.Place.{Place}
-use Rattle.cedar_walk.specs.Visits.{ComesTo, ComesToNumber, entries_at, first_of, IsBelow, left_after, number_below, owner_of, path_to, visited_at, way_up}
+use Rattle.cedar_walk.specs.Visits.{ComesTo, ComesToNumber, entries_at, first_sibling_label, IsBelow, left_after, number_below, owner_of, path_to, visited_at, way_up}
 use Rattle.cedar_walk.specs.Ranges.{entries_since, siblings_above}
 use Rattle.cedar_walk.specs.RangePlaces.{AboveFrom, BeginsAt, IsReached, left_above}
 use Rattle.cedar_walk.proofs.WalkLemmas.NextNode.{child_is_at, child_owned, last_of, next_label, node_stands, parent_below, up_of, way_one_more}
@@ -91,7 +91,7 @@ module _ (slots : ℕ) (T : Fields) (k : IsWellFormed slots T) where
       let sound : IsSoundBelow f = sound_node_at (tree_of T) w k.sound in
       let has : has_label f next ≡ true = above_label f m next sound above some in
       let there = child_is_at slots T k w s next (label_small f next sound has).0 at has in
-      let first : sib ≡ first_of (behind f next) = read ∙ ap (cells_in T).sibling is ∙ next_label slots T k w next (below (cells_in T) s next) there in
+      let first : sib ≡ first_sibling_label (behind f next) = read ∙ ap (cells_in T).sibling is ∙ next_label slots T k w next (below (cells_in T) s next) there in
       let on = above_on f m next sound (ascending_at (tree_of T) w (k.ascending ordered)) above some most in
       subst (λ x. AboveFrom f m x × ((x ≡ 0 → ⊥) → next < x)) (sym first) on
 
@@ -193,9 +193,9 @@ module _ (slots : ℕ) (T : Fields) (k : IsWellFormed slots T) (ordered : T.orde
         below = subst (λ v. IsAt (cells_in T) v place.slot) (sym (ap forwards way)) there;
         deep = omega (arith, deep);
         entries =
-            ap entries_of (above_first t up label next (subst IsSoundBelow (at_up t up) sound) (subst (λ g. AboveFrom g label next) (at_up t up) above) higher)
-            ∙ ap (λ (o : Option ℤ). entries_of ((forwards (next ∷ up), o) ∷ visits_left t (next ∷ up))) (sym number)
-            ∙ ap (λ v. entries_of ((forwards v, number_below T [] place.depth place.slot) ∷ visits_left t v)) (sym way);
+            ap visited_entries (above_first t up label next (subst IsSoundBelow (at_up t up) sound) (subst (λ g. AboveFrom g label next) (at_up t up) above) higher)
+            ∙ ap (λ (o : Option ℤ). visited_entries ((forwards (next ∷ up), o) ∷ visits_left t (next ∷ up))) (sym number)
+            ∙ ap (λ v. visited_entries ((forwards v, number_below T [] place.depth place.slot) ∷ visits_left t v)) (sym way);
       }
 
   pub none_above : (n s label next : ℕ) → AboveFrom (node_at (tree_of T) (path_to T n s)).children label next → next ≡ 0 → left_above T n s label ≡ left_after T [] n s
@@ -215,7 +215,7 @@ module _ (slots : ℕ) (T : Fields) (k : IsWellFormed slots T) (ordered : T.orde
   begins_after n s label (Some place) e comes = record {
     below = comes.below;
     deep = comes.deep.0;
-    entries = ap entries_of (e ∙ comes.visits);
+    entries = ap visited_entries (e ∙ comes.visits);
   }
 
   path_held : (w : List ℕ) (s : ℕ) → IsAt (cells_in T) w s → HasPath (tree_of T) w
@@ -232,12 +232,12 @@ module _ (slots : ℕ) (T : Fields) (k : IsWellFormed slots T) (ordered : T.orde
         below_root_at T key r.depth r.slot (sym e) there,
         ap (entries_since t) (sym back)
             ∙ since_node t up (k.ascending ordered) (subst (HasPath t) (sym back) (path_held key r.slot there))
-            ∙ ap (λ (o : Option ℤ). entries_of ((forwards up, o) ∷ visits_left t up)) (ap (λ (u : Tree). u.number) (node_up_is t up)),
+            ∙ ap (λ (o : Option ℤ). visited_entries ((forwards up, o) ∷ visits_left t up)) (ap (λ (u : Tree). u.number) (node_up_is t up)),
       )
 
   -- the key goes on where there is no child for its next byte
   pub since_short : (key : List ℕ) (r : Reached) → IsReached T key r → r.depth < length key
-      → (IsBelow (cells_in T) [] r.depth r.slot) × (entries_since (tree_of T) key ≡ entries_of (left_above T r.depth r.slot (get_or key r.depth 0)))
+      → (IsBelow (cells_in T) [] r.depth r.slot) × (entries_since (tree_of T) key ≡ visited_entries (left_above T r.depth r.slot (get_or key r.depth 0)))
   since_short key r at short =
       let t : Tree = tree_of T in
       let n : ℕ = r.depth in

@@ -10,12 +10,12 @@ use Rattle.std.proofs.lemmas.List.Elements.{filter-append, filter_map-append}
 use Rattle.cedar_tree.specs.Tree.{Forest, none, child, Tree, has_label, subtree, IsAscending, IsSoundBelow, AllAbove}
 use Rattle.cedar_tree.specs.Edits.{HasPath}
 use Rattle.cedar_tree.specs.Queries.{Entry, own_entry, under, walk_forest, walk, node_at}
-use Rattle.cedar_tree.specs.Walks.{Visit, behind, entries_of, forwards, node_up, visit_from, visits_after, visits_below, visits_left}
+use Rattle.cedar_tree.specs.Walks.{Visit, behind, visited_entries, forwards, node_up, visit_from, visits_after, visits_below, visits_left}
 use Rattle.cedar_tree.proofs.OrderLemmas.{ascending_subtree}
 use Rattle.cedar_tree.proofs.PredictLemmas.{map-after}
 use Rattle.cedar_tree.proofs.VisitLemmas.{goes_down, goes_right, has_behind, has_here, next_behind, node_up_is, subtree_here, walk_visits}
 use Rattle.cedar_tree.proofs.WalkLemmas.{filter-map, filter-none, ltb-from_lt, nat_lt_itself}
-use Rattle.cedar_walk.specs.Visits.{first_of}
+use Rattle.cedar_walk.specs.Visits.{first_sibling_label}
 use Rattle.cedar_walk.specs.RangePlaces.{AboveFrom, AreLast}
 use Rattle.cedar_walk.specs.Ranges.{behind_path, entries_since, siblings_above}
 
@@ -146,24 +146,24 @@ visits_none : (vs : List Visit) → map (visit_from []) vs ≡ vs
 visits_none [] = refl
 visits_none (v ∷ vs) = ap (λ r. v ∷ r) (visits_none vs)
 
-below_entries : (f : Forest) → entries_of (visits_below f) ≡ walk_forest f
+below_entries : (f : Forest) → visited_entries (visits_below f) ≡ walk_forest f
 below_entries f =
-    ap entries_of (sym (append-nil (map (visit_from []) (visits_below f)) ∙ visits_none (visits_below f)))
+    ap visited_entries (sym (append-nil (map (visit_from []) (visits_below f)) ∙ visits_none (visits_below f)))
     ∙ sym (walk_visits (record { number = None; children = f }))
 
-seen_entries : (p : List ℕ) (vs : List Visit) → entries_of (map (visit_from p) vs) ≡ map (behind_path p) (entries_of vs)
+seen_entries : (p : List ℕ) (vs : List Visit) → visited_entries (map (visit_from p) vs) ≡ map (behind_path p) (visited_entries vs)
 seen_entries p [] = refl
 seen_entries p (v ∷ vs) =
-    elim v.1 as (λ o. cons_option (option_map (λ (x : ℤ). (p ++ v.0, x)) o) (entries_of (map (visit_from p) vs)) ≡ map (behind_path p) (cons_option (option_map (λ (x : ℤ). (v.0, x)) o) (entries_of vs))) [
+    elim v.1 as (λ o. cons_option (option_map (λ (x : ℤ). (p ++ v.0, x)) o) (visited_entries (map (visit_from p) vs)) ≡ map (behind_path p) (cons_option (option_map (λ (x : ℤ). (v.0, x)) o) (visited_entries vs))) [
       | None ↦ seen_entries p vs
       | Some x ↦ ap (λ (r : List Entry). (p ++ v.0, x) ∷ r) (seen_entries p vs)
     ]
 
 -- siblings at the end of a path, and what follows them
-level : (p : List ℕ) (f : Forest) (later : List Visit) → entries_of (map (visit_from p) (visits_below f) ++ later) ≡ map (behind_path p) (walk_forest f) ++ entries_of later
+level : (p : List ℕ) (f : Forest) (later : List Visit) → visited_entries (map (visit_from p) (visits_below f) ++ later) ≡ map (behind_path p) (walk_forest f) ++ visited_entries later
 level p f later =
     filter_map-append (λ (v : Visit). option_map (λ (x : ℤ). (v.0, x)) v.1) (map (visit_from p) (visits_below f)) later
-    ∙ ap (λ (x : List Entry). x ++ entries_of later) (seen_entries p (visits_below f) ∙ ap (map (behind_path p)) (below_entries f))
+    ∙ ap (λ (x : List Entry). x ++ visited_entries later) (seen_entries p (visits_below f) ∙ ap (map (behind_path p)) (below_entries f))
 
 has_last : (t : Tree) (w : List ℕ) (l : ℕ) → HasPath t (w ++ l ∷ []) → HasPath t w × (has_label (node_at t w).children l ≡ true)
 has_last t [] l h = (tt, h.0)
@@ -177,7 +177,7 @@ pub at_up : (t : Tree) (up : List ℕ) → (node_at t (forwards up)).children �
 at_up t up = ap (λ (u : Tree). u.children) (sym (node_up_is t up))
 
 since_path : (t : Tree) (up q : List ℕ) → IsAscending t.children → HasPath t (forwards up)
-    → filter (since (forwards up ++ q)) (walk t) ≡ map (behind_path (forwards up)) (filter (since q) (walk (node_up t up))) ++ entries_of (visits_after t up)
+    → filter (since (forwards up ++ q)) (walk t) ≡ map (behind_path (forwards up)) (filter (since q) (walk (node_up t up))) ++ visited_entries (visits_after t up)
 since_path t [] q s on = behind_none (filter (since q) (walk t)) ∙ sym (append-nil (map (behind_path []) (filter (since q) (walk t))))
 since_path t (l ∷ up) q s on =
     let p : List ℕ = forwards up in
@@ -186,7 +186,7 @@ since_path t (l ∷ up) q s on =
     let has : has_label f l ≡ true = ap (λ g. has_label g l) (sym (at_up t up)) ∙ last.1 in
     let ascends : IsAscending f = subst IsAscending (at_up t up) (ascending_at t p s) in
     let here : List Entry = filter (since q) (walk (subtree f l)) in
-    let after : List Entry = entries_of (visits_after t up) in
+    let after : List Entry = visited_entries (visits_after t up) in
     ap (λ w. filter (since w) (walk t)) (append_assoc p (l ∷ []) q)
     ∙ since_path t up (l ∷ q) s last.0
     ∙ ap (λ (x : List Entry). map (behind_path p) x ++ after) (tree_since l q (node_up t up) ∙ since_has l q f ascends has)
@@ -195,26 +195,26 @@ since_path t (l ∷ up) q s on =
     ∙ ap (λ (x : List Entry). x ++ (map (behind_path p) (walk_forest (behind f l)) ++ after)) (map-after (behind_path p) (under l) (behind_path (p ++ l ∷ [])) here (λ e. ap (λ w. (w, e.1)) (sym (append_assoc p (l ∷ []) e.0))))
     ∙ ap (λ (x : List Entry). map (behind_path (p ++ l ∷ [])) here ++ x) (sym (level p (behind f l) (visits_after t up)))
 
-own_level : (p : List ℕ) (n : Option ℤ) (f : Forest) (later : List Visit) → map (behind_path p) (own_entry n ++ walk_forest f) ++ entries_of later ≡ entries_of ((p, n) ∷ (map (visit_from p) (visits_below f) ++ later))
+own_level : (p : List ℕ) (n : Option ℤ) (f : Forest) (later : List Visit) → map (behind_path p) (own_entry n ++ walk_forest f) ++ visited_entries later ≡ visited_entries ((p, n) ∷ (map (visit_from p) (visits_below f) ++ later))
 own_level p None f later = sym (level p f later)
-own_level p (Some v) f later = ap (λ w. (w, v) ∷ (map (behind_path p) (walk_forest f) ++ entries_of later)) (append-nil p) ∙ ap (λ r. (p, v) ∷ r) (sym (level p f later))
+own_level p (Some v) f later = ap (λ w. (w, v) ∷ (map (behind_path p) (walk_forest f) ++ visited_entries later)) (append-nil p) ∙ ap (λ r. (p, v) ∷ r) (sym (level p f later))
 
 -- at a node the entries from its path on are its own and those that a walk has left there
-pub since_node : (t : Tree) (up : List ℕ) → IsAscending t.children → HasPath t (forwards up) → entries_since t (forwards up) ≡ entries_of ((forwards up, (node_up t up).number) ∷ visits_left t up)
+pub since_node : (t : Tree) (up : List ℕ) → IsAscending t.children → HasPath t (forwards up) → entries_since t (forwards up) ≡ visited_entries ((forwards up, (node_up t up).number) ∷ visits_left t up)
 since_node t up s on =
     ap (λ w. filter (since w) (walk t)) (sym (append-nil (forwards up)))
     ∙ since_path t up [] s on
-    ∙ ap (λ (x : List Entry). map (behind_path (forwards up)) x ++ entries_of (visits_after t up)) (since_none (walk (node_up t up)))
+    ∙ ap (λ (x : List Entry). map (behind_path (forwards up)) x ++ visited_entries (visits_after t up)) (since_none (walk (node_up t up)))
     ∙ own_level (forwards up) (node_up t up).number (node_up t up).children (visits_after t up)
 
 -- below a node without a child under the next byte they begin with its children above that byte
 pub since_missing : (t : Tree) (up : List ℕ) (m : ℕ) (q : List ℕ) → IsAscending t.children → HasPath t (forwards up) → has_label (node_up t up).children m ≡ false
-    → entries_since t (forwards up ++ m ∷ q) ≡ entries_of (map (visit_from (forwards up)) (visits_below (siblings_above (node_up t up).children m)) ++ visits_after t up)
+    → entries_since t (forwards up ++ m ∷ q) ≡ visited_entries (map (visit_from (forwards up)) (visits_below (siblings_above (node_up t up).children m)) ++ visits_after t up)
 since_missing t up m q s on lacks =
     let p : List ℕ = forwards up in
     let f : Forest = (node_up t up).children in
     since_path t up (m ∷ q) s on
-    ∙ ap (λ (x : List Entry). map (behind_path p) x ++ entries_of (visits_after t up)) (tree_since m q (node_up t up) ∙ since_lacks m q f (subst IsAscending (at_up t up) (ascending_at t p s)) lacks)
+    ∙ ap (λ (x : List Entry). map (behind_path p) x ++ visited_entries (visits_after t up)) (tree_since m q (node_up t up) ∙ since_lacks m q f (subst IsAscending (at_up t up) (ascending_at t p s)) lacks)
     ∙ sym (level p (siblings_above f m) (visits_after t up))
 
 behind_here : (l : ℕ) (n : Option ℤ) (below rest : Forest) → behind (child l n below rest) l ≡ rest
@@ -240,29 +240,29 @@ last_ascend : (f g : Forest) → IsAscending f → AreLast f g → IsAscending g
 last_ascend f g s (inl all) = subst IsAscending (sym all) s
 last_ascend f g s (inr behind_one) = subst IsAscending (sym behind_one.2) (ascending_behind f behind_one.0 s)
 
-pub above_all : (f : Forest) (m : ℕ) → AboveFrom f m (first_of f)
+pub above_all : (f : Forest) (m : ℕ) → AboveFrom f m (first_sibling_label f)
 above_all f m = record { rest = f; last = inl refl; same = refl; first = refl }
 
 pub above_label : (f : Forest) (m next : ℕ) → IsSoundBelow f → AboveFrom f m next → (next ≡ 0 → ⊥) → has_label f next ≡ true
 above_label f m next s a some = by_rest a.rest refl
   where
     by_rest : (g : Forest) → a.rest ≡ g → has_label f next ≡ true
-    by_rest none e = absurd (some (a.first ∙ ap first_of e))
-    by_rest (child c n below rest) e = ap (has_label f) (a.first ∙ ap first_of e) ∙ (last_first f a.rest c n below rest s a.last e).0
+    by_rest none e = absurd (some (a.first ∙ ap first_sibling_label e))
+    by_rest (child c n below rest) e = ap (has_label f) (a.first ∙ ap first_sibling_label e) ∙ (last_first f a.rest c n below rest s a.last e).0
 
 -- a label that isn't above is passed
 pub above_on : (f : Forest) (m next : ℕ) → IsSoundBelow f → IsAscending f → AboveFrom f m next → (next ≡ 0 → ⊥) → next ≤ m
-    → AboveFrom f m (first_of (behind f next)) × ((first_of (behind f next) ≡ 0 → ⊥) → next < first_of (behind f next))
+    → AboveFrom f m (first_sibling_label (behind f next)) × ((first_sibling_label (behind f next) ≡ 0 → ⊥) → next < first_sibling_label (behind f next))
 above_on f m next s ascends a some most = by_rest a.rest refl
   where
-    next_above : (low : ℕ) (g : Forest) → AllAbove low g → (first_of g ≡ 0 → ⊥) → low < first_of g
+    next_above : (low : ℕ) (g : Forest) → AllAbove low g → (first_sibling_label g ≡ 0 → ⊥) → low < first_sibling_label g
     next_above low none h more = absurd (more refl)
     next_above low (child c n below rest) h more = h.0
 
-    by_rest : (g : Forest) → a.rest ≡ g → AboveFrom f m (first_of (behind f next)) × ((first_of (behind f next) ≡ 0 → ⊥) → next < first_of (behind f next))
-    by_rest none e = absurd (some (a.first ∙ ap first_of e))
+    by_rest : (g : Forest) → a.rest ≡ g → AboveFrom f m (first_sibling_label (behind f next)) × ((first_sibling_label (behind f next) ≡ 0 → ⊥) → next < first_sibling_label (behind f next))
+    by_rest none e = absurd (some (a.first ∙ ap first_sibling_label e))
     by_rest (child c n below rest) e =
-        let is : next ≡ c = a.first ∙ ap first_of e in
+        let is : next ≡ c = a.first ∙ ap first_sibling_label e in
         let found = last_first f a.rest c n below rest s a.last e in
         let behind_is : behind f next ≡ rest = ap (behind f) is ∙ found.2 in
         let up : IsAscending (child c n below rest) = subst IsAscending e (last_ascend f a.rest ascends a.last) in
@@ -273,7 +273,7 @@ above_on f m next s ascends a some most = by_rest a.rest refl
             same = a.same ∙ ap (λ g. siblings_above g m) e ∙ passed ∙ ap (λ g. siblings_above g m) (sym behind_is);
             first = refl;
           },
-          subst (λ (g : Forest). (first_of g ≡ 0 → ⊥) → next < first_of g) (sym behind_is) (subst (λ x. (first_of rest ≡ 0 → ⊥) → x < first_of rest) (sym is) (next_above c rest up.0)),
+          subst (λ (g : Forest). (first_sibling_label g ≡ 0 → ⊥) → next < first_sibling_label g) (sym behind_is) (subst (λ x. (first_sibling_label rest ≡ 0 → ⊥) → x < first_sibling_label rest) (sym is) (next_above c rest up.0)),
         )
 
 -- where none is left, none is above
@@ -294,7 +294,7 @@ above_none f m next s a z = a.same ∙ ap (λ g. siblings_above g m) (by_rest a.
 
     by_rest : (g : Forest) → a.rest ≡ g → a.rest ≡ none
     by_rest none e = e
-    by_rest (child c n below rest) e = absurd (positive c n below rest e (sym (a.first ∙ ap first_of e) ∙ z))
+    by_rest (child c n below rest) e = absurd (positive c n below rest e (sym (a.first ∙ ap first_sibling_label e) ∙ z))
 
 -- the first above it is what a walk comes to
 pub above_first : (t : Tree) (up : List ℕ) (m next : ℕ) → IsSoundBelow (node_up t up).children → AboveFrom (node_up t up).children m next → m < next
@@ -306,9 +306,9 @@ above_first t up m next s a higher = by_rest a.rest refl
     f = (node_up t up).children
 
     by_rest : (g : Forest) → a.rest ≡ g → map (visit_from (forwards up)) (visits_below (siblings_above (node_up t up).children m)) ++ visits_after t up ≡ (forwards (next ∷ up), (subtree (node_up t up).children next).number) ∷ visits_left t (next ∷ up)
-    by_rest none e = let z : next ≡ 0 = a.first ∙ ap first_of e in absurd (omega (arith, z, higher))
+    by_rest none e = let z : next ≡ 0 = a.first ∙ ap first_sibling_label e in absurd (omega (arith, z, higher))
     by_rest (child c n below rest) e =
-        let is : next ≡ c = a.first ∙ ap first_of e in
+        let is : next ≡ c = a.first ∙ ap first_sibling_label e in
         let found = last_first (node_up t up).children a.rest c n below rest s a.last e in
         let kept : siblings_above (child c n below rest) m ≡ child c n below rest = ap (λ b. cond b (child c n below rest) (siblings_above rest m)) (ltb-from_lt m c (omega (arith, higher, is))) in
         let all : siblings_above (node_up t up).children m ≡ a.rest = a.same ∙ ap (λ g. siblings_above g m) e ∙ kept ∙ sym e in

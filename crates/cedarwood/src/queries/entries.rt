@@ -2,7 +2,7 @@
 
 ghost use Rattle.std.specs.Prelude.{◌<◌, ◌↔◌, ◌∷◌, ◌≡◌, IfOk, IfSome, IsTrue, List, MatchOption, MatchResult, Some, [], length, string_bytes};
 ghost use Rattle.cedarwood.specs.Words.{ComesToEntry, Entry, IsEntriesPlace, IsEntryError, IsWellFormed, IsWithinCount, UpTo, entries_from, item_count, left_at, tree_of, walk};
-ghost use Rattle.cedar_tree.specs.Walks.{entries_of};
+ghost use Rattle.cedar_tree.specs.Walks.{visited_entries};
 ghost use Rattle.cedarwood.specs.declared.error.CedarError.TheVariants.{Memory};
 
 use crate::CedarError;
@@ -42,7 +42,7 @@ fn next_entry<T: Walked, A: Allocator>(
 ) -> Result<Option<(usize, i32)>, AllocError>
     requires well_formed { IsWellFormed T.slots (T.shown trie.now) }
     requires place { IsEntriesPlace (T.shown trie.now) key.old.items slot }
-    ensures { IfOk result (λ found. MatchOption found (entries_of (left_at (T.shown trie.now) [] (length key.old.items) slot) ≡ []) (ComesToEntry (T.shown trie.now) (entries_of (left_at (T.shown trie.now) [] (length key.old.items) slot)) key.new.items)) }
+    ensures { IfOk result (λ found. MatchOption found (visited_entries (left_at (T.shown trie.now) [] (length key.old.items) slot) ≡ []) (ComesToEntry (T.shown trie.now) (visited_entries (left_at (T.shown trie.now) [] (length key.old.items) slot)) key.new.items)) }
 {
     let mut at = slot;
     while let Some(next) = trie.next_node(at, key.len()) {
@@ -147,8 +147,8 @@ fn next_copied<T: Walked, A: Allocator + Copy>(
 ) -> Result<Option<(usize, i32, Vec<u8, A>)>, AllocError>
     requires well_formed { IsWellFormed T.slots (T.shown trie.now) }
     requires place { IsEntriesPlace (T.shown trie.now) key.old.items slot }
-    ensures { IfOk result (λ found. MatchOption found (entries_of (left_at (T.shown trie.now) [] (length key.old.items) slot) ≡ []) (λ entry.
-        (entry.2.items ≡ key.new.items) × ComesToEntry (T.shown trie.now) (entries_of (left_at (T.shown trie.now) [] (length key.old.items) slot)) key.new.items (entry.0, entry.1))) }
+    ensures { IfOk result (λ found. MatchOption found (visited_entries (left_at (T.shown trie.now) [] (length key.old.items) slot) ≡ []) (λ entry.
+        (entry.2.items ≡ key.new.items) × ComesToEntry (T.shown trie.now) (visited_entries (left_at (T.shown trie.now) [] (length key.old.items) slot)) key.new.items (entry.0, entry.1))) }
 {
     let Some((found, number)) = next_entry(trie, slot, key)? else {
         return Ok(None);

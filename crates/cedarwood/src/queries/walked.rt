@@ -1,8 +1,8 @@
 //! What walks that are under way ask of a dictionary.
 
 ghost use Rattle.std.specs.Prelude.{◌*◌, ◌++◌, ◌+◌, ◌-◌, ◌<◌, ◌∷◌, ◌≡◌, ◌≤◌, List, MatchOption, [], length, take, true, ℕ};
-ghost use Rattle.cedarwood.specs.Words.{ComesTo, ComesToNumber, Fields, IsBelow, IsNumberedBelow, IsOnQuery, IsWellFormed, cells_in, front_from, left_at, node_at, passed, path_to, tree_of, walk};
-ghost use Rattle.cedar_tree.specs.Walks.{entries_of};
+ghost use Rattle.cedarwood.specs.Words.{ComesTo, ComesToNumber, Fields, IsBelow, IsNumberedBelow, IsOnQuery, IsWellFormed, cells_in, front_from, left_at, node_at, front_length, path_to, tree_of, walk};
+ghost use Rattle.cedar_tree.specs.Walks.{visited_entries};
 ghost use Rattle.cedar_walk.specs.Ranges.{entries_since};
 
 use crate::{Layout, Ticks, Trie};
@@ -34,7 +34,7 @@ pub trait Walked {
         ensures answer { MatchOption result (front_from (tree_of (shown self.now)) query.now place ≡ []) (λ front.
             (0 < front.len) × (front_from (tree_of (shown self.now)) query.now place ≡ (front.number, front.len - 1) ∷ front_from (tree_of (shown self.now)) query.now front.len)) }
         ensures on { MatchOption result (place ≤ length query.now) (λ front. (place < front.len) × IsOnQuery (shown self.now) query.now front.len front.slot) }
-        ensures cost { ticks.new ≤ ticks.old + 2 * (passed query.now result - place) };
+        ensures cost { ticks.new ≤ ticks.old + 2 * (front_length query.now result - place) };
 
     /// The first node with a number of those that begin at a query's node, and go on below it.
     fn first_numbered(&self, query: &[u8]) -> Option<Numbered>
@@ -45,7 +45,7 @@ pub trait Walked {
     fn next_numbered(&self, node: usize, depth: usize) -> Option<Numbered>
         requires well_formed { IsWellFormed slots (shown self.now) }
         requires below { (start : List ℕ) × IsNumberedBelow (shown self.now) start depth node }
-        ensures { (start : List ℕ) → IsBelow (cells_in (shown self.now)) start depth node → MatchOption result (entries_of (left_at (shown self.now) start depth node) ≡ []) (ComesToNumber (shown self.now) start (entries_of (left_at (shown self.now) start depth node))) };
+        ensures { (start : List ℕ) → IsBelow (cells_in (shown self.now)) start depth node → MatchOption result (visited_entries (left_at (shown self.now) start depth node) ≡ []) (ComesToNumber (shown self.now) start (visited_entries (left_at (shown self.now) start depth node))) };
 
     /// The next node of a walk.
     fn next_node(&self, node: usize, depth: usize) -> Option<Visited>

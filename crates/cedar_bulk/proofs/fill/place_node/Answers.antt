@@ -2,7 +2,7 @@ use Rattle.std.proofs.Common.{◌≡◌, ◌≢◌, ◌<◌, ◌≤◌, ◌∙�
 use Rattle.std.specs.Prelude.{ℤ}
 use Rattle.cedar_model.specs.Table.Cells.{Held}
 use Rattle.cedar_model.specs.Meaning.Family.{Among, base_in, below, InRange}
-use Rattle.cedar_bulk.specs.Sorted.{Fills, GetsBase, GetsLabels, IsChildless, with_number}
+use Rattle.cedar_bulk.specs.Sorted.{Fills, GetsBase, GetsLabels, IsChildless, slot_labels}
 use Rattle.cedar_table.specs.Table.Views.{cells, fields}
 use Rattle.cedar_model.specs.Table.TableFields.{size_of}
 use Rattle.cedar_model.proofs.EditLemmas.AtPath.{held_node}
@@ -27,7 +27,7 @@ begin_chain-before-requires g c =
     let more : size ≤ size' = made_larger e.blocks.0 (fields c.args.table.now) (fields c.give_base.new.table) e.blocks.4 in
     let node = still_bare size size' (cells c.args.table.now) T₁ c.args.node c.args.wanted.now n e.based in
     let free : (v : ℤ) → c.args.number ≡ Some v → Held T₁ (below T₁ c.args.node 0) → ⊥ = λ v is.
-    e.based.free 0 (subst (λ ws. Among ws 0) (ap (λ o. with_number o c.args.labels.now) (sym is) ∙ sym c.requires.wanted) (inl refl)) in
+    e.based.free 0 (subst (λ ws. Among ws 0) (ap (λ o. slot_labels o c.args.labels.now) (sym is) ∙ sym c.requires.wanted) (inl refl)) in
     (search rules, record { sound = e.sound; node_in = omega (arith, c.requires.node_in, more); not_root = c.requires.not_root; node = node; based = e.based.based; base_is = e.base; free = free })
 
 pub append_labels-requires : goal.append_labels-requires

@@ -3,7 +3,7 @@ use Rattle.std.specs.Prelude.{bit_xor}
 use Rattle.std.proofs.lemmas.Int.{to_z-of_z}
 use Rattle.cedar_model.specs.Table.Cells.{Held, Takes}
 use Rattle.cedar_model.specs.Meaning.Family.{below}
-use Rattle.cedar_bulk.specs.Sorted.{Ends}
+use Rattle.cedar_bulk.specs.Sorted.{GoesLast}
 use Rattle.cedar_table.specs.Table.Views.{cells, fields}
 use Rattle.cedar_model.specs.Table.TableFields.{size_of}
 use Rattle.cedar_bulk.proofs.BulkLemmas.BareNode.{empty_node}
@@ -41,7 +41,7 @@ returns-clause-ends g c = λ l.
     let popped = c.pop_e_node.ensures in
     let e : c.slot_at-slot.result ≡ below T c.args.node 0 = c.slot_at-slot.ensures ∙ ap (λ b. bit_xor b 0) c.requires.base_is in
     let fits : FitsSigned w32 c.args.value = search rules in
-    subst (λ s. Ends size' T₁ c.args.node l (Some s)) (sym e)
+    subst (λ s. GoesLast size' T₁ c.args.node l (Some s)) (sym e)
     (number_ends size T T₁ n.0 n.1.path c.args.node c.args.value n.1.holds n.1.at c.requires.not_root (empty_node size T n.0 n.1.path c.args.node n.1.holds n.1.at n.2) c.requires.based c.requires.free
     (subst (λ s. Takes T T₁ s c.args.node) e popped.takes) (ap T₁.base (sym e) ∙ popped.base ∙ to_z-of_z w32 c.args.value fits)
     size' l (subst (λ m. below T c.args.node 0 < m) (sym popped.frame.size) (lead_inside size T c.args.node c.requires.based.1)))

@@ -3,7 +3,7 @@ use Rattle.std.specs.Prelude.{IfSome, true}
 use Rattle.cedar_tree.specs.Tree.{none}
 use Rattle.cedar_tree.specs.Queries.{Entry}
 use Rattle.cedar_model.specs.Edit.NodeEdits.{Above}
-use Rattle.cedar_bulk.specs.Sorted.{entries_by, Fills, with_number}
+use Rattle.cedar_bulk.specs.Sorted.{entries_by, Fills, slot_labels}
 use Rattle.cedar_bulk.specs.SortedMarks.{KeepsOwn}
 use Rattle.cedar_bulk.specs.Spans.{based_at, Covers, Lists, parts_of}
 use Rattle.cedar_model.specs.Meaning.StandsFor.{labels}
@@ -47,7 +47,7 @@ split_at-requires-2 g c =
     let count = bit_is skipped c.is_some.result number c.from-skipped.ensures c.is_some.ensures in
     let k = below_is d es t.0 number skipped t.1 c.number_at-number.ensures count in
     let below : entries_by items c.split_at.result.1.now ≡ drop skipped es = ap (entries_by items) c.split_at.ensures.back ∙ back_is items skipped c.args.span.pairs.now in
-    let listed : c.as_slice-listed.result.now ≡ with_number number (labels t.0.children) = c.as_slice-listed.ensures.value ∙ c.in_ok-list_spans.ensures.labels t.0.children (subst (λ xs. Lists d xs t.0.children) (sym below) k.lists) in
+    let listed : c.as_slice-listed.result.now ≡ slot_labels number (labels t.0.children) = c.as_slice-listed.ensures.value ∙ c.in_ok-list_spans.ensures.labels t.0.children (subst (λ xs. Lists d xs t.0.children) (sym below) k.lists) in
     subst (λ xs. skipped ≤ length xs) (sym listed) k.wanted_more
 
 pub fill_node-requires : goal.fill_node-requires
@@ -61,9 +61,9 @@ fill_node-requires g c =
     let count = bit_is skipped c.is_some.result number c.from-skipped.ensures c.is_some.ensures in
     let k = below_is d es t.0 number skipped t.1 c.number_at-number.ensures count in
     let below : entries_by items c.split_at.result.1.now ≡ drop skipped es = ap (entries_by items) c.split_at.ensures.back ∙ back_is items skipped c.args.span.pairs.now in
-    let listed : c.as_slice-listed.result.now ≡ with_number number (labels t.0.children) = c.as_slice-listed.ensures.value ∙ c.in_ok-list_spans.ensures.labels t.0.children (subst (λ xs. Lists d xs t.0.children) (sym below) k.lists) in
+    let listed : c.as_slice-listed.result.now ≡ slot_labels number (labels t.0.children) = c.as_slice-listed.ensures.value ∙ c.in_ok-list_spans.ensures.labels t.0.children (subst (λ xs. Lists d xs t.0.children) (sym below) k.lists) in
     let positive : c.split_at-2.result.1.now ≡ labels t.0.children = c.split_at-2.ensures.back ∙ ap (drop skipped) listed ∙ k.wanted in
-    let listed_is : c.as_slice-listed.result.now ≡ with_number number c.split_at-2.result.1.now = listed ∙ ap (with_number number) (sym positive) in
+    let listed_is : c.as_slice-listed.result.now ≡ slot_labels number c.split_at-2.result.1.now = listed ∙ ap (slot_labels number) (sym positive) in
     (search (rules, c.requires-raw), (record { sound = c.requires.bare.sound; node_in = c.requires.bare.node_in; not_root = λ z. k.number_is ∙ t.2 z; node = c.requires.bare.node; leaf = c.requires.bare.leaf; wanted = listed_is; some = subst (λ xs. 0 < length xs) (sym listed) k.some; few = subst (λ xs. length xs ≤ 256) (sym listed) k.most; ascends = subst (Above 0) (sym positive) k.ascends }, subst (λ o. IfSome o (λ v. is_value v ≡ true)) (sym k.number_is) t.1.values.0))
 
 pub returns-in_err-list_spans-clause-blocks : goal.returns-in_err-list_spans-clause-blocks
@@ -92,7 +92,7 @@ returns-clause-fills g c = λ t h.
     let count = bit_is skipped c.is_some.result number c.from-skipped.ensures c.is_some.ensures in
     let k = below_is d es t number skipped h c.number_at-number.ensures count in
     let below : entries_by items c.split_at.result.1.now ≡ drop skipped es = ap (entries_by items) c.split_at.ensures.back ∙ back_is items skipped c.args.span.pairs.now in
-    let listed : c.as_slice-listed.result.now ≡ with_number number (labels t.children) = c.as_slice-listed.ensures.value ∙ c.in_ok-list_spans.ensures.labels t.children (subst (λ xs. Lists d xs t.children) (sym below) k.lists) in
+    let listed : c.as_slice-listed.result.now ≡ slot_labels number (labels t.children) = c.as_slice-listed.ensures.value ∙ c.in_ok-list_spans.ensures.labels t.children (subst (λ xs. Lists d xs t.children) (sym below) k.lists) in
     let positive : c.split_at-2.result.1.now ≡ labels t.children = c.split_at-2.ensures.back ∙ ap (drop skipped) listed ∙ k.wanted in
     let T = cells c.args.table.now in
     let T' = cells c.fill_node.new.table in
@@ -125,7 +125,7 @@ returns-clause-own g c = λ t h.
     let count = bit_is skipped c.is_some.result number c.from-skipped.ensures c.is_some.ensures in
     let k = below_is d es t number skipped h c.number_at-number.ensures count in
     let below : entries_by items c.split_at.result.1.now ≡ drop skipped es = ap (entries_by items) c.split_at.ensures.back ∙ back_is items skipped c.args.span.pairs.now in
-    let listed : c.as_slice-listed.result.now ≡ with_number number (labels t.children) = c.as_slice-listed.ensures.value ∙ c.in_ok-list_spans.ensures.labels t.children (subst (λ xs. Lists d xs t.children) (sym below) k.lists) in
+    let listed : c.as_slice-listed.result.now ≡ slot_labels number (labels t.children) = c.as_slice-listed.ensures.value ∙ c.in_ok-list_spans.ensures.labels t.children (subst (λ xs. Lists d xs t.children) (sym below) k.lists) in
     let positive : c.split_at-2.result.1.now ≡ labels t.children = c.split_at-2.ensures.back ∙ ap (drop skipped) listed ∙ k.wanted in
     let T' = cells c.fill_node.new.table in
     subst (λ o. KeepsOwn g.L.Layout.kind T' c.args.span.node o (labels t.children)) k.number_is

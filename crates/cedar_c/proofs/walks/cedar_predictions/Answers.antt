@@ -1,7 +1,7 @@
 use Rattle.std.proofs.Common.{rules, ◌≡◌, ◌∙◌, None, ap, sym}
 use Rattle.cedarwood.specs.Queries.{predict}
 use Rattle.cedar_c.specs.Content.{content}
-use Rattle.cedar_c.specs.Matches.{filled}
+use Rattle.cedar_c.specs.Matches.{filled_matches}
 use Rattle.cedar_c.proofs.ClosedLemmas.{closed_is_empty}
 use Rattle.cedar_c.proofs.MatchLemmas.{nothing_filled}
 use Rattle.cedar_c.proofs.walks.cedar_predictions.Goals as goal
@@ -10,4 +10,4 @@ pub returns-then-not-is_open-clause-filled : goal.returns-then-not-is_open-claus
 returns-then-not-is_open-clause-filled c =
     let closed : content c.args.handle.now ≡ None = search rules in
     let matches = c.args.matches.now in
-    sym (ap (λ t. filled matches (predict t c.args.text.now)) (closed_is_empty c.args.handle.now closed) ∙ nothing_filled matches)
+    sym (ap (λ t. filled_matches matches (predict t c.args.text.now)) (closed_is_empty c.args.handle.now closed) ∙ nothing_filled matches)

@@ -3,7 +3,7 @@ use Rattle.std.specs.Io.KnownBytes.{Consumes}
 use Rattle.std.specs.Prelude.{vec_capacity}
 use Rattle.cedarwood.specs.WatchedDevice.{has_failed}
 use Rattle.cedar_cli.specs.Blocks.{GrowsBefore}
-use Rattle.cedar_cli.specs.Lines.{HasNoNewline, HasRoom}
+use Rattle.cedar_cli.specs.Lines.{HasNoNewline, HasLineRoom}
 use Rattle.cedar_cli.specs.Script.{Advances}
 use Rattle.cedar_cli.specs.View.{view_of}
 use Rattle.cedar_cli.proofs.script.run_script.Given as goal
@@ -18,4 +18,4 @@ invariant-loop-turn g l =
     × (has_failed l.reader ≡ has_failed l.fn.reader) × (has_failed l.writer ≡ has_failed l.fn.writer)
     × (l.trie.max_trial ≡ l.fn.trie.max_trial)
     × GrowsBefore (length l.line.items) (length came) l.fn.trie l.trie
-    × HasRoom (vec_capacity l.line) (length l.key.items)
+    × HasLineRoom (vec_capacity l.line) (length l.key.items)

@@ -2,7 +2,7 @@ use Rattle.std.proofs.Common.{◌≡◌, ℕ, List, ◌++◌, length, ◌+◌}
 use Rattle.std.specs.Prelude.{vec_capacity}
 use Rattle.cedarwood.specs.WatchedDevice.{device_of, has_failed}
 use Rattle.cedar_cli.specs.Blocks.{GrowsBefore}
-use Rattle.cedar_cli.specs.Lines.{HasNoNewline, HasRoom}
+use Rattle.cedar_cli.specs.Lines.{HasNoNewline, HasLineRoom}
 use Rattle.cedar_cli.specs.Script.{Advances}
 use Rattle.cedar_cli.specs.View.{view_of}
 use Rattle.cedar_cli.proofs.script.take_bytes.Given as goal
@@ -16,7 +16,7 @@ invariant-loop-at g l =
     × (has_failed l.writer ≡ has_failed l.fn.writer)
     × (l.trie.max_trial ≡ l.fn.trie.max_trial)
     × GrowsBefore (length l.line.items) (length l.fn.line.items + length gone) l.fn.trie l.trie
-    × HasRoom (vec_capacity l.line) (length l.key.items)
+    × HasLineRoom (vec_capacity l.line) (length l.key.items)
 
 abbrev pub decreases-loop-at : goal.decreases-loop-at
 decreases-loop-at g l = length l.rest

@@ -1,5 +1,5 @@
 use Rattle.std.proofs.Common.{◌<◌, ◌∙◌, [], ap, arith, length, MatchOption, rules, subst, sym, ◌≡◌}
-use Rattle.cedar_tree.specs.Walks.{entries_of}
+use Rattle.cedar_tree.specs.Walks.{visited_entries}
 use Rattle.cedar_table.specs.Table.Views.{fields}
 use Rattle.cedar_model.specs.Meaning.WellFormed.{tree_of}
 use Rattle.cedar_walk.specs.Ranges.{entries_since}
@@ -43,7 +43,7 @@ returns-in_err-place g c =
     let key = c.args.key.now in
     let short : c.way_along-reached.result.depth < length c.args.key.now = omega (arith, c.way_along-reached.ensures.within, c.if-reached-key.false) in
     let part = since_short _ T c.requires.well_formed c.requires.ordered key c.way_along-reached.result c.way_along-reached.ensures short in
-    subst (λ found. MatchOption found (entries_since (tree_of T) key ≡ []) (ComesToNumber T [] (entries_since (tree_of T) key))) (sym c.from_residual.ensures) (part.1 ∙ ap entries_of c.in_err-place.ensures)
+    subst (λ found. MatchOption found (entries_since (tree_of T) key ≡ []) (ComesToNumber T [] (entries_since (tree_of T) key))) (sym c.from_residual.ensures) (part.1 ∙ ap visited_entries c.in_err-place.ensures)
 
 pub numbered_from-requires-2 : goal.numbered_from-requires-2
 numbered_from-requires-2 g c =

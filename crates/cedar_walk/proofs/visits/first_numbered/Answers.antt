@@ -1,6 +1,6 @@
 use Rattle.std.proofs.Common.{[], ◌++◌, ◌∙◌, ap, rules, subst, sym}
 use Rattle.std.proofs.lemmas.List.{append-nil}
-use Rattle.cedar_tree.specs.Walks.{entries_of}
+use Rattle.cedar_tree.specs.Walks.{visited_entries}
 use Rattle.cedar_model.specs.Edit.NodeEdits.{IsAt}
 use Rattle.cedar_table.specs.Table.Views.{cells, fields}
 use Rattle.cedar_walk.specs.Visits.{ComesToNumber}
@@ -25,7 +25,7 @@ returns-then-label-eq0 g c =
     let query = c.args.query.now in
     let at = subst (λ w. IsAt (cells c.args.table.now) w c.in_ok-node.node) (sym (append-nil query)) c.in_ok-node.ensures.2 in
     root_walk _ T c.requires query c.in_ok-node.node c.in_ok-node.ensures.2 c.if-node-ne0.false
-    ∙ ap entries_of (none_below _ T c.requires query 0 c.in_ok-node.node c.first_child-label.result (c.first_child-label.ensures (query ++ []) at) c.if-label-eq0.true)
+    ∙ ap visited_entries (none_below _ T c.requires query 0 c.in_ok-node.node c.first_child-label.result (c.first_child-label.ensures (query ++ []) at) c.if-label-eq0.true)
 
 pub child_under-place-requires : goal.child_under-place-requires
 child_under-place-requires g c =
@@ -49,5 +49,5 @@ returns g c =
     let place = c.child_under-place.result in
     let at = subst (λ w. IsAt (cells c.args.table.now) w c.in_ok-node.node) (sym (append-nil query)) c.in_ok-node.ensures.2 in
     let comes = comes_first _ T c.requires query 0 c.in_ok-node.node c.first_child-label.result place at (c.first_child-label.ensures (query ++ []) at) c.if-label-eq0.false c.child_under-place.ensures.slot c.child_under-place.ensures.depth c.child_under-place.ensures.label in
-    let all = root_walk _ T c.requires query c.in_ok-node.node c.in_ok-node.ensures.2 c.if-node-ne0.false ∙ ap entries_of comes.visits in
+    let all = root_walk _ T c.requires query c.in_ok-node.node c.in_ok-node.ensures.2 c.if-node-ne0.false ∙ ap visited_entries comes.visits in
     subst (λ left. ComesToNumber T query left c.numbered_from-2.result) (sym all) (c.numbered_from-2.ensures query comes.below)

@@ -1,5 +1,5 @@
 use Rattle.std.proofs.Common.{◌++◌, ap, rules, subst, sym}
-use Rattle.cedar_tree.specs.Walks.{entries_of}
+use Rattle.cedar_tree.specs.Walks.{visited_entries}
 use Rattle.cedar_table.specs.Table.Views.{fields}
 use Rattle.cedar_walk.specs.Visits.{ComesToNumber, path_to}
 use Rattle.cedar_walk.proofs.WalkLemmas.NextNumber.{deep_not_root}
@@ -25,4 +25,4 @@ pub returns : goal.returns
 returns g c = λ start at.
     let T = fields c.args.table.now in
     let comes = c.in_ok-place.ensures start at in
-    subst (λ left. ComesToNumber T start left c.numbered_from.result) (sym (ap entries_of comes.visits)) (c.numbered_from.ensures start comes.below)
+    subst (λ left. ComesToNumber T start left c.numbered_from.result) (sym (ap visited_entries comes.visits)) (c.numbered_from.ensures start comes.below)

@@ -7,7 +7,7 @@ use Rattle.cedar_model.specs.Edit.NodeEdits.{CanAdd, IsAt}
 use Rattle.cedar_model.specs.Meaning.Family.{below}
 use Rattle.cedar_model.specs.Table.Layouts.{reading}
 use Rattle.cedar_model.specs.Meaning.StandsFor.{HoldsTree}
-use Rattle.cedar_model.specs.Relocation.Reserved.{freed}
+use Rattle.cedar_model.specs.Relocation.Reserved.{cells_without}
 use Rattle.cedar_table.specs.Table.Views.{cells, fields}
 use Rattle.cedar_model.specs.Table.TableFields.{size_of}
 use Rattle.cedar_model.proofs.EditLemmas.KeptSlotGiven.{chain_there, freed_free, node_apart, place_there, slot_far}
@@ -23,7 +23,7 @@ slot_before-before-requires g c =
     let size = size_of (fields c.args.table.now) in
     let ordered = (fields c.args.table.now).ordered in
     let x : ℕ = below R c.args.node c.args.label in
-    let T = freed R x in
+    let T = cells_without R x in
     let n = c.requires.node in
     let small : c.args.label < 256 = omega (arith, c.ranges.label.fits) in
     let far : x ≡ 0 → ⊥ = slot_far _ c.args.label c.requires.based.0 small in
@@ -38,7 +38,7 @@ claim-requires g c =
     let size = size_of (fields c.args.table.now) in
     let ordered = (fields c.args.table.now).ordered in
     let x : ℕ = below R c.args.node c.args.label in
-    let T = freed R x in
+    let T = cells_without R x in
     let n = c.requires.node in
     let small : c.args.label < 256 = omega (arith, c.ranges.label.fits) in
     let far : x ≡ 0 → ⊥ = slot_far _ c.args.label c.requires.based.0 small in
@@ -53,7 +53,7 @@ link-requires g c =
     let size = size_of (fields c.args.table.now) in
     let ordered = (fields c.args.table.now).ordered in
     let x : ℕ = below R c.args.node c.args.label in
-    let T = freed R x in
+    let T = cells_without R x in
     let n = c.requires.node in
     let small : c.args.label < 256 = omega (arith, c.ranges.label.fits) in
     let far : x ≡ 0 → ⊥ = slot_far _ c.args.label c.requires.based.0 small in
@@ -61,7 +61,7 @@ link-requires g c =
     let e : c.child_slot-slot.result ≡ x = c.child_slot-slot.ensures in
     let T₁ = cells c.claim.new.self in
     let claim = c.claim.ensures in
-    let takes : Takes T T₁ c.child_slot-slot.result c.args.node = subst (λ s. Takes (freed R s) T₁ c.child_slot-slot.result c.args.node) e claim.takes in
+    let takes : Takes T T₁ c.child_slot-slot.result c.args.node = subst (λ s. Takes (cells_without R s) T₁ c.child_slot-slot.result c.args.node) e claim.takes in
     let fits : FitsSigned w32 c.base_field.result = search rules in
     let bare : T₁.stored c.child_slot-slot.result ≡ AtBase 0 = claim.stored ∙ ap (reading g.L.Layout.kind) (to_z-of_z w32 c.base_field.result fits) ∙ c.base_field.ensures in
     let before = place_there size R ordered c.args.node x c.requires.not_root (node_apart size R ordered n.0 c.args.node x far n.1).0 c.requires.reserved c.args.label c.slot_before-before.result c.slot_before-before.ensures in
@@ -88,7 +88,7 @@ returns-clause-added g c =
     let size = size_of (fields c.args.table.now) in
     let ordered = (fields c.args.table.now).ordered in
     let x : ℕ = below R c.args.node c.args.label in
-    let T = freed R x in
+    let T = cells_without R x in
     let n = c.requires.node in
     let small : c.args.label < 256 = omega (arith, c.ranges.label.fits) in
     let far : x ≡ 0 → ⊥ = slot_far _ c.args.label c.requires.based.0 small in
@@ -96,7 +96,7 @@ returns-clause-added g c =
     let e : c.child_slot-slot.result ≡ x = c.child_slot-slot.ensures in
     let T₁ = cells c.claim.new.self in
     let claim = c.claim.ensures in
-    let takes : Takes T T₁ c.child_slot-slot.result c.args.node = subst (λ s. Takes (freed R s) T₁ c.child_slot-slot.result c.args.node) e claim.takes in
+    let takes : Takes T T₁ c.child_slot-slot.result c.args.node = subst (λ s. Takes (cells_without R s) T₁ c.child_slot-slot.result c.args.node) e claim.takes in
     let fits : FitsSigned w32 c.base_field.result = search rules in
     let bare : T₁.stored c.child_slot-slot.result ≡ AtBase 0 = claim.stored ∙ ap (reading g.L.Layout.kind) (to_z-of_z w32 c.base_field.result fits) ∙ c.base_field.ensures in
     let before = place_there size R ordered c.args.node x c.requires.not_root (node_apart size R ordered n.0 c.args.node x far n.1).0 c.requires.reserved c.args.label c.slot_before-before.result c.slot_before-before.ensures in
@@ -108,7 +108,7 @@ returns-clause-slot g c =
     let size = size_of (fields c.args.table.now) in
     let ordered = (fields c.args.table.now).ordered in
     let x : ℕ = below R c.args.node c.args.label in
-    let T = freed R x in
+    let T = cells_without R x in
     let n = c.requires.node in
     let small : c.args.label < 256 = omega (arith, c.ranges.label.fits) in
     let far : x ≡ 0 → ⊥ = slot_far _ c.args.label c.requires.based.0 small in
@@ -116,7 +116,7 @@ returns-clause-slot g c =
     let e : c.child_slot-slot.result ≡ x = c.child_slot-slot.ensures in
     let T₁ = cells c.claim.new.self in
     let claim = c.claim.ensures in
-    let takes : Takes T T₁ c.child_slot-slot.result c.args.node = subst (λ s. Takes (freed R s) T₁ c.child_slot-slot.result c.args.node) e claim.takes in
+    let takes : Takes T T₁ c.child_slot-slot.result c.args.node = subst (λ s. Takes (cells_without R s) T₁ c.child_slot-slot.result c.args.node) e claim.takes in
     let fits : FitsSigned w32 c.base_field.result = search rules in
     let bare : T₁.stored c.child_slot-slot.result ≡ AtBase 0 = claim.stored ∙ ap (reading g.L.Layout.kind) (to_z-of_z w32 c.base_field.result fits) ∙ c.base_field.ensures in
     let before = place_there size R ordered c.args.node x c.requires.not_root (node_apart size R ordered n.0 c.args.node x far n.1).0 c.requires.reserved c.args.label c.slot_before-before.result c.slot_before-before.ensures in
@@ -125,13 +125,13 @@ returns-clause-slot g c =
 pub returns-clause-tree : goal.returns-clause-tree
 returns-clause-tree g c = λ f w h u at.
     subst (λ n. HoldsTree n (cells c.link.new.self) (edit_at w (λ v. v) (add_leaf (fields c.args.table.now).ordered c.args.label) f)) (sym (c.link.ensures.frame.size ∙ c.claim.ensures.frame.size))
-    (label_added (size_of (fields c.args.table.now)) (freed (cells c.args.table.now) (below (cells c.args.table.now) c.args.node c.args.label)) (cells c.link.new.self) c.args.label (fields c.args.table.now).ordered f w c.args.node h u at (returns-clause-added g c))
+    (label_added (size_of (fields c.args.table.now)) (cells_without (cells c.args.table.now) (below (cells c.args.table.now) c.args.node c.args.label)) (cells c.link.new.self) c.args.label (fields c.args.table.now).ordered f w c.args.node h u at (returns-clause-added g c))
 
 pub returns-clause-leaf : goal.returns-clause-leaf
 returns-clause-leaf g c = λ w at.
     let n = c.requires.node in
     subst (IsAt (cells c.link.new.self) (w ++ c.args.label ∷ [])) (sym (returns-clause-slot g c))
-    (path_of_leaf (size_of (fields c.args.table.now)) (freed (cells c.args.table.now) (below (cells c.args.table.now) c.args.node c.args.label)) (cells c.link.new.self) (fields c.args.table.now).ordered n.0 c.args.node c.args.label (returns-clause-added g c) n.1.holds w at)
+    (path_of_leaf (size_of (fields c.args.table.now)) (cells_without (cells c.args.table.now) (below (cells c.args.table.now) c.args.node c.args.label)) (cells c.link.new.self) (fields c.args.table.now).ordered n.0 c.args.node c.args.label (returns-clause-added g c) n.1.holds w at)
 
 pub returns-clause-root_check : goal.returns-clause-root_check
 returns-clause-root_check g c =
@@ -139,7 +139,7 @@ returns-clause-root_check g c =
     let size = size_of (fields c.args.table.now) in
     let ordered = (fields c.args.table.now).ordered in
     let x : ℕ = below R c.args.node c.args.label in
-    let T = freed R x in
+    let T = cells_without R x in
     let n = c.requires.node in
     let small : c.args.label < 256 = omega (arith, c.ranges.label.fits) in
     let far : x ≡ 0 → ⊥ = slot_far _ c.args.label c.requires.based.0 small in
@@ -147,7 +147,7 @@ returns-clause-root_check g c =
     let e : c.child_slot-slot.result ≡ x = c.child_slot-slot.ensures in
     let T₁ = cells c.claim.new.self in
     let claim = c.claim.ensures in
-    let takes : Takes T T₁ c.child_slot-slot.result c.args.node = subst (λ s. Takes (freed R s) T₁ c.child_slot-slot.result c.args.node) e claim.takes in
+    let takes : Takes T T₁ c.child_slot-slot.result c.args.node = subst (λ s. Takes (cells_without R s) T₁ c.child_slot-slot.result c.args.node) e claim.takes in
     let fits : FitsSigned w32 c.base_field.result = search rules in
     let bare : T₁.stored c.child_slot-slot.result ≡ AtBase 0 = claim.stored ∙ ap (reading g.L.Layout.kind) (to_z-of_z w32 c.base_field.result fits) ∙ c.base_field.ensures in
     let before = place_there size R ordered c.args.node x c.requires.not_root (node_apart size R ordered n.0 c.args.node x far n.1).0 c.requires.reserved c.args.label c.slot_before-before.result c.slot_before-before.ensures in

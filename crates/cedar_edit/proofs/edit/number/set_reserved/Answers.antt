@@ -5,7 +5,7 @@ use Rattle.cedar_model.specs.Table.Cells.{Held, Takes}
 use Rattle.cedar_model.specs.Edit.NodeEdits.{SetsSibling}
 use Rattle.cedar_model.specs.Meaning.Family.{below}
 use Rattle.cedar_model.specs.Meaning.StandsFor.{HoldsTree}
-use Rattle.cedar_model.specs.Relocation.Reserved.{freed}
+use Rattle.cedar_model.specs.Relocation.Reserved.{cells_without}
 use Rattle.cedar_table.specs.Table.Views.{cells, fields}
 use Rattle.cedar_model.specs.Table.TableFields.{size_of}
 use Rattle.cedar_model.proofs.EditLemmas.AtPath.{held_node, number_set_at}
@@ -21,7 +21,7 @@ claim-requires g c =
     let size = size_of (fields c.args.table.now) in
     let ordered = (fields c.args.table.now).ordered in
     let x : ℕ = below R c.args.node 0 in
-    let T = freed R x in
+    let T = cells_without R x in
     let n = c.requires.node in
     let far : x ≡ 0 → ⊥ = slot_far _ 0 c.requires.based.0 (omega arith) in
     let e : c.child_slot-slot.result ≡ x = c.child_slot-slot.ensures in
@@ -34,13 +34,13 @@ set_sibling-requires g c =
     let size = size_of (fields c.args.table.now) in
     let ordered = (fields c.args.table.now).ordered in
     let x : ℕ = below R c.args.node 0 in
-    let T = freed R x in
+    let T = cells_without R x in
     let n = c.requires.node in
     let far : x ≡ 0 → ⊥ = slot_far _ 0 c.requires.based.0 (omega arith) in
     let e : c.child_slot-slot.result ≡ x = c.child_slot-slot.ensures in
     let T₁ = cells c.claim.new.self in
     let claim = c.claim.ensures in
-    let takes : Takes T T₁ c.child_slot-slot.result c.args.node = subst (λ s. Takes (freed R s) T₁ c.child_slot-slot.result c.args.node) e claim.takes in
+    let takes : Takes T T₁ c.child_slot-slot.result c.args.node = subst (λ s. Takes (cells_without R s) T₁ c.child_slot-slot.result c.args.node) e claim.takes in
     (search rules, (claim.sound, (subst (λ m. c.child_slot-slot.result < m) (sym claim.frame.size) (subst (λ s. s < size) (sym e) (lead_inside size R c.args.node c.requires.based.1)), inr (c.args.node, takes.at))))
 
 pub set_child-requires : goal.set_child-requires
@@ -49,13 +49,13 @@ set_child-requires g c =
     let size = size_of (fields c.args.table.now) in
     let ordered = (fields c.args.table.now).ordered in
     let x : ℕ = below R c.args.node 0 in
-    let T = freed R x in
+    let T = cells_without R x in
     let n = c.requires.node in
     let far : x ≡ 0 → ⊥ = slot_far _ 0 c.requires.based.0 (omega arith) in
     let e : c.child_slot-slot.result ≡ x = c.child_slot-slot.ensures in
     let T₁ = cells c.claim.new.self in
     let claim = c.claim.ensures in
-    let takes : Takes T T₁ c.child_slot-slot.result c.args.node = subst (λ s. Takes (freed R s) T₁ c.child_slot-slot.result c.args.node) e claim.takes in
+    let takes : Takes T T₁ c.child_slot-slot.result c.args.node = subst (λ s. Takes (cells_without R s) T₁ c.child_slot-slot.result c.args.node) e claim.takes in
     let set = c.set_sibling.ensures in
     let held : Held T c.args.node = held_node T n.1.path c.args.node n.1.at in
     let off : c.args.node ≡ c.child_slot-slot.result → ⊥ = λ z. freed_free R x far (subst (Held T) (z ∙ e) held) in
@@ -71,13 +71,13 @@ returns-clause-set g c =
     let size = size_of (fields c.args.table.now) in
     let ordered = (fields c.args.table.now).ordered in
     let x : ℕ = below R c.args.node 0 in
-    let T = freed R x in
+    let T = cells_without R x in
     let n = c.requires.node in
     let far : x ≡ 0 → ⊥ = slot_far _ 0 c.requires.based.0 (omega arith) in
     let e : c.child_slot-slot.result ≡ x = c.child_slot-slot.ensures in
     let T₁ = cells c.claim.new.self in
     let claim = c.claim.ensures in
-    let takes : Takes T T₁ c.child_slot-slot.result c.args.node = subst (λ s. Takes (freed R s) T₁ c.child_slot-slot.result c.args.node) e claim.takes in
+    let takes : Takes T T₁ c.child_slot-slot.result c.args.node = subst (λ s. Takes (cells_without R s) T₁ c.child_slot-slot.result c.args.node) e claim.takes in
     let fits : FitsSigned w32 c.args.value = search rules in
     number_taken size T T₁ (cells c.set_sibling.new.self) (cells c.set_child.new.self) n.0 c.args.node c.args.value n.1.holds (held_node T n.1.path c.args.node n.1.at) c.requires.based (freed_free R x far)
     (subst (λ s. Takes T T₁ s c.args.node) e takes) (ap T₁.base (sym e) ∙ claim.base ∙ to_z-of_z w32 c.args.value fits)
@@ -89,7 +89,7 @@ returns-clause-tree g c = λ f w h at.
     let R = cells c.args.table.now in
     let size = size_of (fields c.args.table.now) in
     let x : ℕ = below R c.args.node 0 in
-    let T = freed R x in
+    let T = cells_without R x in
     subst (λ m. HoldsTree m (cells c.set_child.new.self) (edit_at w (λ _. Some c.args.value) (λ u. u) f)) (sym (c.set_child.ensures.frame.size ∙ c.set_sibling.ensures.frame.size ∙ c.claim.ensures.frame.size))
     (number_set_at size T (cells c.set_child.new.self) f w c.args.node c.args.value (λ z. omega (arith, z, c.requires.not_root)) h at (returns-clause-set g c))
 
@@ -99,11 +99,11 @@ returns-clause-root_check g c =
     let size = size_of (fields c.args.table.now) in
     let ordered = (fields c.args.table.now).ordered in
     let x : ℕ = below R c.args.node 0 in
-    let T = freed R x in
+    let T = cells_without R x in
     let n = c.requires.node in
     let far : x ≡ 0 → ⊥ = slot_far _ 0 c.requires.based.0 (omega arith) in
     let e : c.child_slot-slot.result ≡ x = c.child_slot-slot.ensures in
     let T₁ = cells c.claim.new.self in
     let claim = c.claim.ensures in
-    let takes : Takes T T₁ c.child_slot-slot.result c.args.node = subst (λ s. Takes (freed R s) T₁ c.child_slot-slot.result c.args.node) e claim.takes in
+    let takes : Takes T T₁ c.child_slot-slot.result c.args.node = subst (λ s. Takes (cells_without R s) T₁ c.child_slot-slot.result c.args.node) e claim.takes in
     root_check_taken T T₁ (cells c.set_sibling.new.self) (cells c.set_child.new.self) c.child_slot-slot.result c.args.node _ _ (subst (λ s. Held T s → ⊥) (sym e) (freed_free R x far)) takes c.set_sibling.ensures.set c.set_child.ensures.set ∙ freed_root R x far

@@ -5,7 +5,7 @@ use Rattle.cedar_tree.specs.Edits.{edit_at}
 use Rattle.cedar_model.specs.Meaning.Marks.{KeepsOtherMarks}
 use Rattle.cedar_model.specs.Edit.NodeEdits.{IsAt}
 use Rattle.cedar_model.specs.Meaning.StandsFor.{HoldsTree}
-use Rattle.cedar_model.specs.Edit.Steps.{root_of, trimmed}
+use Rattle.cedar_model.specs.Edit.Steps.{root_of, tree_after_trim}
 use Rattle.cedar_table.specs.Table.Views.{cells, fields}
 use Rattle.cedar_model.specs.Table.TableFields.{Fields, size_of}
 use Rattle.cedar_model.specs.Meaning.WellFormed.{cells_in, IsWellFormed, tree_of}
@@ -73,7 +73,7 @@ is_last : (g : _) (c : goal.After-set_entries g) → fields c.set_entries.new.se
 unfolding last
 is_last g c = c.set_entries.ensures
 
-cut_holds : (g : _) (c : goal.After-set_entries g) → HoldsTree (size_of (last g c)) (cells_in (last g c)) (trimmed (root_of (edit_at c.args.key.now (λ _. None) (λ u. u) (tree_of (fields c.args.table.now)).children)) c.args.key.now).children
+cut_holds : (g : _) (c : goal.After-set_entries g) → HoldsTree (size_of (last g c)) (cells_in (last g c)) (tree_after_trim (root_of (edit_at c.args.key.now (λ _. None) (λ u. u) (tree_of (fields c.args.table.now)).children)) c.args.key.now).children
 unfolding last
 cut_holds g c =
     let T = fields c.args.table.now in

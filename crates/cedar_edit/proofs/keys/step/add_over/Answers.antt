@@ -1,7 +1,7 @@
 use Rattle.std.proofs.Common.{rules, ◌∙◌, sym}
 use Rattle.cedar_model.specs.Edit.NodeEdits.{IsNodeOf}
 use Rattle.cedar_model.specs.Meaning.Family.{below}
-use Rattle.cedar_model.specs.Relocation.Reserved.{freed}
+use Rattle.cedar_model.specs.Relocation.Reserved.{cells_without}
 use Rattle.cedar_table.specs.Table.Views.{cells, fields}
 use Rattle.cedar_model.specs.Table.TableFields.{size_of}
 use Rattle.cedar_model.proofs.UpdateLemmas.ChildReached.{child_added_over}
@@ -19,7 +19,7 @@ add_reserved-requires g c =
     let n = c.requires.wants.node in
     let k = c.in_ok-node.ensures.reserved in
     let R = cells c.resolve.new.table in
-    let node : IsNodeOf (size_of (fields c.resolve.new.table)) (freed R (below R c.in_ok-node.node c.args.label)) (fields c.resolve.new.table).ordered n.0 c.in_ok-node.node = record {
+    let node : IsNodeOf (size_of (fields c.resolve.new.table)) (cells_without R (below R c.in_ok-node.node c.args.label)) (fields c.resolve.new.table).ordered n.0 c.in_ok-node.node = record {
       holds = k.tree n.0 n.1.holds;
       ascending = λ o. n.1.ascending (sym c.in_ok-node.ensures.step.growth.settings.ordered ∙ o);
       path = n.1.path;

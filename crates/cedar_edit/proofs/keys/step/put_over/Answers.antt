@@ -4,7 +4,7 @@ use Rattle.cedar_tree.specs.Edits.{edit_at}
 use Rattle.cedar_model.specs.Edit.NodeEdits.{IsNodeOf}
 use Rattle.cedar_model.specs.Meaning.Family.{below}
 use Rattle.cedar_model.specs.Meaning.StandsFor.{HoldsTree}
-use Rattle.cedar_model.specs.Relocation.Reserved.{freed}
+use Rattle.cedar_model.specs.Relocation.Reserved.{cells_without}
 use Rattle.cedar_table.specs.Table.Views.{cells, fields}
 use Rattle.cedar_model.specs.Table.TableFields.{size_of}
 use Rattle.cedar_model.proofs.UpdateLemmas.MarksAfterPut.{kept_then_put, slot_put}
@@ -22,7 +22,7 @@ set_reserved-requires g c =
     let n = c.requires.node in
     let k = c.in_ok-node.ensures.reserved in
     let R = cells c.resolve.new.table in
-    let node : IsNodeOf (size_of (fields c.resolve.new.table)) (freed R (below R c.in_ok-node.node 0)) (fields c.resolve.new.table).ordered n.0 c.in_ok-node.node = record {
+    let node : IsNodeOf (size_of (fields c.resolve.new.table)) (cells_without R (below R c.in_ok-node.node 0)) (fields c.resolve.new.table).ordered n.0 c.in_ok-node.node = record {
       holds = k.tree n.0 n.1.holds;
       ascending = λ o. n.1.ascending (sym c.in_ok-node.ensures.step.growth.settings.ordered ∙ o);
       path = n.1.path;
@@ -44,7 +44,7 @@ returns-clause-marks g c =
     let n = c.requires.node in
     let k = c.in_ok-node.ensures.reserved in
     let R = cells c.resolve.new.table in
-    let T = freed R (below R c.in_ok-node.node 0) in
+    let T = cells_without R (below R c.in_ok-node.node 0) in
     let holds = k.tree n.0 n.1.holds in
     let put = slot_put (size_of (fields c.resolve.new.table)) T (cells c.set_reserved.new.table) n.0 n.1.path c.in_ok-node.node _ holds (k.at n.1.path n.1.at) c.set_reserved.ensures.set in
     kept_then_put (cells c.args.table.now) T (cells c.set_reserved.new.table) n.1.path c.args.node c.in_ok-node.node true holds.root n.1.at k.marks k.at put

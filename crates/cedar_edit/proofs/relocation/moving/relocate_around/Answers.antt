@@ -6,7 +6,7 @@ use Rattle.cedar_model.specs.Meaning.Family.{below}
 use Rattle.cedar_table.specs.Table.Views.{cells, fields}
 use Rattle.cedar_model.specs.Table.TableFields.{size_of}
 use Rattle.cedar_model.specs.Relocation.Renaming.{IsNode, OwnsNothing, Relocated, Renames, single}
-use Rattle.cedar_model.specs.Relocation.Reserved.{freed}
+use Rattle.cedar_model.specs.Relocation.Reserved.{cells_without}
 use Rattle.cedar_model.proofs.UpdateLemmas.Frame.{frame_same, frame_then}
 use Rattle.cedar_model.proofs.RelocationLemmas.OneTurn.{among_get}
 use Rattle.cedar_model.proofs.RelocationLemmas.KeptSlot.{freed_root}
@@ -54,9 +54,9 @@ loop-label-preserved g c =
     let label : c.from.result ≡ get_or ls i 0 = search rules in
     let label₂ : c.from-in-loop-label.result ≡ get_or ls i 0 = search rules in
     let e : bit_xor c.base_of-old_base.result c.from.result ≡ below T p (get_or ls i 0) = ap (λ x. bit_xor x c.from.result) c.base_of-old_base.ensures ∙ ap (below T p) label in
-    let wanted : (below T p (get_or ls i 0) ≡ k) → Renames T₁ (freed T₂ k) (single (below T p (get_or ls i 0)) (bit_xor b (get_or ls i 0))) × (T₂.check k ≡ pos 0) =
-    subst (λ x. (x ≡ k) → Renames T₁ (freed T₂ k) (single x (bit_xor b (get_or ls i 0))) × (T₂.check k ≡ pos 0)) e
-    (subst (λ x. (bit_xor c.base_of-old_base.result c.from.result ≡ k) → Renames T₁ (freed T₂ k) (single (bit_xor c.base_of-old_base.result c.from.result) (bit_xor b x)) × (T₂.check k ≡ pos 0)) label₂ c.pass_slot.ensures.passed) in
+    let wanted : (below T p (get_or ls i 0) ≡ k) → Renames T₁ (cells_without T₂ k) (single (below T p (get_or ls i 0)) (bit_xor b (get_or ls i 0))) × (T₂.check k ≡ pos 0) =
+    subst (λ x. (x ≡ k) → Renames T₁ (cells_without T₂ k) (single x (bit_xor b (get_or ls i 0))) × (T₂.check k ≡ pos 0)) e
+    (subst (λ x. (bit_xor c.base_of-old_base.result c.from.result ≡ k) → Renames T₁ (cells_without T₂ k) (single (bit_xor c.base_of-old_base.result c.from.result) (bit_xor b x)) × (T₂.check k ≡ pos 0)) label₂ c.pass_slot.ensures.passed) in
     let other : (below T p (get_or ls i 0) ≡ k → ⊥) → Renames T₁ T₂ (single (below T p (get_or ls i 0)) (bit_xor b (get_or ls i 0))) =
     subst (λ x. (x ≡ k → ⊥) → Renames T₁ T₂ (single x (bit_xor b (get_or ls i 0)))) e
     (subst (λ x. (bit_xor c.base_of-old_base.result c.from.result ≡ k → ⊥) → Renames T₁ T₂ (single (bit_xor c.base_of-old_base.result c.from.result) (bit_xor b x))) label₂ c.pass_slot.ensures.kept) in
@@ -73,7 +73,7 @@ set_base-requires g c =
     (search rules, (c.loop-label.invariant.sound, (subst (λ x. c.args.parent < x) (sym size) c.requires.parent_in, (subst (λ x. c.args.base < x) (sym size) m.parent.high, (passing_held _ _ _ _ _ _ _ _ m c.loop-label.invariant.passing, m.parent.not_root)))))
 
 -- the set has moved
-all_passed : (g : _) (c : After-set_base g) → Relocated (size_of (fields c.args.table.now)) (cells c.args.table.now) (freed (cells c.set_base.new.self) c.args.wanted) c.args.parent c.args.base × ((cells c.set_base.new.self).check c.args.wanted ≡ pos 0)
+all_passed : (g : _) (c : After-set_base g) → Relocated (size_of (fields c.args.table.now)) (cells c.args.table.now) (cells_without (cells c.set_base.new.self) c.args.wanted) c.args.parent c.args.base × ((cells c.set_base.new.self).check c.args.wanted ≡ pos 0)
 all_passed g c =
     let T = cells c.args.table.now in
     let T₁ = cells c.loop-label.table in

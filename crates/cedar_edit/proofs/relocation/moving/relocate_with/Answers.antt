@@ -6,7 +6,7 @@ use Rattle.cedar_model.specs.Meaning.Family.{below}
 use Rattle.cedar_table.specs.Table.Views.{cells, fields}
 use Rattle.cedar_model.specs.Table.TableFields.{size_of}
 use Rattle.cedar_model.specs.Relocation.Renaming.{IsNode, OwnsNothing, Relocated, Renames, single}
-use Rattle.cedar_model.specs.Relocation.Reserved.{freed, seen}
+use Rattle.cedar_model.specs.Relocation.Reserved.{cells_without, without_reserved}
 use Rattle.cedar_model.proofs.UpdateLemmas.Frame.{frame_same, frame_then}
 use Rattle.cedar_model.proofs.RelocationLemmas.OneTurn.{among_get}
 use Rattle.cedar_model.proofs.RelocationLemmas.KeptSlot.{freed_root}
@@ -50,7 +50,7 @@ move_slot-requires g c =
     let T₂ = cells c.reserve-reserved.new.table in
     let was = c.loop-other.reserved in
     let is = c.reserve-reserved.result in
-    let r₂ : Reserving T T₂ p b k is (take i ls) = reserved_now T T₁ T₂ p b k was is (take i ls) r (subst (λ s. SameHeld (seen was T₁ s) (seen is T₂ s)) slot c.reserve-reserved.ensures.seen) (λ e. ap T₂.check (sym slot) ∙ c.reserve-reserved.ensures.marked e) in
+    let r₂ : Reserving T T₂ p b k is (take i ls) = reserved_now T T₁ T₂ p b k was is (take i ls) r (subst (λ s. SameHeld (without_reserved was T₁ s) (without_reserved is T₂ s)) slot c.reserve-reserved.ensures.seen) (λ e. ap T₂.check (sym slot) ∙ c.reserve-reserved.ensures.marked e) in
     let h = c.loop-other-test.true in
     let m = c.requires.movable in
     let not_root : k ≡ 0 → ⊥ = λ z. omega (arith, place.not_first, z) in
@@ -88,7 +88,7 @@ loop-other-preserved g c =
     let T₂ = cells c.reserve-reserved.new.table in
     let was = c.loop-other.reserved in
     let is = c.reserve-reserved.result in
-    let r₂ : Reserving T T₂ p b k is (take i ls) = reserved_now T T₁ T₂ p b k was is (take i ls) r (subst (λ s. SameHeld (seen was T₁ s) (seen is T₂ s)) slot c.reserve-reserved.ensures.seen) (λ e. ap T₂.check (sym slot) ∙ c.reserve-reserved.ensures.marked e) in
+    let r₂ : Reserving T T₂ p b k is (take i ls) = reserved_now T T₁ T₂ p b k was is (take i ls) r (subst (λ s. SameHeld (without_reserved was T₁ s) (without_reserved is T₂ s)) slot c.reserve-reserved.ensures.seen) (λ e. ap T₂.check (sym slot) ∙ c.reserve-reserved.ensures.marked e) in
     let h = c.loop-other-test.true in
     let m = c.requires.movable in
     let not_root : k ≡ 0 → ⊥ = λ z. omega (arith, place.not_first, z) in
@@ -140,13 +140,13 @@ set_base-requires g c =
     let T₂ = cells c.reserve.new.table in
     let was = c.loop-other.reserved in
     let is = c.reserve.result in
-    let r₂ : Reserving T T₂ p b k is (take i ls) = reserved_now T T₁ T₂ p b k was is (take i ls) r (subst (λ s. SameHeld (seen was T₁ s) (seen is T₂ s)) slot c.reserve.ensures.seen) (λ e. ap T₂.check (sym slot) ∙ c.reserve.ensures.marked e) in
+    let r₂ : Reserving T T₂ p b k is (take i ls) = reserved_now T T₁ T₂ p b k was is (take i ls) r (subst (λ s. SameHeld (without_reserved was T₁ s) (without_reserved is T₂ s)) slot c.reserve.ensures.seen) (λ e. ap T₂.check (sym slot) ∙ c.reserve.ensures.marked e) in
     let m = c.requires.movable in
     let size₂ : size_of (fields c.reserve.new.table) ≡ n = c.reserve.ensures.frame.size ∙ size in
     (search rules, (c.reserve.ensures.sound, (subst (λ x. p < x) (sym size₂) c.requires.parent_in, (subst (λ x. b < x) (sym size₂) m.parent.high, (reserving_held n T T₂ p b k ls _ is m r₂, m.parent.not_root)))))
 
 -- the set has moved
-all_moved : (g : _) (c : After-set_base g) → Relocated (size_of (fields c.args.table.now)) (cells c.args.table.now) (freed (cells c.set_base.new.self) (bit_xor c.args.new_base c.args.label)) c.args.parent c.args.new_base × ((cells c.set_base.new.self).check (bit_xor c.args.new_base c.args.label) ≡ pos 0)
+all_moved : (g : _) (c : After-set_base g) → Relocated (size_of (fields c.args.table.now)) (cells c.args.table.now) (cells_without (cells c.set_base.new.self) (bit_xor c.args.new_base c.args.label)) c.args.parent c.args.new_base × ((cells c.set_base.new.self).check (bit_xor c.args.new_base c.args.label) ≡ pos 0)
 all_moved g c =
     let T = cells c.args.table.now in
     let T₁ = cells c.loop-other.table in
@@ -159,7 +159,7 @@ all_moved g c =
     let T₂ = cells c.reserve.new.table in
     let was = c.loop-other.reserved in
     let is = c.reserve.result in
-    let r₂ : Reserving T T₂ p b k is (take i ls) = reserved_now T T₁ T₂ p b k was is (take i ls) r (subst (λ s. SameHeld (seen was T₁ s) (seen is T₂ s)) slot c.reserve.ensures.seen) (λ e. ap T₂.check (sym slot) ∙ c.reserve.ensures.marked e) in
+    let r₂ : Reserving T T₂ p b k is (take i ls) = reserved_now T T₁ T₂ p b k was is (take i ls) r (subst (λ s. SameHeld (without_reserved was T₁ s) (without_reserved is T₂ s)) slot c.reserve.ensures.seen) (λ e. ap T₂.check (sym slot) ∙ c.reserve.ensures.marked e) in
     let all : take i ls ≡ ls = search (rules, take_all) in
     let is_reserved : is ≡ true = c.reserve.ensures.now refl in
     reserved_all n T T₂ (cells c.set_base.new.self) p b k ls c.requires.movable (subst (λ d. Reserving T T₂ p b k d ls) is_reserved (subst (λ gone. Reserving T T₂ p b k is gone) all r₂)) c.set_base.ensures.rebased

@@ -1,5 +1,5 @@
 use Rattle.std.proofs.Common.{◌≡◌, ◌∙◌, ◌<◌, ap, arith, rules, bit_xor, ℕ}
-use Rattle.cedar_model.specs.Meaning.Family.{below, owned}
+use Rattle.cedar_model.specs.Meaning.Family.{below, owned_slots}
 use Rattle.cedar_table.specs.Table.Views.{cells, fields}
 use Rattle.cedar_model.specs.Table.TableFields.{size_of}
 use Rattle.cedar_model.specs.Relocation.Wanted.{rest_of}
@@ -43,5 +43,5 @@ loop-left-preserved g c =
 
 pub returns : goal.returns
 returns g c = λ h k ls ms f e.
-    is_longer_if _ c.args.one c.args.other _ _ _ _ c.loop-left.invariant (rest_of (owned h ls)) (rest_of (owned k ms)) (c.second_label-left.ensures h ls f) (c.second_label-right.ensures k ms e)
+    is_longer_if _ c.args.one c.args.other _ _ _ _ c.loop-left.invariant (rest_of (owned_slots h ls)) (rest_of (owned_slots k ms)) (c.second_label-left.ensures h ls f) (c.second_label-right.ensures k ms e)
     (λ n. elim c.loop-left-test.branch [ then-loop-left-test+else-right-ne0 w ↦ w.if-right-ne0.false | else-loop-left-test w ↦ absurd (n w.loop-left-test.false) ])

@@ -1,6 +1,6 @@
 use Rattle.std.proofs.Common.{◌≡◌, ◌<◌, ◌≤◌, ◌∙◌, length, rules, subst, sym, ℕ}
 use Rattle.std.proofs.lemmas.Result.{IfOk-weaker}
-use Rattle.cedar_model.specs.Meaning.Family.{owned}
+use Rattle.cedar_model.specs.Meaning.Family.{owned_slots}
 use Rattle.cedar_model.specs.Relocation.Renaming.{IsNode}
 use Rattle.cedar_table.specs.Table.Views.{cells, fields}
 use Rattle.cedar_model.specs.Table.TableFields.{size_of}
@@ -21,8 +21,8 @@ move_set_around-requires g c =
     let p = c.requires.node.on_path in
     let w = c.requires.node.holds in
     let n : IsNode size T c.args.node = node_at_end size T w.0 c.args.node p.0 w.1 p.1 p.2 c.requires.node.not_root in
-    let listed : c.labels_of-labels.result.items ≡ owned n.head n.labels = c.labels_of-labels.ensures n.head n.labels n.family in
-    let labels : c.deref.result.now ≡ owned n.head n.labels = c.deref.ensures.0 ∙ listed in (
+    let listed : c.labels_of-labels.result.items ≡ owned_slots n.head n.labels = c.labels_of-labels.ensures n.head n.labels n.family in
+    let labels : c.deref.result.now ≡ owned_slots n.head n.labels = c.deref.ensures.0 ∙ listed in (
       search rules,
       (
         c.requires.node,

@@ -1,8 +1,8 @@
 use Rattle.std.proofs.Common.{arith, rules, subst, sym, ℕ, ◌≤◌, ◌∙◌, inl, inr, refl}
-use Rattle.cedar_model.specs.Meaning.Family.{Among, owned}
+use Rattle.cedar_model.specs.Meaning.Family.{Among, owned_slots}
 use Rattle.cedar_model.specs.Meaning.StandsFor.{HoldsTree}
 use Rattle.cedar_model.specs.Relocation.Renaming.{Movable, SetMoved}
-use Rattle.cedar_model.specs.Relocation.Reserved.{freed}
+use Rattle.cedar_model.specs.Relocation.Reserved.{cells_without}
 use Rattle.cedar_table.specs.Table.Views.{cells, fields}
 use Rattle.cedar_model.specs.Table.TableFields.{size_of}
 use Rattle.cedar_model.proofs.UpdateLemmas.BlocksMade.{growth_framed, made_larger, refuses_still}
@@ -29,7 +29,7 @@ relocate_around-requires g c =
     let n = c.requires.owned in
     let p = c.requires.node.on_path in
     let b = c.in_ok-base.base in
-    let all : (l : ℕ) → Among (owned n.head n.labels) l → Among c.args.labels.now l = λ l a. subst (λ xs. Among xs l) (sym n.owns) a in
+    let all : (l : ℕ) → Among (owned_slots n.head n.labels) l → Among c.args.labels.now l = λ l a. subst (λ xs. Among xs l) (sym n.owns) a in
     let m = can_relocate _ _ T T₁ c.requires.node.holds.0 c.args.node b p.0 n.head n.labels c.args.labels.now more (omega arith) c.place_for.ensures.held c.requires.node.holds.1 p.1 p.2 c.requires.node.not_root n.family c.requires.node.based all (λ i. omega (arith, c.type_inv.labels i)) c.requires.some c.in_ok-base.ensures.found in
     (search rules, (c.place_for.ensures.sound, (omega (arith, c.requires.node.node_in, more), (subst (λ xs. Movable (size_of (fields c.place_for.new.self)) T₁ c.args.node b xs) (sym n.owns) m, (c.place_for.ensures.held.other c.args.slot (inr (c.args.node, c.requires.mine))).check ∙ c.requires.mine))))
 
@@ -42,17 +42,17 @@ returns-clause-moved g c =
     let n = c.requires.owned in
     let p = c.requires.node.on_path in
     let b = c.in_ok-base.base in
-    let all : (l : ℕ) → Among (owned n.head n.labels) l → Among c.args.labels.now l = λ l a. subst (λ xs. Among xs l) (sym n.owns) a in
+    let all : (l : ℕ) → Among (owned_slots n.head n.labels) l → Among c.args.labels.now l = λ l a. subst (λ xs. Among xs l) (sym n.owns) a in
     let T' = cells c.relocate_around.new.table in
     let k : ℕ = c.args.slot in
-    let moved = set_moved _ _ T T₁ c.requires.node.holds.0 c.args.node b p.0 n.head n.labels c.args.labels.now more (omega arith) c.place_for.ensures.held c.requires.node.holds.1 p.1 p.2 c.requires.node.not_root n.family c.requires.node.based all (λ i. omega (arith, c.type_inv.labels i)) c.requires.some c.in_ok-base.ensures.found (freed T' k) c.relocate_around.ensures.relocated in
+    let moved = set_moved _ _ T T₁ c.requires.node.holds.0 c.args.node b p.0 n.head n.labels c.args.labels.now more (omega arith) c.place_for.ensures.held c.requires.node.holds.1 p.1 p.2 c.requires.node.not_root n.family c.requires.node.based all (λ i. omega (arith, c.type_inv.labels i)) c.requires.some c.in_ok-base.ensures.found (cells_without T' k) c.relocate_around.ensures.relocated in
     record {
-      set = subst (λ s. SetMoved (size_of (fields c.args.table.now)) s T (freed T' k) c.args.node b c.args.labels.now c.args.labels.now) (sym c.relocate_around.ensures.frame.size)
-          (subst (λ xs. SetMoved (size_of (fields c.args.table.now)) (size_of (fields c.place_for.new.self)) T (freed T' k) c.args.node b xs c.args.labels.now) (sym n.owns) moved);
+      set = subst (λ s. SetMoved (size_of (fields c.args.table.now)) s T (cells_without T' k) c.args.node b c.args.labels.now c.args.labels.now) (sym c.relocate_around.ensures.frame.size)
+          (subst (λ xs. SetMoved (size_of (fields c.args.table.now)) (size_of (fields c.place_for.new.self)) T (cells_without T' k) c.args.node b xs c.args.labels.now) (sym n.owns) moved);
       reserved = c.relocate_around.ensures.reserved;
       tree = λ f h.
           let made = same_holds _ _ T T₁ more c.place_for.ensures.held f h in
-          subst (λ n. HoldsTree n (freed T' k) f) (sym c.relocate_around.ensures.frame.size) (relocated_holds _ T₁ (freed T' k) c.args.node b f c.relocate_around.ensures.relocated made);
+          subst (λ n. HoldsTree n (cells_without T' k) f) (sym c.relocate_around.ensures.frame.size) (relocated_holds _ T₁ (cells_without T' k) c.args.node b f c.relocate_around.ensures.relocated made);
     }
 
 pub returns-clause-step : goal.returns-clause-step

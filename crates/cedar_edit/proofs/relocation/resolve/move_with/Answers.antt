@@ -1,5 +1,5 @@
 use Rattle.std.proofs.Common.{◌≡◌, ◌+◌, ◌<◌, ◌∙◌, ap, arith, length, rules, subst, sym, ℕ, List}
-use Rattle.cedar_model.specs.Meaning.Family.{Among, owned}
+use Rattle.cedar_model.specs.Meaning.Family.{Among, owned_slots}
 use Rattle.cedar_model.specs.Relocation.Renaming.{IsNode}
 use Rattle.cedar_table.specs.Table.Views.{cells, fields}
 use Rattle.cedar_model.specs.Table.TableFields.{size_of}
@@ -23,7 +23,7 @@ labels_with-wanted-requires g c =
     let p = c.requires.node.on_path in
     let w = c.requires.node.holds in
     let n : IsNode size T c.args.node = node_at_end size T w.0 c.args.node p.0 w.1 p.1 p.2 c.requires.node.not_root in
-    let labels : c.deref.result.now ≡ owned n.head n.labels = c.deref.ensures.0 ∙ c.labels_of-labels.ensures n.head n.labels n.family in
+    let labels : c.deref.result.now ≡ owned_slots n.head n.labels = c.deref.ensures.0 ∙ c.labels_of-labels.ensures n.head n.labels n.family in
     (search rules, subst (λ v. length v < 256) (sym labels) (owned_short size T c.args.node c.args.label n.head n.labels (omega (arith, c.ranges.label)) c.requires.absent n.family))
 
 pub move_set_with-requires : goal.move_set_with-requires
@@ -33,7 +33,7 @@ move_set_with-requires g c =
     let p = c.requires.node.on_path in
     let w = c.requires.node.holds in
     let n : IsNode size T c.args.node = node_at_end size T w.0 c.args.node p.0 w.1 p.1 p.2 c.requires.node.not_root in
-    let ls : List ℕ = owned n.head n.labels in
+    let ls : List ℕ = owned_slots n.head n.labels in
     let listed : c.labels_of-labels.result.items ≡ ls = c.labels_of-labels.ensures n.head n.labels n.family in
     let labels : c.deref-2.result.now ≡ ls = c.deref-2.ensures.0 ∙ listed in
     let wanted : c.deref-3.result.now ≡ with_label (fields c.args.table.now).ordered c.args.label ls = c.deref-3.ensures.0 ∙ c.labels_with-wanted.ensures ∙ ap (with_label (fields c.args.table.now).ordered c.args.label) (c.deref.ensures.0 ∙ listed) in
@@ -73,7 +73,7 @@ returns-clause-moved g c =
     let p = c.requires.node.on_path in
     let w = c.requires.node.holds in
     let n : IsNode size T c.args.node = node_at_end size T w.0 c.args.node p.0 w.1 p.1 p.2 c.requires.node.not_root in
-    let ls : List ℕ = owned n.head n.labels in
+    let ls : List ℕ = owned_slots n.head n.labels in
     let listed : c.labels_of-labels.result.items ≡ ls = c.labels_of-labels.ensures n.head n.labels n.family in
     let labels : c.deref-2.result.now ≡ ls = c.deref-2.ensures.0 ∙ listed in
     let wanted : c.deref-3.result.now ≡ with_label (fields c.args.table.now).ordered c.args.label ls = c.deref-3.ensures.0 ∙ c.labels_with-wanted.ensures ∙ ap (with_label (fields c.args.table.now).ordered c.args.label) (c.deref.ensures.0 ∙ listed) in

@@ -1,6 +1,6 @@
 use Rattle.std.proofs.Common.{◌≡◌, ◌∷◌, ◌∙◌, ap, arith}
 use Rattle.cedar_slots.specs.declared.blocks.BlockType.TheVariants.{Open}
-use Rattle.cedar_slots.specs.Blocks.{counts_at, counts_of, fresh_counts, kind_of, replaced}
+use Rattle.cedar_slots.specs.Blocks.{counts_at, counts_of, fresh_counts, kind_of, lists_with}
 use Rattle.cedar_slots.proofs.ListsLemmas.BlockMoved.{absent_active, activated_in, BlockLists-activated, fresh_open, ListRings-kept}
 use Rattle.cedar_slots.proofs.blocks.Blocks.activate.Goals as goal
 use Rattle.cedar_slots.specs.Views.{blocks_of}
@@ -29,7 +29,7 @@ returns-clause-lists g c =
     let rings = ListRings-kept old mid lists c.write_counts.ensures.links c.write_counts.ensures.heads held.rings in
     let max_trial : new.max_trial ≡ old.max_trial = c.push_block.ensures.max_trial ∙ c.write_counts.ensures.max_trial in
     let made : counts_at new.records old.active ≡ fresh_counts old.active = c.push_block.ensures.counts old.active ∙ c.write_counts.ensures.made ∙ c.fresh.ensures in (
-      replaced lists Open (old.active ∷ lists Open),
+      lists_with lists Open (old.active ∷ lists Open),
       BlockLists-activated old mid new lists c.requires.sized.some held (c.push_block.ensures.active ∙ c.write_counts.ensures.active) max_trial
           (λ b other. c.push_block.ensures.counts b ∙ ap counts_of (c.write_counts.ensures.others b other))
           (ap (kind_of new.max_trial) made ∙ ap (λ z. kind_of z (fresh_counts old.active)) max_trial ∙ fresh_open old.max_trial old.active c.requires.tried)

@@ -1,5 +1,5 @@
 use Rattle.std.proofs.Common.{◌≡◌, ◌∙◌, ap, arith, sym, inl, inr}
-use Rattle.cedar_slots.specs.Blocks.{counts_at, counts_of, kind_of, replaced}
+use Rattle.cedar_slots.specs.Blocks.{counts_at, counts_of, kind_of, lists_with}
 use Rattle.cedar_slots.proofs.ListsLemmas.BlockMoved.{kinds_differ, kinds_same, leaving, leaving_in, coming_in, popped_absent, BlockLists-stay, BlockLists-moved, ListRings-kept}
 use Rattle.cedar_slots.proofs.blocks.Blocks.set_counts_and_list.Goals as goal
 use Rattle.cedar_slots.proofs.blocks.Blocks.set_counts_and_list.Goals.{else-block-ne0-via-then-block-ne0+else-ne, else-block-ne0-via-else-block-ne0}
@@ -38,7 +38,7 @@ returns-then-ne-clause-lists g c =
     let to = c.list_of-to.result in
     let l = leaving old (blocks_of c.write_counts.new.self) e lists from c.counts.result held (omega arith) c.requires.block_in c.write_counts.ensures.links c.write_counts.ensures.heads c.counts.ensures c.list_of-from.ensures in
     let p = c.pop_block.ensures.popped lists l.rings l.inside in
-    let rings = c.push_block.ensures.pushed (replaced lists from p.rest) p.rings (popped_absent old (blocks_of c.write_counts.new.self) (blocks_of c.pop_block.new.self) e lists from l p) in
+    let rings = c.push_block.ensures.pushed (lists_with lists from p.rest) p.rings (popped_absent old (blocks_of c.write_counts.new.self) (blocks_of c.pop_block.new.self) e lists from l p) in
     let max_trial : new.max_trial ≡ old.max_trial = c.push_block.ensures.max_trial ∙ c.pop_block.ensures.max_trial ∙ c.write_counts.ensures.max_trial in
     let active : new.active ≡ old.active = c.push_block.ensures.active ∙ c.pop_block.ensures.active ∙ c.write_counts.ensures.active in
     let made : counts_at new.records e ≡ c.args.counts = c.push_block.ensures.counts e ∙ c.pop_block.ensures.counts e ∙ c.write_counts.ensures.made in

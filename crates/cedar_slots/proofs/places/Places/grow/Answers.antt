@@ -1,7 +1,7 @@
 use Rattle.std.proofs.Common.{◌∙◌, ap, arith, refl}
 use Rattle.cedar_slots.specs.Blocks.{blank_block, block_at}
 use Rattle.cedar_slots.specs.Places.{Grown, PlaceFields, Shaped}
-use Rattle.cedar_slots.specs.Slots.{blank_info, blank_node, info_at, node_at}
+use Rattle.cedar_slots.specs.Slots.{blank_info, blank_node, info_at, node_record_at}
 use Rattle.cedar_slots.specs.Views.{places_of}
 use Rattle.cedar_slots.proofs.ListsLemmas.ThreeLists.{cases_list}
 use Rattle.cedar_slots.proofs.PlacementLemmas.Growth.{grown_same, Sound-grown}
@@ -11,7 +11,7 @@ pub returns-clause-grown : goal.returns-clause-grown
 returns-clause-grown g c =
     let shaped = c.requires.sound.shaped in
     record {
-      nodes = λ s. grown_same c.reserve.new.self.items c.resize.new.self.items _ _ blank_node (omega (arith, shaped.nodes)) c.in_ok-resize.ensures.items s ∙ ap (λ xs. node_at xs s) c.reserve.ensures.items;
+      nodes = λ s. grown_same c.reserve.new.self.items c.resize.new.self.items _ _ blank_node (omega (arith, shaped.nodes)) c.in_ok-resize.ensures.items s ∙ ap (λ xs. node_record_at xs s) c.reserve.ensures.items;
       infos = λ s. grown_same c.reserve-2.new.self.items c.resize-2.new.self.items _ _ blank_info (omega (arith, shaped.infos, shaped.nodes)) c.in_ok-resize-2.ensures.items s ∙ ap (λ xs. info_at xs s) c.reserve-2.ensures.items;
       records = λ b. grown_same c.reserve-3.new.self.items c.resize-3.new.self.items _ _ blank_block (omega arith) c.in_ok-resize-3.ensures.items b ∙ ap (λ xs. block_at xs b) c.reserve-3.ensures.items;
       heads = cases_list _ refl refl refl;

@@ -1,4 +1,4 @@
-use Rattle.cedar_slots.specs.Places.{IsOpen, SameSlots, Sound}
+use Rattle.cedar_slots.specs.Places.{IsOpenBlock, SameSlots, Sound}
 use Rattle.cedar_slots.proofs.places.Places.search.Given as goal
 use Rattle.cedar_slots.specs.Views.{blocks_of, places_of}
 
@@ -6,6 +6,6 @@ abbrev pub invariant-loop : goal.invariant-loop
 invariant-loop g l = record {
   sound : Sound (places_of l.self);
   same : SameSlots (places_of l.initial.self) (places_of l.self);
-  block_open : IsOpen (blocks_of l.self.blocks) l.block;
-  last_open : IsOpen (blocks_of l.self.blocks) l.last;
+  block_open : IsOpenBlock (blocks_of l.self.blocks) l.block;
+  last_open : IsOpenBlock (blocks_of l.self.blocks) l.last;
 }

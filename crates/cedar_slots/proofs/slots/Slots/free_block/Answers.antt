@@ -1,5 +1,5 @@
 use Rattle.std.proofs.Common.{◌≡◌, ℕ, ◌+◌, ◌<◌, ◌≤◌, ◌⊎◌, ◌∙◌, ap, arith, inl, inr, sym, subst}
-use Rattle.cedar_slots.specs.Slots.{node_at, SlotLink}
+use Rattle.cedar_slots.specs.Slots.{node_record_at, SlotLink}
 use Rattle.cedar_slots.proofs.RingsLemmas.LinkedSlots.{node-linked_other, Relinked-linked, steps_kept, steps_more}
 use Rattle.cedar_slots.proofs.slots.Slots.free_block.Goals as goal
 
@@ -17,7 +17,7 @@ loop-slot-preserved g c =
       len = c.link.ensures.len ∙ i.len;
       infos = c.link.ensures.infos ∙ i.infos;
       steps = steps_more c.loop-slot.self.nodes.items c.link.new.self.nodes.items c.args.first c.loop-slot.slot c.link.ensures.nodes (omega (arith, i.len)) i.steps;
-      outside = λ s p. ap (λ ns. node_at ns s) c.link.ensures.nodes ∙ node-linked_other c.loop-slot.self.nodes.items c.loop-slot.slot (c.loop-slot.slot + 1) s (aside c.args.first c.loop-slot.slot s (omega arith) (omega arith) p) (aside c.args.first (c.loop-slot.slot + 1) s (omega arith) (omega arith) p) ∙ i.outside s p;
+      outside = λ s p. ap (λ ns. node_record_at ns s) c.link.ensures.nodes ∙ node-linked_other c.loop-slot.self.nodes.items c.loop-slot.slot (c.loop-slot.slot + 1) s (aside c.args.first c.loop-slot.slot s (omega arith) (omega arith) p) (aside c.args.first (c.loop-slot.slot + 1) s (omega arith) (omega arith) p) ∙ i.outside s p;
     }
 
 pub returns-clause-steps : goal.returns-clause-steps
@@ -32,7 +32,7 @@ returns-clause-last g c =
 
 pub returns-clause-outside : goal.returns-clause-outside
 returns-clause-outside g c s p =
-    ap (λ ns. node_at ns s) c.link-2.ensures.nodes ∙ node-linked_other c.loop-slot.self.nodes.items (c.args.first + 255) c.args.first s (aside c.args.first (c.args.first + 255) s (omega arith) (omega arith) p) (aside c.args.first c.args.first s (omega arith) (omega arith) p) ∙ c.loop-slot.invariant.outside s p
+    ap (λ ns. node_record_at ns s) c.link-2.ensures.nodes ∙ node-linked_other c.loop-slot.self.nodes.items (c.args.first + 255) c.args.first s (aside c.args.first (c.args.first + 255) s (omega arith) (omega arith) p) (aside c.args.first c.args.first s (omega arith) (omega arith) p) ∙ c.loop-slot.invariant.outside s p
 
 pub returns-clause-infos : goal.returns-clause-infos
 returns-clause-infos g c = c.link-2.ensures.infos ∙ c.loop-slot.invariant.infos

@@ -3,7 +3,7 @@ use Rattle.std.specs.Prelude.{negsuc}
 use Rattle.std.proofs.lemmas.Int.{ints}
 use Rattle.cedar_slots.specs.declared.records.NodeRecord.{NodeRecord}
 use Rattle.cedar_model.specs.declared.layout.Stored.TheVariants.{AtBase}
-use Rattle.cedar_slots.specs.Places.{IsNew}
+use Rattle.cedar_slots.specs.Places.{IsNewPlaces}
 use Rattle.cedar_slots.specs.Slots.{check_at}
 use Rattle.cedar_model.specs.Table.TableFields.{Fields}
 use Rattle.cedar_slots.specs.Views.{places_of}
@@ -32,7 +32,7 @@ pub returns-clause-sound : goal.returns-clause-sound
 returns-clause-sound g c = IsTable-new g.row.SLOTS _ _ c.requires.limit c.in_ok-new.ensures.sound c.in_ok-new.ensures.made
 
 pub returns-clause-made : goal.returns-clause-made
-returns-clause-made g c = subst (IsNew _) (omega (arith, ints)) c.in_ok-new.ensures.made
+returns-clause-made g c = subst (IsNewPlaces _) (omega (arith, ints)) c.in_ok-new.ensures.made
 
 pub returns-clause-bare : goal.returns-clause-bare
 returns-clause-bare g c = bare_new g.L.Layout.kind _ _ c.in_ok-new.ensures.made

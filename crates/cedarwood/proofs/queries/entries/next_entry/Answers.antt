@@ -1,6 +1,6 @@
 use Rattle.std.proofs.Common.{◌≡◌, ◌∙◌, ◌++◌, [], ◌∷◌, ap, arith, FitsSigned, length, rules, w32}
 use Rattle.std.proofs.lemmas.Int.{to_z-of_z}
-use Rattle.cedar_tree.specs.Walks.{entries_of}
+use Rattle.cedar_tree.specs.Walks.{visited_entries}
 use Rattle.cedar_walk.specs.Visits.{left_at}
 use Rattle.cedarwood.proofs.EntriesLemmas.{comes_here, comes_to, ends_here, passes, stepped}
 use Rattle.cedarwood.proofs.queries.entries.next_entry.Goals as goal
@@ -21,7 +21,7 @@ returns-in-Some-number g c =
     let comes = comes_here T key c.loop-next.at c.len.result c.in-Some.next len i.place c.in-Some.ensures in
     let longer = c.in_ok-push.ensures.items ∙ ap (λ w. w ++ c.in-Some.next.label ∷ []) c.truncate.ensures.items in
     let fits : FitsSigned w32 c.in-Some-number.number = search rules in
-    comes_to T (entries_of (left_at T [] (length c.args.key.now.items) c.args.slot)) key c.loop-next.at c.in-Some.next c.push.new.self.items c.in-Some-number.number _ i.entries
+    comes_to T (visited_entries (left_at T [] (length c.args.key.now.items) c.args.slot)) key c.loop-next.at c.in-Some.next c.push.new.self.items c.in-Some-number.number _ i.entries
     (stepped T key c.loop-next.at c.in-Some.next c.push.new.self.items i.place comes longer) c.in-Some-number.is (to_z-of_z w32 c.in-Some-number.number fits)
 
 pub loop-next-smaller : goal.loop-next-smaller
@@ -51,4 +51,4 @@ returns g c =
     let T = g.T.Walked.shown c.args.trie.now in
     let i = c.loop-next.invariant in
     let len : c.len.result ≡ length c.loop-next.key.items = omega (arith, c.len.ensures, c.loop-next.key.ok) in
-    ends_here T (entries_of (left_at T [] (length c.args.key.now.items) c.args.slot)) c.loop-next.key.items c.loop-next.at c.len.result len i.place i.entries c.in_default.ensures
+    ends_here T (visited_entries (left_at T [] (length c.args.key.now.items) c.args.slot)) c.loop-next.key.items c.loop-next.at c.len.result len i.place i.entries c.in_default.ensures

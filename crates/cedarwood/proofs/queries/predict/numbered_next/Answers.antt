@@ -1,6 +1,6 @@
 use Rattle.std.proofs.Common.{◌≡◌, [], MatchOption, refl, subst, sym}
 use Rattle.cedar_tree.specs.Queries.{node_at, walk}
-use Rattle.cedar_tree.specs.Walks.{entries_of}
+use Rattle.cedar_tree.specs.Walks.{visited_entries}
 use Rattle.cedar_tree.proofs.PredictLemmas.{predict-node}
 use Rattle.cedar_walk.specs.Visits.{left_at}
 use Rattle.cedar_model.specs.Meaning.WellFormed.{tree_of}
@@ -28,4 +28,4 @@ returns-in-Node g c =
     let query = c.args.query.now in
     let here : IsPredictPlace T query (Node c.in-Node.slot c.in-Node.depth) = subst (IsPredictPlace T query) c.in-Node.is c.requires.place in
     subst (λ place. MatchOption c.next_numbered.result (predicted_from T query place ≡ []) (GoesOnTo T query place)) (sym c.in-Node.is)
-    (goes_on T query (Node c.in-Node.slot c.in-Node.depth) (entries_of (left_at T query c.in-Node.depth c.in-Node.slot)) c.next_numbered.result refl (c.next_numbered.ensures query here.0))
+    (goes_on T query (Node c.in-Node.slot c.in-Node.depth) (visited_entries (left_at T query c.in-Node.depth c.in-Node.slot)) c.next_numbered.result refl (c.next_numbered.ensures query here.0))

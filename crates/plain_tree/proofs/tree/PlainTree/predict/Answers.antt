@@ -1,7 +1,7 @@
 use Rattle.std.proofs.Common.{rules, ◌≡◌, ◌-◌, length, nat_eq, w32, to_z, of_z, FitsSigned, sym, ◌∙◌, ap, arith}
 use Rattle.std.specs.List.{starts_with}
 use Rattle.std.proofs.lemmas.Int.{to_z-of_z}
-use Rattle.plain_tree.specs.Listing.{entries_of}
+use Rattle.plain_tree.specs.Listing.{vector_entries}
 use Rattle.plain_tree.proofs.QueryLemmas.{predict_begins, predict_differs, predict_all}
 use Rattle.plain_tree.proofs.tree.PlainTree.predict.Goals as goal
 use Rattle.plain_tree.proofs.tree.PlainTree.predict.Goals.{then-starts_with+in_ok-push, else-starts_with}
@@ -27,4 +27,4 @@ loop-path-preserved g c =
 pub returns : goal.returns
 returns g c =
     predict_all c.args.query.now c.args.self.now c.deref-path-items.result.now c.loop-path.path-index c.loop-path-test.false
-    (ap entries_of c.deref-path-items.ensures.value ∙ c.in_ok-entries.ensures) c.loop-path.found.items c.loop-path.invariant
+    (ap vector_entries c.deref-path-items.ensures.value ∙ c.in_ok-entries.ensures) c.loop-path.found.items c.loop-path.invariant

@@ -5,7 +5,7 @@ use Rattle.std.specs.Ordering.{is_ge, nat_cmp}
 use Rattle.std.proofs.lemmas.Bool.{true≢false}
 use Rattle.std.proofs.lemmas.Int.{to_z-of_z}
 use Rattle.cedar_tree.specs.Queries.{Entry}
-use Rattle.cedar_tree.specs.Walks.{entries_of}
+use Rattle.cedar_tree.specs.Walks.{visited_entries}
 use Rattle.cedar_walk.specs.Visits.{left_at}
 use Rattle.cedarwood.specs.RangeWalks.{bounded, IsEnd, IsRangePlace}
 use Rattle.cedarwood.proofs.BoundedLemmas.{ended, goes_on, step_of}
@@ -34,7 +34,7 @@ invariant_of-self g c =
     let here = subst (IsRangePlace T []) c.in-Some.is i.1 in
     let end = subst (λ x. IsEnd T to x c.self.inside.end) c.in-Some.is i.3 in
     let found = c.next_numbered-self-inside.result in
-    let left = entries_of (left_at T [] next.depth next.slot) in
+    let left = visited_entries (left_at T [] next.depth next.slot) in
     let comes = c.next_numbered-self-inside.ensures [] here.0 in
     let on = goes_on g.T.Walked.slots T i.0 next here to c.self.inside.end i.2 end (λ e is same. true≢false (sym (c.ends_at.ensures.1 (e, is, sym same)) ∙ c.if-ends_at.false)) in
     (i.0, range_place T [] left found comes, i.2, ap (filter (λ (e : Entry). is_ge (slice_cmp nat_cmp e.0 to))) (ranged_is T [] left found comes) ∙ on.1)

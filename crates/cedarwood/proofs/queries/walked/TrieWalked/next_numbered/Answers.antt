@@ -1,5 +1,5 @@
 use Rattle.std.proofs.Common.{◌≡◌, ℕ, List, [], MatchOption, rules, subst, sym}
-use Rattle.cedar_tree.specs.Walks.{entries_of}
+use Rattle.cedar_tree.specs.Walks.{visited_entries}
 use Rattle.cedar_model.specs.Meaning.WellFormed.{cells_in}
 use Rattle.cedar_walk.specs.Visits.{ComesToNumber, IsBelow, IsNumberedBelow, left_at}
 use Rattle.cedarwood.specs.Dictionary.{Dictionary}
@@ -11,5 +11,5 @@ numbered_after-requires g c =
 
 pub returns : goal.returns
 returns g c =
-    subst (λ (d : Dictionary). (start : List ℕ) → IsBelow (cells_in d.table) start c.args.depth c.args.node → MatchOption c.numbered_after.result (entries_of (left_at d.table start c.args.depth c.args.node) ≡ []) (ComesToNumber d.table start (entries_of (left_at d.table start c.args.depth c.args.node))))
+    subst (λ (d : Dictionary). (start : List ℕ) → IsBelow (cells_in d.table) start c.args.depth c.args.node → MatchOption c.numbered_after.result (visited_entries (left_at d.table start c.args.depth c.args.node) ≡ []) (ComesToNumber d.table start (visited_entries (left_at d.table start c.args.depth c.args.node))))
     c.self.view_is c.numbered_after.ensures
