@@ -14,7 +14,7 @@ pub(crate) fn slot_at(base: usize, label: u8) -> usize
     base ^ usize::from(label)
 }
 
-/// Takes the slot of `label` below `node`, whose slots begin at `base`, and answers it. The new leaf stands behind all labels of the node, which are
+/// Takes the slot of `label` below `node`, whose slots begin at `base`, and returns it. The new leaf stands behind all labels of the node, which are
 /// lower: behind the slot `before`, or first of all. The order of the table doesn't matter.
 #[inline(always)]
 fn append_label<L: Layout, const SLOTS: usize, A: Allocator>(

@@ -9,7 +9,7 @@ use cedar_table::{Layout, Table};
 use std::alloc::Allocator;
 
 /// Gives a node that has neither number nor label a base from which the slots of all labels are free, 0 standing for the
-/// number, and answers it. The root keeps its base. All growth of a build from sorted pairs happens here.
+/// number, and returns it. The root keeps its base. All growth of a build from sorted pairs happens here.
 #[inline(always)]
 fn give_base<L: Layout, const SLOTS: usize, A: Allocator>(
     table: &mut Table<L, SLOTS, A>,
@@ -33,7 +33,7 @@ fn give_base<L: Layout, const SLOTS: usize, A: Allocator>(
     Ok(base)
 }
 
-/// Takes the slot for the number of a node that has neither number nor label, and answers it.
+/// Takes the slot for the number of a node that has neither number nor label, and returns it.
 #[inline(always)]
 fn take_number<L: Layout, const SLOTS: usize, A: Allocator>(
     table: &mut Table<L, SLOTS, A>,
@@ -53,7 +53,7 @@ fn take_number<L: Layout, const SLOTS: usize, A: Allocator>(
     slot
 }
 
-/// Takes the slot for the number, if there is one, and answers the slot that the first label goes behind, unless it begins
+/// Takes the slot for the number, if there is one, and returns the slot that the first label goes behind, unless it begins
 /// the chain.
 #[inline(always)]
 fn begin_chain<L: Layout, const SLOTS: usize, A: Allocator>(
@@ -113,7 +113,7 @@ fn own_number<L: Layout>(number: Option<i32>, labels: &[u8]) -> Option<i32>
 }
 
 /// Gives a node that has neither number nor label a number, if there is one, and ascending labels, each a leaf without
-/// number, and answers where their slots begin. A number without labels stands in the node's own base field, where the layout
+/// number, and returns where their slots begin. A number without labels stands in the node's own base field, where the layout
 /// keeps it there; then no slot follows.
 #[inline(always)]
 pub(crate) fn fill_node<L: Layout, const SLOTS: usize, A: Allocator>(

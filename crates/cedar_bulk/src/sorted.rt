@@ -80,7 +80,7 @@ fn fill_alone<'a, L: Layout, const SLOTS: usize, A: Allocator, K: AsSlice<u8>>(
     }))
 }
 
-/// Gives the node of a span below the root its number and its labels, and answers the span whose turn is next, if one is left:
+/// Gives the node of a span below the root its number and its labels, and returns the span whose turn is next, if one is left:
 /// that of the last child, or else the last one that waits.
 fn fill_next<'a, L: Layout, const SLOTS: usize, A: Allocator, K: AsSlice<u8>>(
     table: &mut Table<L, SLOTS, A>,

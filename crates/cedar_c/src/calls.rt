@@ -152,7 +152,7 @@ pub extern "C" fn cedar_update(
 /// As `cedar_update`, and tells whether the key was held before, and with which value.
 ///
 /// # Errors
-/// As `cedar_update`; then nothing is told.
+/// As `cedar_update`; then neither is written.
 #[unsafe(no_mangle)]
 pub extern "C" fn cedar_insert(
     handle: &mut Handle,

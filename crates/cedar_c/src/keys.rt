@@ -55,7 +55,7 @@ impl AnyCedar {
     }
 }
 
-/// The bytes of all keys, one key after another in the order of the walk, or None for want of memory.
+/// The bytes of all keys, one key after another in the order of the walk, or `None` where memory is refused.
 fn keys_of<L: Layout, const SLOTS: usize>(
     trie: &Trie<L, SLOTS, Global>,
     alloc: Global,

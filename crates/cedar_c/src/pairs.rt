@@ -23,7 +23,7 @@ pub struct Pair<'a> {
     pub value: i32,
 }
 
-/// The pairs as the dictionary's own calls take them, or None for want of memory.
+/// The pairs as the dictionary's own calls take them, or `None` where memory is refused.
 pub(crate) fn taken<'a>(alloc: Global, pairs: &[Pair<'a>]) -> Option<Vec<(&'a [u8], i32), Global>>
     ensures { IfSome result (λ v. v.items ≡ map taken_pair pairs.now) }
 {
@@ -35,7 +35,7 @@ pub(crate) fn taken<'a>(alloc: Global, pairs: &[Pair<'a>]) -> Option<Vec<(&'a [u
     Some(taken)
 }
 
-/// Stores some pairs, as the dictionary's own call does; or none, for want of memory.
+/// Stores some pairs, as the dictionary's own call does; or none, where memory is refused.
 fn store_all<L: Layout, const SLOTS: usize>(
     trie: &mut Trie<L, SLOTS, Global>,
     alloc: Global,

@@ -63,7 +63,7 @@ impl AnyCedar {
     }
 }
 
-/// The bytes of a dictionary's file in either version, or None for want of memory.
+/// The bytes of a dictionary's file in either version, or `None` where memory is refused.
 fn either_file<L: Layout, const SLOTS: usize>(
     trie: &Trie<L, SLOTS, Global>,
     alloc: Global,

@@ -182,8 +182,8 @@ impl AnyCedar {
 
 /// Writes what keys stand in a text from a place on: place after place, and at each the shortest first. Those of a place are
 /// written as a whole: where there is no room left for them, the walk ends, and `next` is this place, so that a call from there
-/// goes on. It ends behind the text otherwise. It answers how many places of the buffer it wrote; what the others have then
-/// isn't told.
+/// goes on. It ends behind the text otherwise. It returns how many places of the buffer it wrote; what the others have then
+/// is left open.
 #[unsafe(no_mangle)]
 pub extern "C" fn cedar_scan(
     handle: &mut Handle,
@@ -209,7 +209,7 @@ pub extern "C" fn cedar_scan(
 
 /// Writes the tokens of a text from a place on, where one begins: at each place the longest key that begins there, or else one
 /// byte, with the value -1. It ends where the text or the room does, and `next` is where the next token begins, so that a call from
-/// there goes on. It answers how many places of the buffer it wrote; what the others have then isn't told.
+/// there goes on. It returns how many places of the buffer it wrote; what the others have then is left open.
 #[unsafe(no_mangle)]
 pub extern "C" fn cedar_segment(
     handle: &mut Handle,

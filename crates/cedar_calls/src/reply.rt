@@ -98,7 +98,7 @@ fn text_entries<L: Layout, const SLOTS: usize, A: Allocator + Copy>(
     Ok(found)
 }
 
-/// The bytes of a dictionary's file, in format 1.0 or 1.1. A write to them fails for want of memory alone.
+/// The bytes of a dictionary's file, in format 1.0 or 1.1. A write to them fails only where memory is refused.
 fn saved<L: Layout, const SLOTS: usize, A: Allocator + Copy>(
     trie: &Trie<L, SLOTS, A>,
     alloc: A,

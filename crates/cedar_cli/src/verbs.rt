@@ -72,7 +72,7 @@ fn answer_command<L: Layout, const SLOTS: usize, A: Allocator + Copy, W: Write>(
     }
 }
 
-/// Stores a value, and answers. Where the answer can't be written, the value is taken back, which takes no
+/// Stores a value, and writes the answer. Where the answer can't be written, the value is taken back, which takes no
 /// memory: the key is erased, or its old value stored over the new one.
 fn answer_put<L: Layout, const SLOTS: usize, A: Allocator + Copy, W: Write>(
     trie: &mut Trie<L, SLOTS, A>,

@@ -9,7 +9,7 @@ use cedar_edit::update;
 use std::alloc::Allocator;
 
 impl<L: Layout, const SLOTS: usize, A: Allocator + Copy> Trie<L, SLOTS, A> {
-    /// Stores a value at a key, and answers the value that the key held before, if it held one. It goes along the key once.
+    /// Stores a value at a key, and returns the value that the key held before, if it held one. It goes along the key once.
     ///
     /// ```
     /// assert_eq!(rt; cedar.insert_bytes(b"net", 7)?, None);

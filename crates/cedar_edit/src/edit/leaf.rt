@@ -52,7 +52,7 @@ fn slot_before<L: Layout, const SLOTS: usize, A: Allocator>(
     Some(last_before(table, node, start, label))
 }
 
-/// Takes the slot of `label` below `node`, and answers it. The new leaf stands at its ascending place if the table
+/// Takes the slot of `label` below `node`, and returns it. The new leaf stands at its ascending place if the table
 /// is ordered, and first if not, behind the slot of the node's number. The node has a base, unless it is the root,
 /// and its slot for the label is free.
 pub(crate) fn add_label<L: Layout, const SLOTS: usize, A: Allocator>(
@@ -83,7 +83,7 @@ pub(crate) fn add_label<L: Layout, const SLOTS: usize, A: Allocator>(
     slot
 }
 
-/// Takes the slot of `label` below `node`, which is reserved for it, and answers it. The new leaf stands where
+/// Takes the slot of `label` below `node`, which is reserved for it, and returns it. The new leaf stands where
 /// `add_label` puts one.
 pub(crate) fn add_reserved<L: Layout, const SLOTS: usize, A: Allocator>(
     table: &mut Table<L, SLOTS, A>,

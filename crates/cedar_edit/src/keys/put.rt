@@ -33,7 +33,7 @@ fn known_front<L: Layout, const SLOTS: usize, A: Allocator>(
     (node, key.len())
 }
 
-/// Goes along a key from the root, adds the nodes that it lacks as bare leaves, and answers the slot of its node. Where
+/// Goes along a key from the root, adds the nodes that it lacks as bare leaves, and returns the slot of its node. Where
 /// memory or slots are refused, the leaves are taken back.
 fn walk_in<L: Layout, const SLOTS: usize, A: Allocator>(
     table: &mut Table<L, SLOTS, A>,
@@ -59,7 +59,7 @@ fn walk_in<L: Layout, const SLOTS: usize, A: Allocator>(
     Ok(node)
 }
 
-/// Puts the number `value` at a key below none of whose fronts a number stands in its node's own base field, and answers the
+/// Puts the number `value` at a key below none of whose fronts a number stands in its node's own base field, and returns the
 /// number there before. Where memory or slots are refused, the tree is as before.
 fn put_along<L: Layout, const SLOTS: usize, A: Allocator>(
     table: &mut Table<L, SLOTS, A>,
@@ -97,7 +97,7 @@ fn put_along<L: Layout, const SLOTS: usize, A: Allocator>(
     Ok(held)
 }
 
-/// Puts the number `value` at a key, and answers the number there before, if the key was held. Where memory or slots are
+/// Puts the number `value` at a key, and returns the number there before, if the key was held. Where memory or slots are
 /// refused, the tree is as before, though blocks may have come. An update of a key of n bytes makes n blocks at most, and tries no further one; over a number none is made; and a
 /// new first byte alone makes one only where no slot outside block 0 is free.
 pub fn update<L: Layout, const SLOTS: usize, A: Allocator>(

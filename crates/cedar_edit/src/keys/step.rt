@@ -78,7 +78,7 @@ fn room_for<L: Layout, const SLOTS: usize, A: Allocator>(
     Ok(())
 }
 
-/// Adds a child under a label whose slot another node owns, and answers the child's slot.
+/// Adds a child under a label whose slot another node owns, and returns the child's slot.
 fn add_over<L: Layout, const SLOTS: usize, A: Allocator>(
     table: &mut Table<L, SLOTS, A>,
     node: usize,
@@ -112,7 +112,7 @@ fn put_over<L: Layout, const SLOTS: usize, A: Allocator>(
     Ok(())
 }
 
-/// Goes from a node to its child under a label, and answers the child's slot. Where there is no such child, it is added
+/// Goes from a node to its child under a label, and returns the child's slot. Where there is no such child, it is added
 /// as a leaf without number: at its ascending place if the table is ordered, and first if not. Where memory or
 /// slots are refused, all slots are as before.
 pub(crate) fn follow_or_add<L: Layout, const SLOTS: usize, A: Allocator>(

@@ -97,7 +97,7 @@ fn move_in<L: Layout, const SLOTS: usize, A: Allocator>(table: &mut Table<L, SLO
     table.set_own_number(node, value);
 }
 
-/// Moves the number of a key's front that stands in the way of the next label, and answers the front's length. Where
+/// Moves the number of a key's front that stands in the way of the next label, and returns the front's length. Where
 /// memory or slots are refused, all is as before.
 pub(crate) fn make_way<L: Layout, const SLOTS: usize, A: Allocator>(
     table: &mut Table<L, SLOTS, A>,

@@ -33,7 +33,7 @@ fn repoint_chain<L: Layout, const SLOTS: usize, A: Allocator>(
     }
 }
 
-/// Makes `to` the owner of the slot of `from`'s number, if it has one, and answers the label after it.
+/// Makes `to` the owner of the slot of `from`'s number, if it has one, and returns the label after it.
 fn repoint_number<L: Layout, const SLOTS: usize, A: Allocator>(
     table: &mut Table<L, SLOTS, A>,
     from: usize,

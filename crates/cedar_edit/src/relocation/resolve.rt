@@ -149,7 +149,7 @@ fn move_with<L: Layout, const SLOTS: usize, A: Allocator>(
     Ok(())
 }
 
-/// Moves the slots that `node` owns, of which `slot` is one, to another base, and answers that. The slot is kept back.
+/// Moves the slots that `node` owns, of which `slot` is one, to another base, and returns that. The slot is kept back.
 fn move_away<L: Layout, const SLOTS: usize, A: Allocator>(
     table: &mut Table<L, SLOTS, A>,
     node: usize,
@@ -165,7 +165,7 @@ fn move_away<L: Layout, const SLOTS: usize, A: Allocator>(
     move_set_around(table, node, &labels, slot)
 }
 
-/// Keeps the slot back that the node's base has for a label, where another node owns it, and answers where the node
+/// Keeps the slot back that the node's base has for a label, where another node owns it, and returns where the node
 /// is then. That owner's set of slots is moved, or the node's own set where the owner's is longer. Where no room is
 /// found, all slots are as before.
 pub(crate) fn resolve<L: Layout, const SLOTS: usize, A: Allocator>(

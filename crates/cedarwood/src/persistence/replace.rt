@@ -134,7 +134,7 @@ fn rename<F: Files>(files: &F, from: &str, to: &str) -> Result<(), CedarPersiste
     Ok(())
 }
 
-/// A buffer is refused for want of memory alone.
+/// A buffer is refused only where memory is.
 pub(crate) fn no_buffer(_error: io::Error) -> CedarPersistenceError
     ensures { result ≡ AllocationFailed 8192 }
 {

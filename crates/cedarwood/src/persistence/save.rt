@@ -20,7 +20,7 @@ impl<L: Layout, const SLOTS: usize, A: Allocator + Copy> Trie<L, SLOTS, A> {
     /// ```
     ///
     /// # Errors
-    /// `Io` where the writer failed. What went out before that isn't told.
+    /// `Io` where the writer failed. What was written before that is left open.
     pub fn save_to_writer<W: Write>(
         &self,
         writer: &mut Watched<W>,
@@ -46,7 +46,7 @@ impl<L: Layout, const SLOTS: usize, A: Allocator + Copy> Trie<L, SLOTS, A> {
     /// ```
     ///
     /// # Errors
-    /// `Io` where the writer failed. What went out before that isn't told.
+    /// `Io` where the writer failed. What was written before that is left open.
     pub fn save_v1_0_to_writer<W: Write>(
         &self,
         writer: &mut Watched<W>,
