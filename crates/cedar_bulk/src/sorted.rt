@@ -206,14 +206,23 @@ pub fn build_sorted<L: Layout, const SLOTS: usize, A: Allocator + Copy, K: AsSli
     requires keys { ArePathsKeys (entries_by K.items pairs.now) }
     requires ascending { ArePathsAscending (entries_by K.items pairs.now) }
     requires values { AllByRecursion (λ e. is_value e.1 ≡ true) (entries_by K.items pairs.now) }
+
+    //= `build_sorted` of pairs whose keys, bytes or texts, ascend: the table is well-formed and stands for their one tree with ascending
+    //  labels, whatever its order is. [with tree]
     ensures well_formed { IfOk result (λ table. IsWellFormed SLOTS (fields table)) }
     ensures tree { IfOk result (λ table. tree_of (fields table) ≡ asc (entries_by K.items pairs.now)) }
 
-    // In the reduced layout just those numbers have slots of their own whose keys begin longer ones.
+    //= By default each number has a slot of its own; in the reduced layout just those do whose keys begin longer ones. [by SortedMarks]
     ensures marks { IfOk result (λ table. SortedMarks L.kind (asc (entries_by K.items pairs.now)) (marks (fields table))) }
+
+    //= Its order and `max_trial` are those asked for. [with max_trial]
     ensures ordered { IfOk result (λ table. (fields table).ordered ≡ ordered) }
     ensures max_trial { IfOk result (λ table. (fields table).places.blocks.max_trial ≡ max_trial) }
+
+    //= It makes at most one block for each distinct nonempty prefix of a key, beside the first one.
     ensures blocks { IfOk result (λ table. (n : ℕ) × (n ≤ length (prefixes (asc (entries_by K.items pairs.now)))) × (size_of (fields table) ≡ 256 + 256 * n) × (capacity_of (fields table) ≡ 256 * blocks_after n 1 1)) }
+
+    //= It is refused for memory, or for slots where 256 times the number of these prefixes is the limit or more.
     ensures refused { IfErr result (λ error. (error ≡ Memory) ⊎ ((error ≡ SlotLimit) × (SLOTS ≤ 256 * length (prefixes (asc (entries_by K.items pairs.now)))))) }
 {
     let mut table = Table::new(alloc, ordered, max_trial)?;

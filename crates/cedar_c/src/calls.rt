@@ -49,6 +49,7 @@ fn renew(handle: &mut Handle, alloc: Global, is_reduced: bool, settings: CedarBu
 /// `MEMORY` where a request for memory was refused. Then the handle is as it was.
 #[unsafe(no_mangle)]
 pub extern "C" fn cedar_new(handle: &mut Handle, alloc: Global) -> u32
+    //= The dictionary that was made is of the default layout. [also cedar_new_with, cedar_build, cedar_load; by layout]
     ensures opens { OpensNew default_layout true (pos 1) handle.old handle.new result }
 {
     renew_with(handle, alloc, false, true, 1)
@@ -66,6 +67,10 @@ pub extern "C" fn cedar_new_with(
     ordered: bool,
     max_trial: i32,
 ) -> u32
+    //= A handle is opened with an empty dictionary of 256 slots and the settings that are given, or those by default. [also
+    //  cedar_new_reduced, cedar_new; by made]
+    //= It is refused for memory, and for a `max_trial` exactly if that is below 1; then the handle has what it had. [also
+    //  cedar_new_reduced, cedar_new; by refused, invalid]
     ensures opens { OpensNew default_layout ordered max_trial handle.old handle.new result }
 {
     renew_with(handle, alloc, false, ordered, max_trial)
@@ -82,6 +87,7 @@ pub extern "C" fn cedar_new_reduced(
     ordered: bool,
     max_trial: i32,
 ) -> u32
+    //= The dictionary that was made is of the reduced layout. [also cedar_build_reduced, cedar_load_reduced; by layout]
     ensures opens { OpensNew reduced_layout ordered max_trial handle.old handle.new result }
 {
     renew_with(handle, alloc, true, ordered, max_trial)
@@ -106,6 +112,7 @@ fn renew_with(
 /// Closes a handle, and gives its memory back.
 #[unsafe(no_mangle)]
 pub extern "C" fn cedar_free(handle: &mut Handle, alloc: Global)
+    //= A handle that is freed is closed.
     ensures { content handle.new ≡ None }
 {
     drop(handle.take(alloc));
@@ -122,19 +129,32 @@ pub extern "C" fn cedar_update(
     value: i32,
     position: &mut usize,
 ) -> u32
+    //= An update answers `CLOSED` exactly if the handle is closed. [also cedar_insert]
     ensures closed { (result ≡ CLOSED) ↔ (content handle.old ≡ None) }
+
+    //= It answers the number of the pair's first fault, with the place of a byte 0, or stores the value. [with faulty; also cedar_insert]
     ensures ok { result ≡ OK → state_in handle.new ≡ option_map (λ s. stored s key.now value) (state_in handle.old) }
+
+    //= After any error the tree is as it was, and after a pair's fault the whole dictionary. [with unchanged; also cedar_insert]
     ensures err { (result ≡ OK) ⊎ (state_in handle.new ≡ state_in handle.old) }
     ensures unchanged { IsSome (fault key.now value) → content handle.new ≡ content handle.old }
+
+    //= Updates, inserts and erasures leave the layout as it is, whatever they answer. [also cedar_insert, cedar_update_all, cedar_erase]
     ensures layout { layout_in handle.new ≡ layout_in handle.old }
     ensures faulty { IsSome (content handle.old) → IfSome (fault key.now value) (λ e. (result ≡ status_of e) × (position.new ≡ position_of position.old e)) }
+
+    //= Without a fault it is refused only for memory or slots, only where the key isn't held, and not while a block is spare for each byte.
+    //  [with limit, spare, refused; also cedar_insert]
     ensures memory { result ≡ MEMORY → (size_in handle.new ≡ capacity_in handle.new) × (capacity_in handle.new < most_slots) }
     ensures limit { result ≡ SLOT_LIMIT → size_in handle.new ≡ most_slots }
     ensures spare { IsSome (content handle.old) → fault key.now value ≡ None
         → 256 * length key.now ≤ capacity_in handle.old - size_in handle.old → result ≡ OK }
 
-    // Only an error that tells a position writes it, and the settings stay.
+    //= Only an error that tells a position writes it (`TellsPosition`); after an error an insert tells nothing. [also
+    //  cedar_insert.stays.untold, cedar_update_all, cedar_build.opens, cedar_build_reduced.opens; by stays]
     ensures stays { TellsPosition result ⊎ (position.new ≡ position.old) }
+
+    //= `max_trial` stays. [also cedar_insert, cedar_update_all, cedar_erase]
     ensures trials { trials_in handle.new ≡ trials_in handle.old }
     ensures refused { IsSome (content handle.old) → fault key.now value ≡ None →
         (result ≡ OK) ⊎ (((result ≡ MEMORY) ⊎ (result ≡ SLOT_LIMIT)) × (number_at (tree_in handle.old) key.now ≡ None)) }
@@ -167,6 +187,8 @@ pub extern "C" fn cedar_insert(
     ensures err { (result ≡ OK) ⊎ (state_in handle.new ≡ state_in handle.old) }
     ensures unchanged { IsSome (fault key.now value) → content handle.new ≡ content handle.old }
     ensures layout { layout_in handle.new ≡ layout_in handle.old }
+
+    //= An insert tells whether the key was held, and with which value. [with before]
     ensures held { result ≡ OK → IsTrue held.new ↔ IsSome (number_at (tree_in handle.old) key.now) }
     ensures before { result ≡ OK → IfSome (number_at (tree_in handle.old) key.now) (λ v. before.new ≡ v) }
     ensures faulty { IsSome (content handle.old) → IfSome (fault key.now value) (λ e. (result ≡ status_of e) × (position.new ≡ position_of position.old e)) }
@@ -174,8 +196,6 @@ pub extern "C" fn cedar_insert(
     ensures limit { result ≡ SLOT_LIMIT → size_in handle.new ≡ most_slots }
     ensures spare { IsSome (content handle.old) → fault key.now value ≡ None
         → 256 * length key.now ≤ capacity_in handle.old - size_in handle.old → result ≡ OK }
-
-    // Only an error that tells a position writes it, and the settings stay.
     ensures stays { TellsPosition result ⊎ (position.new ≡ position.old) }
     ensures trials { trials_in handle.new ≡ trials_in handle.old }
     ensures untold { (result ≡ OK) ⊎ ((held.new ≡ held.old) × (before.new ≡ before.old)) }
@@ -201,6 +221,7 @@ pub extern "C" fn cedar_insert(
 /// Removes a key, and says whether it was held.
 #[unsafe(no_mangle)]
 pub extern "C" fn cedar_erase(handle: &mut Handle, key: &[u8]) -> bool
+    //= An erasure says whether the key was held; the tree is `cut`, and the slots are as many. [with after, size]
     ensures answer { IsTrue result ↔ IsSome (number_at (tree_in handle.old) key.now) }
     ensures after { state_in handle.new ≡ option_map (λ s. erased s key.now) (state_in handle.old) }
     ensures size { (size_in handle.new ≡ size_in handle.old) × (capacity_in handle.new ≡ capacity_in handle.old) }
@@ -216,9 +237,14 @@ pub extern "C" fn cedar_erase(handle: &mut Handle, key: &[u8]) -> bool
 /// Tells the value at a key, and says whether the key is held.
 #[unsafe(no_mangle)]
 pub extern "C" fn cedar_get(handle: &mut Handle, key: &[u8], value: &mut i32) -> bool
+    //= A look-up says whether the key is held, and tells its value or nothing. [with value, absent]
     ensures answer { IsTrue result ↔ IsSome (number_at (tree_in handle.old) key.now) }
     ensures value { IfSome (number_at (tree_in handle.old) key.now) (λ v. value.new ≡ v) }
     ensures absent { number_at (tree_in handle.old) key.now ≡ None → value.new ≡ value.old }
+
+    //= Look-ups, figures, walks, scans, tokens, saves and lists of keys leave the handle with the dictionary as it was. [also cedar_len,
+    //  cedar_used_slots, cedar_capacity, cedar_spare_blocks, cedar_is_reduced, cedar_prefixes, cedar_predictions, cedar_prefixes_from,
+    //  cedar_predictions_from, cedar_scan, cedar_segment, cedar_save, cedar_keys]
     ensures kept { content handle.new ≡ content handle.old }
 {
     if !handle.is_open() {

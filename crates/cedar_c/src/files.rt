@@ -32,6 +32,14 @@ pub extern "C" fn cedar_load(
     bytes: &[u8],
     memory_limit: usize,
 ) -> u32
+    //= A load that answers `OK` opens the handle with the dictionary whose table's bytes were given, in either version, and the table is
+    //  well-formed; else the handle has what it had. [also cedar_load_reduced; by loaded, refused]
+    //= Where the header refuses the bytes, by the layout of the call, it answers that refusal's number or want of memory; a failed read
+    //  (`FILE_UNREAD`) is never answered. [also cedar_load_reduced; by header, read]
+    //= What is refused before memory is asked for (the header itself, and its sizes) is told by just its number; behind a header that
+    //  passes the answer is `OK`, want of memory, or `FILE_CORRUPT`, and that only where the bytes are of no well-formed table. [also
+    //  cedar_load_reduced; by early, behind]
+    //= A loaded dictionary stands on the table that was loaded. [also cedar_load_reduced; by stands]
     ensures opens { OpensLoaded default_layout memory_limit bytes.now handle.old handle.new result }
 {
     renew(handle, alloc, false, bytes, memory_limit)

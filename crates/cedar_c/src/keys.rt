@@ -28,6 +28,8 @@ pub extern "C" fn cedar_keys(
     needed: &mut usize,
 ) -> u32
     ensures closed { (result ≡ CLOSED) ↔ (content handle.old ≡ None) }
+
+    //= All keys are written so, one after another in the order of the walk. [with needed]
     ensures written { result ≡ OK → buffer.new ≡ keys_in (walk (tree_in handle.old)) ++ drop needed.new buffer.old }
     ensures needed { (result ≡ OK) ⊎ (result ≡ NO_ROOM) → needed.new ≡ length (keys_in (walk (tree_in handle.old))) }
     ensures room { (result ≡ OK → needed.new ≤ length buffer.old) × (result ≡ NO_ROOM → length buffer.old < needed.new) }

@@ -124,6 +124,8 @@ pub extern "C" fn cedar_prefixes_from(
     next: &mut usize,
     matches: &mut [Match],
 ) -> usize
+    //= A walk in pieces writes what `front` or `predict` has behind the first `next`, as far as there are places, leaves the others,
+    //  answers how many it wrote and adds that to `next`. [with filled, next; also cedar_predictions_from]
     ensures count { result ≡ length (take (length matches.old) (drop next.old (front (tree_in handle.old) text.now))) }
     ensures filled { matches.new ≡ filled_matches matches.old (drop next.old (front (tree_in handle.old) text.now)) }
     ensures next { next.new ≡ next.old + result }

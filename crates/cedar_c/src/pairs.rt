@@ -86,18 +86,21 @@ pub extern "C" fn cedar_update_all(
     pairs: &[Pair<'_>],
     position: &mut usize,
 ) -> u32
+    //= Whatever it answers, a front of the pairs is stored and nothing else; it answers `CLOSED` exactly if the handle is closed. [with
+    //  front]
     ensures closed { (result ≡ CLOSED) ↔ (content handle.old ≡ None) }
+
+    //= Some pairs are all stored in turn; with a fault among them nothing changes, and the first fault is told, or want of memory; without
+    //  one the answer is `OK`, `MEMORY` or `SLOT_LIMIT`. [with faulty, refused]
     ensures ok { result ≡ OK → state_in handle.new ≡ option_map (λ s. all_stored s (entries_in pairs.now)) (state_in handle.old) }
     ensures faulty { IsSome (content handle.old) → IfSome (first_fault (entries_in pairs.now)) (λ e.
         (content handle.new ≡ content handle.old) × ((result ≡ MEMORY) ⊎ ((result ≡ status_of e) × (position.new ≡ position_of position.old e)))) }
-
-    // Whatever it answers, a front of the pairs is stored, and nothing else has changed.
     ensures front { (m : ℕ) × (m ≤ length (entries_in pairs.now)) × (state_in handle.new ≡ option_map (λ s. all_stored s (take m (entries_in pairs.now))) (state_in handle.old)) }
     ensures layout { layout_in handle.new ≡ layout_in handle.old }
     ensures refused { IsSome (content handle.old) → first_fault (entries_in pairs.now) ≡ None → (result ≡ OK) ⊎ (result ≡ MEMORY) ⊎ (result ≡ SLOT_LIMIT) }
 
-    // Slots are wanted only where all are in use. After an error nothing has changed, or the pairs before one whose key isn't held then
-    // are stored.
+    //= After an error nothing has changed, or the pairs before one whose key isn't held then are stored; `SLOT_LIMIT` is told only where
+    //  all slots are in use. [with part]
     ensures limit { result ≡ SLOT_LIMIT → size_in handle.new ≡ most_slots }
     ensures part { (result ≡ OK) ⊎ (content handle.new ≡ content handle.old) ⊎ ((m : ℕ) × (m < length (entries_in pairs.now))
         × (state_in handle.new ≡ option_map (λ s. all_stored s (take m (entries_in pairs.now))) (state_in handle.old)) × (number_at (tree_in handle.new) (path_at (entries_in pairs.now) m) ≡ None)) }

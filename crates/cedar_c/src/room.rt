@@ -18,7 +18,13 @@ use cedarwood::CedarError;
 /// for memory was refused. After an error nothing has changed.
 #[unsafe(no_mangle)]
 pub extern "C" fn cedar_reserve(handle: &mut Handle, blocks: usize) -> u32
+    //= It answers `CLOSED` exactly if the handle is closed, `SLOT_LIMIT` just where the limit doesn't allow so many blocks, and `MEMORY`
+    //  only where the slots have to double and may; after any error the dictionary is as it was. [with limit, memory, refused]
     ensures closed { (result ≡ CLOSED) ↔ (content handle.old ≡ None) }
+
+    //= `cedar_reserve` of n blocks leaves n blocks spare; state, marks, settings, layout and slots in use stay. The slots are then as many
+    //  as if n blocks had come into use, and where n were spare nothing changes at all. [with marks, trials, layout, size, capacity, spare,
+    //  enough, asks_nothing]
     ensures state { state_in handle.new ≡ state_in handle.old }
     ensures marks { marks_in handle.new ≡ marks_in handle.old }
     ensures trials { trials_in handle.new ≡ trials_in handle.old }
@@ -26,12 +32,8 @@ pub extern "C" fn cedar_reserve(handle: &mut Handle, blocks: usize) -> u32
     ensures size { size_in handle.new ≡ size_in handle.old }
     ensures capacity { result ≡ OK → capacity_in handle.new ≡ capacity_after blocks (size_in handle.old) (capacity_in handle.old) }
     ensures spare { result ≡ OK → 256 * blocks ≤ capacity_in handle.new - size_in handle.new }
-
-    // Where they are spare already.
     ensures enough { 256 * blocks ≤ capacity_in handle.old - size_in handle.old → content handle.new ≡ content handle.old }
     ensures asks_nothing { IsSome (content handle.old) → 256 * blocks ≤ capacity_in handle.old - size_in handle.old → result ≡ OK }
-
-    // Slots are wanted just where there may not be so many, memory only where there may.
     ensures limit { IsSome (content handle.old) → (result ≡ SLOT_LIMIT) ↔ (most_slots < size_in handle.old + 256 * blocks) }
     ensures memory { result ≡ MEMORY → (capacity_in handle.old < size_in handle.old + 256 * blocks) × (size_in handle.old + 256 * blocks ≤ most_slots) }
     ensures refused { (result ≡ OK) ⊎ (((result ≡ CLOSED) ⊎ (result ≡ MEMORY) ⊎ (result ≡ SLOT_LIMIT)) × (content handle.new ≡ content handle.old)) }

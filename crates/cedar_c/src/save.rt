@@ -26,7 +26,12 @@ pub extern "C" fn cedar_save(
     buffer: &mut [u8],
     needed: &mut usize,
 ) -> u32
+    //= Both answer `CLOSED` exactly if the handle is closed, `OK` only if all fits, `NO_ROOM` only if it doesn't, and else `MEMORY`; after
+    //  any error the buffer is as it was. [with room, refused; also cedar_keys]
     ensures closed { (result ≡ CLOSED) ↔ (content handle.old ≡ None) }
+
+    //= A save writes the bytes of the dictionary's table, in 1.1 or in 1.0, into the first places of a buffer, and leaves the others;
+    //  `needed` is how many they are. [with needed]
     ensures saved { result ≡ OK → IfSome (content handle.old) (λ a. buffer.new ≡ table_bytes (minor_of is_full) (dictionary_in a).table ++ drop needed.new buffer.old) }
     ensures needed { (result ≡ OK) ⊎ (result ≡ NO_ROOM) → IfSome (content handle.old) (λ a. needed.new ≡ length (table_bytes (minor_of is_full) (dictionary_in a).table)) }
     ensures room { (result ≡ OK → needed.new ≤ length buffer.old) × (result ≡ NO_ROOM → length buffer.old < needed.new) }

@@ -191,10 +191,16 @@ pub extern "C" fn cedar_scan(
     next: &mut usize,
     found: &mut [Found],
 ) -> usize
+    //= A scan writes what keys stand in a text from `next` on, place after place: what stood from the old `next` on is what was written,
+    //  and then what stands from the new one on. [by spots_from]
     ensures told { IsSome (content handle.old) → spots_from (tree_in handle.old) next.old (drop next.old text.now) ≡ take result found.new ++ spots_from (tree_in handle.old) next.new (drop next.new text.now) }
 
-    // It ends where the text does, or where the keys of a place don't fit in the room that is left.
+    //= A scan ends where the text does, or where the keys of a place don't fit in the room left; tokens end where the text or the room
+    //  does. [also cedar_segment]
     ensures full { (length text.now ≤ next.new) ⊎ (length found.new < result + length (front (tree_in handle.old) (drop next.new text.now))) }
+
+    //= `next` never goes back, nor behind the text's end if it wasn't there, the answer is at most the room, and 0 where the handle is
+    //  closed. [with ends, closed; also cedar_segment]
     ensures within { (result ≤ length found.new) × (next.old ≤ next.new) }
     ensures ends { (next.new ≤ length text.now) ⊎ (next.new ≡ next.old) }
     ensures closed { content handle.old ≡ None → result ≡ 0 }
@@ -217,6 +223,7 @@ pub extern "C" fn cedar_segment(
     next: &mut usize,
     found: &mut [Found],
 ) -> usize
+    //= A cut writes the tokens so too, with -1 for no value, from a place on where one begins. [by tokens_from]
     ensures told { IsSome (content handle.old) → tokens_from (tree_in handle.old) next.old (drop next.old text.now) ≡ take result found.new ++ tokens_from (tree_in handle.old) next.new (drop next.new text.now) }
     ensures full { (length text.now ≤ next.new) ⊎ (result ≡ length found.new) }
     ensures within { (result ≤ length found.new) × (next.old ≤ next.new) }

@@ -142,6 +142,12 @@ pub extern "C" fn cedar_build(
     pairs: &[Pair<'_>],
     position: &mut usize,
 ) -> u32
+    //= A sorted build opens the handle with the dictionary of just the pairs (`asc`), with the settings that are given, and with the marks
+    //  and slots of `from_sorted_bytes`. [also cedar_build_reduced; by made]
+    //= It answers `INVALID_MAX_TRIAL` where `max_trial` is below 1; else the number of the input's first fault, with the index of a key
+    //  that isn't above the one before it, or want of memory; without a fault `OK`, want of memory, or of slots only where 256 times the
+    //  prefixes are 2^30 or more. [also cedar_build_reduced; by invalid, faulty, refused]
+    //= After any error the handle has what it had. [also cedar_build_reduced; by kept]
     ensures opens { OpensSorted default_layout ordered max_trial pairs.now handle.old handle.new position.old position.new result }
 {
     renew_with(handle, alloc, false, ordered, max_trial, pairs, position)

@@ -14,6 +14,8 @@ use crate::status::{
 /// no byte 0 at its end.
 #[unsafe(no_mangle)]
 pub extern "C" fn cedar_status_text(status: u32, text: &mut [u8]) -> usize
+    //= Each status has its text (`status_text`), and all other numbers one; its first bytes are written, as far as there are places, the
+    //  others stay, and its length is answered. [with written]
     ensures count { result ≡ length (status_text status) }
     ensures written { text.new ≡ take (length text.old) (status_text status) ++ drop (length (status_text status)) text.old }
 {

@@ -125,6 +125,8 @@ impl AnyCedar {
 /// how many the text has: for each the value, and one less than its bytes. It is one walk.
 #[unsafe(no_mangle)]
 pub extern "C" fn cedar_prefixes(handle: &mut Handle, text: &[u8], matches: &mut [Match]) -> usize
+    //= A walk writes `front` or `predict` of the tree into the first places of a buffer, as far as there are places, leaves the others, and
+    //  answers how many there are. [with filled; also cedar_predictions]
     ensures count { result ≡ length (front (tree_in handle.old) text.now) }
     ensures filled { matches.new ≡ filled_matches matches.old (front (tree_in handle.old) text.now) }
     ensures kept { content handle.new ≡ content handle.old }

@@ -13,6 +13,9 @@ use std::alloc::Allocator;
 /// these answers, and in the default layout how many slots are in use. Answers that tell of places (how many slots there are, how many bytes and
 /// blocks, a file's bytes) may be asked for, and are not compared.
 pub fn trees_decide<A: Allocator>(calls: &[Call<'_>], answers: &[Answer<A>])
+    //= Of calls without a load, of which none was refused for memory or slots, the answers are one function of the trees and the calls, and
+    //  the trees at the end another: layout, limit, `max_trial`, marks, sizes and tables have no part in them. Texts are among these
+    //  answers, and in the default layout how many slots are in use. [by TreesDecide]
     ensures { TreesDecide calls.now answers.now }
 {}
 
@@ -25,12 +28,17 @@ pub fn runs_agree<A: Allocator, B: Allocator>(
     others: &[Call<'_>],
     replies: &[Answer<B>],
 )
+    //= Two runs of the same calls from the same trees answer the same and leave the same trees, loads among them, if nothing was refused
+    //  for memory or slots. Calls may differ in `max_trial`; runs may differ in layout, limit and allocator, but with a load among the
+    //  calls layout and limit are one. [by RunsAgree]
     ensures { RunsAgree calls.now answers.now others.now replies.now }
 {}
 
 /// Keys stand alone: what a key holds after some changes of a dictionary follows from what it held before, change by change, and of a change that isn't
 /// of this key nothing is read. So the last stored value or removal of it decides.
 pub fn keys_stand_alone()
+    //= What a key holds after some changes follows from what it held before, change by change, and changes of other keys have no part in it
+    //  (where the trees on the way are sound, as dictionaries' are). [by KeysStandAlone]
     ensures { KeysStandAlone }
 {}
 
@@ -38,11 +46,15 @@ pub fn keys_stand_alone()
 /// other key. A further dictionary begins with no number at the key, with that of its pairs, of its file's table or of the dictionary that it
 /// copies; from then on the last accepted change of this key in this dictionary decides.
 pub fn keys_stand_alone_in_runs<A: Allocator>(calls: &[Call<'_>], answers: &[Answer<A>])
+    //= What the dictionaries of any run hold at a key follows call by call from what they held at this key, and no other key is read. [by
+    //  KeysStandAloneInRuns]
     ensures { KeysStandAloneInRuns calls.now answers.now }
 {}
 
 /// What was saved of a dictionary loads as one with its tree and its order, in any run of the same layout and limit of slots, whatever calls were made
 /// between, if the load answers `Ok`.
 pub fn saves_load_again<A: Allocator>(saved: &Reply<A>)
+    //= What was saved of a dictionary in a run loads, in this or another run of the same layout and limit of slots, as one with its tree
+    //  and its order, if the load answers `Ok`. [by SavesLoadAgain]
     ensures { SavesLoadAgain saved.now }
 {}

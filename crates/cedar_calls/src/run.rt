@@ -25,7 +25,22 @@ pub fn run_calls<L: Layout, const SLOTS: usize, A: Allocator + Copy>(
     calls: &[Call<'_>],
 ) -> Result<Vec<Answer<A>, A>, AllocError>
     requires limit { IsSlotLimit SLOTS }
+
+    //= Calls on any number of dictionaries, loads of any bytes among them, are a run: one answer for each call, and each call begins with
+    //  the dictionaries that the one before it left. [by IsRun]
+    //= A new dictionary, a sorted build, a load or a clone stands behind the others; where it is refused, none was made. All others are as
+    //  they were. [by IsStep, Makes]
+    //= What it is, and what it is refused by, is what the rows of `cedarwood` say of such a call; a clone is refused for memory alone. [by
+    //  IsNew, IsSortedBuild, IsLoad, IsCopy]
+    //= A dictionary that was loaded stands on the table that its bytes are of. [by IsLoad, IsOnTable]
+    //= An update, an insert, an erasure, `renew` or a build changes just the dictionary at its index, as the rows of `cedarwood` say. [by
+    //  ChangesAt, IsChange]
+    //= A question changes nothing, and is answered as they say; where an answer is collected it may be `Memory`. [by AsksAt, IsReply]
+    //= A call on a dictionary that isn't there answers `Missing`, and all are as they were. [by MissesAt]
+    //= A dictionary that is changed was valid before. [by IsStep, IsValid]
     ensures run { IfOk result (λ answers. IsRun L.kind SLOTS tries.old.items calls.now answers.items tries.new.items) }
+
+    //= Where there is no room for the answers, or for as many further dictionaries as there are calls, no call was made.
     ensures refused { OnErr result (tries.new.items ≡ tries.old.items) }
 {
     let mut answers = Vec::with_capacity(alloc, calls.len())?;

@@ -34,6 +34,8 @@ pub(crate) struct Command {
 /// Reads a line, and writes its key to the front of `room`, which has a byte for two of the line's. None is a bad line.
 pub(crate) fn parse_line(line: &[u8], room: &mut [u8]) -> Option<Command>
     requires room { length line.now ≤ 2 * length room.old }
+
+    //= A line is read as an order or as a bad line by `order_of`, and takes no memory (always).
     ensures order { option_map (λ c. (c.verb, take c.key_len room.new)) result ≡ order_of line.now }
     ensures len { length room.new ≡ length room.old }
     ensures within { IfSome result (λ c. c.key_len ≤ length room.old) }

@@ -59,19 +59,25 @@ pub fn run_program<const SLOTS: usize, F: Files, A: Allocator + Copy, R: Read, W
     errors: &mut Watched<E>,
 ) -> u8
     requires limit { IsSlotLimit SLOTS }
+
+    //= The program's status is 0, 1, 2 or 3 (always).
     ensures status { result ≤ 3 }
+
+    //= It is 2 exactly if the arguments are wrong (as `--unordered` beside `--load`, or `--v1-0` without `--save`); then nothing was read
+    //  and nothing written to the output (always). [with untouched]
     ensures usage { (result ≡ 2) ↔ (request_of arguments.now ≡ None) }
     ensures untouched { result ≡ 2 → (reader.new ≡ reader.old) × (writer.new ≡ writer.old) }
+
+    //= Then no call of the reader or the writer failed, and nothing was told to standard error (always). [with unfailed]
     ensures silent { result ≡ 0 → errors.new ≡ errors.old }
 
-    // All lines of the input are answered, from a dictionary of the layout that is asked for, and nothing else was written.
+    //= Status 0: the answers of the whole input were written, and nothing else: from an empty dictionary of the layout and the order that
+    //  were asked for, or with `--load` from some state and marks in that layout.
     ensures done { result ≡ 0 → IfSome (request_of arguments.now) (λ asked. (begun : View) × BeginsWith (asked_layout asked) asked begun × IfSome (R.remaining (device_of reader.old)) (λ input. length input < 2 ^ 63 →
         Appends (W.contents (device_of writer.old)) (W.contents (device_of writer.new)) (answers begun (lines_of input)))) }
-
-    // No call of the reader or the writer failed.
     ensures unfailed { result ≡ 0 → (has_failed reader.new ≡ has_failed reader.old) × (has_failed writer.new ≡ has_failed writer.old) }
 
-    // Whatever happens, what was written begins the answers.
+    //= With arguments that are right, what was written is a beginning of these answers, or all of them.
     ensures begun { IfSome (request_of arguments.now) (λ asked. (begun : View) × BeginsWith (asked_layout asked) asked begun × IfSome (R.remaining (device_of reader.old)) (λ input. length input < 2 ^ 63 →
         AppendsFront (W.contents (device_of writer.old)) (W.contents (device_of writer.new)) (answers begun (lines_of input)))) }
 {

@@ -53,38 +53,52 @@ pub fn run_script<L: Layout, const SLOTS: usize, A: Allocator + Copy, R: Read, W
     reader: &mut Watched<R>,
     writer: &mut Watched<W>,
 ) -> Result<(), ScriptError>
-    // All lines of what the reader had left are finished, and nothing else was written.
+    //= `Ok`: the answers of all lines of the input were written, nothing else was, and the dictionary's state and marks are those of all
+    //  lines.
+    //= Among the answers: `#` tells how many keys are held and how many slots. By default these are `used` of the tree, and in the reduced
+    //  layout one, plus its prefixes, plus the numbers that have slots of their own. [by answers, reply, slots_held]
+    //= Which numbers have slots of their own is said line by line, by the keys that were stored and erased (`put_in`, `cut_in`). [by
+    //  view_after_order]
     ensures ok { OnOk result (IfSome (R.remaining (device_of reader.old)) (λ input. length input < 2 ^ 63 →
         Finishes (view_of L.kind trie.old) (view_of L.kind trie.new)
         (W.contents (device_of writer.old)) (W.contents (device_of writer.new)) (lines_of input))) }
 
-    // The first lines are finished, the next one's answer was not written whole, and the state is theirs; after any fault but `Write` so are the marks.
-    // `Memory` has a reason in that line, or no line is finished.
+    //= After a fault the script's first lines are finished and no other: their answers were written, then at most a part of the next one's,
+    //  never the whole; the state is theirs, and after any fault but `Write` the marks are too. [by Stays]
+    //= So a put that is refused for want of memory or slots moves no number into a slot, in either layout; one whose answer can't be
+    //  written is taken back, and in the reduced layout numbers of shorter keys may then keep slots. [by Stays]
+    //= `Memory` only before any line is finished, or where the next line has more than 8,192 bytes or lists all keys, or where the
+    //  dictionary has no block spare and fewer slots than it may have; so want of slots is never told as want of memory behind the first
+    //  line, but at a line that long or such a list. [by MayStop]
     ensures err { IfErr result (λ fault. IfSome (R.remaining (device_of reader.old)) (λ input. length input < 2 ^ 63 →
         EndsEarly SLOTS trie.new fault (view_of L.kind trie.old) (view_of L.kind trie.new)
         (W.contents (device_of writer.old)) (W.contents (device_of writer.new)) input)) }
 
-    // After a fault of the reader the finished lines are those that came whole.
+    //= After a read fault the finished lines are all that came with their byte 10, and state and marks are theirs.
     ensures read { result ≡ Err ScriptError.Read → IfSome (R.remaining (device_of reader.old)) (λ input.
         (came : List ℕ) × (line : List ℕ)
         × Consumes (R.remaining (device_of reader.old)) (R.remaining (device_of reader.new)) came
         × HasNoNewline line × Advances (view_of L.kind trie.old) (view_of L.kind trie.new)
         (W.contents (device_of writer.old)) (W.contents (device_of writer.new)) came line) }
 
+    //= `Read` and `Write` are answered only where the device failed, in this run or before (always). [with write_cause]
     ensures read_cause { result ≡ Err ScriptError.Read → has_failed reader.new ≡ true }
     ensures write_cause { result ≡ Err ScriptError.Write → has_failed writer.new ≡ true }
 
-    // A run that answers the whole script met no fault.
+    //= `Ok` only where no call of a device failed in the run (always).
     ensures unfailed { OnOk result ((has_failed reader.new ≡ has_failed reader.old) × (has_failed writer.new ≡ has_failed writer.old)) }
 
-    // A script of n bytes makes n blocks at most, so slots are wanting only where all that there may be are in use and
-    // these came in the run, or were there before it.
+    //= `SlotLimit` only where all slots that there may be are in use at the end (always).
     ensures limit { result ≡ Err ScriptError.SlotLimit → trie.new.size ≡ SLOTS }
+
+    //= A run on an input of n bytes makes n blocks at most, however it ends (where the reader tells its bytes) (always).
     ensures blocks { IfSome (R.remaining (device_of reader.old)) (λ input. GrowsWithin (length input) trie.old trie.new) }
 
-    // Want of memory or slots is told only where no call of a device failed, and the settings stay.
+    //= `Memory` and `SlotLimit` only where no call of a device failed in the run (always). [with full]
     ensures starved { result ≡ Err ScriptError.Memory → (has_failed reader.new ≡ has_failed reader.old) × (has_failed writer.new ≡ has_failed writer.old) }
     ensures full { result ≡ Err ScriptError.SlotLimit → (has_failed reader.new ≡ has_failed reader.old) × (has_failed writer.new ≡ has_failed writer.old) }
+
+    //= `max_trial` stays (always).
     ensures max_trial { trie.new.max_trial ≡ trie.old.max_trial }
 {
     let Ok((mut line, mut key)) = line_room(alloc) else {

@@ -25,10 +25,13 @@ pub(crate) fn answer_line<L: Layout, const SLOTS: usize, A: Allocator + Copy, W:
     writer: &mut Watched<W>,
 ) -> Result<(), ScriptError>
     requires room { length line.now ≤ 2 * length room.old }
+
+    //= A line's answer and its effect are as DEFINITIONS says.
     ensures answer { Answers L.kind (order_of line.now) trie.old trie.new (W.contents (device_of writer.old)) (W.contents (device_of writer.new)) result }
     ensures faults { LineFault (has_failed writer.old) (has_failed writer.new) result }
 
-    // The line itself asks for no memory.
+    //= A line is told `Memory` only where the dictionary has no block spare and fewer slots than it may have, or where the line lists all
+    //  keys; `SlotLimit` only where all slots are in use (always). [with limit; also answer_command]
     ensures memory { result ≡ Err ScriptError.Memory → MayLackMemory SLOTS (order_of line.now) trie.new }
     ensures limit { result ≡ Err ScriptError.SlotLimit → trie.new.size ≡ SLOTS }
     ensures blocks { GrowsWithin (length line.now) trie.old trie.new }
@@ -53,8 +56,6 @@ fn answer_command<L: Layout, const SLOTS: usize, A: Allocator + Copy, W: Write>(
 ) -> Result<(), ScriptError>
     ensures answer { Answers L.kind (Some (verb, key.now)) trie.old trie.new (W.contents (device_of writer.old)) (W.contents (device_of writer.new)) result }
     ensures faults { LineFault (has_failed writer.old) (has_failed writer.new) result }
-
-    // Want of memory is told where the dictionary was refused a block that it may have, or a walk over all entries was refused its own.
     ensures memory { result ≡ Err ScriptError.Memory → MayLackMemory SLOTS (Some (verb, key.now)) trie.new }
     ensures limit { result ≡ Err ScriptError.SlotLimit → trie.new.size ≡ SLOTS }
     ensures blocks { GrowsWithin (length key.now) trie.old trie.new }

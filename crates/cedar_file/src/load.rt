@@ -32,12 +32,19 @@ pub fn load_table<
 ) -> Result<Table<L, SLOTS, A>, CedarPersistenceError>
     requires limit { IsSlotLimit SLOTS }
 
+    //= A table comes only with just its bytes, and it is well-formed, whatever the reader does. [by bytes, formed, LoadsBy]
+    //= A reader that tells its bytes and doesn't fail gets the answer that they decide: the table that they are, or the first refusal; or a
+    //  list found no room. [by answer]
+    //= `Io` and want of memory are answered only where the reader failed, and a list of a header that has passed found no room. [by io,
+    //  lacks]
     ensures loads { LoadsBy (λ t. fields t) L.kind SLOTS memory_limit (S.remaining reader.old) (S.remaining reader.new) (S.failed reader.new) result }
 
-    // A read that was broken off is told as no success and no end of the input.
+    //= Where a read was broken off, by a fault that is neither an end of the input nor an interruption, neither a table nor `Truncated` is
+    //  the answer. [by TellsBreaks]
     ensures told { TellsBreaks (S.broken reader.old) (S.broken reader.new) result }
 
-    // Before the header has passed nothing is asked of memory and no record is read for the test.
+    //= By their counts nothing is asked of memory and no record is read for the test before the header has passed, and then no more than
+    //  the need and sixteen records a slot and 1024. [with reads]
     ensures asked { CountsWithin (layout_byte L.kind) SLOTS memory_limit (S.remaining reader.old) need asked.old asked.new }
     ensures reads { CountsWithin (layout_byte L.kind) SLOTS memory_limit (S.remaining reader.old) (λ h. 16 * h.capacity + 1024) reads.old reads.new }
 {

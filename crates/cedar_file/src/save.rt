@@ -44,9 +44,14 @@ pub fn write_table<L: Layout, const SLOTS: usize, A: Allocator, W: Write>(
     minor: u16,
     writer: &mut Watched<W>,
 ) -> Result<(), CedarPersistenceError>
+    //= The bytes of a table in a version are written and nothing else. [with fits]
     ensures bytes { OnOk result (Appends (W.contents (device_of writer.old)) (W.contents (device_of writer.new)) (table_bytes minor (fields table.now))) }
     ensures fits { OnOk result (FitsTable minor (fields table.now)) }
+
+    //= It fails only where its writer does.
     ensures err { IfErr result (λ e. IsIo e × (has_failed writer.new ≡ true)) }
+
+    //= A writer that has failed stays so.
     ensures failed { has_failed writer.old ≡ true → has_failed writer.new ≡ true }
 {
     let header = header_of(table, minor);

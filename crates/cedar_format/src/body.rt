@@ -174,7 +174,21 @@ pub fn decode<S: Source, A: Allocator + Copy>(
     memory_limit: usize,
 ) -> Result<Decoded<A>, CedarPersistenceError>
     requires slots { IsSlotLimit slots }
+
+    //= Fields come only from just their bytes, the header and then the lists as far as its version lists them, also where the reader fails.
+    //  [also decode_counted; by bytes, DecodesBy]
+    //= After a success the header's sizes pass, there are as many records as its capacity asks for, the numbers that are listed are of
+    //  their types, and what isn't listed is blank. [also decode_counted; by file]
+    //= The answer is the first refusal in the stated order; or, once the header has passed, that a list found no room, with its number of
+    //  elements. [also decode_counted; by answer]
+    //= After a success nothing is left of the input, if the reader has not failed. [also decode_counted; by at_end]
+    //= Want of memory is answered only with the number of elements of one of the four lists of a header that has passed, also where the
+    //  reader fails. [also decode_counted; by lacks]
+    //= `Io` is answered only where the reader failed, now or before. [also decode_counted; by io]
     ensures decodes { DecodesBy layout slots memory_limit (S.remaining reader.old) (S.remaining reader.new) (S.failed reader.new) result }
+
+    //= Where a read was broken off, neither a success nor `Truncated` is the answer. [also decode_counted, read_header, read_u8, read_u16,
+    //  read_i16, read_i32, read_u64, read_usize; by TellsBreaks]
     ensures told { TellsBreaks (S.broken reader.old) (S.broken reader.new) result }
 {
     uncounted::<Brand, S, A>(alloc, reader, layout, slots, memory_limit, Blank::new(1))
@@ -216,14 +230,11 @@ pub fn decode_counted<S: Source, A: Allocator + Copy, C: Ledger>(
     requires slots { IsSlotLimit slots }
 
     ensures decodes { DecodesBy layout slots memory_limit (S.remaining reader.old) (S.remaining reader.new) (S.failed reader.new) result }
-
-    // A read that was broken off is told as no success and no end of the input.
     ensures told { TellsBreaks (S.broken reader.old) (S.broken reader.new) result }
 
-    // Nothing is asked of memory before the header has passed, and then at most the need that it was tested for.
+    //= By its count nothing is asked of memory before the header has passed, and at most the need that it was tested for after that; also
+    //  where the reader fails. [with passes]
     ensures asked { CountsWithin layout slots memory_limit (S.remaining reader.old) need asked.old asked.new }
-
-    // The header of what was read has passed.
     ensures passes { IfOk result (λ d. Passes layout slots memory_limit (S.remaining reader.old) d.header) }
 {
     let header = read_header(reader, layout)?;
@@ -245,8 +256,11 @@ pub fn write_lists<W: Write>(
     blocks: &[BlockRecord],
     reject: &[i16],
 ) -> Result<(), CedarPersistenceError>
+    //= The four lists of a table are written with just their bytes and nothing else. [with fits]
     ensures bytes { OnOk result (Appends (W.contents (device_of writer.old)) (W.contents (device_of writer.new)) (body_bytes nodes.now n_infos.now blocks.now reject.now)) }
     ensures fits { OnOk result (FitsBody nodes.now n_infos.now blocks.now reject.now) }
+
+    //= It fails only where its writer does.
     ensures err { IfErr result (λ e. IsIo e × (has_failed writer.new ≡ true)) }
     ensures failed { has_failed writer.old ≡ true → has_failed writer.new ≡ true }
 {

@@ -198,9 +198,8 @@ pub(crate) fn parse_header(bytes: &[u8], layout: u8) -> Result<Header, CedarPers
 
 /// Reads a header of this layout.
 pub fn read_header<S: Source>(reader: &mut S, layout: u8) -> Result<Header, CedarPersistenceError>
-    // What was read is a header of this layout with just these fields.
+    //= A header is read with just its bytes, and its refusal is the first one, never want of memory. [with refusal, io, room]
     ensures bytes { IfOk result (λ h. (bytes : List ℕ) × Consumes (S.remaining reader.old) (S.remaining reader.new) bytes × IsHeader layout bytes h) }
-    // A reader that tells its bytes and does not fail gets the first refusal, if there is one.
     ensures refusal { IfSome (S.remaining reader.old) (λ bytes. S.failed reader.new ≡ false → refusal result ≡ header_refusal layout (take 88 bytes)) }
     ensures io { IfErr result (λ e. IsIo e → S.failed reader.new ≡ true) }
     ensures room { IfErr result (λ e. IsLack e → ⊥) }
@@ -232,6 +231,7 @@ fn with_fault<X>(
 
 /// How many slots a file of a minor version lists: all, or from 1 on those in use alone.
 pub fn listed_slots(minor: u16, capacity: usize, size: usize) -> usize
+    //= A file of a version lists so many slots: all, or those in use.
     ensures { result ≡ listed_slots minor capacity size }
 {
     if minor == FULL_MINOR { capacity } else { size }
@@ -291,6 +291,7 @@ pub fn write_header<W: Write>(
     layout: u8,
     header: Header,
 ) -> Result<(), CedarPersistenceError>
+    //= A header is written with just its bytes, in the version that it names. [with err]
     ensures bytes { OnOk result (Appends (W.contents (device_of writer.old)) (W.contents (device_of writer.new)) (header_bytes layout header)) }
     ensures fits { FitsHeader header }
     ensures err { IfErr result (λ e. IsIo e × (has_failed writer.new ≡ true)) }

@@ -17,6 +17,7 @@ pub fn reserve_exact<T, A: Allocator>(
     vec: &mut Vec<T, A>,
     len: usize,
 ) -> Result<(), CedarPersistenceError>
+    //= Room for so many elements more is made, or refused with their number; the elements stay. [with ok, err]
     ensures items { vec.new.items ≡ vec.old.items }
     ensures ok { OnOk result (vec_len vec.new + len ≤ vec_capacity vec.new) }
     ensures exact { OnOk result (vec_capacity vec.old ≤ vec_len vec.old + len → vec_capacity vec.new ≡ vec_len vec.old + len) }

@@ -15,8 +15,14 @@ impl<R: Read> Read for Watched<R> {
     ghost remaining = { λ w. R.remaining (device_of w) };
 
     fn read(&mut self, buf: &mut [u8]) -> io::Result<usize>
+        //= A read gives no more bytes than its buffer has, and a write takes no more than it is given. [also write]
         ensures bound { ReadsAtMost result buf.new }
+
+        //= What a `read`, a `write` and a `flush` tell of the bytes is what the types of their devices tell. [also write, flush]
         ensures bytes { ReadConsumes (R.remaining (device_of self.old)) (R.remaining (device_of self.new)) result buf.new }
+
+        //= A `read`, a `write` and a `flush` set `failed()` exactly if they answered a fault; a `write` also if it took none of some bytes.
+        //  [also write, flush]
         ensures failed { has_failed self.new ≡ (has_failed self.old || is_err result) }
         ensures whole { OnOk result (is_broken self.new ≡ is_broken self.old) }
         ensures interrupted { IfErr result (λ e. error_kind e ≡ ErrorKind.Interrupted → is_broken self.new ≡ is_broken self.old) }
@@ -28,6 +34,8 @@ impl<R: Read> Read for Watched<R> {
 
     // An interrupted read is tried again; it counts as a fault all the same, but not as one that broke off.
     fn read_exact(&mut self, buf: &mut [u8]) -> io::Result<()>
+        //= `read_exact` and `write_all` say what was read and written where they succeed; where `write_all` fails, a call of the device
+        //  failed. [with ended, kind; also write_all.bytes.err]
         ensures bytes { OnOk result (Consumes (R.remaining (device_of self.old)) (R.remaining (device_of self.new)) buf.new) }
         ensures ended { OnErr result (has_failed self.new ≡ false → EndsWithin (R.remaining (device_of self.old)) (length buf.old)) }
         ensures kind { IfErr result (λ e. has_failed self.new ≡ false → error_kind e ≡ ErrorKind.UnexpectedEof) }

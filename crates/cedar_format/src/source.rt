@@ -31,13 +31,23 @@ pub trait Source {
     /// # Errors
     /// `Truncated` where fewer bytes were left; `Io` where the reading failed.
     fn fill(&mut self, buf: &mut [u8]) -> Result<(), CedarPersistenceError>
+        //= A `Source` fills a buffer with just the bytes that it had left, or its reading failed, or too few were left. [with misses]
         ensures bytes { OnOk result (Consumes (remaining self.old) (remaining self.new) buf.new) }
         ensures misses { IfErr result (Misses (remaining self.old) (failed self.new) (length buf.old)) }
+
+        //= A device that has failed stays so. [also read_available, read.failed, read_exact.failed, write.failed, flush.failed,
+        //  write_all.failed, write_lists.failed, read_header.failed, write_header.failed, write_i16.failed, write_i32.failed,
+        //  write_usize.failed]
         ensures stays { failed self.old ≡ true → failed self.new ≡ true }
+
+        //= A buffer isn't filled, nor is an end of the input told, where a read was broken off; a fault comes only before the buffer is
+        //  full. [also read_available.short.whole.early]
         ensures told { TellsBreaks (broken self.old) (broken self.new) result };
 
     /// Fills the buffer as far as the input goes. Answers how many bytes came, and the fault that ended them.
     fn read_available(&mut self, buf: &mut [u8]) -> (usize, Option<io::Error>)
+        //= As far as the input goes, a buffer is filled with just the bytes that came; fewer only at the input's end or where the reading
+        //  failed. [with bytes, ended, fault]
         ensures within { result.0 ≤ length buf.new }
         ensures bytes { Consumes (remaining self.old) (remaining self.new) (take result.0 buf.new) }
         ensures ended { IfNone result.1 (result.0 < length buf.new → IsAtEnd (remaining self.new)) }

@@ -11,6 +11,8 @@ use std::fmt;
 impl fmt::Display for CedarPersistenceError {
     ghost use Rattle.cedar_format.specs.Words.{refusal_text};
 
+    //= The text of each error is known byte by byte, with its numbers in decimal digits; of `Io` that is a prefix in front of the device's
+    //  own text, whatever that is. [also write_fault.writes; by refusal_text]
     ghost output = { refusal_text };
 
     fn fmt<W: fmt::Write>(&self, f: &mut fmt::Formatter<W>) -> fmt::Result {

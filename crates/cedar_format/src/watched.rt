@@ -20,8 +20,13 @@ pub struct Watched<D> {
 impl<D> Watched<D> {
     /// Watches a device, of which no call has failed yet.
     pub fn new(device: D) -> Self
+        //= A watched device has not failed at first, and is the device that was given. [with fresh; also into_inner]
         ensures device { device_of result ≡ device }
         ensures fresh { has_failed result ≡ false }
+
+        //= `broken()` is false at first; a `read` sets it exactly if it answered a fault that is neither an end of the input nor an
+        //  interruption, and a call of a whole buffer only by such a `read`. [also read.whole.interrupted.early.broken,
+        //  read_exact.whole.early.broken]
         ensures whole { is_broken result ≡ false }
     {
         Watched {
@@ -33,6 +38,7 @@ impl<D> Watched<D> {
 
     /// Whether a call answered a fault, or a write of some bytes took none.
     pub fn failed(&self) -> bool
+        //= `failed` and `broken` tell these two flags. [also broken]
         ensures { result ≡ has_failed self.now }
     {
         self.failed

@@ -25,6 +25,9 @@ pub trait Layout {
 
     /// What a base field says.
     fn read_base(field: i32) -> Stored
+        //= The trait of layouts: how a base field is read and written; by default a field of at least 0 is a base, in the reduced layout s
+        //  below 0 is the base -(s + 1), and any other the node's own number. [also read_node, base_field, keeps_numbers, file_byte; by
+        //  reading]
         ensures { result ≡ reading kind field };
 
     /// What the base field of a node says, which is never nothing.

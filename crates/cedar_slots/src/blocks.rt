@@ -379,6 +379,8 @@ impl<A: Allocator> Blocks<A> {
         requires lists { HasLists (blocks_of self.old) }
         requires sized { Sized (blocks_of self.old) }
         requires block_in { block < self.old.active }
+
+        //= `set_counts` sets what a block counts, and the lists are then right for it; no other block's counts change. [with made, others]
         ensures lists { HasLists (blocks_of self.new) }
         ensures made { counts_at self.new.records.items block ≡ counts }
         ensures others { (b : ℕ) → (b ≡ block → ⊥) → counts_at self.new.records.items b ≡ counts_at self.old.records.items b }
@@ -428,6 +430,8 @@ impl<A: Allocator> Blocks<A> {
         requires sized { Sized (blocks_of self.old) }
         requires room { self.old.active < length self.old.records.items }
         requires tried { pos 1 ≤ℤ self.old.max_trial }
+
+        //= `activate` puts the first idle block into use with fresh counts, and the lists stay right. [with active, made, others]
         ensures lists { HasLists (blocks_of self.new) }
         ensures active { self.new.active ≡ self.old.active + 1 }
         ensures made { counts_at self.new.records.items self.old.active ≡ fresh_counts self.old.active }

@@ -43,7 +43,11 @@ impl<A: Allocator> Places<A> {
     where
         A: Copy,
         requires { pos 1 ≤ℤ max_trial }
+
+        //= A new table is `Sound`.
         ensures sound { IfOk result (λ places. Sound (places_of places)) }
+
+        //= It has one block, in which the root alone is in use, with the node that is given. [with root]
         ensures made { IfOk result (λ places. IsNewPlaces (places_of places) max_trial) }
         ensures root { IfOk result (λ places. node_record_at places.slots.nodes.items 0 ≡ root) }
     {
@@ -71,6 +75,8 @@ impl<A: Allocator> Places<A> {
     /// How many slots in use aren't free.
     pub fn used_slots(&self) -> usize
         requires { Sound (places_of self.now) }
+
+        //= `used_slots` is the number of slots in use that aren't free.
         ensures { result ≡ count_by (λ s. not (is_free self.now.slots.nodes.items s)) (range_with_len 0 (256 * self.now.blocks.active)) }
     {
         let mut free: usize = 0;
@@ -97,8 +103,17 @@ impl<A: Allocator> Places<A> {
         requires slot_in { slot / 256 < self.old.blocks.active }
         requires slot_free { is_free self.old.slots.nodes.items slot ≡ true }
         requires node_used { int_lt node.check (pos 0) ≡ false }
+
+        //= Calls that change a table keep `Sound`, whatever the order of rings and lists. [also push_e_node, write_node, write_info,
+        //  add_block, find_place, find_places]
         ensures sound { Sound (places_of self.new) }
+
+        //= `pop_e_node` takes the free slot that is named and stores the node there; no other slot becomes free or used, no other used
+        //  slot's node and no slot's labels change.
         ensures takes_slot { TakesSlot (slots_of self.old.slots) (slots_of self.new.slots) slot node }
+
+        //= `pop_e_node` and `push_e_node` leave how many blocks are in use and there are, and `max_trial`. [with capacity, max_trial; also
+        //  push_e_node]
         ensures active { self.new.blocks.active ≡ self.old.blocks.active }
         ensures capacity { length self.new.blocks.records.items ≡ length self.old.blocks.records.items }
         ensures max_trial { self.new.blocks.max_trial ≡ self.old.blocks.max_trial }
@@ -119,6 +134,9 @@ impl<A: Allocator> Places<A> {
         requires slot_used { is_free self.old.slots.nodes.items slot ≡ false }
         requires not_root { 0 < slot }
         ensures sound { Sound (places_of self.new) }
+
+        //= `push_e_node` frees the slot that is named and clears its labels; no other slot becomes free or used, no other used slot's node
+        //  and no other slot's labels change.
         ensures frees_slot { FreesSlot (slots_of self.old.slots) (slots_of self.new.slots) slot }
         ensures active { self.new.blocks.active ≡ self.old.blocks.active }
         ensures capacity { length self.new.blocks.records.items ≡ length self.old.blocks.records.items }
@@ -145,6 +163,8 @@ impl<A: Allocator> Places<A> {
         requires slot_used { is_free self.old.slots.nodes.items slot ≡ false }
         requires node_used { (slot ≡ 0) ⊎ (int_lt node.check (pos 0) ≡ false) }
         ensures sound { Sound (places_of self.new) }
+
+        //= `write_node` and `write_info` change the one record that is named, and no block. [with infos, blocks, capacity; also write_info]
         ensures nodes { self.new.slots.nodes.items ≡ slice_set self.old.slots.nodes.items slot node }
         ensures infos { self.new.slots.infos.items ≡ self.old.slots.infos.items }
         ensures blocks { blocks_of self.new.blocks ≡ blocks_of self.old.blocks }
@@ -170,6 +190,8 @@ impl<A: Allocator> Places<A> {
     /// A free slot outside block 0, if there is one.
     pub(crate) fn free_slot(&self) -> Option<usize>
         requires { Sound (places_of self.now) }
+
+        //= `free_slot` gives a free slot outside block 0, or says that there is none. [with none]
         ensures found { IfSome result (λ slot. IsFreePlace (places_of self.now) slot) }
         ensures none { IfNone result (NoneFree (places_of self.now)) }
     {
@@ -238,10 +260,20 @@ impl<A: Allocator> Places<A> {
         requires limit { IsSlotLimit slots }
         requires within { 256 * length self.old.blocks.records.items ≤ slots }
         ensures sound { Sound (places_of self.new) }
+
+        //= There are never more slots than the limit. [also find_place, find_places]
         ensures within { 256 * length self.new.blocks.records.items ≤ slots }
         ensures max_trial { self.new.blocks.max_trial ≡ self.old.blocks.max_trial }
+
+        //= `add_block` puts the next block into use with all of its slots free, and changes no other slot.
+        //= The number of blocks then doubles just where all were in use. [by capacity]
         ensures added { IfOk result (λ block. AddsBlock (places_of self.old) (places_of self.new) block) }
+
+        //= It is refused for memory only where all blocks are in use and the limit isn't reached, for slots only where as many as the limit
+        //  allows are in use: so not for memory while blocks are spare.
         ensures refused { IfErr result (λ error. MayRefuse (places_of self.old) slots error) }
+
+        //= After a refusal the table is as it was, field by field.
         ensures unchanged { OnErr result (places_of self.new ≡ places_of self.old) }
     {
         if BLOCK_SIZE * self.blocks.active == slots {
@@ -262,9 +294,15 @@ impl<A: Allocator> Places<A> {
         ensures sound { Sound (places_of self.new) }
         ensures within { 256 * length self.new.blocks.records.items ≤ slots }
         ensures max_trial { self.new.blocks.max_trial ≡ self.old.blocks.max_trial }
+
+        //= `find_place` gives a free slot outside block 0.
         ensures found { IfOk result (λ slot. IsFreePlace (places_of self.new) slot) }
+
+        //= It makes a block, or is refused, only where no slot outside block 0 is free. [with refused]
         ensures made { IfOk result (λ slot. (places_of self.new ≡ places_of self.old) ⊎ (NoneFree (places_of self.old) × AddsBlock (places_of self.old) (places_of self.new) (slot / 256))) }
         ensures refused { IfErr result (λ error. NoneFree (places_of self.old) × MayRefuse (places_of self.old) slots error) }
+
+        //= After a refusal the table is as it was.
         ensures unchanged { OnErr result (places_of self.new ≡ places_of self.old) }
     {
         if let Some(slot) = self.free_slot() {
@@ -393,8 +431,14 @@ impl<A: Allocator> Places<A> {
         ensures sound { Sound (places_of self.new) }
         ensures within { 256 * length self.new.blocks.records.items ≤ slots }
         ensures max_trial { self.new.blocks.max_trial ≡ self.old.blocks.max_trial }
+
+        //= `find_places` gives a base outside block 0 from which the slot of each label is free.
         ensures found { IfOk result (λ base. IsBase (places_of self.new) base labels.now) }
+
+        //= It leaves all slots as they were, or makes one block; after a refusal all slots are as they were. [with err]
         ensures made { IfOk result (λ base. SameSlots (places_of self.old) (places_of self.new) ⊎ AddsBlock (places_of self.old) (places_of self.new) (base / 256)) }
+
+        //= It is refused as `add_block` is.
         ensures refused { IfErr result (λ error. MayRefuse (places_of self.old) slots error) }
         ensures err { OnErr result (SameSlots (places_of self.old) (places_of self.new)) }
     {

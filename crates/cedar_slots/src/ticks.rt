@@ -33,6 +33,8 @@ impl<C: Ledger> Ticks<C> {
         requires name { blank.name ≡ C.name }
         requires parts { blank.parts ≡ C.parts }
         requires some { 0 < blank.parts }
+
+        //= A count of ticks begins at 0; a tick adds one, `add` an amount. [also tick, add]
         ensures { result ≡ 0 }
     {
         let (book, share) = blank.open::<C>();

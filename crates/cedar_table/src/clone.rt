@@ -12,7 +12,7 @@ use std::marker::PhantomData;
 impl<L: Layout, const SLOTS: usize, A: Allocator + Copy> Clone for Table<L, SLOTS, A> {
     ghost use Rattle.cedar_table.specs.Table.Views.{fields};
 
-    // Equal in each field.
+    //= A clone has the same fields, so that it is the same table; it may be refused for memory.
     ghost is_clone = { λ table copy. fields copy ≡ fields table };
 
     fn clone(&self) -> Result<Self, AllocError> {

@@ -23,6 +23,8 @@ impl<L: Layout, const SLOTS: usize, A: Allocator> Table<L, SLOTS, A> {
     /// Where a node's slots begin, and 0 if its base field says nothing of that.
     pub fn base_of(&self, node: usize) -> usize
         requires { node < size_of (fields self.now) }
+
+        //= `base_of`, `child_slot`: where a node's slots begin, and its slot for a label. [also child_slot]
         ensures { result ≡ base_of (cells self.now) node }
     {
         match self.stored(node) {

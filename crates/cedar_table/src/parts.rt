@@ -30,6 +30,9 @@ impl<L: Layout, const SLOTS: usize, A: Allocator> Table<L, SLOTS, A> {
     pub fn from_records(parts: Parts<A>) -> Self
         requires shaped { Shaped (parts_fields L.kind parts).places }
         requires rejects { length parts.reject.items ≡ 257 }
+
+        //= `from_records` makes the table of some parts, field by field; `node_records` and its kin give them back. [also node_records,
+        //  info_records, block_records, reject_values]
         ensures { fields result ≡ parts_fields L.kind parts }
     {
         Table {
@@ -56,6 +59,7 @@ impl<L: Layout, const SLOTS: usize, A: Allocator> Table<L, SLOTS, A> {
 
     /// Slots, blocks and reject values together, to be tested.
     pub fn places(&self) -> &Places<A>
+        //= `places` gives slots, blocks and reject values, whose sizes are those of a table. [with shaped, rejects]
         ensures places { places_of result.now ≡ (fields self.now).places }
         ensures shaped { Shaped (fields self.now).places }
         ensures rejects { length (fields self.now).places.reject ≡ 257 }

@@ -28,6 +28,10 @@ impl<L: Layout, const SLOTS: usize, A: Allocator> Table<L, SLOTS, A> {
     /// into use one after another; where they have room, nothing is asked for.
     pub fn try_reserve(&mut self, blocks: usize) -> Result<(), Shortage>
         requires { IsWellFormed SLOTS (fields self.old) }
+
+        //= `try_reserve` of n blocks leaves room for them in a table whose slots, tree, marks and settings are the same, and which has as
+        //  many blocks as if n had come into use; a refused one leaves the table, and says what it lacks. [with grown, cells, tree, marks,
+        //  settings, capacity, spare, enough, refused, unchanged]
         ensures well_formed { IsWellFormed SLOTS (fields self.new) }
         ensures grown { Grown (fields self.old).places (fields self.new).places }
         ensures cells { cells self.new ≡ cells self.old }

@@ -26,6 +26,9 @@ impl<L: Layout, const SLOTS: usize, A: Allocator> Table<L, SLOTS, A> {
     pub fn follow<C: Ledger>(&self, node: usize, label: u8, ticks: &mut Ticks<C>) -> Option<usize>
         requires node_in { node < size_of (fields self.now) }
         requires node { (t : Tree) × Stands (size_of (fields self.now)) (cells self.now) node t }
+
+        //= `follow` answers the child's slot under a label or that there is none, `number` a node's number; each counts one comparison at
+        //  most. [with cost; also number]
         ensures answer { (t : Tree) → Stands (size_of (fields self.now)) (cells self.now) node t → MatchOption result (has_label t.children label ≡ false) (λ s. (s < size_of (fields self.now)) × Stands (size_of (fields self.now)) (cells self.now) s (subtree t.children label)) }
         ensures cost { ticks.new ≤ ticks.old + 1 }
         ensures found { OnSome result (ticks.new ≡ ticks.old + 1) }
@@ -96,9 +99,13 @@ impl<L: Layout, const SLOTS: usize, A: Allocator> Table<L, SLOTS, A> {
         ticks: &mut Ticks<C>,
     ) -> Option<(i32, usize)>
         requires { IsWellFormed SLOTS (fields self.now) }
+
+        //= `exact_match_search_counted` on a well-formed table answers `exact` of its tree.
         ensures answer { result ≡ exact (tree_of (fields self.now)) key.now }
+
+        //= It counts at most one comparison of a check field more than the key has bytes, and a hit at least one for each byte. [with
+        //  least]
         ensures cost { ticks.new ≤ ticks.old + length key.now + 1 }
-        // A hit has compared once for each byte at least.
         ensures least { OnSome result (ticks.old + length key.now ≤ ticks.new) }
     {
         let mut node = 0;

@@ -39,15 +39,21 @@ impl<L: Layout, const SLOTS: usize, A: Allocator> Table<L, SLOTS, A> {
         A: Copy,
         requires tried { pos 1 ≤ℤ max_trial }
         requires limit { IsSlotLimit SLOTS }
+
+        //= A new table is well-formed and stands for the empty tree; the root alone is held. [with tree, bare]
         ensures well_formed { IfOk result (λ table. IsWellFormed SLOTS (fields table)) }
         ensures tree { IfOk result (λ table. tree_of (fields table) ≡ empty_tree) }
         ensures sound { IfOk result (λ table. IsTable SLOTS (fields table).places) }
+
+        //= Its settings are those asked for, and it has no entries. [with ordered, entries]
         ensures made { IfOk result (λ table. IsNewPlaces (fields table).places max_trial) }
         ensures root_check { IfOk result (λ table. (cells table).check 0 ≡ negsuc 0) }
         ensures root_base { IfOk result (λ table. (cells table).stored 0 ≡ Stored.AtBase 0) }
         ensures ordered { IfOk result (λ table. (fields table).ordered ≡ ordered) }
         ensures entries { IfOk result (λ table. (fields table).entries ≡ 0) }
         ensures bare { IfOk result (λ table. (s : ℕ) → Held (cells table) s → s ≡ 0) }
+
+        //= It is refused for memory alone.
         ensures refused { IfErr result (λ error. error ≡ Memory) }
     {
         let root = NodeRecord {
@@ -77,9 +83,15 @@ impl<L: Layout, const SLOTS: usize, A: Allocator> Table<L, SLOTS, A> {
         requires slot_free { Held (cells self.old) slot → ⊥ }
         requires owner_in { owner < 2 ^ 31 }
         ensures sound { IsTable SLOTS (fields self.new).places }
+
+        //= `pop_e_node`, `push_e_node`, `write_node` and `write_info` take, give back or write the one slot that is named; nothing else
+        //  that is held changes. [also push_e_node.gives, write_node.written, write_info.written]
         ensures takes { Takes (cells self.old) (cells self.new) slot owner }
         ensures base { (cells self.new).base slot ≡ base }
         ensures stored { (cells self.new).stored slot ≡ reading L.kind base }
+
+        //= Calls that make no block leave how many slots are in use and there are, order, entries and `max_trial`. [also push_e_node,
+        //  write_node, write_info; by SameFrame]
         ensures frame { SameFrame (fields self.old) (fields self.new) }
     {
         let node = NodeRecord {
@@ -149,6 +161,10 @@ impl<L: Layout, const SLOTS: usize, A: Allocator> Table<L, SLOTS, A> {
     pub fn add_block(&mut self) -> Result<usize, Shortage>
         requires { IsTable SLOTS (fields self.old).places }
         ensures sound { IsTable SLOTS (fields self.new).places }
+
+        //= `add_block`, `find_place` and `find_places` change nothing that is held, and no setting; they find places and make blocks as
+        //  those of `cedar_slots` do. [with refused, held, settings; also find_place.found.made.refused.held.settings,
+        //  find_places.found.made.refused.held.settings]
         ensures added { IfOk result (λ block. AddsBlock (fields self.old).places (fields self.new).places block) }
         ensures refused { IfErr result (λ error. MayRefuse (fields self.old).places SLOTS error) }
         ensures held { SameHeld (cells self.old) (cells self.new) }
@@ -196,6 +212,9 @@ impl<L: Layout, const SLOTS: usize, A: Allocator> Table<L, SLOTS, A> {
         requires sound { IsTable SLOTS (fields self.old).places }
         requires some { 0 < length labels.now }
         requires few { length labels.now ≤ 256 }
+
+        //= The steps by which a table is written from outside keep `IsTable`: a base for some labels, a node's base, a label's place in a
+        //  chain, a number in a node's own base field. [also set_base, link, set_own_number]
         ensures sound { IsTable SLOTS (fields self.new).places }
         ensures found { IfOk result (λ base. HasPlaces (size_of (fields self.new)) (cells self.new) base labels.now) }
         ensures refused { IfErr result (λ error. MayRefuse (fields self.old).places SLOTS error) }
@@ -214,6 +233,9 @@ impl<L: Layout, const SLOTS: usize, A: Allocator> Table<L, SLOTS, A> {
 
     /// How many slots are in use, free ones among them.
     pub fn size(&self) -> usize
+        //= `size`, `capacity`, `spare_blocks`, `entries`, `ordered`, `max_trial`, the heads, and single fields are what they say. [also
+        //  capacity, spare_blocks, entries, ordered, max_trial, full_head, closed_head, open_head, block, reject, base, stored, sibling,
+        //  child]
         ensures { result ≡ size_of (fields self.now) }
     {
         BLOCK_SIZE * self.places.blocks.active
@@ -236,6 +258,8 @@ impl<L: Layout, const SLOTS: usize, A: Allocator> Table<L, SLOTS, A> {
     /// How many slots are held, the root among them: what the blocks count as free is taken from all slots in use.
     pub fn used_node_slots(&self) -> usize
         requires { IsTable SLOTS (fields self.now).places }
+
+        //= `used_node_slots` is the number of held slots. [with test]
         ensures count { result ≡ count_by (is_held (cells self.now)) (range_with_len 0 (size_of (fields self.now))) }
         ensures test { (s : ℕ) → IsTrue (is_held (cells self.now) s) ↔ Held (cells self.now) s }
     {
@@ -251,6 +275,7 @@ impl<L: Layout, const SLOTS: usize, A: Allocator> Table<L, SLOTS, A> {
 
     /// Sets how many keys the table is said to have, as whoever puts keys into it by its slots has to. No slot changes.
     pub fn set_entries(&mut self, entries: usize)
+        //= `set_entries` sets how many keys the table is said to have, and nothing else.
         ensures { fields self.new ≡ record { layout = (fields self.old).layout; ordered = (fields self.old).ordered; entries = entries; places = (fields self.old).places } }
     {
         self.entries = entries;

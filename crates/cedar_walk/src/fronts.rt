@@ -31,9 +31,13 @@ pub fn next_held_front<L: Layout, const SLOTS: usize, A: Allocator, C: Ledger>(
 ) -> Option<Front>
     requires well_formed { IsWellFormed SLOTS (fields table.now) }
     requires on { IsOnQuery (fields table.now) query.now place node }
+
+    //= `next_held_front` gives the next front of a query that is held, or that none is left. [with on]
     ensures answer { MatchOption result (front_from (tree_of (fields table.now)) query.now place ≡ []) (λ front.
         (0 < front.len) × (front_from (tree_of (fields table.now)) query.now place ≡ (front.number, front.len - 1) ∷ front_from (tree_of (fields table.now)) query.now front.len)) }
     ensures on { MatchOption result (place ≤ length query.now) (λ front. (place < front.len) × IsOnQuery (fields table.now) query.now front.len front.slot) }
+
+    //= It counts two comparisons at most for each byte that it looks at.
     ensures cost { ticks.new ≤ ticks.old + 2 * (front_length query.now result - place) }
 {
     let mut slot = node;

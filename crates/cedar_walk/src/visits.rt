@@ -48,6 +48,8 @@ pub(crate) fn first_child<L: Layout, const SLOTS: usize, A: Allocator>(
 ) -> u8
     requires well_formed { IsWellFormed SLOTS (fields table.now) }
     requires at { (w : List ℕ) × IsAt (cells table.now) w node }
+
+    //= `first_child`, `next_sibling`: the label of the first child, of the sibling after a node, or 0. [also next_sibling]
     ensures { (w : List ℕ) → IsAt (cells table.now) w node → result ≡ first_sibling_label (node_at (tree_of (fields table.now)) w).children }
 {
     // Most nodes name their first label, and neither the root nor one with a number does.
@@ -82,6 +84,8 @@ pub(crate) fn parent<L: Layout, const SLOTS: usize, A: Allocator>(
 ) -> usize
     requires well_formed { IsWellFormed SLOTS (fields table.now) }
     requires at { (w : List ℕ) × (l : ℕ) × IsAt (cells table.now) (w ++ l ∷ []) node }
+
+    //= `parent`: the slot of the node above. [with check]
     ensures above { (w : List ℕ) (l : ℕ) → IsAt (cells table.now) (w ++ l ∷ []) node → IsAt (cells table.now) w result }
     ensures check { (cells table.now).check node ≡ pos result }
 {
@@ -199,6 +203,8 @@ pub fn node_after<L: Layout, const SLOTS: usize, A: Allocator>(
 ) -> Option<Visited>
     requires well_formed { IsWellFormed SLOTS (fields table.now) }
     requires below { (start : List ℕ) × IsBelow (cells table.now) start depth node }
+
+    //= `node_after`: the next node of a walk that has been at a node, with its number, or that nothing is left.
     ensures { (start : List ℕ) → IsBelow (cells table.now) start depth node → MatchOption result (left_at (fields table.now) start depth node ≡ []) (ComesTo (fields table.now) start (left_at (fields table.now) start depth node) (path_to (fields table.now) depth node)) }
 {
     let label = first_child(table, node);
@@ -250,6 +256,8 @@ pub fn numbered_after<L: Layout, const SLOTS: usize, A: Allocator>(
 ) -> Option<Numbered>
     requires well_formed { IsWellFormed SLOTS (fields table.now) }
     requires below { (start : List ℕ) × IsNumberedBelow (fields table.now) start depth node }
+
+    //= `numbered_after`: the next node with a number of a walk that has been at one, or that none is left.
     ensures { (start : List ℕ) → IsBelow (cells table.now) start depth node → MatchOption result (visited_entries (left_at (fields table.now) start depth node) ≡ []) (ComesToNumber (fields table.now) start (visited_entries (left_at (fields table.now) start depth node))) }
 {
     let label = label_after_number(table, node);
@@ -263,6 +271,8 @@ pub fn first_numbered<L: Layout, const SLOTS: usize, A: Allocator>(
     query: &[u8],
 ) -> Option<Numbered>
     requires { IsWellFormed SLOTS (fields table.now) }
+
+    //= `first_numbered`: the first node with a number at or below a query's node, or that there is none.
     ensures { MatchOption result (walk (node_at (tree_of (fields table.now)) query.now) ≡ []) (ComesToNumber (fields table.now) query.now (walk (node_at (tree_of (fields table.now)) query.now))) }
 {
     let node = table.node_of(query)?;

@@ -20,6 +20,7 @@ pub trait LongestPrefix {
     /// assert_eq!(rt; cedar.longest_prefix(b"ten"), None);
     /// ```
     fn longest_prefix(&self, text: &[u8]) -> Option<(i32, usize)>
+        //= The longest key that a text begins with is told. [with within]
         ensures answer { result ≡ longest (tree self.now) text.now }
         ensures within { IfSome result (λ found. found.1 < length text.now) };
 }

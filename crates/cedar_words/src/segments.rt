@@ -47,6 +47,7 @@ pub fn segment<'a, L: Layout, const SLOTS: usize, A: Allocator + Copy>(
     trie: &'a Trie<L, SLOTS, A>,
     text: &'a [u8],
 ) -> Segments<'a, Trie<L, SLOTS, A>>
+    //= The tokens are `segments` of the dictionary's tree and the text, an item a call. [also Segments.next_gives]
     ensures { result ≡ segments trie.now.state.tree text.now }
 {
     Segments {
@@ -70,6 +71,7 @@ fn first_token<T: LongestPrefix>(trie: &T, text: &[u8]) -> (usize, Option<i32>)
 }
 
 impl<'a, T: LongestPrefix> Clone for Segments<'a, T> {
+    //= What has ended stays so, and a clone goes on from the same place. [with is_infallible; by FusedIterator]
     ghost is_clone = { λ it copy. copy ≡ it };
 
     ghost is_infallible = { λ _. ⊤ };
@@ -104,6 +106,8 @@ impl<'a, T: LongestPrefix> Iterator for Segments<'a, T> {
     fn size_hint(&self) -> (usize, Option<usize>)
         ensures lower { IsWithinCount result.0 (item_count (λ (rest : List Token). rest) self.now) }
         ensures upper { IfSome result.1 (UpTo (item_count (λ (rest : List Token). rest) self.now)) }
+
+        //= The size hint is from one token, if bytes are left, to as many as there are bytes.
         ensures hint { result ≡ (min (bytes_in self.now) 1, Some (bytes_in self.now)) }
     {
         let left = self.rest.len();

@@ -22,15 +22,19 @@ impl<L: Layout, const SLOTS: usize, A: Allocator + Copy> Trie<L, SLOTS, A> {
     /// where a request was refused and `SlotLimit` where the limit of slots allows no further block: then the pairs before the
     /// refused one are stored.
     pub fn build_bytes(&mut self, pairs: &[(&[u8], i32)]) -> Result<(), CedarError>
+        //= A build answers the fault of the first pair that has one, and then nothing has changed. [with unchanged; also build]
         ensures faulty { IfSome (first_fault (entries_of pairs.now)) (λ e. result ≡ Err e) }
         ensures unchanged { IsSome (first_fault (entries_of pairs.now)) → self.new ≡ self.old }
 
-        // Without a fault it is as many updates, one after another, of which a refused one is the last.
+        //= Else it is as many updates, one after another, of which a refused one is the last. [also build; by IsBuild]
         ensures updates { first_fault (entries_of pairs.now) ≡ None → IsBuild L.kind SLOTS self.old (entries_of pairs.now) result self.new }
 
-        // So all pairs are stored, or those before one whose key isn't held then.
+        //= So all pairs are stored in turn; or it is refused for memory or slots, as an update is, and the pairs before one whose key isn't
+        //  held then are stored. [with refused; also build; by IsRefusedBuild]
         ensures stored { OnOk result (self.new.state ≡ all_stored self.old.state (entries_of pairs.now)) }
         ensures refused { first_fault (entries_of pairs.now) ≡ None → IfErr result (IsRefusedBuild SLOTS self.old self.new (entries_of pairs.now)) }
+
+        //= `max_trial` stays. [also build]
         ensures max_trial { self.new.max_trial ≡ self.old.max_trial }
     {
         self.store_all(pairs)

@@ -15,6 +15,7 @@ use std::alloc::Allocator;
 /// let builder = CedarBuilder::new().ordered(false).max_trial(3)?;
 /// let cedar = builder.build(rt.alloc())?;
 /// ```
+//= `==` of two builders is their equality, and a caller can prove by it. [by PartialEq]
 #[derive(Clone, Copy, Debug, PartialEq, Eq)]
 pub struct CedarBuilder {
     pub(crate) ordered: bool,
@@ -33,6 +34,8 @@ impl CedarBuilder {
     /// let cedar = CedarBuilder::new().build(rt.alloc())?;
     /// ```
     pub fn new() -> Self
+        //= A builder has the settings that its calls name; by default labels ascend and one failed search closes a block. [with max_trial;
+        //  also ordered, max_trial, builder]
         ensures ordered { result.ordered ≡ true }
         ensures max_trial { result.max_trial ≡ pos 1 }
     {
@@ -72,6 +75,8 @@ impl CedarBuilder {
     pub fn max_trial(self, max_trial: i32) -> Result<Self, CedarError>
         ensures ordered { IfOk result (λ builder. builder.ordered ≡ self.ordered) }
         ensures max_trial { IfOk result (λ builder. builder.max_trial ≡ max_trial) }
+
+        //= A `max_trial` is taken exactly if it is 1 or more, and else refused with it. [with tested]
         ensures refused { IfErr result (λ e. e ≡ CedarError.InvalidMaxTrial max_trial) }
         ensures tested { IsOk result ↔ (pos 1 ≤ℤ max_trial) }
     {
@@ -95,6 +100,8 @@ impl CedarBuilder {
     /// # Errors
     /// `Memory` where a request was refused.
     pub fn build<A: Allocator + Copy>(self, alloc: A) -> Result<Cedar<A>, CedarError>
+        //= A new dictionary is empty and unmarked, has these settings and 256 slots; it is refused for memory alone. [also with, Trie::new;
+        //  by IsNew, tree, unmarked, ordered, max_trial, size]
         ensures made { IsNew self result }
 
         // For calls on it in a function that is generic in the allocator.
@@ -172,7 +179,7 @@ impl CedarBuilder {
 }
 
 impl Default for CedarBuilder {
-    // As `new` makes it.
+    //= `default` gives the settings of `new`.
     ghost is_default = { λ builder. (builder.ordered ≡ true) × (builder.max_trial ≡ pos 1) };
 
     fn default() -> Self {

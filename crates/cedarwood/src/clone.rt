@@ -14,7 +14,7 @@ use std::alloc::{AllocError, Allocator};
 /// assert_eq!(rt; (copy.len(), cedar.len()), (0, 1));
 /// ```
 impl<L: Layout, const SLOTS: usize, A: Allocator + Copy> Clone for Trie<L, SLOTS, A> {
-    // All that a contract sees of it is equal, its table among it.
+    //= A clone is equal in all that a contract sees, its table field by field among it.
     ghost is_clone = { λ trie copy. copy ≡ trie };
 
     fn clone(&self) -> Result<Self, AllocError> {

@@ -9,6 +9,7 @@ use std::alloc::AllocError;
 
 /// Why a call on a dictionary was refused. After a refusal the dictionary holds what it held; only a build
 /// of many pairs has stored those before the refused one.
+//= `==` of two errors is their equality. [by PartialEq]
 #[non_exhaustive]
 #[derive(Clone, Debug, Drop, PartialEq, Eq)]
 pub enum CedarError {
@@ -52,6 +53,7 @@ impl From<AllocError> for CedarError {
 }
 
 impl From<Shortage> for CedarError {
+    //= What a table lacked is told as itself: memory as `Memory`, slots as `SlotLimit`.
     ghost from_gives = { λ shortage error. error ≡ told shortage };
 
     fn from(shortage: Shortage) -> CedarError {

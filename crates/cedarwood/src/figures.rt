@@ -30,6 +30,7 @@ impl<L: Layout, const SLOTS: usize, A: Allocator + Copy> Trie<L, SLOTS, A> {
     /// ```
     #[must_use]
     pub fn allocated_bytes(&self) -> usize
+        //= `allocated_bytes` is ten bytes a slot, twenty a block and 514.
         ensures { result ≡ 10 * self.now.capacity + 20 * (self.now.capacity / 256) + 514 }
     {
         let capacity = self.table.capacity();
@@ -45,6 +46,7 @@ impl<L: Layout, const SLOTS: usize, A: Allocator + Copy> Trie<L, SLOTS, A> {
     /// ```
     #[must_use]
     pub fn memory_stats(&self) -> MemoryStats
+        //= `memory_stats` has these four figures. [with used, used_by_default, capacity, bytes]
         ensures entries { result.entries ≡ length (walk self.now.state.tree) }
         ensures used { result.used_node_slots ≡ 1 + length (prefixes self.now.state.tree) + length (walk self.now.marked) }
         ensures used_by_default { L.kind ≡ default_layout → result.used_node_slots ≡ used self.now.state.tree }
@@ -69,6 +71,7 @@ impl<L: Layout, const SLOTS: usize, A: Allocator + Copy> Trie<L, SLOTS, A> {
 /// assert_eq!(rt; text.as_str(), "Cedar(entries=1, node_slots=512, ordered=true)");
 /// ```
 impl<L: Layout, const SLOTS: usize, A: Allocator> fmt::Debug for Trie<L, SLOTS, A> {
+    //= `{:?}` writes the entries, the slots in use and the order, in decimal digits: byte by byte, in either layout. [by shown_text]
     ghost debug_output = { λ trie. Some (shown_text trie) };
 
     fn fmt<W: fmt::Write>(&self, f: &mut fmt::Formatter<W>) -> fmt::Result {

@@ -19,8 +19,11 @@ impl<L: Layout, const SLOTS: usize, A: Allocator + Copy> Trie<L, SLOTS, A> {
     /// # Errors
     /// As [`Trie::update_bytes`]: after an error the dictionary holds what it held.
     pub fn insert_bytes(&mut self, key: &[u8], value: i32) -> Result<Option<i32>, CedarError>
+        //= An insert is an update, and answers the value that the key held before. [with held; also insert]
         ensures updated { IsUpdate L.kind SLOTS self.old self.new key.now value (outcome result) }
         ensures held { IfOk result (λ held. held ≡ number_at self.old.state.tree key.now) }
+
+        //= That value is in range, and the tree was sound. [with in_range]
         ensures sound { OnOk result (IsSound self.old.state.tree) }
         ensures in_range { IfOk result (λ held. IfSome held (λ v. value_fault v ≡ None)) }
     {

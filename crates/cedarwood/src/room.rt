@@ -20,20 +20,28 @@ impl<L: Layout, const SLOTS: usize, A: Allocator> Trie<L, SLOTS, A> {
     /// `SlotLimit` where the limit of slots doesn't allow so many blocks, else `Memory` where a request was refused. After an error
     /// nothing has changed.
     pub fn try_reserve(&mut self, blocks: usize) -> Result<(), CedarError>
+        //= `try_reserve` of n blocks changes nothing of state, marks, settings and slots in use. [with marked, max_trial, size]
         ensures state { self.new.state ≡ self.old.state }
         ensures marked { self.new.marked ≡ self.old.marked }
         ensures max_trial { self.new.max_trial ≡ self.old.max_trial }
         ensures size { self.new.size ≡ self.old.size }
+
+        //= After it the slots are as many as if n blocks had come into use.
         ensures capacity { OnOk result (self.new.capacity ≡ capacity_after blocks self.old.size self.old.capacity) }
+
+        //= It leaves n blocks spare.
         ensures spare { OnOk result (256 * blocks ≤ self.new.capacity - self.new.size) }
 
-        // Where they are spare already.
+        //= Where n blocks are spare already, it changes nothing and isn't refused. [with asks_nothing]
         ensures enough { 256 * blocks ≤ self.old.capacity - self.old.size → self.new ≡ self.old }
         ensures asks_nothing { 256 * blocks ≤ self.old.capacity - self.old.size → IsOk result }
 
-        // Slots are wanted just where there may not be so many, memory only where there may.
+        //= It is refused with `SlotLimit` exactly where the limit doesn't allow so many slots, and with `Memory` only where the slots have
+        //  to double and may. [with refused; by LacksRoom]
         ensures limit { SLOTS < self.old.size + 256 * blocks → result ≡ Err CedarError.SlotLimit }
         ensures refused { IfErr result (LacksRoom SLOTS self.old blocks) }
+
+        //= After a refusal nothing has changed.
         ensures unchanged { OnErr result (self.new ≡ self.old) }
     {
         self.table.try_reserve(blocks).map_err(CedarError::from)

@@ -61,6 +61,10 @@ impl<A: Allocator + Copy> Trie<DefaultLayout, 1073741824, A> {
     /// `Memory` where a request was refused.
     pub fn new(alloc: A) -> Result<Self, CedarError>
         ensures made { IsNew default_settings result }
+
+        //= The type of the dictionary that was made fits in memory: calls on it in functions over any allocator ask for that. [also
+        //  from_sorted_bytes, from_sorted, CedarBuilder::build, CedarBuilder::from_sorted_bytes, CedarBuilder::from_sorted; by
+        //  CedarFitsInMemory]
         ensures fits { IfOk result (λ _. CedarFitsInMemory A.row A.Allocator) }
     {
         Self::builder().build(alloc)
@@ -77,6 +81,20 @@ impl<A: Allocator + Copy> Trie<DefaultLayout, 1073741824, A> {
     /// # Errors
     /// As [`CedarBuilder::from_sorted_bytes`].
     pub fn from_sorted_bytes(alloc: A, pairs: &[(&[u8], i32)]) -> Result<Self, CedarError>
+        //= A sorted input's first fault is answered: a pair's own, else that its key repeats the one before or is smaller. [also
+        //  from_sorted, from_sorted_bytes_with, from_sorted_with, CedarBuilder::from_sorted_bytes, CedarBuilder::from_sorted; by
+        //  IsSortedBuild, faulty]
+        //= Else, unless it is refused, the dictionary's tree is the pairs' one tree with ascending labels, whatever the order is set to.
+        //  [also from_sorted, from_sorted_bytes_with, from_sorted_with, CedarBuilder::from_sorted_bytes, CedarBuilder::from_sorted; by
+        //  tree, asc]
+        //= Its settings are the builder's; it makes one block at most for each distinct nonempty prefix, beside the first. [also
+        //  from_sorted, from_sorted_bytes_with, from_sorted_with, CedarBuilder::from_sorted_bytes, CedarBuilder::from_sorted; by ordered,
+        //  max_trial, size]
+        //= By default each number has a slot of its own; in the reduced layout just those do whose keys begin longer ones. [also
+        //  from_sorted, from_sorted_bytes_with, from_sorted_with, CedarBuilder::from_sorted_bytes, CedarBuilder::from_sorted; by marks,
+        //  SortedMarks]
+        //= It is refused for memory, or for slots where 256 times the number of these prefixes is the limit or more. [also from_sorted,
+        //  from_sorted_bytes_with, from_sorted_with, CedarBuilder::from_sorted_bytes, CedarBuilder::from_sorted; by refused]
         ensures built { IsSortedBuild default_layout 1073741824 default_settings (entries_of pairs.now) result }
         ensures fits { IfOk result (λ _. CedarFitsInMemory A.row A.Allocator) }
     {
@@ -190,6 +208,8 @@ impl<L: Layout, const SLOTS: usize, A: Allocator + Copy> Trie<L, SLOTS, A> {
     /// # Errors
     /// `Memory` where a request was refused. Then this one stays.
     pub fn renew(&mut self, alloc: A, builder: CedarBuilder) -> Result<(), CedarError>
+        //= `renew` puts an empty dictionary with the settings of a builder in the place of the present one, which stays after a refusal.
+        //  [by IsRenewed]
         ensures made { IsRenewed builder self.old self.new result }
     {
         // Its limit of slots is one that a new table takes.
@@ -210,6 +230,23 @@ impl<L: Layout, const SLOTS: usize, A: Allocator + Copy> Trie<L, SLOTS, A> {
     /// key isn't held and a request was refused, `SlotLimit` where the limit of slots allows no further block. After an
     /// error the dictionary holds what it held. A key that is held takes no memory.
     pub fn update_bytes(&mut self, key: &[u8], value: i32) -> Result<(), CedarError>
+        //= An update answers the pair's first fault, and else stores the value: the tree is then `put` of the old one. [also update; by
+        //  faulty, ok]
+        //= After any refusal tree and order are the old ones. [also update; by err]
+        //= After a fault nothing has changed. [also update; by unchanged]
+        //= Without a fault it is refused only for memory or slots, and only where the key isn't held. [also update; by refused]
+        //= Memory is wanted only where all slots are in use and there may be more, slots only where all that may be are in use. [also
+        //  update; by memory, limit]
+        //= A key of n bytes makes n blocks at most, and fewer if it is refused. [also update; by blocks]
+        //= So it isn't refused while n blocks are spare. [also update; by spare]
+        //= Over a held key no block is made. [also update; by over]
+        //= A key of one new byte makes a block, or is refused, only in the default layout, and only where the slots in use and the root's
+        //  children are together as many as the tree's slots and 255. They are so where no slot outside block 0 is free. [also update; by
+        //  one_byte]
+        //= `max_trial` stays. [also update, erase_bytes.max_trial, erase.max_trial; by max_trial]
+        //= In the reduced layout an update of a new key marks its held proper fronts, and the key if it is a front of a held one; what was
+        //  marked stays. Over a held key the marks stay. [also update; by marks, MarksPut]
+        //= A refused update leaves the marks, and so the used slots. [also update; by marks_stay, err]
         ensures updated { IsUpdate L.kind SLOTS self.old self.new key.now value result }
     {
         match self.insert_bytes(key, value) {
@@ -239,8 +276,12 @@ impl<L: Layout, const SLOTS: usize, A: Allocator + Copy> Trie<L, SLOTS, A> {
     /// assert!(rt; !cedar.erase_bytes(b"net"));
     /// ```
     pub fn erase_bytes(&mut self, key: &[u8]) -> bool
+        //= `erase_bytes` and `erase` say whether the key was held; the tree is then `cut` of the old one. [with after; also erase]
         ensures answer { IsTrue result ↔ IsSome (number_at self.old.state.tree key.now) }
         ensures after { self.new.state ≡ erased self.old.state key.now }
+
+        //= `erase_bytes` and `erase` leave the slots in use and those there are, and take away the key's mark alone. [with size; also
+        //  erase]
         ensures marks { MarksCut self.old.marked self.new.marked key.now }
         ensures marked { IsMarked self.new }
         ensures size { (self.new.size ≡ self.old.size) × (self.new.capacity ≡ self.old.capacity) }
@@ -283,6 +324,8 @@ impl<L: Layout, const SLOTS: usize, A: Allocator + Copy> Trie<L, SLOTS, A> {
         ensures answer { result ≡ exact self.now.state.tree key.now }
         ensures sound { IsSound self.now.state.tree }
         ensures in_range { IfSome result (λ found. value_fault found.0 ≡ None) }
+
+        //= It counts at most one comparison more than the key has bytes.
         ensures cost { ticks.new ≤ ticks.old + length key.now + 1 }
     {
         self.table.exact_match_search_counted(key, ticks)
@@ -297,7 +340,11 @@ impl<L: Layout, const SLOTS: usize, A: Allocator + Copy> Trie<L, SLOTS, A> {
     /// assert_eq!(rt; cedar.exact_match_search_bytes(b"ne"), None);
     /// ```
     pub fn exact_match_search_bytes(&self, key: &[u8]) -> Option<(i32, usize)>
+        //= A look-up is `exact` of the tree; so it depends on the tree and the key alone, and not on `max_trial`. [also exact_match_search,
+        //  exact_match_search_counted]
         ensures answer { result ≡ exact self.now.state.tree key.now }
+
+        //= A value that is found is in range, and the tree is sound. [with in_range; also exact_match_search, exact_match_search_counted]
         ensures sound { IsSound self.now.state.tree }
         ensures in_range { IfSome result (λ found. value_fault found.0 ≡ None) }
     {
@@ -326,7 +373,14 @@ impl<L: Layout, const SLOTS: usize, A: Allocator + Copy> Trie<L, SLOTS, A> {
     /// ```
     #[must_use]
     pub fn len(&self) -> usize
+        //= `len` is the number of entries, `is_empty` that there is none. [also is_empty]
         ensures count { result ≡ length (walk self.now.state.tree) }
+
+        //= The tree of marks has all nodes of the tree and some of its numbers, so that it is known once it is known which keys have marks.
+        //  [also update_bytes.updated, update.updated, erase_bytes.marked, erase.marked; by IsMarked, marked]
+        //= Every dictionary is valid: its tree is sound, its labels ascend if it is ordered, its marks are some of its numbers, its values
+        //  are in range; the slots in use are whole blocks, and no more than there are; these are 256 times a power of two, and no more
+        //  than the limit. [by IsValid]
         ensures valid { IsValid SLOTS self.now }
     {
         self.table.entries()
@@ -354,8 +408,14 @@ impl<L: Layout, const SLOTS: usize, A: Allocator + Copy> Trie<L, SLOTS, A> {
     /// ```
     #[must_use]
     pub fn used_node_slots(&self) -> usize
+        //= The used slots follow from tree and marks.
+        //= `used_node_slots` is one, plus the distinct nonempty prefixes of keys, plus the numbers that have slots of their own.
         ensures marked { result ≡ 1 + length (prefixes self.now.state.tree) + length (walk self.now.marked) }
+
+        //= In the default layout it is one, plus the prefixes, plus the entries.
         ensures by_default { L.kind ≡ default_layout → result ≡ used self.now.state.tree }
+
+        //= In the default layout all numbers are marked. [also update_bytes.updated]
         ensures all_marked { L.kind ≡ default_layout → self.now.marked ≡ self.now.state.tree }
     {
         self.table.used_node_slots()
@@ -368,6 +428,7 @@ impl<L: Layout, const SLOTS: usize, A: Allocator + Copy> Trie<L, SLOTS, A> {
     /// ```
     #[must_use]
     pub fn node_capacity(&self) -> usize
+        //= `node_capacity` is the number of slots, `spare_blocks` the blocks that are there and not in use. [also spare_blocks]
         ensures { result ≡ self.now.capacity }
     {
         self.table.capacity()
@@ -392,6 +453,8 @@ impl<L: Layout, const SLOTS: usize, A: Allocator + Copy> Trie<L, SLOTS, A> {
     /// cedar.stands_on_its_table();
     /// ```
     pub fn stands_on_its_table(&self)
+        //= What a contract sees of a dictionary is what its table says: the table is well-formed, and tree, order, marks, `max_trial` and
+        //  sizes are those of it. [by IsOnTable]
         ensures { IsOnTable SLOTS self.now }
     {
         let _ = &self.table;

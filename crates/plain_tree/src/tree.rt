@@ -29,6 +29,7 @@ impl<A: Allocator> Model for PlainTree<A> {
 impl<A: Allocator + Copy> PlainTree<A> {
     /// A tree with neither number nor child.
     pub fn new(alloc: A) -> Self
+        //= A new tree is empty.
         ensures { result ≡ empty_tree }
     {
         PlainTree {
@@ -38,6 +39,7 @@ impl<A: Allocator + Copy> PlainTree<A> {
 
     /// The number at a path.
     pub fn number_at(&self, path: &[u8]) -> Option<i32>
+        //= `number_at` and `exact` answer by the definitions, and can't be refused. [also exact]
         ensures { result ≡ number_at self.now path.now }
     {
         node::number_at(&self.root, path)
@@ -52,10 +54,11 @@ impl<A: Allocator + Copy> PlainTree<A> {
         path: &[u8],
         number: i32,
     ) -> Result<(), AllocError>
+        //= `put` (ordered or not) and `cut` make the trees of these names; `cut` says whether the path was held. [also cut.answer.after]
         ensures ok { OnOk result (self.new ≡ put self.old ordered path.now number) }
-        ensures err { OnErr result (self.new ≡ self.old) }
 
-        // A path that is held already takes no memory.
+        //= A refused put leaves the tree as it was; over a held path none is refused. [with held]
+        ensures err { OnErr result (self.new ≡ self.old) }
         ensures held { IsSome (number_at self.old path.now) → IsOk result }
     {
         node::put(alloc, &mut self.root, ordered, path, number)
@@ -71,6 +74,8 @@ impl<A: Allocator + Copy> PlainTree<A> {
 
     /// Each path that has a number, with it: a node's before its children's, children in their order.
     pub fn walk(&self, alloc: A) -> Result<Vec<(Vec<u8, A>, i32), A>, AllocError>
+        //= `walk`, `len`, `front`, `predict`, `prefixes` and `used` are the definitions, unless memory is refused. [also len, front,
+        //  predict, prefixes, used]
         ensures { IfOk result (λ entries. vector_entries entries.items ≡ walk self.now) }
     {
         let mut entries = Vec::new(alloc);

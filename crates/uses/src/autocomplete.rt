@@ -16,6 +16,7 @@ pub fn complete<L: Layout, const SLOTS: usize, A: Allocator + Copy>(
     typed: &str,
     most: usize,
 ) -> Result<Vec<(i32, usize), Global>, AllocError>
+    //= The first entries that begin with a text, so many at most, are the first of `predict`.
     ensures { IfOk result (λ found. found.items ≡ take most (predict words.now.state.tree typed.now)) }
 {
     words

@@ -42,6 +42,7 @@ impl<const SLOTS: usize, A: Allocator + Copy> Lexicon<SLOTS, A> {
 
     /// Whether it has a word.
     pub fn has(&self, word: &str) -> bool
+        //= A lexicon has a word exactly if its dictionary holds it; a dictionary has no more slots than its limit. [also slots]
         ensures { IsTrue result ↔ IsSome (number_at self.now.words.state.tree word.now) }
     {
         self.words.exact_match_search(word).is_some()

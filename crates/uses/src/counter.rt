@@ -12,6 +12,7 @@ use std::alloc::{Allocator, Global};
 /// # Errors
 /// Those of an update: a word may be empty or have a byte 0, and memory or slots may run out.
 pub fn count(alloc: Global, words: &[&str]) -> Result<Cedar<Global>, CedarError>
+    //= Each word holds how often it comes among some words, up to the greatest value, and no other word holds anything.
     ensures { IfOk result (λ counts. (word : List ℕ) → number_at counts.state.tree word ≡ count_of word words.now) }
 {
     let mut counts = Cedar::new(alloc)?;

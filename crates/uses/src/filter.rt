@@ -11,6 +11,7 @@ pub fn has_keyword<L: Layout, const SLOTS: usize, A: Allocator + Copy>(
     keywords: &Trie<L, SLOTS, A>,
     text: &[u8],
 ) -> bool
+    //= A text has a keyword exactly if some bytes of it, one or more, are a key.
     ensures { IsTrue result ↔ HasKeyword keywords.now.state.tree text.now }
 {
     for place in 0..text.len() {

@@ -15,6 +15,7 @@ pub fn publish<L: Layout, const SLOTS: usize, A: Allocator + Copy>(
     live: &mut Trie<L, SLOTS, A>,
     pairs: &[(&str, i32)],
 ) -> Result<(), CedarError>
+    //= All pairs are stored, or the dictionary is as it was. [with none]
     ensures all { OnOk result (live.new.state ≡ all_stored live.old.state (entries_of pairs.now)) }
     ensures none { OnErr result (live.new ≡ live.old) }
 {

@@ -26,6 +26,7 @@ impl Tokenizer {
         alloc: Global,
         file: &mut Watched<R>,
     ) -> Result<Tokenizer, CedarPersistenceError>
+        //= A tokenizer takes just the bytes of its dictionary's table.
         ensures { IfOk result (λ it. (version : ℕ) × IsVersion version × Consumes (R.remaining (device_of file.old)) (R.remaining (device_of file.new)) (table_bytes version it.words.table)) }
     {
         let words = Cedar::load_from_reader(alloc, file)?;
@@ -41,6 +42,7 @@ impl Tokenizer {
         alloc: Global,
         text: &str,
     ) -> Result<Vec<(usize, usize, Option<i32>), Global>, AllocError>
+        //= A tokenizer cuts a text into `segments` of its dictionary's tree.
         ensures { IfOk result (λ tokens. tokens.items ≡ segments self.now.words.state.tree text.now) }
     {
         segment(&self.words, text.as_bytes()).collect(alloc)

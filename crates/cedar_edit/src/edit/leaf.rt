@@ -68,12 +68,18 @@ pub(crate) fn add_label<L: Layout, const SLOTS: usize, A: Allocator>(
     requires free { Held (cells table.old) (below (cells table.old) node label) → ⊥ }
     ensures sound { IsTable SLOTS (fields table.new).places }
     ensures slot { result ≡ below (cells table.new) node label }
+
+    //= `add_label`, `remove_label`, `set_number`, `drop_number` change one node's own slots; the tree is changed at that node alone. [with
+    //  tree; also remove_label.removed.tree, set_number.set.tree, drop_number.dropped.tree]
     ensures added { AddsLabel (size_of (fields table.old)) (fields table.old).ordered (cells table.old) (cells table.new) node label }
     ensures tree { (f : Forest) (w : List ℕ) → TableHolds (fields table.old) f → ((fields table.old).ordered ≡ true → IsAscending f) → IsAt (cells table.old) w node
         → TableHolds (fields table.new) (edit_at w (λ n. n) (add_leaf (fields table.old).ordered label) f) }
     ensures leaf { (w : List ℕ) → IsAt (cells table.old) w node → IsAt (cells table.new) (w ++ label ∷ []) result }
     ensures paths { (w : List ℕ) (s : ℕ) → IsAt (cells table.old) w s → IsAt (cells table.new) w s }
     ensures root_check { (cells table.new).check 0 ≡ (cells table.old).check 0 }
+
+    //= Calls that make no block leave how many slots are in use and there are, order, entries and `max_trial`. [also remove_label,
+    //  set_number, drop_number, trim; by SameFrame]
     ensures frame { SameFrame (fields table.old) (fields table.new) }
 {
     let slot = table.slot_below(node, label);

@@ -80,6 +80,8 @@ pub(crate) fn trim<L: Layout, const SLOTS: usize, A: Allocator>(
     requires node_in { node < size_of (fields table.old) }
     requires node { (f : Forest) × HasNode (fields table.old) f node }
     ensures sound { IsTable SLOTS (fields table.new).places }
+
+    //= `trim` takes a bare node away and each node above it that then is bare, and keeps all marks. [with marks]
     ensures tree { (f : Forest) (w : List ℕ) → TableHolds (fields table.old) f → IsAt (cells table.old) w node
         → TableHolds (fields table.new) (tree_after_trim (root_of f) w).children }
     ensures marks { KeepsMarks (cells table.old) (cells table.new) }
@@ -125,11 +127,19 @@ pub fn erase<L: Layout, const SLOTS: usize, A: Allocator>(
     key: &[u8],
 ) -> bool
     requires well_formed { IsWellFormed SLOTS (fields table.old) }
+
+    //= `erase`: the tree is then `cut` of the old one, and the table is well-formed. [with tree]
     ensures well_formed { IsWellFormed SLOTS (fields table.new) }
     ensures tree { tree_of (fields table.new) ≡ cut (tree_of (fields table.old)) key.now }
+
+    //= Where the key has a node, each other number stands as it did; of the marks just the key's is taken away. [with marks_cut]
     ensures marks { (s : ℕ) → IsAt (cells table.old) key.now s → KeepsOtherMarks (cells table.old) (cells table.new) s }
     ensures marks_cut { MarksCut (marks (fields table.old)) (marks (fields table.new)) key.now }
+
+    //= It says whether the key was held, and can't be refused.
     ensures held { result ≡ is_some (number_at (tree_of (fields table.old)) key.now) }
+
+    //= The slots in use and those that there are stay as many. [with capacity]
     ensures size { size_of (fields table.new) ≡ size_of (fields table.old) }
     ensures capacity { capacity_of (fields table.new) ≡ capacity_of (fields table.old) }
     ensures modes { SameModes (fields table.old) (fields table.new) }

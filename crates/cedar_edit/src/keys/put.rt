@@ -108,19 +108,47 @@ pub fn update<L: Layout, const SLOTS: usize, A: Allocator>(
     requires well_formed { IsWellFormed SLOTS (fields table.old) }
     requires key { IsKey key.now }
     requires value { is_value value ≡ true }
+
+    //= The table is well-formed after an update, also after a refusal.
     ensures well_formed { IsWellFormed SLOTS (fields table.new) }
+
+    //= `update` of a key with a value in range, on any well-formed table, however it came about: the tree is then `put` of the old one, in
+    //  the table's order.
     ensures put { OnOk result (tree_of (fields table.new) ≡ put (tree_of (fields table.old)) (fields table.old).ordered key.now value) }
+
+    //= It answers the number that the key held before, or that there was none.
     ensures held { IfOk result (λ held. held ≡ number_at (tree_of (fields table.old)) key.now) }
+
+    //= After a refusal the tree is the old one.
     ensures taken_back { OnErr result (tree_of (fields table.new) ≡ tree_of (fields table.old)) }
+
+    //= It is refused for memory only where all blocks are in use and there may be more, for slots only where there may not.
     ensures refused { IfErr result (λ error. MayRefuse (fields table.new).places SLOTS error) }
+
+    //= A key of n bytes makes n blocks at most, and fewer than n if it is refused.
     ensures blocks { (n : ℕ) × (n ≤ length key.now) × OnErr result (n < length key.now) × MakesBlocks n (fields table.old) (fields table.new) }
+
+    //= Over a number no block is made and nothing is refused.
     ensures over { is_some (number_at (tree_of (fields table.old)) key.now) ≡ true → OnErr result ⊥ × MakesBlocks 0 (fields table.old) (fields table.new) }
+
+    //= A new first byte alone makes a block, or is refused, only in the default layout and only where no slot outside block 0 is free.
     ensures one_byte { (b : ℕ) → key.now ≡ b ∷ [] → has_label (tree_of (fields table.old)).children b ≡ false
         → (OnErr result ⊥ × MakesBlocks 0 (fields table.old) (fields table.new)) ⊎ ((fields table.old).layout ≡ default_layout) × NoPlace (size_of (fields table.old)) (cells table.old) }
+
+    //= After a refusal each number stands where it stood, in a slot or in its node's own base field. [with marks_stay]
+    //= So as many slots are held then as before. [with marks_stay; by slots_stay]
     ensures marks { OnErr result (KeepsMarks (cells table.old) (cells table.new)) }
     ensures marks_stay { OnErr result (marks (fields table.new) ≡ marks (fields table.old)) }
+
+    //= Over a number, each number stands as it did; else the number of each held proper front of the key has a slot, and each other number
+    //  stands as it did. [by over, fronts, others]
+    //= A new key's number has a slot if the key is a front of a held one; in the reduced layout only then. [by new]
     ensures new_marks { OnOk result (PutsMarks (fields table.old) (fields table.new) key.now) }
+
+    //= The tree of marks says the same in the reduced layout.
     ensures marks_put { OnOk result ((fields table.old).layout ≡ reduced_layout → MarksPut (tree_of (fields table.old)) (marks (fields table.old)) (marks (fields table.new)) key.now) }
+
+    //= Order and `max_trial` stay. [also erase]
     ensures modes { SameModes (fields table.old) (fields table.new) }
 {
     let moved = make_way(table, key)?;

@@ -126,8 +126,16 @@ pub(crate) fn follow_or_add<L: Layout, const SLOTS: usize, A: Allocator>(
     requires positive { 0 < label }
     requires no_own_number { (v : ℤ) → (cells table.old).stored node ≢ OwnNumber v }
     ensures sound { IsTable SLOTS (fields table.new).places }
+
+    //= `follow_or_add` goes to a node's child or adds it as a bare leaf, at its ascending place or first.
     ensures stepped { IfOk result (StepsTo (fields table.old) (fields table.new) node label) }
+
+    //= Where it is refused, all slots are as before; it makes one block at most; at the root it makes none and isn't refused. [with
+    //  at_root; by MayMakeBlock]
+    //= Calls that make one block at most leave order, entries and `max_trial`. [also put_number; by MayMakeBlock, MayAddBlock]
     ensures step { MayMakeBlock SLOTS (fields table.old) (fields table.new) result }
+
+    //= To a child that is there it makes no block, isn't refused and changes no slot. [with stays]
     ensures owned { (cells table.old).check (below (cells table.old) node label) ≡ pos node → OnErr result ⊥ × MakesBlocks 0 (fields table.old) (fields table.new) }
     ensures stays { (cells table.old).check (below (cells table.old) node label) ≡ pos node → cells table.new ≡ cells table.old }
     ensures at_root { node ≡ 0 → OnErr result ⊥ × MakesBlocks 0 (fields table.old) (fields table.new) }
@@ -189,11 +197,18 @@ pub(crate) fn put_number<L: Layout, const SLOTS: usize, A: Allocator>(
     requires node { (f : Forest) × HasNode (fields table.old) f node }
     requires value { is_value value ≡ true }
     ensures sound { IsTable SLOTS (fields table.new).places }
+
+    //= `put_number` sets a node's number; where it is refused, all slots are as before; it makes one block at most. [with step; by
+    //  MayMakeBlock]
     ensures set { OnOk result ((f : Forest) (w : List ℕ) → TableHolds (fields table.old) f → IsAt (cells table.old) w node
         → TableHolds (fields table.new) (edit_at w (λ _. Some value) (λ u. u) f)) }
+
+    //= In the reduced layout the number of a node without base comes into its own base field, and else into a slot. [with marks_own]
     ensures marks { OnOk result (((fields table.old).layout ≡ reduced_layout → base_of (cells table.old) node ≢ 0) → PutsMark (cells table.old) (cells table.new) node true) }
     ensures marks_own { OnOk result ((fields table.old).layout ≡ reduced_layout → base_of (cells table.old) node ≡ 0 → PutsMark (cells table.old) (cells table.new) node false) }
     ensures step { MayMakeBlock SLOTS (fields table.old) (fields table.new) result }
+
+    //= Over a number it makes no block and isn't refused. [with own]
     ensures owned { (cells table.old).check (below (cells table.old) node 0) ≡ pos node → OnErr result ⊥ × MakesBlocks 0 (fields table.old) (fields table.new) }
     ensures own { (v : ℤ) → (cells table.old).stored node ≡ OwnNumber v → OnErr result ⊥ × MakesBlocks 0 (fields table.old) (fields table.new) }
     ensures leaf { (cells table.old).stored node ≡ AtBase 0 → (OnErr result ⊥ × MakesBlocks 0 (fields table.old) (fields table.new)) ⊎ ((fields table.old).layout ≡ default_layout) × NoPlace (size_of (fields table.old)) (cells table.old) }

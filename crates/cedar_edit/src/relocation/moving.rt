@@ -207,6 +207,8 @@ pub(crate) fn relocate_around<L: Layout, const SLOTS: usize, A: Allocator>(
     requires movable { Movable (size_of (fields table.old)) (cells table.old) parent base labels.now }
     requires mine { (cells table.old).check wanted ≡ pos parent }
     ensures sound { IsTable SLOTS (fields table.new).places }
+
+    //= A relocation renames the slots of one node's set and keeps the tree; each node's labels stay in their order. [also relocate_with]
     ensures relocated { Relocated (size_of (fields table.old)) (cells table.old) (cells_without (cells table.new) wanted) parent base }
     ensures reserved { (cells table.new).check wanted ≡ pos 0 }
     ensures root_check { (cells table.new).check 0 ≡ (cells table.old).check 0 }

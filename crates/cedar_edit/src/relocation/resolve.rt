@@ -175,7 +175,11 @@ pub(crate) fn resolve<L: Layout, const SLOTS: usize, A: Allocator>(
 ) -> Result<usize, Shortage>
     requires { WantsSlot SLOTS (fields table.old) node label }
     ensures sound { IsTable SLOTS (fields table.new).places }
+
+    //= Where another node owns a wanted slot, room is made: the tree stays, and the node's slot for the new label is kept back for it.
     ensures reserved { IfOk result (Reserves (fields table.old) (fields table.new) node label) }
+
+    //= Where no room is found for it, all slots are as before; it makes one block at most. [by MayMakeBlock]
     ensures step { MayMakeBlock SLOTS (fields table.old) (fields table.new) result }
 {
     let slot = table.child_slot(node, label);

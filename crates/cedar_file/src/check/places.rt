@@ -44,6 +44,9 @@ fn check_rings<A: Allocator, C: Ledger>(
     reads: &mut Ticks<C>,
 ) -> Result<(), Corrupt>
     requires { Shaped (places_of places.now) }
+
+    //= The test of rings is `Ok` exactly if each block in use has its ring, the test of lists exactly if each list is linked of just the
+    //  blocks that are to stand in it. [also check_lists]
     ensures answer { OkIff result (HasFree (places_of places.now)) tt }
     ensures cost { reads.new ≤ reads.old + 1026 * places.now.blocks.active }
 {
@@ -130,7 +133,12 @@ pub(crate) fn check_sound<A: Allocator, C: Ledger>(
     requires doubled { IsPowerOfTwo (length places.now.blocks.records.items) }
     requires rejects { length places.now.reject.items ≡ 257 }
     requires tried { pos 1 ≤ℤ places.now.blocks.max_trial }
+
+    //= `check_sound` tests slots, blocks and reject values that nobody has vouched for, of the right sizes and with `max_trial` above 0:
+    //  `Ok` exactly if they are `Sound`.
     ensures answer { OkIff result (Sound (places_of places.now)) tt }
+
+    //= It counts at most five reads of records for each slot and 512 more.
     ensures cost { reads.new ≤ reads.old + 5 * (256 * length places.now.blocks.records.items) + 512 }
 {
     check_idle_slots(places, reads)?;

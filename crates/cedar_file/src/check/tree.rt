@@ -373,8 +373,12 @@ pub fn check_tree<L: Layout, const SLOTS: usize, A: Allocator, C: Ledger>(
     reads: &mut Ticks<C>,
 ) -> Result<(), Corrupt>
     requires { IsTable SLOTS (fields table.now).places }
+
+    //= `check_tree`, on a table that `IsTable`: `Ok` exactly if it is well-formed. [with faulty]
     ensures well_formed { OnOk result (IsWellFormed SLOTS (fields table.now)) }
     ensures faulty { OnErr result (IsWellFormed SLOTS (fields table.now) → ⊥) }
+
+    //= It counts at most 8 reads for a slot in use, one for a block and 2 more.
     ensures cost { reads.new ≤ reads.old + 8 * size_of (fields table.now) + size_of (fields table.now) / 256 + 2 }
 {
     let start = begin_walk(table, reads)?;

@@ -21,6 +21,9 @@ pub fn check_places<L: Layout, const SLOTS: usize, A: Allocator, C: Ledger>(
     requires limit { IsSlotLimit SLOTS }
     requires within { capacity_of (fields table.now) ≤ SLOTS }
     requires tried { pos 1 ≤ℤ (fields table.now).places.blocks.max_trial }
+
+    //= `check_places`, on records of the right sizes: `Ok` exactly if the table `IsTable`, with at most five counted reads a slot and 512
+    //  more. [with cost]
     ensures answer { OkIff result (IsTable SLOTS (fields table.now).places) tt }
     ensures cost { reads.new ≤ reads.old + 5 * capacity_of (fields table.now) + 512 }
 {
@@ -37,7 +40,12 @@ pub fn check_well_formed<L: Layout, const SLOTS: usize, A: Allocator, C: Ledger>
     requires limit { IsSlotLimit SLOTS }
     requires within { capacity_of (fields table.now) ≤ SLOTS }
     requires tried { pos 1 ≤ℤ (fields table.now).places.blocks.max_trial }
+
+    //= `check_well_formed` is `check_places` and then `check_tree`: on records of the right sizes `Ok` exactly if they are a well-formed
+    //  table of the layout.
     ensures answer { OkIff result (IsWellFormed SLOTS (fields table.now)) tt }
+
+    //= It counts at most sixteen reads a slot and 1024 more.
     ensures cost { reads.new ≤ reads.old + 16 * capacity_of (fields table.now) + 1024 }
 {
     check_places(table, reads)?;

@@ -31,11 +31,25 @@ impl<L: Layout, const SLOTS: usize, A: Allocator + Copy> Trie<L, SLOTS, A> {
         reads: &mut Ticks<D>,
     ) -> Result<Self, CedarPersistenceError>
         requires limit { IsSlotLimit SLOTS }
+
+        //= A dictionary is loaded only from just the bytes of its table in one of the versions, and the table is well-formed, also where
+        //  the reader fails. [also load_from_reader_with_limit, load_from_reader; by LoadsBy, bytes, formed]
+        //= From a reader that tells its bytes and doesn't fail, and so from any bytes in memory: the answer is the first refusal of header
+        //  and length; else the dictionary whose table the bytes are in one of the versions, or that they are of no well-formed table in
+        //  any; or, once the header has passed, that a list found no room. [also load_from_reader_with_limit, load_from_reader; by answer,
+        //  LoadAnswers]
+        //= `Io` is answered only where the reader failed, now or before, and so never from bytes in memory. [also
+        //  load_from_reader_with_limit, load_from_reader; by io]
+        //= Want of memory is answered only with the number of elements of one of the four lists of a header that has passed, also where the
+        //  reader fails. [also load_from_reader_with_limit, load_from_reader; by lacks, LacksNoMore]
         ensures loads { LoadsBy (λ trie. trie.table) L.kind SLOTS memory_limit (S.remaining reader.old) (S.remaining reader.new) (S.failed reader.new) result }
-        // A read that was broken off is told as no success and no end of the input.
+
+        //= Where a read was broken off, neither a dictionary nor `Truncated` is the answer. [also load_from_reader_with_limit,
+        //  load_from_reader; by TellsBreaks]
         ensures told { TellsBreaks (S.broken reader.old) (S.broken reader.new) result }
 
-        // Before the header has passed nothing is asked of memory and no record is read for the test.
+        //= By its counts, before the header has passed nothing is asked of memory and no record is read for the table's test; then at most
+        //  the need, and sixteen reads a slot and 1024 more. [with reads]
         ensures asked { CountsWithin (layout_byte L.kind) SLOTS memory_limit (S.remaining reader.old) need asked.old asked.new }
         ensures reads { CountsWithin (layout_byte L.kind) SLOTS memory_limit (S.remaining reader.old) (λ h. 16 * h.capacity + 1024) reads.old reads.new }
     {

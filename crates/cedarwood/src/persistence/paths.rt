@@ -28,10 +28,11 @@ impl<L: Layout, const SLOTS: usize, A: Allocator + Copy> Trie<L, SLOTS, A> {
     /// `Io` where a call on a file failed; `AllocationFailed` with the length of the new name, which is asked for first, or with 8192
     /// where there is no memory for the buffer, which is asked for once the file is made.
     pub fn save_to_path<F: Files>(&self, files: &F, path: &str) -> Result<(), CedarPersistenceError>
+        //= A save to a path fails with `Io`, with `AllocationFailed` of the 8192 bytes of its buffer, or with that of the new file's name,
+        //  four bytes longer than the path. [also save_v1_0_to_path]
         ensures err { IfErr result (FailsToSave (length path.now)) }
 
-        // The bytes that are written are the file of a well-formed table, which passes all steps of a load but those on
-        // memory. What a device has kept of them no clause can say.
+        // What a device has kept of the bytes no clause can say.
         ensures file { OnOk result (IsTableFile 1 SLOTS self.now.table (table_bytes 1 self.now.table)) }
         ensures passes { OnOk result (PassesAgain L.kind SLOTS 1 self.now.table) }
     {
@@ -75,9 +76,12 @@ impl<L: Layout, const SLOTS: usize, A: Allocator + Copy> Trie<L, SLOTS, A> {
         path: &str,
     ) -> Result<Self, CedarPersistenceError>
         requires limit { IsSlotLimit SLOTS }
+
+        //= A load by path that succeeds gives a well-formed table.
         ensures formed { IfOk result (λ trie. IsWellFormed SLOTS trie.table) }
 
-        // Memory was refused for the buffer, or for a list of a file whose header has passed.
+        //= In a load by path want of memory is of the buffer's 8192 bytes, or of one of the four lists of a header that has passed. [by
+        //  LacksByPath]
         ensures lacks { IfErr result (LacksByPath (layout_byte L.kind) SLOTS 536870912) }
     {
         let file = File::open(files, path)?;

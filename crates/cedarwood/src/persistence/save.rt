@@ -25,12 +25,19 @@ impl<L: Layout, const SLOTS: usize, A: Allocator + Copy> Trie<L, SLOTS, A> {
         &self,
         writer: &mut Watched<W>,
     ) -> Result<(), CedarPersistenceError>
+        //= A save that succeeds wrote just the bytes of the dictionary's table in its version: 1.1, or 1.0 where the name says so. [also
+        //  save_v1_0_to_writer]
         ensures bytes { OnOk result (Appends (W.contents (device_of writer.old)) (W.contents (device_of writer.new)) (table_bytes 1 self.now.table)) }
 
-        // They are the file of a well-formed table, which passes all steps of a load but those on memory.
+        //= The bytes that a save writes are the file of a well-formed table, which passes all steps of a load but those on memory, under a
+        //  limit of at least its need. [with passes; also save_v1_0_to_writer, save_to_path, save_v1_0_to_path]
         ensures file { OnOk result (IsTableFile 1 SLOTS self.now.table (table_bytes 1 self.now.table)) }
         ensures passes { OnOk result (PassesAgain L.kind SLOTS 1 self.now.table) }
+
+        //= It is refused only where its writer failed. [also save_v1_0_to_writer]
         ensures err { IfErr result (λ e. IsIo e × (has_failed writer.new ≡ true)) }
+
+        //= A writer that has failed stays so. [also save_v1_0_to_writer]
         ensures failed { has_failed writer.old ≡ true → has_failed writer.new ≡ true }
     {
         write_table(&self.table, MINOR, writer)
@@ -52,8 +59,6 @@ impl<L: Layout, const SLOTS: usize, A: Allocator + Copy> Trie<L, SLOTS, A> {
         writer: &mut Watched<W>,
     ) -> Result<(), CedarPersistenceError>
         ensures bytes { OnOk result (Appends (W.contents (device_of writer.old)) (W.contents (device_of writer.new)) (table_bytes 0 self.now.table)) }
-
-        // They are the file of a well-formed table, which passes all steps of a load but those on memory.
         ensures file { OnOk result (IsTableFile 0 SLOTS self.now.table (table_bytes 0 self.now.table)) }
         ensures passes { OnOk result (PassesAgain L.kind SLOTS 0 self.now.table) }
         ensures err { IfErr result (λ e. IsIo e × (has_failed writer.new ≡ true)) }

@@ -24,6 +24,8 @@ impl<L: Layout, const SLOTS: usize, A: Allocator + Copy> Trie<L, SLOTS, A> {
     /// assert_eq!(rt; answers, [Some((7, 3)), None]);
     /// ```
     pub fn exact_match_search_batch(&self, keys: &[&[u8]], answers: &mut [Option<(i32, usize)>])
+        //= Look-ups of many keys in one call: answer i is `exact` of the tree and key i, for as many keys as there are places for answers;
+        //  places behind the last key stay.
         ensures { answers.new ≡ map (exact self.now.state.tree) (take (length answers.old) (keys_of keys.now)) ++ drop (length keys.now) answers.old }
     {
         search_batch_uncounted::<Brand, Self, A>(self, keys, answers, Blank::new(1));

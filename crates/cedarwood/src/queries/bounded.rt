@@ -183,6 +183,8 @@ impl<L: Layout, const SLOTS: usize, A: Allocator + Copy> Trie<L, SLOTS, A> {
         from: &[u8],
         to: &'a [u8],
     ) -> Option<BoundedEntries<'a, Self, A>>
+        //= `range` gives likewise those of them before another key, none where that isn't above the first, and None exactly if the order is
+        //  not ascending. [also range, BoundedEntries.next_gives; by entries_between]
         ensures { MatchOption result (self.now.state.ordered ≡ false) (λ entries. (self.now.state.ordered ≡ true) × (entries ≡ entries_between self.now.state.tree from.now to.now)) }
     {
         if !self.table.ordered() {

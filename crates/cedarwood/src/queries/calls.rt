@@ -22,7 +22,10 @@ impl<L: Layout, const SLOTS: usize, A: Allocator + Copy> Trie<L, SLOTS, A> {
     /// assert_eq!(rt; fronts.next(), None);
     /// ```
     pub fn common_prefix_iter_bytes<'a>(&'a self, query: &'a [u8]) -> PrefixIter<'a, Self>
+        //= A prefix walk gives `front` of the tree, an item a call. [also common_prefix_iter, PrefixIter::next.steps.query]
         ensures rest { result.rest ≡ front self.now.state.tree query.now }
+
+        //= A new prefix walk has all bytes of its query left. [with query; also common_prefix_iter]
         ensures left { result.left ≡ length query.now }
         ensures query { result.query ≡ length query.now }
     {
@@ -59,6 +62,8 @@ impl<L: Layout, const SLOTS: usize, A: Allocator + Copy> Trie<L, SLOTS, A> {
         blank: Blank,
     ) -> CountedPrefixIter<'a, Self, C>
         requires { IsBlankOf C.name C.parts blank }
+
+        //= A prefix walk that counts gives `front` of the tree too, and counts from 0 on. [with ticks; also CountedPrefixIter.next_gives]
         ensures rest { result.rest ≡ front self.now.state.tree query.now }
         ensures ticks { result.ticks ≡ 0 }
         ensures query { result.query ≡ length query.now }
@@ -80,6 +85,8 @@ impl<L: Layout, const SLOTS: usize, A: Allocator + Copy> Trie<L, SLOTS, A> {
         &self,
         query: &[u8],
     ) -> Result<Vec<(i32, usize), A>, CedarError>
+        //= The vectors of prefix walks and of predictions have these lists, and are refused for memory alone. [with refused; also
+        //  common_prefix_predict_bytes, common_prefix_search, common_prefix_predict]
         ensures found { IfOk result (λ found. found.items ≡ front self.now.state.tree query.now) }
         ensures refused { IfErr result (λ e. e ≡ CedarError.Memory) }
     {
@@ -119,6 +126,7 @@ impl<L: Layout, const SLOTS: usize, A: Allocator + Copy> Trie<L, SLOTS, A> {
         &'a self,
         query: &'a [u8],
     ) -> PrefixPredictIter<'a, Self>
+        //= A prediction gives `predict` of the tree, an item a call. [also common_prefix_predict_iter, PrefixPredictIter.next_gives]
         ensures { result ≡ predict self.now.state.tree query.now }
     {
         // Its table is well-formed.
@@ -191,6 +199,8 @@ impl<L: Layout, const SLOTS: usize, A: Allocator + Copy> Trie<L, SLOTS, A> {
     /// # Errors
     /// `Memory` where a request was refused.
     pub fn entries(&self) -> Result<Entries<'_, Self, A>, CedarError>
+        //= `entries` gives the walk of the tree, an item a call; call and items may be refused for memory alone, and a refused item is the
+        //  last one. [with refused; also Entries.next_gives]
         ensures entries { IfOk result (λ entries. entries ≡ walk self.now.state.tree) }
         ensures refused { IfErr result (λ e. e ≡ CedarError.Memory) }
     {
@@ -209,7 +219,11 @@ impl<L: Layout, const SLOTS: usize, A: Allocator + Copy> Trie<L, SLOTS, A> {
     /// # Errors
     /// `Memory` where a request was refused.
     pub fn entries_str(&self) -> Result<Utf8Entries<'_, Self, A>, CedarError>
+        //= `entries_str` gives the same as text: a key that isn't UTF-8 gives an error in its place, and the walk goes on behind it. [also
+        //  Utf8Entries.next_gives]
         ensures entries { IfOk result (λ entries. entries ≡ walk self.now.state.tree) }
+
+        //= `entries_str` is refused for memory alone.
         ensures refused { IfErr result (λ e. e ≡ CedarError.Memory) }
     {
         Ok(Utf8Entries::new(self.entries()?))

@@ -79,6 +79,8 @@ impl<'a, T: Walked, A: Allocator + Copy> Entries<'a, T, A> {
     /// ```
     #[must_use]
     pub fn len(&self) -> usize
+        //= `len` of entries is how many are still to come, none after a refused item; the size hint is from 0 to that. [also is_empty,
+        //  size_hint.hint, Utf8Entries::size_hint.hint]
         ensures { result ≡ length self.now }
     {
         self.left

@@ -16,6 +16,7 @@ impl<L: Layout, const SLOTS: usize, A: Allocator + Copy> Trie<L, SLOTS, A> {
     /// assert_eq!(rt; cedar.get_bytes(b"ne"), None);
     /// ```
     pub fn get_bytes(&self, key: &[u8]) -> Option<i32>
+        //= `get` is the number at the key, `contains_key` whether there is one. [also get, contains_key_bytes, contains_key]
         ensures { result ≡ number_at self.now.state.tree key.now }
     {
         let (value, _) = self.exact_match_search_bytes(key)?;
@@ -68,6 +69,8 @@ impl<L: Layout, const SLOTS: usize, A: Allocator + Copy> Trie<L, SLOTS, A> {
     /// assert_eq!(rt; cedar.longest_match_bytes(b"ten"), None);
     /// ```
     pub fn longest_match_bytes(&self, text: &[u8]) -> Option<(i32, usize)>
+        //= `longest_match` is the last of `front`, with the length of that front in bytes: above 0, and the text's at most. [with within;
+        //  also longest_match; by longest_front]
         ensures longest { result ≡ longest_front self.now.state.tree text.now }
         ensures within { IfSome result (λ found. (0 < found.1) × (found.1 ≤ length text.now)) }
     {

@@ -62,8 +62,11 @@ impl<'a, T: Walked> PrefixIter<'a, T> {
     /// assert_eq!(rt; fronts.next_counted(&mut ticks), Some((7, 2)));
     /// ```
     pub fn next_counted<C: Ledger>(&mut self, ticks: &mut Ticks<C>) -> Option<(i32, usize)>
+        //= A counted step of a prefix walk gives its next item. [with query; also uncounted_step]
         ensures gives { YieldsFirst (λ (walk : PrefixWalk). walk.rest) self.old result self.new }
         ensures query { self.new.query ≡ self.old.query }
+
+        //= It counts at most two comparisons for each byte of the query. [also comparisons_are_few]
         ensures cost { ticks.new + 2 * self.new.left ≤ ticks.old + 2 * self.old.left }
     {
         if self.place == self.query.len() {
@@ -83,6 +86,8 @@ impl<'a, T: Walked> PrefixIter<'a, T> {
 }
 
 impl<'a, T: Walked> Clone for PrefixIter<'a, T> {
+    //= A clone of a prefix walk or a prediction goes on from the same place and can't be refused; what has ended stays so. [with
+    //  is_infallible; also PrefixPredictIter; by FusedIterator]
     ghost is_clone = { λ it copy. copy ≡ it };
 
     ghost is_infallible = { λ _. ⊤ };
@@ -100,12 +105,15 @@ impl<'a, T: Walked> Clone for PrefixIter<'a, T> {
 impl<'a, T: Walked> Iterator for PrefixIter<'a, T> {
     type Item = (i32, usize);
 
+    //= `next` of a prefix walk gives its next item.
     ghost next_gives = { YieldsFirst (λ (walk : PrefixWalk). walk.rest) };
 
     ghost remaining = { item_count (λ (walk : PrefixWalk). walk.rest) };
 
     fn next(&mut self) -> Option<(i32, usize)>
         ensures steps { YieldsFirst (λ (walk : PrefixWalk). walk.rest) self.old result self.new }
+
+        //= A step of a prefix walk that gives an item leaves fewer items, so a loop over it ends.
         ensures goes { MakesProgress (λ (_ : PrefixWalk). ⊤) (item_count (λ (walk : PrefixWalk). walk.rest)) self.old result self.new }
         ensures query { self.new.query ≡ self.old.query }
     {
@@ -115,6 +123,9 @@ impl<'a, T: Walked> Iterator for PrefixIter<'a, T> {
     fn size_hint(&self) -> (usize, Option<usize>)
         ensures lower { IsWithinCount result.0 (item_count (λ (walk : PrefixWalk). walk.rest) self.now) }
         ensures upper { IfSome result.1 (UpTo (item_count (λ (walk : PrefixWalk). walk.rest) self.now)) }
+
+        //= The size hint of a prefix walk is from 0 to the query's length, that of a prediction from 0 on. [also
+        //  PrefixPredictIter::size_hint]
         ensures hint { result ≡ (0, Some self.now.query) }
     {
         (0, Some(self.query.len()))

@@ -110,6 +110,8 @@ impl<'a, T: Walked, A: Allocator + Copy> RangeEntries<'a, T, A> {
         &mut self,
         key: &mut Vec<u8, B>,
     ) -> Result<Option<i32>, CedarError>
+        //= An item's key can be written into a buffer instead; where that is refused for memory, the walk stands where it stood. [with
+        //  refused; also BoundedEntries::next_into]
         ensures found { IfOk result (λ found. MatchOption found ((self.old ≡ []) × (self.new ≡ [])) (λ value. self.old ≡ (key.new.items, value) ∷ self.new)) }
         ensures refused { IfErr result (λ e. (e ≡ CedarError.Memory) × (self.new ≡ self.old) × (0 < length self.old)) }
     {
@@ -150,6 +152,8 @@ impl<'a, T: Walked, A: Allocator + Copy> Iterator for RangeEntries<'a, T, A> {
     fn size_hint(&self) -> (usize, Option<usize>)
         ensures lower { IsWithinCount result.0 (item_count (λ (rest : List Entry). rest) self.now) }
         ensures upper { IfSome result.1 (UpTo (item_count (λ (rest : List Entry). rest) self.now)) }
+
+        //= The size hint of such a walk is from 0 on. [also BoundedEntries::size_hint]
         ensures hint { result ≡ (0, None) }
     {
         (0, None)
@@ -172,6 +176,8 @@ impl<L: Layout, const SLOTS: usize, A: Allocator + Copy> Trie<L, SLOTS, A> {
     /// assert_eq!(rt; (key.as_slice(), value), (b"ten".as_slice(), 2));
     /// ```
     pub fn entries_with_prefix_bytes<'a>(&'a self, prefix: &'a [u8]) -> RangeEntries<'a, Self, A>
+        //= `entries_with_prefix` gives the entries of the walk whose keys begin with the prefix, in its order, an item a call; an item may
+        //  be refused for memory alone, and a refused one is the last. [also entries_with_prefix, RangeEntries.next_gives; by entries_with]
         ensures { result ≡ entries_with self.now.state.tree prefix.now }
     {
         RangeEntries::with_prefix(self, prefix, self.table.allocator())
@@ -199,6 +205,8 @@ impl<L: Layout, const SLOTS: usize, A: Allocator + Copy> Trie<L, SLOTS, A> {
     /// assert_eq!(rt; (key.as_slice(), value), (b"ten".as_slice(), 2));
     /// ```
     pub fn entries_from_bytes<'a>(&'a self, key: &'a [u8]) -> Option<RangeEntries<'a, Self, A>>
+        //= `entries_from` gives likewise the entries at the key and after it by bytes, and None exactly if the order is not ascending.
+        //  [also entries_from, RangeEntries.next_gives; by entries_since]
         ensures { MatchOption result (self.now.state.ordered ≡ false) (λ entries. (self.now.state.ordered ≡ true) × (entries ≡ entries_since self.now.state.tree key.now)) }
     {
         if !self.table.ordered() {

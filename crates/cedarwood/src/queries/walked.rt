@@ -31,6 +31,9 @@ pub trait Walked {
     ) -> Option<Front>
         requires well_formed { IsWellFormed slots (shown self.now) }
         requires on { IsOnQuery (shown self.now) query.now place node }
+
+        //= What a walk asks of a dictionary is answered from its table. [with on, cost; also first_numbered, first_since, next_numbered,
+        //  next_node, write_path]
         ensures answer { MatchOption result (front_from (tree_of (shown self.now)) query.now place ≡ []) (λ front.
             (0 < front.len) × (front_from (tree_of (shown self.now)) query.now place ≡ (front.number, front.len - 1) ∷ front_from (tree_of (shown self.now)) query.now front.len)) }
         ensures on { MatchOption result (place ≤ length query.now) (λ front. (place < front.len) × IsOnQuery (shown self.now) query.now front.len front.slot) }
