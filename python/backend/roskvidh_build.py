@@ -1,0 +1,163 @@
+"""Builds the package without any other: compiles src/*.c, links the library for C, and packs a wheel (PEP 517).
+
+The library's folder has libcedar.a and cedar.h. It is CEDAR_LIBRARY_FOLDER, or else where ./build-c puts it. CC is the C compiler, and
+CFLAGS are put behind the flags that stand here.
+"""
+
+import base64
+import hashlib
+import io
+import os
+import re
+import shlex
+import shutil
+import subprocess
+import sys
+import sysconfig
+import tarfile
+import tempfile
+import zipfile
+from pathlib import Path
+
+HERE = Path(__file__).resolve().parent.parent
+LIBRARY = HERE.parent / "crates" / "cedar_c" / "out" / "c"
+PACKAGE = "roskvidh"
+EXTENSION = "_core.abi3.so"
+FLAGS = "-std=c11 -O2 -fPIC -shared -fvisibility=hidden -Wall -Wextra -Wno-cast-function-type -DPy_LIMITED_API=0x03080000".split()
+# What pip and a user see of a failed build is its text alone.
+MISSING = "{folder} has no {name}: run ./build-c in the repository first, or set CEDAR_LIBRARY_FOLDER to the folder that it filled"
+
+
+def library_folder():
+    """Returns the folder of the library for C, or ends with a line that says what to do."""
+    folder = Path(os.environ.get("CEDAR_LIBRARY_FOLDER") or LIBRARY)
+    for name in ("libcedar.a", "cedar.h"):
+        if not (folder / name).is_file():
+            raise SystemExit("roskvidh: " + MISSING.format(folder=folder, name=name))
+    return folder
+
+
+def compiler():
+    for name in filter(None, (os.environ.get("CC"), "cc", "gcc", "clang")):
+        words = shlex.split(name)
+        if shutil.which(words[0]):
+            return words
+    raise SystemExit("roskvidh: a C compiler is missing: install one, or set CC")
+
+
+def compile_extension(into):
+    """Compiles the extension to a file."""
+    folder = library_folder()
+    headers = Path(sysconfig.get_path("include"))
+    if not (headers / "Python.h").is_file():
+        raise SystemExit(f"roskvidh: {headers} has no Python.h: install the headers of this Python (python3-dev)")
+    sources = sorted(map(str, (HERE / "src").glob("*.c")))
+    command = [*compiler(), *FLAGS, *shlex.split(os.environ.get("CFLAGS", "")), f"-I{headers}", f"-I{folder}", *sources]
+    # The library's own names stay within the extension, so that another copy in the process doesn't meet it.
+    command += [str(folder / "libcedar.a"), "-Wl,--exclude-libs,ALL", "-o", str(into)]
+    done = subprocess.run(command, stderr=subprocess.PIPE, text=True)
+    if done.returncode != 0:
+        raise SystemExit(f"roskvidh: the compiler failed\n{shlex.join(command)}\n{done.stderr}")
+
+
+def project(field):
+    """Returns a text of pyproject.toml, each of which stands on a line of its own."""
+    return re.search(rf'^{field} = "(.*)"$', (HERE / "pyproject.toml").read_text(), re.M).group(1)
+
+
+def version():
+    return re.search(r'^__version__ = "(.*)"$', (HERE / PACKAGE / "__init__.py").read_text(), re.M).group(1)
+
+
+def metadata():
+    return (
+        f"Metadata-Version: 2.1\nName: {PACKAGE}\nVersion: {version()}\nSummary: {project('description')}\n"
+        f"License: BSD-2-Clause\nRequires-Python: {project('requires-python')}\nDescription-Content-Type: text/markdown\n\n"
+        + (HERE / "README.md").read_text()
+    )
+
+
+def tag():
+    platform = re.sub(r"[^0-9a-zA-Z]", "_", sysconfig.get_platform())
+    return f"cp38-abi3-{platform}"
+
+
+def python_files():
+    return sorted(path for path in (HERE / PACKAGE).iterdir() if path.suffix in (".py", ".pyi") or path.name == "py.typed")
+
+
+class Wheel:
+    """A wheel that is being written: a zip with a list of its files and their hashes."""
+
+    def __init__(self, path):
+        self.zip = zipfile.ZipFile(path, "w", zipfile.ZIP_DEFLATED)
+        self.record = []
+        self.info = f"{PACKAGE}-{version()}.dist-info"
+
+    def add(self, name, data):
+        # A fixed date, so that the same sources make the same wheel.
+        entry = zipfile.ZipInfo(name, (1980, 1, 1, 0, 0, 0))
+        entry.external_attr = (0o755 if name.endswith(".so") else 0o644) << 16
+        entry.compress_type = zipfile.ZIP_DEFLATED
+        self.zip.writestr(entry, data)
+        digest = base64.urlsafe_b64encode(hashlib.sha256(data).digest()).rstrip(b"=").decode()
+        self.record.append(f"{name},sha256={digest},{len(data)}")
+
+    def close(self):
+        self.add(f"{self.info}/METADATA", metadata().encode())
+        self.add(f"{self.info}/WHEEL", f"Wheel-Version: 1.0\nGenerator: roskvidh_build\nRoot-Is-Purelib: false\nTag: {tag()}\n".encode())
+        licence = HERE.parent / "LICENSE"
+        if licence.is_file():
+            self.add(f"{self.info}/LICENSE", licence.read_bytes())
+        self.record.append(f"{self.info}/RECORD,,")
+        self.zip.writestr(f"{self.info}/RECORD", "\n".join(self.record) + "\n")
+        self.zip.close()
+
+
+def build_wheel(wheel_directory, config_settings=None, metadata_directory=None):
+    name = f"{PACKAGE}-{version()}-{tag()}.whl"
+    with tempfile.TemporaryDirectory() as folder:
+        extension = Path(folder) / EXTENSION
+        compile_extension(extension)
+        wheel = Wheel(Path(wheel_directory) / name)
+        for path in python_files():
+            wheel.add(f"{PACKAGE}/{path.name}", path.read_bytes())
+        wheel.add(f"{PACKAGE}/{EXTENSION}", extension.read_bytes())
+        wheel.close()
+    return name
+
+
+def build_editable(wheel_directory, config_settings=None, metadata_directory=None):
+    """Compiles the extension in its place, and makes a wheel that points here."""
+    name = f"{PACKAGE}-{version()}-{tag()}.whl"
+    compile_extension(HERE / PACKAGE / EXTENSION)
+    wheel = Wheel(Path(wheel_directory) / name)
+    wheel.add(f"{PACKAGE}.pth", f"{HERE}\n".encode())
+    wheel.close()
+    return name
+
+
+def build_sdist(sdist_directory, config_settings=None):
+    """Packs the sources. The library for C isn't among them: CEDAR_LIBRARY_FOLDER has to say where it is."""
+    base = f"{PACKAGE}-{version()}"
+    with tarfile.open(Path(sdist_directory) / f"{base}.tar.gz", "w:gz", format=tarfile.PAX_FORMAT) as archive:
+        for part in ("pyproject.toml", "README.md", "backend/roskvidh_build.py", *(f"src/{path.name}" for path in sorted((HERE / "src").iterdir()))):
+            archive.add(HERE / part, f"{base}/{part}")
+        for path in python_files():
+            archive.add(path, f"{base}/{PACKAGE}/{path.name}")
+        entry = tarfile.TarInfo(f"{base}/PKG-INFO")
+        entry.size = len(metadata().encode())
+        archive.addfile(entry, io.BytesIO(metadata().encode()))
+    return f"{base}.tar.gz"
+
+
+def get_requires_for_build_wheel(config_settings=None):
+    return []
+
+
+get_requires_for_build_editable = get_requires_for_build_sdist = get_requires_for_build_wheel
+
+
+if __name__ == "__main__":
+    # python3 backend/roskvidh_build.py FILE: compiles the extension to a file, for tests of the sources as they are.
+    compile_extension(Path(sys.argv[1]))

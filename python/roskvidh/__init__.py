@@ -1,0 +1,26 @@
+"""A proved dictionary of byte strings or of texts: a mapping to whole numbers that also finds prefixes, completions and tokens.
+
+>>> from roskvidh import Cedar
+>>> d = Cedar({"net": 7, "network": 8, "ten": 9}, text=True)
+>>> d["net"], "nets" in d, len(d)
+(7, False, 3)
+>>> list(d.keys("net"))
+['net', 'network']
+>>> d.longest_prefix("networks")
+('network', 8)
+>>> [(m.place, m.length, m.value) for m in d.scan("a network")]
+[(2, 3, 7), (2, 7, 8)]
+"""
+
+try:
+    from ._core import LOAD_LIMIT, MAX_VALUE, MIN_VALUE, CedarError, Match, Matches
+except ImportError as error:
+    raise ImportError(
+        f"the compiled part of roskvidh is missing or can't be loaded ({error}). "
+        "In the repository run ./build-c, and then: pip install ./python"
+    ) from error
+
+from .cedar import Cedar, Stats
+
+__version__ = "0.1.0"
+__all__ = ["LOAD_LIMIT", "MAX_VALUE", "MIN_VALUE", "Cedar", "CedarError", "Match", "Matches", "Stats"]

@@ -1,0 +1,54 @@
+"""python -m roskvidh: tests the installed package in some seconds."""
+
+import doctest
+import random
+import sys
+
+import roskvidh
+from roskvidh import Cedar, _core, cedar, files, views
+
+_CALLS = 20_000
+
+
+def check_calls(text: bool, reduced: bool) -> None:
+    """Makes random calls beside a dict, and compares each answer."""
+    chance, made, plain = random.Random(7), Cedar(text=text, reduced=reduced), {}
+    for number in range(_CALLS):
+        key = "".join(chance.choices("abß", k=chance.randint(1, 7)))
+        key = key if text else key.encode()
+        if chance.random() < 0.4:
+            assert made.pop(key, None) == plain.pop(key, None), key
+        else:
+            made[key] = plain[key] = number
+        other = key[:2]
+        assert made.get(other) == plain.get(other) and len(made) == len(plain), key
+    assert made == plain and list(made.items()) == sorted(plain.items())
+    assert Cedar.load(made.to_bytes(), text=text) == plain
+    for prefix in [key[:length] for key in list(plain)[:100] for length in (1, 2, 3)]:
+        assert list(made.keys(prefix)) == sorted(key for key in plain if key.startswith(prefix)), prefix
+
+
+def check_examples() -> int:
+    """Runs the examples of the documentation, and returns how many there are."""
+    runner = doctest.DocTestRunner()
+    names = {"Cedar": Cedar}
+    tests = [test for module in (roskvidh, cedar, files, views) for test in doctest.DocTestFinder().find(module, extraglobs=names)]
+    for name in dir(_core.Core):
+        tests += doctest.DocTestFinder(recurse=False).find(getattr(_core.Core, name), f"Core.{name}", module=False, globs=names)
+    for test in tests:
+        runner.run(test)
+    assert runner.failures == 0, f"{runner.failures} examples fail"
+    return runner.tries
+
+
+def main() -> int:
+    for text in (False, True):
+        for reduced in (False, True):
+            check_calls(text, reduced)
+    examples = check_examples()
+    print(f"roskvidh {roskvidh.__version__}: {4 * _CALLS} calls beside a dict and {examples} lines of examples, all right")
+    return 0
+
+
+if __name__ == "__main__":
+    sys.exit(main())

@@ -1,0 +1,68 @@
+"""What keys(), values() and items() return: views of a dictionary, or of its keys that begin with a prefix."""
+
+from typing import TYPE_CHECKING, Any, Generic, ItemsView, Iterator, KeysView, Optional, Tuple, TypeVar, ValuesView
+
+if TYPE_CHECKING:
+    from .cedar import Cedar
+
+K = TypeVar("K", bytes, str)
+
+_KEYS, _VALUES, _ITEMS = range(3)
+
+
+class _View(Generic[K]):
+    """What the three have in common: a dictionary and a prefix, or None."""
+
+    __slots__ = ()
+    _mapping: "Cedar[K]"
+    _prefix: Optional[K]
+    _kind: int
+
+    def __init__(self, cedar: "Cedar[K]", prefix: Optional[K] = None) -> None:
+        self._mapping = cedar
+        self._prefix = prefix
+
+    def __len__(self) -> int:
+        return len(self._mapping) if self._prefix is None else self._mapping._count(self._prefix)
+
+    def __iter__(self) -> Iterator[Any]:
+        return self._mapping._walk(self._prefix, self._kind)
+
+    def __repr__(self) -> str:
+        return f"{type(self).__name__}({list(self)})"
+
+    def _has_prefix(self, key: Any) -> bool:
+        return self._prefix is None or key[: len(self._prefix)] == self._prefix
+
+
+class Keys(_View[K], KeysView[K]):
+    """The keys."""
+
+    __slots__ = ("_prefix",)
+    _kind = _KEYS
+
+    def __contains__(self, key: object) -> bool:
+        return key in self._mapping and self._has_prefix(key)
+
+
+class Values(_View[K], ValuesView[int]):
+    """The values, in the order of the keys."""
+
+    __slots__ = ("_prefix",)
+    _kind = _VALUES
+
+    def __contains__(self, value: object) -> bool:
+        return any(held == value for held in self)
+
+
+class Items(_View[K], ItemsView[K, int]):
+    """The keys with their values."""
+
+    __slots__ = ("_prefix",)
+    _kind = _ITEMS
+
+    def __contains__(self, item: object) -> bool:
+        if not (isinstance(item, tuple) and len(item) == 2):
+            return False
+        key, value = item  # type: Tuple[Any, Any]
+        return self._mapping.get(key) == value and value is not None and self._has_prefix(key)

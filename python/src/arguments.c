@@ -1,0 +1,113 @@
+/* Python's objects as C takes them, and back. */
+#include "core.h"
+
+PyObject *cedar_error;
+
+enum { STATUS_ROOM = 256 };
+
+static PyObject *status_text(uint32_t status) {
+    uint8_t text[STATUS_ROOM];
+    size_t length = cedar_status_text(status, text, sizeof text);
+    return PyUnicode_DecodeUTF8((const char *)text, length < sizeof text ? length : sizeof text, "replace");
+}
+
+static int raise_status(uint32_t status, PyObject *text) {
+    if (!text) return -1;
+    if (status == CEDAR_MEMORY || status == CEDAR_SLOT_LIMIT) {
+        PyErr_SetObject(PyExc_MemoryError, text);
+    } else {
+        PyObject *error = PyObject_CallFunctionObjArgs(cedar_error, text, NULL), *number = PyLong_FromUnsignedLong(status);
+        if (error && number && PyObject_SetAttrString(error, "status", number) == 0) PyErr_SetObject(cedar_error, error);
+        Py_XDECREF(error);
+        Py_XDECREF(number);
+    }
+    Py_DECREF(text);
+    return -1;
+}
+
+/* Raises what a status says: MemoryError for want of memory or slots, and CedarError for all else. */
+int fail_with(uint32_t status) {
+    return raise_status(status, status_text(status));
+}
+
+/* The same, with a position that C told. */
+int fail_at(uint32_t status, const char *what, size_t position) {
+    PyObject *text = status_text(status);
+    if (!text) return -1;
+    PyObject *whole = PyUnicode_FromFormat("%U (at %s %zu)", text, what, position);
+    Py_DECREF(text);
+    return raise_status(status, whole);
+}
+
+/* Raises a TypeError: what is taken, and the name of the type that isn't. */
+static void fail_type(const char *taken, PyObject *given) {
+    PyObject *name = PyObject_GetAttrString((PyObject *)Py_TYPE(given), "__name__");
+    if (name) PyErr_Format(PyExc_TypeError, "%s, and not %S", taken, name);
+    Py_XDECREF(name);
+}
+
+static PyObject *text_as_bytes(PyObject *given) {
+    if (PyUnicode_Check(given)) return PyUnicode_AsUTF8String(given);
+    fail_type("a dictionary with text=True takes str", given);
+    return NULL;
+}
+
+static PyObject *as_bytes(PyObject *given) {
+    if (PyBytes_Check(given)) {
+        Py_INCREF(given);
+        return given;
+    }
+    if (PyByteArray_Check(given) || PyMemoryView_Check(given)) return PyBytes_FromObject(given);
+    fail_type(PyUnicode_Check(given) ? "a dictionary without text=True takes bytes" : "a dictionary takes bytes", given);
+    return NULL;
+}
+
+/* The bytes of a key or of a text. What can change while they are in use is copied. The caller gives `owner` back. */
+int span_take(Core *core, PyObject *given, Span *span) {
+    char *at;
+    Py_ssize_t length;
+    span->owner = core->is_text ? text_as_bytes(given) : as_bytes(given);
+    if (!span->owner) return -1;
+    if (PyBytes_AsStringAndSize(span->owner, &at, &length) < 0) {
+        Py_CLEAR(span->owner);
+        return -1;
+    }
+    span->at = (const uint8_t *)at;
+    span->length = (size_t)length;
+    return 0;
+}
+
+/* A value in its range. Whole numbers alone are taken: a bool or a float is an error of the caller's. */
+int value_take(PyObject *given, int32_t *value) {
+    if (PyBool_Check(given) || !PyIndex_Check(given)) {
+        fail_type("a value is an int", given);
+        return -1;
+    }
+    PyObject *number = PyNumber_Index(given);
+    if (!number) return -1;
+    int overflow;
+    long long whole = PyLong_AsLongLongAndOverflow(number, &overflow);
+    Py_DECREF(number);
+    if (overflow || whole < CEDAR_MIN_VALUE || whole > CEDAR_MAX_VALUE) return fail_with(CEDAR_INVALID_VALUE);
+    *value = (int32_t)whole;
+    return 0;
+}
+
+PyObject *key_give(Core *core, const uint8_t *at, size_t length) {
+    if (core->is_text) return PyUnicode_DecodeUTF8((const char *)at, (Py_ssize_t)length, NULL);
+    return PyBytes_FromStringAndSize((const char *)at, (Py_ssize_t)length);
+}
+
+/* A key and its value. It takes the key over. */
+PyObject *pair_give(PyObject *key, int32_t value) {
+    if (!key) return NULL;
+    PyObject *number = PyLong_FromLong(value), *pair = number ? PyTuple_New(2) : NULL;
+    if (!pair) {
+        Py_XDECREF(number);
+        Py_DECREF(key);
+        return NULL;
+    }
+    PyTuple_SetItem(pair, 0, key);
+    PyTuple_SetItem(pair, 1, number);
+    return pair;
+}

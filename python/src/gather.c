@@ -1,0 +1,221 @@
+/* Keys with their values, gathered into memory of their own. Nothing here calls Python.
+ *
+ * The library tells the bytes of all keys at once, and of the keys below a prefix their values and lengths alone. So the bytes of a few
+ * keys are found by asking, node by node, below which next byte there are keys: at most 255 questions a node, and few where the bytes
+ * that were found last are asked for first. The work grows with the keys that are found, and not with the dictionary. Where they are a
+ * fair share of it, all keys are taken and the others left out. */
+#include "core.h"
+
+#include <stdlib.h>
+#include <string.h>
+
+enum { ALL_FROM_SHARE = 16, FIRST_ROOM = 64, BYTES = 255 };
+
+/* All bytes of keys, those that are frequent in texts first. */
+static const char FREQUENT[] = "etaoinsrhldcumfpgwybvkxjqz0123456789-_./ ETAOINSRHLDCUMFPGWYBVKXJQZ";
+
+static const uint8_t NONE[1];
+
+void gathered_free(Gathered *gathered) {
+    free(gathered->bytes);
+    free(gathered->matches);
+    memset(gathered, 0, sizeof *gathered);
+}
+
+/* Makes room for `needed` things of a size. At least doubles what there is, so that a list of n costs n. */
+static bool make_room(void **memory, size_t *room, size_t needed, size_t size) {
+    if (needed <= *room && *memory) return true;
+    size_t next = *room < FIRST_ROOM ? FIRST_ROOM : 2 * *room;
+    if (next < needed) next = needed;
+    if (next > PTRDIFF_MAX / size) return false;
+    void *grown = realloc(*memory, next * size);
+    if (!grown) return false;
+    *memory = grown;
+    *room = next;
+    return true;
+}
+
+static bool append(Gathered *gathered, const uint8_t *key, cedar_match match) {
+    if (!make_room((void **)&gathered->bytes, &gathered->room, gathered->size + match.length, 1)) return false;
+    if (!make_room((void **)&gathered->matches, &gathered->places, gathered->count + 1, sizeof match)) return false;
+    memcpy(gathered->bytes + gathered->size, key, match.length);
+    gathered->size += match.length;
+    gathered->matches[gathered->count++] = match;
+    return true;
+}
+
+/* All keys, in the order of the walk. False where memory is wanted. */
+bool gather_all(cedar *dictionary, Gathered *gathered) {
+    size_t count = cedar_len(dictionary), size = 0;
+    if (!make_room((void **)&gathered->matches, &gathered->places, count, sizeof(cedar_match))) return false;
+    cedar_predictions(dictionary, NONE, 0, gathered->matches, count);
+    for (size_t i = 0; i < count; i++) size += gathered->matches[i].length;
+    if (!make_room((void **)&gathered->bytes, &gathered->room, size, 1)) return false;
+    gathered->count = count;
+    return cedar_keys(dictionary, gathered->bytes, size, &gathered->size) == CEDAR_OK;
+}
+
+static void keep_below(const Span *prefix, Gathered *gathered) {
+    size_t from = 0, size = 0, count = 0;
+    for (size_t i = 0; i < gathered->count; i++) {
+        cedar_match match = gathered->matches[i];
+        if (match.length >= prefix->length && memcmp(gathered->bytes + from, prefix->at, prefix->length) == 0) {
+            memmove(gathered->bytes + size, gathered->bytes + from, match.length);
+            size += match.length;
+            gathered->matches[count++] = match;
+        }
+        from += match.length;
+    }
+    gathered->size = size;
+    gathered->count = count;
+}
+
+typedef struct Entry {
+    const uint8_t *key;
+    cedar_match match;
+} Entry;
+
+static int by_key(const void *left, const void *right) {
+    const Entry *a = left, *b = right;
+    size_t least = a->match.length < b->match.length ? a->match.length : b->match.length;
+    int order = memcmp(a->key, b->key, least);
+    return order ? order : (a->match.length > b->match.length) - (a->match.length < b->match.length);
+}
+
+static bool sort(Gathered *gathered) {
+    Gathered sorted = {0};
+    Entry *entries = malloc((gathered->count + 1) * sizeof *entries);
+    bool done = entries != NULL;
+    const uint8_t *key = gathered->bytes;
+    for (size_t i = 0; done && i < gathered->count; i++) {
+        entries[i] = (Entry){key, gathered->matches[i]};
+        key += gathered->matches[i].length;
+    }
+    if (done) qsort(entries, gathered->count, sizeof *entries, by_key);
+    for (size_t i = 0; done && i < gathered->count; i++) done = append(&sorted, entries[i].key, entries[i].match);
+    free(entries);
+    Gathered unsorted = *gathered;
+    *gathered = sorted;
+    gathered_free(&unsorted);
+    return done;
+}
+
+/* A node that has still to be gone to: the length of its path, the path's last byte, and how many keys are below it. */
+typedef struct Node {
+    size_t depth;
+    size_t keys;
+    uint8_t byte;
+} Node;
+
+typedef struct Search {
+    cedar *dictionary;
+    Gathered *found;
+    uint8_t *path;
+    size_t depth;
+    size_t room;
+    Node *nodes;
+    size_t count;
+    size_t places;
+    uint8_t likely[BYTES];
+} Search;
+
+static bool search_begin(Search *search, cedar *dictionary, const Span *prefix, Gathered *found) {
+    bool listed[BYTES + 1] = {true};
+    size_t count = 0;
+    memset(search, 0, sizeof *search);
+    search->dictionary = dictionary;
+    search->found = found;
+    for (const char *byte = FREQUENT; *byte; byte++) {
+        search->likely[count++] = (uint8_t)*byte;
+        listed[(uint8_t)*byte] = true;
+    }
+    for (int byte = 1; byte <= BYTES; byte++) {
+        if (!listed[byte]) search->likely[count++] = (uint8_t)byte;
+    }
+    if (!make_room((void **)&search->path, &search->room, prefix->length + 1, 1)) return false;
+    memcpy(search->path, prefix->at, prefix->length);
+    search->depth = prefix->length;
+    return true;
+}
+
+static void search_end(Search *search) {
+    free(search->path);
+    free(search->nodes);
+}
+
+/* Puts the node's children on the list, the last one by bytes first. `left` keys are below it. */
+static bool search_children(Search *search, size_t left) {
+    size_t first = search->count, depth = search->depth + 1;
+    if (!make_room((void **)&search->path, &search->room, depth, 1)) return false;
+    for (size_t i = 0; i < BYTES && left > 0; i++) {
+        uint8_t byte = search->likely[i];
+        cedar_match unused;
+        search->path[depth - 1] = byte;
+        size_t keys = cedar_predictions(search->dictionary, search->path, depth, &unused, 0);
+        if (keys == 0) continue;
+        if (!make_room((void **)&search->nodes, &search->places, search->count + 1, sizeof(Node))) return false;
+        size_t at = search->count++;
+        for (; at > first && search->nodes[at - 1].byte < byte; at--) search->nodes[at] = search->nodes[at - 1];
+        search->nodes[at] = (Node){depth, keys, byte};
+        left = keys < left ? left - keys : 0;
+        memmove(search->likely + 1, search->likely, i);
+        search->likely[0] = byte;
+    }
+    return true;
+}
+
+/* Gathers the key at the path, if there is one, and lists the node's children. */
+static bool search_node(Search *search, size_t keys) {
+    cedar_match match = {0, search->depth};
+    if (cedar_get(search->dictionary, search->path, search->depth, &match.value)) {
+        if (!append(search->found, search->path, match)) return false;
+        keys--;
+    }
+    return search_children(search, keys);
+}
+
+static bool search_below(cedar *dictionary, const Span *prefix, size_t keys, Gathered *found) {
+    Search search;
+    bool done = search_begin(&search, dictionary, prefix, found) && search_node(&search, keys);
+    while (done && search.count > 0) {
+        Node node = search.nodes[--search.count];
+        search.depth = node.depth;
+        search.path[node.depth - 1] = node.byte;
+        done = search_node(&search, node.keys);
+    }
+    search_end(&search);
+    return done;
+}
+
+/* The keys that begin with a prefix, ascending by bytes. False where memory is wanted. */
+bool gather_below(cedar *dictionary, const Span *prefix, bool is_ordered, Gathered *gathered) {
+    cedar_match unused;
+    size_t keys = cedar_predictions(dictionary, prefix->at, prefix->length, &unused, 0);
+    if (keys == 0) return true;
+    if (keys < cedar_len(dictionary) / ALL_FROM_SHARE) return search_below(dictionary, prefix, keys, gathered);
+    if (!gather_all(dictionary, gathered)) return false;
+    keep_below(prefix, gathered);
+    return is_ordered || sort(gathered);
+}
+
+/* Some key of a dictionary that isn't empty. */
+bool gather_any(cedar *dictionary, Gathered *gathered) {
+    Search search;
+    Span root = {NULL, NONE, 0};
+    cedar_match match = {0, 1};
+    bool done = search_begin(&search, dictionary, &root, gathered);
+    while (done && match.length > 0) {
+        size_t depth = ++search.depth, found = 0;
+        done = make_room((void **)&search.path, &search.room, depth, 1);
+        for (size_t i = 0; done && i < BYTES && found == 0; i++) {
+            size_t next = 0;
+            search.path[depth - 1] = search.likely[i];
+            found = cedar_predictions_from(dictionary, search.path, depth, &next, &match, 1);
+        }
+        done = done && found > 0;
+    }
+    match.length = search.depth;
+    done = done && append(gathered, search.path, match);
+    search_end(&search);
+    return done;
+}

@@ -1,0 +1,275 @@
+/* What puts a dictionary in place, stores many pairs, and gives a file's bytes. */
+#include "core.h"
+
+#include <stdlib.h>
+#include <string.h>
+
+/* Where a file's header has the settings: docs/FORMAT.md. */
+enum { FILE_FLAGS = 14, FILE_MAX_TRIAL = 16, FIRST_FILE = 1 << 16 };
+
+typedef struct Settings {
+    int is_text;
+    int is_ordered;
+    int is_reduced;
+    int32_t max_trial;
+} Settings;
+
+/* A number of trials as C takes it: one that C would cut off is refused as 0 is. */
+static int trials_take(PyObject *given, int32_t *trials) {
+    int overflow;
+    if (PyBool_Check(given) || !PyLong_Check(given)) {
+        PyErr_SetString(PyExc_TypeError, "max_trial is an int");
+        return -1;
+    }
+    long long number = PyLong_AsLongLongAndOverflow(given, &overflow);
+    if (overflow || number < 1 || number > INT32_MAX) return fail_with(CEDAR_INVALID_MAX_TRIAL);
+    *trials = (int32_t)number;
+    return 0;
+}
+
+/* The settings of a dictionary that is to be made where none is open. */
+static int settings_take(Core *core, PyObject *arguments, Settings *settings, PyObject **pairs) {
+    PyObject *trials;
+    if (!PyArg_ParseTuple(arguments, "pppO|O", &settings->is_text, &settings->is_ordered, &settings->is_reduced, &trials, pairs)) return -1;
+    if (trials_take(trials, &settings->max_trial) < 0) return -1;
+    if (core->is_open) {
+        PyErr_SetString(PyExc_ValueError, "the dictionary is open already");
+        return -1;
+    }
+    return 0;
+}
+
+static PyObject *install(Core *core, cedar *fresh, Settings settings) {
+    if (turn_idle(core) < 0) {
+        cedar_free(fresh);
+        return NULL;
+    }
+    core->is_text = settings.is_text;
+    core->is_ordered = settings.is_ordered;
+    core->is_reduced = settings.is_reduced;
+    core->max_trial = settings.max_trial;
+    core_install(core, fresh);
+    Py_RETURN_NONE;
+}
+
+static uint32_t make_empty(cedar *fresh, Settings settings) {
+    return (settings.is_reduced ? cedar_new_reduced : cedar_new_with)(fresh, settings.is_ordered, settings.max_trial);
+}
+
+PyObject *core_open(Core *core, PyObject *arguments) {
+    Settings settings;
+    cedar fresh = CEDAR_CLOSED;
+    if (settings_take(core, arguments, &settings, NULL) < 0) return NULL;
+    uint32_t status = make_empty(&fresh, settings);
+    if (status == CEDAR_OK) return install(core, &fresh, settings);
+    fail_with(status);
+    return NULL;
+}
+
+/* Takes all keys out, and gives their memory back. */
+PyObject *core_clear(Core *core, PyObject *nothing) {
+    (void)nothing;
+    cedar fresh = CEDAR_CLOSED;
+    if (core_ready(core) < 0) return NULL;
+    Settings settings = {core->is_text, core->is_ordered, core->is_reduced, core->max_trial};
+    uint32_t status = make_empty(&fresh, settings);
+    if (status == CEDAR_OK) return install(core, &fresh, settings);
+    fail_with(status);
+    return NULL;
+}
+
+/* Pairs as C takes them, and the objects that keep their keys. */
+typedef struct Pairs {
+    PyObject *owners;
+    cedar_pair *pairs;
+    size_t count;
+    size_t room;
+} Pairs;
+
+static void pairs_free(Pairs *pairs) {
+    Py_CLEAR(pairs->owners);
+    free(pairs->pairs);
+}
+
+static int pairs_append(Core *core, Pairs *pairs, PyObject *key, PyObject *value) {
+    Span span;
+    int32_t number;
+    if (value_take(value, &number) < 0 || span_take(core, key, &span) < 0) return -1;
+    int done = PyList_Append(pairs->owners, span.owner);
+    Py_DECREF(span.owner);
+    if (done < 0) return -1;
+    if (pairs->count == pairs->room) {
+        size_t room = pairs->room ? 2 * pairs->room : 16;
+        cedar_pair *grown = room > PTRDIFF_MAX / sizeof *grown ? NULL : realloc(pairs->pairs, room * sizeof *grown);
+        if (!grown) return fail_with(CEDAR_MEMORY);
+        pairs->pairs = grown;
+        pairs->room = room;
+    }
+    pairs->pairs[pairs->count++] = (cedar_pair){span.at, span.length, number};
+    return 0;
+}
+
+/* One item of an iterable. The errors are those of a dict. */
+static int pairs_append_item(Core *core, Pairs *pairs, PyObject *item) {
+    PyObject *pair = PySequence_Tuple(item);
+    if (!pair) {
+        if (PyErr_ExceptionMatches(PyExc_TypeError)) PyErr_Format(PyExc_TypeError, "pair %zu can't be converted to a sequence", pairs->count);
+        return -1;
+    }
+    int done = -1;
+    Py_ssize_t length = PyTuple_Size(pair);
+    if (length == 2) {
+        done = pairs_append(core, pairs, PyTuple_GetItem(pair, 0), PyTuple_GetItem(pair, 1));
+    } else {
+        PyErr_Format(PyExc_ValueError, "pair %zu has length %zd; 2 is required", pairs->count, length);
+    }
+    Py_DECREF(pair);
+    return done;
+}
+
+static int pairs_take(Core *core, PyObject *given, Pairs *pairs) {
+    memset(pairs, 0, sizeof *pairs);
+    pairs->owners = PyList_New(0);
+    /* C is told a place even where there are no pairs. */
+    pairs->pairs = malloc(sizeof *pairs->pairs);
+    if (!pairs->pairs) fail_with(CEDAR_MEMORY);
+    PyObject *iterator = pairs->owners && pairs->pairs ? PyObject_GetIter(given) : NULL, *item;
+    if (iterator) {
+        pairs->room = 1;
+        while ((item = PyIter_Next(iterator))) {
+            int done = pairs_append_item(core, pairs, item);
+            Py_DECREF(item);
+            if (done < 0) break;
+        }
+        Py_DECREF(iterator);
+    }
+    if (!PyErr_Occurred()) return 0;
+    pairs_free(pairs);
+    return -1;
+}
+
+static PyObject *pairs_fail(uint32_t status, size_t position) {
+    if (status == CEDAR_NUL_BYTE) fail_at(status, "byte", position);
+    else if (status == CEDAR_DUPLICATE_KEY || status == CEDAR_KEYS_NOT_SORTED) fail_at(status, "pair", position);
+    else fail_with(status);
+    return NULL;
+}
+
+PyObject *core_update(Core *core, PyObject *given) {
+    Pairs pairs;
+    Turn turn;
+    size_t position = 0;
+    if (pairs_take(core, given, &pairs) < 0) return NULL;
+    if (turn_begin(core, pairs.count >= LONG_COUNT, &turn) < 0) {
+        pairs_free(&pairs);
+        return NULL;
+    }
+    size_t before = cedar_len(&core->dictionary);
+    uint32_t status = cedar_update_all(&core->dictionary, pairs.pairs, pairs.count, &position);
+    size_t after = cedar_len(&core->dictionary);
+    turn_end(&turn);
+    if (after != before) core->keys_changed++;
+    core->values_changed++;
+    pairs_free(&pairs);
+    if (status != CEDAR_OK) return pairs_fail(status, position);
+    Py_RETURN_NONE;
+}
+
+PyObject *core_build(Core *core, PyObject *arguments) {
+    Settings settings;
+    Pairs pairs;
+    PyObject *given = NULL;
+    cedar fresh = CEDAR_CLOSED;
+    size_t position = 0;
+    if (settings_take(core, arguments, &settings, &given) < 0) return NULL;
+    core->is_text = settings.is_text;
+    if (pairs_take(core, given, &pairs) < 0) return NULL;
+    uint32_t status;
+    Py_BEGIN_ALLOW_THREADS
+    status = (settings.is_reduced ? cedar_build_reduced : cedar_build)(&fresh, settings.is_ordered, settings.max_trial, pairs.pairs, pairs.count,
+                                                                       &position);
+    Py_END_ALLOW_THREADS
+    pairs_free(&pairs);
+    return status == CEDAR_OK ? install(core, &fresh, settings) : pairs_fail(status, position);
+}
+
+static int fail_no_text(void) {
+    PyErr_SetString(PyExc_ValueError, "the file has a key that isn't UTF-8: load it with text=False");
+    return -1;
+}
+
+/* Keys are UTF-8 where all of them together are, and each begins with a character. */
+static int test_keys(const Gathered *all) {
+    PyObject *text = PyUnicode_DecodeUTF8((const char *)all->bytes, (Py_ssize_t)all->size, NULL);
+    if (!text) return PyErr_ExceptionMatches(PyExc_UnicodeDecodeError) ? fail_no_text() : -1;
+    Py_DECREF(text);
+    for (size_t i = 0, at = 0; i < all->count; at += all->matches[i++].length) {
+        if ((all->bytes[at] & 0xC0) == 0x80) return fail_no_text();
+    }
+    return 0;
+}
+
+/* A dictionary of str holds UTF-8 alone. */
+static int test_text(cedar *dictionary) {
+    Gathered all = {0};
+    int done = gather_all(dictionary, &all) ? test_keys(&all) : fail_with(CEDAR_MEMORY);
+    gathered_free(&all);
+    return done;
+}
+
+static uint32_t load_either(cedar *fresh, const uint8_t *at, size_t length, size_t memory_limit) {
+    uint32_t status = cedar_load(fresh, at, length, memory_limit);
+    return status == CEDAR_FILE_LAYOUT ? cedar_load_reduced(fresh, at, length, memory_limit) : status;
+}
+
+PyObject *core_load(Core *core, PyObject *arguments) {
+    const char *data;
+    Py_ssize_t length, memory_limit;
+    Settings settings = {0};
+    cedar fresh = CEDAR_CLOSED;
+    if (!PyArg_ParseTuple(arguments, "py#n", &settings.is_text, &data, &length, &memory_limit)) return NULL;
+    if (memory_limit < 0) {
+        PyErr_SetString(PyExc_ValueError, "a memory limit is 0 or more");
+        return NULL;
+    }
+    const uint8_t *at = (const uint8_t *)data;
+    uint32_t status;
+    Py_BEGIN_ALLOW_THREADS
+    status = load_either(&fresh, at, (size_t)length, (size_t)memory_limit);
+    Py_END_ALLOW_THREADS
+    if (status != CEDAR_OK) {
+        fail_with(status);
+        return NULL;
+    }
+    if (settings.is_text && test_text(&fresh) < 0) {
+        cedar_free(&fresh);
+        return NULL;
+    }
+    const uint8_t *trials = at + FILE_MAX_TRIAL;
+    settings.is_ordered = at[FILE_FLAGS] & 1;
+    settings.is_reduced = cedar_is_reduced(&fresh);
+    settings.max_trial = (int32_t)(trials[0] | (uint32_t)trials[1] << 8 | (uint32_t)trials[2] << 16 | (uint32_t)trials[3] << 24);
+    return install(core, &fresh, settings);
+}
+
+/* The file's bytes. They are written once more where the first guess at their number was too low. */
+PyObject *core_dump(Core *core, PyObject *given) {
+    Turn turn;
+    int is_full = PyObject_IsTrue(given);
+    if (is_full < 0 || turn_begin(core, true, &turn) < 0) return NULL;
+    size_t room = FIRST_FILE, needed = 0;
+    uint32_t status;
+    uint8_t *buffer = NULL;
+    do {
+        uint8_t *grown = realloc(buffer, room);
+        status = grown ? cedar_save(&core->dictionary, is_full, grown, room, &needed) : CEDAR_MEMORY;
+        if (grown) buffer = grown;
+        room = needed;
+    } while (status == CEDAR_NO_ROOM);
+    turn_end(&turn);
+    PyObject *data = NULL;
+    if (status == CEDAR_OK) data = PyBytes_FromStringAndSize((const char *)buffer, (Py_ssize_t)needed);
+    else fail_with(status);
+    free(buffer);
+    return data;
+}

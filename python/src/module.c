@@ -1,0 +1,191 @@
+/* The module roskvidh._core: the type Core, over the library for C. The package's Cedar is a subclass of it. */
+#include "core.h"
+
+static PyObject *core_make(PyTypeObject *type, PyObject *arguments, PyObject *keywords) {
+    (void)arguments;
+    (void)keywords;
+    Core *core = (Core *)PyType_GenericAlloc(type, 0);
+    if (!core) return NULL;
+    core->dictionary = (cedar)CEDAR_CLOSED;
+    core->turn = PyThread_allocate_lock();
+    if (!core->turn) {
+        Py_DECREF(core);
+        return PyErr_NoMemory();
+    }
+    return (PyObject *)core;
+}
+
+/* Nobody has the object any more. It is in use only in a forked child whose parent was in a call; then its memory is left alone. */
+static void core_dealloc(Core *core) {
+    PyTypeObject *type = Py_TYPE(core);
+    if (!core->in_use) {
+        cedar_free(&core->dictionary);
+        if (core->turn) PyThread_free_lock(core->turn);
+    }
+    ((freefunc)PyType_GetSlot(type, Py_tp_free))(core);
+    Py_DECREF(type);
+}
+
+static PyObject *core_close_call(Core *core, PyObject *nothing) {
+    (void)nothing;
+    if (core_close(core) < 0) return NULL;
+    Py_RETURN_NONE;
+}
+
+static PyObject *core_reserve(Core *core, PyObject *given) {
+    size_t blocks = PyLong_AsSize_t(given);
+    if (blocks == (size_t)-1 && PyErr_Occurred()) return NULL;
+    if (core_ready(core) < 0) return NULL;
+    uint32_t status = cedar_reserve(&core->dictionary, blocks);
+    if (status == CEDAR_OK) Py_RETURN_NONE;
+    fail_with(status);
+    return NULL;
+}
+
+static PyObject *core_figures(Core *core, PyObject *nothing) {
+    (void)nothing;
+    if (core_ready(core) < 0) return NULL;
+    cedar *d = &core->dictionary;
+    return Py_BuildValue("nnnn", (Py_ssize_t)cedar_len(d), (Py_ssize_t)cedar_used_slots(d), (Py_ssize_t)cedar_capacity(d),
+                         (Py_ssize_t)cedar_spare_blocks(d));
+}
+
+/* Type checkers read Core as generic in its keys; when the program runs, Core[K] is Core. */
+static PyObject *core_of_keys(PyObject *type, PyObject *keys) {
+    (void)keys;
+    Py_INCREF(type);
+    return type;
+}
+
+static PyObject *core_text(Core *core, void *unused) {
+    (void)unused;
+    return PyBool_FromLong(core->is_text);
+}
+
+static PyObject *core_ordered(Core *core, void *unused) {
+    (void)unused;
+    return PyBool_FromLong(core->is_ordered);
+}
+
+static PyObject *core_reduced(Core *core, void *unused) {
+    (void)unused;
+    return PyBool_FromLong(core->is_reduced);
+}
+
+static PyObject *core_max_trial(Core *core, void *unused) {
+    (void)unused;
+    return PyLong_FromLong(core->max_trial);
+}
+
+static PyObject *core_closed(Core *core, void *unused) {
+    (void)unused;
+    return PyBool_FromLong(!core->is_open);
+}
+
+static PyGetSetDef core_properties[] = {
+    {"text", (getter)core_text, NULL, "Whether keys are str.", NULL},
+    {"ordered", (getter)core_ordered, NULL, "Whether keys ascend by bytes in an iteration.", NULL},
+    {"reduced", (getter)core_reduced, NULL, "Whether it is of the reduced layout, which takes fewer slots.", NULL},
+    {"max_trial", (getter)core_max_trial, NULL, "How many failed searches for a place close a block of slots.", NULL},
+    {"closed", (getter)core_closed, NULL, "Whether its memory was given back.", NULL},
+    {NULL, NULL, NULL, NULL, NULL},
+};
+
+static PyMethodDef core_methods[] = {
+    {"get", (PyCFunction)core_get, METH_VARARGS,
+     "get(key, default=None)\n--\n\nReturns the value of a key, or else the default.\n\n"
+     ">>> Cedar({b'net': 7}).get(b'ten', 0)\n0\n"},
+    {"pop", (PyCFunction)core_pop, METH_VARARGS,
+     "Removes a key and returns its value, or else the default; without one it raises KeyError.\n\n"
+     ">>> Cedar({b'net': 7}).pop(b'net')\n7\n"},
+    {"setdefault", (PyCFunction)core_setdefault, METH_VARARGS,
+     "setdefault(key, default)\n--\n\nReturns the value of a key, and stores the default first where there is none.\n\n"
+     ">>> Cedar({b'net': 7}).setdefault(b'ten', 8)\n8\n"},
+    {"popitem", (PyCFunction)core_popitem, METH_NOARGS,
+     "popitem()\n--\n\nRemoves some key and returns it with its value. An empty dictionary raises KeyError.\n\n"
+     ">>> Cedar({b'net': 7}).popitem()\n(b'net', 7)\n"},
+    {"clear", (PyCFunction)core_clear, METH_NOARGS,
+     "clear()\n--\n\nRemoves all keys and gives their memory back.\n\n"
+     ">>> d = Cedar({b'net': 7})\n>>> d.clear()\n>>> len(d)\n0\n"},
+    {"close", (PyCFunction)core_close_call, METH_NOARGS,
+     "close()\n--\n\nGives the memory back. Any call but close raises ValueError from then on.\n\n"
+     ">>> d = Cedar()\n>>> d.close()\n>>> d.closed\nTrue\n"},
+    {"prefixes", (PyCFunction)core_prefixes, METH_O,
+     "prefixes(text)\n--\n\nReturns the keys that a text begins with and their values, shortest first.\n\n"
+     ">>> Cedar({b'net': 7, b'nets': 8, b'ten': 9}).prefixes(b'netset')\n[(b'net', 7), (b'nets', 8)]\n"},
+    {"longest_prefix", (PyCFunction)core_longest_prefix, METH_O,
+     "longest_prefix(text)\n--\n\nReturns the longest key that a text begins with and its value, or None.\n\n"
+     ">>> Cedar({b'net': 7, b'nets': 8}).longest_prefix(b'netset')\n(b'nets', 8)\n"},
+    {"scan", (PyCFunction)core_scan, METH_O,
+     "scan(text)\n--\n\nReturns all keys that stand in a text: place after place, and at each the shortest first.\n\n"
+     ">>> [tuple(m) for m in Cedar({b'net': 7, b'nets': 8}).scan(b'a nets')]\n[(2, 3, 7), (2, 4, 8)]\n"},
+    {"segment", (PyCFunction)core_segment, METH_O,
+     "segment(text)\n--\n\nReturns the tokens of a text: at each place the longest key, or else one byte (with text=True one\n"
+     "character), whose value is None.\n\n"
+     ">>> [tuple(m) for m in Cedar({b'net': 7, b'nets': 8}).segment(b'nets!')]\n[(0, 4, 8), (4, 1, None)]\n"},
+    {"erase_prefix", (PyCFunction)core_erase_prefix, METH_O,
+     "erase_prefix(prefix)\n--\n\nRemoves all keys that begin with a prefix, and returns how many there were.\n\n"
+     ">>> Cedar({b'net': 7, b'nets': 8, b'ten': 9}).erase_prefix(b'ne')\n2\n"},
+    {"reserve", (PyCFunction)core_reserve, METH_O,
+     "reserve(blocks)\n--\n\nAsks for memory for so many blocks of 256 slots more than are in use. An update makes at most one for each\n"
+     "byte of its key, so the next ones need no memory.\n\n"
+     ">>> d = Cedar()\n>>> d.reserve(100)\n>>> d.stats().spare_blocks >= 100\nTrue\n"},
+    {"__class_getitem__", core_of_keys, METH_O | METH_CLASS, NULL},
+    {"_open", (PyCFunction)core_open, METH_VARARGS, NULL},
+    {"_build", (PyCFunction)core_build, METH_VARARGS, NULL},
+    {"_load", (PyCFunction)core_load, METH_VARARGS, NULL},
+    {"_dump", (PyCFunction)core_dump, METH_O, NULL},
+    {"_update", (PyCFunction)core_update, METH_O, NULL},
+    {"_walk", (PyCFunction)core_walk, METH_VARARGS, NULL},
+    {"_count", (PyCFunction)core_count, METH_O, NULL},
+    {"_figures", (PyCFunction)core_figures, METH_NOARGS, NULL},
+    {NULL, NULL, 0, NULL},
+};
+
+static PyType_Slot core_slots[] = {
+    {Py_tp_new, (void *)core_make},
+    {Py_tp_dealloc, (void *)core_dealloc},
+    {Py_tp_iter, (void *)core_iterate},
+    {Py_mp_subscript, (void *)core_subscript},
+    {Py_mp_ass_subscript, (void *)core_assign},
+    {Py_mp_length, (void *)core_length},
+    {Py_sq_contains, (void *)core_contains},
+    {Py_tp_methods, core_methods},
+    {Py_tp_getset, core_properties},
+    {0, NULL},
+};
+
+static PyType_Spec core_spec = {"roskvidh._core.Core", sizeof(Core), 0, TYPE_FLAGS | Py_TPFLAGS_BASETYPE, core_slots};
+
+/* The module's types are the process's: it is loaded once. */
+static struct PyModuleDef definition = {PyModuleDef_HEAD_INIT, "_core", "The dictionary over the library for C.", -1, NULL, NULL, NULL, NULL, NULL};
+
+static int add(PyObject *module, const char *name, PyObject *given) {
+    if (!given) return -1;
+    Py_INCREF(given);
+    if (PyModule_AddObject(module, name, given) == 0) return 0;
+    Py_DECREF(given);
+    return -1;
+}
+
+static int fill(PyObject *module) {
+    cedar_error = PyErr_NewExceptionWithDoc("roskvidh.CedarError", "What the library refused: `status` is its number.", PyExc_ValueError, NULL);
+    walk_type = (PyTypeObject *)PyType_FromSpec(&walk_spec);
+    matches_type = (PyTypeObject *)PyType_FromSpec(&matches_spec);
+    match_type = match_make();
+    if (!walk_type) return -1;
+    if (add(module, "CedarError", cedar_error) < 0) return -1;
+    if (add(module, "Matches", (PyObject *)matches_type) < 0 || add(module, "Match", (PyObject *)match_type) < 0) return -1;
+    PyObject *core = PyType_FromSpec(&core_spec);
+    int done = add(module, "Core", core);
+    Py_XDECREF(core);
+    if (done < 0) return -1;
+    if (PyModule_AddIntConstant(module, "MIN_VALUE", CEDAR_MIN_VALUE) < 0 || PyModule_AddIntConstant(module, "MAX_VALUE", CEDAR_MAX_VALUE) < 0) return -1;
+    return PyModule_AddIntConstant(module, "LOAD_LIMIT", CEDAR_LOAD_LIMIT);
+}
+
+PyMODINIT_FUNC PyInit__core(void) {
+    PyObject *module = PyModule_Create(&definition);
+    if (module && fill(module) < 0) Py_CLEAR(module);
+    return module;
+}

@@ -1,0 +1,244 @@
+/* Iterations over keys, completions of a prefix, and the keys that a text begins with. */
+#include "core.h"
+
+#include <stdlib.h>
+
+PyTypeObject *walk_type;
+
+/* An iteration over what was gathered when it began. */
+typedef struct Walk {
+    PyObject_HEAD
+    Core *core;  /* NULL once it has ended */
+    Gathered gathered;
+    size_t next;
+    size_t at;
+    size_t keys_changed;
+    size_t values_changed;
+    int kind;
+} Walk;
+
+static int walk_traverse(Walk *walk, visitproc visit, void *arg) {
+    Py_VISIT((PyObject *)walk->core);
+    return 0;
+}
+
+static int walk_clear(Walk *walk) {
+    Py_CLEAR(walk->core);
+    gathered_free(&walk->gathered);
+    return 0;
+}
+
+static void walk_dealloc(Walk *walk) {
+    PyTypeObject *type = Py_TYPE(walk);
+    PyObject_GC_UnTrack(walk);
+    walk_clear(walk);
+    ((freefunc)PyType_GetSlot(type, Py_tp_free))(walk);
+    Py_DECREF(type);
+}
+
+static PyObject *walk_next(Walk *walk) {
+    Core *core = walk->core;
+    if (!core || core_ready(core) < 0) return NULL;
+    if (walk->keys_changed != core->keys_changed) {
+        PyErr_SetString(PyExc_RuntimeError, "dictionary changed size during iteration");
+        return NULL;
+    }
+    if (walk->next == walk->gathered.count) {
+        walk_clear(walk);
+        return NULL;
+    }
+    cedar_match match = walk->gathered.matches[walk->next++];
+    const uint8_t *key = walk->gathered.bytes + walk->at;
+    walk->at += match.length;
+    if (walk->values_changed != core->values_changed) cedar_get(&core->dictionary, key, match.length, &match.value);
+    if (walk->kind == WALK_VALUES) return PyLong_FromLong(match.value);
+    PyObject *given = key_give(core, key, match.length);
+    return walk->kind == WALK_KEYS ? given : pair_give(given, match.value);
+}
+
+static PyObject *walk_hint(Walk *walk, PyObject *nothing) {
+    (void)nothing;
+    return PyLong_FromSize_t(walk->core ? walk->gathered.count - walk->next : 0);
+}
+
+static PyMethodDef walk_methods[] = {
+    {"__length_hint__", (PyCFunction)walk_hint, METH_NOARGS, NULL},
+    {NULL, NULL, 0, NULL},
+};
+
+static PyType_Slot walk_slots[] = {
+    {Py_tp_dealloc, (void *)walk_dealloc},
+    {Py_tp_traverse, (void *)walk_traverse},
+    {Py_tp_clear, (void *)walk_clear},
+    {Py_tp_iter, (void *)PyObject_SelfIter},
+    {Py_tp_iternext, (void *)walk_next},
+    {Py_tp_methods, walk_methods},
+    {0, NULL},
+};
+
+PyType_Spec walk_spec = {"roskvidh._core.Walk", sizeof(Walk), 0, TYPE_FLAGS | Py_TPFLAGS_HAVE_GC, walk_slots};
+
+/* Whether a call that goes through all keys below a prefix is a long one: it asks for one key behind the first ones. */
+static int is_long_below(Core *core, const Span *prefix) {
+    cedar_match unused;
+    size_t next = LONG_COUNT;
+    if (core_ready(core) < 0) return -1;
+    return cedar_predictions_from(&core->dictionary, prefix->at, prefix->length, &next, &unused, 1) > 0;
+}
+
+static int begin_below(Core *core, const Span *prefix, Turn *turn) {
+    int is_long = is_long_below(core, prefix);
+    return is_long < 0 ? -1 : turn_begin(core, is_long, turn);
+}
+
+/* The empty prefix of a call that has none. */
+static int prefix_take(Core *core, PyObject *given, Span *prefix) {
+    if (given != Py_None) return span_take(core, given, prefix);
+    *prefix = (Span){NULL, (const uint8_t *)"", 0};
+    return 0;
+}
+
+static int walk_fill(Walk *walk, const Span *prefix, bool is_all) {
+    Core *core = walk->core;
+    Turn turn;
+    if (begin_below(core, prefix, &turn) < 0) return -1;
+    bool done = is_all ? gather_all(&core->dictionary, &walk->gathered)
+                       : gather_below(&core->dictionary, prefix, core->is_ordered, &walk->gathered);
+    turn_end(&turn);
+    walk->keys_changed = core->keys_changed;
+    walk->values_changed = core->values_changed;
+    return done ? 0 : fail_with(CEDAR_MEMORY);
+}
+
+static PyObject *walk_begin(Core *core, PyObject *given, int kind) {
+    Span prefix;
+    if (prefix_take(core, given, &prefix) < 0) return NULL;
+    Walk *walk = (Walk *)PyType_GenericAlloc(walk_type, 0);
+    if (walk) {
+        Py_INCREF(core);
+        walk->core = core;
+        walk->kind = kind;
+        if (walk_fill(walk, &prefix, given == Py_None) < 0) Py_CLEAR(walk);
+    }
+    Py_XDECREF(prefix.owner);
+    return (PyObject *)walk;
+}
+
+PyObject *core_iterate(Core *core) {
+    return walk_begin(core, Py_None, WALK_KEYS);
+}
+
+PyObject *core_walk(Core *core, PyObject *arguments) {
+    PyObject *prefix;
+    int kind;
+    if (!PyArg_ParseTuple(arguments, "Oi", &prefix, &kind)) return NULL;
+    return walk_begin(core, prefix, kind);
+}
+
+PyObject *core_count(Core *core, PyObject *given) {
+    Span prefix;
+    Turn turn;
+    cedar_match unused;
+    size_t count = 0;
+    if (span_take(core, given, &prefix) < 0) return NULL;
+    int begun = begin_below(core, &prefix, &turn);
+    if (begun == 0) {
+        count = cedar_predictions(&core->dictionary, prefix.at, prefix.length, &unused, 0);
+        turn_end(&turn);
+    }
+    Py_DECREF(prefix.owner);
+    return begun < 0 ? NULL : PyLong_FromSize_t(count);
+}
+
+static PyObject *prefixes_give(Core *core, const Span *text, const cedar_match *matches, size_t count) {
+    PyObject *list = PyList_New((Py_ssize_t)count);
+    for (size_t i = 0; list && i < count; i++) {
+        PyObject *pair = pair_give(key_give(core, text->at, matches[i].length + 1), matches[i].value);
+        if (!pair || PyList_SetItem(list, (Py_ssize_t)i, pair) < 0) Py_CLEAR(list);
+    }
+    return list;
+}
+
+PyObject *core_prefixes(Core *core, PyObject *given) {
+    enum { FEW = 64 };
+    Span text;
+    cedar_match few[FEW], *matches = few;
+    PyObject *list = NULL;
+    if (span_take(core, given, &text) < 0) return NULL;
+    if (core_ready(core) == 0) {
+        size_t count = cedar_prefixes(&core->dictionary, text.at, text.length, few, FEW);
+        if (count > FEW) {
+            matches = malloc(count * sizeof *matches);
+            if (matches) cedar_prefixes(&core->dictionary, text.at, text.length, matches, count);
+            else fail_with(CEDAR_MEMORY);
+        }
+        if (matches) list = prefixes_give(core, &text, matches, count);
+    }
+    if (matches != few) free(matches);
+    Py_DECREF(text.owner);
+    return list;
+}
+
+/* The first token of a text is the longest key that it begins with, if there is one. */
+PyObject *core_longest_prefix(Core *core, PyObject *given) {
+    Span text;
+    cedar_found found = {0, 0, -1};
+    size_t next = 0;
+    PyObject *pair = NULL;
+    if (span_take(core, given, &text) < 0) return NULL;
+    if (core_ready(core) == 0) {
+        if (text.length > 0) cedar_segment(&core->dictionary, text.at, text.length, &next, &found, 1);
+        if (found.value >= 0) {
+            pair = pair_give(key_give(core, text.at, found.length), found.value);
+        } else {
+            pair = Py_None;
+            Py_INCREF(pair);
+        }
+    }
+    Py_DECREF(text.owner);
+    return pair;
+}
+
+PyObject *core_popitem(Core *core, PyObject *nothing) {
+    (void)nothing;
+    Gathered gathered = {0};
+    PyObject *pair = NULL;
+    if (core_ready(core) < 0) return NULL;
+    if (cedar_len(&core->dictionary) == 0) {
+        PyErr_SetString(PyExc_KeyError, "popitem(): dictionary is empty");
+    } else if (gather_any(&core->dictionary, &gathered)) {
+        size_t length = gathered.matches[0].length;
+        cedar_erase(&core->dictionary, gathered.bytes, length);
+        core->keys_changed++;
+        pair = pair_give(key_give(core, gathered.bytes, length), gathered.matches[0].value);
+    } else {
+        fail_with(CEDAR_MEMORY);
+    }
+    gathered_free(&gathered);
+    return pair;
+}
+
+PyObject *core_erase_prefix(Core *core, PyObject *given) {
+    Span prefix;
+    Turn turn;
+    Gathered gathered = {0};
+    bool done = false;
+    if (span_take(core, given, &prefix) < 0) return NULL;
+    int begun = begin_below(core, &prefix, &turn);
+    if (begun == 0) {
+        const uint8_t *key;
+        done = gather_below(&core->dictionary, &prefix, true, &gathered);
+        key = gathered.bytes;
+        for (size_t i = 0; done && i < gathered.count; i++) {
+            cedar_erase(&core->dictionary, key, gathered.matches[i].length);
+            key += gathered.matches[i].length;
+        }
+        turn_end(&turn);
+        if (done && gathered.count > 0) core->keys_changed++;
+        if (!done) fail_with(CEDAR_MEMORY);
+    }
+    Py_DECREF(prefix.owner);
+    PyObject *count = done ? PyLong_FromSize_t(gathered.count) : NULL;
+    gathered_free(&gathered);
+    return count;
+}

@@ -1,0 +1,67 @@
+"""Refused memory: each request of each call in turn. The call raises MemoryError, or does what it does without."""
+
+import ctypes
+import os
+import unittest
+
+from roskvidh import Cedar
+
+PLAIN = {b"%d" % i: i for i in range(400)}
+TEXT = b"12 345 7" * 1000
+
+
+def library():
+    """The library of refuse.c, where it was loaded before all else."""
+    if "refuse" not in os.environ.get("LD_PRELOAD", ""):
+        return None
+    return ctypes.PyDLL(None).refuse
+
+
+@unittest.skipUnless(library(), "refuse.so isn't loaded")
+class Refused(unittest.TestCase):
+    def setUp(self):
+        self.refuse = library()
+        self.refuse.argtypes, self.refuse.restype = [ctypes.c_long], ctypes.c_long
+
+    def each(self, make, call, held):
+        """Refuses the first request, the second one, and so on, until a call makes fewer."""
+        refused = 0
+        for count in range(1, 2000):
+            cedar, answer = make(), None
+            self.refuse(count)
+            try:
+                answer = call(cedar)
+            except MemoryError:
+                refused += 1
+            left = self.refuse(0)
+            self.assertTrue(held(cedar), count)
+            if left > 0:
+                self.assertGreater(refused, 0)
+                return answer
+        self.fail("it asks for ever")
+
+    def test_reads(self):
+        for reduced in (False, True):
+            cedar = Cedar(PLAIN, reduced=reduced)
+            for call in (list, Cedar.to_bytes, Cedar.copy, lambda d: list(d.items(b"1")), lambda d: list(d.keys(b"399")), lambda d: d.scan(TEXT), lambda d: d.segment(TEXT)):
+                self.assertEqual(self.each(lambda: cedar, call, lambda d: d == PLAIN), call(cedar))
+
+    def test_changes(self):
+        for reduced in (False, True):
+            new = {b"new%d" % i: i for i in range(300)}
+            part = lambda d: len(PLAIN) <= len(d) <= len(PLAIN) + 300 and all(d[key] == value for key, value in PLAIN.items())
+            for call in (lambda d: d.update(new), lambda d: d.__setitem__(b"n" * 2000, 1), lambda d: d.reserve(300)):
+                self.each(lambda: Cedar(PLAIN, reduced=reduced), call, part)
+            either = lambda d: len(d) in (0, len(PLAIN))
+            for call in (Cedar.clear, lambda d: d.erase_prefix(b"")):
+                self.each(lambda: Cedar(PLAIN, reduced=reduced), call, either)
+            self.each(lambda: Cedar(PLAIN, reduced=reduced), Cedar.popitem, lambda d: len(d) in (len(PLAIN), len(PLAIN) - 1))
+
+    def test_makes(self):
+        data = Cedar(PLAIN).to_bytes()
+        for call in (lambda _: Cedar(PLAIN), lambda _: Cedar.from_sorted(sorted(PLAIN.items())), lambda _: Cedar.load(data), lambda _: Cedar.load(data, text=True)):
+            self.assertEqual(len(self.each(lambda: None, call, lambda _: True)), len(PLAIN))
+
+
+if __name__ == "__main__":
+    unittest.main()

@@ -1,0 +1,76 @@
+"""What stands in a text, beside what tries find: in bytes and in characters, in short texts and in long ones."""
+
+import pickle
+import random
+import unittest
+
+from roskvidh import Cedar, Match
+
+LETTERS = "abcß漢"
+
+
+def found_in(plain, text):
+    """All keys that stand in a text, and its tokens."""
+    longest = max(map(len, plain), default=0)
+    found, tokens, end = [], [], 0
+    for place in range(len(text)):
+        fronts = [text[place : place + n] for n in range(1, min(longest, len(text) - place) + 1)]
+        here = [(place, len(key), plain[key]) for key in fronts if key in plain]
+        found += here
+        if place == end:
+            tokens.append(here[-1] if here else (place, 1, None))
+            end += tokens[-1][1]
+    return found, tokens
+
+
+class Texts(unittest.TestCase):
+    def test_beside_tries(self):
+        chance = random.Random(5)
+        for is_text in (False, True):
+            for reduced in (False, True):
+                keys = ["".join(chance.choices(LETTERS, k=chance.randint(1, 5))) for _ in range(60)]
+                plain = {key if is_text else key.encode(): i for i, key in enumerate(keys)}
+                cedar = Cedar(plain, text=is_text, reduced=reduced)
+                for size in (0, 1, 50, 4000, 30_000):
+                    text = "".join(chance.choices(LETTERS, k=size))
+                    self.one(cedar, plain, text if is_text else text.encode())
+
+    def one(self, cedar, plain, text):
+        found, tokens = found_in(plain, text)
+        scanned, cut = cedar.scan(text), cedar.segment(text)
+        self.assertEqual((list(scanned), len(scanned)), (found, len(found)))
+        self.assertEqual((list(cut), sum(match.length for match in cut)), (tokens, len(text)))
+        fronts = [(text[:n], plain[text[:n]]) for n in range(1, min(len(text), 9) + 1) if text[:n] in plain]
+        self.assertEqual(cedar.prefixes(text), fronts)
+        self.assertEqual(cedar.longest_prefix(text), fronts[-1] if fronts else None)
+
+    def test_many_keys_at_a_place(self):
+        """More keys than bytes of text: the room has to grow."""
+        nested, text = Cedar({b"a" * n: n for n in range(1, 300)}), b"a" * 5000
+        self.assertEqual(len(nested.scan(text)), sum(min(299, 5000 - place) for place in range(5000)))
+        self.assertEqual(nested.prefixes(text), [(b"a" * n, n) for n in range(1, 300)])
+        self.assertEqual(nested.longest_prefix(text), (b"a" * 299, 299))
+
+    def test_matches_are_a_sequence(self):
+        matches = Cedar({b"net": 7, b"nets": 8}).scan(b"net nets")
+        items = [(0, 3, 7), (4, 3, 7), (4, 4, 8)]
+        self.assertEqual(matches, items)
+        self.assertNotEqual(matches, items[:2])
+        self.assertEqual((matches[0], matches[-1], matches[1:], matches[::-1]), (items[0], items[2], items[1:], items[::-1]))
+        self.assertEqual(pickle.loads(pickle.dumps(matches)), items)
+        self.assertEqual(repr(matches[:1]), "[roskvidh.Match(place=0, length=3, value=7)]")
+        self.assertIsInstance(matches[0], Match)
+        for place in (3, -4):
+            with self.assertRaises(IndexError):
+                matches[place]
+        with self.assertRaises(TypeError):
+            matches["a"]
+
+    def test_texts_may_be_any_bytes(self):
+        d = Cedar({b"\xff": 1, b"ab": 2})
+        self.assertEqual(list(d.scan(bytearray(b"\0\xffab"))), [(1, 1, 1), (2, 2, 2)])
+        self.assertEqual(list(d.segment(memoryview(b"\0ab"))), [(0, 1, None), (1, 2, 2)])
+
+
+if __name__ == "__main__":
+    unittest.main()
