@@ -82,6 +82,10 @@ def tag():
     return f"cp38-abi3-{platform}"
 
 
+def wheel_text():
+    return f"Wheel-Version: 1.0\nGenerator: roskvidh_build\nRoot-Is-Purelib: false\nTag: {tag()}\n"
+
+
 def python_files():
     return sorted(path for path in (HERE / PACKAGE).iterdir() if path.suffix in (".py", ".pyi") or path.name == "py.typed")
 
@@ -105,13 +109,21 @@ class Wheel:
 
     def close(self):
         self.add(f"{self.info}/METADATA", metadata().encode())
-        self.add(f"{self.info}/WHEEL", f"Wheel-Version: 1.0\nGenerator: roskvidh_build\nRoot-Is-Purelib: false\nTag: {tag()}\n".encode())
+        self.add(f"{self.info}/WHEEL", wheel_text().encode())
         licence = HERE.parent / "LICENSE"
         if licence.is_file():
             self.add(f"{self.info}/LICENSE", licence.read_bytes())
         self.record.append(f"{self.info}/RECORD,,")
         self.zip.writestr(f"{self.info}/RECORD", "\n".join(self.record) + "\n")
         self.zip.close()
+
+
+def prepare_metadata_for_build_wheel(metadata_directory, config_settings=None):
+    info = Path(metadata_directory) / f"{PACKAGE}-{version()}.dist-info"
+    info.mkdir()
+    (info / "METADATA").write_text(metadata())
+    (info / "WHEEL").write_text(wheel_text())
+    return info.name
 
 
 def build_wheel(wheel_directory, config_settings=None, metadata_directory=None):

@@ -19,6 +19,9 @@ typedef struct Core {
     PyThread_type_lock turn;  /* held by the one long call that has given up the interpreter's lock */
     bool in_use;              /* such a call is under way */
     long process;             /* in this process */
+    size_t tickets;           /* how many calls have come to wait, ever */
+    size_t served;            /* how many of them don't wait any more: they go on in the order in which they came */
+    bool is_contended;        /* a call is under way or waits */
     bool is_open;
     bool is_text;             /* keys are str, stored as UTF-8 */
     bool is_ordered;
@@ -50,7 +53,7 @@ int core_close(Core *core);
 /* Whether a short call may go ahead: the dictionary is open, and no long call is under way any more. With the interpreter's lock held,
  * it has the dictionary for itself until it gives that up or calls Python. */
 static inline int core_ready(Core *core) {
-    if (!core->in_use && core->is_open) return 0;
+    if (!core->is_contended && core->is_open) return 0;
     return turn_wait(core);
 }
 

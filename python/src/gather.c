@@ -9,7 +9,7 @@
 #include <stdlib.h>
 #include <string.h>
 
-enum { ALL_FROM_SHARE = 16, FIRST_ROOM = 64, BYTES = 255 };
+enum { ALL_FROM_SHARE = 2, FIRST_ROOM = 64, BYTES = 255 };
 
 /* All bytes of keys, those that are frequent in texts first. */
 static const char FREQUENT[] = "etaoinsrhldcumfpgwybvkxjqz0123456789-_./ ETAOINSRHLDCUMFPGWYBVKXJQZ";

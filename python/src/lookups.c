@@ -11,7 +11,6 @@ static int find(Core *core, PyObject *key, int32_t *value) {
 }
 
 static PyObject *missing(PyObject *key) {
-    /* A tuple would be taken for the error's arguments; no key is one, but a wrong key never comes here. */
     PyErr_SetObject(PyExc_KeyError, key);
     return NULL;
 }
@@ -43,12 +42,11 @@ PyObject *core_get(Core *core, PyObject *arguments) {
     return otherwise;
 }
 
-/* Stores a value; `held` and `before` tell what was there. */
+/* Stores a value. The caller has seen that it may go ahead. */
 static int store(Core *core, const Span *span, int32_t value) {
     bool held;
     int32_t before;
     size_t position = 0;
-    if (core_ready(core) < 0) return -1;
     uint32_t status = cedar_insert(&core->dictionary, span->at, span->length, value, &held, &before, &position);
     if (status == CEDAR_NUL_BYTE) return fail_at(status, "byte", position);
     if (status != CEDAR_OK) return fail_with(status);
@@ -73,7 +71,8 @@ int core_assign(Core *core, PyObject *key, PyObject *value) {
     int32_t number;
     Span span;
     if (value_take(value, &number) < 0 || span_take(core, key, &span) < 0) return -1;
-    int done = store(core, &span, number);
+    int done = core_ready(core);
+    if (done == 0) done = store(core, &span, number);
     Py_DECREF(span.owner);
     return done;
 }

@@ -1,13 +1,23 @@
 /* What stands in a text: all keys, or its tokens. The numbers stay as C wrote them, and become Python's as they are asked for. */
+#define _DEFAULT_SOURCE /* madvise */
 #include "core.h"
 
 #include <stdlib.h>
+#include <sys/mman.h>
 
 PyTypeObject *matches_type, *match_type;
 
+/* What one call to the library found; `end` counts the matches up to its last one. */
+typedef struct Piece {
+    cedar_found *found;
+    size_t count;
+    size_t end;
+} Piece;
+
 typedef struct Matches {
     PyObject_HEAD
-    cedar_found *found;
+    Piece *pieces;
+    size_t piece_count;
     size_t count;
 } Matches;
 
@@ -26,13 +36,26 @@ PyTypeObject *match_make(void) {
 
 static void matches_dealloc(Matches *matches) {
     PyTypeObject *type = Py_TYPE(matches);
-    free(matches->found);
+    for (size_t i = 0; i < matches->piece_count; i++) free(matches->pieces[i].found);
+    free(matches->pieces);
     ((freefunc)PyType_GetSlot(type, Py_tp_free))(matches);
     Py_DECREF(type);
 }
 
 static Py_ssize_t matches_length(Matches *matches) {
     return (Py_ssize_t)matches->count;
+}
+
+/* The match at a place of the whole, which is below the count: it is in the first piece that ends behind it. */
+static cedar_found matches_at(Matches *matches, size_t at) {
+    size_t low = 0, high = matches->piece_count;
+    while (low < high) {
+        size_t middle = low + (high - low) / 2;
+        if (matches->pieces[middle].end <= at) low = middle + 1;
+        else high = middle;
+    }
+    Piece *piece = &matches->pieces[low];
+    return piece->found[at - (piece->end - piece->count)];
 }
 
 static PyObject *value_give(int32_t value) {
@@ -46,7 +69,7 @@ static PyObject *matches_item(Matches *matches, Py_ssize_t at) {
         PyErr_SetString(PyExc_IndexError, "there is no such match");
         return NULL;
     }
-    cedar_found found = matches->found[at];
+    cedar_found found = matches_at(matches, (size_t)at);
     PyObject *match = PyStructSequence_New(match_type);
     PyObject *place = PyLong_FromSize_t(found.place), *length = PyLong_FromSize_t(found.length), *value = value_give(found.value);
     if (match && place && length && value) {
@@ -130,28 +153,48 @@ PyType_Spec matches_spec = {"roskvidh._core.Matches", sizeof(Matches), 0, TYPE_F
 
 typedef size_t Finder(cedar *, const uint8_t *, size_t, size_t *, cedar_found *, size_t);
 
-/* Doubles the room, and says whether there was memory for it. */
-static bool matches_grow(Matches *matches, size_t *room) {
-    if (*room > PTRDIFF_MAX / sizeof(cedar_found) / 2) return false;
-    cedar_found *grown = realloc(matches->found, 2 * *room * sizeof *grown);
-    if (!grown) return false;
-    matches->found = grown;
-    *room *= 2;
-    return true;
+/* Places of a piece, of 24 bytes each. Those that nothing is written to take no memory. */
+enum { LEAST_PLACES = 64, MOST_PLACES = 1 << 21, PAGE = 4096, MANY_PAGES = 1 << 20 };
+
+/* A further piece with so many places, or NULL where memory is wanted. A large one comes in large pages where the system has them: to map
+ * small ones takes as long as the walk over a text that fills them. */
+static Piece *piece_begin(Matches *matches, size_t places) {
+    Piece *pieces = realloc(matches->pieces, (matches->piece_count + 1) * sizeof *pieces);
+    if (!pieces) return NULL;
+    matches->pieces = pieces;
+    cedar_found *found = places > PTRDIFF_MAX / sizeof *found ? NULL : malloc(places * sizeof *found);
+    if (!found) return NULL;
+#ifdef MADV_HUGEPAGE
+    uintptr_t begin = ((uintptr_t)found + PAGE - 1) / PAGE * PAGE, end = (uintptr_t)(found + places) / PAGE * PAGE;
+    if (end > begin + MANY_PAGES) madvise((void *)begin, end - begin, MADV_HUGEPAGE);
+#endif
+    Piece *piece = &pieces[matches->piece_count++];
+    *piece = (Piece){found, 0, matches->count};
+    return piece;
+}
+
+/* Ends a piece with so many matches, and gives back the places behind them. */
+static void piece_end(Matches *matches, Piece *piece, size_t count) {
+    cedar_found *fitted = realloc(piece->found, (count + 1) * sizeof *fitted);
+    if (fitted) piece->found = fitted;
+    matches->count += count;
+    piece->count = count;
+    piece->end = matches->count;
 }
 
 /* All that a finder tells of a text. False where memory is wanted. */
 static bool find_all(Core *core, Finder *finder, const Span *text, Matches *matches) {
-    size_t next = 0, room = text->length < LONG_TEXT ? text->length + 1 : LONG_TEXT;
-    matches->found = malloc(room * sizeof *matches->found);
-    if (!matches->found) return false;
+    size_t next = 0, least = LEAST_PLACES;
     while (next < text->length) {
-        matches->count += finder(&core->dictionary, text->at, text->length, &next, matches->found + matches->count, room - matches->count);
-        /* The keys at a place are told as a whole, so it may have ended with room left. */
-        if (next < text->length && !matches_grow(matches, &room)) return false;
+        size_t left = text->length - next, places = left < MOST_PLACES ? left : MOST_PLACES;
+        if (places < least) places = least;
+        Piece *piece = piece_begin(matches, places);
+        if (!piece) return false;
+        size_t count = finder(&core->dictionary, text->at, text->length, &next, piece->found, places);
+        piece_end(matches, piece, count);
+        /* The keys at a place are told as a whole: those at this one are more than there were places. */
+        if (count == 0) least = 4 * places;
     }
-    cedar_found *fitted = realloc(matches->found, (matches->count + 1) * sizeof *fitted);
-    if (fitted) matches->found = fitted;
     return true;
 }
 
@@ -168,15 +211,20 @@ static size_t characters(const uint8_t *at, size_t length) {
 
 /* Counts places and lengths in characters. Keys are whole characters; a byte that is no key's is told once for its character. */
 static void count_characters(const Span *text, Matches *matches) {
-    size_t at = 0, place = 0, count = 0;
-    for (size_t i = 0; i < matches->count; i++) {
-        cedar_found found = matches->found[i];
-        if (!begins_character(text->at[found.place])) continue;
-        place += characters(text->at + at, found.place - at);
-        at = found.place;
-        matches->found[count++] = (cedar_found){place, characters(text->at + at, found.length), found.value};
+    size_t at = 0, place = 0, end = 0;
+    for (Piece *piece = matches->pieces; piece < matches->pieces + matches->piece_count; piece++) {
+        size_t count = 0;
+        for (size_t i = 0; i < piece->count; i++) {
+            cedar_found found = piece->found[i];
+            if (!begins_character(text->at[found.place])) continue;
+            place += characters(text->at + at, found.place - at);
+            at = found.place;
+            piece->found[count++] = (cedar_found){place, characters(text->at + at, found.length), found.value};
+        }
+        piece->count = count;
+        piece->end = end += count;
     }
-    matches->count = count;
+    matches->count = end;
 }
 
 static PyObject *find(Core *core, Finder *finder, PyObject *given) {

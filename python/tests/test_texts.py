@@ -31,7 +31,7 @@ class Texts(unittest.TestCase):
                 keys = ["".join(chance.choices(LETTERS, k=chance.randint(1, 5))) for _ in range(60)]
                 plain = {key if is_text else key.encode(): i for i, key in enumerate(keys)}
                 cedar = Cedar(plain, text=is_text, reduced=reduced)
-                for size in (0, 1, 50, 4000, 30_000):
+                for size in (0, 1, 50, 4000, 12_000):
                     text = "".join(chance.choices(LETTERS, k=size))
                     self.one(cedar, plain, text if is_text else text.encode())
 

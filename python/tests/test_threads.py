@@ -6,6 +6,7 @@ import sys
 import threading
 import time
 import unittest
+import warnings
 
 from roskvidh import Cedar
 
@@ -81,7 +82,7 @@ class Threads(unittest.TestCase):
                 loaded = Cedar.load(cedar.to_bytes())
                 assert len(loaded) in (2000, 2001, 2299) and loaded[b"7"] == cedar[b"7"]
 
-            self.run_all(1.5, change, read, lambda chance: read(chance), lambda chance: list(loaded_keys(cedar)))
+            self.run_all(SECONDS / 8, change, read, lambda chance: read(chance), lambda chance: list(loaded_keys(cedar)))
             whole = sum(min(299, 20_000 - place) for place in range(20_000))
             self.assertLessEqual(found, {0, 20_000, whole, len(range(0, 20_000, 299))})
 
@@ -116,13 +117,37 @@ class Threads(unittest.TestCase):
         counter.join()
         self.assertGreater(during, 100)
 
+    def test_long_calls_keep_nobody_out(self):
+        """One thread makes a long call after another; the calls of others come in between."""
+        sys.setswitchinterval(0.005)
+        cedar, text, done = Cedar({b"ab": 1}), b"ab" * 100_000, []
+
+        def scan():
+            while not done:
+                cedar.scan(text)
+
+        scanners = [threading.Thread(target=scan) for _ in range(2)]
+        for scanner in scanners:
+            scanner.start()
+        start = time.monotonic()
+        for number in range(30):
+            cedar[b"ab"] = number
+            assert cedar[b"ab"] == number
+        took = time.monotonic() - start
+        done.append(True)
+        for scanner in scanners:
+            scanner.join()
+        self.assertLess(took, 10)
+
     @unittest.skipUnless(hasattr(os, "fork"), "no fork")
     def test_a_forked_child_waits_for_nobody(self):
         cedar = Cedar({b"ab": 1})
         scan = threading.Thread(target=cedar.scan, args=(b"ab" * 8_000_000,))
         scan.start()
         time.sleep(0.01)
-        child = os.fork()
+        with warnings.catch_warnings():
+            warnings.simplefilter("ignore")  # Python warns of forks beside threads
+            child = os.fork()
         if child == 0:
             try:
                 cedar.get(b"ab")
