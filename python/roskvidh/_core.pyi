@@ -1,4 +1,4 @@
-from typing import Any, Final, Generic, Iterable, Iterator, List, NamedTuple, Optional, Sequence, Tuple, TypeVar, Union, overload
+from typing import Any, Final, Generic, Iterable, Iterator, List, NamedTuple, Optional, Tuple, TypeVar, Union, overload
 
 K = TypeVar("K", bytes, str)
 D = TypeVar("D")
@@ -15,7 +15,14 @@ class Match(NamedTuple):
     length: int
     value: Optional[int]
 
-class Matches(Sequence[Match]): ...
+class Matches:
+    def __len__(self) -> int: ...
+    @overload
+    def __getitem__(self, at: int) -> Match: ...
+    @overload
+    def __getitem__(self, at: slice) -> List[Match]: ...
+    def __iter__(self) -> Iterator[Match]: ...
+    def __eq__(self, other: object) -> bool: ...
 
 class Core(Generic[K]):
     @property

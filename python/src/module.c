@@ -93,41 +93,41 @@ static PyGetSetDef core_properties[] = {
 
 static PyMethodDef core_methods[] = {
     {"get", (PyCFunction)core_get, METH_VARARGS,
-     "get(key, default=None)\n--\n\nReturns the value of a key, or else the default.\n\n"
+     "get($self, key, default=None, /)\n--\n\nReturns the value of a key, or else the default.\n\n"
      ">>> Cedar({b'net': 7}).get(b'ten', 0)\n0\n"},
     {"pop", (PyCFunction)core_pop, METH_VARARGS,
      "Removes a key and returns its value, or else the default; without one it raises KeyError.\n\n"
      ">>> Cedar({b'net': 7}).pop(b'net')\n7\n"},
     {"setdefault", (PyCFunction)core_setdefault, METH_VARARGS,
-     "setdefault(key, default)\n--\n\nReturns the value of a key, and stores the default first where there is none.\n\n"
+     "setdefault($self, key, default, /)\n--\n\nReturns the value of a key, and stores the default first where there is none.\n\n"
      ">>> Cedar({b'net': 7}).setdefault(b'ten', 8)\n8\n"},
     {"popitem", (PyCFunction)core_popitem, METH_NOARGS,
-     "popitem()\n--\n\nRemoves some key and returns it with its value. An empty dictionary raises KeyError.\n\n"
+     "popitem($self, /)\n--\n\nRemoves some key and returns it with its value. An empty dictionary raises KeyError.\n\n"
      ">>> Cedar({b'net': 7}).popitem()\n(b'net', 7)\n"},
     {"clear", (PyCFunction)core_clear, METH_NOARGS,
-     "clear()\n--\n\nRemoves all keys and gives their memory back.\n\n"
+     "clear($self, /)\n--\n\nRemoves all keys and gives their memory back.\n\n"
      ">>> d = Cedar({b'net': 7})\n>>> d.clear()\n>>> len(d)\n0\n"},
     {"close", (PyCFunction)core_close_call, METH_NOARGS,
-     "close()\n--\n\nGives the memory back. Any call but close raises ValueError from then on.\n\n"
+     "close($self, /)\n--\n\nGives the memory back. Any call but close raises ValueError from then on.\n\n"
      ">>> d = Cedar()\n>>> d.close()\n>>> d.closed\nTrue\n"},
     {"prefixes", (PyCFunction)core_prefixes, METH_O,
-     "prefixes(text)\n--\n\nReturns the keys that a text begins with and their values, shortest first.\n\n"
+     "prefixes($self, text, /)\n--\n\nReturns the keys that a text begins with and their values, shortest first.\n\n"
      ">>> Cedar({b'net': 7, b'nets': 8, b'ten': 9}).prefixes(b'netset')\n[(b'net', 7), (b'nets', 8)]\n"},
     {"longest_prefix", (PyCFunction)core_longest_prefix, METH_O,
-     "longest_prefix(text)\n--\n\nReturns the longest key that a text begins with and its value, or None.\n\n"
+     "longest_prefix($self, text, /)\n--\n\nReturns the longest key that a text begins with and its value, or None.\n\n"
      ">>> Cedar({b'net': 7, b'nets': 8}).longest_prefix(b'netset')\n(b'nets', 8)\n"},
     {"scan", (PyCFunction)core_scan, METH_O,
-     "scan(text)\n--\n\nReturns all keys that stand in a text: place after place, and at each the shortest first.\n\n"
+     "scan($self, text, /)\n--\n\nReturns all keys that stand in a text: place after place, and at each the shortest first.\n\n"
      ">>> [tuple(m) for m in Cedar({b'net': 7, b'nets': 8}).scan(b'a nets')]\n[(2, 3, 7), (2, 4, 8)]\n"},
     {"segment", (PyCFunction)core_segment, METH_O,
-     "segment(text)\n--\n\nReturns the tokens of a text: at each place the longest key, or else one byte (with text=True one\n"
+     "segment($self, text, /)\n--\n\nReturns the tokens of a text: at each place the longest key, or else one byte (with text=True one\n"
      "character), whose value is None.\n\n"
      ">>> [tuple(m) for m in Cedar({b'net': 7, b'nets': 8}).segment(b'nets!')]\n[(0, 4, 8), (4, 1, None)]\n"},
     {"erase_prefix", (PyCFunction)core_erase_prefix, METH_O,
-     "erase_prefix(prefix)\n--\n\nRemoves all keys that begin with a prefix, and returns how many there were.\n\n"
+     "erase_prefix($self, prefix, /)\n--\n\nRemoves all keys that begin with a prefix, and returns how many there were.\n\n"
      ">>> Cedar({b'net': 7, b'nets': 8, b'ten': 9}).erase_prefix(b'ne')\n2\n"},
     {"reserve", (PyCFunction)core_reserve, METH_O,
-     "reserve(blocks)\n--\n\nAsks for memory for so many blocks of 256 slots more than are in use. An update makes at most one for each\n"
+     "reserve($self, blocks, /)\n--\n\nAsks for memory for so many blocks of 256 slots more than are in use. An update makes at most one for each\n"
      "byte of its key, so the next ones need no memory.\n\n"
      ">>> d = Cedar()\n>>> d.reserve(100)\n>>> d.stats().spare_blocks >= 100\nTrue\n"},
     {"__class_getitem__", core_of_keys, METH_O | METH_CLASS, NULL},

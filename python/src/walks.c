@@ -36,9 +36,9 @@ static void walk_dealloc(Walk *walk) {
     Py_DECREF(type);
 }
 
-static PyObject *walk_next(Walk *walk) {
-    Core *core = walk->core;
-    if (!core || core_ready(core) < 0) return NULL;
+static PyObject *walk_give(Walk *walk, Core *core) {
+    /* Another thread may have ended it meanwhile. */
+    if (core_ready(core) < 0 || !walk->core) return NULL;
     if (walk->keys_changed != core->keys_changed) {
         PyErr_SetString(PyExc_RuntimeError, "dictionary changed size during iteration");
         return NULL;
@@ -54,6 +54,15 @@ static PyObject *walk_next(Walk *walk) {
     if (walk->kind == WALK_VALUES) return PyLong_FromLong(match.value);
     PyObject *given = key_give(core, key, match.length);
     return walk->kind == WALK_KEYS ? given : pair_give(given, match.value);
+}
+
+static PyObject *walk_next(Walk *walk) {
+    Core *core = walk->core;
+    if (!core) return NULL;
+    Py_INCREF(core);
+    PyObject *given = walk_give(walk, core);
+    Py_DECREF(core);
+    return given;
 }
 
 static PyObject *walk_hint(Walk *walk, PyObject *nothing) {

@@ -86,6 +86,20 @@ class Threads(unittest.TestCase):
             whole = sum(min(299, 20_000 - place) for place in range(20_000))
             self.assertLessEqual(found, {0, 20_000, whole, len(range(0, 20_000, 299))})
 
+    def test_one_iteration_of_many_threads(self):
+        cedar, text = Cedar({b"%d" % i: i for i in range(3000)}), b"7" * 20_000
+
+        def share(chance):
+            walk, taken = iter(cedar.items()), []
+            threads = [threading.Thread(target=lambda: taken.extend(walk)) for _ in range(3)]
+            for thread in threads:
+                thread.start()
+            for thread in threads:
+                thread.join()
+            assert sorted(taken) == sorted(cedar.items())
+
+        self.run_all(SECONDS / 8, share, lambda chance: cedar.scan(text))
+
     def test_closed_beside_reads(self):
         for _ in range(60):
             cedar = Cedar({b"a": 1})
