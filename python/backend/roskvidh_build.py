@@ -47,6 +47,8 @@ def compiler():
 
 def compile_extension(into):
     """Compiles the extension to a file."""
+    if sysconfig.get_config_var("Py_GIL_DISABLED"):
+        raise SystemExit("roskvidh: this Python has no interpreter's lock, which the extension relies on: take a usual build of Python")
     folder = library_folder()
     headers = Path(sysconfig.get_path("include"))
     if not (headers / "Python.h").is_file():
@@ -75,6 +77,11 @@ def metadata():
         f"License: BSD-2-Clause\nRequires-Python: {project('requires-python')}\nDescription-Content-Type: text/markdown\n\n"
         + (HERE / "README.md").read_text()
     )
+
+
+def licence():
+    """Returns the path of the license, which sources that were packed have beside them."""
+    return next(path for path in (HERE / "LICENSE", HERE.parent / "LICENSE") if path.is_file())
 
 
 def tag():
@@ -110,9 +117,7 @@ class Wheel:
     def close(self):
         self.add(f"{self.info}/METADATA", metadata().encode())
         self.add(f"{self.info}/WHEEL", wheel_text().encode())
-        licence = HERE.parent / "LICENSE"
-        if licence.is_file():
-            self.add(f"{self.info}/LICENSE", licence.read_bytes())
+        self.add(f"{self.info}/LICENSE", licence().read_bytes())
         self.record.append(f"{self.info}/RECORD,,")
         self.zip.writestr(f"{self.info}/RECORD", "\n".join(self.record) + "\n")
         self.zip.close()
@@ -155,6 +160,7 @@ def build_sdist(sdist_directory, config_settings=None):
     with tarfile.open(Path(sdist_directory) / f"{base}.tar.gz", "w:gz", format=tarfile.PAX_FORMAT) as archive:
         for part in ("pyproject.toml", "README.md", "backend/roskvidh_build.py", *(f"src/{path.name}" for path in sorted((HERE / "src").iterdir()))):
             archive.add(HERE / part, f"{base}/{part}")
+        archive.add(licence(), f"{base}/LICENSE")
         for path in python_files():
             archive.add(path, f"{base}/{PACKAGE}/{path.name}")
         entry = tarfile.TarInfo(f"{base}/PKG-INFO")

@@ -73,9 +73,12 @@ PyObject *core_clear(Core *core, PyObject *nothing) {
     if (core_ready(core) < 0) return NULL;
     Settings settings = {core->is_text, core->is_ordered, core->is_reduced, core->max_trial};
     uint32_t status = make_empty(&fresh, settings);
-    if (status == CEDAR_OK) return install(core, &fresh, settings);
-    fail_with(status);
-    return NULL;
+    if (status != CEDAR_OK) {
+        fail_with(status);
+        return NULL;
+    }
+    core_install(core, &fresh);
+    Py_RETURN_NONE;
 }
 
 /* Pairs as C takes them, and the objects that keep their keys. */
