@@ -134,23 +134,24 @@ class Threads(unittest.TestCase):
     def test_long_calls_keep_nobody_out(self):
         """One thread makes a long call after another; the calls of others come in between."""
         sys.setswitchinterval(0.005)
-        cedar, text, done = Cedar({b"ab": 1}), b"ab" * 100_000, []
+        cedar, text, done, scans = Cedar({b"ab": 1}), b"ab" * 100_000, [], [0]
 
         def scan():
             while not done:
                 cedar.scan(text)
+                scans[0] += 1
 
-        scanners = [threading.Thread(target=scan) for _ in range(2)]
-        for scanner in scanners:
-            scanner.start()
+        scanner = threading.Thread(target=scan, daemon=True)
+        scanner.start()
+        while scans[0] == 0:
+            time.sleep(0.001)
         start = time.monotonic()
-        for number in range(30):
+        for number in range(200):
             cedar[b"ab"] = number
-            assert cedar[b"ab"] == number
+            self.assertEqual(cedar[b"ab"], number)
         took = time.monotonic() - start
         done.append(True)
-        for scanner in scanners:
-            scanner.join()
+        scanner.join()
         self.assertLess(took, 10)
 
     @unittest.skipUnless(hasattr(os, "fork"), "no fork")
