@@ -45,24 +45,24 @@ module _ (slots n : ℕ) (T T' : Fields) (d : Dictionary) (same : dictionary_of 
       let there : 256 * n ≤ capacity_of T - size_of T = subst (λ (x : Dictionary). 256 * n ≤ x.capacity - x.size) (sym same) room in
       omega (arith, well.table.sound.shaped.blocks.active_in)
 
-  pub lacks : (e : Shortage) → table.LacksRoom T slots n e → LacksRoom slots d n (told e)
+  pub lacks : (e : Shortage) → table.LacksBlocks T slots n e → LacksRoom slots d n (told e)
   lacks e h = subst (λ (x : Dictionary). LacksRoom slots x n (told e)) same (by_error e h)
     where
-      by_error : (e : Shortage) → table.LacksRoom T slots n e → LacksRoom slots (dictionary_of T) n (told e)
+      by_error : (e : Shortage) → table.LacksBlocks T slots n e → LacksRoom slots (dictionary_of T) n (told e)
       by_error shortage.Memory h = h
       by_error shortage.SlotLimit h = h
 
-  pub never_with_room : IsWellFormed slots T → (e : Shortage) → table.LacksRoom T slots n e → 256 * n ≤ d.capacity - d.size → ⊥
+  pub never_with_room : IsWellFormed slots T → (e : Shortage) → table.LacksBlocks T slots n e → 256 * n ≤ d.capacity - d.size → ⊥
   never_with_room well e h room = no_lack e h (has_room well room)
     where
-      no_lack : (e : Shortage) → table.LacksRoom T slots n e → size_of T + 256 * n ≤ capacity_of T → ⊥
+      no_lack : (e : Shortage) → table.LacksBlocks T slots n e → size_of T + 256 * n ≤ capacity_of T → ⊥
       no_lack shortage.Memory h enough = absurd (omega (arith, h.0))
       no_lack shortage.SlotLimit h enough = absurd (omega (arith, well.table.within))
 
-  pub limit_is_told : (e : Shortage) → table.LacksRoom T slots n e → slots < d.size + 256 * n → told e ≡ SlotLimit
+  pub limit_is_told : (e : Shortage) → table.LacksBlocks T slots n e → slots < d.size + 256 * n → told e ≡ SlotLimit
   limit_is_told e h past = which e h (subst (λ (x : Dictionary). slots < x.size + 256 * n) (sym same) past)
     where
-      which : (e : Shortage) → table.LacksRoom T slots n e → slots < size_of T + 256 * n → told e ≡ SlotLimit
+      which : (e : Shortage) → table.LacksBlocks T slots n e → slots < size_of T + 256 * n → told e ≡ SlotLimit
       which shortage.Memory h past = absurd (omega (arith, h.1))
       which shortage.SlotLimit h past = refl
 
@@ -72,12 +72,12 @@ module _ (slots n : ℕ) (T T' : Fields) (d : Dictionary) (same : dictionary_of 
       absurd (omega (arith, well.table.within))
 
   -- where there is room nothing is asked for
-  pub asks_for_none : IsWellFormed slots T → (r : Result (Unit {0}) Shortage) → IfErr r (table.LacksRoom T slots n) → 256 * n ≤ d.capacity - d.size → IsOk (told_outcome r)
+  pub asks_for_none : IsWellFormed slots T → (r : Result (Unit {0}) Shortage) → IfErr r (table.LacksBlocks T slots n) → 256 * n ≤ d.capacity - d.size → IsOk (told_outcome r)
   asks_for_none well (Ok x) h room = refl
   asks_for_none well (Err e) h room = absurd (never_with_room well e h room)
 
   -- past the limit it is the limit that is told
-  pub tells_limit : IsWellFormed slots T' → size_of T' ≡ size_of T → (r : Result (Unit {0}) Shortage) → OnOk r (size_of T' + 256 * n ≤ capacity_of T') → IfErr r (table.LacksRoom T slots n)
+  pub tells_limit : IsWellFormed slots T' → size_of T' ≡ size_of T → (r : Result (Unit {0}) Shortage) → OnOk r (size_of T' + 256 * n ≤ capacity_of T') → IfErr r (table.LacksBlocks T slots n)
       → slots < d.size + 256 * n → told_outcome r ≡ Err SlotLimit
   tells_limit well size (Ok x) spare h past = absurd (limit_is_kept well size spare past)
   tells_limit well size (Err e) spare h past = ap Err (limit_is_told e h past)
