@@ -10,7 +10,7 @@
  *   what its type says: a key to `length` bytes that can be read, matches, found and buffers to `room` places that are set, pairs to
  *   `count` pairs whose keys are such, at most PTRDIFF_MAX bytes each. What two parameters point to doesn't overlap, but for what is
  *   only read. During the call nobody else writes it, nor reads what the call may write.
- * - A `cedar` begins as CEDAR_CLOSED and is changed by these calls alone. It may be moved; of two copies only one is used
+ * - A `cedar_dictionary` begins as CEDAR_CLOSED and is changed by these calls alone. It may be moved; of two copies only one is used
  *   from then on. Its fields aren't read or written.
  * - One call at a time works on a dictionary, cedar_get and the figures too: what is proved of a call takes for granted that it
  *   has the variable and the dictionary for itself. It may go from thread to thread where a lock, a thread's start or join, or a
@@ -22,8 +22,8 @@
  * variable), a bad key or value, want of memory. What it can't find: a null or wild pointer, a wrong length, a second copy of
  * a variable after the first was freed.
  */
-#ifndef CEDAR_H
-#define CEDAR_H
+#ifndef ROSKVIDH_CEDAR_H
+#define ROSKVIDH_CEDAR_H
 
 #include <stdbool.h>
 #include <stddef.h>
@@ -33,10 +33,15 @@
 extern "C" {
 #endif
 
-typedef struct cedar {
+typedef struct cedar_dictionary {
     void *held;
     uint32_t is_open;
-} cedar;
+} cedar_dictionary;
+
+/* The short name, in C alone: a C++ program may use another library whose namespace is cedar. */
+#ifndef __cplusplus
+typedef cedar_dictionary cedar;
+#endif
 
 #define CEDAR_CLOSED { NULL, 0 }
 
@@ -72,50 +77,50 @@ enum {
 
 /* Opens *d with an empty dictionary, in the place of the one that it has, if it is open. CEDAR_OK or CEDAR_MEMORY; then *d
  * is as it was. */
-uint32_t cedar_new(cedar *d);
+uint32_t cedar_new(cedar_dictionary *d);
 
 /* As cedar_new, with settings: whether the labels of each node ascend (else a new one goes before the others), and how many failed
  * searches for a place close a block of slots, 1 or more. Also CEDAR_INVALID_MAX_TRIAL. */
-uint32_t cedar_new_with(cedar *d, bool ordered, int32_t max_trial);
+uint32_t cedar_new_with(cedar_dictionary *d, bool ordered, int32_t max_trial);
 
 /* As cedar_new_with, of the reduced layout: a key's value stands in its last node as long as no longer key has been stored below
  * it, and takes no slot of its own. All calls below take a dictionary of either layout, and answer the same of both but for the
  * slots in use. Which one it is, is settled where it is made. */
-uint32_t cedar_new_reduced(cedar *d, bool ordered, int32_t max_trial);
+uint32_t cedar_new_reduced(cedar_dictionary *d, bool ordered, int32_t max_trial);
 
 /* Whether *d is of the reduced layout. False if closed. */
-bool cedar_is_reduced(cedar *d);
+bool cedar_is_reduced(cedar_dictionary *d);
 
 /* Opens *d with the dictionary of a file's bytes, as `save_to_writer` and the programs write them, in the place of the one that it
  * has. It asks for memory_limit bytes at most, say CEDAR_LOAD_LIMIT. CEDAR_OK exactly takes the bytes of a well-formed table; else
  * the number of the first refusal, or CEDAR_MEMORY; then *d is as it was. */
-uint32_t cedar_load(cedar *d, const uint8_t *bytes, size_t length, size_t memory_limit);
+uint32_t cedar_load(cedar_dictionary *d, const uint8_t *bytes, size_t length, size_t memory_limit);
 
 /* As cedar_load, of a file of the reduced layout. Each of the two refuses the other layout's files by CEDAR_FILE_LAYOUT, before it asks
  * for memory: so where either may come, call the other one then. */
-uint32_t cedar_load_reduced(cedar *d, const uint8_t *bytes, size_t length, size_t memory_limit);
+uint32_t cedar_load_reduced(cedar_dictionary *d, const uint8_t *bytes, size_t length, size_t memory_limit);
 
 /* Writes the file of *d to the first places of a buffer, and to *needed how many bytes it has; the other places stay. The file
  * lists the slots and blocks that are in use, or, where is_full, all of them, as format 1.0 does. CEDAR_OK, CEDAR_IS_CLOSED,
  * CEDAR_NO_ROOM where the file has more than room bytes (a call with room 0 asks how many), or CEDAR_MEMORY: it asks for memory
  * for a copy of the file. After an error the buffer is as it was. */
-uint32_t cedar_save(cedar *d, bool is_full, uint8_t *buffer, size_t room, size_t *needed);
+uint32_t cedar_save(cedar_dictionary *d, bool is_full, uint8_t *buffer, size_t room, size_t *needed);
 
 /* Writes the text of a status to the first places of a buffer, as far as there is room, and answers how many bytes the text has. No
  * byte 0 is written behind it. */
 size_t cedar_status_text(uint32_t status, uint8_t *text, size_t room);
 
 /* Gives the memory of *d back. *d is closed then. On a closed one it does nothing. */
-void cedar_free(cedar *d);
+void cedar_free(cedar_dictionary *d);
 
 /* Stores a value at a key, in place of the value that the key holds, if it holds one. CEDAR_IS_CLOSED, the pair's first
  * fault of CEDAR_EMPTY_KEY, CEDAR_NUL_BYTE (*position is then the first byte 0, counted from 0; else *position stays) and
  * CEDAR_INVALID_VALUE, or, only where the key isn't held, CEDAR_MEMORY or CEDAR_SLOT_LIMIT. After an error the dictionary
  * holds what it held. */
-uint32_t cedar_update(cedar *d, const uint8_t *key, size_t length, int32_t value, size_t *position);
+uint32_t cedar_update(cedar_dictionary *d, const uint8_t *key, size_t length, int32_t value, size_t *position);
 
 /* As cedar_update; after CEDAR_OK *held says whether the key was held before, and if so *before is the value that it had. */
-uint32_t cedar_insert(cedar *d, const uint8_t *key, size_t length, int32_t value, bool *held, int32_t *before, size_t *position);
+uint32_t cedar_insert(cedar_dictionary *d, const uint8_t *key, size_t length, int32_t value, bool *held, int32_t *before, size_t *position);
 
 /* A key to store and its value. */
 typedef struct cedar_pair {
@@ -127,7 +132,7 @@ typedef struct cedar_pair {
 /* Stores some pairs, one after another: a key's last value stands. All are tested first: with the first fault of a pair, which is
  * told as by cedar_update, nothing has changed. CEDAR_MEMORY or CEDAR_SLOT_LIMIT otherwise: then the first of the pairs, as many as
  * found room, are stored. It asks for memory for a list of the pairs besides. */
-uint32_t cedar_update_all(cedar *d, const cedar_pair *pairs, size_t count, size_t *position);
+uint32_t cedar_update_all(cedar_dictionary *d, const cedar_pair *pairs, size_t count, size_t *position);
 
 /* Opens *d with a dictionary of just these pairs, whose keys ascend by bytes, as unsigned numbers, in the place of the one that it
  * has, if it is open; settings as of cedar_new_with. All pairs are tested first. CEDAR_OK; CEDAR_INVALID_MAX_TRIAL; the number of the
@@ -135,30 +140,30 @@ uint32_t cedar_update_all(cedar *d, const cedar_pair *pairs, size_t count, size_
  * repeats the one before it or is below it (*position is then its index, counted from 0); CEDAR_MEMORY, also before a fault is found,
  * since it asks for memory for a list of the pairs; or CEDAR_SLOT_LIMIT. After an error *d is as it was. Only an error that tells a
  * position writes *position. */
-uint32_t cedar_build(cedar *d, bool ordered, int32_t max_trial, const cedar_pair *pairs, size_t count, size_t *position);
+uint32_t cedar_build(cedar_dictionary *d, bool ordered, int32_t max_trial, const cedar_pair *pairs, size_t count, size_t *position);
 
 /* As cedar_build, of the reduced layout. */
-uint32_t cedar_build_reduced(cedar *d, bool ordered, int32_t max_trial, const cedar_pair *pairs, size_t count, size_t *position);
+uint32_t cedar_build_reduced(cedar_dictionary *d, bool ordered, int32_t max_trial, const cedar_pair *pairs, size_t count, size_t *position);
 
 /* Removes a key, and says whether it was held. It takes no memory. */
-bool cedar_erase(cedar *d, const uint8_t *key, size_t length);
+bool cedar_erase(cedar_dictionary *d, const uint8_t *key, size_t length);
 
 /* Says whether a key is held, and writes its value to *value if it is. It takes no memory. */
-bool cedar_get(cedar *d, const uint8_t *key, size_t length, int32_t *value);
+bool cedar_get(cedar_dictionary *d, const uint8_t *key, size_t length, int32_t *value);
 
 /* How many keys are held; how many slots are (one for the root, one for each distinct nonempty prefix of keys, one for each
  * value that has a slot of its own, as each has but in the reduced layout); how many slots there are; how many blocks of 256 slots can
  * come into use before memory is asked for. 0 if closed. */
-size_t cedar_len(cedar *d);
-size_t cedar_used_slots(cedar *d);
-size_t cedar_capacity(cedar *d);
-size_t cedar_spare_blocks(cedar *d);
+size_t cedar_len(cedar_dictionary *d);
+size_t cedar_used_slots(cedar_dictionary *d);
+size_t cedar_capacity(cedar_dictionary *d);
+size_t cedar_spare_blocks(cedar_dictionary *d);
 
 /* Asks for the memory of so many blocks of 256 slots more than are in use, so that updates that make no more of them need none: an
  * update makes at most one for each byte of its key. While so many are spare (cedar_spare_blocks), nothing changes; else the slots double
  * until they are. CEDAR_OK; CEDAR_IS_CLOSED; CEDAR_SLOT_LIMIT where there can't be so many blocks (2^22 in all), else CEDAR_MEMORY. After
  * an error nothing has changed. */
-uint32_t cedar_reserve(cedar *d, size_t blocks);
+uint32_t cedar_reserve(cedar_dictionary *d, size_t blocks);
 
 /* A key that a walk found. */
 typedef struct cedar_match {
@@ -170,24 +175,24 @@ typedef struct cedar_match {
  * them, or all if there are fewer, are written to matches[0] and on; the other places stay. It answers how many there are, never more
  * than the text has bytes: an answer above room asks for a second call with more room. It is one walk, and takes no memory. 0 if
  * closed. */
-size_t cedar_prefixes(cedar *d, const uint8_t *text, size_t length, cedar_match *matches, size_t room);
+size_t cedar_prefixes(cedar_dictionary *d, const uint8_t *text, size_t length, cedar_match *matches, size_t room);
 
 /* The keys that begin with a text, in the order of the walk: for each its value, and in length how many bytes of it follow the
  * text. Else as cedar_prefixes: there are never more than keys. */
-size_t cedar_predictions(cedar *d, const uint8_t *text, size_t length, cedar_match *matches, size_t room);
+size_t cedar_predictions(cedar_dictionary *d, const uint8_t *text, size_t length, cedar_match *matches, size_t room);
 
 /* The same without the first *next of them, in pieces: as many as are left, and there is room for, are written to matches[0] and on;
  * the other places stay. They answer how many were written, and add it to *next, so that the same call goes on. Begin with *next 0;
  * an answer below room tells that nothing is left. The dictionary isn't changed between two pieces of a walk, else they may not belong
  * together. Each call walks past the first *next again; it takes no memory. 0 if closed. */
-size_t cedar_prefixes_from(cedar *d, const uint8_t *text, size_t length, size_t *next, cedar_match *matches, size_t room);
-size_t cedar_predictions_from(cedar *d, const uint8_t *text, size_t length, size_t *next, cedar_match *matches, size_t room);
+size_t cedar_prefixes_from(cedar_dictionary *d, const uint8_t *text, size_t length, size_t *next, cedar_match *matches, size_t room);
+size_t cedar_predictions_from(cedar_dictionary *d, const uint8_t *text, size_t length, size_t *next, cedar_match *matches, size_t room);
 
 /* Writes the bytes of all keys to the first places of a buffer, one key after another in the order of the walk, and to *needed how many
  * bytes they are; the other places stay. cedar_predictions of the empty text tells each key's value and length in the same order.
  * CEDAR_OK, CEDAR_IS_CLOSED, CEDAR_NO_ROOM where the keys have more than room bytes, or CEDAR_MEMORY: it asks for memory for a copy of
  * them. After an error the buffer is as it was. */
-uint32_t cedar_keys(cedar *d, uint8_t *buffer, size_t room, size_t *needed);
+uint32_t cedar_keys(cedar_dictionary *d, uint8_t *buffer, size_t room, size_t *needed);
 
 /* What stands at a place of a text: where it begins, how many bytes it has, and its value. */
 typedef struct cedar_found {
@@ -202,11 +207,11 @@ typedef struct cedar_found {
  * if it answers 0 then, the place has more keys than room, and never more than the longest key has bytes. Once all is told, *next is
  * the text's length. It takes no memory. A closed dictionary tells nothing. Begin with *next 0, and go on
  * while *next is below length. */
-size_t cedar_scan(cedar *d, const uint8_t *text, size_t length, size_t *next, cedar_found *found, size_t room);
+size_t cedar_scan(cedar_dictionary *d, const uint8_t *text, size_t length, size_t *next, cedar_found *found, size_t room);
 
 /* The tokens of a text from the place *next on, where one begins: at each place the longest key that stands there, or else one byte,
  * with the value -1. Else as cedar_scan: with room 1 or more each call goes on. */
-size_t cedar_segment(cedar *d, const uint8_t *text, size_t length, size_t *next, cedar_found *found, size_t room);
+size_t cedar_segment(cedar_dictionary *d, const uint8_t *text, size_t length, size_t *next, cedar_found *found, size_t room);
 
 #ifdef __cplusplus
 }

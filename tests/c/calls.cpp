@@ -21,7 +21,7 @@ public:
     ~Cedar() { cedar_free(&inside); }
     Cedar(const Cedar &) = delete;
     Cedar &operator=(const Cedar &) = delete;
-    Cedar(Cedar &&other) noexcept : inside(std::exchange(other.inside, cedar CEDAR_CLOSED)) {}
+    Cedar(Cedar &&other) noexcept : inside(std::exchange(other.inside, cedar_dictionary CEDAR_CLOSED)) {}
     Cedar &operator=(Cedar &&other) noexcept {
         std::swap(inside, other.inside);
         return *this;
@@ -51,7 +51,7 @@ private:
     static const std::uint8_t *bytes(std::string_view key) {
         return reinterpret_cast<const std::uint8_t *>(key.empty() ? "" : key.data());
     }
-    cedar inside = CEDAR_CLOSED;
+    cedar_dictionary inside = CEDAR_CLOSED;
 };
 
 std::string random_key() {

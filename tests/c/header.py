@@ -15,7 +15,7 @@ TYPES = {
     "i32": "int32_t",
     "usize": "size_t",
     "bool": "bool",
-    "Handle": "cedar",
+    "Handle": "cedar_dictionary",
     "Match": "cedar_match",
     "Found": "cedar_found",
     "Pair": "cedar_pair",
