@@ -1,0 +1,36 @@
+// Completes the beginnings of words: complete WORDS BEGINNING.. prints the words of a file that begin with each, with their numbers.
+// Each line of the file is a word, a tab, and a number.
+#include "cedar.hpp"
+#include <exception>
+#include <fstream>
+#include <iostream>
+#include <string>
+
+static roskvidh::dictionary words_of(const std::string &path) {
+    roskvidh::dictionary words;
+    std::ifstream lines(path);
+    lines.exceptions(std::ios::badbit);
+    for (std::string word, number; std::getline(lines, word, '\t') && std::getline(lines, number);) {
+        words.update(word, std::stoi(number));
+    }
+    return words;
+}
+
+static void complete(const roskvidh::dictionary &words, const std::string &beginning) {
+    std::cout << beginning << ": " << words.predictions(beginning).size() << '\n';
+    for (const auto &[word, number] : words.entries_with_prefix(beginning)) {
+        std::cout << "  " << word << ' ' << number << '\n';
+    }
+}
+
+int main(int count, char **arguments) try {
+    if (count < 2) {
+        std::cerr << "usage: complete WORDS BEGINNING..\n";
+        return 2;
+    }
+    const roskvidh::dictionary words = words_of(arguments[1]);
+    for (int i = 2; i < count; ++i) complete(words, arguments[i]);
+} catch (const std::exception &e) {
+    std::cerr << "complete: " << e.what() << '\n';
+    return 1;
+}

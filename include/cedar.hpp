@@ -1,0 +1,529 @@
+// The dictionary of cedar.h as a C++17 class.
+//
+//     roskvidh::dictionary d;
+//     d.update("net", 7);
+//     d.insert("network", 8);                                   // returns nothing, as "network" held no value
+//     d.get("net");                                             // 7
+//     for (const auto &[key, value] : d.entries_with_prefix("net")) std::cout << key << ' ' << value << '\n';
+//     d.save_to_path("words.cedar");
+//
+// A key is a nonempty byte string without byte 0, a value a whole number from 0 to 2147483645. All lengths, places and positions are
+// bytes, counted from 0. Keys, texts and files are read during the call only, unless a member says otherwise.
+//
+// Errors. A refusal is thrown as roskvidh::error, want of memory as std::bad_alloc, a fault of a file as std::system_error. After each
+// of them the dictionary holds what it held before the call; update_all alone may have stored the first of its pairs.
+//
+// Threads. One call at a time works on a dictionary, const members included: cedar.h says how to order calls. Different dictionaries
+// share nothing.
+#ifndef ROSKVIDH_CEDAR_HPP
+#define ROSKVIDH_CEDAR_HPP
+
+#include "cedar.h"
+
+#include <algorithm>
+#include <array>
+#include <cerrno>
+#include <cstddef>
+#include <cstdint>
+#include <cstdio>
+#include <initializer_list>
+#include <iterator>
+#include <limits>
+#include <memory>
+#include <new>
+#include <optional>
+#include <stdexcept>
+#include <string>
+#include <string_view>
+#include <system_error>
+#include <type_traits>
+#include <utility>
+#include <vector>
+
+#if defined(__unix__) || defined(__APPLE__)
+#include <unistd.h>
+#endif
+
+namespace roskvidh {
+
+/// How the slots of a dictionary stand for its keys. All answers are the same in both; a reduced one takes fewer slots.
+enum class layout { standard, reduced };
+
+/// The version of a file's format: 1.1 lists the slots in use, 1.0 all slots.
+enum class file_format { v1_1, v1_0 };
+
+/// A call that was refused. what() is the library's text, and the position behind it where one is told.
+class error : public std::runtime_error {
+public:
+    error(std::uint32_t status, std::optional<std::size_t> position)
+        : std::runtime_error(text_of(status, position)), status_(status), position_(position) {}
+
+    /// The status of cedar.h, as CEDAR_NUL_BYTE.
+    std::uint32_t status() const noexcept { return status_; }
+
+    /// Of CEDAR_NUL_BYTE: the place of the first byte 0 in the key. Of CEDAR_DUPLICATE_KEY and CEDAR_KEYS_NOT_SORTED: the index of the
+    /// pair. Nothing otherwise.
+    std::optional<std::size_t> position() const noexcept { return position_; }
+
+private:
+    static std::string text_of(std::uint32_t status, std::optional<std::size_t> position) {
+        std::uint8_t none = 0;
+        std::string text(cedar_status_text(status, &none, 0), ' ');
+        if (!text.empty()) cedar_status_text(status, reinterpret_cast<std::uint8_t *>(text.data()), text.size());
+        if (position) text += (status == CEDAR_NUL_BYTE ? " (at byte " : " (at pair ") + std::to_string(*position) + ")";
+        return text;
+    }
+
+    std::uint32_t status_;
+    std::optional<std::size_t> position_;
+};
+
+/// A key that a walk found: its value, and a length in bytes. Each walk says what it is the length of.
+using match = cedar_match;
+
+/// A key that stands in a text: where it begins, how many bytes it has, and its value.
+using occurrence = cedar_found;
+
+/// A token of a text: where it begins, how many bytes it has, and its value if it is a key.
+struct token {
+    std::size_t place;
+    std::size_t length;
+    std::optional<std::int32_t> value;
+};
+
+/// A key and its value. The key's bytes are those of the entries that it comes from.
+struct entry {
+    std::string_view key;
+    std::int32_t value;
+};
+
+/// Figures of a dictionary.
+struct statistics {
+    std::size_t keys;         ///< how many keys are held
+    std::size_t used_slots;   ///< how many slots stand for the root, for the bytes of keys, and for values
+    std::size_t capacity;     ///< how many slots there are
+    std::size_t spare_blocks; ///< how many blocks of 256 slots can come into use before memory is asked for
+};
+
+namespace detail {
+
+// C takes no null pointer, which an empty view may have.
+inline const std::uint8_t *bytes(std::string_view text) noexcept {
+    return reinterpret_cast<const std::uint8_t *>(text.empty() ? "" : text.data());
+}
+
+inline void check(std::uint32_t status, std::size_t position = 0) {
+    switch (status) {
+    case CEDAR_OK: return;
+    case CEDAR_MEMORY: throw std::bad_alloc();
+    case CEDAR_NUL_BYTE:
+    case CEDAR_DUPLICATE_KEY:
+    case CEDAR_KEYS_NOT_SORTED: throw error(status, position);
+    default: throw error(status, std::nullopt);
+    }
+}
+
+// The pairs of a range as C takes them: they name the bytes of its keys.
+template <class Pairs>
+std::vector<cedar_pair> pairs_of(const Pairs &pairs) {
+    static_assert(std::is_lvalue_reference_v<decltype(*std::begin(pairs))>, "the pairs stand in the range, which lends them");
+    std::vector<cedar_pair> listed;
+    listed.reserve(1); // so that data() isn't null
+    for (const auto &[key, value] : pairs) {
+        using Value = std::remove_cv_t<std::remove_reference_t<decltype(value)>>;
+        static_assert(std::is_integral_v<Value> && std::numeric_limits<Value>::digits <= 31, "no value is cut off");
+        const std::string_view view(key);
+        listed.push_back({bytes(view), view.size(), std::int32_t{value}});
+    }
+    return listed;
+}
+
+// Calls what a scan is told to, and returns whether it goes on: what returns a bool ends it by false.
+template <class Callable, class Item>
+bool tell(Callable &callable, const Item &item) {
+    if constexpr (std::is_same_v<std::invoke_result_t<Callable &, const Item &>, bool>) {
+        return callable(item);
+    } else {
+        callable(item);
+        return true;
+    }
+}
+
+struct close_file {
+    void operator()(std::FILE *file) const noexcept { std::fclose(file); }
+};
+using file = std::unique_ptr<std::FILE, close_file>;
+
+[[noreturn]] inline void throw_file_error(int number, const std::string &path) {
+    throw std::system_error(number, std::generic_category(), path);
+}
+
+inline std::vector<std::uint8_t> read_file(const std::string &path) {
+    const file opened(std::fopen(path.c_str(), "rb"));
+    if (!opened) throw_file_error(errno, path);
+    std::vector<std::uint8_t> bytes;
+    std::size_t count = 0;
+    do {
+        count = bytes.size();
+        bytes.resize(std::max<std::size_t>(std::size_t{1} << 16, 2 * count));
+        count += std::fread(bytes.data() + count, 1, bytes.size() - count, opened.get());
+        if (std::ferror(opened.get())) throw_file_error(errno, path);
+    } while (count == bytes.size());
+    bytes.resize(count);
+    return bytes;
+}
+
+// Writes a file at `beside`, whole and, where the system can tell, on the disk, and then puts it in the place of the one at `path`.
+// Returns whether that was done; else errno says why not, and no part of a file is left.
+inline bool replace_file(const std::string &path, const std::string &beside, const std::vector<std::uint8_t> &bytes) noexcept {
+    std::FILE *opened = std::fopen(beside.c_str(), "wb");
+    if (opened == nullptr) return false;
+    bool is_written = std::fwrite(bytes.data(), 1, bytes.size(), opened) == bytes.size() && std::fflush(opened) == 0;
+#if defined(__unix__) || defined(__APPLE__)
+    is_written = is_written && fsync(fileno(opened)) == 0;
+#endif
+    int number = errno;
+    if (std::fclose(opened) != 0 && is_written) {
+        number = errno;
+        is_written = false;
+    }
+    if (is_written && std::rename(beside.c_str(), path.c_str()) == 0) return true;
+    if (is_written) number = errno;
+    std::remove(beside.c_str());
+    errno = number;
+    return false;
+}
+
+} // namespace detail
+
+/// Keys and values as they were when the range was made, in the order of the walk: in that of bytes where labels ascend. The range has
+/// a copy of them, so the dictionary may change or go meanwhile. Its views of keys hold as long as the range, or what it is moved to.
+class entries {
+public:
+    class iterator {
+    public:
+        using iterator_category = std::input_iterator_tag;
+        using value_type = entry;
+        using difference_type = std::ptrdiff_t;
+        using pointer = void;
+        using reference = entry;
+
+        iterator() = default;
+        entry operator*() const noexcept { return {std::string_view(key_, match_->length), match_->value}; }
+        iterator &operator++() noexcept {
+            key_ += match_->length;
+            ++match_;
+            return *this;
+        }
+        iterator operator++(int) noexcept {
+            const iterator before = *this;
+            ++*this;
+            return before;
+        }
+        friend bool operator==(const iterator &one, const iterator &other) noexcept { return one.match_ == other.match_; }
+        friend bool operator!=(const iterator &one, const iterator &other) noexcept { return one.match_ != other.match_; }
+
+    private:
+        friend class entries;
+        iterator(const char *key, const match *found) noexcept : key_(key), match_(found) {}
+
+        const char *key_ = nullptr;
+        const match *match_ = nullptr;
+    };
+
+    iterator begin() const noexcept { return {keys_.data(), matches_.data()}; }
+    iterator end() const noexcept { return {nullptr, matches_.data() + matches_.size()}; }
+
+    /// How many entries there are.
+    std::size_t size() const noexcept { return matches_.size(); }
+
+    /// Whether there is none.
+    bool empty() const noexcept { return matches_.empty(); }
+
+private:
+    friend class dictionary;
+    entries() = default;
+
+    // Leaves the `count` entries of a prefix, of which there is one at least. They stand side by side in the walk.
+    void narrow(std::string_view prefix, std::size_t count) {
+        std::size_t first = 0, place = 0;
+        while (std::string_view(keys_.data() + place, matches_[first].length).substr(0, prefix.size()) != prefix) {
+            place += matches_[first++].length;
+        }
+        matches_.erase(matches_.begin(), matches_.begin() + static_cast<std::ptrdiff_t>(first));
+        matches_.resize(count);
+        keys_.erase(keys_.begin(), keys_.begin() + static_cast<std::ptrdiff_t>(place));
+    }
+
+    std::vector<char> keys_; // one after another, and further ones behind them
+    std::vector<match> matches_;
+};
+
+/// A mutable dictionary from byte strings to whole numbers. It is moved and not copied; clone() makes a copy. What was moved from is
+/// closed: it holds nothing and may be assigned to; calls that store or save throw the error CEDAR_IS_CLOSED.
+class dictionary {
+public:
+    /// No limit on how many answers a walk gives.
+    static constexpr std::size_t unlimited = std::numeric_limits<std::size_t>::max();
+
+    /// An empty dictionary. `ordered` says whether walks go in the order of bytes; else a new branch goes before its siblings, which
+    /// makes storing faster. `max_trial`, 1 or more, is how many failed searches for a place close a block of slots: more make the
+    /// table denser and storing slower. Throws CEDAR_INVALID_MAX_TRIAL and std::bad_alloc.
+    explicit dictionary(layout kind = layout::standard, bool ordered = true, std::int32_t max_trial = 1) {
+        detail::check((kind == layout::reduced ? cedar_new_reduced : cedar_new_with)(&inside_, ordered, max_trial));
+    }
+    dictionary(const dictionary &) = delete;
+    dictionary &operator=(const dictionary &) = delete;
+
+    /// Takes the other one's content and leaves it closed. It allocates nothing; no key is touched.
+    dictionary(dictionary &&other) noexcept { swap(other); }
+    dictionary &operator=(dictionary &&other) noexcept {
+        dictionary moved(std::move(other));
+        swap(moved);
+        return *this;
+    }
+
+    /// Gives the memory back.
+    ~dictionary() { cedar_free(&inside_); }
+
+    /// Exchanges the contents. It allocates nothing; no key is touched.
+    void swap(dictionary &other) noexcept { std::swap(inside_, other.inside_); }
+    friend void swap(dictionary &one, dictionary &other) noexcept { one.swap(other); }
+
+    /// The dictionary of pairs whose keys ascend by bytes, as those of a std::map do, made at once. `pairs` is any range of pairs of what
+    /// is a std::string_view and an int. All pairs are tested first. Throws the first fault of the pairs: CEDAR_EMPTY_KEY,
+    /// CEDAR_NUL_BYTE, CEDAR_INVALID_VALUE, CEDAR_DUPLICATE_KEY, CEDAR_KEYS_NOT_SORTED; or CEDAR_INVALID_MAX_TRIAL, CEDAR_SLOT_LIMIT,
+    /// std::bad_alloc.
+    template <class Pairs = std::initializer_list<std::pair<std::string_view, std::int32_t>>>
+    static dictionary from_sorted(const Pairs &pairs, layout kind = layout::standard, bool ordered = true, std::int32_t max_trial = 1) {
+        const std::vector<cedar_pair> listed = detail::pairs_of(pairs);
+        dictionary built{closed()};
+        std::size_t position = 0;
+        const auto build = kind == layout::reduced ? cedar_build_reduced : cedar_build;
+        const std::uint32_t status = build(&built.inside_, ordered, max_trial, listed.data(), listed.size(), &position);
+        detail::check(status, position);
+        return built;
+    }
+
+    /// An equal dictionary, with the same order, settings and layout. It is saved and loaded, which takes memory for the file's bytes and
+    /// a copy of them besides. Throws std::bad_alloc, and CEDAR_IS_CLOSED.
+    dictionary clone() const { return load(save(), unlimited); }
+
+    /// Stores a value at a key, in place of the value that the key holds. Throws CEDAR_EMPTY_KEY, CEDAR_NUL_BYTE, CEDAR_INVALID_VALUE,
+    /// and, where the key isn't held, CEDAR_SLOT_LIMIT and std::bad_alloc.
+    void update(std::string_view key, std::int32_t value) {
+        std::size_t position = 0;
+        const std::uint32_t status = cedar_update(&inside_, detail::bytes(key), key.size(), value, &position);
+        detail::check(status, position);
+    }
+
+    /// As update, and returns the value that the key held before, if it held one.
+    std::optional<std::int32_t> insert(std::string_view key, std::int32_t value) {
+        std::size_t position = 0;
+        std::int32_t before = 0;
+        bool held = false;
+        const std::uint32_t status = cedar_insert(&inside_, detail::bytes(key), key.size(), value, &held, &before, &position);
+        detail::check(status, position);
+        return held ? std::optional(before) : std::nullopt;
+    }
+
+    /// Stores the pairs of a range, as of from_sorted, in any order: a key's last value stands. All are tested first: with a fault, as of
+    /// update, nothing is stored. CEDAR_SLOT_LIMIT, or std::bad_alloc: the first of the pairs, as many as found room, are stored.
+    template <class Pairs = std::initializer_list<std::pair<std::string_view, std::int32_t>>>
+    void update_all(const Pairs &pairs) {
+        const std::vector<cedar_pair> listed = detail::pairs_of(pairs);
+        std::size_t position = 0;
+        const std::uint32_t status = cedar_update_all(&inside_, listed.data(), listed.size(), &position);
+        detail::check(status, position);
+    }
+
+    /// Removes a key, and returns whether it was held. Its slots are used again. It allocates nothing.
+    bool erase(std::string_view key) noexcept { return cedar_erase(&inside_, detail::bytes(key), key.size()); }
+
+    /// The value at a key, if it is held. It reads at most one slot for each byte of the key and one for the value, and allocates nothing.
+    std::optional<std::int32_t> get(std::string_view key) const noexcept {
+        std::int32_t value = 0;
+        if (!cedar_get(&inside_, detail::bytes(key), key.size(), &value)) return std::nullopt;
+        return value;
+    }
+
+    /// Whether a key is held. It costs what get does.
+    bool contains(std::string_view key) const noexcept { return get(key).has_value(); }
+
+    /// How many keys are held. They are counted as they come and go, so this costs the same for all dictionaries.
+    std::size_t size() const noexcept { return cedar_len(&inside_); }
+
+    /// Whether no key is held.
+    bool empty() const noexcept { return size() == 0; }
+
+    /// Whether the dictionary is open. One that was moved from isn't.
+    bool is_open() const noexcept { return cedar_capacity(&inside_) != 0; }
+
+    /// The layout, which is settled where the dictionary is made. That of a closed one is standard.
+    layout kind() const noexcept { return cedar_is_reduced(&inside_) ? layout::reduced : layout::standard; }
+
+    /// The figures, which are 0 for a closed dictionary.
+    roskvidh::statistics statistics() const noexcept {
+        return {cedar_len(&inside_), cedar_used_slots(&inside_), cedar_capacity(&inside_), cedar_spare_blocks(&inside_)};
+    }
+
+    /// Asks for the memory of so many blocks of 256 slots more than are in use. Updates that make no more of them ask for none: an update
+    /// makes at most one for each byte of its key. Throws CEDAR_IS_CLOSED, CEDAR_SLOT_LIMIT and std::bad_alloc.
+    void reserve(std::size_t blocks) { detail::check(cedar_reserve(&inside_, blocks)); }
+
+    /// The keys that a text begins with, shortest first: for each its value, and its length in bytes. It is one walk along the text, or
+    /// three where there are 64 or more. Throws std::bad_alloc.
+    std::vector<match> prefixes(std::string_view text) const {
+        std::vector<match> found = walked(cedar_prefixes_from, cedar_prefixes, text, unlimited);
+        for (match &one : found) ++one.length; // C tells the place of a key's last byte
+        return found;
+    }
+
+    /// Of the keys that a text begins with the longest: its value, and its length in bytes. It allocates nothing.
+    std::optional<match> longest_match(std::string_view text) const noexcept {
+        std::array<match, 32> found{};
+        const std::size_t count = cedar_prefixes(&inside_, detail::bytes(text), text.size(), found.data(), found.size());
+        if (count == 0) return std::nullopt;
+        std::size_t last = count - 1;
+        if (count > found.size()) {
+            cedar_prefixes_from(&inside_, detail::bytes(text), text.size(), &last, found.data(), 1);
+            last = 0;
+        }
+        return match{found[last].value, found[last].length + 1};
+    }
+
+    /// The keys that begin with a text, in the order of the walk, at most `most` of them: for each its value, and in length how many bytes
+    /// follow the text. It is one walk over them, or three where 64 or more are wanted. Throws std::bad_alloc.
+    std::vector<match> predictions(std::string_view text, std::size_t most = unlimited) const {
+        return walked(cedar_predictions_from, cedar_predictions, text, most);
+    }
+
+    /// All keys with their values. It copies the keys, and 16 bytes an entry besides, in a few allocations. Throws std::bad_alloc.
+    roskvidh::entries entries() const { return entries_with_prefix({}); }
+
+    /// The keys that begin with a text, with their values. If there is one, it copies all keys of the dictionary, as C tells keys only as
+    /// a whole. Where a value leads to its key, predictions costs less. Throws std::bad_alloc.
+    roskvidh::entries entries_with_prefix(std::string_view prefix) const {
+        roskvidh::entries range;
+        match none{};
+        const std::size_t count = cedar_predictions(&inside_, detail::bytes(prefix), prefix.size(), &none, 0);
+        if (count == 0) return range;
+        range.matches_ = predictions({});
+        std::size_t needed = 0;
+        for (const match &one : range.matches_) needed += one.length;
+        range.keys_.resize(needed);
+        detail::check(cedar_keys(&inside_, reinterpret_cast<std::uint8_t *>(range.keys_.data()), needed, &needed));
+        range.narrow(prefix, count);
+        return range;
+    }
+
+    /// Calls `callable(occurrence)` for each key that stands in a text: place after place, and at each the shortest first. If it returns a
+    /// bool, false ends the scan. Up to 256 keys are found ahead, so what `callable` stores or erases shows later or never. It allocates
+    /// only where more than 256 keys begin at one place. Throws what `callable` throws, and std::bad_alloc.
+    template <class Callable>
+    void scan(std::string_view text, Callable &&callable) const {
+        told(cedar_scan, text, [&callable](const cedar_found &one) { return detail::tell(callable, one); });
+    }
+
+    /// Calls `callable(token)` for the tokens that a text is cut into: at each place the longest key that stands there, or else one byte,
+    /// which has no value. If it returns a bool, false ends it. Else as scan, but that it allocates nothing.
+    template <class Callable>
+    void segment(std::string_view text, Callable &&callable) const {
+        told(cedar_segment, text, [&callable](const cedar_found &one) {
+            const token cut{one.place, one.length, one.value < 0 ? std::nullopt : std::optional(one.value)};
+            return detail::tell(callable, cut);
+        });
+    }
+
+    /// The bytes of the dictionary's file. Throws std::bad_alloc and CEDAR_IS_CLOSED.
+    std::vector<std::uint8_t> save(file_format version = file_format::v1_1) const {
+        const bool is_full = version == file_format::v1_0;
+        std::vector<std::uint8_t> file(1);
+        std::size_t needed = 0;
+        const std::uint32_t status = cedar_save(&inside_, is_full, file.data(), 0, &needed);
+        if (status != CEDAR_NO_ROOM) detail::check(status);
+        file.resize(needed);
+        detail::check(cedar_save(&inside_, is_full, file.data(), file.size(), &needed));
+        return file;
+    }
+
+    /// The dictionary of a file's bytes, of the layout that they are of. It asks for `memory_limit` bytes for its tables at most. Any bytes
+    /// may come: what isn't a well-formed table throws the first refusal, one of CEDAR_FILE_TRUNCATED to CEDAR_FILE_TRAILING. Throws
+    /// std::bad_alloc too.
+    static dictionary load(const std::uint8_t *bytes, std::size_t length, std::size_t memory_limit = CEDAR_LOAD_LIMIT) {
+        dictionary loaded{closed()};
+        const std::uint8_t none = 0;
+        if (length == 0) bytes = &none;
+        std::uint32_t status = cedar_load(&loaded.inside_, bytes, length, memory_limit);
+        if (status == CEDAR_FILE_LAYOUT) status = cedar_load_reduced(&loaded.inside_, bytes, length, memory_limit);
+        detail::check(status);
+        return loaded;
+    }
+
+    /// The same of a vector of bytes.
+    static dictionary load(const std::vector<std::uint8_t> &bytes, std::size_t memory_limit = CEDAR_LOAD_LIMIT) {
+        return load(bytes.data(), bytes.size(), memory_limit);
+    }
+
+    /// Writes the file to PATH.new, whole and on the disk, which then replaces the file at the path. After an error that one is as it was,
+    /// and PATH.new is removed. Throws std::system_error with the path, std::bad_alloc and CEDAR_IS_CLOSED.
+    void save_to_path(const std::string &path, file_format version = file_format::v1_1) const {
+        if (!detail::replace_file(path, path + ".new", save(version))) detail::throw_file_error(errno, path);
+    }
+
+    /// As load, of the bytes of the file at a path, which is read into memory as a whole. Throws std::system_error with the path too.
+    static dictionary load_from_path(const std::string &path, std::size_t memory_limit = CEDAR_LOAD_LIMIT) {
+        return load(detail::read_file(path), memory_limit);
+    }
+
+private:
+    using walk_from = std::size_t (*)(cedar_dictionary *, const std::uint8_t *, std::size_t, std::size_t *, cedar_match *, std::size_t);
+    using walk = std::size_t (*)(cedar_dictionary *, const std::uint8_t *, std::size_t, cedar_match *, std::size_t);
+    using text_walk = std::size_t (*)(cedar_dictionary *, const std::uint8_t *, std::size_t, std::size_t *, cedar_found *, std::size_t);
+
+    struct closed {};
+    explicit dictionary(closed) noexcept {}
+
+    // The first answers of a walk: a few at once, and where there are more, all that are wanted in a second walk.
+    std::vector<match> walked(walk_from some, walk all, std::string_view text, std::size_t most) const {
+        std::size_t room = std::min<std::size_t>(most, 64);
+        std::vector<match> found(room + 1); // so that data() isn't null
+        std::size_t next = 0;
+        std::size_t count = some(&inside_, detail::bytes(text), text.size(), &next, found.data(), room);
+        if (count == room && room < most) {
+            room = std::min(most, all(&inside_, detail::bytes(text), text.size(), found.data(), 0));
+            found.resize(room + 1);
+            next = 0;
+            count = some(&inside_, detail::bytes(text), text.size(), &next, found.data(), room);
+        }
+        found.resize(count);
+        return found;
+    }
+
+    // Tells a text in pieces. Where none fits, one place has more keys than there is room.
+    template <class Tell>
+    void told(text_walk call, std::string_view text, Tell tell) const {
+        std::array<cedar_found, 256> first{};
+        std::vector<cedar_found> more;
+        cedar_found *found = first.data();
+        std::size_t room = first.size();
+        for (std::size_t next = 0; next < text.size();) {
+            const std::size_t count = call(&inside_, detail::bytes(text), text.size(), &next, found, room);
+            for (std::size_t i = 0; i < count; ++i) {
+                if (!tell(found[i])) return;
+            }
+            if (count == 0 && next < text.size()) {
+                room *= 2;
+                more.resize(room);
+                found = more.data();
+            }
+        }
+    }
+
+    // C's calls take a pointer to what they may change, but no const member changes what the dictionary holds.
+    mutable cedar_dictionary inside_ = CEDAR_CLOSED;
+};
+
+} // namespace roskvidh
+
+#endif

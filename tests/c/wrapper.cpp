@@ -1,0 +1,395 @@
+// The class of cedar.hpp: each member and each error, and random calls of each layout beside a std::map; so many as the argument says.
+// Linked with -Wl,--wrap=malloc,--wrap=realloc.
+#include "cedar.hpp"
+#include "check.h"
+#include <functional>
+#include <iterator>
+#include <map>
+#include <sys/stat.h>
+#include <tuple>
+#include <unistd.h>
+
+// How many requests for memory of the library are still met; below 0 all are. Those of C++ don't come through here.
+static long left = -1;
+
+static bool is_met() {
+    if (left == 0) return false;
+    if (left > 0) left--;
+    return true;
+}
+
+extern "C" {
+void *__real_malloc(std::size_t size);
+void *__real_realloc(void *block, std::size_t size);
+void *__wrap_malloc(std::size_t size) { return is_met() ? __real_malloc(size) : nullptr; }
+void *__wrap_realloc(void *block, std::size_t size) { return is_met() ? __real_realloc(block, size) : nullptr; }
+}
+
+namespace {
+
+using roskvidh::dictionary;
+using roskvidh::layout;
+using Plain = std::map<std::string, std::int32_t>;
+using Pairs = std::vector<std::pair<std::string, std::int32_t>>;
+using Ends = std::vector<std::pair<std::int32_t, std::size_t>>;
+using Tokens = std::vector<std::tuple<std::size_t, std::size_t, std::optional<std::int32_t>>>;
+
+static_assert(!std::is_copy_constructible_v<dictionary> && !std::is_copy_assignable_v<dictionary>);
+static_assert(std::is_nothrow_move_constructible_v<dictionary> && std::is_nothrow_move_assignable_v<dictionary>);
+
+// Checks that a call is refused with this status, position and text.
+void refused(std::uint32_t status, std::optional<std::size_t> position, std::string_view text, const std::function<void()> &call) {
+    try {
+        call();
+    } catch (const roskvidh::error &e) {
+        if (e.status() != status || e.position() != position || e.what() != text) std::fprintf(stderr, "%u: %s\n", e.status(), e.what());
+        CHECK(e.status() == status && e.position() == position && e.what() == text);
+        return;
+    }
+    CHECK(!"an error was thrown");
+}
+
+void lacks_memory(const std::function<void()> &call) {
+    left = 0;
+    try {
+        call();
+    } catch (const std::bad_alloc &) {
+        left = -1;
+        return;
+    }
+    CHECK(!"std::bad_alloc was thrown");
+}
+
+Pairs listed(const roskvidh::entries &range) {
+    Pairs pairs;
+    for (const auto &[key, value] : range) pairs.emplace_back(key, value);
+    CHECK(pairs.size() == range.size() && range.empty() == pairs.empty());
+    return pairs;
+}
+
+Ends ends(const std::vector<roskvidh::match> &found) {
+    Ends pairs;
+    for (const roskvidh::match &one : found) pairs.emplace_back(one.value, one.length);
+    return pairs;
+}
+
+Tokens scanned(const dictionary &d, std::string_view text) {
+    Tokens found;
+    d.scan(text, [&](const roskvidh::occurrence &one) { found.emplace_back(one.place, one.length, one.value); });
+    return found;
+}
+
+Tokens segmented(const dictionary &d, std::string_view text) {
+    Tokens found;
+    d.segment(text, [&](const roskvidh::token &one) { found.emplace_back(one.place, one.length, one.value); });
+    return found;
+}
+
+void each_member(layout kind) {
+    dictionary d(kind);
+    CHECK(d.kind() == kind && d.is_open() && d.empty() && d.size() == 0 && listed(d.entries()).empty());
+    d.update("net", 7);
+    CHECK(d.insert("network", 8) == std::nullopt && d.insert("network", 9) == 8 && d.insert("no", CEDAR_MAX_VALUE) == std::nullopt);
+    d.update_all({{"new", 1}, {"network", 8}, {"new", 2}});
+    d.update_all(Plain{{"a", 5}});
+    CHECK(d.size() == 5 && !d.empty() && d.get("net") == 7 && d.get("new") == 2 && d.get("ne") == std::nullopt);
+    CHECK(d.contains("a") && !d.contains("") && !d.contains({}) && !d.contains("netw") && d.get("no") == CEDAR_MAX_VALUE);
+    CHECK(d.erase("a") && !d.erase("a") && d.size() == 4);
+    const Pairs all = {{"net", 7}, {"network", 8}, {"new", 2}, {"no", CEDAR_MAX_VALUE}};
+    CHECK(listed(d.entries()) == all && listed(d.entries_with_prefix("ne")) == Pairs(all.begin(), all.begin() + 3));
+    CHECK(listed(d.entries_with_prefix("new")) == Pairs({{"new", 2}}) && listed(d.entries_with_prefix("nx")).empty());
+    CHECK(ends(d.prefixes("networks")) == Ends({{7, 3}, {8, 7}}) && d.prefixes("").empty());
+    CHECK(ends(d.predictions("ne")) == Ends({{7, 1}, {8, 5}, {2, 1}}) && d.predictions("").size() == 4);
+    CHECK(ends(d.predictions("ne", 2)) == Ends({{7, 1}, {8, 5}}) && d.predictions("ne", 0).empty());
+    const auto longest = d.longest_match("networks");
+    CHECK(longest && longest->value == 8 && longest->length == 7 && !d.longest_match("ten"));
+    CHECK(scanned(d, "no network") == Tokens({{0, 2, CEDAR_MAX_VALUE}, {3, 3, 7}, {3, 7, 8}}) && scanned(d, "").empty());
+    CHECK(segmented(d, "network!") == Tokens({{0, 7, 8}, {7, 1, std::nullopt}}));
+    const roskvidh::statistics figures = d.statistics();
+    CHECK(figures.keys == 4 && figures.used_slots == (kind == layout::standard ? 1 + 9 + 4 : 1 + 9 + 1));
+    CHECK(figures.capacity == 512 && figures.spare_blocks == 0);
+    d.reserve(3);
+    CHECK(d.statistics().capacity == 2048 && d.statistics().spare_blocks >= 3 && d.size() == 4);
+    const dictionary copy = d.clone();
+    d.update("later", 1);
+    CHECK(copy.kind() == kind && listed(copy.entries()) == all && d.size() == 5);
+}
+
+// Iterators and ranges that outlive what they come from; callables that end a walk or throw.
+void ranges_and_callables() {
+    dictionary d = dictionary::from_sorted({{"a", 1}, {"ab", 2}, {"b", 3}});
+    roskvidh::entries range = d.entries();
+    auto second = std::next(range.begin());
+    d = dictionary();
+    const roskvidh::entries moved = std::move(range);
+    CHECK((*second).key == "ab" && (*second++).value == 2 && (*second).key == "b" && ++second == moved.end());
+    CHECK(std::distance(moved.begin(), moved.end()) == 3 && moved.size() == 3 && d.empty() && listed(range).empty());
+    CHECK(roskvidh::entries::iterator() == roskvidh::entries::iterator());
+
+    d.update_all({{"a", 1}, {"aa", 2}});
+    int calls = 0;
+    d.scan("aaaa", [&](const roskvidh::occurrence &) { return ++calls < 3; });
+    CHECK(calls == 3);
+    d.segment("aaaa", [&](const roskvidh::token &) { return --calls > 2; });
+    CHECK(calls == 2);
+    try {
+        d.scan("aaaa", [](const roskvidh::occurrence &one) { throw one.length; });
+        CHECK(false);
+    } catch (std::size_t length) {
+        CHECK(length == 1);
+    }
+}
+
+// More answers than any buffer has room for.
+void many_answers() {
+    dictionary d;
+    const std::string text(600, 'a');
+    Tokens all;
+    for (std::size_t length = 1; length <= text.size(); length++) d.update(text.substr(0, length), static_cast<std::int32_t>(length));
+    for (std::size_t place = 0; place < text.size(); place++) {
+        for (std::size_t length = 1; length <= text.size() - place; length++) all.emplace_back(place, length, length);
+    }
+    CHECK(scanned(d, text) == all && segmented(d, text + "b") == Tokens({{0, 600, 600}, {600, 1, std::nullopt}}));
+    CHECK(d.prefixes(text).size() == 600 && d.prefixes(text).back().length == 600 && d.longest_match(text)->length == 600);
+    CHECK(d.predictions("a").size() == 600 && d.predictions("a", 100).size() == 100 && d.predictions("a", 100).back().value == 100);
+    CHECK(d.predictions("a", 1000).back().length == 599);
+}
+
+void settings_and_sorted_pairs(layout kind) {
+    dictionary unordered(kind, false, 3);
+    unordered.update_all({{"a", 1}, {"c", 3}, {"b", 2}});
+    CHECK(listed(unordered.entries()) == Pairs({{"b", 2}, {"c", 3}, {"a", 1}}) && listed(unordered.clone().entries()) == listed(unordered.entries()));
+    CHECK(listed(unordered.entries_with_prefix("c")) == Pairs({{"c", 3}}));
+
+    const Plain plain = {{"a", 1}, {"a\xff", 2}, {"b", 3}};
+    const dictionary sorted = dictionary::from_sorted(plain, kind);
+    CHECK(listed(sorted.entries()) == Pairs(plain.begin(), plain.end()) && sorted.kind() == kind);
+    CHECK(dictionary::from_sorted(Pairs(), kind).empty() && dictionary::from_sorted({}, kind, false, 2).is_open());
+    refused(CEDAR_INVALID_MAX_TRIAL, {}, "max_trial must be greater than zero", [&] { dictionary(kind, true, 0); });
+    refused(CEDAR_INVALID_MAX_TRIAL, {}, "max_trial must be greater than zero", [&] { dictionary::from_sorted(plain, kind, true, -1); });
+    refused(CEDAR_DUPLICATE_KEY, 1, "duplicate key in sorted input (at pair 1)", [&] { dictionary::from_sorted({{"a", 1}, {"a", 2}}, kind); });
+    refused(CEDAR_KEYS_NOT_SORTED, 2, "key in sorted input is smaller than its predecessor (at pair 2)",
+            [&] { dictionary::from_sorted({{"a", 1}, {"b", 2}, {"a", 3}}, kind); });
+}
+
+void refusals(layout kind) {
+    using namespace std::literals;
+    dictionary d(kind);
+    d.update("held", 1);
+    const char *const value_text = "cedar value is outside the supported range 0..=2147483645";
+    const std::function<void(std::string_view, std::int32_t)> stores[] = {
+        [&](auto key, auto value) { d.update(key, value); },
+        [&](auto key, auto value) { d.insert(key, value); },
+        [&](auto key, auto value) { d.update_all({{"a", 1}, {key, value}}); },
+        [&](auto key, auto value) { dictionary::from_sorted({{key, value}}, kind); },
+    };
+    for (const auto &store : stores) {
+        refused(CEDAR_EMPTY_KEY, {}, "cedar keys must not be empty", [&] { store({}, -1); });
+        refused(CEDAR_NUL_BYTE, 2, "cedar keys must not contain the terminal byte 0x00 (at byte 2)", [&] { store("ab\0"sv, -1); });
+        refused(CEDAR_INVALID_VALUE, {}, value_text, [&] { store("ab", -1); });
+        refused(CEDAR_INVALID_VALUE, {}, value_text, [&] { store("ab", CEDAR_MAX_VALUE + 1); });
+        CHECK(d.size() == 1);
+    }
+    refused(CEDAR_SLOT_LIMIT, {}, "cedar trie has no slot left", [&] { d.reserve(std::size_t{1} << 22); });
+    lacks_memory([&] { dictionary another(kind); });
+    lacks_memory([&] { d.reserve(100); });
+    lacks_memory([&] { (void)d.save(); });
+    lacks_memory([&] { (void)d.clone(); });
+    lacks_memory([&] { (void)d.entries(); });
+    lacks_memory([&] { dictionary::from_sorted({{"a", 1}}, kind); });
+    lacks_memory([&] { d.update_all({{"a", 1}}); });
+    lacks_memory([&] {
+        for (int i = 1; i < 10000; i++) d.update(std::string(1, static_cast<char>(1 + i % 255)) + std::to_string(i), i);
+    });
+    CHECK(d.get("held") == 1);
+}
+
+void moves(layout kind) {
+    dictionary first(kind);
+    first.update("a", 1);
+    dictionary second = std::move(first);
+    CHECK(second.get("a") == 1 && !first.is_open() && first.empty() && first.get("a") == std::nullopt && !first.erase("a"));
+    CHECK(first.entries().empty() && first.prefixes("a").empty() && first.predictions("").empty() && !first.longest_match("a"));
+    CHECK(scanned(first, "a").empty() && segmented(first, "a").empty() && first.statistics().capacity == 0);
+    const char *const text = "the dictionary is closed";
+    refused(CEDAR_IS_CLOSED, {}, text, [&] { first.update("a", 1); });
+    refused(CEDAR_IS_CLOSED, {}, text, [&] { first.insert("a", 1); });
+    refused(CEDAR_IS_CLOSED, {}, text, [&] { first.update_all({{"a", 1}}); });
+    refused(CEDAR_IS_CLOSED, {}, text, [&] { first.reserve(1); });
+    refused(CEDAR_IS_CLOSED, {}, text, [&] { (void)first.save(); });
+    refused(CEDAR_IS_CLOSED, {}, text, [&] { (void)first.clone(); });
+    first = dictionary(kind);
+    first.update("b", 2);
+    swap(first, second);
+    CHECK(first.get("a") == 1 && second.get("b") == 2 && second.size() == 1);
+    dictionary &same = first;
+    first = std::move(same);
+    CHECK(first.get("a") == 1);
+    first = std::move(second);
+    CHECK(first.get("b") == 2 && first.size() == 1 && !second.is_open());
+}
+
+const char *const limit_text = "serialized trie requires more bytes while loading than the limit";
+
+// Each refusal of a file, by one change to its bytes.
+void refused_files(layout kind) {
+    const dictionary d = dictionary::from_sorted({{"net", 7}, {"network", 8}}, kind);
+    const std::vector<std::uint8_t> file = d.save();
+    const auto with = [&](std::size_t place, std::uint8_t byte) {
+        std::vector<std::uint8_t> changed = file;
+        changed[place] = byte;
+        return changed;
+    };
+    std::vector<std::uint8_t> longer = file;
+    longer.push_back(0);
+    const std::tuple<std::uint32_t, const char *, std::vector<std::uint8_t>> rows[] = {
+        {CEDAR_FILE_TRUNCATED, "serialized cedar trie is truncated", {}},
+        {CEDAR_FILE_TRUNCATED, "serialized cedar trie is truncated", {file.begin(), file.end() - 1}},
+        {CEDAR_FILE_MAGIC, "input is not a cedarwood serialized trie", with(0, 'D')},
+        {CEDAR_FILE_VERSION, "unsupported cedarwood format version", with(8, 2)},
+        {CEDAR_FILE_BYTE_ORDER, "unsupported cedarwood byte-order marker", with(12, 2)},
+        {CEDAR_FILE_LAYOUT, "serialized trie layout does not match", with(13, 2)},
+        {CEDAR_FILE_HEADER, "invalid serialized header field", with(14, 2)},
+        {CEDAR_FILE_CORRUPT, "corrupt serialized trie", with(88, 77)},
+        {CEDAR_FILE_TRAILING, "serialized trie has trailing data", longer},
+    };
+    for (const auto &[status, text, bytes] : rows) refused(status, {}, text, [&, &bytes = bytes] { dictionary::load(bytes); });
+    refused(CEDAR_FILE_MEMORY_LIMIT, {}, limit_text, [&] { dictionary::load(file, 100); });
+    refused(CEDAR_FILE_TRUNCATED, {}, "serialized cedar trie is truncated", [&] { dictionary::load(nullptr, 0); });
+    lacks_memory([&] { dictionary::load(file); });
+    CHECK(listed(dictionary::load(file.data(), file.size(), CEDAR_LOAD_LIMIT).entries()) == listed(d.entries()));
+    const std::vector<std::uint8_t> full = d.save(roskvidh::file_format::v1_0);
+    CHECK(file[10] == 1 && full[10] == 0 && dictionary::load(full).save() == file && dictionary::load(file).kind() == kind);
+}
+
+std::string bytes_at(const std::string &path) {
+    const std::vector<std::uint8_t> bytes = roskvidh::detail::read_file(path);
+    return std::string(bytes.begin(), bytes.end());
+}
+
+void no_file(const std::string &path, const std::function<void()> &call) {
+    try {
+        call();
+        CHECK(!"std::system_error was thrown");
+    } catch (const std::system_error &e) {
+        CHECK(e.code().value() != 0 && std::string(e.what()).find(path) != std::string::npos);
+    }
+}
+
+void paths(layout kind, const std::string &folder) {
+    const std::string path = folder + "/saved.cedar", beside = path + ".new", blocked = folder + "/blocked";
+    dictionary d(kind);
+    for (int i = 1; i < 20000; i++) d.update(std::to_string(i), i);
+    d.save_to_path(path);
+    const std::vector<std::uint8_t> file = d.save();
+    CHECK(bytes_at(path) == std::string(file.begin(), file.end()) && dictionary::load_from_path(path).get("777") == 777);
+    no_file(beside, [&] { dictionary::load_from_path(beside); });
+    refused(CEDAR_FILE_MEMORY_LIMIT, {}, limit_text, [&] { dictionary::load_from_path(path, 100); });
+    d.save_to_path(path, roskvidh::file_format::v1_0);
+    CHECK(bytes_at(path)[10] == 0 && dictionary::load_from_path(path).size() == 19999);
+    CHECK(mkdir(beside.c_str(), 0700) == 0); // the file beside can't be written
+    no_file(path, [&] { dictionary(kind).save_to_path(path); });
+    CHECK(dictionary::load_from_path(path).size() == 19999);
+    CHECK(rmdir(beside.c_str()) == 0);
+    CHECK(mkdir(blocked.c_str(), 0700) == 0); // it can't be renamed to a folder
+    no_file(blocked, [&] { d.save_to_path(blocked); });
+    no_file(blocked + ".new", [&] { dictionary::load_from_path(blocked + ".new"); });
+    no_file(folder, [&] { dictionary::load_from_path(folder); });
+    CHECK(rmdir(blocked.c_str()) == 0 && std::remove(path.c_str()) == 0);
+}
+
+std::string random_key() {
+    std::string key(1 + next_random() % 6, ' ');
+    for (char &byte : key) byte = static_cast<char>(1 + next_random() % 255 % (next_random() % 2 ? 3 : 255));
+    return key;
+}
+
+// The walks of a text as the map's keys say.
+void same_walks(const dictionary &d, const Plain &plain, const std::string &text) {
+    Ends fronts, behind;
+    Pairs under;
+    for (std::size_t length = 1; length <= text.size(); length++) {
+        const auto held = plain.find(text.substr(0, length));
+        if (held != plain.end()) fronts.emplace_back(held->second, length);
+    }
+    for (auto held = plain.lower_bound(text); held != plain.end() && held->first.compare(0, text.size(), text) == 0; ++held) {
+        behind.emplace_back(held->second, held->first.size() - text.size());
+        under.push_back(*held);
+    }
+    CHECK(ends(d.prefixes(text)) == fronts && ends(d.predictions(text)) == behind && listed(d.entries_with_prefix(text)) == under);
+    const auto longest = d.longest_match(text);
+    CHECK(longest ? ends({*longest}) == Ends({fronts.back()}) : fronts.empty());
+}
+
+void same_texts(const dictionary &d, const Plain &plain, const std::string &text) {
+    Tokens all, cut;
+    for (std::size_t place = 0, next = 0; place < text.size(); place++) {
+        std::tuple<std::size_t, std::size_t, std::optional<std::int32_t>> longest = {place, 1, std::nullopt};
+        for (std::size_t length = 1; length <= std::min<std::size_t>(6, text.size() - place); length++) {
+            const auto held = plain.find(text.substr(place, length));
+            if (held == plain.end()) continue;
+            longest = {place, length, held->second};
+            all.push_back(longest);
+        }
+        if (place < next) continue;
+        cut.push_back(longest);
+        next = place + std::get<1>(longest);
+    }
+    CHECK(scanned(d, text) == all && segmented(d, text) == cut);
+}
+
+void same(const dictionary &d, const Plain &plain) {
+    CHECK(d.size() == plain.size() && listed(d.entries()) == Pairs(plain.begin(), plain.end()));
+    same_walks(d, plain, random_key().substr(0, next_random() % 3));
+    same_walks(d, plain, random_key());
+    std::string text;
+    for (int i = 0; i < 30; i++) text += random_key();
+    same_texts(d, plain, text);
+}
+
+void random_calls(layout kind, long count) {
+    dictionary d(kind);
+    Plain plain;
+    for (long i = 0; i < count; i++) {
+        const std::string key = random_key();
+        const auto held = plain.find(key);
+        const std::optional<std::int32_t> before = held == plain.end() ? std::nullopt : std::optional(held->second);
+        const auto value = static_cast<std::int32_t>(next_random() % (std::uint64_t{CEDAR_MAX_VALUE} + 1));
+        switch (next_random() % 4) {
+        case 0:
+            d.update(key, value);
+            plain[key] = value;
+            break;
+        case 1:
+            CHECK(d.insert(key, value) == before);
+            plain[key] = value;
+            break;
+        case 2:
+            CHECK(d.erase(key) == (plain.erase(key) == 1));
+            break;
+        default:
+            CHECK(d.get(key) == before && d.contains(key) == before.has_value());
+        }
+        if (i % (count / 20 + 1) == 0) same(d, plain);
+        if (i % (count / 3 + 1) == 0) d = i % 2 ? d.clone() : dictionary::from_sorted(plain, kind);
+    }
+    same(d, plain);
+}
+
+} // namespace
+
+int main(int count, char **arguments) {
+    const std::string folder = count > 2 ? arguments[2] : ".";
+    ranges_and_callables();
+    many_answers();
+    for (const layout kind : {layout::standard, layout::reduced}) {
+        each_member(kind);
+        settings_and_sorted_pairs(kind);
+        refusals(kind);
+        moves(kind);
+        refused_files(kind);
+        paths(kind, folder);
+        random_calls(kind, count > 1 ? std::atol(arguments[1]) : 200000);
+    }
+    std::puts("ok");
+}
