@@ -31,6 +31,7 @@
 #include <limits>
 #include <memory>
 #include <new>
+#include <numeric>
 #include <optional>
 #include <stdexcept>
 #include <string>
@@ -194,6 +195,79 @@ inline bool replace_file(const std::string &path, const std::string &beside, con
     return false;
 }
 
+// Finds the bytes of the keys below a prefix by asking, node by node, below which next byte there are keys. The work goes by the keys that
+// are found and not by the dictionary, of which C tells all keys or none.
+class key_search {
+public:
+    key_search(cedar_dictionary &dictionary, std::string_view prefix) : dictionary_(dictionary), path_(prefix) {
+        // Small letters first.
+        std::iota(likely_.begin(), likely_.end(), 1);
+        std::rotate(likely_.begin(), std::find(likely_.begin(), likely_.end(), 'a'), likely_.end());
+    }
+
+    // Whether it costs less than to copy the keys of so many slots, which takes as long for a slot as some hundred steps of a walk, while
+    // at most 255 questions are asked at a node.
+    static bool is_cheap(const std::vector<match> &keys, std::size_t prefix, std::size_t slots) noexcept {
+        std::size_t nodes = 1, longest = 0;
+        for (const match &one : keys) {
+            nodes += one.length;
+            longest = std::max(longest, one.length);
+        }
+        return nodes < slots / (prefix + longest);
+    }
+
+    // The bytes of the keys, one key after another, in the order of bytes. `keys` has their lengths in this order.
+    std::vector<char> find(const std::vector<match> &keys) {
+        std::vector<char> found;
+        for (std::size_t below = keys.size(), told = 0;;) {
+            if (told < keys.size() && keys[told].length == path_.size()) {
+                found.insert(found.end(), path_.begin(), path_.end());
+                ++told;
+                --below;
+            }
+            add_children(below);
+            if (open_.empty()) return found;
+            const node next = open_.back();
+            open_.pop_back();
+            path_.resize(next.depth - 1);
+            path_.push_back(static_cast<char>(next.last));
+            below = next.keys;
+        }
+    }
+
+private:
+    // A node that has still to be gone to: how many bytes lead to it, the last of them, and how many keys are at it and below.
+    struct node {
+        std::size_t depth;
+        std::size_t keys;
+        std::uint8_t last;
+    };
+
+    // Opens the children of the path's node, below which there are `left` keys. What was found last is asked for first.
+    void add_children(std::size_t left) {
+        const std::size_t first = open_.size();
+        path_.push_back(' ');
+        for (std::size_t i = 0; i < likely_.size() && left > 0; ++i) {
+            const std::uint8_t byte = likely_[i];
+            path_.back() = static_cast<char>(byte);
+            match none{};
+            const std::size_t keys = cedar_predictions(&dictionary_, bytes(path_), path_.size(), &none, 0);
+            if (keys == 0) continue;
+            open_.push_back({path_.size(), keys, byte});
+            left -= keys;
+            std::rotate(likely_.begin(), likely_.begin() + i, likely_.begin() + i + 1);
+        }
+        path_.pop_back();
+        std::sort(open_.begin() + static_cast<std::ptrdiff_t>(first), open_.end(),
+                  [](const node &one, const node &other) { return one.last > other.last; });
+    }
+
+    cedar_dictionary &dictionary_;
+    std::string path_;
+    std::vector<node> open_;
+    std::array<std::uint8_t, 255> likely_{};
+};
+
 } // namespace detail
 
 /// Keys and values as they were when the range was made, in the order of the walk: in that of bytes where labels ascend. The range has
@@ -244,14 +318,13 @@ private:
     friend class dictionary;
     entries() = default;
 
-    // Leaves the `count` entries of a prefix, of which there is one at least. They stand side by side in the walk.
-    void narrow(std::string_view prefix, std::size_t count) {
-        std::size_t first = 0, place = 0;
-        while (std::string_view(keys_.data() + place, matches_[first].length).substr(0, prefix.size()) != prefix) {
-            place += matches_[first++].length;
+    // Leaves out the keys before those of a prefix, of which there is one at least. These stand side by side in the walk.
+    void skip_to(std::string_view prefix, const std::vector<match> &all) {
+        std::size_t place = 0;
+        for (const match &one : all) {
+            if (std::string_view(keys_.data() + place, one.length).substr(0, prefix.size()) == prefix) break;
+            place += one.length;
         }
-        matches_.erase(matches_.begin(), matches_.begin() + static_cast<std::ptrdiff_t>(first));
-        matches_.resize(count);
         keys_.erase(keys_.begin(), keys_.begin() + static_cast<std::ptrdiff_t>(place));
     }
 
@@ -269,7 +342,7 @@ public:
     /// An empty dictionary. `ordered` says whether walks go in the order of bytes; else a new branch goes before its siblings, which
     /// makes storing faster. `max_trial`, 1 or more, is how many failed searches for a place close a block of slots: more make the
     /// table denser and storing slower. Throws CEDAR_INVALID_MAX_TRIAL and std::bad_alloc.
-    explicit dictionary(layout kind = layout::standard, bool ordered = true, std::int32_t max_trial = 1) {
+    explicit dictionary(layout kind = layout::standard, bool ordered = true, std::int32_t max_trial = 1) : is_ordered_(ordered) {
         detail::check((kind == layout::reduced ? cedar_new_reduced : cedar_new_with)(&inside_, ordered, max_trial));
     }
     dictionary(const dictionary &) = delete;
@@ -287,7 +360,10 @@ public:
     ~dictionary() { cedar_free(&inside_); }
 
     /// Exchanges the contents. It allocates nothing; no key is touched.
-    void swap(dictionary &other) noexcept { std::swap(inside_, other.inside_); }
+    void swap(dictionary &other) noexcept {
+        std::swap(inside_, other.inside_);
+        std::swap(is_ordered_, other.is_ordered_);
+    }
     friend void swap(dictionary &one, dictionary &other) noexcept { one.swap(other); }
 
     /// The dictionary of pairs whose keys ascend by bytes, as those of a std::map do, made at once. `pairs` is any range of pairs of what
@@ -298,6 +374,7 @@ public:
     static dictionary from_sorted(const Pairs &pairs, layout kind = layout::standard, bool ordered = true, std::int32_t max_trial = 1) {
         const std::vector<cedar_pair> listed = detail::pairs_of(pairs);
         dictionary built{closed()};
+        built.is_ordered_ = ordered;
         std::size_t position = 0;
         const auto build = kind == layout::reduced ? cedar_build_reduced : cedar_build;
         const std::uint32_t status = build(&built.inside_, ordered, max_trial, listed.data(), listed.size(), &position);
@@ -399,21 +476,28 @@ public:
     }
 
     /// All keys with their values. It copies the keys, and 16 bytes an entry besides, in a few allocations. Throws std::bad_alloc.
-    roskvidh::entries entries() const { return entries_with_prefix({}); }
+    roskvidh::entries entries() const {
+        roskvidh::entries range;
+        range.matches_ = predictions({});
+        range.keys_ = keys_of(range.matches_);
+        return range;
+    }
 
-    /// The keys that begin with a text, with their values. If there is one, it copies all keys of the dictionary, as C tells keys only as
-    /// a whole. Where a value leads to its key, predictions costs less. Throws std::bad_alloc.
+    /// The keys that begin with a text, with their values. Where labels ascend, the cost goes by these keys, if they are few; else it is
+    /// that of entries. Throws std::bad_alloc.
     roskvidh::entries entries_with_prefix(std::string_view prefix) const {
         roskvidh::entries range;
-        match none{};
-        const std::size_t count = cedar_predictions(&inside_, detail::bytes(prefix), prefix.size(), &none, 0);
-        if (count == 0) return range;
-        range.matches_ = predictions({});
-        std::size_t needed = 0;
-        for (const match &one : range.matches_) needed += one.length;
-        range.keys_.resize(needed);
-        detail::check(cedar_keys(&inside_, reinterpret_cast<std::uint8_t *>(range.keys_.data()), needed, &needed));
-        range.narrow(prefix, count);
+        range.matches_ = predictions(prefix);
+        if (range.empty()) return range;
+        const bool are_few = is_ordered_ && detail::key_search::is_cheap(range.matches_, prefix.size(), cedar_used_slots(&inside_));
+        for (match &one : range.matches_) one.length += prefix.size();
+        if (are_few) {
+            range.keys_ = detail::key_search(inside_, prefix).find(range.matches_);
+        } else {
+            const std::vector<match> all = predictions({});
+            range.keys_ = keys_of(all);
+            range.skip_to(prefix, all);
+        }
         return range;
     }
 
@@ -457,6 +541,7 @@ public:
         std::uint32_t status = cedar_load(&loaded.inside_, bytes, length, memory_limit);
         if (status == CEDAR_FILE_LAYOUT) status = cedar_load_reduced(&loaded.inside_, bytes, length, memory_limit);
         detail::check(status);
+        loaded.is_ordered_ = (bytes[14] & 1) != 0; // the file's flag of ascending labels
         return loaded;
     }
 
@@ -483,6 +568,15 @@ private:
 
     struct closed {};
     explicit dictionary(closed) noexcept {}
+
+    // The bytes of all keys, whose lengths these are.
+    std::vector<char> keys_of(const std::vector<match> &all) const {
+        std::size_t size = 0;
+        for (const match &one : all) size += one.length;
+        std::vector<char> keys(size);
+        if (size > 0) detail::check(cedar_keys(&inside_, reinterpret_cast<std::uint8_t *>(keys.data()), size, &size));
+        return keys;
+    }
 
     // The first answers of a walk: a few at once, and where there are more, all that are wanted in a second walk.
     std::vector<match> walked(walk_from some, walk all, std::string_view text, std::size_t most) const {
@@ -522,6 +616,7 @@ private:
 
     // C's calls take a pointer to what they may change, but no const member changes what the dictionary holds.
     mutable cedar_dictionary inside_ = CEDAR_CLOSED;
+    bool is_ordered_ = true;
 };
 
 } // namespace roskvidh

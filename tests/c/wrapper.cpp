@@ -231,6 +231,23 @@ void moves(layout kind) {
 
 const char *const limit_text = "serialized trie requires more bytes while loading than the limit";
 
+// The entries of a prefix are those of the dictionary that begin with it, however they are found.
+void entries_below(layout kind) {
+    for (const bool ordered : {true, false}) {
+        dictionary d(kind, ordered);
+        for (int i = 1; i < 20000; i++) d.update(std::to_string(i * 7919 % 20011) + (i % 3 ? "" : "\xff\x01"), i);
+        d.update(std::string(1000, 'z'), 1); // which costs less to copy
+        const Pairs all = listed(d.entries());
+        for (const std::string prefix : {"", "1", "12", "123", "1234", "12345", "19999", "9\xff", "z", "zz", "a"}) {
+            Pairs some;
+            for (const auto &one : all) {
+                if (one.first.compare(0, prefix.size(), prefix) == 0) some.push_back(one);
+            }
+            CHECK(listed(d.entries_with_prefix(prefix)) == some && listed(d.clone().entries_with_prefix(prefix)) == some);
+        }
+    }
+}
+
 // Each refusal of a file, by one change to its bytes.
 void refused_files(layout kind) {
     const dictionary d = dictionary::from_sorted({{"net", 7}, {"network", 8}}, kind);
@@ -388,6 +405,7 @@ int main(int count, char **arguments) {
         refusals(kind);
         moves(kind);
         refused_files(kind);
+        entries_below(kind);
         paths(kind, folder);
         random_calls(kind, count > 1 ? std::atol(arguments[1]) : 200000);
     }
