@@ -1,4 +1,4 @@
-/* A mutable dictionary from byte strings to whole numbers, for C and C++.
+/* A mutable dictionary from byte strings to whole numbers, for C and C++. cedar.hpp has a class over it.
  *
  * A key is a nonempty byte string without byte 0, a value a whole number from 0 to 2147483645, in both layouts. The library is
  * proved: for every caller that keeps the rules below, each call does what stands beside it, touches no memory but what

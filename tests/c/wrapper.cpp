@@ -126,6 +126,7 @@ void ranges_and_callables() {
     CHECK(std::distance(moved.begin(), moved.end()) == 3 && moved.size() == 3 && d.empty() && listed(range).empty());
     CHECK(roskvidh::entries::iterator() == roskvidh::entries::iterator());
 
+    CHECK(segmented(dictionary::from_sorted({{"a", 0}}), "ab") == Tokens({{0, 1, 0}, {1, 1, std::nullopt}}));
     d.update_all({{"a", 1}, {"aa", 2}});
     int calls = 0;
     d.scan("aaaa", [&](const roskvidh::occurrence &) { return ++calls < 3; });
@@ -244,6 +245,9 @@ void entries_below(layout kind) {
                 if (one.first.compare(0, prefix.size(), prefix) == 0) some.push_back(one);
             }
             CHECK(listed(d.entries_with_prefix(prefix)) == some && listed(d.clone().entries_with_prefix(prefix)) == some);
+            dictionary moved = std::move(d);
+            CHECK(listed(moved.entries_with_prefix(prefix)) == some);
+            d = std::move(moved);
         }
     }
 }
