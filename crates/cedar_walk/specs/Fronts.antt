@@ -1,6 +1,8 @@
 -- Where a walk along a query stands in a table.
-use Rattle.std.specs.Prelude.{ℕ, ◌<◌, ◌≤◌, List, length, take, Option, Some, None}
+use Rattle.std.specs.Prelude.{◌≡◌, ℕ, ◌-◌, ◌<◌, ◌≤◌, List, [], ◌∷◌, length, MatchOption, take, Option, Some, None}
+use Rattle.cedar_tree.specs.Tree.{Tree}
 use Rattle.cedar_tree.specs.Queries.{node_at}
+use Rattle.cedar_tree.specs.Walks.{front_from}
 use Rattle.cedar_walk.specs.declared.fronts.Front.{Front}
 use Rattle.cedar_model.specs.Meaning.StandsFor.{Stands}
 use Rattle.cedar_model.specs.Table.TableFields.{Fields, size_of}
@@ -11,6 +13,12 @@ pub record IsOnQuery (T : Fields) (query : List ℕ) (place s : ℕ) : Type 0 wh
   pub within : place ≤ length query
   pub inside : s < size_of T
   pub stands : Stands (size_of T) (cells_in T) s (node_at (tree_of T) (take place query))
+
+-- the next of a tree's fronts of a query behind the first `place` bytes, if one is left
+abbrev pub IsNextFront : Tree → List ℕ → ℕ → Option Front → Type 0
+IsNextFront t query place next =
+    MatchOption next (front_from t query place ≡ [])
+    (λ front. (0 < front.len) × (front_from t query place ≡ (front.number, front.len - 1) ∷ front_from t query front.len))
 
 -- how many bytes of a query were looked at
 abbrev pub front_length : List ℕ → Option Front → ℕ

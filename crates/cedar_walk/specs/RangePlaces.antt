@@ -1,5 +1,5 @@
 -- Where a walk over a range of keys begins in a table.
-use Rattle.std.specs.Prelude.{◌≡◌, ◌⊎◌, ℕ, ◌<◌, ◌≤◌, false, true, get_or, List, [], ◌++◌, length, map, take}
+use Rattle.std.specs.Prelude.{◌≡◌, ◌⊎◌, ℕ, ◌<◌, ◌≤◌, false, true, get_or, List, [], ◌++◌, length, map, MatchOption, Option, take}
 use Rattle.cedar_tree.specs.Tree.{Forest, has_label}
 use Rattle.cedar_tree.specs.Queries.{node_at}
 use Rattle.cedar_tree.specs.Walks.{behind, visited_entries, node_up, Visit, visit_from, visits_below}
@@ -39,3 +39,7 @@ pub record BeginsAt (T : Fields) (left : List Visit) (place : Place) : Type 0 wh
   pub below : IsBelow (cells_in T) [] place.depth place.slot
   pub deep : 0 < place.depth
   pub entries : visited_entries left ≡ entries_at T [] place.depth place.slot
+
+-- it comes to such a place, unless no node is left
+abbrev pub BeginsAtFirst : Fields → List Visit → Option Place → Type 0
+BeginsAtFirst T left place = MatchOption place (left ≡ []) (BeginsAt T left)

@@ -1,8 +1,8 @@
 -- Where a walk over the nodes of a tree stands in a table.
-use Rattle.std.specs.Prelude.{◌≡◌, ℕ, ℤ, zero, suc, ◌+◌, ◌-◌, ◌<◌, ◌≤◌, List, [], ◌∷◌, ◌++◌, length, Option, Some, take, unsigned_abs}
-use Rattle.cedar_tree.specs.Tree.{Forest, none, child}
+use Rattle.std.specs.Prelude.{◌≡◌, ℕ, ℤ, zero, suc, ◌+◌, ◌-◌, ◌<◌, ◌≤◌, List, [], ◌∷◌, ◌++◌, length, MatchOption, Option, Some, take, unsigned_abs}
+use Rattle.cedar_tree.specs.Tree.{Forest, none, child, Tree}
 use Rattle.cedar_tree.specs.Queries.{Entry, node_at}
-use Rattle.cedar_tree.specs.Walks.{Visit, visited_entries, forwards, visits_after, visits_left}
+use Rattle.cedar_tree.specs.Walks.{behind, Visit, visited_entries, forwards, visits_after, visits_left}
 use Rattle.cedar_walk.specs.declared.visits.Numbered.{Numbered}
 use Rattle.cedar_walk.specs.declared.visits.Place.{Place}
 use Rattle.cedar_walk.specs.declared.visits.Visited.{Visited}
@@ -29,6 +29,10 @@ IsBelow T start n s = IsAt T (start ++ forwards (way_up T n s)) s
 abbrev pub first_sibling_label : Forest → ℕ
 first_sibling_label none = 0
 first_sibling_label (child l n below rest) = l
+
+-- the label of the sibling after the child under label l of the node at a path, and 0 if there is none
+abbrev pub label_after : Tree → List ℕ → ℕ → ℕ
+label_after t w l = first_sibling_label (behind (node_at t w).children l)
 
 -- what a walk below the path `start` has left where it has been at slot s, n labels below, and not yet below it
 abbrev pub left_at : Fields → List ℕ → ℕ → ℕ → List Visit
@@ -76,3 +80,30 @@ pub record ComesToNumber (T : Fields) (start : List ℕ) (left : List Entry) (ne
   pub below : IsBelow (cells_in T) start next.depth next.slot
   pub number : number_below T start next.depth next.slot ≡ Some next.number
   pub entries : left ≡ (path_to T next.depth next.slot, next.number) ∷ visited_entries (left_at T start next.depth next.slot)
+
+-- ---- the steps of a walk, which may have begun at any node above
+
+-- a walk that has been at slot s, n labels below the node where it began, goes to the node that follows, unless none is left
+abbrev pub GoesToNode : Fields → ℕ → ℕ → Option Visited → Type 0
+GoesToNode T n s next =
+    (start : List ℕ) → IsBelow (cells_in T) start n s
+    → MatchOption next (left_at T start n s ≡ []) (ComesTo T start (left_at T start n s) (path_to T n s))
+
+-- it goes to the place of the first node of those that it has left, unless none is
+abbrev pub GoesToPlace : (Fields → List ℕ → ℕ → ℕ → List Visit) → Fields → ℕ → ℕ → Option Place → Type 0
+GoesToPlace left T n s next =
+    (start : List ℕ) → IsBelow (cells_in T) start n s
+    → MatchOption next (left T start n s ≡ []) (λ place. ComesTo T start (left T start n s) (path_to T n s) (visited_at T start place))
+
+-- a walk below the path `start` comes to the first of these entries, unless there is none
+abbrev pub ComesToFirst : Fields → List ℕ → List Entry → Option Numbered → Type 0
+ComesToFirst T start left next = MatchOption next (left ≡ []) (ComesToNumber T start left)
+
+-- a walk that has been at slot s, n labels below the node where it began, goes to the next node with a number, unless none is left
+abbrev pub GoesToNumber : Fields → ℕ → ℕ → Option Numbered → Type 0
+GoesToNumber T n s next =
+    (start : List ℕ) → IsBelow (cells_in T) start n s → ComesToFirst T start (visited_entries (left_at T start n s)) next
+
+-- a walk that has come to slot s, n labels below the node where it began, comes to the first node with a number from there on
+abbrev pub FindsNumber : Fields → ℕ → ℕ → Numbered → Type 0
+FindsNumber T n s next = (start : List ℕ) → IsBelow (cells_in T) start n s → ComesToNumber T start (entries_at T start n s) next

@@ -7,7 +7,8 @@ pub use Rattle.cedar_model.specs.Table.TableFields.{size_of}
 pub use Rattle.cedar_table.specs.Table.Views.{cells, fields}
 pub use Rattle.cedar_tree.specs.Queries.{exact, node_at, walk}
 pub use Rattle.cedar_tree.specs.Tree.{has_label, Tree}
-pub use Rattle.cedar_tree.specs.Walks.{behind, visited_entries, front_from}
 pub use Rattle.cedar_walk.specs.Batch.{AreLanes, IsLane, keys_of}
-pub use Rattle.cedar_walk.specs.Fronts.{IsOnQuery, front_length}
-pub use Rattle.cedar_walk.specs.Visits.{ComesTo, ComesToNumber, entries_at, first_sibling_label, IsBelow, IsNumberedBelow, left_after, left_at, path_to, visited_at}
+pub use Rattle.cedar_walk.specs.Fronts.{front_length, IsNextFront, IsOnQuery}
+pub use Rattle.cedar_walk.specs.RangePlaces.{AboveFrom, BeginsAtFirst, IsReached, left_above}
+pub use Rattle.cedar_walk.specs.Ranges.{entries_since}
+pub use Rattle.cedar_walk.specs.Visits.{ComesToFirst, FindsNumber, first_sibling_label, GoesToNode, GoesToNumber, GoesToPlace, IsBelow, IsNumberedBelow, label_after, left_after, left_at, path_to}

@@ -1,7 +1,7 @@
 //! The next front of a query that is held.
 
-ghost use Rattle.std.specs.Prelude.{◌≡◌, ◌∷◌, [], ◌+◌, ◌*◌, ◌-◌, ◌<◌, ◌≤◌, length, MatchOption};
-ghost use Rattle.cedar_walk.specs.Words.{fields, front_from, IsOnQuery, IsWellFormed, front_length, tree_of};
+ghost use Rattle.std.specs.Prelude.{◌+◌, ◌*◌, ◌-◌, ◌<◌, ◌≤◌, length, MatchOption};
+ghost use Rattle.cedar_walk.specs.Words.{fields, IsNextFront, IsOnQuery, IsWellFormed, front_length, tree_of};
 
 use cedar_model::Layout;
 use cedar_slots::Ticks;
@@ -33,8 +33,7 @@ pub fn next_held_front<L: Layout, const SLOTS: usize, A: Allocator, C: Ledger>(
     requires on { IsOnQuery (fields table.now) query.now place node }
 
     //= `next_held_front` gives the next front of a query that is held, or that none is left. [with on]
-    ensures answer { MatchOption result (front_from (tree_of (fields table.now)) query.now place ≡ []) (λ front.
-        (0 < front.len) × (front_from (tree_of (fields table.now)) query.now place ≡ (front.number, front.len - 1) ∷ front_from (tree_of (fields table.now)) query.now front.len)) }
+    ensures answer { IsNextFront (tree_of (fields table.now)) query.now place result }
     ensures on { MatchOption result (place ≤ length query.now) (λ front. (place < front.len) × IsOnQuery (fields table.now) query.now front.len front.slot) }
 
     //= It counts two comparisons at most for each byte that it looks at.

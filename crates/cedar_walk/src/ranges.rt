@@ -1,15 +1,7 @@
 //! Walks over a range of keys: the first entry at a key or after it, and the path of a node that a walk has come to.
 
-ghost use Rattle.std.specs.Prelude.{◌≡◌, ◌⊎◌, ℕ, List, [], ◌∷◌, ◌++◌, ◌-◌, ◌<◌, ◌≤◌, false, get_or, length, MatchOption, take, true};
-ghost use Rattle.cedar_tree.specs.Tree.{has_label};
-ghost use Rattle.cedar_tree.specs.Queries.{node_at};
-ghost use Rattle.cedar_model.specs.Edit.NodeEdits.{IsAt};
-ghost use Rattle.cedar_model.specs.Meaning.Family.{below};
-ghost use Rattle.cedar_model.specs.Meaning.WellFormed.{IsWellFormed, tree_of};
-ghost use Rattle.cedar_table.specs.Table.Views.{cells, fields};
-ghost use Rattle.cedar_walk.specs.Visits.{ComesToNumber, IsBelow, path_to};
-ghost use Rattle.cedar_walk.specs.Ranges.{entries_since};
-ghost use Rattle.cedar_walk.specs.RangePlaces.{AboveFrom, BeginsAt, IsReached, left_above};
+ghost use Rattle.std.specs.Prelude.{◌≡◌, ◌⊎◌, ℕ, List, [], ◌∷◌, ◌++◌, ◌-◌, ◌<◌, ◌≤◌, length, take, true};
+ghost use Rattle.cedar_walk.specs.Words.{AboveFrom, BeginsAtFirst, below, cells, ComesToFirst, entries_since, fields, IsAt, IsBelow, IsReached, IsWellFormed, left_above, node_at, path_to, tree_of};
 
 use crate::visits::{
     Numbered, Place, child_under, first_child, first_numbered, next_after, numbered_from, parent,
@@ -118,7 +110,7 @@ fn place_above<L: Layout, const SLOTS: usize, A: Allocator>(
     requires well_formed { IsWellFormed SLOTS (fields table.now) }
     requires ordered { (fields table.now).ordered ≡ true }
     requires below { IsBelow (cells table.now) [] depth node }
-    ensures { MatchOption result (left_above (fields table.now) depth node label ≡ []) (BeginsAt (fields table.now) (left_above (fields table.now) depth node label)) }
+    ensures { BeginsAtFirst (fields table.now) (left_above (fields table.now) depth node label) result }
 {
     let next = child_above(table, node, label);
     if next != 0 {
@@ -134,7 +126,7 @@ pub fn first_since<L: Layout, const SLOTS: usize, A: Allocator>(
 ) -> Option<Numbered>
     requires well_formed { IsWellFormed SLOTS (fields table.now) }
     requires ordered { (fields table.now).ordered ≡ true }
-    ensures { MatchOption result (entries_since (tree_of (fields table.now)) key.now ≡ []) (ComesToNumber (fields table.now) [] (entries_since (tree_of (fields table.now)) key.now)) }
+    ensures { ComesToFirst (fields table.now) [] (entries_since (tree_of (fields table.now)) key.now) result }
 {
     if key.is_empty() {
         return first_numbered(table, key);

@@ -1,7 +1,7 @@
 //! A walk over the nodes of a tree, each before its children: from a node to the next one, by the slots alone.
 
-ghost use Rattle.std.specs.Prelude.{◌≡◌, ◌≢◌, ℕ, ℤ, List, [], ◌∷◌, ◌++◌, ◌+◌, ◌<◌, MatchOption, pos, Some, true};
-ghost use Rattle.cedar_walk.specs.Words.{behind, below, cells, ComesTo, ComesToNumber, entries_at, visited_entries, fields, first_sibling_label, has_label, IsAt, IsBelow, IsNumberedBelow, IsWellFormed, left_after, left_at, node_at, path_to, size_of, Stands, Tree, tree_of, visited_at, walk};
+ghost use Rattle.std.specs.Prelude.{◌≡◌, ◌≢◌, ℕ, ℤ, List, [], ◌∷◌, ◌++◌, ◌<◌, pos, Some, true};
+ghost use Rattle.cedar_walk.specs.Words.{below, cells, ComesToFirst, fields, FindsNumber, first_sibling_label, GoesToNode, GoesToNumber, GoesToPlace, has_label, IsAt, IsBelow, IsNumberedBelow, IsWellFormed, label_after, left_after, left_at, node_at, size_of, Stands, Tree, tree_of, walk};
 
 use cedar_model::{Layout, Stored};
 use cedar_table::Table;
@@ -71,7 +71,7 @@ fn next_sibling<L: Layout, const SLOTS: usize, A: Allocator>(
 ) -> u8
     requires well_formed { IsWellFormed SLOTS (fields table.now) }
     requires at { (w : List ℕ) × (l : ℕ) × IsAt (cells table.now) (w ++ l ∷ []) node }
-    ensures { (w : List ℕ) (l : ℕ) → IsAt (cells table.now) (w ++ l ∷ []) node → result ≡ first_sibling_label (behind (node_at (tree_of (fields table.now)) w).children l) }
+    ensures { (w : List ℕ) (l : ℕ) → IsAt (cells table.now) (w ++ l ∷ []) node → result ≡ label_after (tree_of (fields table.now)) w l }
 {
     table.sibling(node)
 }
@@ -157,7 +157,7 @@ pub(crate) fn next_after<L: Layout, const SLOTS: usize, A: Allocator>(
 ) -> Option<Place>
     requires well_formed { IsWellFormed SLOTS (fields table.now) }
     requires below { (start : List ℕ) × IsBelow (cells table.now) start depth node }
-    ensures { (start : List ℕ) → IsBelow (cells table.now) start depth node → MatchOption result (left_after (fields table.now) start depth node ≡ []) (λ place. ComesTo (fields table.now) start (left_after (fields table.now) start depth node) (path_to (fields table.now) depth node) (visited_at (fields table.now) start place)) }
+    ensures { GoesToPlace left_after (fields table.now) depth node result }
 {
     let mut slot = node;
     let mut steps = depth;
@@ -185,7 +185,7 @@ fn place_after<L: Layout, const SLOTS: usize, A: Allocator>(
     requires well_formed { IsWellFormed SLOTS (fields table.now) }
     requires below { (start : List ℕ) × IsBelow (cells table.now) start depth node }
     requires first { (w : List ℕ) → IsAt (cells table.now) w node → label ≡ first_sibling_label (node_at (tree_of (fields table.now)) w).children }
-    ensures { (start : List ℕ) → IsBelow (cells table.now) start depth node → MatchOption result (left_at (fields table.now) start depth node ≡ []) (λ place. ComesTo (fields table.now) start (left_at (fields table.now) start depth node) (path_to (fields table.now) depth node) (visited_at (fields table.now) start place)) }
+    ensures { GoesToPlace left_at (fields table.now) depth node result }
 {
     if label != 0 {
         return Some(child_under(table, node, label, depth + 1));
@@ -205,7 +205,7 @@ pub fn node_after<L: Layout, const SLOTS: usize, A: Allocator>(
     requires below { (start : List ℕ) × IsBelow (cells table.now) start depth node }
 
     //= `node_after`: the next node of a walk that has been at a node, with its number, or that nothing is left.
-    ensures { (start : List ℕ) → IsBelow (cells table.now) start depth node → MatchOption result (left_at (fields table.now) start depth node ≡ []) (ComesTo (fields table.now) start (left_at (fields table.now) start depth node) (path_to (fields table.now) depth node)) }
+    ensures { GoesToNode (fields table.now) depth node result }
 {
     let label = first_child(table, node);
     let place = place_after(table, node, depth, label)?;
@@ -229,7 +229,7 @@ pub(crate) fn numbered_from<L: Layout, const SLOTS: usize, A: Allocator>(
     requires well_formed { IsWellFormed SLOTS (fields table.now) }
     requires below { (start : List ℕ) × IsBelow (cells table.now) start depth node }
     requires not_root { node ≢ 0 }
-    ensures { (start : List ℕ) → IsBelow (cells table.now) start depth node → ComesToNumber (fields table.now) start (entries_at (fields table.now) start depth node) result }
+    ensures { FindsNumber (fields table.now) depth node result }
 {
     let mut slot = node;
     let mut steps = depth;
@@ -258,7 +258,7 @@ pub fn numbered_after<L: Layout, const SLOTS: usize, A: Allocator>(
     requires below { (start : List ℕ) × IsNumberedBelow (fields table.now) start depth node }
 
     //= `numbered_after`: the next node with a number of a walk that has been at one, or that none is left.
-    ensures { (start : List ℕ) → IsBelow (cells table.now) start depth node → MatchOption result (visited_entries (left_at (fields table.now) start depth node) ≡ []) (ComesToNumber (fields table.now) start (visited_entries (left_at (fields table.now) start depth node))) }
+    ensures { GoesToNumber (fields table.now) depth node result }
 {
     let label = label_after_number(table, node);
     let place = place_after(table, node, depth, label)?;
@@ -273,7 +273,7 @@ pub fn first_numbered<L: Layout, const SLOTS: usize, A: Allocator>(
     requires { IsWellFormed SLOTS (fields table.now) }
 
     //= `first_numbered`: the first node with a number at or below a query's node, or that there is none.
-    ensures { MatchOption result (walk (node_at (tree_of (fields table.now)) query.now) ≡ []) (ComesToNumber (fields table.now) query.now (walk (node_at (tree_of (fields table.now)) query.now))) }
+    ensures { ComesToFirst (fields table.now) query.now (walk (node_at (tree_of (fields table.now)) query.now)) result }
 {
     let node = table.node_of(query)?;
     if node != 0 {
