@@ -1,4 +1,5 @@
 -- The words of clauses, from one place.
+pub use Rattle.cedar_edit.specs.Changes.{AddsLeaf, cells_besides, ChainsRest, ComesBehind, EditsNode, IsInWay, LacksLoneNumber, LacksNumberSlot, MakesAtMost, MovesForLabel, MovesIn, MovesPrefixOut, OwnsNumberAlone, PutsInBase, PutsInMarks, PutsInSlot, RenamesAround, TakesFreeSlot, TakesNewByte, TakesNewNode, TakesNoBlock, TellsLonger}
 pub use Rattle.cedar_edit.specs.Step.{MayMakeBlock}
 pub use Rattle.cedar_model.specs.Edit.Asked.{SeeksBehind, SeeksPlace}
 pub use Rattle.cedar_model.specs.Edit.KeyWalk.{TakenBack, Walked}

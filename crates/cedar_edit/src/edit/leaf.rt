@@ -1,7 +1,7 @@
 //! A label added to a node, and one taken away.
 
-ghost use Rattle.std.specs.Prelude.{◌≡◌, ◌≢◌, ℕ, List, ◌++◌, [], ◌∷◌, ◌<◌, MatchOption, None, pos, true};
-ghost use Rattle.cedar_edit.specs.Words.{add_leaf, AddsLabel, base_of, below, cells, edit_at, fields, Forest, cells_without, GoesBehind, GoesFirst, HasChain, HasNode, Held, HoldsTree, InRange, IsAscending, IsAt, IsNodeOf, IsTable, LeadsTo, Node, Removes, SameFrame, SeeksBehind, SeeksPlace, SetsChild, SetsSibling, size_of, TableHolds, without};
+ghost use Rattle.std.specs.Prelude.{◌≡◌, ◌≢◌, ℕ, List, ◌++◌, [], ◌∷◌, ◌<◌, MatchOption, None, pos};
+ghost use Rattle.cedar_edit.specs.Words.{AddsLabel, AddsLeaf, base_of, below, cells, cells_besides, ComesBehind, EditsNode, fields, Forest, GoesBehind, HasChain, HasNode, Held, InRange, IsAt, IsNodeOf, IsTable, LeadsTo, Node, Removes, SameFrame, SeeksBehind, SeeksPlace, SetsChild, SetsSibling, size_of, without};
 
 use cedar_model::Layout;
 use cedar_slots::BLOCK_SIZE;
@@ -30,7 +30,7 @@ fn last_before<L: Layout, const SLOTS: usize, A: Allocator>(
 }
 
 /// The slot that a new label goes behind, unless it begins the node's chain: the first slot of an ordered chain
-/// whose next label is greater, or else what stands before all labels.
+/// whose next label is greater, or else the slot before all labels.
 #[inline(always)]
 fn slot_before<L: Layout, const SLOTS: usize, A: Allocator>(
     table: &Table<L, SLOTS, A>,
@@ -38,7 +38,7 @@ fn slot_before<L: Layout, const SLOTS: usize, A: Allocator>(
     label: u8,
 ) -> Option<usize>
     requires { SeeksPlace (fields table.now) node label }
-    ensures { MatchOption result (GoesFirst (cells table.now) (fields table.now).ordered node label) (λ slot. GoesBehind (size_of (fields table.now)) (cells table.now) (fields table.now).ordered node label slot) }
+    ensures { ComesBehind (fields table.now) node label result }
 {
     if node == 0 || table.has_number_slot(node) {
         let lead = table.child_slot(node, 0);
@@ -52,8 +52,8 @@ fn slot_before<L: Layout, const SLOTS: usize, A: Allocator>(
     Some(last_before(table, node, start, label))
 }
 
-/// Takes the slot of `label` below `node`, and returns it. The new leaf stands at its ascending place if the table
-/// is ordered, and first if not, behind the slot of the node's number. The node has a base, unless it is the root,
+/// Takes the slot of `label` below `node`, and returns it. The new leaf goes to its ascending place if the table
+/// is ordered, and before all others if not, behind the slot of the node's number. The node has a base, unless it is the root,
 /// and its slot for the label is free.
 pub(crate) fn add_label<L: Layout, const SLOTS: usize, A: Allocator>(
     table: &mut Table<L, SLOTS, A>,
@@ -72,8 +72,7 @@ pub(crate) fn add_label<L: Layout, const SLOTS: usize, A: Allocator>(
     //= `add_label`, `remove_label`, `set_number`, `drop_number` change one node's own slots; the tree is changed at that node alone. [with
     //  tree; also remove_label.removed.tree, set_number.set.tree, drop_number.dropped.tree]
     ensures added { AddsLabel (size_of (fields table.old)) (fields table.old).ordered (cells table.old) (cells table.new) node label }
-    ensures tree { (f : Forest) (w : List ℕ) → TableHolds (fields table.old) f → ((fields table.old).ordered ≡ true → IsAscending f) → IsAt (cells table.old) w node
-        → TableHolds (fields table.new) (edit_at w (λ n. n) (add_leaf (fields table.old).ordered label) f) }
+    ensures tree { AddsLeaf (size_of (fields table.old)) (fields table.old).ordered (cells table.old) (fields table.new) node label }
     ensures leaf { (w : List ℕ) → IsAt (cells table.old) w node → IsAt (cells table.new) (w ++ label ∷ []) result }
     ensures paths { (w : List ℕ) (s : ℕ) → IsAt (cells table.old) w s → IsAt (cells table.new) w s }
     ensures root_check { (cells table.new).check 0 ≡ (cells table.old).check 0 }
@@ -89,7 +88,7 @@ pub(crate) fn add_label<L: Layout, const SLOTS: usize, A: Allocator>(
     slot
 }
 
-/// Takes the slot of `label` below `node`, which is reserved for it, and returns it. The new leaf stands where
+/// Takes the slot of `label` below `node`, which is reserved for it, and returns it. The new leaf goes where
 /// `add_label` puts one.
 pub(crate) fn add_reserved<L: Layout, const SLOTS: usize, A: Allocator>(
     table: &mut Table<L, SLOTS, A>,
@@ -99,16 +98,15 @@ pub(crate) fn add_reserved<L: Layout, const SLOTS: usize, A: Allocator>(
     requires sound { IsTable SLOTS (fields table.old).places }
     requires node_in { node < size_of (fields table.old) }
     requires not_root { node ≢ 0 }
-    requires node { (f : Forest) × IsNodeOf (size_of (fields table.old)) (cells_without (cells table.old) (below (cells table.old) node label)) (fields table.old).ordered f node }
+    requires node { (f : Forest) × IsNodeOf (size_of (fields table.old)) (cells_besides (fields table.old) node label) (fields table.old).ordered f node }
     requires positive { 0 < label }
     requires based { InRange (size_of (fields table.old)) ((cells table.old).stored node) }
     requires reserved { (cells table.old).check (below (cells table.old) node label) ≡ pos 0 }
     ensures sound { IsTable SLOTS (fields table.new).places }
     ensures slot { result ≡ below (cells table.new) node label }
-    ensures added { AddsLabel (size_of (fields table.old)) (fields table.old).ordered (cells_without (cells table.old) (below (cells table.old) node label)) (cells table.new) node label }
-    ensures tree { (f : Forest) (w : List ℕ) → HoldsTree (size_of (fields table.old)) (cells_without (cells table.old) (below (cells table.old) node label)) f → ((fields table.old).ordered ≡ true → IsAscending f) → IsAt (cells_without (cells table.old) (below (cells table.old) node label)) w node
-        → TableHolds (fields table.new) (edit_at w (λ n. n) (add_leaf (fields table.old).ordered label) f) }
-    ensures leaf { (w : List ℕ) → IsAt (cells_without (cells table.old) (below (cells table.old) node label)) w node → IsAt (cells table.new) (w ++ label ∷ []) result }
+    ensures added { AddsLabel (size_of (fields table.old)) (fields table.old).ordered (cells_besides (fields table.old) node label) (cells table.new) node label }
+    ensures tree { AddsLeaf (size_of (fields table.old)) (fields table.old).ordered (cells_besides (fields table.old) node label) (fields table.new) node label }
+    ensures leaf { (w : List ℕ) → IsAt (cells_besides (fields table.old) node label) w node → IsAt (cells table.new) (w ++ label ∷ []) result }
     ensures root_check { (cells table.new).check 0 ≡ (cells table.old).check 0 }
     ensures frame { SameFrame (fields table.old) (fields table.new) }
 {
@@ -183,8 +181,7 @@ pub(crate) fn remove_label<L: Layout, const SLOTS: usize, A: Allocator>(
     requires bare { Node (size_of (fields table.old)) (cells table.old) (below (cells table.old) node label) None [] }
     ensures sound { IsTable SLOTS (fields table.new).places }
     ensures removed { Removes (size_of (fields table.old)) (cells table.old) (cells table.new) node label }
-    ensures tree { (f : Forest) (w : List ℕ) → TableHolds (fields table.old) f → IsAt (cells table.old) w node
-        → TableHolds (fields table.new) (edit_at w (λ n. n) (λ u. without u label) f) }
+    ensures tree { EditsNode (size_of (fields table.old)) (cells table.old) (fields table.new) node (λ n. n) (λ u. without u label) }
     ensures root_check { (cells table.new).check 0 ≡ (cells table.old).check 0 }
     ensures frame { SameFrame (fields table.old) (fields table.new) }
 {

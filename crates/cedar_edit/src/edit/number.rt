@@ -1,7 +1,7 @@
 //! A node's number set, and taken away.
 
-ghost use Rattle.std.specs.Prelude.{◌≡◌, ◌⊎◌, ℕ, List, ◌<◌, None, pos, Some};
-ghost use Rattle.cedar_edit.specs.Words.{below, cells, DropsNumber, edit_at, fields, Forest, cells_without, HasNode, Held, HoldsTree, InRange, IsAt, IsNodeOf, IsTable, SameFrame, SetsNumber, size_of, TableHolds};
+ghost use Rattle.std.specs.Prelude.{◌≡◌, ◌⊎◌, ◌<◌, None, pos, Some};
+ghost use Rattle.cedar_edit.specs.Words.{below, cells, cells_besides, DropsNumber, EditsNode, fields, Forest, HasNode, Held, InRange, IsNodeOf, IsTable, SameFrame, SetsNumber, size_of};
 
 use cedar_model::Layout;
 use cedar_slots::NodeRecord;
@@ -23,8 +23,7 @@ pub(crate) fn set_number<L: Layout, const SLOTS: usize, A: Allocator>(
     requires place { ((cells table.old).check (below (cells table.old) node 0) ≡ pos node) ⊎ (Held (cells table.old) (below (cells table.old) node 0) → ⊥) }
     ensures sound { IsTable SLOTS (fields table.new).places }
     ensures set { SetsNumber (size_of (fields table.old)) (cells table.old) (cells table.new) node value }
-    ensures tree { (f : Forest) (w : List ℕ) → TableHolds (fields table.old) f → IsAt (cells table.old) w node
-        → TableHolds (fields table.new) (edit_at w (λ _. Some value) (λ u. u) f) }
+    ensures tree { EditsNode (size_of (fields table.old)) (cells table.old) (fields table.new) node (λ _. Some value) (λ u. u) }
     ensures root_check { (cells table.new).check 0 ≡ (cells table.old).check 0 }
     ensures frame { SameFrame (fields table.old) (fields table.new) }
 {
@@ -52,13 +51,12 @@ pub(crate) fn set_reserved<L: Layout, const SLOTS: usize, A: Allocator>(
     requires sound { IsTable SLOTS (fields table.old).places }
     requires node_in { node < size_of (fields table.old) }
     requires not_root { 0 < node }
-    requires node { (f : Forest) × IsNodeOf (size_of (fields table.old)) (cells_without (cells table.old) (below (cells table.old) node 0)) (fields table.old).ordered f node }
+    requires node { (f : Forest) × IsNodeOf (size_of (fields table.old)) (cells_besides (fields table.old) node 0) (fields table.old).ordered f node }
     requires based { InRange (size_of (fields table.old)) ((cells table.old).stored node) }
     requires reserved { (cells table.old).check (below (cells table.old) node 0) ≡ pos 0 }
     ensures sound { IsTable SLOTS (fields table.new).places }
-    ensures set { SetsNumber (size_of (fields table.old)) (cells_without (cells table.old) (below (cells table.old) node 0)) (cells table.new) node value }
-    ensures tree { (f : Forest) (w : List ℕ) → HoldsTree (size_of (fields table.old)) (cells_without (cells table.old) (below (cells table.old) node 0)) f → IsAt (cells_without (cells table.old) (below (cells table.old) node 0)) w node
-        → TableHolds (fields table.new) (edit_at w (λ _. Some value) (λ u. u) f) }
+    ensures set { SetsNumber (size_of (fields table.old)) (cells_besides (fields table.old) node 0) (cells table.new) node value }
+    ensures tree { EditsNode (size_of (fields table.old)) (cells_besides (fields table.old) node 0) (fields table.new) node (λ _. Some value) (λ u. u) }
     ensures root_check { (cells table.new).check 0 ≡ (cells table.old).check 0 }
     ensures frame { SameFrame (fields table.old) (fields table.new) }
 {
@@ -82,8 +80,7 @@ pub(crate) fn drop_number<L: Layout, const SLOTS: usize, A: Allocator>(
     requires owned { (cells table.old).check (below (cells table.old) node 0) ≡ pos node }
     ensures sound { IsTable SLOTS (fields table.new).places }
     ensures dropped { DropsNumber (size_of (fields table.old)) (cells table.old) (cells table.new) node }
-    ensures tree { (f : Forest) (w : List ℕ) → TableHolds (fields table.old) f → IsAt (cells table.old) w node
-        → TableHolds (fields table.new) (edit_at w (λ _. None) (λ u. u) f) }
+    ensures tree { EditsNode (size_of (fields table.old)) (cells table.old) (fields table.new) node (λ _. None) (λ u. u) }
     ensures root_check { (cells table.new).check 0 ≡ (cells table.old).check 0 }
     ensures frame { SameFrame (fields table.old) (fields table.new) }
 {

@@ -1,7 +1,7 @@
 //! Numbers in the base fields of their own nodes: in a layout that keeps them there, that of each node which owns no slot.
 
 ghost use Rattle.std.specs.Prelude.{◌≡◌, ◌≢◌, ℕ, List, ◌<◌, ◌↔◌, is_some, IsTrue, None, OnOk, pos};
-ghost use Rattle.cedar_edit.specs.Words.{base_of, below, cells, edit_at, fields, FieldSet, Forest, HasNode, IsAt, IsTable, KeepsOtherMarks, MayMakeBlock, node_at, OwnsNothing, reduced_layout, root_of, SameFrame, size_of, TableHolds};
+ghost use Rattle.cedar_edit.specs.Words.{base_of, below, cells, EditsNode, fields, FieldSet, Forest, HasNode, IsAt, IsTable, KeepsOtherMarks, MayMakeBlock, node_at, OwnsNothing, reduced_layout, root_of, SameFrame, size_of, TableHolds};
 ghost use Rattle.cedar_model.specs.declared.layout.Stored.TheVariants.{AtBase, OwnNumber};
 
 use crate::edit::number::set_number;
@@ -50,8 +50,7 @@ pub(crate) fn drop_own_number<L: Layout, const SLOTS: usize, A: Allocator>(
     requires alone { OwnsNothing (cells table.old) node }
     ensures sound { IsTable SLOTS (fields table.new).places }
     ensures set { FieldSet (cells table.old) (cells table.new) node (AtBase 0) }
-    ensures tree { (f : Forest) (w : List ℕ) → TableHolds (fields table.old) f → IsAt (cells table.old) w node
-        → TableHolds (fields table.new) (edit_at w (λ _. None) (λ u. u) f) }
+    ensures tree { EditsNode (size_of (fields table.old)) (cells table.old) (fields table.new) node (λ _. None) (λ u. u) }
     ensures frame { SameFrame (fields table.old) (fields table.new) }
 {
     table.set_base(node, 0);

@@ -1,7 +1,7 @@
 //! A key's number put.
 
-ghost use Rattle.std.specs.Prelude.{◌≡◌, ◌⊎◌, ℕ, ◌+◌, ◌<◌, ◌≤◌, IfErr, IfOk, drop, is_some, length, take, OnErr, OnOk, true, false, [], ◌∷◌};
-ghost use Rattle.cedar_edit.specs.Words.{cells, default_layout, fields, has_label, HasWay, is_value, IsKey, IsWellFormed, KeepsMarks, LacksNode, MakesBlocks, marks, MarksPut, MayRefuse, NewMark, NoPlace, number_at, put, PutsMarks, reduced_layout, SameModes, size_of, TakenBack, tree_of, Walked};
+ghost use Rattle.std.specs.Prelude.{◌≡◌, ◌≤◌, IfErr, IfOk, drop, is_some, length, take, OnErr, OnOk, true, []};
+ghost use Rattle.cedar_edit.specs.Words.{cells, fields, HasWay, is_value, IsKey, IsWellFormed, KeepsMarks, MakesAtMost, marks, MayRefuse, NewMark, number_at, put, PutsInMarks, PutsMarks, SameModes, TakenBack, TakesNewByte, TakesNewNode, TakesNoBlock, tree_of, Walked};
 
 use crate::keys::erase::trim;
 use crate::keys::step::{follow_or_add, put_number};
@@ -59,7 +59,7 @@ fn walk_in<L: Layout, const SLOTS: usize, A: Allocator>(
     Ok(node)
 }
 
-/// Puts the number `value` at a key below none of whose fronts a number stands in its node's own base field, and returns the
+/// Puts the number `value` at a key, none of whose proper fronts keeps its number in its node's own base field, and returns the
 /// number there before. Where memory or slots are refused, the tree is as before.
 fn put_along<L: Layout, const SLOTS: usize, A: Allocator>(
     table: &mut Table<L, SLOTS, A>,
@@ -75,13 +75,12 @@ fn put_along<L: Layout, const SLOTS: usize, A: Allocator>(
     ensures held { IfOk result (λ held. held ≡ number_at (tree_of (fields table.old)) key.now) }
     ensures taken_back { OnErr result (tree_of (fields table.new) ≡ tree_of (fields table.old)) }
     ensures refused { IfErr result (λ error. MayRefuse (fields table.new).places SLOTS error) }
-    ensures blocks { (n : ℕ) × (n ≤ length key.now) × OnErr result (n < length key.now) × MakesBlocks n (fields table.old) (fields table.new) }
-    ensures over { is_some (number_at (tree_of (fields table.old)) key.now) ≡ true → OnErr result ⊥ × MakesBlocks 0 (fields table.old) (fields table.new) }
-    ensures one_byte { (b : ℕ) → key.now ≡ b ∷ [] → has_label (tree_of (fields table.old)).children b ≡ false
-        → (OnErr result ⊥ × MakesBlocks 0 (fields table.old) (fields table.new)) ⊎ ((fields table.old).layout ≡ default_layout) × NoPlace (size_of (fields table.old)) (cells table.old) }
+    ensures blocks { MakesAtMost (length key.now) (fields table.old) (fields table.new) result }
+    ensures over { is_some (number_at (tree_of (fields table.old)) key.now) ≡ true → TakesNoBlock (fields table.old) (fields table.new) result }
+    ensures one_byte { TakesNewByte (fields table.old) (fields table.new) key.now result }
     ensures marks { KeepsMarks (cells table.old) (cells table.new) }
     ensures new_mark { OnOk result (NewMark (fields table.old) (fields table.new) key.now) }
-    ensures lacking { (fields table.old).layout ≡ reduced_layout → LacksNode (cells table.old) key.now → (n : ℕ) × (n < length key.now) × OnErr result (n + 1 < length key.now) × MakesBlocks n (fields table.old) (fields table.new) }
+    ensures lacking { TakesNewNode (fields table.old) (fields table.new) key.now result }
     ensures modes { SameModes (fields table.old) (fields table.new) }
 {
     let end = walk_in(table, key)?;
@@ -126,14 +125,13 @@ pub fn update<L: Layout, const SLOTS: usize, A: Allocator>(
     ensures refused { IfErr result (λ error. MayRefuse (fields table.new).places SLOTS error) }
 
     //= A key of n bytes makes n blocks at most, and fewer than n if it is refused.
-    ensures blocks { (n : ℕ) × (n ≤ length key.now) × OnErr result (n < length key.now) × MakesBlocks n (fields table.old) (fields table.new) }
+    ensures blocks { MakesAtMost (length key.now) (fields table.old) (fields table.new) result }
 
     //= Over a number no block is made and nothing is refused.
-    ensures over { is_some (number_at (tree_of (fields table.old)) key.now) ≡ true → OnErr result ⊥ × MakesBlocks 0 (fields table.old) (fields table.new) }
+    ensures over { is_some (number_at (tree_of (fields table.old)) key.now) ≡ true → TakesNoBlock (fields table.old) (fields table.new) result }
 
     //= A new first byte alone makes a block, or is refused, only in the default layout and only where no slot outside block 0 is free.
-    ensures one_byte { (b : ℕ) → key.now ≡ b ∷ [] → has_label (tree_of (fields table.old)).children b ≡ false
-        → (OnErr result ⊥ × MakesBlocks 0 (fields table.old) (fields table.new)) ⊎ ((fields table.old).layout ≡ default_layout) × NoPlace (size_of (fields table.old)) (cells table.old) }
+    ensures one_byte { TakesNewByte (fields table.old) (fields table.new) key.now result }
 
     //= After a refusal each number stands where it stood, in a slot or in its node's own base field. [with marks_stay]
     //= So as many slots are held then as before. [with marks_stay; by slots_stay]
@@ -146,7 +144,7 @@ pub fn update<L: Layout, const SLOTS: usize, A: Allocator>(
     ensures new_marks { OnOk result (PutsMarks (fields table.old) (fields table.new) key.now) }
 
     //= The tree of marks says the same in the reduced layout.
-    ensures marks_put { OnOk result ((fields table.old).layout ≡ reduced_layout → MarksPut (tree_of (fields table.old)) (marks (fields table.old)) (marks (fields table.new)) key.now) }
+    ensures marks_put { OnOk result (PutsInMarks (fields table.old) (fields table.new) key.now) }
 
     //= Order and `max_trial` stay. [also erase]
     ensures modes { SameModes (fields table.old) (fields table.new) }

@@ -1,7 +1,7 @@
 //! One step of an update: to the child under a label, which is added where there is none, or to the number.
 
-ghost use Rattle.std.specs.Prelude.{◌≡◌, ◌≢◌, ◌⊎◌, ℕ, ℤ, List, ◌<◌, false, IfOk, IsTrue, OnErr, OnOk, pos, Some, true};
-ghost use Rattle.cedar_edit.specs.Words.{base_of, below, cells, default_layout, edit_at, fields, Forest, HasNode, Held, is_value, IsAt, IsTable, MakesBlocks, MayMakeBlock, NoPlace, Placed, PutsMark, reduced_layout, size_of, StepsTo, TableHolds, WantsRoom, WantsSlot};
+ghost use Rattle.std.specs.Prelude.{◌≡◌, ◌≢◌, ◌⊎◌, ℤ, ◌<◌, IfOk, IsTrue, OnOk, pos, Some, true};
+ghost use Rattle.cedar_edit.specs.Words.{base_of, below, cells, EditsNode, fields, Forest, HasNode, Held, is_value, IsTable, LacksNumberSlot, MayMakeBlock, Placed, PutsInBase, PutsInSlot, PutsMark, size_of, StepsTo, TableHolds, TakesFreeSlot, TakesNoBlock, WantsRoom, WantsSlot};
 ghost use Rattle.cedar_model.specs.declared.layout.Stored.TheVariants.{AtBase, OwnNumber};
 
 use crate::edit::leaf::{add_label, add_reserved};
@@ -29,7 +29,7 @@ fn first_base<L: Layout, const SLOTS: usize, A: Allocator>(
     ensures placed { OnOk result (Placed (fields table.old) (fields table.new) node label node) }
     ensures tree { (f : Forest) → TableHolds (fields table.old) f → TableHolds (fields table.new) f }
     ensures step { MayMakeBlock SLOTS (fields table.old) (fields table.new) result }
-    ensures made { (OnErr result ⊥ × MakesBlocks 0 (fields table.old) (fields table.new)) ⊎ NoPlace (size_of (fields table.old)) (cells table.old) }
+    ensures made { TakesFreeSlot (fields table.old) (fields table.new) result }
 {
     let slot = table.find_place()?;
     table.set_base(node, slot ^ usize::from(label));
@@ -67,8 +67,8 @@ fn room_for<L: Layout, const SLOTS: usize, A: Allocator>(
     ensures placed { OnOk result (Placed (fields table.old) (fields table.new) node label node) }
     ensures tree { (f : Forest) → TableHolds (fields table.old) f → TableHolds (fields table.new) f }
     ensures step { MayMakeBlock SLOTS (fields table.old) (fields table.new) result }
-    ensures leaf { node ≢ 0 → (cells table.old).stored node ≡ AtBase 0 → (OnErr result ⊥ × MakesBlocks 0 (fields table.old) (fields table.new)) ⊎ NoPlace (size_of (fields table.old)) (cells table.old) }
-    ensures at_root { node ≡ 0 → OnErr result ⊥ × MakesBlocks 0 (fields table.old) (fields table.new) }
+    ensures leaf { node ≢ 0 → (cells table.old).stored node ≡ AtBase 0 → TakesFreeSlot (fields table.old) (fields table.new) result }
+    ensures at_root { node ≡ 0 → TakesNoBlock (fields table.old) (fields table.new) result }
     ensures root_same { node ≡ 0 → fields table.new ≡ fields table.old }
 {
     let base = table.base_of(node);
@@ -102,8 +102,7 @@ fn put_over<L: Layout, const SLOTS: usize, A: Allocator>(
 ) -> Result<(), Shortage>
     requires { WantsSlot SLOTS (fields table.old) node 0 }
     ensures sound { IsTable SLOTS (fields table.new).places }
-    ensures set { OnOk result ((f : Forest) (w : List ℕ) → TableHolds (fields table.old) f → IsAt (cells table.old) w node
-        → TableHolds (fields table.new) (edit_at w (λ _. Some value) (λ u. u) f)) }
+    ensures set { OnOk result (EditsNode (size_of (fields table.old)) (cells table.old) (fields table.new) node (λ _. Some value) (λ u. u)) }
     ensures marks { OnOk result (PutsMark (cells table.old) (cells table.new) node true) }
     ensures step { MayMakeBlock SLOTS (fields table.old) (fields table.new) result }
 {
@@ -136,9 +135,9 @@ pub(crate) fn follow_or_add<L: Layout, const SLOTS: usize, A: Allocator>(
     ensures step { MayMakeBlock SLOTS (fields table.old) (fields table.new) result }
 
     //= To a child that is there it makes no block, isn't refused and changes no slot. [with stays]
-    ensures owned { (cells table.old).check (below (cells table.old) node label) ≡ pos node → OnErr result ⊥ × MakesBlocks 0 (fields table.old) (fields table.new) }
+    ensures owned { (cells table.old).check (below (cells table.old) node label) ≡ pos node → TakesNoBlock (fields table.old) (fields table.new) result }
     ensures stays { (cells table.old).check (below (cells table.old) node label) ≡ pos node → cells table.new ≡ cells table.old }
-    ensures at_root { node ≡ 0 → OnErr result ⊥ × MakesBlocks 0 (fields table.old) (fields table.new) }
+    ensures at_root { node ≡ 0 → TakesNoBlock (fields table.old) (fields table.new) result }
 {
     let slot = table.slot_below(node, label);
     if table.is_owned_by(slot, node) {
@@ -164,12 +163,11 @@ fn put_in_slot<L: Layout, const SLOTS: usize, A: Allocator>(
     requires node { (f : Forest) × HasNode (fields table.old) f node }
     requires no_own_number { (v : ℤ) → (cells table.old).stored node ≢ OwnNumber v }
     ensures sound { IsTable SLOTS (fields table.new).places }
-    ensures set { OnOk result ((f : Forest) (w : List ℕ) → TableHolds (fields table.old) f → IsAt (cells table.old) w node
-        → TableHolds (fields table.new) (edit_at w (λ _. Some value) (λ u. u) f)) }
+    ensures set { OnOk result (EditsNode (size_of (fields table.old)) (cells table.old) (fields table.new) node (λ _. Some value) (λ u. u)) }
     ensures marks { OnOk result (PutsMark (cells table.old) (cells table.new) node true) }
     ensures step { MayMakeBlock SLOTS (fields table.old) (fields table.new) result }
-    ensures owned { (cells table.old).check (below (cells table.old) node 0) ≡ pos node → OnErr result ⊥ × MakesBlocks 0 (fields table.old) (fields table.new) }
-    ensures leaf { (cells table.old).stored node ≡ AtBase 0 → (OnErr result ⊥ × MakesBlocks 0 (fields table.old) (fields table.new)) ⊎ NoPlace (size_of (fields table.old)) (cells table.old) }
+    ensures owned { (cells table.old).check (below (cells table.old) node 0) ≡ pos node → TakesNoBlock (fields table.old) (fields table.new) result }
+    ensures leaf { (cells table.old).stored node ≡ AtBase 0 → TakesFreeSlot (fields table.old) (fields table.new) result }
 {
     let slot = table.slot_below(node, 0);
     if table.is_owned_by(slot, node) {
@@ -200,18 +198,17 @@ pub(crate) fn put_number<L: Layout, const SLOTS: usize, A: Allocator>(
 
     //= `put_number` sets a node's number; where it is refused, all slots are as before; it makes one block at most. [with step; by
     //  MayMakeBlock]
-    ensures set { OnOk result ((f : Forest) (w : List ℕ) → TableHolds (fields table.old) f → IsAt (cells table.old) w node
-        → TableHolds (fields table.new) (edit_at w (λ _. Some value) (λ u. u) f)) }
+    ensures set { OnOk result (EditsNode (size_of (fields table.old)) (cells table.old) (fields table.new) node (λ _. Some value) (λ u. u)) }
 
     //= In the reduced layout the number of a node without base comes into its own base field, and else into a slot. [with marks_own]
-    ensures marks { OnOk result (((fields table.old).layout ≡ reduced_layout → base_of (cells table.old) node ≢ 0) → PutsMark (cells table.old) (cells table.new) node true) }
-    ensures marks_own { OnOk result ((fields table.old).layout ≡ reduced_layout → base_of (cells table.old) node ≡ 0 → PutsMark (cells table.old) (cells table.new) node false) }
+    ensures marks { OnOk result (PutsInSlot (fields table.old) (fields table.new) node) }
+    ensures marks_own { OnOk result (PutsInBase (fields table.old) (fields table.new) node) }
     ensures step { MayMakeBlock SLOTS (fields table.old) (fields table.new) result }
 
     //= Over a number it makes no block and isn't refused. [with own]
-    ensures owned { (cells table.old).check (below (cells table.old) node 0) ≡ pos node → OnErr result ⊥ × MakesBlocks 0 (fields table.old) (fields table.new) }
-    ensures own { (v : ℤ) → (cells table.old).stored node ≡ OwnNumber v → OnErr result ⊥ × MakesBlocks 0 (fields table.old) (fields table.new) }
-    ensures leaf { (cells table.old).stored node ≡ AtBase 0 → (OnErr result ⊥ × MakesBlocks 0 (fields table.old) (fields table.new)) ⊎ ((fields table.old).layout ≡ default_layout) × NoPlace (size_of (fields table.old)) (cells table.old) }
+    ensures owned { (cells table.old).check (below (cells table.old) node 0) ≡ pos node → TakesNoBlock (fields table.old) (fields table.new) result }
+    ensures own { (v : ℤ) → (cells table.old).stored node ≡ OwnNumber v → TakesNoBlock (fields table.old) (fields table.new) result }
+    ensures leaf { (cells table.old).stored node ≡ AtBase 0 → TakesNoBlock (fields table.old) (fields table.new) result ⊎ LacksNumberSlot (fields table.old) }
 {
     if keeps_own(table, node) {
         table.set_own_number(node, value);

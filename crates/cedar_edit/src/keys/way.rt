@@ -1,8 +1,8 @@
-//! A number that stands in the way of a new label: it moves from its node's own base field into a slot, and back where the
+//! A number that is in the way of a new label: it moves from its node's own base field into a slot, and back where the
 //! label is refused.
 
-ghost use Rattle.std.specs.Prelude.{◌≡◌, ℕ, List, ◌<◌, ◌≤◌, IfErr, IfOk, is_some, length, MatchOption, None, OnErr, OnOk, pos, Some, take, true, false};
-ghost use Rattle.cedar_edit.specs.Words.{below, cells, fields, first_in, Forest, HasNode, HasWay, IsAt, IsKey, IsOwnAt, IsWellFormed, KeepsMarks, KeepsOtherMarks, LacksNode, MakesBlocks, mark, MayRefuse, MovesOut, number_at, reduced_layout, root_of, SameFrame, SameModes, size_of, tree_of};
+ghost use Rattle.std.specs.Prelude.{◌≡◌, ℕ, List, ◌<◌, IfErr, IfOk, is_some, length, MatchOption, None, OnErr, OnOk, pos, Some, take, true};
+ghost use Rattle.cedar_edit.specs.Words.{below, cells, fields, Forest, HasNode, HasWay, IsAt, IsInWay, IsKey, IsOwnAt, IsWellFormed, KeepsMarks, KeepsOtherMarks, LacksLoneNumber, MakesAtMost, MayRefuse, MovesIn, MovesPrefixOut, number_at, OwnsNumberAlone, reduced_layout, SameFrame, SameModes, size_of, tree_of};
 
 use crate::edit::number::drop_number;
 use crate::edit::own::move_number;
@@ -49,7 +49,7 @@ fn move_out<L: Layout, const SLOTS: usize, A: Allocator>(
     ensures others { OnOk result ((s : ℕ) → IsAt (cells table.old) key.now s → KeepsOtherMarks (cells table.old) (cells table.new) s) }
     ensures stays { OnErr result (KeepsMarks (cells table.old) (cells table.new)) }
     ensures refused { IfErr result (λ error. MayRefuse (fields table.new).places SLOTS error) }
-    ensures blocks { (n : ℕ) × (n ≤ 1) × OnErr result (n < 1) × MakesBlocks n (fields table.old) (fields table.new) }
+    ensures blocks { MakesAtMost 1 (fields table.old) (fields table.new) result }
     ensures modes { SameModes (fields table.old) (fields table.new) }
 {
     let Some(node) = table.node_of(key) else {
@@ -68,7 +68,7 @@ fn lone_number<L: Layout, const SLOTS: usize, A: Allocator>(
 ) -> Option<i32>
     requires node_in { node < size_of (fields table.now) }
     requires node { (f : Forest) × HasNode (fields table.now) f node }
-    ensures { MatchOption result ((cells table.now).check (below (cells table.now) node 0) ≡ pos node → first_in (cells table.now) node ≡ 0 → ⊥) (λ v. ((cells table.now).check (below (cells table.now) node 0) ≡ pos node) × ((cells table.now).base (below (cells table.now) node 0) ≡ v) × (first_in (cells table.now) node ≡ 0)) }
+    ensures { MatchOption result (LacksLoneNumber (cells table.now) node) (OwnsNumberAlone (cells table.now) node) }
 {
     let slot = table.base_of(node);
     if table.is_owned_by(slot, node) && table.sibling(slot) == 0 {
@@ -83,7 +83,7 @@ fn move_in<L: Layout, const SLOTS: usize, A: Allocator>(table: &mut Table<L, SLO
     requires layout { (fields table.old).layout ≡ reduced_layout }
     ensures well_formed { IsWellFormed SLOTS (fields table.new) }
     ensures tree { tree_of (fields table.new) ≡ tree_of (fields table.old) }
-    ensures here { (s : ℕ) → IsAt (cells table.old) key.now s → mark (cells table.old) s ≡ Some true → first_in (cells table.old) s ≡ 0 → IsAt (cells table.new) key.now s × (mark (cells table.new) s ≡ Some false) }
+    ensures here { MovesIn (cells table.old) (cells table.new) key.now }
     ensures others { (s : ℕ) → IsAt (cells table.old) key.now s → KeepsOtherMarks (cells table.old) (cells table.new) s }
     ensures frame { SameFrame (fields table.old) (fields table.new) }
 {
@@ -97,7 +97,7 @@ fn move_in<L: Layout, const SLOTS: usize, A: Allocator>(table: &mut Table<L, SLO
     table.set_own_number(node, value);
 }
 
-/// Moves the number of a key's front that stands in the way of the next label, and returns the front's length. Where
+/// Moves the number of a key's front that is in the way of the next label, and returns the front's length. Where
 /// memory or slots are refused, all is as before.
 pub(crate) fn make_way<L: Layout, const SLOTS: usize, A: Allocator>(
     table: &mut Table<L, SLOTS, A>,
@@ -109,13 +109,13 @@ pub(crate) fn make_way<L: Layout, const SLOTS: usize, A: Allocator>(
     ensures tree { tree_of (fields table.new) ≡ tree_of (fields table.old) }
     ensures way { OnOk result (HasWay (cells table.new) 0 key.now) }
     ensures none { IfOk result (λ moved. moved ≡ None → fields table.new ≡ fields table.old) }
-    ensures moved { IfOk result (λ moved. (n : ℕ) → moved ≡ Some n → (n < length key.now) × ((fields table.new).layout ≡ reduced_layout) × LacksNode (cells table.new) key.now) }
-    ensures moves { IfOk result (λ moved. (n : ℕ) → moved ≡ Some n → MovesOut (cells table.old) (cells table.new) (root_of (tree_of (fields table.old)).children) (take n key.now)) }
+    ensures moved { IfOk result (λ moved. (n : ℕ) → moved ≡ Some n → IsInWay (fields table.new) key.now n) }
+    ensures moves { IfOk result (λ moved. (n : ℕ) → moved ≡ Some n → MovesPrefixOut (fields table.old) (fields table.new) key.now n) }
     ensures stays { OnErr result (KeepsMarks (cells table.old) (cells table.new)) }
     ensures over { is_some (number_at (tree_of (fields table.old)) key.now) ≡ true → IfOk result (λ moved. moved ≡ None) × OnErr result ⊥ }
     ensures one_byte { length key.now ≡ 1 → IfOk result (λ moved. moved ≡ None) × OnErr result ⊥ }
     ensures refused { IfErr result (λ error. MayRefuse (fields table.new).places SLOTS error) }
-    ensures blocks { (n : ℕ) × (n ≤ 1) × OnErr result (n < 1) × MakesBlocks n (fields table.old) (fields table.new) }
+    ensures blocks { MakesAtMost 1 (fields table.old) (fields table.new) result }
     ensures modes { SameModes (fields table.old) (fields table.new) }
 {
     if !L::keeps_numbers() {
@@ -139,8 +139,7 @@ pub(crate) fn close_way<L: Layout, const SLOTS: usize, A: Allocator>(
     ensures well_formed { IsWellFormed SLOTS (fields table.new) }
     ensures tree { tree_of (fields table.new) ≡ tree_of (fields table.old) }
     ensures none { moved ≡ None → cells table.new ≡ cells table.old }
-    ensures here { (n : ℕ) (s : ℕ) → moved ≡ Some n → IsAt (cells table.old) (take n key.now) s → mark (cells table.old) s ≡ Some true → first_in (cells table.old) s ≡ 0
-        → IsAt (cells table.new) (take n key.now) s × (mark (cells table.new) s ≡ Some false) }
+    ensures here { (n : ℕ) → moved ≡ Some n → MovesIn (cells table.old) (cells table.new) (take n key.now) }
     ensures others { (n : ℕ) (s : ℕ) → moved ≡ Some n → IsAt (cells table.old) (take n key.now) s → KeepsOtherMarks (cells table.old) (cells table.new) s }
     ensures frame { SameFrame (fields table.old) (fields table.new) }
 {

@@ -1,7 +1,7 @@
 //! Moving the slots of a node to another base.
 
 ghost use Rattle.std.specs.Prelude.{bit_xor, ◌≡◌, ◌≢◌, ℕ, List, ◌<◌, ◌^◌, pos, true};
-ghost use Rattle.cedar_edit.specs.Words.{Always, Among, base_of, cells, Family, fields, cells_without, goes_before, Head, IsNode, IsNumber, IsPlace, IsTable, Links, MayReserve, Movable, MovesSlot, Relocated, Renames, Repointed, Repoints, RepointsUnder, SameFrame, SameHeld, without_reserved, single, size_of};
+ghost use Rattle.cedar_edit.specs.Words.{Always, Among, base_of, cells, Family, fields, cells_without, goes_before, Head, IsNode, IsNumber, IsPlace, IsTable, Links, MayReserve, Movable, MovesSlot, Relocated, Renames, RenamesAround, Repointed, Repoints, RepointsUnder, SameFrame, SameHeld, without_reserved, single, size_of};
 
 use cedar_model::Layout;
 use cedar_slots::NInfoRecord;
@@ -144,7 +144,7 @@ fn pass_slot<L: Layout, const SLOTS: usize, A: Allocator>(
     requires { MovesSlot SLOTS (fields table.old) from to owner label }
     ensures sound { IsTable SLOTS (fields table.new).places }
     ensures kept { from ≢ wanted → Renames (cells table.old) (cells table.new) (single from to) }
-    ensures passed { from ≡ wanted → Renames (cells table.old) (cells_without (cells table.new) wanted) (single from to) × ((cells table.new).check wanted ≡ pos 0) }
+    ensures passed { from ≡ wanted → RenamesAround (cells table.old) (cells table.new) wanted (single from to) }
     ensures frame { SameFrame (fields table.old) (fields table.new) }
 {
     if from == wanted {
@@ -192,7 +192,7 @@ pub(crate) fn goes_before<L: Layout, const SLOTS: usize, A: Allocator>(
     }
 }
 
-/// Moves the slots that `parent` owns, which stand under `labels`, to the base `base`: one after the other, each
+/// Moves the slots that `parent` owns, those of `labels`, to the base `base`: one after the other, each
 /// with all that it has, so that the chains are as they were. The old slot `wanted` is kept back for another node,
 /// and the others are given back.
 pub(crate) fn relocate_around<L: Layout, const SLOTS: usize, A: Allocator>(
@@ -223,7 +223,7 @@ pub(crate) fn relocate_around<L: Layout, const SLOTS: usize, A: Allocator>(
     table.set_base(parent, base);
 }
 
-/// Moves the slots that `parent` owns, which stand under `labels`, to the base `new_base`, one after the other. The slot
+/// Moves the slots that `parent` owns, those of `labels`, to the base `new_base`, one after the other. The slot
 /// there for a new label is taken when its turn among them comes, and kept back for it.
 pub(crate) fn relocate_with<L: Layout, const SLOTS: usize, A: Allocator>(
     table: &mut Table<L, SLOTS, A>,

@@ -1,8 +1,8 @@
 //! Room for a new label below a node: one of two sets of slots is moved to another base, and the slot for the label is
 //! kept back meanwhile.
 
-ghost use Rattle.std.specs.Prelude.{bit_xor, ◌≡◌, ◌≢◌, ℕ, List, ◌<◌, ◌≤◌, ◌↔◌, IfOk, IsTrue, length, OnOk, pos};
-ghost use Rattle.cedar_edit.specs.Words.{Among, below, cells, Family, fields, Head, IsNode, IsTable, Links, MayMakeBlock, owned_slots, OwnsLabels, Reserves, rest_of, SetReserved, size_of, StandsBelow, WantsSlot, with_label};
+ghost use Rattle.std.specs.Prelude.{bit_xor, ◌≡◌, ◌≢◌, ℕ, List, ◌<◌, ◌≤◌, IfOk, length, OnOk, pos};
+ghost use Rattle.cedar_edit.specs.Words.{Among, below, cells, ChainsRest, fields, IsNode, IsTable, MayMakeBlock, MovesForLabel, OwnsLabels, Reserves, SetReserved, size_of, StandsBelow, TellsLonger, WantsSlot, with_label};
 
 use crate::relocation::moving::{goes_before, relocate_around, relocate_with};
 use arrayvec::ArrayVec;
@@ -11,7 +11,7 @@ use cedar_slots::Shortage;
 use cedar_table::{Labels, Table};
 use std::alloc::Allocator;
 
-/// Moves the slots that `node` owns, which stand under `labels`, to a base from which there is room for `wanted`
+/// Moves the slots that `node` owns, those of `labels`, to a base from which there is room for `wanted`
 /// too, and keeps the slot there for the new label back. Where no room is found the tree is as it was, slot by slot.
 fn move_set_with<L: Layout, const SLOTS: usize, A: Allocator>(
     table: &mut Table<L, SLOTS, A>,
@@ -36,7 +36,7 @@ fn move_set_with<L: Layout, const SLOTS: usize, A: Allocator>(
     Ok(base)
 }
 
-/// Moves the slots that `node` owns, which stand under `labels`, to another base, and keeps back the one of them that
+/// Moves the slots that `node` owns, those of `labels`, to another base, and keeps back the one of them that
 /// another node wants. Where no room is found the tree is as it was, slot by slot.
 fn move_set_around<L: Layout, const SLOTS: usize, A: Allocator>(
     table: &mut Table<L, SLOTS, A>,
@@ -66,7 +66,7 @@ fn second_label<L: Layout, const SLOTS: usize, A: Allocator>(
     requires node_in { node < size_of (fields table.now) }
     requires not_root { node ≢ 0 }
     requires node { IsNode (size_of (fields table.now)) (cells table.now) node }
-    ensures { (h : Head) (ls : List ℕ) → Family (size_of (fields table.now)) (cells table.now) node h ls → Links (cells table.now) node result (rest_of (owned_slots h ls)) }
+    ensures { ChainsRest (size_of (fields table.now)) (cells table.now) node result }
 {
     let base = table.base_of(node);
     if table.has_number_slot(node) {
@@ -92,8 +92,7 @@ fn is_longer<L: Layout, const SLOTS: usize, A: Allocator>(
     requires other_not_root { other ≢ 0 }
     requires one_node { IsNode (size_of (fields table.now)) (cells table.now) one }
     requires other_node { IsNode (size_of (fields table.now)) (cells table.now) other }
-    ensures { (h k : Head) (ls ms : List ℕ) → Family (size_of (fields table.now)) (cells table.now) one h ls → Family (size_of (fields table.now)) (cells table.now) other k ms
-        → IsTrue result ↔ (length (rest_of (owned_slots k ms)) < length (rest_of (owned_slots h ls))) }
+    ensures { TellsLonger (size_of (fields table.now)) (cells table.now) one other result }
 {
     let mut left = second_label(table, one);
     let mut right = second_label(table, other);
@@ -139,8 +138,7 @@ fn move_with<L: Layout, const SLOTS: usize, A: Allocator>(
     requires node { StandsBelow SLOTS (fields table.old) node }
     requires absent { (cells table.old).check (below (cells table.old) node label) ≢ pos node }
     ensures sound { IsTable SLOTS (fields table.new).places }
-    ensures moved { OnOk result ((base : ℕ) × (ls : List ℕ) × (ws : List ℕ) × (256 ≤ bit_xor base label) × (bit_xor base label < size_of (fields table.new))
-        × SetReserved (fields table.old) (fields table.new) node base (bit_xor base label) ls ws) }
+    ensures moved { OnOk result (MovesForLabel (fields table.old) (fields table.new) node label) }
     ensures step { MayMakeBlock SLOTS (fields table.old) (fields table.new) result }
 {
     let labels = table.labels_of(node);

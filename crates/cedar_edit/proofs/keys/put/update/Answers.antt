@@ -116,7 +116,7 @@ returns-in-Err-clause-marks g c =
           let k = c.in_ok-moved.ensures.moves some.0 some.1 in
           let tree : tree_of after ≡ tree_of T = c.in-Err.ensures.taken_back ∙ c.make_way.ensures.tree in
           moved_back (cells_in T) (cells_in mid) (cells_in after) (cells_in last) (root_of (tree_of T).children) u c.requires.well_formed.stands.root well.stands.root k c.in-Err.ensures.marks
-          (λ s at is. c.close_way.ensures.here some.0 s some.1 at is
+          (λ s at is. c.close_way.ensures.here some.0 some.1 s at is
           (childless_first (size_of after) (cells_in after) (tree_of after).children u s well.stands at (λ z. root_unmarked (size_of after) (cells_in after) (tree_of after).children true well.stands (ap (mark (cells_in after)) (sym z) ∙ is))
           (λ l h. k.childless l (ap (λ (t : Tree). has_label (node_at (root_of t.children) u).children l) (sym tree) ∙ h))))
           (λ s at. c.close_way.ensures.others some.0 s some.1 at)

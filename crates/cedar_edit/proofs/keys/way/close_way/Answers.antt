@@ -1,11 +1,11 @@
-use Rattle.std.proofs.Common.{◌≡◌, ◌∙◌, ◌<◌, ℕ, arith, length, None, Option, rules, Some, subst, sym, take, true, false}
+use Rattle.std.proofs.Common.{◌≡◌, ◌∙◌, ◌<◌, ℕ, arith, length, None, Option, rules, Some, subst, sym, take}
 use Rattle.cedar_model.specs.Edit.NodeEdits.{IsAt}
-use Rattle.cedar_model.specs.Meaning.Marks.{KeepsOtherMarks, mark}
-use Rattle.cedar_model.specs.Meaning.Reading.{first_in}
+use Rattle.cedar_model.specs.Meaning.Marks.{KeepsOtherMarks}
 use Rattle.std.specs.Prelude.{MatchOption}
 use Rattle.std.proofs.lemmas.List.{length-take-le}
 use Rattle.cedar_model.specs.Table.Layouts.{reduced_layout}
 use Rattle.cedar_table.specs.Table.Views.{cells, fields}
+use Rattle.cedar_edit.specs.Changes.{MovesIn}
 use Rattle.cedar_edit.proofs.keys.way.close_way.Goals as goal
 
 -- what is known of the length where there is one
@@ -23,17 +23,16 @@ move_in-requires g c =
     (search rules, (c.requires.well_formed, m.1))
 
 pub returns-in-Some-clause-here : goal.returns-in-Some-clause-here
-returns-in-Some-clause-here g c = λ n s is.
+returns-in-Some-clause-here g c = λ n is.
     let chosen : Some c.in-Some.length ≡ Some n = sym c.in-Some.is ∙ is in
     let same : c.in-Some.length ≡ n = cc in
-    subst (λ k. IsAt (cells c.args.table.now) (take k c.args.key.now) s → mark (cells c.args.table.now) s ≡ Some true → first_in (cells c.args.table.now) s ≡ 0 → IsAt (cells c.move_in.new.table) (take k c.args.key.now) s × (mark (cells c.move_in.new.table) s ≡ Some false)) same
-    (c.move_in.ensures.here s)
+    subst (λ k. MovesIn (cells c.args.table.now) (cells c.move_in.new.table) (take k c.args.key.now)) same c.move_in.ensures.here
 
 pub returns-in-Some-clause-none : goal.returns-in-Some-clause-none
 returns-in-Some-clause-none g c = λ is. let clash : ◌≡◌ {A = Option ℕ} (Some c.in-Some.length) None = sym c.in-Some.is ∙ is in cc
 
 pub returns-in_default-clause-here : goal.returns-in_default-clause-here
-returns-in_default-clause-here g c = λ n s is. absurd (c.in_default.not-Some n is)
+returns-in_default-clause-here g c = λ n is. absurd (c.in_default.not-Some n is)
 
 pub returns-in_default-clause-others : goal.returns-in_default-clause-others
 returns-in_default-clause-others g c = λ n s is. absurd (c.in_default.not-Some n is)
