@@ -3,4 +3,5 @@ pub mod Asked
 pub mod Sorted
 pub mod SortedMarks
 pub mod Spans
+pub mod Steps
 pub mod Words

@@ -48,9 +48,13 @@ abbrev pub IsDeeper : ℕ → List Entry → Type 0
 IsDeeper d [] = ⊥
 IsDeeper d (e ∷ es) = d < length e.0
 
--- there is one entry, or none ends here and all go on with one label
+-- no entry ends here, and all go on with one label
+abbrev pub GoesOnAlike : ℕ → List Entry → Type 0
+GoesOnAlike d es = IsDeeper d es × (run d (first_label d es) es ≡ length es)
+
+-- there is one entry, or all go on alike
 abbrev pub IsAlike : ℕ → List Entry → Type 0
-IsAlike d es = (length es ≡ 1) ⊎ (IsDeeper d es × (run d (first_label d es) es ≡ length es))
+IsAlike d es = (length es ≡ 1) ⊎ GoesOnAlike d es
 
 -- the entries are just what stands below a node with these children, d bytes deep
 pub record Lists (d : ℕ) (entries : List Entry) (f : Forest) : Type 0 where

@@ -1,7 +1,7 @@
 //! All labels of a node, one behind the other.
 
-ghost use Rattle.std.specs.Prelude.{◌≡◌, ◌⊎◌, ℕ, List, ◌++◌, [], ◌∷◌, bit_xor, pos, true};
-ghost use Rattle.cedar_bulk.specs.Words.{add_leaf, below, capacity_of, cells, edit_at, fields, Forest, GetsLabels, Held, HoldsTree, IsAscending, IsAt, IsTable, none, SameFrame, SameSettings, size_of, WantsLabel, WantsLabels};
+ghost use Rattle.std.specs.Prelude.{◌≡◌, ◌⊎◌, ℕ, List, ◌++◌, [], ◌∷◌, bit_xor, pos};
+ghost use Rattle.cedar_bulk.specs.Words.{AppendsLeaf, below, capacity_of, cells, fields, GetsLabels, Held, IsAt, IsTable, SameFrame, SameSettings, size_of, WantsLabel, WantsLabels};
 ghost use Rattle.cedar_model.specs.declared.layout.Stored.TheVariants.{AtBase};
 
 use cedar_table::{Layout, Table};
@@ -14,7 +14,7 @@ pub(crate) fn slot_at(base: usize, label: u8) -> usize
     base ^ usize::from(label)
 }
 
-/// Takes the slot of `label` below `node`, whose slots begin at `base`, and returns it. The new leaf stands behind all labels of the node, which are
+/// Takes the slot of `label` below `node`, whose slots begin at `base`, and returns it. The new leaf comes behind all labels of the node, which are
 /// lower: behind the slot `before`, or first of all. The order of the table doesn't matter.
 #[inline(always)]
 fn append_label<L: Layout, const SLOTS: usize, A: Allocator>(
@@ -27,8 +27,7 @@ fn append_label<L: Layout, const SLOTS: usize, A: Allocator>(
     requires { WantsLabel SLOTS (fields table.old) node base before label }
     ensures sound { IsTable SLOTS (fields table.new).places }
     ensures slot { result ≡ below (cells table.old) node label }
-    ensures tree { (f : Forest) (w : List ℕ) → HoldsTree (size_of (fields table.old)) (cells table.old) f → IsAscending f → IsAt (cells table.old) w node
-        → HoldsTree (size_of (fields table.new)) (cells table.new) (edit_at w (λ n. n) (add_leaf true label) f) }
+    ensures tree { AppendsLeaf (fields table.old) (fields table.new) node label }
     ensures leaf { (w : List ℕ) → IsAt (cells table.old) w node → IsAt (cells table.new) (w ++ label ∷ []) result }
     ensures paths { (w : List ℕ) (s : ℕ) → IsAt (cells table.old) w s → IsAt (cells table.new) w s }
     ensures stays { (x : ℕ) → Held (cells table.old) x → (cells table.new).stored x ≡ (cells table.old).stored x }
@@ -48,7 +47,7 @@ fn append_label<L: Layout, const SLOTS: usize, A: Allocator>(
     slot
 }
 
-/// Takes the slots of ascending labels below `node`, whose slots begin at `base` and which has no label yet: each stands behind the one before it, and the
+/// Takes the slots of ascending labels below `node`, whose slots begin at `base` and which has no label yet: each comes behind the one before it, and the
 /// first one behind the slot `before`, or first of all.
 #[inline(always)]
 pub(crate) fn append_labels<L: Layout, const SLOTS: usize, A: Allocator>(

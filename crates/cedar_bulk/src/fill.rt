@@ -1,7 +1,7 @@
 //! A node with all of its slots at once: its number's and its labels'.
 
-ghost use Rattle.std.specs.Prelude.{◌≡◌, ℕ, ◌≤◌, IfErr, IfOk, IfSome, length, MatchOption, OnErr, OnOk, Option, Some, None, true};
-ghost use Rattle.cedar_bulk.specs.Words.{base_of, cells, GoesLast, fields, Fills, GetsBase, GetsNumber, is_value, IsTable, KeepsOwn, MakesBlocks, MayRefuse, reduced_layout, SameFrame, SameSettings, size_of, WantsBase, WantsChain, WantsNumber, WantsSlots};
+ghost use Rattle.std.specs.Prelude.{◌≡◌, ℕ, ◌≤◌, IfErr, IfOk, IfSome, MatchOption, OnErr, OnOk, Some, true};
+ghost use Rattle.cedar_bulk.specs.Words.{base_of, cells, GoesLast, fields, Fills, GetsBase, GetsNumber, is_value, IsTable, KeepsOwn, MakesBlocks, MayRefuse, SameFrame, SameSettings, size_of, StaysBare, StaysOwn, WantsBase, WantsChain, WantsNumber, WantsSlots};
 
 use crate::append::{append_labels, slot_at};
 use cedar_slots::Shortage;
@@ -77,7 +77,7 @@ fn begin_chain<L: Layout, const SLOTS: usize, A: Allocator>(
 }
 
 /// Gives a node that has neither number nor label a slot for its number, if there is one, and ascending labels, each a leaf
-/// without number. All these slots are found at once, and taken in ascending order. Answers where they begin.
+/// without number. All these slots are found at once, and taken in ascending order. Returns where they begin.
 #[inline(always)]
 fn place_node<L: Layout, const SLOTS: usize, A: Allocator>(
     table: &mut Table<L, SLOTS, A>,
@@ -104,7 +104,7 @@ fn place_node<L: Layout, const SLOTS: usize, A: Allocator>(
 /// The number that a node with these labels keeps in its own base field: it has one there if there are no labels and the layout
 /// keeps such numbers so.
 fn own_number<L: Layout>(number: Option<i32>, labels: &[u8]) -> Option<i32>
-    ensures { MatchOption result (L.kind ≡ reduced_layout → length labels.now ≡ 0 → number ≡ None) (λ v. (number ≡ Some v) × (length labels.now ≡ 0) × (L.kind ≡ reduced_layout)) }
+    ensures { MatchOption result (StaysBare L.kind number labels.now) (StaysOwn L.kind number labels.now) }
 {
     if labels.is_empty() && L::keeps_numbers() {
         return number;
@@ -113,7 +113,7 @@ fn own_number<L: Layout>(number: Option<i32>, labels: &[u8]) -> Option<i32>
 }
 
 /// Gives a node that has neither number nor label a number, if there is one, and ascending labels, each a leaf without
-/// number, and returns where their slots begin. A number without labels stands in the node's own base field, where the layout
+/// number, and returns where their slots begin. A number without labels goes into the node's own base field, where the layout
 /// keeps it there; then no slot follows.
 #[inline(always)]
 pub(crate) fn fill_node<L: Layout, const SLOTS: usize, A: Allocator>(

@@ -1,9 +1,8 @@
 //! A table made of sorted pairs: each node gets all of its slots at once, the last child's subtree first.
 
-ghost use Rattle.std.specs.Prelude.{◌≡◌, ◌⊎◌, ℕ, List, [], ◌++◌, ◌+◌, ◌*◌, ◌<◌, ◌≤◌, ◌≤ℤ◌, ◌≢◌, IfErr, IfOk, length, None, OnErr, OnOk, option_to_list, pos, true};
-ghost use Rattle.std.specs.List.{AllByRecursion};
-ghost use Rattle.cedar_bulk.specs.Words.{ArePathsAscending, ArePathsKeys, asc, base_of, blocks_after, capacity_of, cells, Covers, empty_tree, entries_by, fields, Filling, Fills, Forest, HoldsTree, is_value, IsAlike, IsSlotLimit, IsTable, IsTreeOfSpan, IsUnfilled, IsWellFormed, KeepsOwn, labels, MakesBlocks, marks, MayRefuse, none, Part, parts_of, prefixes, prefixes_forest, SameModes, SameSettings, size_of, SortedMarks, Tree, tree_of};
-ghost use Rattle.cedar_slots.specs.declared.shortage.Shortage.TheVariants.{Memory, SlotLimit};
+ghost use Rattle.std.specs.Prelude.{◌≡◌, ℕ, [], ◌++◌, ◌+◌, ◌*◌, ◌<◌, ◌≤◌, ◌≤ℤ◌, ◌≢◌, IfErr, IfOk, length, None, OnErr, OnOk, option_to_list, pos, true};
+ghost use Rattle.cedar_bulk.specs.Words.{AddsChildren, AllByRecursion, ArePathsAscending, ArePathsKeys, asc, cells, CoversChildren, empty_tree, EndsFilling, entries_by, fields, Filling, FillsSpan, Forest, HasBlocksFor, HoldsTree, is_value, IsAlike, IsSlotLimit, IsTable, IsTreeOfSpan, IsUnfilled, IsWellFormed, KeepsOwnOf, LacksMemoryOr, MakesBlocks, marks, MayRefuse, none, OfTree, parts_of, prefixes, prefixes_forest, SameModes, SameSettings, size_of, SortedMarks, Tree, tree_of, WantsMoreThan};
+ghost use Rattle.cedar_slots.specs.declared.shortage.Shortage.TheVariants.{SlotLimit};
 ghost use Rattle.cedar_model.specs.declared.layout.Stored.TheVariants.{AtBase};
 
 use crate::append::slot_at;
@@ -25,10 +24,10 @@ fn fill_span<'a, L: Layout, const SLOTS: usize, A: Allocator, K: AsSlice<u8>>(
     requires bare { IsUnfilled SLOTS (fields table.old) span.node }
     requires tree { (t : Tree) × IsTreeOfSpan span.depth (entries_by K.items span.pairs.now) t × (span.node ≡ 0 → t.number ≡ None) }
     ensures sound { IsTable SLOTS (fields table.new).places }
-    ensures fills { OnOk result ((t : Tree) → IsTreeOfSpan span.entry.depth (entries_by K.items span.entry.pairs.now) t → Fills (size_of (fields table.old)) (size_of (fields table.new)) (cells table.old) (cells table.new) span.entry.node t.number (labels t.children)) }
-    ensures own { OnOk result ((t : Tree) → IsTreeOfSpan span.entry.depth (entries_by K.items span.entry.pairs.now) t → KeepsOwn L.kind (cells table.new) span.entry.node t.number (labels t.children)) }
-    ensures spans { OnOk result ((t : Tree) → IsTreeOfSpan span.entry.depth (entries_by K.items span.entry.pairs.now) t → (parts : List Part) × (parts_of K.items pending.new.items ≡ parts_of K.items pending.old.items ++ parts) × Covers (base_of (cells table.new) span.entry.node) parts t.children none) }
-    ensures refused { IfErr result (λ error. (error ≡ Memory) ⊎ ((error ≡ SlotLimit) × MayRefuse (fields table.new).places SLOTS SlotLimit × MakesBlocks 0 (fields table.old) (fields table.new))) }
+    ensures fills { OnOk result (FillsSpan K.items (fields table.old) (fields table.new) span.entry) }
+    ensures own { OnOk result (KeepsOwnOf K.items L.kind (fields table.new) span.entry) }
+    ensures spans { OnOk result (AddsChildren K.items (fields table.new) span.entry pending.old.items pending.new.items) }
+    ensures refused { IfErr result (LacksMemoryOr (MayRefuse (fields table.new).places SLOTS SlotLimit × MakesBlocks 0 (fields table.old) (fields table.new))) }
     ensures blocks { (n : ℕ) × (n ≤ 1) × (span.entry.node ≡ 0 → n ≡ 0) × MakesBlocks n (fields table.old) (fields table.new) }
     ensures root_check { (cells table.new).check 0 ≡ (cells table.old).check 0 }
     ensures settings { SameSettings (fields table.old) (fields table.new) }
@@ -46,7 +45,7 @@ fn fill_span<'a, L: Layout, const SLOTS: usize, A: Allocator, K: AsSlice<u8>>(
 }
 
 /// Gives the node of a span of one pair what the pair's key has there: its number where the key ends, and else its next label.
-/// Pairs that all go on with one label are taken as one. Answers the span of that label's child, if there is one.
+/// Pairs that all go on with one label are taken as one. Returns the span of that label's child, if there is one.
 fn fill_alone<'a, L: Layout, const SLOTS: usize, A: Allocator, K: AsSlice<u8>>(
     table: &mut Table<L, SLOTS, A>,
     span: Span<'a, K>,
@@ -57,9 +56,9 @@ fn fill_alone<'a, L: Layout, const SLOTS: usize, A: Allocator, K: AsSlice<u8>>(
     requires alike { IsAlike span.depth (entries_by K.items span.pairs.now) }
     requires tree { (t : Tree) × IsTreeOfSpan span.depth (entries_by K.items span.pairs.now) t }
     ensures sound { IsTable SLOTS (fields table.new).places }
-    ensures fills { OnOk result ((t : Tree) → IsTreeOfSpan span.entry.depth (entries_by K.items span.entry.pairs.now) t → Fills (size_of (fields table.old)) (size_of (fields table.new)) (cells table.old) (cells table.new) span.entry.node t.number (labels t.children)) }
-    ensures own { OnOk result ((t : Tree) → IsTreeOfSpan span.entry.depth (entries_by K.items span.entry.pairs.now) t → KeepsOwn L.kind (cells table.new) span.entry.node t.number (labels t.children)) }
-    ensures spans { IfOk result (λ child. (t : Tree) → IsTreeOfSpan span.entry.depth (entries_by K.items span.entry.pairs.now) t → Covers (base_of (cells table.new) span.entry.node) (parts_of K.items (option_to_list child)) t.children none) }
+    ensures fills { OnOk result (FillsSpan K.items (fields table.old) (fields table.new) span.entry) }
+    ensures own { OnOk result (KeepsOwnOf K.items L.kind (fields table.new) span.entry) }
+    ensures spans { IfOk result (λ child. CoversChildren K.items (fields table.new) span.entry (option_to_list child)) }
     ensures refused { IfErr result (λ error. MayRefuse (fields table.new).places SLOTS error) }
     ensures blocks { (n : ℕ) × (n ≤ 1) × OnErr result (n ≡ 0) × MakesBlocks n (fields table.old) (fields table.new) }
     ensures root_check { (cells table.new).check 0 ≡ (cells table.old).check 0 }
@@ -92,11 +91,11 @@ fn fill_next<'a, L: Layout, const SLOTS: usize, A: Allocator, K: AsSlice<u8>>(
     requires not_root { span.node ≢ 0 }
     requires tree { (t : Tree) × IsTreeOfSpan span.depth (entries_by K.items span.pairs.now) t }
     ensures sound { IsTable SLOTS (fields table.new).places }
-    ensures fills { OnOk result ((t : Tree) → IsTreeOfSpan span.entry.depth (entries_by K.items span.entry.pairs.now) t → Fills (size_of (fields table.old)) (size_of (fields table.new)) (cells table.old) (cells table.new) span.entry.node t.number (labels t.children)) }
-    ensures own { OnOk result ((t : Tree) → IsTreeOfSpan span.entry.depth (entries_by K.items span.entry.pairs.now) t → KeepsOwn L.kind (cells table.new) span.entry.node t.number (labels t.children)) }
-    ensures spans { IfOk result (λ next. (t : Tree) → IsTreeOfSpan span.entry.depth (entries_by K.items span.entry.pairs.now) t → (parts : List Part) × (parts_of K.items (pending.new.items ++ option_to_list next) ≡ parts_of K.items pending.old.items ++ parts) × Covers (base_of (cells table.new) span.entry.node) parts t.children none) }
+    ensures fills { OnOk result (FillsSpan K.items (fields table.old) (fields table.new) span.entry) }
+    ensures own { OnOk result (KeepsOwnOf K.items L.kind (fields table.new) span.entry) }
+    ensures spans { IfOk result (λ next. AddsChildren K.items (fields table.new) span.entry pending.old.items (pending.new.items ++ option_to_list next)) }
     ensures last { IfOk result (λ next. next ≡ None → length pending.new.items ≡ 0) }
-    ensures refused { IfErr result (λ error. (error ≡ Memory) ⊎ ((error ≡ SlotLimit) × MayRefuse (fields table.new).places SLOTS SlotLimit × MakesBlocks 0 (fields table.old) (fields table.new))) }
+    ensures refused { IfErr result (LacksMemoryOr (MayRefuse (fields table.new).places SLOTS SlotLimit × MakesBlocks 0 (fields table.old) (fields table.new))) }
     ensures blocks { (n : ℕ) × (n ≤ 1) × MakesBlocks n (fields table.old) (fields table.new) }
     ensures root_check { (cells table.new).check 0 ≡ (cells table.old).check 0 }
     ensures settings { SameSettings (fields table.old) (fields table.new) }
@@ -119,8 +118,8 @@ fn fill_pending<'a, L: Layout, const SLOTS: usize, A: Allocator, K: AsSlice<u8>>
     pending: &mut Vec<Span<'a, K>, A>,
 ) -> Result<(), Shortage>
     requires filling { (g : Forest) × (most : ℕ) × Filling SLOTS (fields table.old) (parts_of K.items pending.old.items) g most }
-    ensures filled { OnOk result ((g : Forest) (most : ℕ) → Filling SLOTS (fields table.old) (parts_of K.items pending.old.items) g most → Filling SLOTS (fields table.new) [] g most) }
-    ensures refused { IfErr result (λ error. (error ≡ Memory) ⊎ ((error ≡ SlotLimit) × ((g : Forest) (most : ℕ) → Filling SLOTS (fields table.old) (parts_of K.items pending.old.items) g most → SLOTS < 256 * most))) }
+    ensures filled { OnOk result (EndsFilling SLOTS (fields table.old) (fields table.new) (parts_of K.items pending.old.items)) }
+    ensures refused { IfErr result (LacksMemoryOr (WantsMoreThan SLOTS (fields table.old) (parts_of K.items pending.old.items))) }
     ensures blocks { (n : ℕ) × MakesBlocks n (fields table.old) (fields table.new) }
     ensures root_check { (cells table.new).check 0 ≡ (cells table.old).check 0 }
     ensures settings { SameSettings (fields table.old) (fields table.new) }
@@ -143,8 +142,8 @@ fn fill<L: Layout, const SLOTS: usize, A: Allocator, K: AsSlice<u8>>(
     requires empty { HoldsTree (size_of (fields table.old)) (cells table.old) none }
     requires one { (fields table.old).places.blocks.active ≡ 1 }
     requires tree { (t : Tree) × IsTreeOfSpan 0 (entries_by K.items pairs.now) t × (t.number ≡ None) }
-    ensures filled { OnOk result ((t : Tree) → IsTreeOfSpan 0 (entries_by K.items pairs.now) t → t.number ≡ None → Filling SLOTS (fields table.new) [] t.children (1 + length (prefixes_forest t.children))) }
-    ensures refused { IfErr result (λ error. (error ≡ Memory) ⊎ ((error ≡ SlotLimit) × ((t : Tree) → IsTreeOfSpan 0 (entries_by K.items pairs.now) t → t.number ≡ None → SLOTS ≤ 256 * length (prefixes_forest t.children)))) }
+    ensures filled { OnOk result (OfTree (entries_by K.items pairs.now) (λ f. Filling SLOTS (fields table.new) [] f (1 + length (prefixes_forest f)))) }
+    ensures refused { IfErr result (LacksMemoryOr (OfTree (entries_by K.items pairs.now) (λ f. SLOTS ≤ 256 * length (prefixes_forest f)))) }
     ensures blocks { (n : ℕ) × MakesBlocks n (fields table.old) (fields table.new) }
     ensures root_check { (cells table.new).check 0 ≡ (cells table.old).check 0 }
     ensures settings { SameSettings (fields table.old) (fields table.new) }
@@ -177,7 +176,7 @@ fn fill_sorted<L: Layout, const SLOTS: usize, A: Allocator, K: AsSlice<u8>>(
     ensures tree { OnOk result (tree_of (fields table.new) ≡ asc (entries_by K.items pairs.now)) }
     ensures marks { OnOk result (SortedMarks L.kind (asc (entries_by K.items pairs.now)) (marks (fields table.new))) }
     ensures blocks { OnOk result ((n : ℕ) × (n ≤ length (prefixes (asc (entries_by K.items pairs.now)))) × MakesBlocks n (fields table.old) (fields table.new)) }
-    ensures refused { IfErr result (λ error. (error ≡ Memory) ⊎ ((error ≡ SlotLimit) × (SLOTS ≤ 256 * length (prefixes (asc (entries_by K.items pairs.now)))))) }
+    ensures refused { IfErr result (LacksMemoryOr (SLOTS ≤ 256 * length (prefixes (asc (entries_by K.items pairs.now))))) }
     ensures modes { SameModes (fields table.old) (fields table.new) }
 {
     if pairs.is_empty() {
@@ -220,10 +219,10 @@ pub fn build_sorted<L: Layout, const SLOTS: usize, A: Allocator + Copy, K: AsSli
     ensures max_trial { IfOk result (λ table. (fields table).places.blocks.max_trial ≡ max_trial) }
 
     //= It makes at most one block for each distinct nonempty prefix of a key, beside the first one.
-    ensures blocks { IfOk result (λ table. (n : ℕ) × (n ≤ length (prefixes (asc (entries_by K.items pairs.now)))) × (size_of (fields table) ≡ 256 + 256 * n) × (capacity_of (fields table) ≡ 256 * blocks_after n 1 1)) }
+    ensures blocks { IfOk result (λ table. HasBlocksFor (asc (entries_by K.items pairs.now)) (fields table)) }
 
     //= It is refused for memory, or for slots where 256 times the number of these prefixes is the limit or more.
-    ensures refused { IfErr result (λ error. (error ≡ Memory) ⊎ ((error ≡ SlotLimit) × (SLOTS ≤ 256 * length (prefixes (asc (entries_by K.items pairs.now)))))) }
+    ensures refused { IfErr result (LacksMemoryOr (SLOTS ≤ 256 * length (prefixes (asc (entries_by K.items pairs.now))))) }
 {
     let mut table = Table::new(alloc, ordered, max_trial)?;
     fill_sorted(&mut table, alloc, pairs)?;

@@ -1,7 +1,7 @@
 //! Sorted pairs that go on below one node, and what they say of its number and its labels.
 
-ghost use Rattle.std.specs.Prelude.{◌≡◌, ◌↔◌, ◌<◌, ◌≤◌, ◌+◌, ◌++◌, ℕ, List, [], drop, get_or, IsTrue, length, map, OnOk, take};
-ghost use Rattle.cedar_bulk.specs.Words.{based_at, Covers, entries_by, first_label, first_number, Forest, IsAlike, IsDeeper, IsTreeOfSpan, labels, Lists, none, Part, parts_of, run, Tree, slot_labels};
+ghost use Rattle.std.specs.Prelude.{◌≡◌, ◌↔◌, ◌<◌, ◌≤◌, ◌+◌, [], get_or, IsTrue, length, OnOk};
+ghost use Rattle.cedar_bulk.specs.Words.{AddsSpans, based_behind, entries_by, first_label, first_number, Forest, GoesOnAlike, IsAlike, IsDeeper, IsTreeOfSpan, labels, Lists, parts_of, run, Tree, slot_labels};
 
 use arrayvec::ArrayVec;
 use std::alloc::{AllocError, Allocator};
@@ -101,7 +101,7 @@ fn run_length<K: AsSlice<u8>>(pairs: &[(K, i32)], depth: usize, label: u8) -> us
 fn go_on_alike<K: AsSlice<u8>>(pairs: &[(K, i32)], depth: usize) -> bool
     requires some { 0 < length pairs.now }
     requires tree { (t : Tree) × IsTreeOfSpan depth (entries_by K.items pairs.now) t }
-    ensures { IsTrue result → IsDeeper depth (entries_by K.items pairs.now) × (run depth (first_label depth (entries_by K.items pairs.now)) (entries_by K.items pairs.now) ≡ length (entries_by K.items pairs.now)) }
+    ensures { IsTrue result → GoesOnAlike depth (entries_by K.items pairs.now) }
 {
     let key = pairs[0].0.as_slice();
     if key.len() <= depth {
@@ -177,7 +177,7 @@ pub(crate) fn list_spans<'a, K: AsSlice<u8>, A: Allocator>(
 ) -> Result<(), AllocError>
     requires { (f : Forest) × Lists depth (entries_by K.items pairs.now) f }
     ensures labels { OnOk result ((f : Forest) → Lists depth (entries_by K.items pairs.now) f → wanted.new.items ≡ slot_labels number (labels f)) }
-    ensures spans { OnOk result ((f : Forest) → Lists depth (entries_by K.items pairs.now) f → (parts : List Part) × (parts_of K.items pending.new.items ≡ parts_of K.items pending.old.items ++ parts) × Covers 0 parts f none) }
+    ensures spans { OnOk result ((f : Forest) → Lists depth (entries_by K.items pairs.now) f → AddsSpans K.items 0 f pending.old.items pending.new.items) }
 {
     begin_labels(wanted, number);
     let mut start = 0;
@@ -204,7 +204,7 @@ pub(crate) fn move_spans<'a, K: AsSlice<u8>, A: Allocator>(
     base: usize,
 )
     requires { first ≤ length pending.old.items }
-    ensures { parts_of K.items pending.new.items ≡ take first (parts_of K.items pending.old.items) ++ map (based_at base) (drop first (parts_of K.items pending.old.items)) }
+    ensures { parts_of K.items pending.new.items ≡ based_behind first base (parts_of K.items pending.old.items) }
 {
     for index in first..pending.len() {
         let span = &mut pending[index];

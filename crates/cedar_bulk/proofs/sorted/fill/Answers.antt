@@ -21,7 +21,7 @@ returns-in_err-fill_span-clause-refused g c =
     refused_as c.from_residual.result c.in_err-fill_span.field-0.0 _ c.from_residual.ensures.1
     (elim c.in_err-fill_span.ensures.refused [
       | inl m ↦ inl m
-      | inr s ↦ inr (s.0, λ t tree number. let some = some_prefix t.number t.children tree.some number in omega (arith, some, s.1, s.2.active, c.requires.one))
+      | inr s ↦ inr (s.0, λ t tree number. let some = some_prefix t.number t.children tree.some number in omega (arith, some, s.1.0, s.1.1.active, c.requires.one))
     ])
 
 pub fill_pending-requires : goal.fill_pending-requires

@@ -86,7 +86,7 @@ returns-in_err-next-clause-refused g c =
         λ f most h.
             let begun = subst (λ xs. Filling g.row.SLOTS (fields c.args.table.now) xs f most) (ap (parts_of items) c.pop-next.ensures.items) h in
             let k = subst (λ xs. Filling g.row.SLOTS (fields c.loop-next.table) xs f most) waits (i.filling f most begun) in
-            let all : 256 * (fields c.loop-next.table).places.blocks.active ≡ g.row.SLOTS = omega (arith, s.1, s.2.active) in
+            let all : 256 * (fields c.loop-next.table).places.blocks.active ≡ g.row.SLOTS = omega (arith, s.1.0, s.1.1.active) in
             filling_refused g.row.SLOTS (fields c.loop-next.table) (parts_of items c.loop-next.pending.items) (part_of items c.in-Some.span) f most k all,
       )
     ])

@@ -1,0 +1,93 @@
+-- What the steps of a build do, each as one word.
+use Rattle.std.specs.Prelude.{◌≡◌, ◌⊎◌, ◌+◌, ◌*◌, ◌<◌, ◌≤◌, ℕ, ℤ, drop, length, List, [], ◌++◌, map, None, Option, Some, take, true}
+use Rattle.cedar_tree.specs.Tree.{Forest, IsAscending, none, Tree}
+use Rattle.cedar_tree.specs.Queries.{Entry, prefixes}
+use Rattle.cedar_tree.specs.Edits.{add_leaf, edit_at}
+use Rattle.cedar_slots.specs.declared.shortage.Shortage.{Shortage}
+use Rattle.cedar_slots.specs.declared.shortage.Shortage.TheVariants.{Memory, SlotLimit}
+use Rattle.cedar_model.specs.Edit.NodeEdits.{IsAt}
+use Rattle.cedar_model.specs.Edit.Steps.{blocks_after}
+use Rattle.cedar_model.specs.Meaning.Family.{base_of}
+use Rattle.cedar_model.specs.Meaning.StandsFor.{labels}
+use Rattle.cedar_model.specs.Meaning.WellFormed.{cells_in, TableHolds}
+use Rattle.cedar_model.specs.Table.Layouts.{LayoutKind, reduced_layout}
+use Rattle.cedar_model.specs.Table.TableFields.{capacity_of, Fields, size_of}
+use Rattle.cedar_bulk.specs.declared.spans.Span.{Span}
+use Rattle.cedar_bulk.specs.Sorted.{entries_by, Fills}
+use Rattle.cedar_bulk.specs.SortedMarks.{KeepsOwn}
+use Rattle.cedar_bulk.specs.Spans.{based_at, Covers, Filling, IsTreeOfSpan, Part, parts_of}
+
+-- ---- one node
+
+-- a table's tree, whose labels ascend, gets a leaf at label l of slot a, behind all labels there
+abbrev pub AppendsLeaf : Fields → Fields → ℕ → ℕ → Type 0
+AppendsLeaf before after a l =
+    (f : Forest) (w : List ℕ) → TableHolds before f → IsAscending f → IsAt (cells_in before) w a
+    → TableHolds after (edit_at w (λ n. n) (add_leaf true l) f)
+
+-- a node with these labels keeps its number, which is v, in its own base field
+abbrev pub StaysOwn : LayoutKind → Option ℤ → List ℕ → ℤ → Type 0
+StaysOwn layout number ls v = (number ≡ Some v) × (length ls ≡ 0) × (layout ≡ reduced_layout)
+
+-- it keeps none there
+abbrev pub StaysBare : LayoutKind → Option ℤ → List ℕ → Type 0
+StaysBare layout number ls = layout ≡ reduced_layout → length ls ≡ 0 → number ≡ None
+
+-- ---- the node of a span, whose entries have just one tree
+
+-- it gets its number and its labels
+abbrev pub FillsSpan : {K : Type 0} → (K → List ℕ) → Fields → Fields → Span K → Type 0
+FillsSpan bytes before after span =
+    (t : Tree) → IsTreeOfSpan span.depth (entries_by bytes span.pairs.now) t
+    → Fills (size_of before) (size_of after) (cells_in before) (cells_in after) span.node t.number (labels t.children)
+
+-- in the reduced layout it keeps its number in its own base field, if it has no label
+abbrev pub KeepsOwnOf : {K : Type 0} → (K → List ℕ) → LayoutKind → Fields → Span K → Type 0
+KeepsOwnOf bytes layout after span =
+    (t : Tree) → IsTreeOfSpan span.depth (entries_by bytes span.pairs.now) t
+    → KeepsOwn layout (cells_in after) span.node t.number (labels t.children)
+
+-- some spans are those before, and behind them those of the children of f, whose slots begin at a base
+abbrev pub AddsSpans : {K : Type 0} → (K → List ℕ) → ℕ → Forest → List (Span K) → List (Span K) → Type 0
+AddsSpans bytes base f before after =
+    (parts : List Part) × (parts_of bytes after ≡ parts_of bytes before ++ parts) × Covers base parts f none
+
+-- the spans of its children are added
+abbrev pub AddsChildren : {K : Type 0} → (K → List ℕ) → Fields → Span K → List (Span K) → List (Span K) → Type 0
+AddsChildren bytes table span before after =
+    (t : Tree) → IsTreeOfSpan span.depth (entries_by bytes span.pairs.now) t
+    → AddsSpans bytes (base_of (cells_in table) span.node) t.children before after
+
+-- these spans are those of its children
+abbrev pub CoversChildren : {K : Type 0} → (K → List ℕ) → Fields → Span K → List (Span K) → Type 0
+CoversChildren bytes table span spans =
+    (t : Tree) → IsTreeOfSpan span.depth (entries_by bytes span.pairs.now) t
+    → Covers (base_of (cells_in table) span.node) (parts_of bytes spans) t.children none
+
+-- the spans behind the first n get a base
+abbrev pub based_behind : ℕ → ℕ → List Part → List Part
+based_behind n base parts = take n parts ++ map (based_at base) (drop n parts)
+
+-- ---- the whole
+
+-- a table on the way to a tree, for which these spans wait, comes to it
+abbrev pub EndsFilling : ℕ → Fields → Fields → List Part → Type 0
+EndsFilling slots before after parts =
+    (g : Forest) (most : ℕ) → Filling slots before parts g most → Filling slots after [] g most
+
+-- each tree that a table on the way with these spans may come to wants more than all slots
+abbrev pub WantsMoreThan : ℕ → Fields → List Part → Type 0
+WantsMoreThan slots T parts = (g : Forest) (most : ℕ) → Filling slots T parts g most → slots < 256 * most
+
+-- this holds of the children of the one tree that the entries have, which has no number at its root
+abbrev pub OfTree : List Entry → (Forest → Type 0) → Type 0
+OfTree entries P = (t : Tree) → IsTreeOfSpan 0 entries t → t.number ≡ None → P t.children
+
+-- memory is lacking, or else slots, and then this holds
+abbrev pub LacksMemoryOr : Type 0 → Shortage → Type 0
+LacksMemoryOr P error = (error ≡ Memory) ⊎ ((error ≡ SlotLimit) × P)
+
+-- a new table has at most one block for each nonempty prefix of a key of the tree t, beside the first one
+abbrev pub HasBlocksFor : Tree → Fields → Type 0
+HasBlocksFor t T =
+    (n : ℕ) × (n ≤ length (prefixes t)) × (size_of T ≡ 256 + 256 * n) × (capacity_of T ≡ 256 * blocks_after n 1 1)
