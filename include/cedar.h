@@ -10,11 +10,13 @@
  *   what its type says: a key to `length` bytes that can be read, matches, found and buffers to `room` places that are set, pairs to
  *   `count` pairs whose keys are such, at most PTRDIFF_MAX bytes each. What two parameters point to doesn't overlap, but for what is
  *   only read. During the call nobody else writes it, nor reads what the call may write.
- * - A `cedar_dictionary` begins as CEDAR_CLOSED and is changed by these calls alone. It may be moved; of two copies only one is used
- *   from then on. Its fields aren't read or written.
- * - One call at a time works on a dictionary, cedar_get and the figures too: what is proved of a call takes for granted that it
- *   has the variable and the dictionary for itself. It may go from thread to thread where a lock, a thread's start or join, or a
- *   sequentially consistent atomic orders the calls. Different dictionaries share nothing.
+ * - A `cedar_dictionary` begins as CEDAR_CLOSED and is changed by these calls alone. It may be moved. Its fields aren't read or
+ *   written.
+ * - Calls that take a const dictionary only read it: any number of threads may make them at the same time, each with its own copy of
+ *   the variable, made before (`cedar mine = *d;`). No call may change or free the dictionary meanwhile, and afterwards only the
+ *   variable that this call was given is used: older copies are forgotten, and not freed.
+ * - A call that changes or frees a dictionary comes before or behind each other call on it: a lock, a thread's start or join, or a
+ *   sequentially consistent atomic orders them. Different dictionaries share nothing.
  * - Calls aren't made from a signal handler, or from the forked child of a process with threads.
  * - malloc, realloc and free are one allocator's, and align a block as C asks.
  *
@@ -89,7 +91,7 @@ uint32_t cedar_new_with(cedar_dictionary *d, bool ordered, int32_t max_trial);
 uint32_t cedar_new_reduced(cedar_dictionary *d, bool ordered, int32_t max_trial);
 
 /* Whether *d is of the reduced layout. False if closed. */
-bool cedar_is_reduced(cedar_dictionary *d);
+bool cedar_is_reduced(const cedar_dictionary *d);
 
 /* Opens *d with the dictionary of a file's bytes, as `save_to_writer` and the programs write them, in the place of the one that it
  * has. It asks for memory_limit bytes at most, say CEDAR_LOAD_LIMIT. CEDAR_OK exactly takes the bytes of a well-formed table; else
@@ -104,7 +106,7 @@ uint32_t cedar_load_reduced(cedar_dictionary *d, const uint8_t *bytes, size_t le
  * lists the slots and blocks that are in use, or, where is_full, all of them, as format 1.0 does. CEDAR_OK, CEDAR_IS_CLOSED,
  * CEDAR_NO_ROOM where the file has more than room bytes (a call with room 0 asks how many), or CEDAR_MEMORY: it asks for memory
  * for a copy of the file. After an error the buffer is as it was. */
-uint32_t cedar_save(cedar_dictionary *d, bool is_full, uint8_t *buffer, size_t room, size_t *needed);
+uint32_t cedar_save(const cedar_dictionary *d, bool is_full, uint8_t *buffer, size_t room, size_t *needed);
 
 /* Writes the text of a status to the first places of a buffer, as far as there is room, and answers how many bytes the text has. No
  * byte 0 is written behind it. */
@@ -149,15 +151,15 @@ uint32_t cedar_build_reduced(cedar_dictionary *d, bool ordered, int32_t max_tria
 bool cedar_erase(cedar_dictionary *d, const uint8_t *key, size_t length);
 
 /* Says whether a key is held, and writes its value to *value if it is. It takes no memory. */
-bool cedar_get(cedar_dictionary *d, const uint8_t *key, size_t length, int32_t *value);
+bool cedar_get(const cedar_dictionary *d, const uint8_t *key, size_t length, int32_t *value);
 
 /* How many keys are held; how many slots are (one for the root, one for each distinct nonempty prefix of keys, one for each
  * value that has a slot of its own, as each has but in the reduced layout); how many slots there are; how many blocks of 256 slots can
  * come into use before memory is asked for. 0 if closed. */
-size_t cedar_len(cedar_dictionary *d);
-size_t cedar_used_slots(cedar_dictionary *d);
-size_t cedar_capacity(cedar_dictionary *d);
-size_t cedar_spare_blocks(cedar_dictionary *d);
+size_t cedar_len(const cedar_dictionary *d);
+size_t cedar_used_slots(const cedar_dictionary *d);
+size_t cedar_capacity(const cedar_dictionary *d);
+size_t cedar_spare_blocks(const cedar_dictionary *d);
 
 /* Asks for the memory of so many blocks of 256 slots more than are in use, so that updates that make no more of them need none: an
  * update makes at most one for each byte of its key. While so many are spare (cedar_spare_blocks), nothing changes; else the slots double
@@ -175,24 +177,25 @@ typedef struct cedar_match {
  * them, or all if there are fewer, are written to matches[0] and on; the other places stay. It answers how many there are, never more
  * than the text has bytes: an answer above room asks for a second call with more room. It is one walk, and takes no memory. 0 if
  * closed. */
-size_t cedar_prefixes(cedar_dictionary *d, const uint8_t *text, size_t length, cedar_match *matches, size_t room);
+size_t cedar_prefixes(const cedar_dictionary *d, const uint8_t *text, size_t length, cedar_match *matches, size_t room);
 
 /* The keys that begin with a text, in the order of the walk: for each its value, and in length how many bytes of it follow the
  * text. Else as cedar_prefixes: there are never more than keys. */
-size_t cedar_predictions(cedar_dictionary *d, const uint8_t *text, size_t length, cedar_match *matches, size_t room);
+size_t cedar_predictions(const cedar_dictionary *d, const uint8_t *text, size_t length, cedar_match *matches, size_t room);
 
 /* The same without the first *next of them, in pieces: as many as are left, and there is room for, are written to matches[0] and on;
  * the other places stay. They answer how many were written, and add it to *next, so that the same call goes on. Begin with *next 0;
  * an answer below room tells that nothing is left. The dictionary isn't changed between two pieces of a walk, else they may not belong
  * together. Each call walks past the first *next again; it takes no memory. 0 if closed. */
-size_t cedar_prefixes_from(cedar_dictionary *d, const uint8_t *text, size_t length, size_t *next, cedar_match *matches, size_t room);
-size_t cedar_predictions_from(cedar_dictionary *d, const uint8_t *text, size_t length, size_t *next, cedar_match *matches, size_t room);
+size_t cedar_prefixes_from(const cedar_dictionary *d, const uint8_t *text, size_t length, size_t *next, cedar_match *matches, size_t room);
+size_t cedar_predictions_from(const cedar_dictionary *d, const uint8_t *text, size_t length, size_t *next, cedar_match *matches,
+                              size_t room);
 
 /* Writes the bytes of all keys to the first places of a buffer, one key after another in the order of the walk, and to *needed how many
  * bytes they are; the other places stay. cedar_predictions of the empty text tells each key's value and length in the same order.
  * CEDAR_OK, CEDAR_IS_CLOSED, CEDAR_NO_ROOM where the keys have more than room bytes, or CEDAR_MEMORY: it asks for memory for a copy of
  * them. After an error the buffer is as it was. */
-uint32_t cedar_keys(cedar_dictionary *d, uint8_t *buffer, size_t room, size_t *needed);
+uint32_t cedar_keys(const cedar_dictionary *d, uint8_t *buffer, size_t room, size_t *needed);
 
 /* What stands at a place of a text: where it begins, how many bytes it has, and its value. */
 typedef struct cedar_found {
@@ -207,11 +210,11 @@ typedef struct cedar_found {
  * if it answers 0 then, the place has more keys than room, and never more than the longest key has bytes. Once all is told, *next is
  * the text's length. It takes no memory. A closed dictionary tells nothing. Begin with *next 0, and go on
  * while *next is below length. */
-size_t cedar_scan(cedar_dictionary *d, const uint8_t *text, size_t length, size_t *next, cedar_found *found, size_t room);
+size_t cedar_scan(const cedar_dictionary *d, const uint8_t *text, size_t length, size_t *next, cedar_found *found, size_t room);
 
 /* The tokens of a text from the place *next on, where one begins: at each place the longest key that stands there, or else one byte,
  * with the value -1. Else as cedar_scan: with room 1 or more each call goes on. */
-size_t cedar_segment(cedar_dictionary *d, const uint8_t *text, size_t length, size_t *next, cedar_found *found, size_t room);
+size_t cedar_segment(const cedar_dictionary *d, const uint8_t *text, size_t length, size_t *next, cedar_found *found, size_t room);
 
 #ifdef __cplusplus
 }

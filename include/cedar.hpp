@@ -13,8 +13,8 @@
 // Errors. A refusal is thrown as roskvidh::error, want of memory as std::bad_alloc, a fault of a file as std::system_error. After each
 // of them the dictionary holds what it held before the call; update_all alone may have stored the first of its pairs.
 //
-// Threads. One call at a time works on a dictionary, const members included: cedar.h says how to order calls. Different dictionaries
-// share nothing.
+// Threads. Any number of threads may call const members of one dictionary at the same time, as long as none calls another member of it:
+// cedar.h says how to order those. Different dictionaries share nothing.
 #ifndef ROSKVIDH_CEDAR_HPP
 #define ROSKVIDH_CEDAR_HPP
 
@@ -199,7 +199,7 @@ inline bool replace_file(const std::string &path, const std::string &beside, con
 // are found and not by the dictionary, of which C tells all keys or none.
 class key_search {
 public:
-    key_search(cedar_dictionary &dictionary, std::string_view prefix) : dictionary_(dictionary), path_(prefix) {
+    key_search(const cedar_dictionary &dictionary, std::string_view prefix) : dictionary_(dictionary), path_(prefix) {
         // Small letters first.
         std::iota(likely_.begin(), likely_.end(), 1);
         std::rotate(likely_.begin(), std::find(likely_.begin(), likely_.end(), 'a'), likely_.end());
@@ -262,7 +262,7 @@ private:
                   [](const node &one, const node &other) { return one.last > other.last; });
     }
 
-    cedar_dictionary &dictionary_;
+    cedar_dictionary dictionary_; // a copy, to read by
     std::string path_;
     std::vector<node> open_;
     std::array<std::uint8_t, 255> likely_{};
@@ -419,8 +419,9 @@ public:
 
     /// The value at a key, if it is held. It reads at most one slot for each byte of the key and one for the value, and allocates nothing.
     std::optional<std::int32_t> get(std::string_view key) const noexcept {
+        const cedar_dictionary mine = inside_;
         std::int32_t value = 0;
-        if (!cedar_get(&inside_, detail::bytes(key), key.size(), &value)) return std::nullopt;
+        if (!cedar_get(&mine, detail::bytes(key), key.size(), &value)) return std::nullopt;
         return value;
     }
 
@@ -428,20 +429,30 @@ public:
     bool contains(std::string_view key) const noexcept { return get(key).has_value(); }
 
     /// How many keys are held. They are counted as they come and go, so this costs the same for all dictionaries.
-    std::size_t size() const noexcept { return cedar_len(&inside_); }
+    std::size_t size() const noexcept {
+        const cedar_dictionary mine = inside_;
+        return cedar_len(&mine);
+    }
 
     /// Whether no key is held.
     bool empty() const noexcept { return size() == 0; }
 
     /// Whether the dictionary is open. One that was moved from isn't.
-    bool is_open() const noexcept { return cedar_capacity(&inside_) != 0; }
+    bool is_open() const noexcept {
+        const cedar_dictionary mine = inside_;
+        return cedar_capacity(&mine) != 0;
+    }
 
     /// The layout, which is settled where the dictionary is made. That of a closed one is standard.
-    layout kind() const noexcept { return cedar_is_reduced(&inside_) ? layout::reduced : layout::standard; }
+    layout kind() const noexcept {
+        const cedar_dictionary mine = inside_;
+        return cedar_is_reduced(&mine) ? layout::reduced : layout::standard;
+    }
 
     /// The figures, which are 0 for a closed dictionary.
     roskvidh::statistics statistics() const noexcept {
-        return {cedar_len(&inside_), cedar_used_slots(&inside_), cedar_capacity(&inside_), cedar_spare_blocks(&inside_)};
+        const cedar_dictionary mine = inside_;
+        return {cedar_len(&mine), cedar_used_slots(&mine), cedar_capacity(&mine), cedar_spare_blocks(&mine)};
     }
 
     /// Asks for the memory of so many blocks of 256 slots more than are in use. Updates that make no more of them ask for none: an update
@@ -458,12 +469,13 @@ public:
 
     /// Of the keys that a text begins with the longest: its value, and its length in bytes. It allocates nothing.
     std::optional<match> longest_match(std::string_view text) const noexcept {
+        const cedar_dictionary mine = inside_;
         std::array<match, 32> found{};
-        const std::size_t count = cedar_prefixes(&inside_, detail::bytes(text), text.size(), found.data(), found.size());
+        const std::size_t count = cedar_prefixes(&mine, detail::bytes(text), text.size(), found.data(), found.size());
         if (count == 0) return std::nullopt;
         std::size_t last = count - 1;
         if (count > found.size()) {
-            cedar_prefixes_from(&inside_, detail::bytes(text), text.size(), &last, found.data(), 1);
+            cedar_prefixes_from(&mine, detail::bytes(text), text.size(), &last, found.data(), 1);
             last = 0;
         }
         return match{found[last].value, found[last].length + 1};
@@ -489,10 +501,11 @@ public:
         roskvidh::entries range;
         range.matches_ = predictions(prefix);
         if (range.empty()) return range;
-        const bool are_few = is_ordered_ && detail::key_search::is_cheap(range.matches_, prefix.size(), cedar_used_slots(&inside_));
+        const cedar_dictionary mine = inside_;
+        const bool are_few = is_ordered_ && detail::key_search::is_cheap(range.matches_, prefix.size(), cedar_used_slots(&mine));
         for (match &one : range.matches_) one.length += prefix.size();
         if (are_few) {
-            range.keys_ = detail::key_search(inside_, prefix).find(range.matches_);
+            range.keys_ = detail::key_search(mine, prefix).find(range.matches_);
         } else {
             const std::vector<match> all = predictions({});
             range.keys_ = keys_of(all);
@@ -521,13 +534,14 @@ public:
 
     /// The bytes of the dictionary's file. Throws std::bad_alloc and CEDAR_IS_CLOSED.
     std::vector<std::uint8_t> save(file_format version = file_format::v1_1) const {
+        const cedar_dictionary mine = inside_;
         const bool is_full = version == file_format::v1_0;
         std::vector<std::uint8_t> file(1);
         std::size_t needed = 0;
-        const std::uint32_t status = cedar_save(&inside_, is_full, file.data(), 0, &needed);
+        const std::uint32_t status = cedar_save(&mine, is_full, file.data(), 0, &needed);
         if (status != CEDAR_NO_ROOM) detail::check(status);
         file.resize(needed);
-        detail::check(cedar_save(&inside_, is_full, file.data(), file.size(), &needed));
+        detail::check(cedar_save(&mine, is_full, file.data(), file.size(), &needed));
         return file;
     }
 
@@ -562,33 +576,35 @@ public:
     }
 
 private:
-    using walk_from = std::size_t (*)(cedar_dictionary *, const std::uint8_t *, std::size_t, std::size_t *, cedar_match *, std::size_t);
-    using walk = std::size_t (*)(cedar_dictionary *, const std::uint8_t *, std::size_t, cedar_match *, std::size_t);
-    using text_walk = std::size_t (*)(cedar_dictionary *, const std::uint8_t *, std::size_t, std::size_t *, cedar_found *, std::size_t);
+    using walk_from = std::size_t (*)(const cedar_dictionary *, const std::uint8_t *, std::size_t, std::size_t *, cedar_match *, std::size_t);
+    using walk = std::size_t (*)(const cedar_dictionary *, const std::uint8_t *, std::size_t, cedar_match *, std::size_t);
+    using text_walk = std::size_t (*)(const cedar_dictionary *, const std::uint8_t *, std::size_t, std::size_t *, cedar_found *, std::size_t);
 
     struct closed {};
     explicit dictionary(closed) noexcept {}
 
     // The bytes of all keys, whose lengths these are.
     std::vector<char> keys_of(const std::vector<match> &all) const {
+        const cedar_dictionary mine = inside_;
         std::size_t size = 0;
         for (const match &one : all) size += one.length;
         std::vector<char> keys(size);
-        if (size > 0) detail::check(cedar_keys(&inside_, reinterpret_cast<std::uint8_t *>(keys.data()), size, &size));
+        if (size > 0) detail::check(cedar_keys(&mine, reinterpret_cast<std::uint8_t *>(keys.data()), size, &size));
         return keys;
     }
 
     // The first answers of a walk: a few at once, and where there are more, all that are wanted in a second walk.
     std::vector<match> walked(walk_from some, walk all, std::string_view text, std::size_t most) const {
+        const cedar_dictionary mine = inside_;
         std::size_t room = std::min<std::size_t>(most, 64);
         std::vector<match> found(room + 1); // so that data() isn't null
         std::size_t next = 0;
-        std::size_t count = some(&inside_, detail::bytes(text), text.size(), &next, found.data(), room);
+        std::size_t count = some(&mine, detail::bytes(text), text.size(), &next, found.data(), room);
         if (count == room && room < most) {
-            room = std::min(most, all(&inside_, detail::bytes(text), text.size(), found.data(), 0));
+            room = std::min(most, all(&mine, detail::bytes(text), text.size(), found.data(), 0));
             found.resize(room + 1);
             next = 0;
-            count = some(&inside_, detail::bytes(text), text.size(), &next, found.data(), room);
+            count = some(&mine, detail::bytes(text), text.size(), &next, found.data(), room);
         }
         found.resize(count);
         return found;
@@ -602,7 +618,8 @@ private:
         cedar_found *found = first.data();
         std::size_t room = first.size();
         for (std::size_t next = 0; next < text.size();) {
-            const std::size_t count = call(&inside_, detail::bytes(text), text.size(), &next, found, room);
+            const cedar_dictionary mine = inside_; // `tell` may have changed it
+            const std::size_t count = call(&mine, detail::bytes(text), text.size(), &next, found, room);
             for (std::size_t i = 0; i < count; ++i) {
                 if (!tell(found[i])) return;
             }
@@ -614,8 +631,8 @@ private:
         }
     }
 
-    // C's calls take a pointer to what they may change, but no const member changes what the dictionary holds.
-    mutable cedar_dictionary inside_ = CEDAR_CLOSED;
+    // A const member reads by a copy of its own, since C gives the variable to one call at a time.
+    cedar_dictionary inside_ = CEDAR_CLOSED;
     bool is_ordered_ = true;
 };
 

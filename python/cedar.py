@@ -41,8 +41,8 @@ class _Pair(ctypes.Structure):
 
 
 def _library(path=os.environ.get("CEDAR_LIBRARY", Path(__file__).parent / "libcedar.so")):
-    # PyDLL keeps the interpreter's lock during a call, so that one call at a time works on a dictionary. Between calls other threads run:
-    # what C writes to is each call's own.
+    # PyDLL keeps the interpreter's lock during a call, so that one call at a time works on a dictionary, and none reads it while it changes.
+    # Between calls other threads run: what C writes to is each call's own.
     library = ctypes.PyDLL(str(path))
     handle = POINTER(_Handle)
     for name, result, arguments in [

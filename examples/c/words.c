@@ -9,7 +9,7 @@ enum { WORDS = sizeof words / sizeof *words };
 
 static const uint8_t *bytes_of(const char *text) { return (const uint8_t *)text; }
 
-static void look_up(cedar *d, const char *word) {
+static void look_up(const cedar *d, const char *word) {
     int32_t value;
     if (cedar_get(d, bytes_of(word), strlen(word), &value)) {
         printf("%s: word %" PRId32 "\n", word, value);

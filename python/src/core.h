@@ -96,9 +96,9 @@ typedef struct Gathered {
 } Gathered;
 
 void gathered_free(Gathered *gathered);
-bool gather_all(cedar *dictionary, Gathered *gathered);
-bool gather_below(cedar *dictionary, const Span *prefix, bool is_ordered, Gathered *gathered);
-bool gather_any(cedar *dictionary, Gathered *gathered);
+bool gather_all(const cedar *dictionary, Gathered *gathered);
+bool gather_below(const cedar *dictionary, const Span *prefix, bool is_ordered, Gathered *gathered);
+bool gather_any(const cedar *dictionary, Gathered *gathered);
 
 /* walks.c: iterations, completions, prefixes. */
 extern PyType_Spec walk_spec;

@@ -45,7 +45,7 @@ static bool append(Gathered *gathered, const uint8_t *key, cedar_match match) {
 }
 
 /* All keys, in the order of the walk. False where memory is wanted. */
-bool gather_all(cedar *dictionary, Gathered *gathered) {
+bool gather_all(const cedar *dictionary, Gathered *gathered) {
     size_t count = cedar_len(dictionary), size = 0;
     if (!make_room((void **)&gathered->matches, &gathered->places, count, sizeof(cedar_match))) return false;
     cedar_predictions(dictionary, NONE, 0, gathered->matches, count);
@@ -108,7 +108,7 @@ typedef struct Node {
 } Node;
 
 typedef struct Search {
-    cedar *dictionary;
+    const cedar *dictionary;
     Gathered *found;
     uint8_t *path;
     size_t depth;
@@ -119,7 +119,7 @@ typedef struct Search {
     uint8_t likely[BYTES];
 } Search;
 
-static bool search_begin(Search *search, cedar *dictionary, const Span *prefix, Gathered *found) {
+static bool search_begin(Search *search, const cedar *dictionary, const Span *prefix, Gathered *found) {
     bool listed[BYTES + 1] = {true};
     size_t count = 0;
     memset(search, 0, sizeof *search);
@@ -174,7 +174,7 @@ static bool search_node(Search *search, size_t keys) {
     return search_children(search, keys);
 }
 
-static bool search_below(cedar *dictionary, const Span *prefix, size_t keys, Gathered *found) {
+static bool search_below(const cedar *dictionary, const Span *prefix, size_t keys, Gathered *found) {
     Search search;
     bool done = search_begin(&search, dictionary, prefix, found) && search_node(&search, keys);
     while (done && search.count > 0) {
@@ -188,7 +188,7 @@ static bool search_below(cedar *dictionary, const Span *prefix, size_t keys, Gat
 }
 
 /* The keys that begin with a prefix, ascending by bytes. False where memory is wanted. */
-bool gather_below(cedar *dictionary, const Span *prefix, bool is_ordered, Gathered *gathered) {
+bool gather_below(const cedar *dictionary, const Span *prefix, bool is_ordered, Gathered *gathered) {
     cedar_match unused;
     size_t keys = cedar_predictions(dictionary, prefix->at, prefix->length, &unused, 0);
     if (keys == 0) return true;
@@ -199,7 +199,7 @@ bool gather_below(cedar *dictionary, const Span *prefix, bool is_ordered, Gather
 }
 
 /* Some key of a dictionary that isn't empty. */
-bool gather_any(cedar *dictionary, Gathered *gathered) {
+bool gather_any(const cedar *dictionary, Gathered *gathered) {
     Search search;
     Span root = {NULL, NONE, 0};
     cedar_match match = {0, 1};

@@ -213,7 +213,7 @@ static int test_keys(const Gathered *all) {
 }
 
 /* A dictionary of str holds UTF-8 alone. Nobody else knows this one yet. */
-static int test_text(cedar *dictionary) {
+static int test_text(const cedar *dictionary) {
     Gathered all = {0};
     bool is_gathered;
     Py_BEGIN_ALLOW_THREADS

@@ -151,7 +151,7 @@ static PyType_Slot matches_slots[] = {
 
 PyType_Spec matches_spec = {"roskvidh._core.Matches", sizeof(Matches), 0, TYPE_FLAGS, matches_slots};
 
-typedef size_t Finder(cedar *, const uint8_t *, size_t, size_t *, cedar_found *, size_t);
+typedef size_t Finder(const cedar *, const uint8_t *, size_t, size_t *, cedar_found *, size_t);
 
 /* Places of a piece, of 24 bytes each. Those that nothing is written to take no memory. */
 enum { LEAST_PLACES = 64, MOST_PLACES = 1 << 21, PAGE = 4096, MANY_PAGES = 1 << 20 };

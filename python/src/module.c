@@ -45,7 +45,7 @@ static PyObject *core_reserve(Core *core, PyObject *given) {
 static PyObject *core_figures(Core *core, PyObject *nothing) {
     (void)nothing;
     if (core_ready(core) < 0) return NULL;
-    cedar *d = &core->dictionary;
+    const cedar *d = &core->dictionary;
     return Py_BuildValue("nnnn", (Py_ssize_t)cedar_len(d), (Py_ssize_t)cedar_used_slots(d), (Py_ssize_t)cedar_capacity(d),
                          (Py_ssize_t)cedar_spare_blocks(d));
 }

@@ -1,12 +1,13 @@
-/* Who may call the library. It allows one call at a time on a dictionary, one that reads too.
+/* Who may call the library. Here one call at a time works on a dictionary, one that reads too, though the library lets those that read in
+ * side by side.
  *
  * A short call keeps the interpreter's lock from its first look at the dictionary to its last, and calls no Python meanwhile. A long one
  * sets `in_use`, gives the interpreter's lock up, and holds `turn`; whoever comes meanwhile takes a ticket and waits for `turn`. While
  * somebody waits, nobody else goes first: a thread that makes one long call after another keeps no other one out.
  *
  * No wait is in a circle: a thread that waits for `turn` has given up the interpreter's lock, and a thread that holds `turn` calls no
- * Python, so that it waits for the interpreter's lock alone. Where the library comes to allow readers beside each other, `in_use` counts
- * them, and `turn_begin` takes what kind of call it is. */
+ * Python, so that it waits for the interpreter's lock alone. To let readers in side by side, `in_use` would count them, and
+ * `turn_begin` would take what kind of call it is. */
 #include "core.h"
 
 #include <sched.h>

@@ -231,7 +231,8 @@ static void walks_in_pieces(void) {
 }
 
 /* Tells a whole text by calls with this much room, and answers how many were told. */
-static size_t told(size_t (*call)(cedar *, const uint8_t *, size_t, size_t *, cedar_found *, size_t), cedar *d, const char *text, cedar_found *all, size_t room) {
+static size_t told(size_t (*call)(const cedar *, const uint8_t *, size_t, size_t *, cedar_found *, size_t), const cedar *d, const char *text, cedar_found *all,
+                   size_t room) {
     size_t next = 0, count = 0, length = strlen(text);
     while (next < length) {
         size_t before = next, more = call(d, bytes_of(text), length, &next, all + count, room);

@@ -1,7 +1,8 @@
 """Compares the declarations of the header with the exports of the sources, and both with what the shared object has.
 
 An export's C form: each `&mut T` and `*mut T` is a pointer, `&[T]` a pointer to constant T and a length, `&mut [T]` a pointer and a
-length, and a `Global` takes no room, so that C doesn't pass it.
+length, and a `Global` takes no room, so that C doesn't pass it. A `&mut Reading`, whose call leaves it as it was, is a pointer to a
+constant dictionary.
 """
 
 import re
@@ -16,6 +17,7 @@ TYPES = {
     "usize": "size_t",
     "bool": "bool",
     "Handle": "cedar_dictionary",
+    "Reading": "const cedar_dictionary",
     "Match": "cedar_match",
     "Found": "cedar_found",
     "Pair": "cedar_pair",

@@ -6,6 +6,7 @@
 #include <iterator>
 #include <map>
 #include <sys/stat.h>
+#include <thread>
 #include <tuple>
 #include <unistd.h>
 
@@ -230,6 +231,25 @@ void moves(layout kind) {
     CHECK(first.get("b") == 2 && first.size() == 1 && !second.is_open());
 }
 
+// Const members in eight threads at the same time.
+void readers(layout kind) {
+    dictionary filled(kind);
+    for (int i = 1; i < 2000; i++) filled.update(std::to_string(i), i);
+    const dictionary &d = filled;
+    const Pairs all = listed(d.entries());
+    const auto read = [&] {
+        CHECK(d.size() == 1999 && d.kind() == kind && d.is_open() && listed(d.entries()) == all && d.save() == d.clone().save());
+        for (int i = 1; i < 2000; i++) {
+            const std::string key = std::to_string(i);
+            CHECK(d.get(key) == i && d.prefixes(key + "x").size() == key.size() && d.longest_match(key)->value == i);
+            CHECK(segmented(d, key) == Tokens({{0, key.size(), i}}) && d.predictions(key, 1).front().value == i);
+        }
+    };
+    std::vector<std::thread> threads;
+    for (int i = 0; i < 8; i++) threads.emplace_back(read);
+    for (std::thread &one : threads) one.join();
+}
+
 const char *const limit_text = "serialized trie requires more bytes while loading than the limit";
 
 // The entries of a prefix are those of the dictionary that begin with it, however they are found.
@@ -408,6 +428,7 @@ int main(int count, char **arguments) {
         settings_and_sorted_pairs(kind);
         refusals(kind);
         moves(kind);
+        readers(kind);
         refused_files(kind);
         entries_below(kind);
         paths(kind, folder);

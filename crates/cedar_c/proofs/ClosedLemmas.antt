@@ -2,15 +2,15 @@
 use Rattle.std.proofs.Common.{◌≡◌, ℕ, List, [], ◌∷◌, Option, None, refl, ap, ◌∙◌}
 use Rattle.std.specs.Prelude.{ℤ}
 use Rattle.cedarwood.specs.Tree.{empty_tree, number_at}
-use Rattle.cedar_c.specs.Content.{content, content_tree, tree_in}
-use Rattle.cedar_c.specs.declared.handle.Handle.{Handle}
+use Rattle.cedar_c.specs.Content.{content_tree}
+use Rattle.cedar_c.specs.declared.any.AnyCedar.{AnyCedar}
 
 empty : (key : List ℕ) → ◌≡◌ {A = Option ℤ} (number_at empty_tree key) None
 empty [] = refl
 empty (b ∷ key) = empty key
 
-pub closed_holds_nothing : (h : Handle) (key : List ℕ) → content h ≡ None → ◌≡◌ {A = Option ℤ} (number_at (tree_in h) key) None
-closed_holds_nothing h key closed = ap (λ d. number_at (content_tree d) key) closed ∙ empty key
+pub closed_holds_nothing : (d : Option AnyCedar) (key : List ℕ) → d ≡ None → ◌≡◌ {A = Option ℤ} (number_at (content_tree d) key) None
+closed_holds_nothing d key closed = ap (λ d. number_at (content_tree d) key) closed ∙ empty key
 
-pub closed_is_empty : (h : Handle) → content h ≡ None → tree_in h ≡ empty_tree
-closed_is_empty h closed = ap content_tree closed
+pub closed_is_empty : (d : Option AnyCedar) → d ≡ None → content_tree d ≡ empty_tree
+closed_is_empty d closed = ap content_tree closed

@@ -1,7 +1,9 @@
 pub mod ClosedLemmas
 pub mod FileLemmas
+pub mod LoanLemmas
 pub mod MatchLemmas
 pub mod HeldValues
 pub mod LooseValues
 pub mod PairLemmas
+pub mod ReaderLemmas
 pub mod ScanLemmas

@@ -36,13 +36,13 @@ content_tree (Some a) = (dictionary_in a).state.tree
 abbrev pub tree_in : Handle → Tree
 tree_in h = content_tree (content h)
 
-abbrev figure : (Dictionary → ℕ) → Option AnyCedar → ℕ
-figure f None = 0
-figure f (Some a) = f (dictionary_in a)
+abbrev pub content_figure : (Dictionary → ℕ) → Option AnyCedar → ℕ
+content_figure f None = 0
+content_figure f (Some a) = f (dictionary_in a)
 
 -- a figure, which is 0 of a closed handle
 abbrev pub figure_of : (Dictionary → ℕ) → Handle → ℕ
-figure_of f h = figure f (content h)
+figure_of f h = content_figure f (content h)
 
 -- how many slots are in use, and how many there are
 abbrev pub size_in : Handle → ℕ

@@ -5,6 +5,10 @@ use Rattle.cedar_c.specs.Ownership.{cedar_row}
 use Rattle.cedar_c.specs.contracts.held.Held.{the_row}
 use Rattle.cedar_c.specs.declared.any.AnyCedar.{AnyCedar}
 use Rattle.cedar_c.specs.declared.held.Held.{Held}
+use Rattle.cedar_c.specs.declared.shown.Shown.{Shown}
+use Rattle.cedar_c.specs.declared.shown.Seen.{Seen}
+use Rattle.cedar_c.specs.contracts.shown.Shown as shown
+use Rattle.cedar_c.specs.contracts.shown.Seen as seen
 
 -- the same pointer, behind which this dictionary lies now
 abbrev pub with_cedar : Held → AnyCedar → Held
@@ -12,3 +16,10 @@ with_cedar h a = record h { value = Some a }
 
 abbrev pub LendsCedar : MutBor Held → MutBor AnyCedar → Fml
 LendsCedar h cedar = Lends the_row cedar_row h cedar (with_cedar h.now)
+
+-- the same pointer as C has it
+abbrev pub as_shown : Seen → Shown
+as_shown s = record { at = s.at; value = s.value; life = s.life }
+
+abbrev pub LendsSeen : MutBor Shown → MutBor Seen → Fml
+LendsSeen s looked = Lends shown.the_row seen.the_row s looked as_shown

@@ -6,5 +6,6 @@ pub mod Matches
 pub mod Opens
 pub mod Ownership
 pub mod Pairs
+pub mod Readings
 pub mod Scans
 pub mod Status

@@ -1,8 +1,11 @@
 -- What a pointer to a dictionary owns.
-use Rattle.std.specs.Prelude.{Option, None, Some}
-use base.Fml.{Fml, ftrue}
+use Rattle.std.specs.Prelude.{ℕ, [], ◌∷◌, Option, None, Some}
+use base.Fraction.{full_share}
+use base.Fml.{Lft, Fml, ftrue, fsep, flft}
 use denote.RattleType.{RattleType}
 use denote.RawPtr.{Ptr}
+use denote.Sharing.{nothing}
+use denote.Struct.Lending.{lent_at}
 use Rattle.std.specs.Box.Ownership.{box_owns}
 use mir.Syntax.{Ty}
 use Rattle.std.specs.declared.alloc.Global.{Global}
@@ -26,3 +29,14 @@ may_free = global_allocator.ghosts.dealloc_token heap
 abbrev pub held_owns : Ptr → Option AnyCedar → Fml
 held_owns p None = ftrue
 held_owns p (Some d) = box_owns may_free cedar_row p d
+
+-- what a `&` to the pointer has: a `&` to the dictionary, or nothing
+abbrev pub held_lends : Ptr → Option AnyCedar → Lft → Fml
+held_lends p None = nothing
+held_lends p (Some d) = lent_at cedar_row p d
+
+-- a dictionary that is lent for a lifetime, and the whole right to end this lifetime; or nothing. Many of them, each with a
+-- lifetime of its own, may have the same dictionary: whoever owns the dictionary has it back once these lifetimes are ended
+abbrev pub shown_owns : Ptr → Option AnyCedar → ℕ → Fml
+shown_owns p None life = ftrue
+shown_owns p (Some d) life = fsep (flft (life ∷ []) full_share) (lent_at cedar_row p d (life ∷ []))

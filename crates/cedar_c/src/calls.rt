@@ -9,11 +9,13 @@ ghost use Rattle.cedar_model.specs.Table.Layouts.{default_layout, reduced_layout
 ghost use Rattle.cedar_c.specs.Content.{content, layout_in, state_in, tree_in, trials_in, size_in, capacity_in};
 ghost use Rattle.cedar_c.specs.Layouts.{dictionary_in, layout_if, layout_of, most_slots};
 ghost use Rattle.cedar_c.specs.Opens.{OpensNew};
+ghost use Rattle.cedar_c.specs.Readings.{shown_tree};
 ghost use Rattle.cedar_c.specs.Status.{position_of, status_of, TellsPosition};
 ghost use Rattle.cedar_c.specs.declared.any.AnyCedar.{AnyCedar};
 
 use crate::any::AnyCedar;
 use crate::handle::Handle;
+use crate::reading::Reading;
 use crate::status::{CLOSED, INVALID_MAX_TRIAL, MEMORY, OK, SLOT_LIMIT, tell};
 use cedarwood::{CedarBuilder, Layout, Trie};
 use std::alloc::Global;
@@ -236,21 +238,21 @@ pub extern "C" fn cedar_erase(handle: &mut Handle, key: &[u8]) -> bool
 
 /// Tells the value at a key, and says whether the key is held.
 #[unsafe(no_mangle)]
-pub extern "C" fn cedar_get(handle: &mut Handle, key: &[u8], value: &mut i32) -> bool
+pub extern "C" fn cedar_get(handle: &mut Reading, key: &[u8], value: &mut i32) -> bool
     //= A look-up says whether the key is held, and tells its value or nothing. [with value, absent]
-    ensures answer { IsTrue result ↔ IsSome (number_at (tree_in handle.old) key.now) }
-    ensures value { IfSome (number_at (tree_in handle.old) key.now) (λ v. value.new ≡ v) }
-    ensures absent { number_at (tree_in handle.old) key.now ≡ None → value.new ≡ value.old }
+    ensures answer { IsTrue result ↔ IsSome (number_at (shown_tree handle.old) key.now) }
+    ensures value { IfSome (number_at (shown_tree handle.old) key.now) (λ v. value.new ≡ v) }
+    ensures absent { number_at (shown_tree handle.old) key.now ≡ None → value.new ≡ value.old }
 
-    //= Look-ups, figures, walks, scans, tokens, saves and lists of keys leave the handle with the dictionary as it was. [also cedar_len,
-    //  cedar_used_slots, cedar_capacity, cedar_spare_blocks, cedar_is_reduced, cedar_prefixes, cedar_predictions, cedar_prefixes_from,
+    //= Look-ups, figures, walks, scans, tokens, saves and lists of keys leave the handle as it was. [also cedar_len, cedar_used_slots,
+    //  cedar_capacity, cedar_spare_blocks, cedar_is_reduced, cedar_prefixes, cedar_predictions, cedar_prefixes_from,
     //  cedar_predictions_from, cedar_scan, cedar_segment, cedar_save, cedar_keys]
-    ensures kept { content handle.new ≡ content handle.old }
+    ensures kept { handle.new ≡ handle.old }
 {
     if !handle.is_open() {
         return false;
     }
-    handle.held.lend().get(key, value)
+    handle.shown.see().dictionary().get(key, value)
 }
 
 impl AnyCedar {

@@ -2,12 +2,12 @@
 
 ghost use Rattle.std.specs.Prelude.{◌≡◌, ◌⊎◌, ◌++◌, ◌<◌, ◌≤◌, ◌↔◌, None, IfSome, length, drop};
 ghost use Rattle.cedar_tree.specs.Queries.{walk};
-ghost use Rattle.cedar_c.specs.Content.{content, tree_in};
 ghost use Rattle.cedar_c.specs.Layouts.{dictionary_in};
 ghost use Rattle.cedar_c.specs.Pairs.{keys_in};
+ghost use Rattle.cedar_c.specs.Readings.{shown_in, shown_tree};
 
 use crate::any::AnyCedar;
-use crate::handle::Handle;
+use crate::reading::Reading;
 use crate::save::copy_whole;
 use crate::status::{CLOSED, MEMORY, NO_ROOM, OK};
 use cedarwood::{Layout, Trie};
@@ -22,24 +22,24 @@ use std::alloc::Global;
 /// `MEMORY` where a request for memory was refused. After an error the buffer is as it was.
 #[unsafe(no_mangle)]
 pub extern "C" fn cedar_keys(
-    handle: &mut Handle,
+    handle: &mut Reading,
     alloc: Global,
     buffer: &mut [u8],
     needed: &mut usize,
 ) -> u32
-    ensures closed { (result ≡ CLOSED) ↔ (content handle.old ≡ None) }
+    ensures closed { (result ≡ CLOSED) ↔ (shown_in handle.old ≡ None) }
 
     //= All keys are written so, one after another in the order of the walk. [with needed]
-    ensures written { result ≡ OK → buffer.new ≡ keys_in (walk (tree_in handle.old)) ++ drop needed.new buffer.old }
-    ensures needed { (result ≡ OK) ⊎ (result ≡ NO_ROOM) → needed.new ≡ length (keys_in (walk (tree_in handle.old))) }
+    ensures written { result ≡ OK → buffer.new ≡ keys_in (walk (shown_tree handle.old)) ++ drop needed.new buffer.old }
+    ensures needed { (result ≡ OK) ⊎ (result ≡ NO_ROOM) → needed.new ≡ length (keys_in (walk (shown_tree handle.old))) }
     ensures room { (result ≡ OK → needed.new ≤ length buffer.old) × (result ≡ NO_ROOM → length buffer.old < needed.new) }
     ensures refused { (result ≡ OK) ⊎ (((result ≡ CLOSED) ⊎ (result ≡ MEMORY) ⊎ (result ≡ NO_ROOM)) × (buffer.new ≡ buffer.old)) }
-    ensures kept { content handle.new ≡ content handle.old }
+    ensures kept { handle.new ≡ handle.old }
 {
     if !handle.is_open() {
         return CLOSED;
     }
-    let keys = handle.held.lend().keys(alloc);
+    let keys = handle.shown.see().dictionary().keys(alloc);
     match keys {
         Some(keys) => copy_whole(keys.as_slice(), buffer, needed),
         None => MEMORY,

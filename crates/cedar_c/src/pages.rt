@@ -2,12 +2,12 @@
 
 ghost use Rattle.std.specs.Prelude.{◌≡◌, ◌+◌, ◌<◌, ◌^◌, [], length, take, drop, IsTrue, false};
 ghost use Rattle.cedarwood.specs.Queries.{front, predict};
-ghost use Rattle.cedar_c.specs.Content.{content, tree_in};
 ghost use Rattle.cedar_c.specs.Layouts.{dictionary_in};
 ghost use Rattle.cedar_c.specs.Matches.{filled_matches};
+ghost use Rattle.cedar_c.specs.Readings.{shown_tree};
 
 use crate::any::AnyCedar;
-use crate::handle::Handle;
+use crate::reading::Reading;
 use crate::walks::{Finds, Match, put_at};
 use cedarwood::{Layout, Trie};
 use std::alloc::Global;
@@ -119,39 +119,47 @@ impl AnyCedar {
 /// As `cedar_prefixes`, without the first `next` of them: it says how many it wrote, and sets `next` to where the same call goes on.
 #[unsafe(no_mangle)]
 pub extern "C" fn cedar_prefixes_from(
-    handle: &mut Handle,
+    handle: &mut Reading,
     text: &[u8],
     next: &mut usize,
     matches: &mut [Match],
 ) -> usize
     //= A walk in pieces writes what `front` or `predict` has behind the first `next`, as far as there are places, leaves the others,
     //  answers how many it wrote and adds that to `next`. [with filled, next; also cedar_predictions_from]
-    ensures count { result ≡ length (take (length matches.old) (drop next.old (front (tree_in handle.old) text.now))) }
-    ensures filled { matches.new ≡ filled_matches matches.old (drop next.old (front (tree_in handle.old) text.now)) }
+    ensures count { result ≡ length (take (length matches.old) (drop next.old (front (shown_tree handle.old) text.now))) }
+    ensures filled { matches.new ≡ filled_matches matches.old (drop next.old (front (shown_tree handle.old) text.now)) }
     ensures next { next.new ≡ next.old + result }
-    ensures kept { content handle.new ≡ content handle.old }
+    ensures kept { handle.new ≡ handle.old }
 {
     if !handle.is_open() {
         return 0;
     }
-    handle.held.lend().prefixes_from(text, next, matches)
+    handle
+        .shown
+        .see()
+        .dictionary()
+        .prefixes_from(text, next, matches)
 }
 
 /// As `cedar_predictions`, without the first `next` of them: it says how many it wrote, and sets `next` to where the same call goes on.
 #[unsafe(no_mangle)]
 pub extern "C" fn cedar_predictions_from(
-    handle: &mut Handle,
+    handle: &mut Reading,
     text: &[u8],
     next: &mut usize,
     matches: &mut [Match],
 ) -> usize
-    ensures count { result ≡ length (take (length matches.old) (drop next.old (predict (tree_in handle.old) text.now))) }
-    ensures filled { matches.new ≡ filled_matches matches.old (drop next.old (predict (tree_in handle.old) text.now)) }
+    ensures count { result ≡ length (take (length matches.old) (drop next.old (predict (shown_tree handle.old) text.now))) }
+    ensures filled { matches.new ≡ filled_matches matches.old (drop next.old (predict (shown_tree handle.old) text.now)) }
     ensures next { next.new ≡ next.old + result }
-    ensures kept { content handle.new ≡ content handle.old }
+    ensures kept { handle.new ≡ handle.old }
 {
     if !handle.is_open() {
         return 0;
     }
-    handle.held.lend().predictions_from(text, next, matches)
+    handle
+        .shown
+        .see()
+        .dictionary()
+        .predictions_from(text, next, matches)
 }

@@ -2,12 +2,12 @@
 
 ghost use Rattle.std.specs.Prelude.{◌≡◌, ◌⊎◌, ◌++◌, ◌<◌, ◌≤◌, ◌↔◌, None, IsSome, IfSome, length, take, drop};
 ghost use Rattle.cedar_format.specs.Tables.{table_bytes};
-ghost use Rattle.cedar_c.specs.Content.{content};
 ghost use Rattle.cedar_c.specs.Files.{minor_of};
 ghost use Rattle.cedar_c.specs.Layouts.{dictionary_in};
+ghost use Rattle.cedar_c.specs.Readings.{shown_in};
 
 use crate::any::AnyCedar;
-use crate::handle::Handle;
+use crate::reading::Reading;
 use crate::status::{CLOSED, MEMORY, NO_ROOM, OK};
 use cedarwood::{Layout, Trie, Watched};
 use std::alloc::Global;
@@ -20,7 +20,7 @@ use std::alloc::Global;
 /// `MEMORY` where a request for memory was refused. After an error the buffer is as it was.
 #[unsafe(no_mangle)]
 pub extern "C" fn cedar_save(
-    handle: &mut Handle,
+    handle: &mut Reading,
     alloc: Global,
     is_full: bool,
     buffer: &mut [u8],
@@ -28,20 +28,24 @@ pub extern "C" fn cedar_save(
 ) -> u32
     //= Both answer `CLOSED` exactly if the handle is closed, `OK` only if all fits, `NO_ROOM` only if it doesn't, and else `MEMORY`; after
     //  any error the buffer is as it was. [with room, refused; also cedar_keys]
-    ensures closed { (result ≡ CLOSED) ↔ (content handle.old ≡ None) }
+    ensures closed { (result ≡ CLOSED) ↔ (shown_in handle.old ≡ None) }
 
     //= A save writes the bytes of the dictionary's table, in 1.1 or in 1.0, into the first places of a buffer, and leaves the others;
     //  `needed` is how many they are. [with needed]
-    ensures saved { result ≡ OK → IfSome (content handle.old) (λ a. buffer.new ≡ table_bytes (minor_of is_full) (dictionary_in a).table ++ drop needed.new buffer.old) }
-    ensures needed { (result ≡ OK) ⊎ (result ≡ NO_ROOM) → IfSome (content handle.old) (λ a. needed.new ≡ length (table_bytes (minor_of is_full) (dictionary_in a).table)) }
+    ensures saved { result ≡ OK → IfSome (shown_in handle.old) (λ a. buffer.new ≡ table_bytes (minor_of is_full) (dictionary_in a).table ++ drop needed.new buffer.old) }
+    ensures needed { (result ≡ OK) ⊎ (result ≡ NO_ROOM) → IfSome (shown_in handle.old) (λ a. needed.new ≡ length (table_bytes (minor_of is_full) (dictionary_in a).table)) }
     ensures room { (result ≡ OK → needed.new ≤ length buffer.old) × (result ≡ NO_ROOM → length buffer.old < needed.new) }
     ensures refused { (result ≡ OK) ⊎ (((result ≡ CLOSED) ⊎ (result ≡ MEMORY) ⊎ (result ≡ NO_ROOM)) × (buffer.new ≡ buffer.old)) }
-    ensures kept { content handle.new ≡ content handle.old }
+    ensures kept { handle.new ≡ handle.old }
 {
     if !handle.is_open() {
         return CLOSED;
     }
-    handle.held.lend().save(alloc, is_full, buffer, needed)
+    handle
+        .shown
+        .see()
+        .dictionary()
+        .save(alloc, is_full, buffer, needed)
 }
 
 impl AnyCedar {

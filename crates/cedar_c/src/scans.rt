@@ -2,12 +2,12 @@
 
 ghost use Rattle.std.specs.Prelude.{◌≡◌, ◌⊎◌, ℕ, ℤ, List, ◌∷◌, ◌++◌, ◌+◌, ◌<◌, ◌≤◌, ◌^◌, [], length, map, take, drop, set, None, IfSome, IsSome};
 ghost use Rattle.cedar_tree.specs.Queries.{front};
-ghost use Rattle.cedar_c.specs.Content.{content, tree_in};
 ghost use Rattle.cedar_c.specs.Layouts.{dictionary_in};
+ghost use Rattle.cedar_c.specs.Readings.{shown_in, shown_tree};
 ghost use Rattle.cedar_c.specs.Scans.{Fit, spot, spots_from, tokens_from};
 
 use crate::any::AnyCedar;
-use crate::handle::Handle;
+use crate::reading::Reading;
 use crate::walks::Finds;
 use cedar_words::LongestPrefix;
 use cedarwood::{Layout, Trie};
@@ -186,31 +186,31 @@ impl AnyCedar {
 /// is left open.
 #[unsafe(no_mangle)]
 pub extern "C" fn cedar_scan(
-    handle: &mut Handle,
+    handle: &mut Reading,
     text: &[u8],
     next: &mut usize,
     found: &mut [Found],
 ) -> usize
     //= A scan writes what keys stand in a text from `next` on, place after place: what stood from the old `next` on is what was written,
     //  and then what stands from the new one on. [by spots_from]
-    ensures told { IsSome (content handle.old) → spots_from (tree_in handle.old) next.old (drop next.old text.now) ≡ take result found.new ++ spots_from (tree_in handle.old) next.new (drop next.new text.now) }
+    ensures told { IsSome (shown_in handle.old) → spots_from (shown_tree handle.old) next.old (drop next.old text.now) ≡ take result found.new ++ spots_from (shown_tree handle.old) next.new (drop next.new text.now) }
 
     //= A scan ends where the text does, or where the keys of a place don't fit in the room left; tokens end where the text or the room
     //  does. [also cedar_segment]
-    ensures full { (length text.now ≤ next.new) ⊎ (length found.new < result + length (front (tree_in handle.old) (drop next.new text.now))) }
+    ensures full { (length text.now ≤ next.new) ⊎ (length found.new < result + length (front (shown_tree handle.old) (drop next.new text.now))) }
 
     //= `next` never goes back, nor behind the text's end if it wasn't there, the answer is at most the room, and 0 where the handle is
     //  closed. [with ends, closed; also cedar_segment]
     ensures within { (result ≤ length found.new) × (next.old ≤ next.new) }
     ensures ends { (next.new ≤ length text.now) ⊎ (next.new ≡ next.old) }
-    ensures closed { content handle.old ≡ None → result ≡ 0 }
-    ensures kept { content handle.new ≡ content handle.old }
+    ensures closed { shown_in handle.old ≡ None → result ≡ 0 }
+    ensures kept { handle.new ≡ handle.old }
 {
     if !handle.is_open() {
         *next = text.len().max(*next);
         return 0;
     }
-    handle.held.lend().scan(text, next, found)
+    handle.shown.see().dictionary().scan(text, next, found)
 }
 
 /// Writes the tokens of a text from a place on, where one begins: at each place the longest key that begins there, or else one
@@ -218,22 +218,22 @@ pub extern "C" fn cedar_scan(
 /// there goes on. It returns how many places of the buffer it wrote; what the others have then is left open.
 #[unsafe(no_mangle)]
 pub extern "C" fn cedar_segment(
-    handle: &mut Handle,
+    handle: &mut Reading,
     text: &[u8],
     next: &mut usize,
     found: &mut [Found],
 ) -> usize
     //= A cut writes the tokens so too, with -1 for no value, from a place on where one begins. [by tokens_from]
-    ensures told { IsSome (content handle.old) → tokens_from (tree_in handle.old) next.old (drop next.old text.now) ≡ take result found.new ++ tokens_from (tree_in handle.old) next.new (drop next.new text.now) }
+    ensures told { IsSome (shown_in handle.old) → tokens_from (shown_tree handle.old) next.old (drop next.old text.now) ≡ take result found.new ++ tokens_from (shown_tree handle.old) next.new (drop next.new text.now) }
     ensures full { (length text.now ≤ next.new) ⊎ (result ≡ length found.new) }
     ensures within { (result ≤ length found.new) × (next.old ≤ next.new) }
     ensures ends { (next.new ≤ length text.now) ⊎ (next.new ≡ next.old) }
-    ensures closed { content handle.old ≡ None → result ≡ 0 }
-    ensures kept { content handle.new ≡ content handle.old }
+    ensures closed { shown_in handle.old ≡ None → result ≡ 0 }
+    ensures kept { handle.new ≡ handle.old }
 {
     if !handle.is_open() {
         *next = text.len().max(*next);
         return 0;
     }
-    handle.held.lend().cut(text, next, found)
+    handle.shown.see().dictionary().cut(text, next, found)
 }

@@ -2,12 +2,12 @@
 
 ghost use Rattle.std.specs.Prelude.{◌≡◌, ℕ, ℤ, List, ◌∷◌, ◌++◌, ◌+◌, ◌<◌, ◌^◌, length, take, drop};
 ghost use Rattle.cedarwood.specs.Queries.{front, predict};
-ghost use Rattle.cedar_c.specs.Content.{content, tree_in};
 ghost use Rattle.cedar_c.specs.Layouts.{dictionary_in};
 ghost use Rattle.cedar_c.specs.Matches.{filled_matches};
+ghost use Rattle.cedar_c.specs.Readings.{shown_tree};
 
 use crate::any::AnyCedar;
-use crate::handle::Handle;
+use crate::reading::Reading;
 use cedarwood::{Layout, PrefixIter, PrefixPredictIter, Trie, Walked};
 use std::alloc::Global;
 
@@ -124,33 +124,33 @@ impl AnyCedar {
 /// Writes the held fronts of a text into the first places of a buffer, shortest first, as many as there is room for, and says
 /// how many the text has: for each the value, and one less than its bytes. It is one walk.
 #[unsafe(no_mangle)]
-pub extern "C" fn cedar_prefixes(handle: &mut Handle, text: &[u8], matches: &mut [Match]) -> usize
+pub extern "C" fn cedar_prefixes(handle: &mut Reading, text: &[u8], matches: &mut [Match]) -> usize
     //= A walk writes `front` or `predict` of the tree into the first places of a buffer, as far as there are places, leaves the others, and
     //  answers how many there are. [with filled; also cedar_predictions]
-    ensures count { result ≡ length (front (tree_in handle.old) text.now) }
-    ensures filled { matches.new ≡ filled_matches matches.old (front (tree_in handle.old) text.now) }
-    ensures kept { content handle.new ≡ content handle.old }
+    ensures count { result ≡ length (front (shown_tree handle.old) text.now) }
+    ensures filled { matches.new ≡ filled_matches matches.old (front (shown_tree handle.old) text.now) }
+    ensures kept { handle.new ≡ handle.old }
 {
     if !handle.is_open() {
         return 0;
     }
-    handle.held.lend().prefixes(text, matches)
+    handle.shown.see().dictionary().prefixes(text, matches)
 }
 
 /// Writes the keys that begin with a text into the first places of a buffer, in the order of the walk, as many as there is room
 /// for, and says how many there are: for each the value, and how many bytes follow the text. It is one walk.
 #[unsafe(no_mangle)]
 pub extern "C" fn cedar_predictions(
-    handle: &mut Handle,
+    handle: &mut Reading,
     text: &[u8],
     matches: &mut [Match],
 ) -> usize
-    ensures count { result ≡ length (predict (tree_in handle.old) text.now) }
-    ensures filled { matches.new ≡ filled_matches matches.old (predict (tree_in handle.old) text.now) }
-    ensures kept { content handle.new ≡ content handle.old }
+    ensures count { result ≡ length (predict (shown_tree handle.old) text.now) }
+    ensures filled { matches.new ≡ filled_matches matches.old (predict (shown_tree handle.old) text.now) }
+    ensures kept { handle.new ≡ handle.old }
 {
     if !handle.is_open() {
         return 0;
     }
-    handle.held.lend().predictions(text, matches)
+    handle.shown.see().dictionary().predictions(text, matches)
 }
