@@ -6,12 +6,14 @@
  *
  * What the caller owes. Nothing checks it, and breaking it is undefined, as with any C library:
  *
- * - No pointer is null, key, value and matches included; a key of length 0 has one too, and a buffer of room 0. Each points to
- *   what its type says: a key to `length` bytes that can be read, matches, found and buffers to `room` places that are set, pairs to
- *   `count` pairs whose keys are such, at most PTRDIFF_MAX bytes each. What two parameters point to doesn't overlap, but for what is
- *   only read. During the call nobody else writes it, nor reads what the call may write.
- * - A `cedar_dictionary` begins as CEDAR_CLOSED and is changed by these calls alone. It may be moved. Its fields aren't read or
- *   written.
+ * - Each pointer points to what its type says: a key to `length` bytes that can be read, matches, found and buffers to `room` places, pairs
+ *   to `count` pairs whose keys are such, at most PTRDIFF_MAX bytes each. What is only written to needn't be set before. What two
+ *   parameters point to doesn't overlap, but for what is only read. During the call nobody else writes it, nor reads what the call may
+ *   write.
+ * - A pointer may be null where its length, room or count is 0, and position, held, before and needed where nobody wants to know. No other
+ *   one is null. What is proved is of pointers that aren't, and of places that are set; that others do the same is tested.
+ * - A `cedar_dictionary` begins as CEDAR_CLOSED, or cedar_closed(), and is changed by these calls alone. It may be moved. Its fields aren't
+ *   read or written.
  * - Calls that take a const dictionary only read it: any number of threads may make them at the same time, each with its own copy of
  *   the variable, made before (`cedar mine = *d;`). No call may change or free the dictionary meanwhile, and afterwards only the
  *   variable that this call was given is used: older copies are forgotten, and not freed.
@@ -21,8 +23,8 @@
  * - malloc, realloc and free are one allocator's, and align a block as C asks.
  *
  * What a call finds by itself, and answers: a closed dictionary (also one that was freed, once or twice, by this very
- * variable), a bad key or value, want of memory. What it can't find: a null or wild pointer, a wrong length, a second copy of
- * a variable after the first was freed.
+ * variable), a bad key or value, want of memory. What it can't find: a wild pointer, or a null one where none may be, a wrong length, a
+ * second copy of a variable after the first was freed.
  */
 #ifndef ROSKVIDH_CEDAR_H
 #define ROSKVIDH_CEDAR_H
@@ -45,7 +47,19 @@ typedef struct cedar_dictionary {
 typedef cedar_dictionary cedar;
 #endif
 
+/* In C a function of this header alone stands in each file that includes it. */
+#ifdef __cplusplus
+#define CEDAR_INLINE inline
+#else
+#define CEDAR_INLINE static inline
+#endif
+
+/* A closed dictionary: CEDAR_CLOSED where a variable begins, cedar_closed() where one is assigned. */
 #define CEDAR_CLOSED { NULL, 0 }
+CEDAR_INLINE cedar_dictionary cedar_closed(void) {
+    cedar_dictionary closed = CEDAR_CLOSED;
+    return closed;
+}
 
 #define CEDAR_MIN_VALUE 0
 #define CEDAR_MAX_VALUE 2147483645
@@ -215,6 +229,51 @@ size_t cedar_scan(const cedar_dictionary *d, const uint8_t *text, size_t length,
 /* The tokens of a text from the place *next on, where one begins: at each place the longest key that stands there, or else one byte,
  * with the value -1. Else as cedar_scan: with room 1 or more each call goes on. */
 size_t cedar_segment(const cedar_dictionary *d, const uint8_t *text, size_t length, size_t *next, cedar_found *found, size_t room);
+
+/* The library's own functions take no null for position, held, before and needed. In a program these here go by their names, and put a
+ * place of their own there. They cost nothing where the compiler sees that a pointer isn't null. Another language, which calls the library
+ * without this header, passes no null for these four. */
+CEDAR_INLINE uint32_t cedar_nullable_save(const cedar_dictionary *d, bool is_full, uint8_t *buffer, size_t room, size_t *needed) {
+    size_t unwanted = 0;
+    return cedar_save(d, is_full, buffer, room, needed ? needed : &unwanted);
+}
+CEDAR_INLINE uint32_t cedar_nullable_update(cedar_dictionary *d, const uint8_t *key, size_t length, int32_t value, size_t *position) {
+    size_t unwanted = 0;
+    return cedar_update(d, key, length, value, position ? position : &unwanted);
+}
+CEDAR_INLINE uint32_t cedar_nullable_insert(cedar_dictionary *d, const uint8_t *key, size_t length, int32_t value, bool *held,
+                                            int32_t *before, size_t *position) {
+    bool unwanted_held = false;
+    int32_t unwanted_before = 0;
+    size_t unwanted = 0;
+    return cedar_insert(d, key, length, value, held ? held : &unwanted_held, before ? before : &unwanted_before,
+                        position ? position : &unwanted);
+}
+CEDAR_INLINE uint32_t cedar_nullable_update_all(cedar_dictionary *d, const cedar_pair *pairs, size_t count, size_t *position) {
+    size_t unwanted = 0;
+    return cedar_update_all(d, pairs, count, position ? position : &unwanted);
+}
+CEDAR_INLINE uint32_t cedar_nullable_build(cedar_dictionary *d, bool ordered, int32_t max_trial, const cedar_pair *pairs, size_t count,
+                                           size_t *position) {
+    size_t unwanted = 0;
+    return cedar_build(d, ordered, max_trial, pairs, count, position ? position : &unwanted);
+}
+CEDAR_INLINE uint32_t cedar_nullable_build_reduced(cedar_dictionary *d, bool ordered, int32_t max_trial, const cedar_pair *pairs,
+                                                   size_t count, size_t *position) {
+    size_t unwanted = 0;
+    return cedar_build_reduced(d, ordered, max_trial, pairs, count, position ? position : &unwanted);
+}
+CEDAR_INLINE uint32_t cedar_nullable_keys(const cedar_dictionary *d, uint8_t *buffer, size_t room, size_t *needed) {
+    size_t unwanted = 0;
+    return cedar_keys(d, buffer, room, needed ? needed : &unwanted);
+}
+#define cedar_save cedar_nullable_save
+#define cedar_update cedar_nullable_update
+#define cedar_insert cedar_nullable_insert
+#define cedar_update_all cedar_nullable_update_all
+#define cedar_build cedar_nullable_build
+#define cedar_build_reduced cedar_nullable_build_reduced
+#define cedar_keys cedar_nullable_keys
 
 #ifdef __cplusplus
 }

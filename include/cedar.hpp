@@ -108,7 +108,7 @@ struct statistics {
 
 namespace detail {
 
-// C takes no null pointer, which an empty view may have.
+// What is proved of C is of pointers that aren't null, as that of an empty view may be.
 inline const std::uint8_t *bytes(std::string_view text) noexcept {
     return reinterpret_cast<const std::uint8_t *>(text.empty() ? "" : text.data());
 }

@@ -22,10 +22,10 @@ int main(void) {
     const char *text = "networking";
     cedar d = CEDAR_CLOSED;
     cedar_match found[WORDS]; /* a text begins with no more words than there are */
-    size_t position, count;
+    size_t count;
 
     uint32_t status = cedar_new(&d);
-    for (int32_t i = 0; status == CEDAR_OK && i < WORDS; i++) status = cedar_update(&d, bytes_of(words[i]), strlen(words[i]), i, &position);
+    for (int32_t i = 0; status == CEDAR_OK && i < WORDS; i++) status = cedar_update(&d, bytes_of(words[i]), strlen(words[i]), i, NULL);
     if (status == CEDAR_OK) {
         look_up(&d, "network");
         look_up(&d, "netw");

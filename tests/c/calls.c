@@ -144,6 +144,36 @@ static void many_pairs(void) {
     CHECK(cedar_keys(&d, keys, 8, &position) == CEDAR_IS_CLOSED);
 }
 
+/* No pointer where there is nothing to point to, or nobody wants an answer; buffers that nobody has set. */
+static void null_pointers(void) {
+    cedar d = cedar_closed();
+    const cedar_pair empty = {NULL, 0, 1}, twice[] = {{bytes_of("a"), 1, 1}, {bytes_of("a"), 1, 1}};
+    size_t next = 0;
+    int32_t value = 55;
+    bool held;
+    uint8_t *unset = malloc(1 << 14);
+    CHECK(unset != NULL && cedar_update(&d, NULL, 0, 1, NULL) == CEDAR_IS_CLOSED && cedar_insert(&d, NULL, 0, 1, NULL, NULL, NULL) == CEDAR_IS_CLOSED);
+    CHECK(!cedar_get(&d, NULL, 0, &value) && cedar_save(&d, false, NULL, 0, NULL) == CEDAR_IS_CLOSED && cedar_keys(&d, NULL, 0, NULL) == CEDAR_IS_CLOSED);
+    CHECK(cedar_build(&d, true, 1, NULL, 0, NULL) == CEDAR_OK && cedar_build_reduced(&d, true, 1, twice, 2, NULL) == CEDAR_DUPLICATE_KEY);
+    CHECK(cedar_update(&d, NULL, 0, 1, NULL) == CEDAR_EMPTY_KEY && cedar_update(&d, bytes_of("a\0"), 2, 1, NULL) == CEDAR_NUL_BYTE);
+    CHECK(cedar_update_all(&d, NULL, 0, NULL) == CEDAR_OK && cedar_update_all(&d, &empty, 1, NULL) == CEDAR_EMPTY_KEY && cedar_len(&d) == 0);
+    CHECK(cedar_insert(&d, bytes_of("net"), 3, 7, NULL, NULL, NULL) == CEDAR_OK && cedar_insert(&d, bytes_of("net"), 3, 8, &held, NULL, NULL) == CEDAR_OK);
+    CHECK(held && cedar_insert(&d, bytes_of("net"), 3, 9, NULL, &value, NULL) == CEDAR_OK && value == 8 && cedar_len(&d) == 1);
+    CHECK(!cedar_get(&d, NULL, 0, &value) && value == 8 && !cedar_erase(&d, NULL, 0));
+    CHECK(cedar_prefixes(&d, NULL, 0, NULL, 0) == 0 && cedar_prefixes(&d, bytes_of("net"), 3, NULL, 0) == 1 && cedar_predictions(&d, NULL, 0, NULL, 0) == 1);
+    CHECK(cedar_prefixes_from(&d, bytes_of("net"), 3, &next, NULL, 0) == 0 && cedar_predictions_from(&d, NULL, 0, &next, NULL, 0) == 0 && next == 0);
+    CHECK(cedar_scan(&d, NULL, 0, &next, NULL, 0) == 0 && cedar_scan(&d, bytes_of("net"), 3, &next, NULL, 0) == 0 && next == 0);
+    CHECK(cedar_segment(&d, NULL, 0, &next, NULL, 0) == 0 && cedar_segment(&d, bytes_of("net"), 3, &next, NULL, 0) == 0 && next == 0);
+    CHECK(cedar_keys(&d, NULL, 0, NULL) == CEDAR_NO_ROOM && cedar_save(&d, true, NULL, 0, NULL) == CEDAR_NO_ROOM);
+    CHECK(cedar_keys(&d, unset, 3, NULL) == CEDAR_OK && memcmp(unset, "net", 3) == 0 && cedar_save(&d, false, unset, 1 << 14, NULL) == CEDAR_OK);
+    CHECK(cedar_load(&d, NULL, 0, CEDAR_LOAD_LIMIT) == CEDAR_FILE_TRUNCATED && cedar_load_reduced(&d, NULL, 0, CEDAR_LOAD_LIMIT) == CEDAR_FILE_TRUNCATED);
+    CHECK(cedar_status_text(CEDAR_MEMORY, NULL, 0) == 13 && cedar_len(&d) == 1);
+    cedar_free(&d);
+    d = cedar_closed();
+    CHECK(cedar_len(&d) == 0);
+    free(unset);
+}
+
 static void sorted_pairs(void) {
     cedar d = CEDAR_CLOSED, other = CEDAR_CLOSED;
     const cedar_pair pairs[] = {{bytes_of("a"), 1, 1}, {bytes_of("ab"), 2, 2}, {bytes_of("b\xff"), 2, 3}, {bytes_of("b\xff"), 2, 4}, {bytes_of("a"), 1, 5}};
@@ -359,6 +389,7 @@ int main(int count, char **arguments) {
     refused_files();
     files_and_texts();
     many_pairs();
+    null_pointers();
     sorted_pairs();
     walks_in_pieces();
     whole_texts();

@@ -24,6 +24,11 @@ cedar short_name = CEDAR_CLOSED;
 #endif
 
 cedar_dictionary dictionary = CEDAR_CLOSED;
+cedar_dictionary another(void);
+cedar_dictionary another(void) {
+    dictionary = cedar_closed();
+    return cedar_closed();
+}
 cedar_pair pair;
 cedar_match match;
 cedar_found found;
