@@ -181,20 +181,19 @@ size_t cedar_spare_blocks(const cedar_dictionary *d);
  * an error nothing has changed. */
 uint32_t cedar_reserve(cedar_dictionary *d, size_t blocks);
 
-/* A key that a walk found. */
+/* A key that a walk found: its value, and how many bytes the whole key has. */
 typedef struct cedar_match {
     int32_t value;
     size_t length;
 } cedar_match;
 
-/* The keys that a text begins with, shortest first: for each its value, and in length one less than its bytes. The first `room` of
- * them, or all if there are fewer, are written to matches[0] and on; the other places stay. It answers how many there are, never more
- * than the text has bytes: an answer above room asks for a second call with more room. It is one walk, and takes no memory. 0 if
- * closed. */
+/* The keys that a text begins with, shortest first. The first `room` of them, or all if there are fewer, are written to matches[0] and
+ * on; the other places stay. It answers how many there are, never more than the text has bytes: an answer above room asks for a second
+ * call with more room. It is one walk, and takes no memory. 0 if closed. */
 size_t cedar_prefixes(const cedar_dictionary *d, const uint8_t *text, size_t length, cedar_match *matches, size_t room);
 
-/* The keys that begin with a text, in the order of the walk: for each its value, and in length how many bytes of it follow the
- * text. Else as cedar_prefixes: there are never more than keys. */
+/* The keys that begin with a text, in the order of the walk: `length` bytes of each are the text, and match.length - length follow it.
+ * Else as cedar_prefixes: there are never more than keys. */
 size_t cedar_predictions(const cedar_dictionary *d, const uint8_t *text, size_t length, cedar_match *matches, size_t room);
 
 /* The same without the first *next of them, in pieces: as many as are left, and there is room for, are written to matches[0] and on;

@@ -79,7 +79,7 @@ private:
     std::optional<std::size_t> position_;
 };
 
-/// A key that a walk found: its value, and a length in bytes. Each walk says what it is the length of.
+/// A key that a walk found: its value, and how many bytes the key has.
 using match = cedar_match;
 
 /// A key that stands in a text: where it begins, how many bytes it has, and its value.
@@ -210,10 +210,10 @@ public:
     static bool is_cheap(const std::vector<match> &keys, std::size_t prefix, std::size_t slots) noexcept {
         std::size_t nodes = 1, longest = 0;
         for (const match &one : keys) {
-            nodes += one.length;
+            nodes += one.length - prefix;
             longest = std::max(longest, one.length);
         }
-        return nodes < slots / (prefix + longest);
+        return nodes < slots / longest;
     }
 
     // The bytes of the keys, one key after another, in the order of bytes. `keys` has their lengths in this order.
@@ -462,9 +462,7 @@ public:
     /// The keys that a text begins with, shortest first: for each its value, and its length in bytes. It is one walk along the text, or
     /// three where there are 64 or more. Throws std::bad_alloc.
     std::vector<match> prefixes(std::string_view text) const {
-        std::vector<match> found = walked(cedar_prefixes_from, cedar_prefixes, text, unlimited);
-        for (match &one : found) ++one.length; // C tells the place of a key's last byte
-        return found;
+        return walked(cedar_prefixes_from, cedar_prefixes, text, unlimited);
     }
 
     /// Of the keys that a text begins with the longest: its value, and its length in bytes. It allocates nothing.
@@ -478,11 +476,11 @@ public:
             cedar_prefixes_from(&mine, detail::bytes(text), text.size(), &last, found.data(), 1);
             last = 0;
         }
-        return match{found[last].value, found[last].length + 1};
+        return found[last];
     }
 
-    /// The keys that begin with a text, in the order of the walk, at most `most` of them: for each its value, and in length how many bytes
-    /// follow the text. It is one walk over them, or three where 64 or more are wanted. Throws std::bad_alloc.
+    /// The keys that begin with a text, in the order of the walk, at most `most` of them: for each its value, and how many bytes the whole
+    /// key has. It is one walk over them, or three where 64 or more are wanted. Throws std::bad_alloc.
     std::vector<match> predictions(std::string_view text, std::size_t most = unlimited) const {
         return walked(cedar_predictions_from, cedar_predictions, text, most);
     }
@@ -503,7 +501,6 @@ public:
         if (range.empty()) return range;
         const cedar_dictionary mine = inside_;
         const bool are_few = is_ordered_ && detail::key_search::is_cheap(range.matches_, prefix.size(), cedar_used_slots(&mine));
-        for (match &one : range.matches_) one.length += prefix.size();
         if (are_few) {
             range.keys_ = detail::key_search(mine, prefix).find(range.matches_);
         } else {

@@ -316,11 +316,12 @@ class Cedar:
 
     def prefixes(self, text):
         """The keys that a text begins with, shortest first: for each its value, and how many bytes it has."""
-        return [(value, last + 1) for value, last in self._walk(_CEDAR.cedar_prefixes, text)]
+        return self._walk(_CEDAR.cedar_prefixes, text)
 
     def predictions(self, text):
         """The keys that begin with a text: for each its value, and how many bytes of it follow the text."""
-        return self._walk(_CEDAR.cedar_predictions, text)
+        text = _bytes(text)
+        return [(value, length - len(text)) for value, length in self._walk(_CEDAR.cedar_predictions, text)]
 
     def _piece(self, walk, text, start, most):
         if start < 0:
@@ -331,11 +332,12 @@ class Cedar:
 
     def prefixes_from(self, text, start, most):
         """Those of `prefixes` without the first `start` of them, and no more than `most`."""
-        return [(value, last + 1) for value, last in self._piece(_CEDAR.cedar_prefixes_from, text, start, most)]
+        return self._piece(_CEDAR.cedar_prefixes_from, text, start, most)
 
     def predictions_from(self, text, start, most):
         """Those of `predictions` without the first `start` of them, and no more than `most`."""
-        return self._piece(_CEDAR.cedar_predictions_from, text, start, most)
+        text = _bytes(text)
+        return [(value, length - len(text)) for value, length in self._piece(_CEDAR.cedar_predictions_from, text, start, most)]
 
     def _everything(self, call, text):
         text, place, parts, least = _bytes(text), c_size_t(0), [], 64

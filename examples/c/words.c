@@ -30,7 +30,7 @@ int main(void) {
         look_up(&d, "network");
         look_up(&d, "netw");
         count = cedar_prefixes(&d, bytes_of(text), strlen(text), found, WORDS);
-        for (size_t i = 0; i < count; i++) printf("%s begins with %.*s\n", text, (int)found[i].length + 1, text);
+        for (size_t i = 0; i < count; i++) printf("%s begins with %.*s\n", text, (int)found[i].length, text);
         count = cedar_predictions(&d, bytes_of("net"), 3, found, WORDS);
         for (size_t i = 0; i < count; i++) printf("net begins %s\n", words[found[i].value]);
     }

@@ -204,7 +204,7 @@ bool gather_any(const cedar *dictionary, Gathered *gathered) {
     Span root = {NULL, NONE, 0};
     cedar_match match = {0, 1};
     bool done = search_begin(&search, dictionary, &root, gathered);
-    while (done && match.length > 0) {
+    while (done && match.length > search.depth) {
         size_t depth = ++search.depth, found = 0;
         done = make_room((void **)&search.path, &search.room, depth, 1);
         for (size_t i = 0; done && i < BYTES && found == 0; i++) {
@@ -214,7 +214,6 @@ bool gather_any(const cedar *dictionary, Gathered *gathered) {
         }
         done = done && found > 0;
     }
-    match.length = search.depth;
     done = done && append(gathered, search.path, match);
     search_end(&search);
     return done;

@@ -162,7 +162,7 @@ PyObject *core_count(Core *core, PyObject *given) {
 static PyObject *prefixes_give(Core *core, const Span *text, const cedar_match *matches, size_t count) {
     PyObject *list = PyList_New((Py_ssize_t)count);
     for (size_t i = 0; list && i < count; i++) {
-        PyObject *pair = pair_give(key_give(core, text->at, matches[i].length + 1), matches[i].value);
+        PyObject *pair = pair_give(key_give(core, text->at, matches[i].length), matches[i].value);
         if (!pair || PyList_SetItem(list, (Py_ssize_t)i, pair) < 0) Py_CLEAR(list);
     }
     return list;

@@ -61,11 +61,11 @@ static void settings_and_walks(void) {
     CHECK(cedar_update(&d, (const uint8_t *)"abc", 3, 3, &position) == CEDAR_OK);
     CHECK(cedar_update(&d, (const uint8_t *)"abd", 3, 4, &position) == CEDAR_OK);
     CHECK(cedar_prefixes(&d, (const uint8_t *)"abcd", 4, found, 1) == 2);
-    CHECK(found[0].value == 2 && found[0].length == 0 && found[1].value == -1 && found[1].length == 77);
+    CHECK(found[0].value == 2 && found[0].length == 1 && found[1].value == -1 && found[1].length == 77);
     CHECK(cedar_prefixes(&d, (const uint8_t *)"abcd", 4, found, 3) == 2);
-    CHECK(found[1].value == 3 && found[1].length == 2 && found[2].value == -1);
+    CHECK(found[1].value == 3 && found[1].length == 3 && found[2].value == -1);
     CHECK(cedar_predictions(&d, (const uint8_t *)"ab", 2, found, 2) == 2); /* a new label goes first */
-    CHECK(found[0].value == 4 && found[0].length == 1 && found[1].value == 3 && found[1].length == 1 && found[2].value == -1);
+    CHECK(found[0].value == 4 && found[0].length == 3 && found[1].value == 3 && found[1].length == 3 && found[2].value == -1);
     CHECK(cedar_predictions(&d, (const uint8_t *)"", 0, found, 3) == 3 && found[0].value == 2 && found[0].length == 1);
     CHECK(cedar_len(&d) == 3);
     cedar_free(&d);

@@ -100,8 +100,8 @@ void each_member(layout kind) {
     CHECK(listed(d.entries()) == all && listed(d.entries_with_prefix("ne")) == Pairs(all.begin(), all.begin() + 3));
     CHECK(listed(d.entries_with_prefix("new")) == Pairs({{"new", 2}}) && listed(d.entries_with_prefix("nx")).empty());
     CHECK(ends(d.prefixes("networks")) == Ends({{7, 3}, {8, 7}}) && d.prefixes("").empty());
-    CHECK(ends(d.predictions("ne")) == Ends({{7, 1}, {8, 5}, {2, 1}}) && d.predictions("").size() == 4);
-    CHECK(ends(d.predictions("ne", 2)) == Ends({{7, 1}, {8, 5}}) && d.predictions("ne", 0).empty());
+    CHECK(ends(d.predictions("ne")) == Ends({{7, 3}, {8, 7}, {2, 3}}) && d.predictions("").size() == 4);
+    CHECK(ends(d.predictions("ne", 2)) == Ends({{7, 3}, {8, 7}}) && d.predictions("ne", 0).empty());
     const auto longest = d.longest_match("networks");
     CHECK(longest && longest->value == 8 && longest->length == 7 && !d.longest_match("ten"));
     CHECK(scanned(d, "no network") == Tokens({{0, 2, CEDAR_MAX_VALUE}, {3, 3, 7}, {3, 7, 8}}) && scanned(d, "").empty());
@@ -154,7 +154,7 @@ void many_answers() {
     CHECK(scanned(d, text) == all && segmented(d, text + "b") == Tokens({{0, 600, 600}, {600, 1, std::nullopt}}));
     CHECK(d.prefixes(text).size() == 600 && d.prefixes(text).back().length == 600 && d.longest_match(text)->length == 600);
     CHECK(d.predictions("a").size() == 600 && d.predictions("a", 100).size() == 100 && d.predictions("a", 100).back().value == 100);
-    CHECK(d.predictions("a", 1000).back().length == 599);
+    CHECK(d.predictions("a", 1000).back().length == 600);
 }
 
 void settings_and_sorted_pairs(layout kind) {
@@ -354,7 +354,7 @@ void same_walks(const dictionary &d, const Plain &plain, const std::string &text
         if (held != plain.end()) fronts.emplace_back(held->second, length);
     }
     for (auto held = plain.lower_bound(text); held != plain.end() && held->first.compare(0, text.size(), text) == 0; ++held) {
-        behind.emplace_back(held->second, held->first.size() - text.size());
+        behind.emplace_back(held->second, held->first.size());
         under.push_back(*held);
     }
     CHECK(ends(d.prefixes(text)) == fronts && ends(d.predictions(text)) == behind && listed(d.entries_with_prefix(text)) == under);

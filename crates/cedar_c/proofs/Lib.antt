@@ -1,5 +1,6 @@
 pub mod ClosedLemmas
 pub mod FileLemmas
+pub mod LengthLemmas
 pub mod LoanLemmas
 pub mod MatchLemmas
 pub mod HeldValues

@@ -5,7 +5,8 @@ use Rattle.std.proofs.lemmas.List.{append_assoc, drop-drop, length-drop, take_al
 use Rattle.cedar_tree.specs.Tree.{Tree, number_at}
 use Rattle.cedar_tree.specs.Queries.{front}
 use Rattle.cedar_words.specs.Words.{longest, len_of, found_number}
-use Rattle.cedar_c.specs.Scans.{Fit, spot, spots_from, token_spot, tokens_from}
+use Rattle.cedar_c.specs.Matches.{Fit}
+use Rattle.cedar_c.specs.Scans.{spot, spots_from, token_spot, tokens_from}
 use Rattle.cedar_c.specs.declared.scans.Found.{Found}
 use Rattle.cedar_words.proofs.TokenLemmas.{tokens_step}
 
@@ -41,16 +42,16 @@ token_first t place text found h is =
 
 -- the fronts of a text have no more bytes than it
 fit_range : (t : Tree) (q : List ℕ) (n a : ℕ) → a + n < 2 ^ 64
-    → Fit (filter_map (λ k. option_map (λ (v : ℤ). (v, k)) (number_at t (take (k + 1) q))) (range_with_len a n))
+    → Fit 1 (filter_map (λ k. option_map (λ (v : ℤ). (v, k)) (number_at t (take (k + 1) q))) (range_with_len a n))
 fit_range t q zero a h = tt
 fit_range t q (suc n) a h =
     let later = fit_range t q n (a + 1) (omega (arith, h)) in
-    (elim (number_at t (take (a + 1) q)) as (λ o. Fit (cons_option (option_map (λ (v : ℤ). (v, a)) o) (filter_map (λ k. option_map (λ (v : ℤ). (v, k)) (number_at t (take (k + 1) q))) (range_with_len (a + 1) n)))) [
+    (elim (number_at t (take (a + 1) q)) as (λ o. Fit 1 (cons_option (option_map (λ (v : ℤ). (v, a)) o) (filter_map (λ k. option_map (λ (v : ℤ). (v, k)) (number_at t (take (k + 1) q))) (range_with_len (a + 1) n)))) [
       | None ↦ later
       | Some v ↦ (omega (arith, h), later)
     ])
 
-pub fronts_are_short : (t : Tree) (q : List ℕ) → length q < 2 ^ 64 → Fit (front t q)
+pub fronts_are_short : (t : Tree) (q : List ℕ) → length q < 2 ^ 64 → Fit 1 (front t q)
 fronts_are_short t q h = fit_range t q (length q) 0 (omega (arith, h))
 
 -- the rest of a text as a slice of it

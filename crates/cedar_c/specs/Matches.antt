@@ -1,6 +1,29 @@
 -- What a walk writes into a buffer.
-use Rattle.std.specs.Prelude.{ℕ, ℤ, List, [], ◌∷◌}
+use Rattle.std.specs.Prelude.{ℕ, ◌+◌, ◌<◌, ◌^◌, ℤ, List, [], ◌∷◌, length, map, filter, nat_eq}
+use Rattle.std.specs.List.{starts_with}
+use Rattle.cedar_tree.specs.Tree.{Tree}
+use Rattle.cedar_tree.specs.Queries.{front, walk}
 use Rattle.cedar_c.specs.declared.walks.Match.{Match}
+
+-- a number and a length; `found` has one that lacks some bytes
+abbrev pub longer : ℕ → ℤ × ℕ → ℤ × ℕ
+longer more found = (found.0, found.1 + more)
+
+abbrev pub lengthened : ℕ → List (ℤ × ℕ) → List (ℤ × ℕ)
+lengthened more found = map (longer more) found
+
+-- these lengths are numbers of 64 bits
+abbrev pub Fit : ℕ → List (ℤ × ℕ) → Type 0
+Fit more [] = Unit {0}
+Fit more (f ∷ fs) = (f.1 + more < 2 ^ 64) × Fit more fs
+
+-- the keys that a text begins with, the shortest first: number and length
+abbrev pub front_keys : Tree → List ℕ → List (ℤ × ℕ)
+front_keys t text = lengthened 1 (front t text)
+
+-- the keys that begin with a text, in the order of the walk: number and length
+abbrev pub predicted_keys : Tree → List ℕ → List (ℤ × ℕ)
+predicted_keys t text = map (λ e. (e.1, length e.0)) (filter (λ e. starts_with nat_eq e.0 text) (walk t))
 
 abbrev pub match_of : ℤ × ℕ → Match
 match_of found = record { value = found.0; length = found.1 }

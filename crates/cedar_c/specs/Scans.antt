@@ -1,5 +1,5 @@
 -- What a text has at all of its places, written into a buffer.
-use Rattle.std.specs.Prelude.{ℕ, ◌+◌, ◌<◌, ◌^◌, ℤ, negsuc, List, [], ◌∷◌, ◌++◌, map, Option, Some, None}
+use Rattle.std.specs.Prelude.{ℕ, ◌+◌, ℤ, negsuc, List, [], ◌∷◌, ◌++◌, map, Option, Some, None}
 use Rattle.cedar_tree.specs.Tree.{Tree}
 use Rattle.cedar_tree.specs.Queries.{front}
 use Rattle.cedar_words.specs.Words.{Token, tokens_behind}
@@ -8,11 +8,6 @@ use Rattle.cedar_c.specs.declared.scans.Found.{Found}
 -- a key that was found at a place
 abbrev pub spot : ℕ → ℤ × ℕ → Found
 spot place found = record { place = place; length = found.1 + 1; value = found.0 }
-
--- their lengths are numbers of 64 bits
-abbrev pub Fit : List (ℤ × ℕ) → Type 0
-Fit [] = Unit {0}
-Fit (f ∷ fs) = (f.1 + 1 < 2 ^ 64) × Fit fs
 
 -- the keys that stand in a text, of which these bytes are left from a place on: place after place, at each the shortest first
 abbrev pub spots_from : Tree → ℕ → List ℕ → List Found

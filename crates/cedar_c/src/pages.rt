@@ -3,7 +3,7 @@
 ghost use Rattle.std.specs.Prelude.{◌≡◌, ◌+◌, ◌<◌, ◌^◌, [], length, take, drop, IsTrue, false};
 ghost use Rattle.cedarwood.specs.Queries.{front, predict};
 ghost use Rattle.cedar_c.specs.Layouts.{dictionary_in};
-ghost use Rattle.cedar_c.specs.Matches.{filled_matches};
+ghost use Rattle.cedar_c.specs.Matches.{Fit, filled_matches, front_keys, lengthened, predicted_keys};
 ghost use Rattle.cedar_c.specs.Readings.{shown_tree};
 
 use crate::any::AnyCedar;
@@ -27,33 +27,36 @@ fn pass<F: Finds>(walk: &mut F, count: usize) -> bool
     true
 }
 
-/// Writes what a walk finds into the places of a buffer, till it is full or nothing is left, and says how many it wrote.
-fn fill_page<F: Finds>(walk: &mut F, matches: &mut [Match]) -> usize
+/// Writes what a walk finds into the places of a buffer, till it is full or nothing is left, and says how many it wrote. Each key has
+/// `more` bytes than the walk tells of it.
+fn fill_page<F: Finds>(walk: &mut F, more: usize, matches: &mut [Match]) -> usize
+    requires { Fit more (F.left walk.old) }
     ensures count { result ≡ length (take (length matches.old) (F.left walk.old)) }
-    ensures filled { matches.new ≡ filled_matches matches.old (F.left walk.old) }
+    ensures filled { matches.new ≡ filled_matches matches.old (lengthened more (F.left walk.old)) }
 {
     let mut count = 0;
     while count < matches.len() {
         let Some(found) = walk.next_found() else {
             return count;
         };
-        put_at(matches, count, found);
+        put_at(matches, count, found, more);
         count += 1;
     }
     count
 }
 
 /// Writes what a walk finds from a place of it on, as far as there is room, which is then the place to go on at.
-fn go_on<F: Finds>(walk: &mut F, next: &mut usize, matches: &mut [Match]) -> usize
-    requires { length (F.left walk.old) < 2 ^ 64 }
+fn go_on<F: Finds>(walk: &mut F, more: usize, next: &mut usize, matches: &mut [Match]) -> usize
+    requires count { length (F.left walk.old) < 2 ^ 64 }
+    requires fit { Fit more (F.left walk.old) }
     ensures count { result ≡ length (take (length matches.old) (drop next.old (F.left walk.old))) }
-    ensures filled { matches.new ≡ filled_matches matches.old (drop next.old (F.left walk.old)) }
+    ensures filled { matches.new ≡ filled_matches matches.old (lengthened more (drop next.old (F.left walk.old))) }
     ensures next { next.new ≡ next.old + result }
 {
     if !pass(walk, *next) {
         return 0;
     }
-    let count = fill_page(walk, matches);
+    let count = fill_page(walk, more, matches);
     *next += count;
     count
 }
@@ -66,10 +69,11 @@ fn go_on_prefixes<L: Layout, const SLOTS: usize>(
     matches: &mut [Match],
 ) -> usize
     ensures count { result ≡ length (take (length matches.old) (drop next.old (front trie.now.state.tree text.now))) }
-    ensures filled { matches.new ≡ filled_matches matches.old (drop next.old (front trie.now.state.tree text.now)) }
+    ensures filled { matches.new ≡ filled_matches matches.old (drop next.old (front_keys trie.now.state.tree text.now)) }
     ensures next { next.new ≡ next.old + result }
 {
-    go_on(&mut trie.common_prefix_iter_bytes(text), next, matches)
+    // A walk tells the place of a key's last byte.
+    go_on(&mut trie.common_prefix_iter_bytes(text), 1, next, matches)
 }
 
 /// Writes the keys that begin with a text from a place of the walk on.
@@ -80,13 +84,15 @@ fn go_on_predictions<L: Layout, const SLOTS: usize>(
     matches: &mut [Match],
 ) -> usize
     ensures count { result ≡ length (take (length matches.old) (drop next.old (predict trie.now.state.tree text.now))) }
-    ensures filled { matches.new ≡ filled_matches matches.old (drop next.old (predict trie.now.state.tree text.now)) }
+    ensures filled { matches.new ≡ filled_matches matches.old (drop next.old (predicted_keys trie.now.state.tree text.now)) }
     ensures next { next.new ≡ next.old + result }
 {
-    // There are no more of them than keys.
+    // There are no more of them than keys, and no key has more bytes than there are slots.
     let _ = trie.len();
+    let _ = trie.used_node_slots();
     go_on(
         &mut trie.common_prefix_predict_iter_bytes(text),
+        text.len(),
         next,
         matches,
     )
@@ -95,7 +101,7 @@ fn go_on_predictions<L: Layout, const SLOTS: usize>(
 impl AnyCedar {
     fn prefixes_from(&self, text: &[u8], next: &mut usize, matches: &mut [Match]) -> usize
         ensures count { result ≡ length (take (length matches.old) (drop next.old (front (dictionary_in self.now).state.tree text.now))) }
-        ensures filled { matches.new ≡ filled_matches matches.old (drop next.old (front (dictionary_in self.now).state.tree text.now)) }
+        ensures filled { matches.new ≡ filled_matches matches.old (drop next.old (front_keys (dictionary_in self.now).state.tree text.now)) }
         ensures next { next.new ≡ next.old + result }
     {
         match self {
@@ -106,7 +112,7 @@ impl AnyCedar {
 
     fn predictions_from(&self, text: &[u8], next: &mut usize, matches: &mut [Match]) -> usize
         ensures count { result ≡ length (take (length matches.old) (drop next.old (predict (dictionary_in self.now).state.tree text.now))) }
-        ensures filled { matches.new ≡ filled_matches matches.old (drop next.old (predict (dictionary_in self.now).state.tree text.now)) }
+        ensures filled { matches.new ≡ filled_matches matches.old (drop next.old (predicted_keys (dictionary_in self.now).state.tree text.now)) }
         ensures next { next.new ≡ next.old + result }
     {
         match self {
@@ -124,10 +130,10 @@ pub extern "C" fn cedar_prefixes_from(
     next: &mut usize,
     matches: &mut [Match],
 ) -> usize
-    //= A walk in pieces writes what `front` or `predict` has behind the first `next`, as far as there are places, leaves the others,
-    //  answers how many it wrote and adds that to `next`. [with filled, next; also cedar_predictions_from]
+    //= A walk in pieces writes what such a walk has behind the first `next`, as far as there are places, leaves the others, answers how
+    //  many it wrote and adds that to `next`. [with filled, next; also cedar_predictions_from]
     ensures count { result ≡ length (take (length matches.old) (drop next.old (front (shown_tree handle.old) text.now))) }
-    ensures filled { matches.new ≡ filled_matches matches.old (drop next.old (front (shown_tree handle.old) text.now)) }
+    ensures filled { matches.new ≡ filled_matches matches.old (drop next.old (front_keys (shown_tree handle.old) text.now)) }
     ensures next { next.new ≡ next.old + result }
     ensures kept { handle.new ≡ handle.old }
 {
@@ -150,7 +156,7 @@ pub extern "C" fn cedar_predictions_from(
     matches: &mut [Match],
 ) -> usize
     ensures count { result ≡ length (take (length matches.old) (drop next.old (predict (shown_tree handle.old) text.now))) }
-    ensures filled { matches.new ≡ filled_matches matches.old (drop next.old (predict (shown_tree handle.old) text.now)) }
+    ensures filled { matches.new ≡ filled_matches matches.old (drop next.old (predicted_keys (shown_tree handle.old) text.now)) }
     ensures next { next.new ≡ next.old + result }
     ensures kept { handle.new ≡ handle.old }
 {

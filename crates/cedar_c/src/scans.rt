@@ -3,8 +3,9 @@
 ghost use Rattle.std.specs.Prelude.{◌≡◌, ◌⊎◌, ℕ, ℤ, List, ◌∷◌, ◌++◌, ◌+◌, ◌<◌, ◌≤◌, ◌^◌, [], length, map, take, drop, set, None, IfSome, IsSome};
 ghost use Rattle.cedar_tree.specs.Queries.{front};
 ghost use Rattle.cedar_c.specs.Layouts.{dictionary_in};
+ghost use Rattle.cedar_c.specs.Matches.{Fit};
 ghost use Rattle.cedar_c.specs.Readings.{shown_in, shown_tree};
-ghost use Rattle.cedar_c.specs.Scans.{Fit, spot, spots_from, tokens_from};
+ghost use Rattle.cedar_c.specs.Scans.{spot, spots_from, tokens_from};
 
 use crate::any::AnyCedar;
 use crate::reading::Reading;
@@ -69,7 +70,7 @@ impl<L: Layout, const SLOTS: usize, A: Allocator + Copy> Scanned for Trie<L, SLO
 /// Writes what a walk finds behind the first `count` places.
 fn tell<F: Finds>(walk: &mut F, place: usize, found: &mut [Found], count: usize) -> Option<usize>
     requires room { count ≤ length found.old }
-    requires fit { Fit (F.left walk.old) }
+    requires fit { Fit 1 (F.left walk.old) }
     ensures told { IfSome result (λ n. take n found.new ≡ take count found.old ++ map (spot place) (F.left walk.old)) }
     ensures within { IfSome result (λ n. (n ≤ length found.new) × (count ≤ n)) }
     ensures no_room { result ≡ None → (length found.new < count + length (F.left walk.old)) × (take count found.new ≡ take count found.old) }

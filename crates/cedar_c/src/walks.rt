@@ -3,7 +3,7 @@
 ghost use Rattle.std.specs.Prelude.{◌≡◌, ℕ, ℤ, List, ◌∷◌, ◌++◌, ◌+◌, ◌<◌, ◌^◌, length, take, drop};
 ghost use Rattle.cedarwood.specs.Queries.{front, predict};
 ghost use Rattle.cedar_c.specs.Layouts.{dictionary_in};
-ghost use Rattle.cedar_c.specs.Matches.{filled_matches};
+ghost use Rattle.cedar_c.specs.Matches.{Fit, filled_matches, front_keys, lengthened, longer, predicted_keys};
 ghost use Rattle.cedar_c.specs.Readings.{shown_tree};
 
 use crate::any::AnyCedar;
@@ -11,7 +11,7 @@ use crate::reading::Reading;
 use cedarwood::{Layout, PrefixIter, PrefixPredictIter, Trie, Walked};
 use std::alloc::Global;
 
-/// A key that a walk found: its value, and the number of bytes that the walk tells of it.
+/// A key that a walk found: its value, and how many bytes it has.
 #[repr(C)]
 #[derive(Clone, Copy)]
 pub struct Match {
@@ -47,28 +47,31 @@ impl<'a, T: Walked> Finds for PrefixPredictIter<'a, T> {
     }
 }
 
-/// Writes what a walk finds into the first places, as far as there are any, and says how many it found.
-fn fill<F: Finds>(walk: &mut F, matches: &mut [Match]) -> usize
-    requires { length (F.left walk.old) < 2 ^ 64 }
+/// Writes what a walk finds into the first places, as far as there are any, and says how many it found. Each key has `more` bytes
+/// than the walk tells of it.
+fn fill<F: Finds>(walk: &mut F, more: usize, matches: &mut [Match]) -> usize
+    requires count { length (F.left walk.old) < 2 ^ 64 }
+    requires fit { Fit more (F.left walk.old) }
     ensures count { result ≡ length (F.left walk.old) }
-    ensures filled { matches.new ≡ filled_matches matches.old (F.left walk.old) }
+    ensures filled { matches.new ≡ filled_matches matches.old (lengthened more (F.left walk.old)) }
 {
     let mut count = 0;
     while let Some(found) = walk.next_found() {
-        put_at(matches, count, found);
+        put_at(matches, count, found, more);
         count += 1;
     }
     count
 }
 
-/// Writes what was found at a place, if there is this place.
-pub(crate) fn put_at(matches: &mut [Match], place: usize, found: (i32, usize))
-    ensures { (rest : List (ℤ × ℕ)) → take (place + 1) matches.new ++ filled_matches (drop (place + 1) matches.new) rest ≡ take place matches.old ++ filled_matches (drop place matches.old) (found ∷ rest) }
+/// Writes what was found, and has `more` bytes than that, at a place, if there is this place.
+pub(crate) fn put_at(matches: &mut [Match], place: usize, found: (i32, usize), more: usize)
+    requires { found.1 + more < 2 ^ 64 }
+    ensures { (rest : List (ℤ × ℕ)) → take (place + 1) matches.new ++ filled_matches (drop (place + 1) matches.new) rest ≡ take place matches.old ++ filled_matches (drop place matches.old) (longer more found ∷ rest) }
 {
     if place < matches.len() {
         matches[place] = Match {
             value: found.0,
-            length: found.1,
+            length: found.1 + more,
         };
     }
 }
@@ -80,9 +83,10 @@ fn fill_prefixes<L: Layout, const SLOTS: usize>(
     matches: &mut [Match],
 ) -> usize
     ensures count { result ≡ length (front trie.now.state.tree text.now) }
-    ensures filled { matches.new ≡ filled_matches matches.old (front trie.now.state.tree text.now) }
+    ensures filled { matches.new ≡ filled_matches matches.old (front_keys trie.now.state.tree text.now) }
 {
-    fill(&mut trie.common_prefix_iter_bytes(text), matches)
+    // A walk tells the place of a key's last byte.
+    fill(&mut trie.common_prefix_iter_bytes(text), 1, matches)
 }
 
 /// Writes the keys that begin with a text, and says how many there are.
@@ -92,17 +96,22 @@ fn fill_predictions<L: Layout, const SLOTS: usize>(
     matches: &mut [Match],
 ) -> usize
     ensures count { result ≡ length (predict trie.now.state.tree text.now) }
-    ensures filled { matches.new ≡ filled_matches matches.old (predict trie.now.state.tree text.now) }
+    ensures filled { matches.new ≡ filled_matches matches.old (predicted_keys trie.now.state.tree text.now) }
 {
-    // There are no more of them than keys.
+    // There are no more of them than keys, and no key has more bytes than there are slots.
     let _ = trie.len();
-    fill(&mut trie.common_prefix_predict_iter_bytes(text), matches)
+    let _ = trie.used_node_slots();
+    fill(
+        &mut trie.common_prefix_predict_iter_bytes(text),
+        text.len(),
+        matches,
+    )
 }
 
 impl AnyCedar {
     fn prefixes(&self, text: &[u8], matches: &mut [Match]) -> usize
         ensures count { result ≡ length (front (dictionary_in self.now).state.tree text.now) }
-        ensures filled { matches.new ≡ filled_matches matches.old (front (dictionary_in self.now).state.tree text.now) }
+        ensures filled { matches.new ≡ filled_matches matches.old (front_keys (dictionary_in self.now).state.tree text.now) }
     {
         match self {
             AnyCedar::Default(cedar) => fill_prefixes(cedar, text, matches),
@@ -112,7 +121,7 @@ impl AnyCedar {
 
     fn predictions(&self, text: &[u8], matches: &mut [Match]) -> usize
         ensures count { result ≡ length (predict (dictionary_in self.now).state.tree text.now) }
-        ensures filled { matches.new ≡ filled_matches matches.old (predict (dictionary_in self.now).state.tree text.now) }
+        ensures filled { matches.new ≡ filled_matches matches.old (predicted_keys (dictionary_in self.now).state.tree text.now) }
     {
         match self {
             AnyCedar::Default(cedar) => fill_predictions(cedar, text, matches),
@@ -122,13 +131,14 @@ impl AnyCedar {
 }
 
 /// Writes the held fronts of a text into the first places of a buffer, shortest first, as many as there is room for, and says
-/// how many the text has: for each the value, and one less than its bytes. It is one walk.
+/// how many the text has: for each the value and the length. It is one walk.
 #[unsafe(no_mangle)]
 pub extern "C" fn cedar_prefixes(handle: &mut Reading, text: &[u8], matches: &mut [Match]) -> usize
-    //= A walk writes `front` or `predict` of the tree into the first places of a buffer, as far as there are places, leaves the others, and
-    //  answers how many there are. [with filled; also cedar_predictions]
+    //= A walk writes the number and the length of each key that a text begins with, or of each key that begins with it, into the first
+    //  places of a buffer, as far as there are places, leaves the others, and answers how many there are (`front`, `predict`). [with
+    //  filled; also cedar_predictions; by front_keys, predicted_keys]
     ensures count { result ≡ length (front (shown_tree handle.old) text.now) }
-    ensures filled { matches.new ≡ filled_matches matches.old (front (shown_tree handle.old) text.now) }
+    ensures filled { matches.new ≡ filled_matches matches.old (front_keys (shown_tree handle.old) text.now) }
     ensures kept { handle.new ≡ handle.old }
 {
     if !handle.is_open() {
@@ -138,7 +148,7 @@ pub extern "C" fn cedar_prefixes(handle: &mut Reading, text: &[u8], matches: &mu
 }
 
 /// Writes the keys that begin with a text into the first places of a buffer, in the order of the walk, as many as there is room
-/// for, and says how many there are: for each the value, and how many bytes follow the text. It is one walk.
+/// for, and says how many there are: for each the value, and the length of the whole key. It is one walk.
 #[unsafe(no_mangle)]
 pub extern "C" fn cedar_predictions(
     handle: &mut Reading,
@@ -146,7 +156,7 @@ pub extern "C" fn cedar_predictions(
     matches: &mut [Match],
 ) -> usize
     ensures count { result ≡ length (predict (shown_tree handle.old) text.now) }
-    ensures filled { matches.new ≡ filled_matches matches.old (predict (shown_tree handle.old) text.now) }
+    ensures filled { matches.new ≡ filled_matches matches.old (predicted_keys (shown_tree handle.old) text.now) }
     ensures kept { handle.new ≡ handle.old }
 {
     if !handle.is_open() {

@@ -1,5 +1,6 @@
 use Rattle.std.proofs.Common.{rules, ◌≡◌, [], None, ap}
 use Rattle.cedarwood.specs.Queries.{predict}
+use Rattle.cedar_c.specs.Matches.{predicted_keys}
 use Rattle.cedar_c.specs.Readings.{shown_in, shown_tree}
 use Rattle.cedar_c.proofs.ClosedLemmas.{closed_is_empty}
 use Rattle.cedar_c.proofs.MatchLemmas.{nothing_told}
@@ -15,6 +16,6 @@ returns-then-not-is_open-clause-count c =
 pub returns-then-not-is_open-clause-filled : goal.returns-then-not-is_open-clause-filled
 returns-then-not-is_open-clause-filled c =
     let closed : shown_in c.args.handle.now ≡ None = search rules in
-    let all = predict (shown_tree c.args.handle.now) c.args.text.now in
-    let none : all ≡ [] = ap (λ t. predict t c.args.text.now) (closed_is_empty (shown_in c.args.handle.now) closed) in
+    let all = predicted_keys (shown_tree c.args.handle.now) c.args.text.now in
+    let none : all ≡ [] = ap (λ t. predicted_keys t c.args.text.now) (closed_is_empty (shown_in c.args.handle.now) closed) in
     (nothing_told c.args.matches.now c.args.next.now all none).1

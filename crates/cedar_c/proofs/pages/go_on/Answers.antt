@@ -1,9 +1,14 @@
-use Rattle.std.proofs.Common.{◌∙◌, ap, sym}
-use Rattle.cedar_c.specs.Matches.{filled_matches}
+use Rattle.std.proofs.Common.{◌∙◌, ap, sym, subst}
+use Rattle.cedar_c.specs.Matches.{Fit, filled_matches, lengthened}
+use Rattle.cedar_c.proofs.LengthLemmas.{fit_drop}
 use Rattle.cedar_c.proofs.MatchLemmas.{nothing_filled}
 use Rattle.cedar_c.proofs.pages.go_on.Goals as goal
+
+pub fill_page-requires : goal.fill_page-requires
+fill_page-requires g c =
+    subst (Fit c.args.more) (sym (c.pass.ensures.passed c.if-not-pass.false)) (fit_drop c.args.more c.args.next.now (g.F.Finds.left c.args.walk.now) c.requires.fit)
 
 pub returns-then-not-pass-clause-filled : goal.returns-then-not-pass-clause-filled
 returns-then-not-pass-clause-filled g c =
     let matches = c.args.matches.now in
-    sym (ap (filled_matches matches) (c.pass.ensures.ended c.if-not-pass.true) ∙ nothing_filled matches)
+    sym (ap (λ l. filled_matches matches (lengthened c.args.more l)) (c.pass.ensures.ended c.if-not-pass.true) ∙ nothing_filled matches)

@@ -1,12 +1,13 @@
 use Rattle.std.proofs.Common.{rules, ◌≡◌, ◌<◌, ◌+◌, ◌^◌, ◌++◌, IfSome, List, ℕ, ℤ, None, length, map, subst, sym, take}
-use Rattle.cedar_c.specs.Scans.{Fit, spot}
+use Rattle.cedar_c.specs.Matches.{Fit}
+use Rattle.cedar_c.specs.Scans.{spot}
 use Rattle.cedar_c.proofs.ScanLemmas.{fronts_are_short}
 use Rattle.cedar_c.proofs.scans.TrieScanned.tell_fronts.Goals as goal
 
 pub tell-requires-clause-fit : goal.tell-requires-clause-fit
 tell-requires-clause-fit g c =
     let short : length c.args.text.now < 2 ^ 64 = search rules in
-    subst Fit (sym c.common_prefix_iter_bytes.ensures.rest) (fronts_are_short c.args.self.now.state.tree c.args.text.now short)
+    subst (Fit 1) (sym c.common_prefix_iter_bytes.ensures.rest) (fronts_are_short c.args.self.now.state.tree c.args.text.now short)
 
 pub returns-clause-told : goal.returns-clause-told
 returns-clause-told g c =
