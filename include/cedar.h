@@ -88,7 +88,7 @@ enum {
     CEDAR_FILE_MEMORY_LIMIT = 26,  /* it asks for more than the limit that was given */
     CEDAR_FILE_CORRUPT = 27,       /* the table is not well-formed */
     CEDAR_FILE_TRAILING = 28,      /* something follows the table */
-    CEDAR_FILE_UNREAD = 29         /* the reading failed: never answered, since a load reads memory */
+    CEDAR_FILE_UNREAD = 29         /* a call on a file failed: answered by cedar_load_file and cedar_save_file alone */
 };
 
 /* Opens *d with an empty dictionary, in the place of the one that it has, if it is open. CEDAR_OK or CEDAR_MEMORY; then *d
@@ -273,6 +273,27 @@ CEDAR_INLINE uint32_t cedar_nullable_keys(const cedar_dictionary *d, uint8_t *bu
 #define cedar_build cedar_nullable_build
 #define cedar_build_reduced cedar_nullable_build_reduced
 #define cedar_keys cedar_nullable_keys
+
+/* Files by their paths, and the version. This block is C beside the proved library: tested, and not proved. */
+
+/* The version of this header, and that of the library, which a program may compare with it. */
+#define CEDAR_VERSION_MAJOR 0
+#define CEDAR_VERSION_MINOR 1
+#define CEDAR_VERSION_PATCH 0
+#define CEDAR_VERSION "0.1.0"
+const char *cedar_version(void);
+
+/* As cedar_load, of the file at a path, of either layout. It reads at most 89 bytes more than memory_limit, so that a file that doesn't
+ * end is refused. Also CEDAR_FILE_UNREAD where a call on the file failed: errno has its number. It asks for memory for the file's bytes
+ * besides. A path ends with a byte 0. */
+uint32_t cedar_load_file(cedar_dictionary *d, const char *path, size_t memory_limit);
+
+/* Puts the file of *d, as cedar_save makes it, in the place of the one at a path. It is written beside that, to the path with `.new` behind
+ * it, with the old file's mode, and renamed once it is whole and on the disk: so after an error the old file is as it was, and no new one
+ * is left if it could be removed. A file of that name that was there is lost. A symbolic link is replaced by the file. Where the path leads
+ * to a pipe or a device, that is written to as it is. CEDAR_OK, CEDAR_IS_CLOSED, CEDAR_MEMORY, or CEDAR_FILE_UNREAD where a call on a file
+ * failed: errno has its number. */
+uint32_t cedar_save_file(cedar_dictionary *d, bool is_full, const char *path);
 
 #ifdef __cplusplus
 }

@@ -1,4 +1,5 @@
-"""Compares the declarations of the header with the exports of the sources, and both with what the shared object has.
+"""Compares the declarations of the header with the exports of the sources, and both with what the shared object has. Arguments: the
+header, the folder of the proved sources, that of the C beside them, and the shared object.
 
 An export's C form: each `&mut T` and `*mut T` is a pointer, `&[T]` a pointer to constant T and a length, `&mut [T]` a pointer and a
 length, and a `Global` takes no room, so that C doesn't pass it. A `&mut Reading`, whose call leaves it as it was, is a pointer to a
@@ -48,18 +49,21 @@ def exported(sources):
     return found
 
 
-def declared(header):
-    """The same of the header, whose parameters have names."""
-    text = re.sub(r"/\*.*?\*/", "", Path(header).read_text(), flags=re.S)
+def in_c(path, behind):
+    """The same of C, whose parameters have names. `behind` stands behind each: `;` behind a declaration, ` {` behind a definition."""
+    text = re.sub(r"/\*.*?\*/", "", Path(path).read_text(), flags=re.S)
     found = {}
-    for answer, name, inside in re.findall(r"^(\w+) (cedar_\w+)\(([^)]*)\);", text, flags=re.M | re.S):
-        kinds = [re.fullmatch(r"((?:const )?\w+ \*?)\w+", " ".join(one.split()))[1].strip() for one in inside.split(",")]
-        found[name] = [answer] + kinds
+    for answer, name, inside in re.findall(r"^((?:const )?\w+ \*?)(cedar_\w+)\(([^)]*)\)" + behind, text, flags=re.M | re.S):
+        parameters = [" ".join(one.split()) for one in inside.split(",") if one != "void"]
+        kinds = [re.fullmatch(r"((?:const )?\w+ \*?)\w+", one)[1].strip() for one in parameters]
+        found[name] = [answer.strip()] + kinds
     return found
 
 
-def main(header, sources, library):
-    wanted, has = exported(sources), declared(header)
+def main(header, sources, beside, library):
+    wanted, has = exported(sources), in_c(header, ";")
+    for source in sorted(Path(beside).glob("*.c")):
+        wanted.update(in_c(source, r" \{"))
     names = {line.split()[-1] for line in subprocess.check_output(["nm", "-D", "--defined-only", library], text=True).splitlines()}
     faults = [f"{name}: the export is {wanted.get(name)}, the header has {has.get(name)}" for name in wanted.keys() | has.keys() if wanted.get(name) != has.get(name)]
     faults += [f"{name} isn't in {library}" for name in wanted if name not in names]
