@@ -26,6 +26,7 @@ def check_calls(text: bool, reduced: bool) -> None:
     assert Cedar.load(made.to_bytes(), text=text) == plain
     for prefix in [key[:length] for key in list(plain)[:100] for length in (1, 2, 3)]:
         assert list(made.keys(prefix)) == sorted(key for key in plain if key.startswith(prefix)), prefix
+        assert list(made.irange(prefix, prefix + prefix)) == sorted(key for key in plain if prefix <= key < prefix + prefix), prefix
 
 
 def check_examples() -> int:

@@ -7,7 +7,7 @@ from typing import Any, Iterable, Iterator, Literal, Mapping, MutableMapping, Na
 
 from . import _core
 from .files import Source, Target, read_all, write_all
-from .views import Items, Keys, Values
+from .views import KEYS, Items, Keys, Values
 
 K = TypeVar("K", bytes, str)
 Self = TypeVar("Self", bound="Cedar[Any]")
@@ -156,6 +156,14 @@ class Cedar(_core.Core[K], MutableMapping[K, int]):
         [(b'ten', 9)]
         """
         return Items(self, prefix)
+
+    def irange(self, low: Optional[K] = None, high: Optional[K] = None) -> Iterator[K]:
+        """Returns an iterator over the keys from `low` on and before `high`, ascending by bytes. None is no bound.
+
+        >>> list(Cedar({b"net": 7, b"nets": 8, b"ten": 9}).irange(b"nets"))
+        [b'nets', b'ten']
+        """
+        return self._range(low, high, KEYS)
 
     def copy(self: Self) -> Self:
         """Returns an equal dictionary, with the same settings.

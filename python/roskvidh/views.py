@@ -7,7 +7,7 @@ if TYPE_CHECKING:
 
 K = TypeVar("K", bytes, str)
 
-_KEYS, _VALUES, _ITEMS = range(3)
+KEYS, _VALUES, _ITEMS = range(3)
 
 
 class _View(Generic[K]):
@@ -39,7 +39,7 @@ class Keys(_View[K], KeysView[K]):
     """The keys."""
 
     __slots__ = ("_prefix",)
-    _kind = _KEYS
+    _kind = KEYS
 
     def __contains__(self, key: object) -> bool:
         return key in self._mapping and self._has_prefix(key)

@@ -98,6 +98,7 @@ typedef struct Gathered {
 void gathered_free(Gathered *gathered);
 bool gather_all(const cedar *dictionary, Gathered *gathered);
 bool gather_below(const cedar *dictionary, const Span *prefix, bool is_ordered, Gathered *gathered);
+bool gather_between(const cedar *dictionary, const Span *low, const Span *high, bool is_ordered, Gathered *gathered);
 bool gather_any(const cedar *dictionary, Gathered *gathered);
 
 /* walks.c: iterations, completions, prefixes. */
@@ -106,6 +107,7 @@ extern PyTypeObject *walk_type;
 enum { WALK_KEYS, WALK_VALUES, WALK_ITEMS };
 PyObject *core_iterate(Core *core);
 PyObject *core_walk(Core *core, PyObject *arguments);
+PyObject *core_range(Core *core, PyObject *arguments);
 PyObject *core_count(Core *core, PyObject *prefix);
 PyObject *core_prefixes(Core *core, PyObject *text);
 PyObject *core_longest_prefix(Core *core, PyObject *text);

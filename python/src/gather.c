@@ -55,11 +55,29 @@ bool gather_all(const cedar *dictionary, Gathered *gathered) {
     return cedar_keys(dictionary, gathered->bytes, size, &gathered->size) == CEDAR_OK;
 }
 
-static void keep_below(const Span *prefix, Gathered *gathered) {
+/* Whether keys below a prefix are wanted, or, where that is NULL, keys from `low` on and before `high`; NULL is no bound. */
+typedef struct Wanted {
+    const Span *prefix;
+    const Span *low;
+    const Span *high;
+} Wanted;
+
+static bool is_below(const uint8_t *key, size_t length, const Span *bound) {
+    int order = memcmp(key, bound->at, length < bound->length ? length : bound->length);
+    return order < 0 || (order == 0 && length < bound->length);
+}
+
+static bool is_wanted(const Wanted *wanted, const uint8_t *key, size_t length) {
+    const Span *prefix = wanted->prefix;
+    if (prefix) return length >= prefix->length && memcmp(key, prefix->at, prefix->length) == 0;
+    return (!wanted->low || !is_below(key, length, wanted->low)) && (!wanted->high || is_below(key, length, wanted->high));
+}
+
+static void keep(const Wanted *wanted, Gathered *gathered) {
     size_t from = 0, size = 0, count = 0;
     for (size_t i = 0; i < gathered->count; i++) {
         cedar_match match = gathered->matches[i];
-        if (match.length >= prefix->length && memcmp(gathered->bytes + from, prefix->at, prefix->length) == 0) {
+        if (is_wanted(wanted, gathered->bytes + from, match.length)) {
             memmove(gathered->bytes + size, gathered->bytes + from, match.length);
             size += match.length;
             gathered->matches[count++] = match;
@@ -100,11 +118,14 @@ static bool sort(Gathered *gathered) {
     return done;
 }
 
-/* A node that has still to be gone to: the length of its path, the path's last byte, and how many keys are below it. */
+/* A node that has still to be gone to: the length of its path, the path's last byte, and how many keys are below it. Of a node whose path a
+ * bound begins with, some of these keys may not be wanted, and their number isn't known. */
 typedef struct Node {
     size_t depth;
     size_t keys;
     uint8_t byte;
+    bool is_on_low;
+    bool is_on_high;
 } Node;
 
 typedef struct Search {
@@ -156,7 +177,7 @@ static bool search_children(Search *search, size_t left) {
         if (!make_room((void **)&search->nodes, &search->places, search->count + 1, sizeof(Node))) return false;
         size_t at = search->count++;
         for (; at > first && search->nodes[at - 1].byte < byte; at--) search->nodes[at] = search->nodes[at - 1];
-        search->nodes[at] = (Node){depth, keys, byte};
+        search->nodes[at] = (Node){depth, keys, byte, false, false};
         left = keys < left ? left - keys : 0;
         memmove(search->likely + 1, search->likely, i);
         search->likely[0] = byte;
@@ -187,15 +208,91 @@ static bool search_below(const cedar *dictionary, const Span *prefix, size_t key
     return done;
 }
 
+/* Takes all keys and leaves out those that aren't wanted. */
+static bool gather_wanted(cedar *dictionary, const Wanted *wanted, bool is_ordered, Gathered *gathered) {
+    if (!gather_all(dictionary, gathered)) return false;
+    keep(wanted, gathered);
+    return is_ordered || sort(gathered);
+}
+
 /* The keys that begin with a prefix, ascending by bytes. False where memory is wanted. */
 bool gather_below(const cedar *dictionary, const Span *prefix, bool is_ordered, Gathered *gathered) {
     cedar_match unused;
     size_t keys = cedar_predictions(dictionary, prefix->at, prefix->length, &unused, 0);
     if (keys == 0) return true;
     if (keys < cedar_len(dictionary) / ALL_FROM_SHARE) return search_below(dictionary, prefix, keys, gathered);
-    if (!gather_all(dictionary, gathered)) return false;
-    keep_below(prefix, gathered);
-    return is_ordered || sort(gathered);
+    return gather_wanted(dictionary, &(Wanted){prefix, NULL, NULL}, is_ordered, gathered);
+}
+
+/* Puts a child of a node on a bound on the list, if there are keys below it. */
+static bool bounded_child(Search *search, Node child, size_t *total) {
+    cedar_match unused;
+    size_t next = 0;
+    search->path[child.depth - 1] = child.byte;
+    if (child.is_on_low || child.is_on_high) {
+        child.keys = cedar_predictions_from(search->dictionary, search->path, child.depth, &next, &unused, 1);
+    } else {
+        child.keys = cedar_predictions(search->dictionary, search->path, child.depth, &unused, 0);
+        *total += child.keys;
+    }
+    if (child.keys == 0) return true;
+    if (!make_room((void **)&search->nodes, &search->places, search->count + 1, sizeof(Node))) return false;
+    search->nodes[search->count++] = child;
+    return true;
+}
+
+/* Goes to a node whose path a bound begins with: tells its key, if that is wanted, and lists its children between the bounds. */
+static bool bounded_node(Search *search, Node node, const Wanted *wanted, size_t *total) {
+    size_t depth = node.depth;
+    bool is_on_low = node.is_on_low && depth < wanted->low->length, is_on_high = node.is_on_high;
+    cedar_match match = {0, depth};
+    if (is_on_high && depth == wanted->high->length) return true;
+    if (!is_on_low && cedar_get(search->dictionary, search->path, depth, &match.value)) {
+        if (!append(search->found, search->path, match)) return false;
+        ++*total;
+    }
+    if (!make_room((void **)&search->path, &search->room, depth + 1, 1)) return false;
+    int first = is_on_low ? wanted->low->at[depth] : 1, last = is_on_high ? wanted->high->at[depth] : BYTES;
+    for (int byte = last; byte >= first; byte--) {
+        Node child = {depth + 1, 0, (uint8_t)byte, is_on_low && byte == first && depth + 1 < wanted->low->length, is_on_high && byte == last};
+        if (!bounded_child(search, child, total)) return false;
+    }
+    return true;
+}
+
+/* Goes through the nodes that stand between the bounds, ascending by bytes, or, where all is false, only through those on a bound; and
+ * counts the keys between them. */
+static bool search_between(Search *search, const Wanted *wanted, bool is_all, size_t *total) {
+    Node root = {0, 0, 0, wanted->low != NULL, wanted->high != NULL};
+    bool done = bounded_node(search, root, wanted, total);
+    while (done && search->count > 0) {
+        Node node = search->nodes[--search->count];
+        search->depth = node.depth;
+        search->path[node.depth - 1] = node.byte;
+        if (node.is_on_low || node.is_on_high) done = bounded_node(search, node, wanted, total);
+        else if (is_all) done = search_node(search, node.keys);
+    }
+    return done;
+}
+
+static bool try_between(cedar *dictionary, const Wanted *wanted, bool is_all, Gathered *gathered, size_t *total) {
+    Search search;
+    Span root = {NULL, NONE, 0};
+    bool done = search_begin(&search, dictionary, &root, gathered) && search_between(&search, wanted, is_all, total);
+    search_end(&search);
+    return done;
+}
+
+/* The keys from `low` on and before `high`, ascending by bytes; NULL is no bound. False where memory is wanted. */
+bool gather_between(cedar *dictionary, const Span *low, const Span *high, bool is_ordered, Gathered *gathered) {
+    Wanted wanted = {NULL, low, high};
+    size_t total = 0, unused = 0;
+    if (low || high) {
+        if (!try_between(dictionary, &wanted, false, gathered, &total)) return false;
+        gathered_free(gathered);
+        if (total < cedar_len(dictionary) / ALL_FROM_SHARE) return try_between(dictionary, &wanted, true, gathered, &unused);
+    }
+    return gather_wanted(dictionary, &wanted, is_ordered, gathered);
 }
 
 /* Some key of a dictionary that isn't empty. */

@@ -137,6 +137,7 @@ static PyMethodDef core_methods[] = {
     {"_dump", (PyCFunction)core_dump, METH_O, NULL},
     {"_update", (PyCFunction)core_update, METH_O, NULL},
     {"_walk", (PyCFunction)core_walk, METH_VARARGS, NULL},
+    {"_range", (PyCFunction)core_range, METH_VARARGS, NULL},
     {"_count", (PyCFunction)core_count, METH_O, NULL},
     {"_figures", (PyCFunction)core_figures, METH_NOARGS, NULL},
     {NULL, NULL, 0, NULL},

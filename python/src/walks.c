@@ -119,16 +119,22 @@ static int walk_fill(Walk *walk, const Span *prefix, bool is_all) {
     return done ? 0 : fail_with(CEDAR_MEMORY);
 }
 
-static PyObject *walk_begin(Core *core, PyObject *given, int kind) {
-    Span prefix;
-    if (prefix_take(core, given, &prefix) < 0) return NULL;
+/* An iteration that has gathered nothing yet. */
+static Walk *walk_make(Core *core, int kind) {
     Walk *walk = (Walk *)PyType_GenericAlloc(walk_type, 0);
     if (walk) {
         Py_INCREF(core);
         walk->core = core;
         walk->kind = kind;
-        if (walk_fill(walk, &prefix, given == Py_None) < 0) Py_CLEAR(walk);
     }
+    return walk;
+}
+
+static PyObject *walk_begin(Core *core, PyObject *given, int kind) {
+    Span prefix;
+    if (prefix_take(core, given, &prefix) < 0) return NULL;
+    Walk *walk = walk_make(core, kind);
+    if (walk && walk_fill(walk, &prefix, given == Py_None) < 0) Py_CLEAR(walk);
     Py_XDECREF(prefix.owner);
     return (PyObject *)walk;
 }
@@ -142,6 +148,33 @@ PyObject *core_walk(Core *core, PyObject *arguments) {
     int kind;
     if (!PyArg_ParseTuple(arguments, "Oi", &prefix, &kind)) return NULL;
     return walk_begin(core, prefix, kind);
+}
+
+static int range_fill(Walk *walk, const Span *low, const Span *high) {
+    Core *core = walk->core;
+    Turn turn;
+    if (core_ready(core) < 0 || turn_begin(core, cedar_len(&core->dictionary) >= LONG_COUNT, &turn) < 0) return -1;
+    bool done = gather_between(&core->dictionary, low, high, core->is_ordered, &walk->gathered);
+    turn_end(&turn);
+    walk->keys_changed = core->keys_changed;
+    walk->values_changed = core->values_changed;
+    return done ? 0 : fail_with(CEDAR_MEMORY);
+}
+
+/* An iteration over the keys from one on and before another; None is no bound. */
+PyObject *core_range(Core *core, PyObject *arguments) {
+    PyObject *from, *to;
+    int kind;
+    Span low = {0}, high = {0};
+    Walk *walk = NULL;
+    if (!PyArg_ParseTuple(arguments, "OOi", &from, &to, &kind)) return NULL;
+    if ((from == Py_None || span_take(core, from, &low) == 0) && (to == Py_None || span_take(core, to, &high) == 0)) {
+        walk = walk_make(core, kind);
+        if (walk && range_fill(walk, low.owner ? &low : NULL, high.owner ? &high : NULL) < 0) Py_CLEAR(walk);
+    }
+    Py_XDECREF(low.owner);
+    Py_XDECREF(high.owner);
+    return (PyObject *)walk;
 }
 
 PyObject *core_count(Core *core, PyObject *given) {

@@ -43,7 +43,8 @@ class Refused(unittest.TestCase):
     def test_reads(self):
         for reduced in (False, True):
             cedar = Cedar(PLAIN, reduced=reduced)
-            for call in (list, Cedar.to_bytes, Cedar.copy, lambda d: list(d.items(b"1")), lambda d: list(d.keys(b"399")), lambda d: d.scan(TEXT), lambda d: d.segment(TEXT)):
+            walks = [list, lambda d: list(d.items(b"1")), lambda d: list(d.keys(b"399")), lambda d: list(d.irange(b"30", b"31")), lambda d: list(d.irange(b"2"))]
+            for call in (*walks, Cedar.to_bytes, Cedar.copy, lambda d: d.scan(TEXT), lambda d: d.segment(TEXT)):
                 self.assertEqual(self.each(lambda: cedar, call, lambda d: d == PLAIN), call(cedar))
 
     def test_changes(self):
