@@ -3,6 +3,7 @@
 import doctest
 import random
 import sys
+from typing import Any, Dict
 
 import roskvidh
 from roskvidh import Cedar, _core, cedar, files, views
@@ -12,10 +13,11 @@ _CALLS = 20_000
 
 def check_calls(text: bool, reduced: bool) -> None:
     """Makes random calls beside a dict, and compares each answer."""
-    chance, made, plain = random.Random(7), Cedar(text=text, reduced=reduced), {}
+    chance, made = random.Random(7), Cedar(text=text, reduced=reduced)
+    plain: Dict[Any, int] = {}
     for number in range(_CALLS):
-        key = "".join(chance.choices("abß", k=chance.randint(1, 7)))
-        key = key if text else key.encode()
+        letters = "".join(chance.choices("abß", k=chance.randint(1, 7)))
+        key: Any = letters if text else letters.encode()
         if chance.random() < 0.4:
             assert made.pop(key, None) == plain.pop(key, None), key
         else:

@@ -26,7 +26,7 @@ class Stats(NamedTuple):
     allocated_bytes: int
 
 
-class Cedar(_core.Core[K], MutableMapping[K, int]):
+class Cedar(_core.Core[K], MutableMapping[K, int]):  # type: ignore[misc]  # setdefault wants a default
     """A mapping from keys to whole numbers from 0 to 2147483645.
 
     A key is a nonempty `bytes` (a `bytearray` or `memoryview` is taken too), or with `text=True` a nonempty `str`; none has a byte 0.
@@ -65,20 +65,45 @@ class Cedar(_core.Core[K], MutableMapping[K, int]):
         max_trial: int = ...,
     ) -> None: ...
 
-    def __init__(self, pairs=(), *, text=False, ordered=True, reduced=False, max_trial=1):
+    @overload
+    def __init__(
+        self: "Cedar[Any]",
+        pairs: Pairs[Any] = ...,
+        *,
+        text: bool,
+        ordered: bool = ...,
+        reduced: bool = ...,
+        max_trial: int = ...,
+    ) -> None: ...
+
+    def __init__(
+        self, pairs: Pairs[Any] = (), *, text: bool = False, ordered: bool = True, reduced: bool = False, max_trial: int = 1
+    ) -> None:
         self._open(text, ordered, reduced, max_trial)
         self.update(pairs)
 
+    @overload
     @classmethod
     def from_sorted(
-        cls: Type[Self],
-        pairs: Pairs[Any],
-        *,
-        text: bool = False,
-        ordered: bool = True,
-        reduced: bool = False,
-        max_trial: int = 1,
-    ) -> Self:
+        cls, pairs: Pairs[bytes], *, text: Literal[False] = ..., ordered: bool = ..., reduced: bool = ..., max_trial: int = ...
+    ) -> "Cedar[bytes]": ...
+
+    @overload
+    @classmethod
+    def from_sorted(
+        cls, pairs: Pairs[str], *, text: Literal[True], ordered: bool = ..., reduced: bool = ..., max_trial: int = ...
+    ) -> "Cedar[str]": ...
+
+    @overload
+    @classmethod
+    def from_sorted(
+        cls, pairs: Pairs[Any], *, text: bool, ordered: bool = ..., reduced: bool = ..., max_trial: int = ...
+    ) -> "Cedar[Any]": ...
+
+    @classmethod
+    def from_sorted(
+        cls, pairs: Pairs[Any], *, text: bool = False, ordered: bool = True, reduced: bool = False, max_trial: int = 1
+    ) -> "Cedar[Any]":
         """Returns the dictionary of pairs whose keys ascend by bytes. It is made at once, faster than key by key.
 
         >>> Cedar.from_sorted([(b"net", 7), (b"nets", 8)])[b"nets"]
@@ -88,8 +113,20 @@ class Cedar(_core.Core[K], MutableMapping[K, int]):
         made._build(text, ordered, reduced, max_trial, _pairs_of(pairs))
         return made
 
+    @overload
     @classmethod
-    def load(cls: Type[Self], source: Source, *, text: bool = False, memory_limit: int = _core.LOAD_LIMIT) -> Self:
+    def load(cls, source: Source, *, text: Literal[False] = ..., memory_limit: int = ...) -> "Cedar[bytes]": ...
+
+    @overload
+    @classmethod
+    def load(cls, source: Source, *, text: Literal[True], memory_limit: int = ...) -> "Cedar[str]": ...
+
+    @overload
+    @classmethod
+    def load(cls, source: Source, *, text: bool, memory_limit: int = ...) -> "Cedar[Any]": ...
+
+    @classmethod
+    def load(cls, source: Source, *, text: bool = False, memory_limit: int = _core.LOAD_LIMIT) -> "Cedar[Any]":
         """Returns the dictionary that was saved, of either layout. `source` is a path, a file that is open for bytes, or the bytes.
 
         A file that is damaged, or asks for more memory than the limit, raises CedarError. With `text=True` its keys have to be UTF-8.
@@ -216,8 +253,8 @@ class Cedar(_core.Core[K], MutableMapping[K, int]):
     def __ror__(self: Self, other: Mapping[Any, int]) -> Self:
         if not isinstance(other, AnyMapping):
             return NotImplemented
-        settings = dict(text=self.text, ordered=self.ordered, reduced=self.reduced, max_trial=self.max_trial)
-        return type(self)(other, **settings).__ior__(self)
+        made = type(self)(other, text=self.text, ordered=self.ordered, reduced=self.reduced, max_trial=self.max_trial)
+        return made.__ior__(self)
 
     def __ior__(self: Self, other: Pairs[Any]) -> Self:
         self.update(other)

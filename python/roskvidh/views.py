@@ -19,8 +19,8 @@ class _View(Generic[K]):
     _kind: int
 
     def __init__(self, cedar: "Cedar[K]", prefix: Optional[K] = None) -> None:
-        self._mapping = cedar
-        self._prefix = prefix
+        self._mapping = cedar  # type: ignore[misc]  # the three have both slots
+        self._prefix = prefix  # type: ignore[misc]
 
     def __len__(self) -> int:
         return len(self._mapping) if self._prefix is None else self._mapping._count(self._prefix)

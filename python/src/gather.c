@@ -209,7 +209,7 @@ static bool search_below(const cedar *dictionary, const Span *prefix, size_t key
 }
 
 /* Takes all keys and leaves out those that aren't wanted. */
-static bool gather_wanted(cedar *dictionary, const Wanted *wanted, bool is_ordered, Gathered *gathered) {
+static bool gather_wanted(const cedar *dictionary, const Wanted *wanted, bool is_ordered, Gathered *gathered) {
     if (!gather_all(dictionary, gathered)) return false;
     keep(wanted, gathered);
     return is_ordered || sort(gathered);
@@ -275,7 +275,7 @@ static bool search_between(Search *search, const Wanted *wanted, bool is_all, si
     return done;
 }
 
-static bool try_between(cedar *dictionary, const Wanted *wanted, bool is_all, Gathered *gathered, size_t *total) {
+static bool try_between(const cedar *dictionary, const Wanted *wanted, bool is_all, Gathered *gathered, size_t *total) {
     Search search;
     Span root = {NULL, NONE, 0};
     bool done = search_begin(&search, dictionary, &root, gathered) && search_between(&search, wanted, is_all, total);
@@ -284,7 +284,7 @@ static bool try_between(cedar *dictionary, const Wanted *wanted, bool is_all, Ga
 }
 
 /* The keys from `low` on and before `high`, ascending by bytes; NULL is no bound. False where memory is wanted. */
-bool gather_between(cedar *dictionary, const Span *low, const Span *high, bool is_ordered, Gathered *gathered) {
+bool gather_between(const cedar *dictionary, const Span *low, const Span *high, bool is_ordered, Gathered *gathered) {
     Wanted wanted = {NULL, low, high};
     size_t total = 0, unused = 0;
     if (low || high) {

@@ -1,0 +1,42 @@
+"""What mypy has to accept: the hints of a program's own variables. Nothing here is run."""
+
+from typing import Any, Dict, Iterator, List, Mapping, MutableMapping, Optional, Tuple
+
+from roskvidh import Cedar, CedarError, Match, Matches, Stats
+
+
+def keys_are_bytes(data: bytes) -> None:
+    d: Cedar[bytes] = Cedar({b"net": 7})
+    loaded: Cedar[bytes] = Cedar.load(data)
+    built: Cedar[bytes] = Cedar.from_sorted([(b"net", 7)], reduced=True)
+    value: Optional[int] = d.get(b"x")
+    matches: Matches = d.scan(b"text")
+    match: Match = matches[0]
+    some: List[Match] = matches[1:]
+    stats: Stats = d.stats()
+    as_mapping: MutableMapping[bytes, int] = d
+    loaded |= built
+    print(value, match.value, some, stats.keys, as_mapping)
+
+
+def keys_are_texts(path: str, plain: Dict[str, int]) -> None:
+    d: Cedar[str] = Cedar(plain, text=True)
+    loaded: Cedar[str] = Cedar.load(path, text=True, memory_limit=1000)
+    built: Cedar[str] = Cedar.from_sorted(plain, text=True)
+    value: int = d["net"] + d.pop("x", 5) + d.setdefault("y", 6)
+    between: Iterator[str] = d.irange("a", "b")
+    fronts: List[Tuple[str, int]] = d.prefixes("network")
+    longest: Optional[Tuple[str, int]] = d.longest_prefix("network")
+    both: Cedar[str] = d | plain | loaded | built.copy()
+    for key, number in both.items("n"):
+        print(key.upper(), number + value)
+    with Cedar(text=True) as opened:
+        opened["a"] = 1
+    print(between, fronts, longest)
+
+
+def either(is_text: bool, given: Mapping[Any, int]) -> Cedar[Any]:
+    try:
+        return Cedar(given, text=is_text)
+    except CedarError as error:
+        raise SystemExit(error.status) from error
