@@ -8,6 +8,8 @@ use Rattle.cedar_tree.specs.Tree.{Tree, empty_tree, number_at}
 use Rattle.cedar_tree.specs.Queries.{asc, exact, front, predict}
 use Rattle.cedar_tree.specs.State.{State, erased, stored}
 use Rattle.cedarwood.specs.Words.{entries_of}
+use Rattle.cedarwood.specs.Ranges.{entries_since, entries_with, longest_front}
+use Rattle.cedarwood.specs.RangeWalks.{entries_between}
 use Rattle.cedar_model.specs.Meaning.WellFormed.{tree_of}
 use Rattle.cedar_model.specs.Table.Layouts.{LayoutKind, default_layout, layout_byte}
 use Rattle.cedar_model.specs.Table.TableFields.{Fields}
@@ -26,7 +28,8 @@ use Rattle.cedarwood.specs.OnTable.{IsOnTable}
 use Rattle.cedarwood.specs.SortedInput.{fault_from}
 use Rattle.cedar_calls.specs.Agreement.{AreSameCalls, IsSameCall, IsSameChange, IsSameQuestion}
 use Rattle.cedar_calls.specs.Making.{IsLoad, Joins}
-use Rattle.cedar_calls.specs.Plain.{Said, all_said, at_state, call_says, change_says, changed_state, done, found, held, listed, IsLoadless, IsMet, kept_at_fault, matched, missing, reply_says, said, said_load, states_after, states_of, unless_fault, unloaded, was}
+use Rattle.cedar_calls.specs.Plain.{Said, all_said, at_state, call_says, change_says, changed_state, done, found, held, listed, IsLoadless, IsMet, kept_at_fault, matched, missing, reply_says, said, said_load, selected, states_after, states_of, unless_fault, unloaded, valued, walked, was}
+use Rattle.cedar_calls.specs.Replies.{in_order}
 use Rattle.cedar_calls.specs.Runs.{IsRun, IsStep}
 use Rattle.cedar_calls.specs.declared.call.Call.{Call}
 use Rattle.cedar_calls.specs.declared.call.Call.TheVariants as call
@@ -58,15 +61,23 @@ change_alike s (change.Insert k v) (change.Insert l w) h = (
 change_alike s (change.Erase k) (change.Erase l) h = (ap (λ x. held (is_some (number_at s.tree x))) h, ap (erased s) h)
 change_alike s (change.Renew x) (change.Renew y) h = (refl, ap (λ o. state_with empty_tree o) h)
 change_alike s (change.Build p) (change.Build q) h = (ap (λ es. unless_fault (first_fault es) done) h, ap (λ es. kept_at_fault (first_fault es) s (all_stored s es)) h)
+change_alike s (change.Reserve n) (change.Reserve m) h = (refl, refl)
 change_alike s c d h = absurd h
 
 reply_alike : (b : Bool) (s : State) (q r : Question) → IsSameQuestion q r → reply_says b s q ≡ reply_says b s r
 reply_alike b s (question.Exact k) (question.Exact l) h = ap (λ x. found (exact s.tree x)) h
+reply_alike b s (question.Get k) (question.Get l) h = ap (λ x. valued (number_at s.tree x)) h
+reply_alike b s (question.ContainsKey k) (question.ContainsKey l) h = ap (λ x. held (is_some (number_at s.tree x))) h
+reply_alike b s (question.Longest k) (question.Longest l) h = ap (λ x. found (longest_front s.tree x)) h
 reply_alike b s (question.Batch k) (question.Batch l) h = ap (λ keys. matched (map (exact s.tree) keys)) h
 reply_alike b s (question.Prefixes k) (question.Prefixes l) h = ap (λ x. listed (front s.tree x)) h
 reply_alike b s (question.Predictions k) (question.Predictions l) h = ap (λ x. listed (predict s.tree x)) h
 reply_alike b s question.Entries question.Entries h = refl
 reply_alike b s question.TextEntries question.TextEntries h = refl
+reply_alike b s (question.EntriesWith k) (question.EntriesWith l) h = ap (λ x. walked (entries_with s.tree x)) h
+reply_alike b s (question.EntriesFrom k) (question.EntriesFrom l) h = ap (λ x. selected (in_order s.ordered (entries_since s.tree x))) h
+reply_alike b s (question.Range k l) (question.Range x y) h =
+    ap (λ z. selected (in_order s.ordered (entries_between s.tree z l.now))) h.0 ∙ ap (λ z. selected (in_order s.ordered (entries_between s.tree x.now z))) h.1
 reply_alike b s question.Len question.Len h = refl
 reply_alike b s (question.Figure f) (question.Figure g) h = ap (λ x. reply_says b s (question.Figure x)) h
 reply_alike b s question.IsEmpty question.IsEmpty h = refl

@@ -39,6 +39,7 @@ key_goes s (change.Update k v) q sound = at_fault (fault k.now v) s (stored s k.
 key_goes s (change.Insert k v) q sound = at_fault (fault k.now v) s (stored s k.now v) q (cond (is_path q k.now) (Some v) (number_at s.tree q)) (put_goes s.tree s.ordered k.now v q (is_path q k.now) refl)
 key_goes s (change.Erase k) q sound = cut_goes s.tree k.now q sound (is_path q k.now) refl
 key_goes s (change.Renew settings) q sound = number_at-empty q
+key_goes s (change.Reserve n) q sound = refl
 key_goes s (change.Build pairs) q sound = at_fault (first_fault (entries_of pairs.now)) s (all_stored s (entries_of pairs.now)) q (last_at q (number_at s.tree q) (entries_of pairs.now)) (all_go s (entries_of pairs.now) q)
 
 pub keys_go : (s : State) (changes : List Change) (q : List ℕ) → AreSoundAlong s changes

@@ -61,6 +61,7 @@ module _ (key : List ℕ) where
   held_goes layout slots d e (change.Renew settings) (changed.Renewed (Err x)) sound h = ap number_in h.1
   held_goes layout slots d e (change.Build pairs) (changed.Built (Ok x)) sound h = ap (λ s. number_at s.tree key) h.stored ∙ all_go d.state (entries_of pairs.now) key
   held_goes layout slots d e (change.Build pairs) (changed.Built (Err x)) sound h = refused_build layout slots d e (entries_of pairs.now) (first_fault (entries_of pairs.now)) refl x h
+  held_goes layout slots d e (change.Reserve n) (changed.Reserved x) sound h = ap (λ s. number_at s.tree key) h.state
   held_goes layout slots d e c a sound h = absurd h
 
   -- ---- a further dictionary

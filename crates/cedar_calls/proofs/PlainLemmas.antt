@@ -5,16 +5,17 @@ use Rattle.cedar_tree.specs.Tree.{Tree, empty_tree, number_at}
 use Rattle.cedar_tree.specs.Queries.{Entry, used, walk}
 use Rattle.cedar_tree.specs.State.{State, stored}
 use Rattle.cedarwood.specs.declared.error.CedarError.{CedarError}
-use Rattle.cedarwood.specs.declared.error.CedarError.TheVariants.{Memory}
+use Rattle.cedarwood.specs.declared.error.CedarError.TheVariants.{Memory, SlotLimit}
 use Rattle.cedarwood.specs.Words.{entries_of}
 use Rattle.cedar_model.specs.Table.Layouts.{LayoutKind, default_layout}
 use Rattle.cedarwood.specs.Builds.{all_stored, first_fault, outcome}
 use Rattle.cedarwood.specs.Dictionary.{Dictionary}
 use Rattle.cedarwood.specs.Fault.{fault, IsShortage}
+use Rattle.cedarwood.specs.Room.{LacksRoom}
 use Rattle.cedarwood.specs.Updates.{IsUpdate}
 use Rattle.cedar_calls.specs.Changes.{IsChange, IsWholeBuild}
 use Rattle.cedar_calls.specs.Replies.{IsReply}
-use Rattle.cedar_calls.specs.Plain.{compared, counted, done, found, held, in_use, listed, matched, measured, walked, was, worded, change_says, changed_state, is_none_left, IsMet, kept_at_fault, reply_says, said_change, said_reply, said_result, unless_fault}
+use Rattle.cedar_calls.specs.Plain.{compared, counted, done, found, held, in_use, listed, matched, measured, selected, valued, walked, was, worded, change_says, changed_state, is_none_left, IsMet, kept_at_fault, reply_says, said_change, said_reply, said_result, unless_fault}
 use Rattle.cedar_calls.specs.declared.call.Change.{Change}
 use Rattle.cedar_calls.specs.declared.call.Change.TheVariants as change
 use Rattle.cedar_calls.specs.declared.call.Figure.TheVariants.{AllocatedBytes, Capacity, SpareBlocks, UsedSlots}
@@ -78,6 +79,12 @@ build_goes layout slots d d' es (Some e) same r h met =
 build_goes layout slots d d' es None same (Ok x) h met = (refl, h.stored)
 build_goes layout slots d d' es None same (Err e) h met = absurd (met (h.refused same).shortage)
 
+-- room is refused only for memory or slots
+room_short : (slots : ℕ) (d : Dictionary) (n : ℕ) (e : CedarError) → LacksRoom slots d n e → IsShortage e
+room_short slots d n Memory h = tt
+room_short slots d n SlotLimit h = tt
+room_short slots d n e h = absurd h
+
 pub change_goes : (layout : LayoutKind) (slots : ℕ) (d d' : Dictionary) (c : Change) (a : Changed) → IsChange layout slots d c a d' → IsMet (said_change a)
     → (said_change a ≡ change_says d.state c) × (d'.state ≡ changed_state d.state c)
 change_goes layout slots d d' (change.Update key v) (changed.Updated r) h met = update_goes layout slots d d' key.now v (fault key.now v) refl r h met
@@ -86,6 +93,8 @@ change_goes layout slots d d' (change.Erase key) (changed.Erased b) h met = (ap 
 change_goes layout slots d d' (change.Renew settings) (changed.Renewed (Ok x)) h met = (refl, state_is d'.state empty_tree settings.ordered h.tree h.ordered)
 change_goes layout slots d d' (change.Renew settings) (changed.Renewed (Err e)) h met = absurd (met (subst IsShortage (sym h.0) tt))
 change_goes layout slots d d' (change.Build pairs) (changed.Built r) h met = build_goes layout slots d d' (entries_of pairs.now) (first_fault (entries_of pairs.now)) refl r h met
+change_goes layout slots d d' (change.Reserve n) (changed.Reserved (Ok x)) h met = (refl, h.state)
+change_goes layout slots d d' (change.Reserve n) (changed.Reserved (Err e)) h met = absurd (met (room_short slots d n e h.refused))
 change_goes layout slots d d' c a h met = absurd h
 
 pub short : (e : CedarError) → e ≡ Memory → IsShortage e
@@ -98,6 +107,9 @@ same_use false layout n m h same = refl
 pub reply_goes : {A : Type 0} (by_default : Bool) (layout : LayoutKind) (slots : ℕ) (d : Dictionary) (q : Question) (a : Reply A) → (by_default ≡ true → layout ≡ default_layout)
     → IsReply layout slots d q a → IsMet (said_reply by_default q a) → said_reply by_default q a ≡ reply_says by_default d.state q
 reply_goes b layout slots d (question.Exact key) (reply.Exact x) k h met = ap found h
+reply_goes b layout slots d (question.Get key) (reply.Value x) k h met = ap valued h
+reply_goes b layout slots d (question.ContainsKey key) (reply.IsHeld x) k h met = ap held h
+reply_goes b layout slots d (question.Longest text) (reply.Longest x) k h met = ap found h
 reply_goes b layout slots d (question.Batch keys) (reply.Batch (Ok v)) k h met = ap matched h
 reply_goes b layout slots d (question.Batch keys) (reply.Batch (Err e)) k h met = absurd (met (short e h))
 reply_goes b layout slots d (question.Prefixes query) (reply.Prefixes (Ok v)) k h met = ap listed h
@@ -108,6 +120,12 @@ reply_goes b layout slots d question.Entries (reply.Entries (Ok v)) k h met = ap
 reply_goes b layout slots d question.Entries (reply.Entries (Err e)) k h met = absurd (met (short e h))
 reply_goes b layout slots d question.TextEntries (reply.TextEntries (Ok v)) k h met = ap worded (texts_are v.items (walk d.state.tree) h)
 reply_goes b layout slots d question.TextEntries (reply.TextEntries (Err e)) k h met = absurd (met (short e h))
+reply_goes b layout slots d (question.EntriesWith prefix) (reply.Entries (Ok v)) k h met = ap walked h
+reply_goes b layout slots d (question.EntriesWith prefix) (reply.Entries (Err e)) k h met = absurd (met (short e h))
+reply_goes b layout slots d (question.EntriesFrom key) (reply.Range (Ok o)) k h met = ap selected h
+reply_goes b layout slots d (question.EntriesFrom key) (reply.Range (Err e)) k h met = absurd (met (short e h))
+reply_goes b layout slots d (question.Range from to) (reply.Range (Ok o)) k h met = ap selected h
+reply_goes b layout slots d (question.Range from to) (reply.Range (Err e)) k h met = absurd (met (short e h))
 reply_goes b layout slots d question.Len (reply.Len n) k h met = ap counted h
 reply_goes b layout slots d (question.Figure UsedSlots) (reply.Figure n) k h met = ap in_use (same_use b layout n (used d.state.tree) k h.1)
 reply_goes b layout slots d (question.Figure Capacity) (reply.Figure n) k h met = refl

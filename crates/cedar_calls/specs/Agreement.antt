@@ -21,16 +21,23 @@ IsSameChange (change.Insert k v) (change.Insert l w) = (k.now ≡ l.now) × (v �
 IsSameChange (change.Erase k) (change.Erase l) = k.now ≡ l.now
 IsSameChange (change.Renew s) (change.Renew z) = s.ordered ≡ z.ordered
 IsSameChange (change.Build p) (change.Build q) = entries_of p.now ≡ entries_of q.now
+IsSameChange (change.Reserve n) (change.Reserve m) = n ≡ m
 IsSameChange c d = ⊥
 
 -- the same question, wherever its bytes lie
 abbrev pub IsSameQuestion : Question → Question → Type 0
 IsSameQuestion (question.Exact k) (question.Exact l) = k.now ≡ l.now
+IsSameQuestion (question.Get k) (question.Get l) = k.now ≡ l.now
+IsSameQuestion (question.ContainsKey k) (question.ContainsKey l) = k.now ≡ l.now
+IsSameQuestion (question.Longest k) (question.Longest l) = k.now ≡ l.now
 IsSameQuestion (question.Batch k) (question.Batch l) = keys_of k.now ≡ keys_of l.now
 IsSameQuestion (question.Prefixes k) (question.Prefixes l) = k.now ≡ l.now
 IsSameQuestion (question.Predictions k) (question.Predictions l) = k.now ≡ l.now
 IsSameQuestion question.Entries question.Entries = Unit {0}
 IsSameQuestion question.TextEntries question.TextEntries = Unit {0}
+IsSameQuestion (question.EntriesWith k) (question.EntriesWith l) = k.now ≡ l.now
+IsSameQuestion (question.EntriesFrom k) (question.EntriesFrom l) = k.now ≡ l.now
+IsSameQuestion (question.Range a b) (question.Range c d) = (a.now ≡ c.now) × (b.now ≡ d.now)
 IsSameQuestion question.Len question.Len = Unit {0}
 IsSameQuestion (question.Figure f) (question.Figure g) = f ≡ g
 IsSameQuestion question.IsEmpty question.IsEmpty = Unit {0}

@@ -1,14 +1,16 @@
 -- What a change of a dictionary answers, and the dictionary after it.
-use Rattle.std.specs.Prelude.{◌≡◌, ℕ, List, IfErr, IfOk, IfSome, IsSome, IsTrue, ◌↔◌, None, OnOk, Result, Err}
+use Rattle.std.specs.Prelude.{◌≡◌, ℕ, ◌+◌, ◌-◌, ◌*◌, ◌<◌, ◌≤◌, List, IfErr, IfOk, IfSome, IsOk, IsSome, IsTrue, ◌↔◌, None, OnErr, OnOk, Result, Err}
 use Rattle.cedar_tree.specs.Tree.{number_at}
 use Rattle.cedar_tree.specs.Queries.{Entry}
 use Rattle.cedar_tree.specs.State.{erased}
 use Rattle.cedarwood.specs.declared.error.CedarError.{CedarError}
+use Rattle.cedarwood.specs.declared.error.CedarError.TheVariants.{SlotLimit}
 use Rattle.cedarwood.specs.Words.{entries_of}
 use Rattle.cedar_model.specs.Meaning.Marks.{MarksCut}
 use Rattle.cedar_model.specs.Table.Layouts.{LayoutKind}
 use Rattle.cedarwood.specs.Builds.{all_stored, first_fault, outcome, IsBuild, IsRefusedBuild}
-use Rattle.cedarwood.specs.Dictionary.{Dictionary}
+use Rattle.cedarwood.specs.Dictionary.{capacity_after, Dictionary}
+use Rattle.cedarwood.specs.Room.{LacksRoom}
 use Rattle.cedarwood.specs.Updates.{IsUpdate}
 use Rattle.cedarwood.specs.Making.{IsRenewed}
 use Rattle.cedar_calls.specs.declared.call.Change.{Change}
@@ -32,6 +34,21 @@ pub record IsWholeBuild (layout : LayoutKind) (slots : ℕ) (before after : Dict
   pub stored : OnOk result (after.state ≡ all_stored before.state pairs)
   pub refused : first_fault pairs ≡ None → IfErr result (IsRefusedBuild slots before after pairs)
 
+-- room for n blocks more was asked for: nothing has changed but how many slots there are, or nothing at all where n blocks were spare
+-- already or it was refused
+pub record IsReserved (slots n : ℕ) (before after : Dictionary) (result : Result (Unit {0}) CedarError) : Type 0 where
+  pub state : after.state ≡ before.state
+  pub marked : after.marked ≡ before.marked
+  pub max_trial : after.max_trial ≡ before.max_trial
+  pub size : after.size ≡ before.size
+  pub capacity : OnOk result (after.capacity ≡ capacity_after n before.size before.capacity)
+  pub spare : OnOk result (256 * n ≤ after.capacity - after.size)
+  pub enough : 256 * n ≤ before.capacity - before.size → after ≡ before
+  pub asks_nothing : 256 * n ≤ before.capacity - before.size → IsOk result
+  pub limit : slots < before.size + 256 * n → result ≡ Err SlotLimit
+  pub refused : IfErr result (LacksRoom slots before n)
+  pub unchanged : OnErr result (after ≡ before)
+
 -- what a change may answer of a dictionary of this layout that may have so many slots, and the dictionary after it
 abbrev pub IsChange : LayoutKind → ℕ → Dictionary → Change → Changed → Dictionary → Type 0
 IsChange layout slots before (change.Update key v) (changed.Updated result) after = IsUpdate layout slots before after key.now v result
@@ -40,4 +57,5 @@ IsChange layout slots before (change.Insert key v) (changed.Inserted result) aft
 IsChange layout slots before (change.Erase key) (changed.Erased held) after = (IsTrue held ↔ IsSome (number_at before.state.tree key.now)) × IsErased before after key.now
 IsChange layout slots before (change.Renew settings) (changed.Renewed result) after = IsRenewed settings before after result
 IsChange layout slots before (change.Build pairs) (changed.Built result) after = IsWholeBuild layout slots before after (entries_of pairs.now) result
+IsChange layout slots before (change.Reserve n) (changed.Reserved result) after = IsReserved slots n before after result
 IsChange layout slots before c answer after = ⊥

@@ -28,6 +28,7 @@ held_after key now (change.Update k v) = kept_at_fault (fault k.now v) now (if i
 held_after key now (change.Insert k v) = kept_at_fault (fault k.now v) now (if is_path key k.now then Some v else now)
 held_after key now (change.Erase k) = if is_path key k.now then None else now
 held_after key now (change.Renew settings) = None
+held_after key now (change.Reserve n) = now
 held_after key now (change.Build pairs) = kept_at_fault (first_fault (entries_of pairs.now)) now (last_at key now (entries_of pairs.now))
 
 -- the trees on the way are sound, as those of dictionaries are
@@ -62,6 +63,7 @@ IsHeldAfter key now (change.Renew settings) (changed.Renewed result) after = aft
 IsHeldAfter key now (change.Build pairs) (changed.Built result) after =
     MatchResult result (λ _. after ≡ last_at key now (entries_of pairs.now))
     (λ _. (n : ℕ) × (n < length (entries_of pairs.now)) × (IsSome (first_fault (entries_of pairs.now)) → n ≡ 0) × (after ≡ last_at key now (take n (entries_of pairs.now))))
+IsHeldAfter key now (change.Reserve n) (changed.Reserved result) after = after ≡ now
 IsHeldAfter key now c result after = ⊥
 
 -- a well-formed table whose bytes these are holds this number at the key

@@ -7,6 +7,8 @@ use Rattle.cedar_tree.specs.Queries.{Entry, asc, exact, front, predict, used, wa
 use Rattle.cedar_tree.specs.State.{State, erased, stored}
 use Rattle.cedarwood.specs.declared.error.CedarError.{CedarError}
 use Rattle.cedarwood.specs.Words.{entries_of, keys_of}
+use Rattle.cedarwood.specs.Ranges.{entries_since, entries_with, longest_front}
+use Rattle.cedarwood.specs.RangeWalks.{entries_between}
 use Rattle.cedar_model.specs.Table.Layouts.{LayoutKind, default_layout}
 use Rattle.cedar_format.specs.declared.error.CedarPersistenceError.{CedarPersistenceError}
 use Rattle.cedar_format.specs.Refusal.{Refusal, AllocationFailed, refusal_of}
@@ -14,6 +16,7 @@ use Rattle.cedarwood.specs.Builds.{all_stored, first_fault}
 use Rattle.cedarwood.specs.Dictionary.{Dictionary}
 use Rattle.cedarwood.specs.Fault.{fault, IsShortage}
 use Rattle.cedarwood.specs.SortedInput.{sorted_fault}
+use Rattle.cedar_calls.specs.Replies.{in_order}
 use Rattle.cedar_calls.specs.Runs.{IsRun}
 use Rattle.cedar_calls.specs.declared.call.Call.{Call}
 use Rattle.cedar_calls.specs.declared.call.Call.TheVariants as call
@@ -38,9 +41,11 @@ pub data Said : Type 0 where
   was : Option ℤ → Said
   held : Bool → Said
   found : Option (ℤ × ℕ) → Said
+  valued : Option ℤ → Said
   matched : List (Option (ℤ × ℕ)) → Said
   listed : List (ℤ × ℕ) → Said
   walked : List Entry → Said
+  selected : Option (List Entry) → Said
   worded : List (Option Entry) → Said
   counted : ℕ → Said
   in_use : Option ℕ → Said
@@ -57,6 +62,7 @@ said_change (changed.Inserted result) = said_result was result
 said_change (changed.Erased result) = held result
 said_change (changed.Renewed result) = said_result (λ _. done) result
 said_change (changed.Built result) = said_result (λ _. done) result
+said_change (changed.Reserved result) = said_result (λ _. done) result
 
 -- how many slots are in use, where that is compared: trees alone say it in the default layout
 abbrev pub compared : Bool → ℕ → Option ℕ
@@ -71,10 +77,14 @@ said_figure by_default q n = unsaid
 -- what a question was answered. The bytes of a file tell of places.
 abbrev pub said_reply : {A : Type 0} → Bool → Question → Reply A → Said
 said_reply by_default q (reply.Exact result) = found result
+said_reply by_default q (reply.Value result) = valued result
+said_reply by_default q (reply.IsHeld result) = held result
+said_reply by_default q (reply.Longest result) = found result
 said_reply by_default q (reply.Batch result) = said_result (λ v. matched v.items) result
 said_reply by_default q (reply.Prefixes result) = said_result (λ v. listed v.items) result
 said_reply by_default q (reply.Predictions result) = said_result (λ v. listed v.items) result
 said_reply by_default q (reply.Entries result) = said_result (λ v. walked (map (λ e. (e.0.items, e.1)) v.items)) result
+said_reply by_default q (reply.Range result) = said_result (λ o. selected (option_map (λ v. map (λ e. (e.0.items, e.1)) v.items) o)) result
 said_reply by_default q (reply.TextEntries result) = said_result (λ v. worded (map (option_map (λ e. (string_bytes e.0, e.1))) v.items)) result
 said_reply by_default q (reply.Len n) = counted n
 said_reply by_default q (reply.Figure n) = said_figure by_default q n
@@ -136,6 +146,7 @@ change_says s (change.Insert key v) = unless_fault (fault key.now v) (was (numbe
 change_says s (change.Erase key) = held (is_some (number_at s.tree key.now))
 change_says s (change.Renew settings) = done
 change_says s (change.Build pairs) = unless_fault (first_fault (entries_of pairs.now)) done
+change_says s (change.Reserve n) = done
 
 abbrev pub changed_state : State → Change → State
 changed_state s (change.Update key v) = kept_at_fault (fault key.now v) s (stored s key.now v)
@@ -143,6 +154,7 @@ changed_state s (change.Insert key v) = kept_at_fault (fault key.now v) s (store
 changed_state s (change.Erase key) = erased s key.now
 changed_state s (change.Renew settings) = record { tree = empty_tree; ordered = settings.ordered }
 changed_state s (change.Build pairs) = kept_at_fault (first_fault (entries_of pairs.now)) s (all_stored s (entries_of pairs.now))
+changed_state s (change.Reserve n) = s
 
 -- entries as texts, and nothing in the place of each whose key isn't UTF-8
 abbrev pub texts_of : List Entry → List (Option Entry)
@@ -151,11 +163,17 @@ texts_of es = map (λ e. if is_utf8 e.0 then Some e else None) es
 -- what a question is answered
 abbrev pub reply_says : Bool → State → Question → Said
 reply_says by_default s (question.Exact key) = found (exact s.tree key.now)
+reply_says by_default s (question.Get key) = valued (number_at s.tree key.now)
+reply_says by_default s (question.ContainsKey key) = held (is_some (number_at s.tree key.now))
+reply_says by_default s (question.Longest text) = found (longest_front s.tree text.now)
 reply_says by_default s (question.Batch keys) = matched (map (exact s.tree) (keys_of keys.now))
 reply_says by_default s (question.Prefixes query) = listed (front s.tree query.now)
 reply_says by_default s (question.Predictions query) = listed (predict s.tree query.now)
 reply_says by_default s question.Entries = walked (walk s.tree)
 reply_says by_default s question.TextEntries = worded (texts_of (walk s.tree))
+reply_says by_default s (question.EntriesWith prefix) = walked (entries_with s.tree prefix.now)
+reply_says by_default s (question.EntriesFrom key) = selected (in_order s.ordered (entries_since s.tree key.now))
+reply_says by_default s (question.Range from to) = selected (in_order s.ordered (entries_between s.tree from.now to.now))
 reply_says by_default s question.Len = counted (length (walk s.tree))
 reply_says by_default s (question.Figure UsedSlots) = in_use (compared by_default (used s.tree))
 reply_says by_default s question.IsEmpty = held (is_none_left (walk s.tree))

@@ -1,11 +1,14 @@
 -- What a question to a dictionary is answered.
-use Rattle.std.specs.Prelude.{◌≡◌, ℕ, ℤ, ◌+◌, ◌-◌, ◌*◌, ◌/◌, List, [], ◌∷◌, length, map, Option, option_map, Some, None, IsTrue, ◌↔◌, MatchResult, Result, string_bytes}
+use Rattle.std.specs.Prelude.{◌≡◌, Bool, true, false, ℕ, ℤ, ◌+◌, ◌-◌, ◌*◌, ◌/◌, List, [], ◌∷◌, length, map, Option, option_map, Some, None, is_some, IsTrue, ◌↔◌, MatchResult, Result, string_bytes}
 use Rattle.std.specs.Str.{IsUtf8}
+use Rattle.cedar_tree.specs.Tree.{number_at}
 use Rattle.cedar_tree.specs.Queries.{Entry, exact, front, predict, prefixes, used, walk}
 use Rattle.cedarwood.specs.declared.error.CedarError.{CedarError}
 use Rattle.cedarwood.specs.declared.error.CedarError.TheVariants.{Memory}
 use Rattle.cedar_model.specs.Table.Layouts.{LayoutKind, default_layout}
 use Rattle.cedarwood.specs.Words.{keys_of}
+use Rattle.cedarwood.specs.Ranges.{entries_since, entries_with, longest_front}
+use Rattle.cedarwood.specs.RangeWalks.{entries_between}
 use Rattle.cedar_format.specs.Tables.{IsTableFile}
 use Rattle.cedarwood.specs.Dictionary.{Dictionary}
 use Rattle.cedarwood.specs.declared.figures.MemoryStats.{MemoryStats}
@@ -26,6 +29,11 @@ AreTexts [] [] = Unit {0}
 AreTexts (Some text ∷ texts) (e ∷ es) = (text ≡ e) × AreTexts texts es
 AreTexts (None ∷ texts) (e ∷ es) = (IsUtf8 e.0 → ⊥) × AreTexts texts es
 AreTexts texts es = ⊥
+
+-- the entries of a range where labels ascend, and else nothing
+abbrev pub in_order : Bool → List Entry → Option (List Entry)
+in_order true es = Some es
+in_order false es = None
 
 -- the slots that are held: one for the root, one for each prefix, and one for each number that has a slot of its own
 abbrev pub held_slots : Dictionary → ℕ
@@ -52,11 +60,19 @@ pub record AreStats (layout : LayoutKind) (d : Dictionary) (stats : MemoryStats)
 -- what a dictionary of this layout that may have so many slots replies
 abbrev pub IsReply : {A : Type 0} → LayoutKind → ℕ → Dictionary → Question → Reply A → Type 0
 IsReply layout slots d (question.Exact key) (reply.Exact found) = found ≡ exact d.state.tree key.now
+IsReply layout slots d (question.Get key) (reply.Value found) = found ≡ number_at d.state.tree key.now
+IsReply layout slots d (question.ContainsKey key) (reply.IsHeld result) = result ≡ is_some (number_at d.state.tree key.now)
+IsReply layout slots d (question.Longest text) (reply.Longest found) = found ≡ longest_front d.state.tree text.now
 IsReply layout slots d (question.Batch keys) (reply.Batch result) = Collects result (λ found. found.items ≡ map (exact d.state.tree) (keys_of keys.now))
 IsReply layout slots d (question.Prefixes query) (reply.Prefixes result) = Collects result (λ found. found.items ≡ front d.state.tree query.now)
 IsReply layout slots d (question.Predictions query) (reply.Predictions result) = Collects result (λ found. found.items ≡ predict d.state.tree query.now)
 IsReply layout slots d question.Entries (reply.Entries result) = Collects result (λ found. map (λ e. (e.0.items, e.1)) found.items ≡ walk d.state.tree)
 IsReply layout slots d question.TextEntries (reply.TextEntries result) = Collects result (λ found. AreTexts (map (option_map (λ e. (string_bytes e.0, e.1))) found.items) (walk d.state.tree))
+IsReply layout slots d (question.EntriesWith prefix) (reply.Entries result) = Collects result (λ found. map (λ e. (e.0.items, e.1)) found.items ≡ entries_with d.state.tree prefix.now)
+IsReply layout slots d (question.EntriesFrom key) (reply.Range result) =
+    Collects result (λ found. option_map (λ v. map (λ e. (e.0.items, e.1)) v.items) found ≡ in_order d.state.ordered (entries_since d.state.tree key.now))
+IsReply layout slots d (question.Range from to) (reply.Range result) =
+    Collects result (λ found. option_map (λ v. map (λ e. (e.0.items, e.1)) v.items) found ≡ in_order d.state.ordered (entries_between d.state.tree from.now to.now))
 IsReply layout slots d question.Len (reply.Len n) = n ≡ length (walk d.state.tree)
 IsReply layout slots d (question.Figure which) (reply.Figure n) = IsFigure layout d which n
 IsReply layout slots d question.IsEmpty (reply.IsEmpty result) = IsTrue result ↔ (walk d.state.tree ≡ [])

@@ -31,6 +31,8 @@ pub enum Changed {
     Renewed(Result<(), CedarError>),
     /// Whether all pairs were stored.
     Built(Result<(), CedarError>),
+    /// Whether there is room for the blocks.
+    Reserved(Result<(), CedarError>),
 }
 
 /// What a dictionary replied. Where there was no memory to collect an answer, it is `Memory`.
@@ -38,15 +40,23 @@ pub enum Changed {
 pub enum Reply<A: Allocator> {
     /// The key's value and its length.
     Exact(Option<(i32, usize)>),
-    /// The same of each key.
+    /// The key's value.
+    Value(Option<i32>),
+    /// Whether the key is held.
+    IsHeld(bool),
+    /// The value and the length of the longest key that the text begins with.
+    Longest(Option<(i32, usize)>),
+    /// What an exact search answers of each key.
     Batch(Result<Vec<Option<(i32, usize)>, A>, CedarError>),
     /// The fronts of the query that are held.
     Prefixes(Result<Vec<(i32, usize), A>, CedarError>),
     /// The keys that begin with the query.
     Predictions(Result<Vec<(i32, usize), A>, CedarError>),
-    /// All keys with their values.
+    /// All keys with their values, or those that begin with the prefix.
     Entries(Result<Vec<(Vec<u8, A>, i32), A>, CedarError>),
-    /// The same with keys as texts, and `None` in the place of each key that isn't UTF-8.
+    /// The keys of a range with their values, and `None` of a dictionary whose labels don't ascend.
+    Range(Result<Option<Vec<(Vec<u8, A>, i32), A>>, CedarError>),
+    /// All keys as texts with their values, and `None` in the place of each key that isn't UTF-8.
     TextEntries(Result<Vec<Option<(String<A>, i32)>, A>, CedarError>),
     /// The keys that are held.
     Len(usize),

@@ -59,13 +59,21 @@ pub enum Change<'a> {
     Renew { settings: CedarBuilder },
     /// Store some pairs.
     Build { pairs: &'a [(&'a [u8], i32)] },
+    /// Ask for the memory of so many blocks more than are in use.
+    Reserve { blocks: usize },
 }
 
 /// A question to a dictionary.
 #[derive(Clone, Copy, Debug)]
 pub enum Question<'a> {
-    /// Which value does the key hold?
+    /// Which value does the key hold, and how long is it?
     Exact { key: &'a [u8] },
+    /// Which value does the key hold?
+    Get { key: &'a [u8] },
+    /// Is the key held?
+    ContainsKey { key: &'a [u8] },
+    /// Which is the longest key that the text begins with?
+    Longest { text: &'a [u8] },
     /// Which values do the keys hold?
     Batch { keys: &'a [&'a [u8]] },
     /// Which fronts of the query are held?
@@ -76,6 +84,12 @@ pub enum Question<'a> {
     Entries,
     /// The same, with keys as texts.
     TextEntries,
+    /// Which of the entries have keys that begin with the prefix?
+    EntriesWith { prefix: &'a [u8] },
+    /// Which of them are at the key or after it?
+    EntriesFrom { key: &'a [u8] },
+    /// Which of these are before another key?
+    Range { from: &'a [u8], to: &'a [u8] },
     /// How many keys are held?
     Len,
     /// How many slots, blocks or bytes?

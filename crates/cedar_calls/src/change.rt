@@ -28,5 +28,6 @@ pub(crate) fn make_change<L: Layout, const SLOTS: usize, A: Allocator + Copy>(
         Change::Erase { key } => Changed::Erased(trie.erase_bytes(key)),
         Change::Renew { settings } => Changed::Renewed(trie.renew(alloc, *settings)),
         Change::Build { pairs } => Changed::Built(trie.build_bytes(pairs)),
+        Change::Reserve { blocks } => Changed::Reserved(trie.try_reserve(*blocks)),
     }
 }

@@ -1,14 +1,16 @@
 //! Replies of a dictionary.
 
-ghost use Rattle.std.specs.Prelude.{◌≡◌, cond, map, option_map, string_bytes};
+ghost use Rattle.std.specs.Prelude.{◌≡◌, ◌++◌, [], ◌∷◌, cond, map, OnOk, option_map, string_bytes};
 ghost use Rattle.cedar_tree.specs.Queries.{exact, walk};
 ghost use Rattle.cedarwood.specs.Words.{keys_of};
+ghost use Rattle.cedarwood.specs.Ranges.{entries_since, entries_with};
+ghost use Rattle.cedarwood.specs.RangeWalks.{entries_between};
 ghost use Rattle.cedar_format.specs.Tables.{IsTableFile};
-ghost use Rattle.cedar_calls.specs.Replies.{AreTexts, Collects, IsFigure, IsReply};
+ghost use Rattle.cedar_calls.specs.Replies.{AreTexts, Collects, IsFigure, IsReply, in_order};
 
 use crate::{Figure, Question, Reply};
 use cedarwood::{CedarError, EntryError, Layout, Trie, Watched};
-use std::alloc::Allocator;
+use std::alloc::{AllocError, Allocator};
 
 /// Asks a dictionary. The lists of a batch and of entries, and the bytes of a file, take their memory from `alloc`; the lists of
 /// prefixes and predictions, and each entry's key, from the dictionary's own allocator.
@@ -21,6 +23,9 @@ pub(crate) fn reply<L: Layout, const SLOTS: usize, A: Allocator + Copy>(
 {
     match question {
         Question::Exact { key } => Reply::Exact(trie.exact_match_search_bytes(key)),
+        Question::Get { key } => Reply::Value(trie.get_bytes(key)),
+        Question::ContainsKey { key } => Reply::IsHeld(trie.contains_key_bytes(key)),
+        Question::Longest { text } => Reply::Longest(trie.longest_match_bytes(text)),
         Question::Batch { keys } => Reply::Batch(batch(trie, alloc, keys)),
         Question::Prefixes { query } => Reply::Prefixes(trie.common_prefix_search_bytes(query)),
         Question::Predictions { query } => {
@@ -28,6 +33,9 @@ pub(crate) fn reply<L: Layout, const SLOTS: usize, A: Allocator + Copy>(
         }
         Question::Entries => Reply::Entries(entries(trie, alloc)),
         Question::TextEntries => Reply::TextEntries(text_entries(trie, alloc)),
+        Question::EntriesWith { prefix } => Reply::Entries(beginning_with(trie, alloc, prefix)),
+        Question::EntriesFrom { key } => Reply::Range(since(trie, alloc, key)),
+        Question::Range { from, to } => Reply::Range(between(trie, alloc, from, to)),
         Question::Len => Reply::Len(trie.len()),
         Question::Figure { figure } => Reply::Figure(figure_of(trie, *figure)),
         Question::IsEmpty => Reply::IsEmpty(trie.is_empty()),
@@ -96,6 +104,66 @@ fn text_entries<L: Layout, const SLOTS: usize, A: Allocator + Copy>(
         found.push_reserved(text);
     }
     Ok(found)
+}
+
+/// Collects one more.
+fn add<T: Drop, A: Allocator>(found: &mut Vec<T, A>, item: T) -> Result<(), AllocError>
+    ensures { OnOk result (found.new.items ≡ found.old.items ++ item ∷ []) }
+{
+    found.push(item)?;
+    Ok(())
+}
+
+/// The keys that begin with a prefix, with their values.
+fn beginning_with<L: Layout, const SLOTS: usize, A: Allocator + Copy>(
+    trie: &Trie<L, SLOTS, A>,
+    alloc: A,
+    prefix: &[u8],
+) -> Result<Vec<(Vec<u8, A>, i32), A>, CedarError>
+    ensures { Collects result (λ found. map (λ e. (e.0.items, e.1)) found.items ≡ entries_with trie.now.state.tree prefix.now) }
+{
+    let mut found = Vec::new(alloc);
+    for entry in trie.entries_with_prefix_bytes(prefix) {
+        add(&mut found, entry?)?;
+    }
+    Ok(found)
+}
+
+/// The keys from one on with their values, if labels ascend.
+fn since<L: Layout, const SLOTS: usize, A: Allocator + Copy>(
+    trie: &Trie<L, SLOTS, A>,
+    alloc: A,
+    key: &[u8],
+) -> Result<Option<Vec<(Vec<u8, A>, i32), A>>, CedarError>
+    ensures { Collects result (λ found. option_map (λ v. map (λ e. (e.0.items, e.1)) v.items) found ≡ in_order trie.now.state.ordered (entries_since trie.now.state.tree key.now)) }
+{
+    let Some(entries) = trie.entries_from_bytes(key) else {
+        return Ok(None);
+    };
+    let mut found = Vec::new(alloc);
+    for entry in entries {
+        add(&mut found, entry?)?;
+    }
+    Ok(Some(found))
+}
+
+/// The keys from one on and before another one with their values, if labels ascend.
+fn between<L: Layout, const SLOTS: usize, A: Allocator + Copy>(
+    trie: &Trie<L, SLOTS, A>,
+    alloc: A,
+    from: &[u8],
+    to: &[u8],
+) -> Result<Option<Vec<(Vec<u8, A>, i32), A>>, CedarError>
+    ensures { Collects result (λ found. option_map (λ v. map (λ e. (e.0.items, e.1)) v.items) found ≡ in_order trie.now.state.ordered (entries_between trie.now.state.tree from.now to.now)) }
+{
+    let Some(entries) = trie.range_bytes(from, to) else {
+        return Ok(None);
+    };
+    let mut found = Vec::new(alloc);
+    for entry in entries {
+        add(&mut found, entry?)?;
+    }
+    Ok(Some(found))
 }
 
 /// The bytes of a dictionary's file, in format 1.0 or 1.1. A write to them fails only where memory is refused.

@@ -1,4 +1,5 @@
 //! Lists of calls: that their calls succeed with memory at hand, and answers at values made by hand.
 
 mod files;
+mod ranges;
 mod runs;

@@ -25,3 +25,21 @@ returns-in-Build g c =
     let e = c.build_bytes.ensures in
     subst (λ change. IsChange g.L.Layout.kind g.row.SLOTS c.args.trie.now change (changed.Built c.build_bytes.result) c.build_bytes.new.self) (sym c.in-Build.is)
     (record { faulty = e.faulty; unchanged = e.unchanged; updates = e.updates; stored = e.stored; refused = e.refused })
+
+pub returns-in-Reserve : goal.returns-in-Reserve
+returns-in-Reserve g c =
+    let e = c.try_reserve.ensures in
+    subst (λ change. IsChange g.L.Layout.kind g.row.SLOTS c.args.trie.now change (changed.Reserved c.try_reserve.result) c.try_reserve.new.self) (sym c.in-Reserve.is)
+    (record {
+      state = e.state;
+      marked = e.marked;
+      max_trial = e.max_trial;
+      size = e.size;
+      capacity = e.capacity;
+      spare = e.spare;
+      enough = e.enough;
+      asks_nothing = e.asks_nothing;
+      limit = e.limit;
+      refused = e.refused;
+      unchanged = e.unchanged;
+    })
