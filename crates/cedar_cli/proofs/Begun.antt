@@ -1,10 +1,10 @@
 -- What a run of the program begins with, and what its arguments ask for.
 use Rattle.std.proofs.Common.{◌≡◌, ℕ, Bool, true, false, List, [], ◌∷◌, Option, Some, None, Bor, not, ◌&&◌, ap, refl, ◌∙◌}
-use Rattle.std.specs.Prelude.{MatchOption, Result, Ok, Err, OnOk, bytes_eq, codes, is_some, option_map}
+use Rattle.std.specs.Prelude.{MatchOption, Result, Ok, Err, IfOk, OnOk, bytes_eq, codes, is_some, option_map}
 use Rattle.cedar_tree.specs.Tree.{Tree, empty_tree}
 use Rattle.cedar_model.specs.Table.Layouts.{LayoutKind, default_layout, reduced_layout}
 use Rattle.cedarwood.specs.Dictionary.{Dictionary}
-use Rattle.cedar_cli.specs.Options.{Request, BeginsWith, request_besides, empty, with_reduced, with_v1_0, is_new, with_load, with_save, request_in, with_any_order}
+use Rattle.cedar_cli.specs.Options.{Request, BeginsWith, limit_of, request_besides, empty, with_reduced, with_v1_0, is_new, with_limit, with_load, with_save, request_in, with_any_order}
 use Rattle.cedar_cli.specs.declared.options.Options.{Options}
 use Rattle.cedar_cli.specs.View.{View, marked_in, view_of}
 
@@ -29,6 +29,12 @@ seen_new layout d ordered tree unmarked order = same (marked_in layout d) (by_la
       ap (λ (t : Tree). record { layout = layout; state = d.state; marked = t }) e
       ∙ ap (λ (t : Tree). record { layout = layout; state = record { tree = t; ordered = d.state.ordered }; marked = empty_tree }) tree
       ∙ ap (λ (o : Bool). record { layout = layout; state = record { tree = empty_tree; ordered = o }; marked = empty_tree }) order
+
+-- where one is loaded a run begins with that, whatever it is
+pub begins_loaded : {E : Type 0} (layout : LayoutKind) (o : Options) (path : Bor (List ℕ)) (r : Result Dictionary E) → o.load ≡ Some path
+    → IfOk r (λ d. BeginsWith layout (request_in o) (view_of layout d))
+begins_loaded layout o path (Ok d) given = (refl, rw given tt)
+begins_loaded layout o path (Err e) given = tt
 
 -- so a run may begin with one where none is loaded
 pub begins_new : (layout : LayoutKind) (o : Options) (d : Dictionary) → o.load ≡ None → d.state.tree ≡ empty_tree → d.marked ≡ empty_tree → d.state.ordered ≡ o.ordered
@@ -89,3 +95,14 @@ pub save_first : (a : Request) (word path : List ℕ) (rest : List (List ℕ)) �
     → is_new word (codes "--load") (is_some a.load) ≡ false
     → bytes_eq word (codes "--save") ≡ true → is_some a.save ≡ false → request_besides a (word ∷ path ∷ rest) ≡ request_besides (with_save a path) rest
 save_first a word path rest other full wide old e new = rw (other, full, wide, old, e, new) refl
+
+module _ (a : Request) (word value : List ℕ) (rest : List (List ℕ)) (other : is_new word (codes "--unordered") (not a.ordered) ≡ false) (full : is_new word (codes "--v1-0") a.v1_0 ≡ false)
+    (wide : is_new word (codes "--reduced") a.reduced ≡ false) (old : is_new word (codes "--load") (is_some a.load) ≡ false) (kept : is_new word (codes "--save") (is_some a.save) ≡ false) where
+  pub limit_first : (n : ℕ) → bytes_eq word (codes "--limit") ≡ true → is_some a.limit ≡ false → limit_of value ≡ Some n → request_besides a (word ∷ value ∷ rest) ≡ request_besides (with_limit a (Some n)) rest
+  limit_first n e new is = rw (other, full, wide, old, kept, e, new, is) refl
+
+  pub limit_wrong : limit_of value ≡ None → request_besides a (word ∷ value ∷ rest) ≡ None
+  limit_wrong is = rw (other, full, wide, old, kept, is, and_false (is_new word (codes "--limit") (is_some a.limit))) refl
+
+  pub no_option : is_new word (codes "--limit") (is_some a.limit) ≡ false → request_besides a (word ∷ value ∷ rest) ≡ None
+  no_option last = rw (other, full, wide, old, kept, last) refl

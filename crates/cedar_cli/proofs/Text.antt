@@ -1,5 +1,5 @@
 -- What the parts of a line's text say.
-use Rattle.std.proofs.Common.{◌≡◌, ℕ, ℤ, pos, negsuc, w32, List, [], ◌∷◌, Some, None, Bool, true, false, cond, ◌&&◌, Bor, refl, sym, ap, ◌∙◌, arith, zero, suc, take, drop, length, ◌≤◌, ◌<◌, ◌+◌, ◌-◌}
+use Rattle.std.proofs.Common.{◌≡◌, ℕ, ℤ, pos, negsuc, w32, List, [], ◌∷◌, Some, None, Bool, true, false, cond, ◌&&◌, Bor, refl, sym, ap, ◌∙◌, arith, zero, suc, take, drop, length, ◌≤◌, ◌<◌, ◌+◌, ◌-◌, ◌^◌}
 use Rattle.std.proofs.lemmas.Bool.{eqb-true, false≢true, leb-true, le-leb}
 use Rattle.std.proofs.lemmas.Grind.{common_steps}
 use Rattle.std.proofs.lemmas.List.{take_all, drop_all, length-drop}
@@ -13,8 +13,9 @@ use Rattle.std.specs.List.{position, position_or_len, before_first, after_first,
 use Rattle.std.specs.Result.{result_ok}
 use Rattle.std.specs.Char.{digit_value}
 use Rattle.std.specs.Str.{IsUtf8, IsAscii}
-use Rattle.std.specs.Str.Parse.{AllDigits, IsNumeral, ParsesSigned, without_leading_sign, signed_digits_value}
+use Rattle.std.specs.Str.Parse.{AllDigits, IsNumeral, ParsesSigned, ParsesUnsigned, digits_value, without_leading_plus, without_leading_sign, signed_digits_value}
 use Rattle.cedar_cli.specs.Command.{value_of, is_digit, is_filled, fits_value}
+use Rattle.cedar_cli.specs.Options.{fits_limit, limit_of}
 
 -- where an element passes first
 pub at_first : (p : ℕ → Bool) (xs : List ℕ) (i : ℕ) → position p xs ≡ Some i → position_or_len p xs ≡ i
@@ -123,3 +124,30 @@ pub text_of : {E : Type 0} (bytes : List ℕ) (U : Type 0) (Q : E → Type 0) (r
     → MatchResult r (λ s. (s.now ≡ bytes) × U) Q → Some text ≡ result_ok r → text.now ≡ bytes
 text_of bytes U Q (Ok x) text m e = let same : text ≡ x = cc in ap (λ s. s.now) same ∙ m.0
 text_of bytes U Q (Err x) text m e = absurd (cc)
+
+-- ---- a number of bytes
+
+limit_test : (n : ℕ) → n < 2 ^ 64 → fits_limit n ≡ true
+limit_test n h = let b : n < 18446744073709551616 = h in le-leb n 18446744073709551615 (omega (arith, b))
+
+limit_tested : (n : ℕ) → fits_limit n ≡ true → n < 2 ^ 64
+limit_tested n h = let b : n ≤ 18446744073709551615 = leb-true n 18446744073709551615 h in let c : n < 18446744073709551616 = omega (arith, b) in c
+
+no_limit : (text : List ℕ) → (IsNumeral 10 (without_leading_plus text) × (digits_value 10 (without_leading_plus text) < 2 ^ 64) → ⊥) → None ≡ limit_of text
+no_limit text never =
+    let ds = without_leading_plus text in
+    let n = digits_value 10 ds in
+    (elim (is_filled ds && list_all is_digit ds && fits_limit n) as (λ b. (is_filled ds && list_all is_digit ds && fits_limit n) ≡ b → None ≡ cond b (Some n) None) [
+      | true ↦ λ e.
+          let p = both (is_filled ds && list_all is_digit ds) (fits_limit n) e in
+          let q = both (is_filled ds) (list_all is_digit ds) p.0 in
+          absurd (never ((filled_tested ds q.0, tested_digits ds q.1), limit_tested n p.1))
+      | false ↦ λ e. refl
+    ]) refl
+
+-- what `parse` reads is the number of bytes that the text says
+pub parsed_limit : {E : Type 0} (text : List ℕ) (r : Result ℕ E) → ParsesUnsigned 64 10 text r → result_ok r ≡ limit_of text
+parsed_limit text (Ok n) h =
+    rw (filled_test (without_leading_plus text) h.0.0.0, digits_test (without_leading_plus text) h.0.0.1, limit_test (digits_value 10 (without_leading_plus text)) h.0.1)
+    (ap Some h.1)
+parsed_limit text (Err e) h = no_limit text h

@@ -7,6 +7,7 @@ pub use Rattle.cedarwood.specs.Dictionary
 pub mod Blocks
 pub mod Command
 pub mod Lines
+pub mod Loads
 pub mod Options
 pub mod Script
 pub mod View

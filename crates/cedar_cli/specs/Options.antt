@@ -1,8 +1,11 @@
 -- What the program's arguments ask for.
-use Rattle.std.specs.Prelude.{◌≡◌, ℕ, Bool, true, false, not, ◌&&◌, ◌||◌, List, [], ◌∷◌, codes, bytes_eq, map, Option, Some, None, MatchOption, is_some, option_map, if◌then◌else◌}
+use Rattle.std.specs.Prelude.{◌≡◌, ℕ, Bool, true, false, not, ◌&&◌, ◌||◌, nat_le, List, [], ◌∷◌, codes, bytes_eq, map, Option, Some, None, MatchOption, is_some, option_map, if◌then◌else◌}
 use Rattle.std.specs.Borrow.{Bor}
+use Rattle.std.specs.List.{list_all}
+use Rattle.std.specs.Str.Parse.{without_leading_plus, digits_value}
 use Rattle.cedar_tree.specs.Tree.{empty_tree}
 use Rattle.cedar_model.specs.Table.Layouts.{LayoutKind, default_layout, reduced_layout}
+use Rattle.cedar_cli.specs.Command.{is_digit, is_filled}
 use Rattle.cedar_cli.specs.View.{View}
 use Rattle.cedar_cli.specs.declared.options.Options.{Options}
 
@@ -10,47 +13,70 @@ use Rattle.cedar_cli.specs.declared.options.Options.{Options}
 abbrev pub empty : LayoutKind → Bool → View
 empty layout ordered = record { layout = layout; state = record { tree = empty_tree; ordered = ordered }; marked = empty_tree }
 
--- whether the labels of each node are to ascend, the file that the dictionary comes from, the one that it is saved in,
--- whether that is to be of format 1.0, and whether the dictionary and its files are of the reduced layout
+-- whether the labels of each node are to ascend, the file that the dictionary comes from, how many bytes of memory that load may ask for,
+-- the file that it is saved in, whether that is to be of format 1.0, and whether the dictionary and its files are of the reduced layout
 pub record Request : Type 0 where
   pub ordered : Bool
   pub load : Option (List ℕ)
+  pub limit : Option ℕ
   pub save : Option (List ℕ)
   pub v1_0 : Bool
   pub reduced : Bool
 
 abbrev pub no_request : Request
-no_request = record { ordered = true; load = None; save = None; v1_0 = false; reduced = false }
+no_request = record { ordered = true; load = None; limit = None; save = None; v1_0 = false; reduced = false }
 
 abbrev pub with_any_order : Request → Request
-with_any_order a = record { ordered = false; load = a.load; save = a.save; v1_0 = a.v1_0; reduced = a.reduced }
+with_any_order a = record { ordered = false; load = a.load; limit = a.limit; save = a.save; v1_0 = a.v1_0; reduced = a.reduced }
 
 abbrev pub with_load : Request → List ℕ → Request
-with_load a path = record { ordered = a.ordered; load = Some path; save = a.save; v1_0 = a.v1_0; reduced = a.reduced }
+with_load a path = record { ordered = a.ordered; load = Some path; limit = a.limit; save = a.save; v1_0 = a.v1_0; reduced = a.reduced }
+
+abbrev pub with_limit : Request → Option ℕ → Request
+with_limit a limit = record { ordered = a.ordered; load = a.load; limit = limit; save = a.save; v1_0 = a.v1_0; reduced = a.reduced }
 
 abbrev pub with_save : Request → List ℕ → Request
-with_save a path = record { ordered = a.ordered; load = a.load; save = Some path; v1_0 = a.v1_0; reduced = a.reduced }
+with_save a path = record { ordered = a.ordered; load = a.load; limit = a.limit; save = Some path; v1_0 = a.v1_0; reduced = a.reduced }
 
 abbrev pub with_v1_0 : Request → Request
-with_v1_0 a = record { ordered = a.ordered; load = a.load; save = a.save; v1_0 = true; reduced = a.reduced }
+with_v1_0 a = record { ordered = a.ordered; load = a.load; limit = a.limit; save = a.save; v1_0 = true; reduced = a.reduced }
 
 abbrev pub with_reduced : Request → Request
-with_reduced a = record { ordered = a.ordered; load = a.load; save = a.save; v1_0 = a.v1_0; reduced = true }
+with_reduced a = record { ordered = a.ordered; load = a.load; limit = a.limit; save = a.save; v1_0 = a.v1_0; reduced = true }
 
 -- the layout of the dictionary and its files
 abbrev pub asked_layout : Request → LayoutKind
 asked_layout a = if a.reduced then reduced_layout else default_layout
 
--- options that don't go together: `--unordered` beside `--load`, `--v1-0` without `--save`
+-- how many bytes of memory a load may ask for
+abbrev pub limit_or_default : Option ℕ → ℕ
+limit_or_default None = 536870912
+limit_or_default (Some n) = n
+
+abbrev pub asked_limit : Request → ℕ
+asked_limit a = limit_or_default a.limit
+
+-- options that don't go together: `--unordered` beside `--load`, `--v1-0` without `--save`, `--limit` without `--load`
 abbrev pub is_excluded : Request → Bool
-is_excluded a = (not a.ordered && is_some a.load) || (a.v1_0 && not (is_some a.save))
+is_excluded a = (not a.ordered && is_some a.load) || (a.v1_0 && not (is_some a.save)) || (is_some a.limit && not (is_some a.load))
+
+-- a number of 64 bits
+abbrev pub fits_limit : ℕ → Bool
+fits_limit n = nat_le n 18446744073709551615
+
+-- a number of bytes: `+` or nothing, and then one or more digits
+abbrev pub limit_of : List ℕ → Option ℕ
+limit_of text =
+    if is_filled (without_leading_plus text) && list_all is_digit (without_leading_plus text) && fits_limit (digits_value 10 (without_leading_plus text))
+    then Some (digits_value 10 (without_leading_plus text)) else None
 
 -- an option that has not been given
 abbrev pub is_new : List ℕ → List ℕ → Bool → Bool
 is_new word option given = bytes_eq word option && not given
 
--- What some arguments ask for beside what has been asked: `--unordered`, `--v1-0`, `--reduced`, and `--load` and `--save`, each
--- with the argument after it as its path. Each stands once at most, `--unordered` not beside `--load`, and `--v1-0` only beside `--save`.
+-- What some arguments ask for beside what has been asked: `--unordered`, `--v1-0`, `--reduced`, and `--load`, `--save` and `--limit`, each
+-- with the argument after it as its path or its number. Each stands once at most, `--unordered` not beside `--load`, `--v1-0` only beside
+-- `--save`, and `--limit` only beside `--load`.
 abbrev pub request_besides : Request → List (List ℕ) → Option Request
 request_besides a [] = if is_excluded a then None else Some a
 request_besides a (word ∷ []) =
@@ -58,12 +84,13 @@ request_besides a (word ∷ []) =
     else if is_new word (codes "--v1-0") a.v1_0 then request_besides (with_v1_0 a) []
     else if is_new word (codes "--reduced") a.reduced then request_besides (with_reduced a) []
     else None
-request_besides a (word ∷ path ∷ rest) =
-    if is_new word (codes "--unordered") (not a.ordered) then request_besides (with_any_order a) (path ∷ rest)
-    else if is_new word (codes "--v1-0") a.v1_0 then request_besides (with_v1_0 a) (path ∷ rest)
-    else if is_new word (codes "--reduced") a.reduced then request_besides (with_reduced a) (path ∷ rest)
-    else if is_new word (codes "--load") (is_some a.load) then request_besides (with_load a path) rest
-    else if is_new word (codes "--save") (is_some a.save) then request_besides (with_save a path) rest
+request_besides a (word ∷ value ∷ rest) =
+    if is_new word (codes "--unordered") (not a.ordered) then request_besides (with_any_order a) (value ∷ rest)
+    else if is_new word (codes "--v1-0") a.v1_0 then request_besides (with_v1_0 a) (value ∷ rest)
+    else if is_new word (codes "--reduced") a.reduced then request_besides (with_reduced a) (value ∷ rest)
+    else if is_new word (codes "--load") (is_some a.load) then request_besides (with_load a value) rest
+    else if is_new word (codes "--save") (is_some a.save) then request_besides (with_save a value) rest
+    else if is_new word (codes "--limit") (is_some a.limit) && is_some (limit_of value) then request_besides (with_limit a (limit_of value)) rest
     else None
 
 -- arguments as they are in memory
@@ -76,7 +103,7 @@ request_of arguments = request_besides no_request (words arguments)
 
 -- options as they are in memory
 abbrev pub request_in : Options → Request
-request_in o = record { ordered = o.ordered; load = option_map (λ path. path.now) o.load; save = option_map (λ path. path.now) o.save; v1_0 = o.v1_0; reduced = o.reduced }
+request_in o = record { ordered = o.ordered; load = option_map (λ path. path.now) o.load; limit = o.limit; save = option_map (λ path. path.now) o.save; v1_0 = o.v1_0; reduced = o.reduced }
 
 -- a run over this layout begins with this: an empty dictionary, or any where one is loaded
 abbrev pub BeginsWith : LayoutKind → Request → View → Type 0

@@ -1,7 +1,9 @@
 //! The program's options.
 
 ghost use Rattle.std.specs.Prelude.{◌≡◌, option_map};
-ghost use Rattle.cedar_cli.specs.Options.{request_besides, request_of, is_excluded, request_in, words};
+ghost use Rattle.cedar_cli.specs.Options.{limit_of, limit_or_default, request_besides, request_of, is_excluded, request_in, words};
+
+use cedarwood::DEFAULT_LOAD_MEMORY_LIMIT;
 
 /// What the arguments ask for.
 #[derive(Clone, Copy, Debug)]
@@ -10,6 +12,8 @@ pub(crate) struct Options<'a> {
     pub ordered: bool,
     /// The file that the dictionary comes from.
     pub load: Option<&'a str>,
+    /// How many bytes of memory that load may ask for.
+    pub limit: Option<usize>,
     /// The file that it is saved in.
     pub save: Option<&'a str>,
     /// Whether it is saved in format 1.0.
@@ -25,6 +29,7 @@ pub(crate) fn options_of<'a>(arguments: &[&'a str]) -> Option<Options<'a>>
     let nothing = Options {
         ordered: true,
         load: None,
+        limit: None,
         save: None,
         v1_0: false,
         reduced: false,
@@ -55,23 +60,43 @@ fn with_options<'a>(options: Options<'a>, arguments: &[&'a str]) -> Option<Optio
         let reduced = true;
         return with_options(Options { reduced, ..options }, after);
     }
-    let (path, after) = after.split_first()?;
+    let (value, after) = after.split_first()?;
     if *word == "--load" && options.load.is_none() {
-        let load = Some(*path);
+        let load = Some(*value);
         return with_options(Options { load, ..options }, after);
     }
     if *word == "--save" && options.save.is_none() {
-        let save = Some(*path);
+        let save = Some(*value);
         return with_options(Options { save, ..options }, after);
+    }
+    if *word == "--limit" && options.limit.is_none() {
+        let bytes = limit_of(value)?;
+        let limit = Some(bytes);
+        return with_options(Options { limit, ..options }, after);
     }
     None
 }
 
-/// Whether the options don't go together: a loaded dictionary has its own order, and a format is one to save in.
+/// A number of bytes.
+fn limit_of(text: &str) -> Option<usize>
+    ensures { result ≡ limit_of text.now }
+{
+    text.parse().ok()
+}
+
+/// How many bytes of memory a load may ask for.
+pub(crate) fn limit_or_default(limit: Option<usize>) -> usize
+    ensures { result ≡ limit_or_default limit }
+{
+    limit.unwrap_or(DEFAULT_LOAD_MEMORY_LIMIT)
+}
+
+/// Whether the options don't go together: a loaded dictionary has its own order, a format is one to save in, and a limit is one of a load.
 fn is_excluded(options: Options<'_>) -> bool
     ensures { result ≡ is_excluded (request_in options.entry) }
 {
     let two_orders = !options.ordered && options.load.is_some();
     let no_save = options.v1_0 && options.save.is_none();
-    two_orders || no_save
+    let no_load = options.limit.is_some() && options.load.is_none();
+    two_orders || no_save || no_load
 }

@@ -1,10 +1,11 @@
 //! The program: arguments, files and three streams in, a status out.
 
 ghost use Rattle.std.specs.Prelude.{◌≡◌, ◌<◌, ◌≤◌, ◌^◌, ◌↔◌, true, length, None, OnOk, OnErr, IfErr, IfOk, IfSome};
-ghost use Rattle.cedar_cli.specs.Words.{Appends, AppendsFront, BeginsWith, IsSlotLimit, View, answers, device_of, has_failed, asked_layout, lines_of, request_in, request_of, view_of};
+ghost use Rattle.cedar_cli.specs.Words.{Appends, AppendsFront, BeginsWith, IsSlotLimit, View, answers, asked_limit, device_of, has_failed, asked_layout, layout_byte, lines_of, request_in, request_of, view_of};
+ghost use Rattle.cedar_cli.specs.Loads.{LacksWithin};
 
 use crate::fits::fits;
-use crate::options::{Options, options_of};
+use crate::options::{Options, limit_or_default, options_of};
 use crate::script::{ScriptError, run_script};
 use cedarwood::{
     CedarBuilder, CedarPersistenceError, DefaultLayout, Layout, ReducedLayout, Trie, Watched,
@@ -27,7 +28,7 @@ pub const REFUSED: u8 = 3;
 
 /// The line that wrong arguments are answered by.
 pub const USAGE_LINE: &str =
-    "usage: cedar [--reduced] [--unordered] [--load PATH] [--save PATH] [--v1-0]\n";
+    "usage: cedar [--reduced] [--unordered] [--load PATH] [--limit BYTES] [--save PATH] [--v1-0]\n";
 
 /// What ends a run early.
 #[derive(Debug, Drop)]
@@ -45,6 +46,7 @@ enum Fault {
 /// - `--unordered`: a new label goes before its siblings and not to its ascending place;
 /// - `--load PATH`: the dictionary is loaded from this file, and not empty at first; not beside `--unordered`, since a
 ///   file has its settings;
+/// - `--limit BYTES`, only beside `--load`: the load may ask for so many bytes of memory, and not for 2^29;
 /// - `--save PATH`: once all is answered and flushed, it is saved in this file;
 /// - `--v1-0`, only beside `--save`: it is saved in format 1.0, and not in 1.1.
 ///
@@ -63,8 +65,8 @@ pub fn run_program<const SLOTS: usize, F: Files, A: Allocator + Copy, R: Read, W
     //= The program's status is 0, 1, 2 or 3 (always).
     ensures status { result ≤ 3 }
 
-    //= It is 2 exactly if the arguments are wrong (as `--unordered` beside `--load`, or `--v1-0` without `--save`); then nothing was read
-    //  and nothing written to the output (always). [with untouched]
+    //= It is 2 exactly if the arguments are wrong (as `--unordered` beside `--load`, `--v1-0` without `--save`, or `--limit` without
+    //  `--load`); then nothing was read and nothing written to the output (always). [with untouched]
     ensures usage { (result ≡ 2) ↔ (request_of arguments.now ≡ None) }
     ensures untouched { result ≡ 2 → (reader.new ≡ reader.old) × (writer.new ≡ writer.old) }
 
@@ -87,12 +89,12 @@ pub fn run_program<const SLOTS: usize, F: Files, A: Allocator + Copy, R: Read, W
     };
     match run_layout::<SLOTS, F, A, R, W>(alloc, files, options, reader, writer) {
         Ok(()) => DONE,
-        Err(fault) => tell(fault, errors),
+        Err(fault) => tell(fault, options, errors),
     }
 }
 
-/// Tells of a fault, and says the status to end with.
-fn tell<E: Write>(fault: Fault, errors: &mut Watched<E>) -> u8
+/// Tells of a fault, with the path of the file that it is of, and says the status to end with.
+fn tell<E: Write>(fault: Fault, options: Options<'_>, errors: &mut Watched<E>) -> u8
     ensures above { 0 < result }
     ensures within { result ≤ 3 }
     ensures other { result ≡ 2 → ⊥ }
@@ -103,11 +105,13 @@ fn tell<E: Write>(fault: Fault, errors: &mut Watched<E>) -> u8
             FAULT
         }
         Fault::Load(error) => {
-            let _ = writeln!(errors, "cedar: load: {error}");
+            let path = options.load.unwrap_or("");
+            let _ = writeln!(errors, "cedar: load {path}: {error}");
             REFUSED
         }
         Fault::Save(error) => {
-            let _ = writeln!(errors, "cedar: save: {error}");
+            let path = options.save.unwrap_or("");
+            let _ = writeln!(errors, "cedar: save {path}: {error}");
             REFUSED
         }
     }
@@ -185,10 +189,14 @@ fn first_trie<L: Layout, const SLOTS: usize, F: Files, A: Allocator + Copy>(
     options: Options<'_>,
 ) -> Result<Trie<L, SLOTS, A>, Fault>
     requires limit { IsSlotLimit SLOTS }
-    ensures { IfOk result (λ trie. BeginsWith L.kind (request_in options.entry) (view_of L.kind trie)) }
+    ensures begun { IfOk result (λ trie. BeginsWith L.kind (request_in options.entry) (view_of L.kind trie)) }
+
+    //= A load that is refused memory is so under the limit of `--limit`, or without that under 2^29 bytes (always). [by LacksWithin,
+    //  asked_limit]
+    ensures lacks { IfErr result (LacksWithin (layout_byte L.kind) SLOTS (asked_limit (request_in options.entry))) }
 {
     match options.load {
-        Some(path) => Trie::load_from_path(alloc, files, path).map_err(Fault::Load),
+        Some(path) => load(alloc, files, path, limit_or_default(options.limit)),
         None => {
             let builder = CedarBuilder::new().ordered(options.ordered);
             match Trie::with(alloc, builder) {
@@ -196,6 +204,22 @@ fn first_trie<L: Layout, const SLOTS: usize, F: Files, A: Allocator + Copy>(
                 Err(_) => Err(Fault::Script(ScriptError::Memory)),
             }
         }
+    }
+}
+
+/// Loads the dictionary, if that asks for so many bytes of memory at most.
+fn load<L: Layout, const SLOTS: usize, F: Files, A: Allocator + Copy>(
+    alloc: A,
+    files: &F,
+    path: &str,
+    limit: usize,
+) -> Result<Trie<L, SLOTS, A>, Fault>
+    requires limit { IsSlotLimit SLOTS }
+    ensures { IfErr result (LacksWithin (layout_byte L.kind) SLOTS limit) }
+{
+    match Trie::load_from_path_with_limit(alloc, files, path, limit) {
+        Ok(trie) => Ok(trie),
+        Err(error) => Err(Fault::Load(error)),
     }
 }
 

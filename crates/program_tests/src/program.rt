@@ -13,7 +13,7 @@ const SCRIPT: &[u8] = b"+ 61 1\n= 61\n";
 const ANSWERS: &str = "ok\n1 1\n";
 
 const USAGE_TEXT: &str =
-    "usage: cedar [--reduced] [--unordered] [--load PATH] [--save PATH] [--v1-0]\n";
+    "usage: cedar [--reduced] [--unordered] [--load PATH] [--limit BYTES] [--save PATH] [--v1-0]\n";
 
 // What fails in a run.
 #[derive(Clone, Copy)]

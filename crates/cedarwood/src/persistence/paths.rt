@@ -4,7 +4,7 @@ ghost use Rattle.std.specs.Prelude.{IfErr, IfOk, OnOk, length};
 ghost use Rattle.cedarwood.specs.Words.{FailsToSave, IsSlotLimit, IsTableFile, IsWellFormed, LacksByPath, PassesAgain, layout_byte, table_bytes};
 
 use crate::persistence::replace::no_buffer;
-use crate::{CedarPersistenceError, Layout, Trie, Watched};
+use crate::{CedarPersistenceError, DEFAULT_LOAD_MEMORY_LIMIT, Layout, Trie, Watched};
 use cedar_format::{FULL_MINOR, MINOR};
 use std::alloc::Allocator;
 use std::fs::File;
@@ -59,8 +59,39 @@ impl<L: Layout, const SLOTS: usize, A: Allocator + Copy> Trie<L, SLOTS, A> {
         self.save_file(files, path, FULL_MINOR)
     }
 
-    /// Loads the dictionary that was saved in a file, through a buffer of 8192 bytes and with the limit by default. Both take their
-    /// memory from `alloc`.
+    /// Loads the dictionary that was saved in a file, through a buffer of 8192 bytes, if its table asks for `memory_limit` bytes at most.
+    /// Table and buffer take their memory from `alloc`.
+    ///
+    /// ```
+    /// let again = Cedar::load_from_path_with_limit(rt.alloc(), files, "words.cedar", 1048576)?;
+    /// assert_eq!(rt; again.len(), cedar.len());
+    /// ```
+    ///
+    /// # Errors
+    /// As `load_from_reader_with_limit`; also `Io` where the file can't be opened, and then `AllocationFailed` with 8192 where there is
+    /// no memory for the buffer. Want of memory otherwise is that of a list of a file whose header has passed.
+    pub fn load_from_path_with_limit<F: Files>(
+        alloc: A,
+        files: &F,
+        path: &str,
+        memory_limit: usize,
+    ) -> Result<Self, CedarPersistenceError>
+        requires limit { IsSlotLimit SLOTS }
+
+        //= A load by path that succeeds gives a well-formed table. [also load_from_path]
+        ensures formed { IfOk result (λ trie. IsWellFormed SLOTS trie.table) }
+
+        //= In a load by path want of memory is of the buffer's 8192 bytes, or of one of the four lists of a header that has passed, under
+        //  the limit that the load was given. [also load_from_path; by LacksByPath]
+        ensures lacks { IfErr result (LacksByPath (layout_byte L.kind) SLOTS memory_limit) }
+    {
+        let file = File::open(files, path)?;
+        let buffered = BufReader::new(alloc, file).map_err(no_buffer)?;
+        let mut reader = Watched::new(buffered);
+        Self::load_from_reader_with_limit(alloc, &mut reader, memory_limit)
+    }
+
+    /// `load_from_path_with_limit` with the limit by default, 2^29 bytes.
     ///
     /// ```
     /// let again = Cedar::load_from_path(rt.alloc(), files, "words.cedar")?;
@@ -68,25 +99,16 @@ impl<L: Layout, const SLOTS: usize, A: Allocator + Copy> Trie<L, SLOTS, A> {
     /// ```
     ///
     /// # Errors
-    /// As `load_from_reader`; also `Io` where the file can't be opened, and then `AllocationFailed` with 8192 where there is
-    /// no memory for the buffer. Want of memory otherwise is that of a list of a file whose header has passed.
+    /// As `load_from_path_with_limit`.
     pub fn load_from_path<F: Files>(
         alloc: A,
         files: &F,
         path: &str,
     ) -> Result<Self, CedarPersistenceError>
         requires limit { IsSlotLimit SLOTS }
-
-        //= A load by path that succeeds gives a well-formed table.
         ensures formed { IfOk result (λ trie. IsWellFormed SLOTS trie.table) }
-
-        //= In a load by path want of memory is of the buffer's 8192 bytes, or of one of the four lists of a header that has passed. [by
-        //  LacksByPath]
         ensures lacks { IfErr result (LacksByPath (layout_byte L.kind) SLOTS 536870912) }
     {
-        let file = File::open(files, path)?;
-        let buffered = BufReader::new(alloc, file).map_err(no_buffer)?;
-        let mut reader = Watched::new(buffered);
-        Self::load_from_reader(alloc, &mut reader)
+        Self::load_from_path_with_limit(alloc, files, path, DEFAULT_LOAD_MEMORY_LIMIT)
     }
 }

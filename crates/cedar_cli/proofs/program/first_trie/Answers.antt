@@ -1,6 +1,9 @@
 use Rattle.std.proofs.Common.{◌∙◌}
-use Rattle.cedar_cli.proofs.Begun.{begins_new}
+use Rattle.cedar_cli.proofs.Begun.{begins_loaded, begins_new}
 use Rattle.cedar_cli.proofs.program.first_trie.Goals as goal
 
-pub returns-in-Ok : goal.returns-in-Ok
-returns-in-Ok g c = begins_new g.L.Layout.kind c.args.options c.in-Ok.trie c.in-None.is c.in-Ok.ensures.made.tree c.in-Ok.ensures.made.unmarked (c.in-Ok.ensures.made.ordered ∙ c.ordered-builder.ensures.ordered)
+pub returns-in-Some-clause-begun : goal.returns-in-Some-clause-begun
+returns-in-Some-clause-begun g c = begins_loaded g.L.Layout.kind c.args.options c.in-Some.path c.load.result c.in-Some.is
+
+pub returns-in-Ok-clause-begun : goal.returns-in-Ok-clause-begun
+returns-in-Ok-clause-begun g c = begins_new g.L.Layout.kind c.args.options c.in-Ok.trie c.in-None.is c.in-Ok.ensures.made.tree c.in-Ok.ensures.made.unmarked (c.in-Ok.ensures.made.ordered ∙ c.ordered-builder.ensures.ordered)

@@ -18,7 +18,7 @@ returns-in_err-trie-clause-begun g c =
     (s, begins_empty g.L.Layout.kind (request_in c.args.options), none_front s (g.W.Write.contents (device_of c.args.writer.now)) (g.R.Read.remaining (device_of c.args.reader.now)))
 
 pub returns-in-Ok-clause-ok : goal.returns-in-Ok-clause-ok
-returns-in-Ok-clause-ok g c = on_ok c.save.result (view_of g.L.Layout.kind c.in_ok-trie.trie, c.in_ok-trie.ensures, c.in-Ok.ensures.ok)
+returns-in-Ok-clause-ok g c = on_ok c.save.result (view_of g.L.Layout.kind c.in_ok-trie.trie, c.in_ok-trie.ensures.begun, c.in-Ok.ensures.ok)
 
 pub returns-in-Ok-clause-unfailed : goal.returns-in-Ok-clause-unfailed
 returns-in-Ok-clause-unfailed g c = on_ok c.save.result c.in-Ok.ensures.unfailed
@@ -34,7 +34,7 @@ returns-in_err-trie-clause-unfailed g c =
     no_success _ c.from_residual.result p.0 p.1
 
 pub returns-in-Ok-clause-begun : goal.returns-in-Ok-clause-begun
-returns-in-Ok-clause-begun g c = (view_of g.L.Layout.kind c.in_ok-trie.trie, c.in_ok-trie.ensures, c.answer_script.ensures.begun)
+returns-in-Ok-clause-begun g c = (view_of g.L.Layout.kind c.in_ok-trie.trie, c.in_ok-trie.ensures.begun, c.answer_script.ensures.begun)
 
 pub returns-clause-begun : goal.returns-clause-begun
-returns-clause-begun g c = (view_of g.L.Layout.kind c.in_ok-trie.trie, c.in_ok-trie.ensures, c.answer_script.ensures.begun)
+returns-clause-begun g c = (view_of g.L.Layout.kind c.in_ok-trie.trie, c.in_ok-trie.ensures.begun, c.answer_script.ensures.begun)
