@@ -20,3 +20,6 @@ pub mod LongestLemmas
 pub mod RangeLemmas
 pub mod BetweenLemmas
 pub mod BoundedLemmas
+mod PutBackLemmas
+mod InnerMarksLemmas
+mod ShrinkLemmas

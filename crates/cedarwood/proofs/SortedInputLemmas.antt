@@ -139,7 +139,7 @@ path_clean [] path i h = absurd (omega (arith, h))
 path_clean (b ∷ key) path zero h = λ e. omega (arith, path.0, e)
 path_clean (b ∷ key) path (suc i) h = path_clean key path.2 i (omega (arith, h))
 
-key_clean : (key : List ℕ) → IsKey key → HasNoNul key
+pub key_clean : (key : List ℕ) → IsKey key → HasNoNul key
 key_clean [] is = absurd is
 key_clean (b ∷ key) is = path_clean (b ∷ key) is
 

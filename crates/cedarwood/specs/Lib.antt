@@ -9,6 +9,7 @@ pub mod Making
 pub mod Memory
 pub mod OnTable
 pub mod Shown
+pub mod Shrinking
 pub mod Room
 pub mod SortedInput
 pub mod WalkPlaces

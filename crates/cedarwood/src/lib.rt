@@ -29,6 +29,7 @@ mod pair;
 pub mod persistence;
 mod queries;
 mod room;
+mod shrink;
 mod sorted;
 mod texts;
 mod trie;

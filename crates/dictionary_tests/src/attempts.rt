@@ -1,7 +1,7 @@
 //! Calls on a dictionary that take memory, each request of which is refused in turn.
 ghost use Rattle.cedar_slots.specs.Places.{IsSlotLimit};
 
-use crate::bare::{Full, below, build, copied, counts, fronts, insert, made, update};
+use crate::bare::{Full, below, build, copied, counts, fronts, insert, made, shrink, update};
 use crate::state::{State, loads_again, state_of};
 use cedarwood::{CedarError, DefaultLayout, Layout, ReducedLayout, Trie};
 use std::alloc::{Allocator, Global};
@@ -27,15 +27,17 @@ enum Attempt {
     Clone,
     Fronts,
     Predicted,
+    Shrink,
 }
 
-const ATTEMPTS: [Attempt; 6] = [
+const ATTEMPTS: [Attempt; 7] = [
     Attempt::Update,
     Attempt::Insert,
     Attempt::Build,
     Attempt::Clone,
     Attempt::Fronts,
     Attempt::Predicted,
+    Attempt::Shrink,
 ];
 
 fn begun<L: Layout, const SLOTS: usize, A: Allocator + Copy>(
@@ -82,6 +84,7 @@ fn make_attempt<L: Layout, const SLOTS: usize, A: Allocator + Copy>(
             insert(trie, &LONG, 9)?;
         }
         Attempt::Build => build(trie, &PAIRS)?,
+        Attempt::Shrink => shrink(trie)?,
         Attempt::Clone => return count_copied(trie),
         Attempt::Fronts => return count_fronts(trie),
         Attempt::Predicted => return count_predicted(trie),
@@ -94,7 +97,7 @@ fn answer(what: Attempt) -> usize {
     match what {
         Attempt::Update | Attempt::Insert => 5,
         Attempt::Build => 7,
-        Attempt::Clone | Attempt::Predicted => 4,
+        Attempt::Clone | Attempt::Predicted | Attempt::Shrink => 4,
         Attempt::Fronts => 2,
     }
 }

@@ -67,6 +67,13 @@ pub fn insert<L: Layout, const SLOTS: usize, A: Allocator + Copy>(
     trie.insert_bytes(key, value)
 }
 
+/// Gives back what isn't needed.
+pub fn shrink<L: Layout, const SLOTS: usize, A: Allocator + Copy>(
+    trie: &mut Trie<L, SLOTS, A>,
+) -> Result<(), CedarError> {
+    trie.shrink_to_fit()
+}
+
 /// Stores some pairs.
 pub fn build<L: Layout, const SLOTS: usize, A: Allocator + Copy>(
     trie: &mut Trie<L, SLOTS, A>,

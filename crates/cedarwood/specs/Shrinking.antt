@@ -1,0 +1,85 @@
+-- A dictionary built anew of another one's entries, in as little room as these take.
+use Rattle.std.specs.Prelude.{◌≡◌, ◌≤◌, ◌<◌, ◌⊎◌, ◌+◌, ◌*◌, ℕ, ℤ, Bool, List, [], ◌∷◌, length, map, Option, Some, None, IfErr, IfSome, OnErr, OnOk, Result, Ok, Err}
+use Rattle.std.specs.List.{AllByRecursion}
+use Rattle.cedar_tree.specs.Tree.{Tree, empty_tree, put}
+use Rattle.cedar_tree.specs.Queries.{Entry, walk}
+use Rattle.cedar_tree.specs.Walks.{visited_entries}
+use Rattle.cedar_bulk.specs.SortedMarks.{SortedMarks}
+use Rattle.cedar_model.specs.Table.Layouts.{LayoutKind}
+use Rattle.cedar_model.specs.Table.TableFields.{Fields}
+use Rattle.cedar_model.specs.Meaning.WellFormed.{cells_in}
+use Rattle.cedar_walk.specs.declared.visits.Numbered.{Numbered}
+use Rattle.cedar_walk.specs.Visits.{IsBelow, left_at, number_below, path_to}
+use Rattle.cedarwood.specs.declared.error.CedarError.{CedarError}
+use Rattle.cedarwood.specs.declared.error.CedarError.TheVariants.{Memory, SlotLimit}
+use Rattle.cedarwood.specs.Dictionary.{capacity_after, Dictionary, IsMarked}
+use Rattle.cedarwood.specs.Updates.{IsUpdate}
+
+-- how many bytes the keys of some entries have
+abbrev pub key_bytes : List Entry → ℕ
+key_bytes [] = 0
+key_bytes (entry ∷ entries) = length entry.0 + key_bytes entries
+
+-- made of another one's entries: the same state and settings, in at most one block for each byte of a key, beside the first one
+pub record IsRebuilt (layout : LayoutKind) (before made : Dictionary) : Type 0 where
+  pub state : made.state ≡ before.state
+  pub max_trial : made.max_trial ≡ before.max_trial
+  -- where a number may stand in its node's own slot, just those of keys that begin longer ones have slots of their own; by default
+  -- all have
+  pub marks : SortedMarks layout before.state.tree made.marked
+  pub marked : IsMarked made
+  pub size : (n : ℕ) × (n ≤ key_bytes (walk before.state.tree)) × (made.size ≡ 256 + 256 * n) × (made.capacity ≡ capacity_after n 256 256)
+
+-- why none could be made of some entries: for want of memory, or of slots, where the bytes of their keys may take all of these
+abbrev pub LacksPlaces : ℕ → List Entry → CedarError → Type 0
+LacksPlaces slots entries e = (e ≡ Memory) ⊎ ((e ≡ SlotLimit) × (slots ≤ 256 * key_bytes entries))
+
+-- a rebuilt dictionary takes the place of the one before, unless it has more slots: then that stays, and so it does after a refusal
+pub record IsShrunk (layout : LayoutKind) (slots : ℕ) (before after : Dictionary) (result : Result (Unit {0}) CedarError) : Type 0 where
+  pub state : after.state ≡ before.state
+  pub max_trial : after.max_trial ≡ before.max_trial
+  pub capacity : after.capacity ≤ before.capacity
+  pub rebuilt : OnOk result ((made : Dictionary) × IsRebuilt layout before made × (made.capacity ≤ before.capacity → after ≡ made) × (before.capacity < made.capacity → after ≡ before))
+  pub unchanged : OnErr result (after ≡ before)
+  pub refused : IfErr result (LacksPlaces slots (walk before.state.tree))
+
+-- ---- on the way
+
+-- some entries put into a tree, from the last one to the first
+abbrev pub put_back : Bool → Tree → List Entry → Tree
+put_back ordered t [] = t
+put_back ordered t (entry ∷ entries) = put (put_back ordered t entries) ordered entry.0 entry.1
+
+-- the entry of a node that has a number
+abbrev pub entry_of : Fields → Numbered → Entry
+entry_of T place = (path_to T place.depth place.slot, place.number)
+
+-- that node is there, and has this number
+abbrev pub IsEntryPlace : Fields → Numbered → Type 0
+IsEntryPlace T place = IsBelow (cells_in T) [] place.depth place.slot × (number_below T [] place.depth place.slot ≡ Some place.number)
+
+-- some entries stand at these nodes
+pub record ArePlaces (T : Fields) (entries : List Entry) (places : List Numbered) : Type 0 where
+  pub same : entries ≡ map (entry_of T) places
+  pub each : AllByRecursion (IsEntryPlace T) places
+
+-- the node that a walk comes to next, if there is one, and the entries from it on
+abbrev pub IsNextPlace : Fields → Option Numbered → Type 0
+IsNextPlace T next = IfSome next (IsEntryPlace T)
+
+abbrev pub entries_after : Fields → Option Numbered → List Entry
+entries_after T None = []
+entries_after T (Some place) = entry_of T place ∷ visited_entries (left_at T [] place.depth place.slot)
+
+-- a dictionary with these settings into which some entries were put, from the last one to the first; it was empty, and of one block
+pub record IsPutBack (layout : LayoutKind) (order : Bool) (trials : ℤ) (entries : List Entry) (d : Dictionary) : Type 0 where
+  pub state : d.state ≡ record { tree = put_back order empty_tree entries; ordered = order }
+  pub max_trial : d.max_trial ≡ trials
+  pub marks : SortedMarks layout d.state.tree d.marked
+  pub marked : IsMarked d
+  pub size : (n : ℕ) × (n ≤ key_bytes entries) × (d.size ≡ 256 + 256 * n) × (d.capacity ≡ capacity_after n 256 256)
+
+-- an entry is put by an update, or there was no memory for its key
+pub record PutsEntry (layout : LayoutKind) (slots : ℕ) (before after : Dictionary) (entry : Entry) (result : Result (Unit {0}) CedarError) : Type 0 where
+  pub put : OnOk result (IsUpdate layout slots before after entry.0 entry.1 (Ok tt))
+  pub refused : IfErr result (λ e. (e ≡ Memory) ⊎ IsUpdate layout slots before after entry.0 entry.1 (Err e))

@@ -1,0 +1,133 @@
+//! A dictionary in as little room as its entries take.
+
+ghost use Rattle.std.specs.Prelude.{◌≡◌, [], IfOk, map, MatchResult};
+ghost use Rattle.cedar_tree.specs.Queries.{walk};
+ghost use Rattle.cedar_model.specs.Meaning.WellFormed.{IsWellFormed, tree_of};
+ghost use Rattle.cedar_slots.specs.Places.{IsSlotLimit};
+ghost use Rattle.cedarwood.specs.Shrinking.{ArePlaces, entry_of, IsEntryPlace, IsPutBack, IsRebuilt, IsShrunk, LacksPlaces, PutsEntry};
+
+use crate::builder::CedarBuilder;
+use crate::queries::ranged::write_key;
+use crate::queries::walked::Walked;
+use crate::{CedarError, Layout, Trie};
+use cedar_walk::Numbered;
+use std::alloc::{AllocError, Allocator};
+
+/// The nodes of all entries, in the order of the walk.
+fn entry_places<T: Walked, A: Allocator>(
+    trie: &T,
+    entries: usize,
+    alloc: A,
+) -> Result<Vec<Numbered, A>, AllocError>
+    requires { IsWellFormed T.slots (T.shown trie.now) }
+    ensures { IfOk result (λ places. ArePlaces (T.shown trie.now) (walk (tree_of (T.shown trie.now))) places.items) }
+{
+    let mut places = Vec::with_capacity(alloc, entries)?;
+    let mut next = trie.first_numbered(&[]);
+    while let Some(place) = next {
+        places.push(place)?;
+        next = trie.next_numbered(place.slot, place.depth);
+    }
+    Ok(places)
+}
+
+impl<L: Layout, const SLOTS: usize, A: Allocator + Copy> Trie<L, SLOTS, A> {
+    /// Gives back the memory that growth and erasures have left: all entries are put into a new table, which takes the place of the
+    /// present one unless it has more slots. Keys, values, their order and the settings stay. While it runs there are both tables, a
+    /// list of 24 bytes for each entry, and a buffer of the length of the longest key.
+    ///
+    /// ```
+    /// cedar.update("a key of many bytes", 7)?;
+    /// cedar.erase("a key of many bytes");
+    /// cedar.shrink_to_fit()?;
+    /// assert_eq!(rt; cedar.node_capacity(), 256);
+    /// ```
+    ///
+    /// # Errors
+    /// `Memory` where a request was refused, and `SlotLimit` where the limit of slots allows no further block of the new table. After
+    /// an error nothing has changed.
+    pub fn shrink_to_fit(&mut self) -> Result<(), CedarError>
+        //= `shrink_to_fit` leaves tree, order and `max_trial`, and never more slots than there were. [by IsShrunk, state, max_trial, capacity]
+        //= It puts a rebuilt dictionary in the place of the present one, unless that has more slots; a rebuilt one has at most one block for
+        //  each byte of a key, beside the first one. [by rebuilt, IsRebuilt, size]
+        //= In a rebuilt one of the reduced layout just the numbers of keys that begin longer ones have slots of their own. [by marks,
+        //  SortedMarks]
+        //= It is refused for memory, or for slots where 256 times the bytes of all keys are the limit or more; then nothing has changed. [by
+        //  refused, unchanged, LacksPlaces]
+        ensures { IsShrunk L.kind SLOTS self.old self.new result }
+    {
+        let made = self.rebuilt()?;
+        if self.node_capacity() < made.node_capacity() {
+            return Ok(());
+        }
+        *self = made;
+        Ok(())
+    }
+
+    /// The same dictionary in a table of its own, of which each entry was put anew.
+    fn rebuilt(&self) -> Result<Self, CedarError>
+        ensures { MatchResult result (IsRebuilt L.kind self.now) (LacksPlaces SLOTS (walk self.now.state.tree)) }
+    {
+        let alloc = self.table.allocator();
+        let places = entry_places(self, self.table.entries(), alloc)?;
+        let builder = CedarBuilder {
+            ordered: self.table.ordered(),
+            max_trial: self.table.max_trial(),
+        };
+        Self::with_entries(alloc, builder, self, &places)
+    }
+
+    /// A dictionary of the entries at some places of another one.
+    fn with_entries<T: Walked>(
+        alloc: A,
+        builder: CedarBuilder,
+        from: &T,
+        places: &[Numbered],
+    ) -> Result<Self, CedarError>
+        requires limit { IsSlotLimit SLOTS }
+        requires well_formed { IsWellFormed T.slots (T.shown from.now) }
+        requires places { ArePlaces (T.shown from.now) (walk (tree_of (T.shown from.now))) places.now }
+        ensures { MatchResult result (IsPutBack L.kind builder.ordered builder.max_trial (walk (tree_of (T.shown from.now)))) (LacksPlaces SLOTS (walk (tree_of (T.shown from.now)))) }
+    {
+        let mut made = Trie::with(alloc, builder)?;
+        let mut key = Vec::new(alloc);
+        made.put_entries(from, places, &mut key)?;
+        Ok(made)
+    }
+
+    /// Puts the entries at some places of another dictionary into this one, from the last one to the first: so each node gets its labels
+    /// in the order that they have there, also where a new label goes before the other ones. Their keys are written into a buffer.
+    fn put_entries<T: Walked>(
+        &mut self,
+        from: &T,
+        places: &[Numbered],
+        key: &mut Vec<u8, A>,
+    ) -> Result<(), CedarError>
+        requires well_formed { IsWellFormed T.slots (T.shown from.now) }
+        requires places { ArePlaces (T.shown from.now) (walk (tree_of (T.shown from.now))) places.now }
+        requires empty { IsPutBack L.kind self.old.state.ordered self.old.max_trial [] self.old }
+        ensures { MatchResult result (λ _. IsPutBack L.kind self.old.state.ordered self.old.max_trial (map (entry_of (T.shown from.now)) places.now) self.new) (LacksPlaces SLOTS (map (entry_of (T.shown from.now)) places.now)) }
+    {
+        let mut left = places.len();
+        while left != 0 {
+            left -= 1;
+            self.put_entry(from, places[left], key)?;
+        }
+        Ok(())
+    }
+
+    /// Puts the entry at a place of another dictionary into this one.
+    fn put_entry<T: Walked>(
+        &mut self,
+        from: &T,
+        place: Numbered,
+        key: &mut Vec<u8, A>,
+    ) -> Result<(), CedarError>
+        requires well_formed { IsWellFormed T.slots (T.shown from.now) }
+        requires place { IsEntryPlace (T.shown from.now) place }
+        ensures { PutsEntry L.kind SLOTS self.old self.new (entry_of (T.shown from.now) place) result }
+    {
+        write_key(from, &[], place.slot, place.depth, key)?;
+        self.update_bytes(key.as_slice(), place.number)
+    }
+}
