@@ -97,7 +97,7 @@ fn check_trials(header: &Header) -> Result<(), CedarPersistenceError>
     })
 }
 
-/// The answer to a table that isn't well-formed.
+/// The error for a table that isn't well-formed.
 fn corrupt_data(corrupt: Corrupt) -> CedarPersistenceError
     ensures refusal { refusal_of result ≡ CorruptData }
     ensures io { IsIo result → ⊥ }

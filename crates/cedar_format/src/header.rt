@@ -211,7 +211,7 @@ pub fn read_header<S: Source>(reader: &mut S, layout: u8) -> Result<Header, Ceda
     with_fault(parse_header(&buf[..count], layout), fault)
 }
 
-/// Where the bytes that came were too few, a fault that ended them is the answer.
+/// Returns the fault that ended the bytes where too few came, and else the answer.
 fn with_fault<X>(
     answer: Result<X, CedarPersistenceError>,
     fault: Option<io::Error>,

@@ -1,5 +1,5 @@
 //! The binary format of a table, versions 1.0 and 1.1: its exact bytes and its exact refusals; and the devices that it is
-//! read from and written to. What stands in a file is told by a table's fields, so nothing here needs the code of tables.
+//! read from and written to. A table's fields say what a file holds, so nothing here needs the code of tables.
 #![tactic(auto)]
 
 mod body;

@@ -11,7 +11,7 @@ use std::io::ErrorKind;
 
 /// What a file is loaded from, and whether its reading has failed.
 ///
-/// The calls that load know of it only what stands here. A [`Watched`](crate::Watched) reader has failed where one of its calls
+/// The calls that load know of it only what this trait says. A [`Watched`](crate::Watched) reader has failed where one of its calls
 /// did. Bytes in memory, `&[u8]`, never fail, and begin behind what was taken.
 pub trait Source {
     ghost use Rattle.std.specs.Prelude.{◌≡◌, ◌<◌, ◌≤◌, true, Bool, length, take, List, ℕ, Option, IfErr, IfNone, IfSome, OnOk, OnSome};
@@ -44,7 +44,7 @@ pub trait Source {
         //  full. [also read_available.short.whole.early]
         ensures told { TellsBreaks (broken self.old) (broken self.new) result };
 
-    /// Fills the buffer as far as the input goes. Answers how many bytes came, and the fault that ended them.
+    /// Fills the buffer as far as the input goes. Returns how many bytes came, and the fault that ended them.
     fn read_available(&mut self, buf: &mut [u8]) -> (usize, Option<io::Error>)
         //= As far as the input goes, a buffer is filled with just the bytes that came; fewer only at the input's end or where the reading
         //  failed. [with bytes, ended, fault]
@@ -80,7 +80,7 @@ impl Source for &[u8] {
     }
 }
 
-/// The answer to a fault of the reader: its own end of input is an end of input.
+/// The error for a fault of the reader: its own end of input is an end of input.
 pub(crate) fn fault_of(error: io::Error) -> CedarPersistenceError
     ensures end { error_kind error ≡ ErrorKind.UnexpectedEof → result ≡ Truncated }
     ensures other { error_kind error ≢ ErrorKind.UnexpectedEof → result ≡ Io error }

@@ -1,4 +1,4 @@
-//! The texts of refusals, each of which a contract knows byte by byte. Of a device's fault that is what stands in front of the
+//! The texts of refusals, each of which a contract knows byte by byte. Of a device's fault that is the prefix of the
 //! device's own text.
 
 ghost use Rattle.std.specs.Prelude.{option_map, ◌++◌};
@@ -55,7 +55,7 @@ impl fmt::Display for CedarPersistenceError {
 
 impl Error for CedarPersistenceError {}
 
-/// Writes the text of a device's fault: a prefix, and then what the device tells of it.
+/// Writes the text of a device's fault: a prefix, and then the device's own text.
 fn write_fault<W: fmt::Write, D: fmt::Display>(f: &mut fmt::Formatter<W>, cause: &D) -> fmt::Result
     ensures writes { DisplaysOnOk W.write_str_gives f.old result (option_map (λ text. fault_prefix ++ text) (D.output cause.now)) f.new }
 {

@@ -8,7 +8,7 @@ use std::io::{ErrorKind, Read, Write};
 
 /// Passes its calls on to a reader or writer, and remembers whether one of them failed.
 ///
-/// It tells its bytes where the device inside does: a contract can name what a reader has left and what a
+/// Its bytes are known where those of the device inside are: a contract can name what a reader has left and what a
 /// writer holds.
 #[derive(Drop)]
 pub struct Watched<D> {

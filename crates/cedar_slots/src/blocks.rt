@@ -1,4 +1,4 @@
-//! The blocks, and the lists in which they stand.
+//! The blocks, and the lists that they are in.
 
 ghost use Rattle.std.specs.Prelude.{◌≡◌, ℕ, ◌+◌, ◌^◌, ◌<◌, ◌≤◌, ◌+ℤ◌, ◌<ℤ◌, ◌≤ℤ◌, ℤ, List, ◌∷◌, IsTrue, length, unsigned_abs, pos};
 ghost use Rattle.cedar_slots.specs.Words.{block_at, blocks_of, counts_at, fresh_counts, HasLists, head_of, KeepsCounts, KeepsLinks, kind_of, linked_blocks, ListRings, next_at, occurs, Popped, prev_at, lists_with, SameFrom, Sized, total};
@@ -141,7 +141,7 @@ impl Counts {
     }
 }
 
-/// The list in which a block stands.
+/// The list that a block is in.
 #[derive(Clone, Copy, PartialEq, Eq)]
 pub enum BlockType {
     Open,
@@ -393,8 +393,8 @@ impl<A: Allocator> Blocks<A> {
         self.change_counts(block, old, counts);
     }
 
-    /// Sets what `block` counts, which was `old`, and moves it to the list that its counts now name. Mostly that is the list in
-    /// which it stands, which is seen without a list.
+    /// Sets what `block` counts, which was `old`, and moves it to the list that its counts now name. Mostly that is the list
+    /// that it is in, which is seen without a list.
     // Else the counts go through memory in two widths, and each call waits for them.
     #[inline(always)]
     pub(crate) fn change_counts(&mut self, block: usize, old: Counts, counts: Counts)

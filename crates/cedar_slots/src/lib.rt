@@ -1,4 +1,4 @@
-//! The slots of a double-array trie and where new ones are found: the rings in which free slots stand, the blocks of 256
+//! The slots of a double-array trie and where new ones are found: the rings of free slots, the blocks of 256
 //! slots, and the three lists of blocks. Nothing here knows what the slots stand for.
 #![tactic(auto)]
 

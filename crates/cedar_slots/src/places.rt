@@ -18,7 +18,7 @@ pub struct Places<A: Allocator> {
     pub reject: Vec<i16, A>,
 }
 
-/// How many slots of `block` are counted as free and stand in no ring: the root alone.
+/// How many slots of `block` are counted as free and are in no ring: the root alone.
 pub fn reserved(block: usize) -> i16
     ensures { result ≡ pos (if block == 0 then 1 else 0) }
 {
@@ -127,7 +127,7 @@ impl<A: Allocator> Places<A> {
             .change_counts(block, counts, counts.less(slot, next));
     }
 
-    /// Frees `slot`, which stands in its block after the free slot at the head, if there is one.
+    /// Frees `slot`, which comes in its block after the free slot at the head, if there is one.
     pub fn push_e_node(&mut self, slot: usize)
         requires sound { Sound (places_of self.old) }
         requires slot_in { slot / 256 < self.old.blocks.active }
@@ -253,7 +253,7 @@ impl<A: Allocator> Places<A> {
         self.grow(2 * blocks)
     }
 
-    /// Puts one more block into use, and answers its number. The tables double if all of their
+    /// Puts one more block into use, and returns its number. The tables double if all of their
     /// blocks are in use, up to `slots` slots.
     pub fn add_block(&mut self, slots: usize) -> Result<usize, Shortage>
         requires sound { Sound (places_of self.old) }
@@ -357,7 +357,7 @@ impl<A: Allocator> Places<A> {
             .set_counts(block, counts.failed(wanted, max_trial));
     }
 
-    /// The first free slot of `block` on which the first label can stand with room for all others,
+    /// The first free slot of `block` that the first label can take with room for all others,
     /// if the block's `reject` allows a search.
     fn start_in(&self, block: usize, labels: &[u8]) -> Option<usize>
         requires sound { Sound (places_of self.now) }

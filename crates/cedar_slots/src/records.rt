@@ -27,7 +27,7 @@ impl NInfoRecord {
     };
 }
 
-/// A block of 256 slots, with its neighbours in the list in which it stands.
+/// A block of 256 slots, with its neighbours in its list.
 #[derive(Clone, Copy, Debug, PartialEq, Eq)]
 pub struct BlockRecord {
     pub prev: i32,
@@ -39,7 +39,7 @@ pub struct BlockRecord {
 }
 
 impl BlockRecord {
-    /// Block 0 with the root alone in use: it stands in no list but the ring of the full one.
+    /// Block 0 with the root alone in use: it is in no list but the ring of the full one.
     pub const ROOT: BlockRecord = BlockRecord {
         prev: 0,
         next: 0,

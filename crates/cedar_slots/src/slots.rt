@@ -1,4 +1,4 @@
-//! The slots, and the rings in which the free ones stand.
+//! The slots, and the rings of the free ones.
 
 ghost use Rattle.std.specs.Prelude.{◌≡◌, ℕ, ◌+◌, ◌*◌, ◌/◌, ◌^◌, ◌<◌, ◌≤◌, ◌⊎◌, ◌-◌, bit_xor, IsTrue, length, slice_index_or, slice_set, true, unsigned_abs};
 ghost use Rattle.cedar_slots.specs.Slots.{AllFree, base_at, blank_info, check_at, given_after, given_alone, is_free, nodes_after_link, node_record_at, SlotLink, nodes_after_take};
@@ -98,7 +98,7 @@ impl<A: Allocator> Slots<A> {
         self.infos[slot] = NInfoRecord::BLANK;
     }
 
-    /// Frees the 256 slots from `first` on, each of which stands before the next one in their ring.
+    /// Frees the 256 slots from `first` on, each of which comes before the next one in their ring.
     pub(crate) fn free_block(&mut self, first: usize)
         requires block_in { first + 256 ≤ length self.old.nodes.items }
         requires fits { length self.old.nodes.items ≤ 2 ^ 30 }

@@ -157,7 +157,7 @@ impl<L: Layout, const SLOTS: usize, A: Allocator> Table<L, SLOTS, A> {
         self.places.write_info(slot, info);
     }
 
-    /// Puts one more block into use, and answers its number. The table doubles if all of its blocks are in use.
+    /// Puts one more block into use, and returns its number. The table doubles if all of its blocks are in use.
     pub fn add_block(&mut self) -> Result<usize, Shortage>
         requires { IsTable SLOTS (fields self.old).places }
         ensures sound { IsTable SLOTS (fields self.new).places }

@@ -1,4 +1,4 @@
-//! Whether the blocks stand in the lists that their counts name, where nobody has vouched for them.
+//! Whether the blocks are in the lists that their counts name, where nobody has vouched for them.
 //!
 //! A list is walked like a ring of free slots: from its head for as many steps as it is to have blocks, each step to a
 //! block that belongs there and names the one before it. The walk along the full list begins and ends at block 0.
@@ -144,7 +144,7 @@ fn follow_list<A: Allocator, C: Ledger>(
     Ok(next)
 }
 
-/// Whether the `count` blocks that a list's ring is to have stand in a ring, of which `first` is one.
+/// Whether the `count` blocks that a list's ring is to have are in a ring, of which `first` is one.
 fn check_cycle<A: Allocator, C: Ledger>(
     blocks: &Blocks<A>,
     list: BlockType,
@@ -168,7 +168,7 @@ fn check_cycle<A: Allocator, C: Ledger>(
     Ok(())
 }
 
-/// Whether the full blocks stand in the full list, whose ring block 0 closes.
+/// Whether the full blocks are in the full list, whose ring block 0 closes.
 fn check_full_list<A: Allocator, C: Ledger>(
     blocks: &Blocks<A>,
     reads: &mut Ticks<C>,
@@ -184,7 +184,7 @@ fn check_full_list<A: Allocator, C: Ledger>(
     check_cycle(blocks, BlockType::Full, 0, count, reads)
 }
 
-/// Whether the blocks that the closed or the open list is to have stand in it.
+/// Whether the blocks that the closed or the open list is to have are in it.
 fn check_list<A: Allocator, C: Ledger>(
     blocks: &Blocks<A>,
     list: BlockType,
@@ -209,7 +209,7 @@ fn check_list<A: Allocator, C: Ledger>(
     check_cycle(blocks, list, head as usize, count, reads)
 }
 
-/// Whether each block in use but block 0 stands in the list that its counts name, and in no other.
+/// Whether each block in use but block 0 is in the list that its counts name, and in no other.
 pub(crate) fn check_lists<A: Allocator, C: Ledger>(
     blocks: &Blocks<A>,
     reads: &mut Ticks<C>,

@@ -9,7 +9,7 @@ use cedar_slots::{BLOCK_SIZE, BlockRecord, Corrupt, Places, Ticks, reserved};
 use std::alloc::Allocator;
 use std::sync::ledger::Ledger;
 
-/// Whether the free slots of `block` stand in one ring, as its record counts them.
+/// Whether the free slots of `block` are in one ring, as its record counts them.
 fn check_block<A: Allocator, C: Ledger>(
     places: &Places<A>,
     block: usize,
@@ -38,7 +38,7 @@ fn check_block<A: Allocator, C: Ledger>(
     check_ring(&places.slots, block, head, count, reads)
 }
 
-/// Whether the free slots of each block in use stand in one ring.
+/// Whether the free slots of each block in use are in one ring.
 fn check_rings<A: Allocator, C: Ledger>(
     places: &Places<A>,
     reads: &mut Ticks<C>,

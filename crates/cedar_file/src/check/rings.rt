@@ -1,4 +1,4 @@
-//! Whether the free slots of a block stand in one ring, where nobody has vouched for the slots.
+//! Whether the free slots of a block are in one ring, where nobody has vouched for the slots.
 //!
 //! A ring is walked from its head for as many steps as the block has free slots. Each step goes to a free slot of the
 //! block that names the slot before it, so no slot is met twice unless the walk comes back to the head. If it doesn't
@@ -106,7 +106,7 @@ fn follow_ring<A: Allocator, C: Ledger>(
     Ok(next)
 }
 
-/// Whether the `count` free slots of `block` stand in a ring, of which `head` is one.
+/// Whether the `count` free slots of `block` are in a ring, of which `head` is one.
 pub(crate) fn check_ring<A: Allocator, C: Ledger>(
     slots: &Slots<A>,
     block: usize,
