@@ -6,5 +6,5 @@ mod edit;
 mod keys;
 mod relocation;
 
-pub use keys::erase::erase;
+pub use keys::erase::{erase, erase_at};
 pub use keys::put::update;

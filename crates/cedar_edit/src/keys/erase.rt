@@ -120,6 +120,31 @@ fn drop_any_number<L: Layout, const SLOTS: usize, A: Allocator>(
     }
 }
 
+/// Takes away the number of a node that has one, and then each node that is left with neither number nor child. It takes
+/// no memory.
+#[inline(always)]
+pub fn erase_at<L: Layout, const SLOTS: usize, A: Allocator>(
+    table: &mut Table<L, SLOTS, A>,
+    node: usize,
+)
+    requires well_formed { IsWellFormed SLOTS (fields table.old) }
+    requires node_in { node < size_of (fields table.old) }
+    requires held { (w : List ℕ) × IsAt (cells table.old) w node × (is_some (number_at (tree_of (fields table.old)) w) ≡ true) }
+
+    //= `erase_at` of a node with a number does what `erase` of the path to it does. [with tree, marks, marks_cut, modes]
+    ensures well_formed { IsWellFormed SLOTS (fields table.new) }
+    ensures tree { (w : List ℕ) → IsAt (cells table.old) w node → tree_of (fields table.new) ≡ cut (tree_of (fields table.old)) w }
+    ensures marks { KeepsOtherMarks (cells table.old) (cells table.new) node }
+    ensures marks_cut { (w : List ℕ) → IsAt (cells table.old) w node → MarksCut (marks (fields table.old)) (marks (fields table.new)) w }
+    ensures size { size_of (fields table.new) ≡ size_of (fields table.old) }
+    ensures capacity { capacity_of (fields table.new) ≡ capacity_of (fields table.old) }
+    ensures modes { SameModes (fields table.old) (fields table.new) }
+{
+    drop_any_number(table, node);
+    trim(table, node);
+    table.set_entries(table.entries() - 1);
+}
+
 /// Takes a key's number away, and then each node that is left with neither number nor child. Answers whether the key
 /// was held. It takes no memory.
 pub fn erase<L: Layout, const SLOTS: usize, A: Allocator>(
@@ -139,7 +164,7 @@ pub fn erase<L: Layout, const SLOTS: usize, A: Allocator>(
     //= It says whether the key was held, and can't be refused.
     ensures held { result ≡ is_some (number_at (tree_of (fields table.old)) key.now) }
 
-    //= The slots in use and those that there are stay as many. [with capacity]
+    //= The slots in use and those that there are stay as many. [with capacity; also erase_at]
     ensures size { size_of (fields table.new) ≡ size_of (fields table.old) }
     ensures capacity { capacity_of (fields table.new) ≡ capacity_of (fields table.old) }
     ensures modes { SameModes (fields table.old) (fields table.new) }
@@ -150,8 +175,6 @@ pub fn erase<L: Layout, const SLOTS: usize, A: Allocator>(
     if !has_number(table, node) {
         return false;
     }
-    drop_any_number(table, node);
-    trim(table, node);
-    table.set_entries(table.entries() - 1);
+    erase_at(table, node);
     true
 }
