@@ -2,22 +2,10 @@
 use Rattle.std.proofs.Common.{◌≡◌, ℕ, zero, suc, ◌+◌, ◌*◌, ◌≤◌, ◌==◌, inl, inr, Bool, true, false, cond, length, refl, ap, sym, ◌∙◌, arith}
 use Rattle.std.proofs.lemmas.Bool.{cases_eq}
 use Rattle.std.proofs.lemmas.Bool.Decides.{nat_tests}
-use Rattle.cedar_model.specs.Meaning.Marks.{marks}
 use Rattle.cedar_model.specs.Edit.Steps.{blocks_after, MakesBlocks}
-use Rattle.cedar_model.specs.Table.TableFields.{Fields, capacity_of, size_of}
-use Rattle.cedar_model.specs.Meaning.WellFormed.{tree_of}
+use Rattle.cedar_model.specs.Table.TableFields.{Fields}
 use Rattle.cedarwood.specs.Dictionary.{Dictionary, Grows, capacity_after}
-
--- the value of a dictionary over a table
-abbrev pub dictionary_of : Fields → Dictionary
-dictionary_of T = record {
-  state = record { tree = tree_of T; ordered = T.ordered };
-  marked = marks T;
-  max_trial = T.places.blocks.max_trial;
-  size = size_of T;
-  capacity = capacity_of T;
-  table = T;
-}
+pub use Rattle.cedarwood.specs.OnTable.{dictionary_of}
 
 same_test : (a c : ℕ) → (256 * a == 256 * c) ≡ (a == c)
 same_test a c = elim (cases_eq a c) [

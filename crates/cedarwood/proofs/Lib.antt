@@ -23,3 +23,4 @@ pub mod BoundedLemmas
 mod PutBackLemmas
 mod InnerMarksLemmas
 mod ShrinkLemmas
+pub mod ErasureLemmas

@@ -4,6 +4,7 @@ pub use Rattle.cedar_tree.specs.State
 pub mod Blanks
 pub mod Builds
 pub mod Dictionary
+pub mod Erasures
 pub mod Fault
 pub mod Making
 pub mod Memory

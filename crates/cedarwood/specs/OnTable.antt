@@ -2,7 +2,7 @@
 use Rattle.std.specs.Prelude.{◌≡◌, ℕ}
 use Rattle.cedar_model.specs.Meaning.Marks.{marks}
 use Rattle.cedar_model.specs.Meaning.WellFormed.{IsWellFormed, tree_of}
-use Rattle.cedar_model.specs.Table.TableFields.{capacity_of, size_of}
+use Rattle.cedar_model.specs.Table.TableFields.{Fields, capacity_of, size_of}
 use Rattle.cedarwood.specs.Dictionary.{Dictionary}
 
 -- its table is well-formed for `slots` slots, and state, marks, settings and sizes are those of this table
@@ -13,3 +13,14 @@ pub record IsOnTable (slots : ℕ) (d : Dictionary) : Type 0 where
   pub max_trial : d.max_trial ≡ d.table.places.blocks.max_trial
   pub size : d.size ≡ size_of d.table
   pub capacity : d.capacity ≡ capacity_of d.table
+
+-- the value of a dictionary over a table
+abbrev pub dictionary_of : Fields → Dictionary
+dictionary_of T = record {
+  state = record { tree = tree_of T; ordered = T.ordered };
+  marked = marks T;
+  max_trial = T.places.blocks.max_trial;
+  size = size_of T;
+  capacity = capacity_of T;
+  table = T;
+}

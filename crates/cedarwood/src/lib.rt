@@ -20,6 +20,7 @@ mod build;
 mod builder;
 mod clone;
 mod counted;
+mod erasing;
 mod error;
 mod figures;
 mod fits;

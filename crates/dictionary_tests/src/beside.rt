@@ -88,6 +88,22 @@ fn key(alloc: Global, seed: &mut u32, keys: Keys) -> Result<Vec<u8>, AllocError>
     Ok(key)
 }
 
+// Erases all keys that begin with a prefix of both, and says whether they were as many.
+fn erase_prefix<L: Layout>(
+    alloc: Global,
+    both: &mut Beside<L>,
+    prefix: &[u8],
+) -> Result<bool, AllocError> {
+    let held = both.tree.predict(alloc, prefix)?;
+    let entries = both.tree.walk(alloc)?;
+    for (key, _) in &entries {
+        if key.as_slice().starts_with(prefix) {
+            both.tree.cut(key);
+        }
+    }
+    Ok(both.trie.erase_prefix_bytes(prefix) == held.len())
+}
+
 // One call on both, and whether they answered the same.
 fn call<L: Layout>(alloc: Global, both: &mut Beside<L>, plan: Plan) -> Result<bool, AllocError> {
     let key = key(alloc, &mut both.seed, plan.keys)?;
@@ -99,6 +115,7 @@ fn call<L: Layout>(alloc: Global, both: &mut Beside<L>, plan: Plan) -> Result<bo
             both.trie.update_bytes(&key, value).is_ok()
         }
         4 | 5 => both.tree.cut(&key) == both.trie.erase_bytes(&key),
+        6 if number % 64 == 6 => erase_prefix(alloc, both, &key)?,
         _ => true,
     };
     Ok(agreed && both.tree.exact(&key) == both.trie.exact_match_search_bytes(&key))

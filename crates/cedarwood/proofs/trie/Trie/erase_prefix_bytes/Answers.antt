@@ -1,0 +1,9 @@
+use Rattle.std.proofs.Common.{subst}
+use Rattle.cedar_table.specs.Table.Views.{fields}
+use Rattle.cedarwood.specs.Dictionary.{Dictionary}
+use Rattle.cedarwood.specs.Erasures.{IsErasedUnder}
+use Rattle.cedarwood.specs.OnTable.{dictionary_of}
+use Rattle.cedarwood.proofs.trie.Trie.erase_prefix_bytes.Goals as goal
+
+pub returns : goal.returns
+returns g c = record { erased = subst (λ (d : Dictionary). IsErasedUnder d (dictionary_of (fields c.erase_under.new.table)) c.args.prefix.now c.erase_under.result) c.self.view_is c.erase_under.ensures.erased }
