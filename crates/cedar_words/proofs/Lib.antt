@@ -1,2 +1,6 @@
+pub mod CutLemmas
 pub mod LongestLemmas
+pub mod OneLemmas
+pub mod SpotLemmas
+pub mod StepLemmas
 pub mod TokenLemmas

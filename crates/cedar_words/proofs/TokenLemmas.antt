@@ -1,5 +1,7 @@
 -- That tokens follow one another through a text.
-use Rattle.std.proofs.Common.{◌≡◌, ℕ, zero, suc, ◌+◌, ◌-◌, ◌<◌, ◌≤◌, ℤ, List, [], ◌∷◌, length, drop, Option, Some, None, refl, sym, ap, subst, ◌∙◌, arith, All, min}
+use Rattle.std.proofs.Common.{◌≡◌, ℕ, zero, suc, ◌+◌, ◌-◌, ◌<◌, ◌≤◌, ℤ, List, [], ◌∷◌, length, drop, Option, Some, None, refl, sym, ap, subst, ◌∙◌, arith, All, min, inl, inr}
+use Rattle.std.proofs.lemmas.Bool.Decides.{leb_tells}
+use Rattle.std.proofs.lemmas.List.{length-drop}
 use Rattle.std.proofs.lemmas.List.Elements.{All-cons, All-nil}
 use Rattle.std.proofs.lemmas.List.Sums.{sum-map, sum_by-cons}
 use Rattle.cedarwood.specs.Tree.{Tree}
@@ -100,7 +102,7 @@ segments_cover t text =
     let end : 0 + length text ≡ length text = omega arith in
     subst (λ e. AreAdjacent (segments t text) 0 e) end (tokens_cover t 0 0 text (omega arith))
 
-drop_one : (place : ℕ) (text rest : List ℕ) (b : ℕ) → drop place text ≡ b ∷ rest → drop (place + 1) text ≡ rest
+pub drop_one : (place : ℕ) (text rest : List ℕ) (b : ℕ) → drop place text ≡ b ∷ rest → drop (place + 1) text ≡ rest
 drop_one zero text rest b e = ap (drop 1) e
 drop_one (suc place) [] rest b e = absurd (cc)
 drop_one (suc place) (c ∷ text) rest b e = let same : suc place + 1 ≡ suc (place + 1) = omega arith in ap (λ n. drop n (c ∷ text)) same ∙ drop_one place text rest b e
@@ -117,3 +119,22 @@ tokens_longest t text zero place (b ∷ rest) e =
 
 pub segments_longest : (t : Tree) (text : List ℕ) → All (IsLongest t text) (segments t text)
 segments_longest t text = tokens_longest t text 0 0 text refl
+
+-- no bytes have no tokens
+none_left : (t : Tree) (place : ℕ) (rest : List ℕ) → length rest ≡ 0 → tokens_behind t 0 place rest ≡ []
+none_left t place [] h = refl
+none_left t place (b ∷ rest) h = absurd (omega (arith, h))
+
+-- those from a place on, or from the end where the place is behind it
+pub tokens_within : (t : Tree) (text : List ℕ) (place start : ℕ) → start ≡ min place (length text) → tokens_behind t 0 start (drop start text) ≡ tokens_behind t 0 place (drop place text)
+tokens_within t text place start is = elim (leb_tells place (length text)) [
+  | inl low ↦
+      let within = low.1 in
+      let same : start ≡ place = omega (arith, is, within) in
+      ap (λ p. tokens_behind t 0 p (drop p text)) same
+  | inr high ↦
+      let behind = high.1 in
+      let none : length (drop start text) ≡ 0 = omega (arith, is, behind, length-drop start text) in
+      let short : length (drop place text) ≡ 0 = omega (arith, behind, length-drop place text) in
+      none_left t start (drop start text) none ∙ sym (none_left t place (drop place text) short)
+]

@@ -1,3 +1,7 @@
 pub use Rattle.cedarwood.specs.Tree
 pub use Rattle.cedarwood.specs.Queries
+pub mod Cuts
+pub mod Spots
+pub mod Steps
+pub mod Tokens
 pub mod Words

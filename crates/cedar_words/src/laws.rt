@@ -1,8 +1,9 @@
 //! Laws of the tokens of a text.
 
-ghost use Rattle.std.specs.Prelude.{◌≡◌, ℕ, ◌+◌, ◌<◌, ℤ, List, [], ◌∷◌, length, drop, All, Option};
+ghost use Rattle.std.specs.Prelude.{◌≡◌, ℕ, ◌+◌, ◌<◌, ◌↔◌, ℤ, List, [], ◌∷◌, length, drop, All, Option};
+ghost use Rattle.std.specs.List.{Contains};
 ghost use Rattle.cedarwood.specs.Tree.{Tree};
-ghost use Rattle.cedar_words.specs.Words.{bytes_in, AreAdjacent, IsLongest, len_of, longest, found_number, segments, tokens_behind};
+ghost use Rattle.cedar_words.specs.Words.{bytes_in, AreAdjacent, IsCheapestBy, IsCut, IsKeyIn, IsLeftmost, IsLongest, Spot, Token, keywords_in, len_of, longest, found_number, segments, spots_from, tokens_behind};
 
 /// The tokens of a text cover it in order: each begins where the one before it ended, has one byte or more, and together they have
 /// the bytes of the text.
@@ -27,4 +28,31 @@ pub fn tokens_go_on()
     ensures ends { (tree : Tree) (place : ℕ) → tokens_behind tree 0 place [] ≡ [] }
     ensures more { (tree : Tree) (place : ℕ) (text : List ℕ) → 0 < length text → (found : Option (ℤ × ℕ)) → longest tree text ≡ found
         → tokens_behind tree 0 place text ≡ (place, len_of found, found_number found) ∷ tokens_behind tree 0 (place + len_of found) (drop (len_of found) text) }
+{}
+
+/// The tokens of any cut cover the text in order, as those of `segment` do.
+pub fn cuts_cover()
+    //= The tokens of any cut by cost cover the text: each begins where the one before it ended, the first at 0, and the last one ends with
+    //  it.
+    ensures { (tree : Tree) (text : List ℕ) (tokens : List Token) → IsCut tree text tokens → AreAdjacent tokens 0 (length text) }
+{}
+
+/// One text has one cheapest cut: so the answer hangs on the tree alone, and is the same in both layouts.
+pub fn cheapest_is_one()
+    //= Two cuts that are both the cheapest, and first among those that cost as little, are the same.
+    ensures { (tree : Tree) (unknown : ℕ → ℕ) (text : List ℕ) (one other : List Token) → IsCheapestBy tree unknown text one → IsCheapestBy tree unknown text other → one ≡ other }
+{}
+
+/// The matches of a text are just the keys that stand in it.
+pub fn matches_are_keys()
+    //= A key is among the matches of a text exactly if these bytes of the text, one or more, are that key: each match is one, and none is
+    //  left out.
+    ensures { (tree : Tree) (text : List ℕ) (found : Spot) → Contains (spots_from tree 0 text) found ↔ IsKeyIn tree text found }
+{}
+
+/// No key begins before the first keyword of a text, between two or behind the last, and each is the longest key at its place.
+pub fn keywords_are_leftmost()
+    //= No key begins before the first keyword of a text, between two or behind the last one, and each is the longest key that begins at its
+    //  place.
+    ensures { (tree : Tree) (text : List ℕ) → IsLeftmost tree text 0 (keywords_in tree text) }
 {}

@@ -1,5 +1,6 @@
-//! A text cut into tokens by the keys of a dictionary: at each place the longest key that begins there, with its value, or
-//! else one byte without a value.
+//! Texts by the keys of a dictionary. `segment` cuts a text into tokens: at each place the longest key that begins there, with its value,
+//! or else one byte without a value. `cheapest` cuts it so that its tokens cost the least together. `matches` finds all keys that stand in
+//! it, `leftmost_longest` those that don't overlap.
 //!
 //! ```
 //! let mut cedar = Cedar::new(rt.alloc())?;
@@ -10,10 +11,19 @@
 //! ```
 #![tactic(auto)]
 
+mod costs;
+mod keywords;
 mod laws;
 mod longest;
 mod segments;
+mod spots;
 
-pub use laws::{tokens_are_longest, tokens_cover, tokens_go_on};
+pub use costs::{cheapest, cheapest_by_characters};
+pub use keywords::{Keywords, leftmost_longest, leftmost_longest_from};
+pub use laws::{
+    cheapest_is_one, cuts_cover, keywords_are_leftmost, matches_are_keys, tokens_are_longest,
+    tokens_cover, tokens_go_on,
+};
 pub use longest::LongestPrefix;
-pub use segments::{Segments, segment};
+pub use segments::{Segments, segment, segment_from};
+pub use spots::{AllMatches, Fronts, matches, matches_from};

@@ -1,9 +1,9 @@
 //! The tokens of a text, one after another.
 
-ghost use Rattle.std.specs.Prelude.{◌≡◌, ◌<◌, ◌≤◌, ⊤, List, IfSome, Some, length, min};
+ghost use Rattle.std.specs.Prelude.{◌≡◌, ◌<◌, ◌≤◌, ⊤, List, IfSome, Some, drop, length, min};
 ghost use Rattle.std.specs.Iterator.{item_count, UpTo, YieldsFirst};
 ghost use Rattle.std.specs.Iterator.SizeHint.{IsWithinCount};
-ghost use Rattle.cedar_words.specs.Words.{bytes_in, len_of, longest, found_number, segments, Token};
+ghost use Rattle.cedar_words.specs.Words.{bytes_in, len_of, longest, found_number, segments, Token, tokens_behind};
 
 use crate::longest::LongestPrefix;
 use cedarwood::{Layout, Trie};
@@ -54,6 +54,31 @@ pub fn segment<'a, L: Layout, const SLOTS: usize, A: Allocator + Copy>(
         trie,
         rest: text,
         place: 0,
+    }
+}
+
+/// Cuts a text into tokens from a place on, as `segment` does. From the end of a token on they are those that come behind it; from a place
+/// inside one others may be found. From a place behind the text's end there are none.
+///
+/// ```
+/// cedar.build(&[("a", 1), ("abc", 3)])?;
+/// let mut later = segment_from(&cedar, b"abab", 2);
+/// assert_eq!(rt; later.next(), Some((2, 1, Some(1))));
+/// assert_eq!(rt; later.next(), Some((3, 1, None)));
+/// ```
+pub fn segment_from<'a, L: Layout, const SLOTS: usize, A: Allocator + Copy>(
+    trie: &'a Trie<L, SLOTS, A>,
+    text: &'a [u8],
+    place: usize,
+) -> Segments<'a, Trie<L, SLOTS, A>>
+    //= The tokens from a place on are those of what is left there, each with its place in the whole text.
+    ensures { result ≡ tokens_behind trie.now.state.tree 0 place (drop place text.now) }
+{
+    let start = place.min(text.len());
+    Segments {
+        trie,
+        rest: &text[start..],
+        place: start,
     }
 }
 

@@ -10,6 +10,8 @@ mod bare;
 #[cfg(test)]
 mod beside;
 #[cfg(test)]
+mod costs;
+#[cfg(test)]
 mod expect;
 #[cfg(test)]
 mod files;

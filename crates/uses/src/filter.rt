@@ -1,10 +1,12 @@
-//! Whether a text has a keyword.
+//! The keywords of a text.
 
-ghost use Rattle.std.specs.Prelude.{◌↔◌, IsTrue};
+ghost use Rattle.std.specs.Prelude.{◌≡◌, ◌↔◌, IfOk, IsTrue};
+ghost use Rattle.cedar_words.specs.Words.{keywords_in};
 ghost use Rattle.uses.specs.Keywords.{HasKeyword};
 
-use cedarwood::{Layout, Trie};
-use std::alloc::Allocator;
+use cedar_words::leftmost_longest;
+use cedarwood::{Cedar, Layout, Trie};
+use std::alloc::{AllocError, Allocator, Global};
 
 /// Whether a key stands anywhere in a text. It takes no memory.
 pub fn has_keyword<L: Layout, const SLOTS: usize, A: Allocator + Copy>(
@@ -24,4 +26,19 @@ pub fn has_keyword<L: Layout, const SLOTS: usize, A: Allocator + Copy>(
         }
     }
     false
+}
+
+/// The keywords of a text, none of which overlap: for each its place, its length and its value.
+///
+/// # Errors
+/// No memory for the answer.
+pub fn keywords_of(
+    alloc: Global,
+    keywords: &Cedar<Global>,
+    text: &str,
+) -> Result<Vec<(usize, usize, i32), Global>, AllocError>
+    //= A filter finds the keywords of a text, leftmost longest.
+    ensures { IfOk result (λ found. found.items ≡ keywords_in keywords.now.state.tree text.now) }
+{
+    leftmost_longest(keywords, text.as_bytes()).collect(alloc)
 }

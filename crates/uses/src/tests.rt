@@ -2,7 +2,7 @@ use crate::autocomplete::complete;
 use crate::callers::{Lexicon, slots, with_one};
 use crate::counted::search;
 use crate::counter::count;
-use crate::filter::has_keyword;
+use crate::filter::{has_keyword, keywords_of};
 use crate::service::publish;
 use crate::tokenizer::Tokenizer;
 use cedarwood::{
@@ -78,12 +78,28 @@ fn expect_tokens(rt: &impl Abort, alloc: Global, tokenizer: &Tokenizer) -> Resul
     Ok(())
 }
 
+// "nets" costs 1, and "net" 1 and a byte of no word 3 more.
+fn expect_cheap_tokens(rt: &impl Abort, alloc: Global, tokenizer: &Tokenizer) -> Result<(), Fail> {
+    let tokens = tokenizer.cut_by_cost(alloc, "netsx", 3)?;
+    let wanted = [(0, 4, Some(1)), (4, 1, None)];
+    assert!(rt; tokens.as_slice() == wanted.as_slice());
+    Ok(())
+}
+
+fn expect_keywords(rt: &impl Abort, alloc: Global, words: &Cedar<Global>) -> Result<(), Fail> {
+    let found = keywords_of(alloc, words, "a netsnet")?;
+    assert!(rt; found.as_slice() == [(2, 4, 1), (6, 3, 1)].as_slice());
+    Ok(())
+}
+
 #[test]
 fn tokens(rt: HostRuntime) -> Result<(), Fail> {
     let counts = count(rt.alloc(), &["net", "nets"])?;
     let file = saved(rt.alloc(), &counts)?;
     let tokenizer = loaded(rt.alloc(), &file)?;
-    expect_tokens(&rt, rt.alloc(), &tokenizer)
+    expect_tokens(&rt, rt.alloc(), &tokenizer)?;
+    expect_cheap_tokens(&rt, rt.alloc(), &tokenizer)?;
+    expect_keywords(&rt, rt.alloc(), &tokenizer.words)
 }
 
 type Live<'a> = Trie<DefaultLayout, 512, &'a Refusing<Global>>;

@@ -1,11 +1,11 @@
 //! Texts cut into words by a dictionary that was saved.
 
-ghost use Rattle.std.specs.Prelude.{◌≡◌, ℕ, IfOk};
+ghost use Rattle.std.specs.Prelude.{◌≡◌, ◌<◌, ◌^◌, ℕ, IfOk, length};
 ghost use Rattle.std.specs.Io.KnownBytes.{Consumes};
 ghost use Rattle.cedarwood.specs.Words.{IsVersion, device_of, table_bytes};
-ghost use Rattle.cedar_words.specs.Words.{segments};
+ghost use Rattle.cedar_words.specs.Words.{IsCheapest, segments};
 
-use cedar_words::segment;
+use cedar_words::{cheapest, segment};
 use cedarwood::{Cedar, CedarPersistenceError, Watched};
 use std::alloc::{AllocError, Global};
 use std::io::Read;
@@ -46,5 +46,21 @@ impl Tokenizer {
         ensures { IfOk result (λ tokens. tokens.items ≡ segments self.now.words.state.tree text.now) }
     {
         segment(&self.words, text.as_bytes()).collect(alloc)
+    }
+
+    /// The words of a text whose values add up to the least, where a byte of no word costs as much as is said.
+    ///
+    /// # Errors
+    /// No memory for the answer.
+    pub fn cut_by_cost(
+        &self,
+        alloc: Global,
+        text: &str,
+        unknown: u32,
+    ) -> Result<Vec<(usize, usize, Option<i32>), Global>, AllocError>
+        //= A tokenizer by cost cuts a text of fewer than 2^32 bytes into the cheapest tokens.
+        ensures { length text.now < 2 ^ 32 → IfOk result (λ tokens. IsCheapest self.now.words.state.tree unknown text.now tokens.items) }
+    {
+        cheapest(alloc, &self.words, text.as_bytes(), unknown)
     }
 }

@@ -1,0 +1,56 @@
+-- Cuts of a text into keys and single bytes, and what they cost.
+use Rattle.std.specs.Prelude.{◌≡◌, ℕ, ◌+◌, ◌<◌, ◌≤◌, ◌⊎◌, nat_le, if◌then◌else◌, ℤ, unsigned_abs, List, [], ◌∷◌, length, drop, take, slice_index_or, Option, Some, None, MatchOption}
+use Rattle.cedarwood.specs.Tree.{Tree, number_at}
+use Rattle.cedar_words.specs.Tokens.{Token}
+
+-- a token at the beginning of some bytes: a key with its number, or one byte without a number
+abbrev pub IsPiece : Tree → List ℕ → Token → Type 0
+IsPiece tree rest t = MatchOption t.2 (t.1 ≡ 1) (λ v. number_at tree (take t.1 rest) ≡ Some v)
+
+-- from a place to the end of a text each token begins where the one before it ended, has one byte or more, and is a key with its
+-- number, or one byte without a number
+abbrev pub IsCutFrom : Tree → List ℕ → ℕ → List Token → Type 0
+IsCutFrom tree text place [] = place ≡ length text
+IsCutFrom tree text place (t ∷ tokens) =
+    (t.0 ≡ place) × (0 < t.1) × IsPiece tree (drop place text) t × IsCutFrom tree text (place + t.1) tokens
+
+-- the tokens are a cut of the text
+abbrev pub IsCut : Tree → List ℕ → List Token → Type 0
+IsCut tree text tokens = IsCutFrom tree text 0 tokens
+
+-- what a token costs: a key its number, and a byte without a number what is said of it. No number is negative
+abbrev pub price : ℕ → Option ℤ → ℕ
+price unknown None = unknown
+price unknown (Some v) = unsigned_abs v
+
+-- what some tokens cost together, where a byte without a number costs what is said of its place
+abbrev pub cost_by : (ℕ → ℕ) → List Token → ℕ
+cost_by unknown [] = 0
+cost_by unknown (t ∷ tokens) = price (unknown t.0) t.2 + cost_by unknown tokens
+
+-- what they cost where each such byte costs the same
+abbrev pub cost_of : ℕ → List Token → ℕ
+cost_of unknown tokens = cost_by (λ _. unknown) tokens
+
+-- what a byte without a number costs at a place, so that a character costs once: nothing where it goes on with a character of UTF-8
+abbrev pub character_price : ℕ → List ℕ → ℕ → ℕ
+character_price unknown text place = if nat_le 128 (slice_index_or text place 0) then (if nat_le 192 (slice_index_or text place 0) then unknown else 0) else unknown
+
+-- where the lengths of two cuts' tokens first differ, the first cut has the longer one, and before that it has each key that the
+-- second one has
+abbrev pub IsAhead : List Token → List Token → Type 0
+IsAhead [] other = Unit {0}
+IsAhead (t ∷ tokens) [] = ⊥
+IsAhead (t ∷ tokens) (o ∷ other) =
+    (o.1 < t.1) ⊎ ((t.1 ≡ o.1) × MatchOption o.2 (Unit {0}) (λ v. t.2 ≡ Some v) × IsAhead tokens other)
+
+-- a cut that costs no more than any, and is ahead of each that costs no more, where a byte without a number costs what is said of its
+-- place
+pub record IsCheapestBy (tree : Tree) (unknown : ℕ → ℕ) (text : List ℕ) (tokens : List Token) : Type 0 where
+  pub cut : IsCut tree text tokens
+  pub least : (other : List Token) → IsCut tree text other → cost_by unknown tokens ≤ cost_by unknown other
+  pub ahead : (other : List Token) → IsCut tree text other → cost_by unknown other ≤ cost_by unknown tokens → IsAhead tokens other
+
+-- where each such byte costs the same
+abbrev pub IsCheapest : Tree → ℕ → List ℕ → List Token → Type 0
+IsCheapest tree unknown text tokens = IsCheapestBy tree (λ _. unknown) text tokens

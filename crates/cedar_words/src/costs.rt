@@ -1,0 +1,288 @@
+//! The cut of least cost: a key costs its value, and each byte without a value costs the same.
+
+ghost use Rattle.std.specs.Prelude.{◌≡◌, ◌+◌, ◌<◌, ◌≤◌, ◌^◌, ◌-◌, List, length, min, IfOk};
+ghost use Rattle.cedar_words.specs.Steps.{AreCosts, AreWithin, IsFoundBy, best_of, better_of, cut_along, key_step, step_at, step_over};
+ghost use Rattle.cedar_words.specs.Words.{IsCheapest, IsCheapestBy, IsCut, Token, character_price, cost_by, cost_of};
+
+use cedarwood::{Layout, PrefixIter, Trie, Walked};
+use std::alloc::{AllocError, Allocator};
+
+/// The first token of a cheapest cut of some bytes, and what the whole of that cut costs, or 2^64 - 1 where it costs more.
+#[derive(Clone, Copy)]
+struct Step {
+    cost: u64,
+    len: usize,
+    value: Option<i32>,
+}
+
+/// What a byte without a value costs, at each place of a text.
+trait BytePrice {
+    ghost use Rattle.std.specs.Prelude.{◌≡◌, ◌<◌, ℕ, List, length};
+
+    /// What it costs at a place.
+    ghost price_at: { Self → List ℕ → ℕ → ℕ };
+
+    /// What it costs at a place.
+    fn price(&self, text: &[u8], place: usize) -> u32
+        requires { place < length text.now }
+        ensures { result ≡ price_at self.now text.now place };
+}
+
+/// Each byte costs as much.
+#[derive(Clone, Copy)]
+struct EachByte {
+    cost: u32,
+}
+
+impl BytePrice for EachByte {
+    ghost price_at = { λ it text place. it.cost };
+
+    fn price(&self, _text: &[u8], _place: usize) -> u32 {
+        self.cost
+    }
+}
+
+/// Each character costs as much: a byte that goes on with a character of UTF-8, 128 to 191, costs nothing.
+#[derive(Clone, Copy)]
+struct EachCharacter {
+    cost: u32,
+}
+
+impl BytePrice for EachCharacter {
+    ghost use Rattle.cedar_words.specs.Words.{character_price};
+
+    ghost price_at = { λ it text place. character_price it.cost text place };
+
+    fn price(&self, text: &[u8], place: usize) -> u32 {
+        if 128 <= text[place] {
+            if 192 <= text[place] { self.cost } else { 0 }
+        } else {
+            self.cost
+        }
+    }
+}
+
+/// What finds the keys that a text begins with, one after another.
+pub(crate) trait NextFront {
+    ghost use Rattle.std.specs.Prelude.{◌≡◌, ℕ, ℤ, List, [], ◌∷◌, MatchOption};
+
+    /// Those that are still to come.
+    ghost left: { Self → List (ℤ × ℕ) };
+
+    /// The next one: its value, and one less than its bytes.
+    fn next_front(&mut self) -> Option<(i32, usize)>
+        ensures { MatchOption result (left self.old ≡ []) (λ found. left self.old ≡ found ∷ left self.new) };
+}
+
+impl<'a, T: Walked> NextFront for PrefixIter<'a, T> {
+    ghost left = { λ walk. walk.rest };
+
+    fn next_front(&mut self) -> Option<(i32, usize)> {
+        self.next()
+    }
+}
+
+/// A dictionary, as cheapest cuts see it.
+trait FirstStep {
+    ghost use Rattle.std.specs.Prelude.{◌≡◌, ◌<◌, ◌≤◌, length};
+    ghost use Rattle.cedarwood.specs.Tree.{Tree};
+    ghost use Rattle.cedarwood.specs.Queries.{front};
+    ghost use Rattle.cedar_words.specs.Steps.{best_of};
+
+    /// The labelled tree that the answers come from.
+    ghost tree: { Self → Tree };
+
+    /// The first step over some bytes, where it is known what fewer of their last bytes cost: none, one, and so on up to all but one.
+    fn first_step(&self, rest: &[u8], unknown: u32, later: &[u64]) -> Step
+        requires some { 0 < length rest.now }
+        requires later { length later.now ≡ length rest.now }
+        ensures best { result ≡ best_of unknown later.now (front (tree self.now) rest.now) }
+        ensures some { 0 < result.len }
+        ensures within { result.len ≤ length rest.now };
+}
+
+impl<L: Layout, const SLOTS: usize, A: Allocator + Copy> FirstStep for Trie<L, SLOTS, A> {
+    ghost tree = { λ trie. trie.state.tree };
+
+    fn first_step(&self, rest: &[u8], unknown: u32, later: &[u64]) -> Step {
+        cheapest_of(&mut self.common_prefix_iter_bytes(rest), unknown, later)
+    }
+}
+
+/// The cheapest of one byte and of the keys that a walk finds. Of those that cost the same it is the last, which is the longest.
+fn cheapest_of<F: NextFront>(walk: &mut F, unknown: u32, later: &[u64]) -> Step
+    requires some { 0 < length later.now }
+    requires within { AreWithin (length later.now) (F.left walk.old) }
+    ensures { result ≡ best_of unknown later.now (F.left walk.old) }
+{
+    let mut best = over(later, unknown, 1, None);
+    while let Some(front) = walk.next_front() {
+        best = cheaper(best, over_key(later, front));
+    }
+    best
+}
+
+/// The step over a key.
+fn over_key(later: &[u64], front: (i32, usize)) -> Step
+    requires { front.1 < length later.now }
+    ensures { result ≡ key_step later.now front }
+{
+    over(later, front.0.unsigned_abs(), front.1 + 1, Some(front.0))
+}
+
+/// The step over some bytes at a price.
+fn over(later: &[u64], price: u32, len: usize, value: Option<i32>) -> Step
+    requires some { 0 < len }
+    requires within { len ≤ length later.now }
+    ensures { result ≡ step_over later.now price len value }
+{
+    let behind = later[later.len() - len];
+    Step {
+        cost: u64::from(price).saturating_add(behind),
+        len,
+        value,
+    }
+}
+
+/// The cheaper of two steps, and of two that cost the same the second.
+fn cheaper(first: Step, second: Step) -> Step
+    ensures { result ≡ better_of first second }
+{
+    if second.cost <= first.cost {
+        second
+    } else {
+        first
+    }
+}
+
+/// What the last bytes of a text cost: none of them, one, and so on up to all.
+fn costs_of<T: FirstStep, P: BytePrice, B: Allocator>(
+    alloc: B,
+    trie: &T,
+    text: &[u8],
+    unknown: &P,
+) -> Result<Vec<u64, B>, AllocError>
+    ensures { IfOk result (λ costs. AreCosts (T.tree trie.now) (P.price_at unknown.now text.now) text.now costs.items) }
+{
+    let mut costs = Vec::with_capacity(alloc, text.len() + 1)?;
+    costs.push(0)?;
+    for left in 1..text.len() + 1 {
+        let place = text.len() - left;
+        let price = unknown.price(text, place);
+        let step = trie.first_step(&text[place..], price, &costs);
+        costs.push(step.cost)?;
+    }
+    Ok(costs)
+}
+
+/// The tokens along the best steps over a text. A step is looked for once more at each token, so that eight bytes are kept for a byte of
+/// the text, and no more.
+fn tokens_along<T: FirstStep, P: BytePrice, B: Allocator>(
+    alloc: B,
+    trie: &T,
+    text: &[u8],
+    unknown: &P,
+    costs: &[u64],
+) -> Result<Vec<(usize, usize, Option<i32>), B>, AllocError>
+    requires covered { length costs.now ≡ length text.now + 1 }
+    ensures { IfOk result (λ tokens. tokens.items ≡ cut_along (step_at (T.tree trie.now) (P.price_at unknown.now text.now) text.now costs.now) 0 0 (length text.now)) }
+{
+    let mut tokens = Vec::new(alloc);
+    let mut place = 0;
+    while place < text.len() {
+        let price = unknown.price(text, place);
+        let step = trie.first_step(&text[place..], price, &costs[..text.len() - place]);
+        tokens.push((place, step.len, step.value))?;
+        place += step.len;
+    }
+    Ok(tokens)
+}
+
+/// The tokens of the cheapest cut of a text.
+fn cut_by<T: FirstStep, P: BytePrice, B: Allocator + Copy>(
+    alloc: B,
+    trie: &T,
+    text: &[u8],
+    unknown: &P,
+) -> Result<Vec<(usize, usize, Option<i32>), B>, AllocError>
+    ensures { IfOk result (λ tokens. IsFoundBy (T.tree trie.now) (P.price_at unknown.now text.now) text.now tokens.items) }
+{
+    let costs = costs_of(alloc, trie, text, unknown)?;
+    tokens_along(alloc, trie, text, unknown, &costs)
+}
+
+/// Cuts a text into keys and single bytes so that they cost the least together: a key costs its value, and a byte without a value costs
+/// `unknown`, also where it is a key. It returns for each token where it begins, how many bytes it has, and its value if it has one. Of
+/// cuts that cost the same it is the one with the longer token where they first differ, and with a key rather than a byte. So one
+/// dictionary and text have one answer, in both layouts.
+///
+/// A sum above 2^64 - 1 counts as 2^64 - 1. The least sum of a text of fewer than 2^32 bytes is below that.
+///
+/// It asks for eight bytes for each byte of the text and eight more at once, and gives them back when it ends; the answer grows as any
+/// vector does. Each place costs a prefix walk, and each token of the answer one more.
+///
+/// # Errors
+/// `AllocError` where a request for memory is refused.
+///
+/// ```
+/// cedar.build(&[("a", 5), ("ab", 6), ("bcd", 1)])?;
+/// let tokens = cheapest(rt.alloc(), &cedar, b"abcd", 10)?;
+/// assert_eq!(rt; tokens.as_slice(), [(0, 1, Some(5)), (1, 3, Some(1))].as_slice());
+/// ```
+pub fn cheapest<L: Layout, const SLOTS: usize, A: Allocator + Copy, B: Allocator + Copy>(
+    alloc: B,
+    trie: &Trie<L, SLOTS, A>,
+    text: &[u8],
+    unknown: u32,
+) -> Result<Vec<(usize, usize, Option<i32>), B>, AllocError>
+    //= The tokens by cost are a cut of the text: each begins where the one before it ended, the first at 0, and the last one ends with the
+    //  text; each is a key with its value, or one byte without a value.
+    ensures cut { IfOk result (λ tokens. IsCut trie.now.state.tree text.now tokens.items) }
+
+    //= No cut of a text of fewer than 2^32 bytes costs less. Of those that cost as little it is the one with the longer token where lengths
+    //  first differ, which has each key that the other has before. [by IsCheapest]
+    ensures least { length text.now < 2 ^ 32 → IfOk result (λ tokens. IsCheapest trie.now.state.tree unknown text.now tokens.items) }
+
+    //= No cut of any text costs less, where sums above 2^64 - 1 count as 2^64 - 1.
+    ensures capped { IfOk result (λ tokens. (other : List Token) → IsCut trie.now.state.tree text.now other → min (cost_of unknown tokens.items) (2 ^ 64 - 1) ≤ cost_of unknown other) }
+{
+    cut_by(alloc, trie, text, &EachByte { cost: unknown })
+}
+
+/// Cuts a text as `cheapest` does, where an unknown character of UTF-8 costs `unknown` once: a byte without a value that goes on with a
+/// character, 128 to 191, costs nothing. Each byte is still a token of its own.
+///
+/// # Errors
+/// `AllocError` where a request for memory is refused.
+///
+/// ```
+/// cedar.build(&[("网", 9), ("ab", 30)])?;
+/// let tokens = cheapest_by_characters(rt.alloc(), &cedar, "ab".as_bytes(), 10)?;
+/// assert_eq!(rt; tokens.as_slice(), [(0, 1, None), (1, 1, None)].as_slice());
+/// let tokens = cheapest_by_characters(rt.alloc(), &cedar, "网".as_bytes(), 8)?;
+/// assert_eq!(rt; tokens.as_slice(), [(0, 1, None), (1, 1, None), (2, 1, None)].as_slice());
+/// ```
+pub fn cheapest_by_characters<
+    L: Layout,
+    const SLOTS: usize,
+    A: Allocator + Copy,
+    B: Allocator + Copy,
+>(
+    alloc: B,
+    trie: &Trie<L, SLOTS, A>,
+    text: &[u8],
+    unknown: u32,
+) -> Result<Vec<(usize, usize, Option<i32>), B>, AllocError>
+    //= By characters the tokens by cost are a cut of the text too.
+    ensures cut { IfOk result (λ tokens. IsCut trie.now.state.tree text.now tokens.items) }
+
+    //= No cut of a text of fewer than 2^32 bytes costs less, where a byte without a value that goes on with a character costs nothing. It
+    //  comes first among those that cost as little. [by IsCheapestBy, character_price]
+    ensures least { length text.now < 2 ^ 32 → IfOk result (λ tokens. IsCheapestBy trie.now.state.tree (character_price unknown text.now) text.now tokens.items) }
+
+    //= By characters too no cut of any text costs less, where sums above 2^64 - 1 count as 2^64 - 1.
+    ensures capped { IfOk result (λ tokens. (other : List Token) → IsCut trie.now.state.tree text.now other
+        → min (cost_by (character_price unknown text.now) tokens.items) (2 ^ 64 - 1) ≤ cost_by (character_price unknown text.now) other) }
+{
+    cut_by(alloc, trie, text, &EachCharacter { cost: unknown })
+}
