@@ -7,3 +7,4 @@ pub mod NextNumber
 pub mod Prefixed
 pub mod Since
 pub mod Ranges
+pub mod Last

@@ -5,3 +5,4 @@ pub mod Visits
 pub mod Words
 pub mod Ranges
 pub mod RangePlaces
+pub mod Ends

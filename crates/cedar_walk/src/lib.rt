@@ -2,11 +2,13 @@
 #![tactic(auto)]
 
 mod batch;
+mod ends;
 mod fronts;
 mod ranges;
 mod visits;
 
 pub use batch::exact_match_search_batch;
+pub use ends::last_numbered;
 pub use fronts::{Front, next_held_front};
 pub use ranges::{first_since, write_path};
 pub use visits::{Numbered, Visited, first_numbered, node_after, numbered_after};

@@ -65,7 +65,7 @@ pub(crate) fn first_child<L: Layout, const SLOTS: usize, A: Allocator>(
 
 /// The label of the sibling after a node, or 0.
 #[inline(always)]
-fn next_sibling<L: Layout, const SLOTS: usize, A: Allocator>(
+pub(crate) fn next_sibling<L: Layout, const SLOTS: usize, A: Allocator>(
     table: &Table<L, SLOTS, A>,
     node: usize,
 ) -> u8

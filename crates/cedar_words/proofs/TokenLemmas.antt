@@ -102,6 +102,16 @@ segments_cover t text =
     let end : 0 + length text ≡ length text = omega arith in
     subst (λ e. AreAdjacent (segments t text) 0 e) end (tokens_cover t 0 0 text (omega arith))
 
+-- so none of them ends behind the text
+adjacent_within : (tokens : List Token) (place end : ℕ) → AreAdjacent tokens place end → (place ≤ end) × All (λ token. token.0 + token.1 ≤ end) tokens
+adjacent_within [] place end h = (omega (arith, h), All-nil (λ (token : Token). token.0 + token.1 ≤ end))
+adjacent_within (x ∷ tokens) place end h =
+    let later = adjacent_within tokens (place + x.1) end h.2 in
+    (omega (arith, later.0), All-cons (λ (token : Token). token.0 + token.1 ≤ end) x tokens (omega (arith, later.0, h.0)) later.1)
+
+pub segments_within : (t : Tree) (text : List ℕ) → All (λ token. token.0 + token.1 ≤ length text) (segments t text)
+segments_within t text = (adjacent_within (segments t text) 0 (length text) (segments_cover t text)).1
+
 pub drop_one : (place : ℕ) (text rest : List ℕ) (b : ℕ) → drop place text ≡ b ∷ rest → drop (place + 1) text ≡ rest
 drop_one zero text rest b e = ap (drop 1) e
 drop_one (suc place) [] rest b e = absurd (cc)

@@ -1,6 +1,6 @@
 //! Laws of the tokens of a text.
 
-ghost use Rattle.std.specs.Prelude.{◌≡◌, ℕ, ◌+◌, ◌<◌, ◌↔◌, ℤ, List, [], ◌∷◌, length, drop, All, Option};
+ghost use Rattle.std.specs.Prelude.{◌≡◌, ℕ, ◌+◌, ◌<◌, ◌≤◌, ◌↔◌, ℤ, List, [], ◌∷◌, length, drop, All, Option};
 ghost use Rattle.std.specs.List.{Contains};
 ghost use Rattle.cedarwood.specs.Tree.{Tree};
 ghost use Rattle.cedar_words.specs.Words.{bytes_in, AreAdjacent, IsCheapestBy, IsCut, IsKeyIn, IsLeftmost, IsLongest, Spot, Token, keywords_in, len_of, longest, found_number, segments, spots_from, tokens_behind};
@@ -13,6 +13,12 @@ pub fn tokens_cover()
 
     //= Together they have the bytes of the text.
     ensures bytes { (tree : Tree) (text : List ℕ) → bytes_in (segments tree text) ≡ length text }
+{}
+
+/// A token lies within its text: its bytes are `&text[start..start + len]`.
+pub fn tokens_lie_within()
+    //= Each token lies within the text.
+    ensures { (tree : Tree) (text : List ℕ) → All (λ token. token.0 + token.1 ≤ length text) (segments tree text) }
 {}
 
 /// Each token is the longest key that begins at its place, with its number, or else one byte where none does.

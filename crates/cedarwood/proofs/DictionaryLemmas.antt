@@ -1,5 +1,6 @@
 -- A dictionary's value follows from its table.
-use Rattle.std.proofs.Common.{◌≡◌, ℕ, ℤ, Bool, false, List, length, Option, Some, None, IfSome, IfOk, Result, Ok, Err, option_map, true, cond, refl, ap, arith}
+use Rattle.std.proofs.Common.{◌≡◌, ℕ, ℤ, Bool, false, List, length, Option, Some, None, IfSome, IfOk, Result, Ok, Err, option_map, true, cond, inl, inr, refl, ap, subst, sym, arith}
+use Rattle.std.proofs.lemmas.Bool.Decides.{eqb_tells}
 use Rattle.cedar_tree.specs.Tree.{Tree, IsSound}
 use Rattle.cedar_tree.specs.Queries.{exact}
 use Rattle.cedar_tree.specs.Tree.{number_at}
@@ -10,6 +11,7 @@ use Rattle.cedar_model.specs.Meaning.WellFormed.{IsWellFormed, tree_of, is_value
 use Rattle.cedar_model.proofs.MeaningLemmas.TreeOf.{tree_of_is}
 use Rattle.cedarwood.specs.declared.error.CedarError.{CedarError}
 use Rattle.cedarwood.specs.declared.error.CedarError.TheVariants.{InvalidValue}
+use Rattle.cedarwood.specs.Limits.{IsLimit}
 use Rattle.cedarwood.specs.Fault.{value_fault}
 
 some_or_none : {T : Type 0} (x : T) → ◌≡◌ {A = Option T} (Some x) None → ⊥
@@ -18,6 +20,13 @@ some_or_none x h = cc
 -- there may be 2^30 slots
 pub default_limit : IsSlotLimit 1073741824
 default_limit = record { power = (22, refl); most = omega arith }
+
+-- so a limit that a call takes is one that a table takes
+pub limit_of : (slots : ℕ) → IsLimit slots → IsSlotLimit slots
+limit_of slots allowed = elim (eqb_tells slots 1073741824) [
+  | inl same ↦ subst IsSlotLimit (sym same.1) default_limit
+  | inr other ↦ allowed other.1
+]
 
 pub no_number : (slots : ℕ) (T : Fields) → IsWellFormed slots T → (tree_of T).number ≡ None
 no_number slots T w = ap (λ (t : Tree). t.number) (tree_of_is T (tree_of T).children w.stands)

@@ -24,3 +24,5 @@ mod PutBackLemmas
 mod InnerMarksLemmas
 mod ShrinkLemmas
 pub mod ErasureLemmas
+mod EndsLemmas
+mod RangeLawLemmas

@@ -1,5 +1,5 @@
 -- What was saved is loaded again, and what was loaded is saved again.
-use Rattle.std.proofs.Common.{◌≡◌, ◌⊎◌, ℕ, ◌≤◌, List, Option, Some, None, Result, Ok, Err, inl, inr, sym, subst}
+use Rattle.std.proofs.Common.{◌≡◌, ◌⊎◌, ℕ, ◌≤◌, List, Option, Some, None, Result, Ok, Err, IfErr, IsErrAnd, MatchResult, inl, inr, sym, subst}
 use Rattle.std.specs.Prelude.{MatchOption}
 use Rattle.std.specs.Result.{IsOkAnd}
 use Rattle.cedar_model.specs.Table.Layouts.{LayoutKind, layout_byte}
@@ -66,3 +66,10 @@ lacks_by_path layout slots limit old (errors.InvalidHeader a b) lacks = inr tt
 lacks_by_path layout slots limit old (errors.AllocationLimitExceeded a b) lacks = inr tt
 lacks_by_path layout slots limit old (errors.AllocationFailed n) lacks = inr (lacks.0, not_told layout slots limit old lacks.0 lacks.1, lacks.2)
 lacks_by_path layout slots limit old (errors.CorruptData a b i) lacks = inr tt
+
+-- a buffer that was refused is told as want of its bytes
+pub buffer_refused : {X E : Type 0} (r : Result X E) (told : Result X CedarPersistenceError) → MatchResult r (λ x. told ≡ Ok x) (λ e. IsErrAnd told (λ error. error ≡ errors.AllocationFailed 8192))
+    → IfErr told (λ error. error ≡ errors.AllocationFailed 8192)
+buffer_refused (Ok x) told h = subst (λ o. IfErr o (λ error. error ≡ errors.AllocationFailed 8192)) (sym h) tt
+buffer_refused (Err e) (Ok x) h = tt
+buffer_refused (Err e) (Err error) h = h

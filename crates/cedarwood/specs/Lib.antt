@@ -23,4 +23,6 @@ pub mod Updates
 pub mod Saving
 pub mod Words
 pub mod RangeWalks
+pub mod Ends
+pub mod Limits
 pub use Rattle.cedar_walk.specs.Ranges

@@ -1,5 +1,5 @@
 -- Where walks over the entries of a range stand in a table.
-use Rattle.std.specs.Prelude.{◌≡◌, ℕ, List, [], ◌∷◌, ◌++◌, filter, map, None, Option, Some}
+use Rattle.std.specs.Prelude.{◌≡◌, Bool, false, true, ℕ, List, [], ◌∷◌, ◌++◌, filter, map, None, Option, Some}
 use Rattle.std.specs.Cmp.Lexicographic.{slice_cmp}
 use Rattle.std.specs.Ordering.{is_ge, is_lt, nat_cmp}
 use Rattle.cedar_tree.specs.Tree.{Tree}
@@ -25,10 +25,20 @@ IsRangePlace T start (Some next) = IsNumberedBelow T start next.depth next.slot
 abbrev pub entries_between : Tree → List ℕ → List ℕ → List Entry
 entries_between t from to = filter (λ e. is_lt (slice_cmp nat_cmp e.0 to)) (entries_since t from)
 
--- what a walk from the root has left that ends before the path `to`
-abbrev pub bounded : Fields → List ℕ → Option Numbered → List Entry
-bounded T to next = filter (λ e. is_lt (slice_cmp nat_cmp e.0 to)) (ranged T [] next)
+-- the paths that a walk gives: all where it has no bound, and else those before the bound by bytes
+abbrev pub precedes_end : Option (List ℕ) → List ℕ → Bool
+precedes_end None w = true
+precedes_end (Some to) w = is_lt (slice_cmp nat_cmp w to)
 
--- the node where it ends: that of the first entry at `to` or after it
-abbrev pub IsEnd : Fields → List ℕ → Option Numbered → Option Numbered → Type 0
-IsEnd T to next end = filter (λ e. is_ge (slice_cmp nat_cmp e.0 to)) (ranged T [] next) ≡ ranged T [] end
+-- those behind its end
+abbrev pub follows_end : Option (List ℕ) → List ℕ → Bool
+follows_end None w = false
+follows_end (Some to) w = is_ge (slice_cmp nat_cmp w to)
+
+-- what a walk below the path `start` has left that ends before the bound
+abbrev pub bounded : Fields → List ℕ → Option (List ℕ) → Option Numbered → List Entry
+bounded T start to next = filter (λ e. precedes_end to e.0) (ranged T start next)
+
+-- the node where it ends: that of the first entry behind the end
+abbrev pub IsEnd : Fields → List ℕ → Option (List ℕ) → Option Numbered → Option Numbered → Type 0
+IsEnd T start to next end = filter (λ e. follows_end to e.0) (ranged T start next) ≡ ranged T start end

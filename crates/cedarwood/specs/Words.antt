@@ -22,8 +22,10 @@ pub use Rattle.cedar_walk.specs.Visits.{ComesTo, ComesToNumber, IsBelow, IsNumbe
 pub use Rattle.cedarwood.specs.Blanks.{IsBlankOf}
 pub use Rattle.cedarwood.specs.Builds.{IsBuild, IsRefusedBuild, all_stored, first_fault, outcome}
 pub use Rattle.cedarwood.specs.Dictionary.{Dictionary, Grows, IsMarked, IsValid, capacity_after, dictionary_code, first_bytes}
+pub use Rattle.cedarwood.specs.Ends.{first_entry, last_entry}
 pub use Rattle.cedarwood.specs.Erasures.{IsCleared, IsErasedUnder, MarksCutUnder, all_erased, entries_without, erased_under}
 pub use Rattle.cedarwood.specs.Fault.{IsInRange, IsShortage, fault, key_fault, value_fault}
+pub use Rattle.cedarwood.specs.Limits.{IsLimit}
 pub use Rattle.cedarwood.specs.Loading.{LacksByPath, LoadAnswers, LoadedFilesSaveAgain, OwnFilesLoad}
 pub use Rattle.cedarwood.specs.Making.{IsEmpty, IsNew, IsRenewed, IsSorted, IsSortedBuild, default_settings}
 pub use Rattle.cedarwood.specs.OnTable.{IsOnTable, dictionary_of}

@@ -5,7 +5,7 @@ ghost use Rattle.std.specs.Prelude.{◌↔◌, ◌≡◌, ◌≤ℤ◌, IfErr, I
 use crate::CedarError;
 use crate::fits::fits;
 use crate::sorted::check_sorted;
-use crate::trie::{Cedar, Trie};
+use crate::trie::{Cedar, ReducedCedar, Trie};
 use std::alloc::Allocator;
 
 /// The settings with which a dictionary is made: whether the labels of each node ascend, and how many failed searches
@@ -24,8 +24,8 @@ pub struct CedarBuilder {
 }
 
 impl CedarBuilder {
-    ghost use Rattle.cedarwood.specs.Words.{IsNew, IsSortedBuild, default_layout, entries_of};
-    ghost use Rattle.cedarwood.specs.Memory.{CedarFitsInMemory};
+    ghost use Rattle.cedarwood.specs.Words.{IsNew, IsSortedBuild, default_layout, entries_of, reduced_layout};
+    ghost use Rattle.cedarwood.specs.Memory.{CedarFitsInMemory, ReducedFitsInMemory};
     ghost use Rattle.cedarwood.specs.declared.builder.CedarBuilder.{CedarBuilder};
 
     /// Labels ascend, and one failed search closes a block.
@@ -100,8 +100,8 @@ impl CedarBuilder {
     /// # Errors
     /// `Memory` where a request was refused.
     pub fn build<A: Allocator + Copy>(self, alloc: A) -> Result<Cedar<A>, CedarError>
-        //= A new dictionary is empty and unmarked, has these settings and 256 slots; it is refused for memory alone. [also with, Trie::new;
-        //  by IsNew, tree, unmarked, ordered, max_trial, size]
+        //= A new dictionary is empty and unmarked, has these settings and 256 slots; it is refused for memory alone. [also with, Trie::new,
+        //  build_reduced; by IsNew, tree, unmarked, ordered, max_trial, size]
         ensures made { IsNew self result }
 
         // For calls on it in a function that is generic in the allocator.
@@ -170,6 +170,88 @@ impl CedarBuilder {
         match place {
             Some(cedar) => Ok(cedar),
             None if has_room => Trie::from_sorted_with(alloc, self, pairs),
+            None => {
+                check_sorted(pairs)?;
+                Err(CedarError::Memory)
+            }
+        }
+    }
+
+    /// `build`, of the dictionary of fewer slots.
+    ///
+    /// ```
+    /// let builder = CedarBuilder::new().max_trial(3)?;
+    /// let small = builder.build_reduced(rt.alloc())?;
+    /// assert!(rt; small.is_empty());
+    /// ```
+    ///
+    /// # Errors
+    /// `Memory` where a request was refused.
+    pub fn build_reduced<A: Allocator + Copy>(self, alloc: A) -> Result<ReducedCedar<A>, CedarError>
+        ensures made { IsNew self result }
+        ensures fits { IfOk result (λ _. ReducedFitsInMemory A.row A.Allocator) }
+    {
+        let place: Option<ReducedCedar<A>> = None;
+        let has_room = fits(&place);
+        match place {
+            Some(cedar) => Ok(cedar),
+            None if has_room => ReducedCedar::with(alloc, self),
+            None => Err(CedarError::Memory),
+        }
+    }
+
+    /// `from_sorted_bytes`, of the dictionary of fewer slots.
+    ///
+    /// ```
+    /// let pairs: [(&[u8], i32); 2] = [(b"net", 7), (b"ten", 2)];
+    /// let small = CedarBuilder::new().from_sorted_bytes_reduced(rt.alloc(), &pairs)?;
+    /// assert_eq!(rt; small.len(), 2);
+    /// ```
+    ///
+    /// # Errors
+    /// As [`CedarBuilder::from_sorted_bytes`].
+    pub fn from_sorted_bytes_reduced<A: Allocator + Copy>(
+        self,
+        alloc: A,
+        pairs: &[(&[u8], i32)],
+    ) -> Result<ReducedCedar<A>, CedarError>
+        ensures built { IsSortedBuild reduced_layout 1073741824 self (entries_of pairs.now) result }
+        ensures fits { IfOk result (λ _. ReducedFitsInMemory A.row A.Allocator) }
+    {
+        let place: Option<ReducedCedar<A>> = None;
+        let has_room = fits(&place);
+        match place {
+            Some(cedar) => Ok(cedar),
+            None if has_room => ReducedCedar::from_sorted_bytes_with(alloc, self, pairs),
+            None => {
+                check_sorted(pairs)?;
+                Err(CedarError::Memory)
+            }
+        }
+    }
+
+    /// `from_sorted_bytes_reduced` for text keys.
+    ///
+    /// ```
+    /// let refused = CedarBuilder::new().from_sorted_reduced(rt.alloc(), &[("ten", 2), ("net", 7)]);
+    /// assert!(rt; refused.is_err());
+    /// ```
+    ///
+    /// # Errors
+    /// As [`CedarBuilder::from_sorted_bytes`].
+    pub fn from_sorted_reduced<A: Allocator + Copy>(
+        self,
+        alloc: A,
+        pairs: &[(&str, i32)],
+    ) -> Result<ReducedCedar<A>, CedarError>
+        ensures built { IsSortedBuild reduced_layout 1073741824 self (entries_of pairs.now) result }
+        ensures fits { IfOk result (λ _. ReducedFitsInMemory A.row A.Allocator) }
+    {
+        let place: Option<ReducedCedar<A>> = None;
+        let has_room = fits(&place);
+        match place {
+            Some(cedar) => Ok(cedar),
+            None if has_room => ReducedCedar::from_sorted_with(alloc, self, pairs),
             None => {
                 check_sorted(pairs)?;
                 Err(CedarError::Memory)

@@ -1,7 +1,7 @@
 //! Calls whose steps are counted, made with counts of their own, which nothing reads.
 
 ghost use Rattle.std.specs.Prelude.{◌++◌, ◌≡◌, IfSome, None, drop, length, map, take, ℕ};
-ghost use Rattle.cedarwood.specs.Words.{Fields, IsBlankOf, IsSlotLimit, IsSound, LayoutKind, LoadsBy, TellsBreaks, Tree, exact, keys_of, value_fault};
+ghost use Rattle.cedarwood.specs.Words.{Fields, IsBlankOf, IsLimit, IsSound, LayoutKind, LoadsBy, TellsBreaks, Tree, exact, keys_of, value_fault};
 
 use crate::{CedarPersistenceError, Layout, Source, Ticks, Trie};
 use cedar_walk::exact_match_search_batch;
@@ -42,7 +42,7 @@ pub(crate) trait Counted<A: Allocator + Copy> {
         asked: &mut Ticks<C>,
         reads: &mut Ticks<D>,
     ) -> Result<Self, CedarPersistenceError>
-        requires { IsSlotLimit slots }
+        requires { IsLimit slots }
         ensures loads { LoadsBy table kind slots memory_limit (S.remaining reader.old) (S.remaining reader.new) (S.failed reader.new) result }
         ensures told { TellsBreaks (S.broken reader.old) (S.broken reader.new) result };
 }
@@ -115,7 +115,7 @@ pub(crate) fn load_uncounted<C: Ledger, D: Ledger, T: Counted<A>, A: Allocator +
     asked_blank: Blank,
     reads_blank: Blank,
 ) -> Result<T, CedarPersistenceError>
-    requires limit { IsSlotLimit T.slots }
+    requires limit { IsLimit T.slots }
     requires asked_blank { IsBlankOf C.name C.parts asked_blank }
     requires reads_blank { IsBlankOf D.name D.parts reads_blank }
     ensures loads { LoadsBy T.table T.kind T.slots memory_limit (S.remaining reader.old) (S.remaining reader.new) (S.failed reader.new) result }

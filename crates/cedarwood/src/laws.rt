@@ -1,7 +1,11 @@
 //! Laws of the dictionary's states and files.
 
-ghost use Rattle.std.specs.Prelude.{◌↔◌, ◌≡◌, IsTrue, List, true};
-ghost use Rattle.cedarwood.specs.Words.{Entry, LoadedFilesSaveAgain, OwnFilesLoad, all_stored, asc, new_state};
+ghost use Rattle.std.specs.Prelude.{◌↔◌, ◌≡◌, ◌++◌, ◌-◌, ◌<◌, All, IsTrue, List, length, map, nat_eq, true, ℕ};
+ghost use Rattle.std.specs.List.{Contains, filter, starts_with};
+ghost use Rattle.std.specs.Ordering.{is_lt};
+ghost use Rattle.cedar_tree.specs.Tree.{IsAscending};
+ghost use Rattle.cedar_walk.specs.Ranges.{entries_since, entries_with};
+ghost use Rattle.cedarwood.specs.Words.{Entry, LoadedFilesSaveAgain, OwnFilesLoad, Tree, all_stored, asc, front, nat_cmp, new_state, predict, slice_cmp, walk};
 
 use crate::MemoryStats;
 
@@ -10,6 +14,29 @@ use crate::MemoryStats;
 pub fn sorted_is_stored_in_turn()
     //= Its state is that which storing the pairs in turn in a new ordered dictionary gives.
     ensures { (pairs : List Entry) → all_stored new_state pairs ≡ record { tree = asc pairs; ordered = true } }
+{}
+
+/// What a prefix walk gives lies within its text: the front whose last byte has the place `n` is `&text[..n + 1]`.
+pub fn fronts_lie_within()
+    //= Each front that a prefix walk gives lies within its text.
+    ensures { (tree : Tree) (text : List ℕ) → All (λ found. found.1 < length text) (front tree text) }
+{}
+
+/// The entries with a prefix are those of all entries whose keys begin with it, and a prediction tells of each of them the value and
+/// how many bytes follow the prefix.
+pub fn prefixed_are_of_all_entries()
+    //= An entry is among those with a prefix exactly if it is among all, and its key begins with the prefix.
+    ensures held { (tree : Tree) (prefix : List ℕ) (e : Entry) → Contains (entries_with tree prefix) e ↔ (Contains (walk tree) e × (starts_with nat_eq e.0 prefix ≡ true)) }
+
+    //= A prediction has their values, in their order, and how many bytes of their keys follow the prefix.
+    ensures predicted { (tree : Tree) (prefix : List ℕ) → predict tree prefix ≡ map (λ e. (e.1, length e.0 - length prefix)) (entries_with tree prefix) }
+{}
+
+/// Where labels ascend, all entries are those whose keys are below a key, and then those that `entries_from` gives: so it leaves out
+/// just what is below, and pages that each begin where the one before ended miss nothing.
+pub fn entries_from_leave_out_what_is_below()
+    //= Where labels ascend, all entries are those below a key, and then those from the key on.
+    ensures { (tree : Tree) (key : List ℕ) → IsAscending tree.children → walk tree ≡ filter (λ e. is_lt (slice_cmp nat_cmp e.0 key)) (walk tree) ++ entries_since tree key }
 {}
 
 /// What a load makes of the bytes that a save wrote is the same table, if it finds room: `save_to_writer` and

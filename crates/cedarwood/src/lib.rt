@@ -48,10 +48,10 @@ pub use cedar_tree::{
 pub use error::CedarError;
 pub use figures::MemoryStats;
 pub use laws::{
-    figures_are_equal_by_their_fields, loaded_files_save_again, saved_tables_load_again,
+    entries_from_leave_out_what_is_below, figures_are_equal_by_their_fields, fronts_lie_within,
+    loaded_files_save_again, prefixed_are_of_all_entries, saved_tables_load_again,
     sorted_is_stored_in_turn,
 };
-pub use queries::bounded::BoundedEntries;
 pub use queries::counted::CountedPrefixIter;
 pub use queries::entries::{Entries, EntryError, Utf8Entries};
 pub use queries::predict::PrefixPredictIter;

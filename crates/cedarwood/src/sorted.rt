@@ -1,7 +1,7 @@
 //! The test of a sorted input, and a dictionary made of one.
 
 ghost use Rattle.std.specs.Prelude.{◌<◌, ◌≡◌, ◌≢◌, ◌≤◌, IfSome, IsOk, IsTrue, None, OnOk, [], get_or, length, ℕ};
-ghost use Rattle.cedarwood.specs.Words.{AreBytes, HasNoNul, IsInRange, IsSharedFront, IsSlotLimit, IsSortedBuild, entries_by, fault_behind, fault_from, fault_of_order, key_at, nat_cmp, slice_cmp};
+ghost use Rattle.cedarwood.specs.Words.{AreBytes, HasNoNul, IsInRange, IsLimit, IsSharedFront, IsSortedBuild, entries_by, fault_behind, fault_from, fault_of_order, key_at, nat_cmp, slice_cmp};
 ghost use Rattle.std.specs.declared.cmp.Ordering.TheVariants.{Less};
 
 use crate::builder::CedarBuilder;
@@ -132,7 +132,7 @@ impl<L: Layout, const SLOTS: usize, A: Allocator + Copy> Trie<L, SLOTS, A> {
         builder: CedarBuilder,
         pairs: &[(K, i32)],
     ) -> Result<Self, CedarError>
-        requires limit { IsSlotLimit SLOTS }
+        requires limit { IsLimit SLOTS }
         ensures built { IsSortedBuild L.kind SLOTS builder (entries_by K.items pairs.now) result }
     {
         check_sorted(pairs)?;

@@ -1,7 +1,7 @@
 //! The dictionary and its calls.
 
 ghost use Rattle.std.specs.Prelude.{◌*◌, ◌+◌, ◌-◌, ◌/◌, ◌<◌, ◌==◌, ◌↔◌, ◌≡◌, ◌≤◌, IfOk, IfSome, IsSome, IsTrue, None, [], length, pos, true};
-ghost use Rattle.cedarwood.specs.Words.{Dictionary, IsMarked, IsNew, IsOnTable, IsRenewed, IsSlotLimit, IsSortedBuild, IsSound, IsUpdate, IsValid, IsWellFormed, MarksCut, capacity_of, default_layout, default_settings, dictionary_code, entries_of, erased, exact, fields, marks, number_at, prefixes, size_of, tree_of, used, value_fault, walk};
+ghost use Rattle.cedarwood.specs.Words.{Dictionary, IsLimit, IsMarked, IsNew, IsOnTable, IsRenewed, IsSortedBuild, IsSound, IsUpdate, IsValid, IsWellFormed, MarksCut, capacity_of, default_layout, default_settings, dictionary_code, entries_of, erased, exact, fields, marks, number_at, prefixes, reduced_layout, size_of, tree_of, used, value_fault, walk};
 
 use crate::builder::CedarBuilder;
 use crate::counted::search_uncounted;
@@ -63,8 +63,9 @@ impl<A: Allocator + Copy> Trie<DefaultLayout, 1073741824, A> {
         ensures made { IsNew default_settings result }
 
         //= The type of the dictionary that was made fits in memory: calls on it in functions over any allocator ask for that. [also
-        //  from_sorted_bytes, from_sorted, CedarBuilder::build, CedarBuilder::from_sorted_bytes, CedarBuilder::from_sorted; by
-        //  CedarFitsInMemory]
+        //  from_sorted_bytes, from_sorted, CedarBuilder::build, CedarBuilder::from_sorted_bytes, CedarBuilder::from_sorted,
+        //  CedarBuilder::build_reduced, CedarBuilder::from_sorted_bytes_reduced, CedarBuilder::from_sorted_reduced; by CedarFitsInMemory,
+        //  ReducedFitsInMemory]
         ensures fits { IfOk result (λ _. CedarFitsInMemory A.row A.Allocator) }
     {
         Self::builder().build(alloc)
@@ -82,19 +83,20 @@ impl<A: Allocator + Copy> Trie<DefaultLayout, 1073741824, A> {
     /// As [`CedarBuilder::from_sorted_bytes`].
     pub fn from_sorted_bytes(alloc: A, pairs: &[(&[u8], i32)]) -> Result<Self, CedarError>
         //= A sorted input's first fault is answered: a pair's own, else that its key repeats the one before or is smaller. [also
-        //  from_sorted, from_sorted_bytes_with, from_sorted_with, CedarBuilder::from_sorted_bytes, CedarBuilder::from_sorted; by
-        //  IsSortedBuild, faulty]
+        //  from_sorted, from_sorted_bytes_with, from_sorted_with, CedarBuilder::from_sorted_bytes, CedarBuilder::from_sorted,
+        //  CedarBuilder::from_sorted_bytes_reduced, CedarBuilder::from_sorted_reduced; by IsSortedBuild, faulty]
         //= Else, unless it is refused, the dictionary's tree is the pairs' one tree with ascending labels, whatever the order is set to.
-        //  [also from_sorted, from_sorted_bytes_with, from_sorted_with, CedarBuilder::from_sorted_bytes, CedarBuilder::from_sorted; by
-        //  tree, asc]
+        //  [also from_sorted, from_sorted_bytes_with, from_sorted_with, CedarBuilder::from_sorted_bytes, CedarBuilder::from_sorted,
+        //  CedarBuilder::from_sorted_bytes_reduced, CedarBuilder::from_sorted_reduced; by tree, asc]
         //= Its settings are the builder's; it makes one block at most for each distinct nonempty prefix, beside the first. [also
-        //  from_sorted, from_sorted_bytes_with, from_sorted_with, CedarBuilder::from_sorted_bytes, CedarBuilder::from_sorted; by ordered,
-        //  max_trial, size]
+        //  from_sorted, from_sorted_bytes_with, from_sorted_with, CedarBuilder::from_sorted_bytes, CedarBuilder::from_sorted,
+        //  CedarBuilder::from_sorted_bytes_reduced, CedarBuilder::from_sorted_reduced; by ordered, max_trial, size]
         //= By default each number has a slot of its own; in the reduced layout just those do whose keys begin longer ones. [also
-        //  from_sorted, from_sorted_bytes_with, from_sorted_with, CedarBuilder::from_sorted_bytes, CedarBuilder::from_sorted; by marks,
-        //  SortedMarks]
+        //  from_sorted, from_sorted_bytes_with, from_sorted_with, CedarBuilder::from_sorted_bytes, CedarBuilder::from_sorted,
+        //  CedarBuilder::from_sorted_bytes_reduced, CedarBuilder::from_sorted_reduced; by marks, SortedMarks]
         //= It is refused for memory, or for slots where 256 times the number of these prefixes is the limit or more. [also from_sorted,
-        //  from_sorted_bytes_with, from_sorted_with, CedarBuilder::from_sorted_bytes, CedarBuilder::from_sorted; by refused]
+        //  from_sorted_bytes_with, from_sorted_with, CedarBuilder::from_sorted_bytes, CedarBuilder::from_sorted,
+        //  CedarBuilder::from_sorted_bytes_reduced, CedarBuilder::from_sorted_reduced; by refused]
         ensures built { IsSortedBuild default_layout 1073741824 default_settings (entries_of pairs.now) result }
         ensures fits { IfOk result (λ _. CedarFitsInMemory A.row A.Allocator) }
     {
@@ -130,6 +132,71 @@ impl<A: Allocator + Copy> Trie<DefaultLayout, 1073741824, A> {
     }
 }
 
+impl<A: Allocator + Copy> Trie<ReducedLayout, 1073741824, A> {
+    ghost use Rattle.cedarwood.specs.Memory.{ReducedFitsInMemory};
+
+    /// An empty dictionary of fewer slots, whose labels ascend. It takes its memory from `alloc`.
+    ///
+    /// ```
+    /// let small = ReducedCedar::new(rt.alloc())?;
+    /// assert!(rt; small.is_empty());
+    /// ```
+    ///
+    /// # Errors
+    /// `Memory` where a request was refused.
+    pub fn new(alloc: A) -> Result<Self, CedarError>
+        ensures made { IsNew default_settings result }
+        ensures fits { IfOk result (λ _. ReducedFitsInMemory A.row A.Allocator) }
+    {
+        Self::builder().build_reduced(alloc)
+    }
+
+    /// A dictionary of some pairs, whose keys ascend by bytes, with the settings by default. It takes its memory from `alloc`.
+    ///
+    /// ```
+    /// let pairs: [(&[u8], i32); 2] = [(b"net", 7), (b"ten", 2)];
+    /// let small = ReducedCedar::from_sorted_bytes(rt.alloc(), &pairs)?;
+    /// assert_eq!(rt; small.get("ten"), Some(2));
+    /// ```
+    ///
+    /// # Errors
+    /// As [`CedarBuilder::from_sorted_bytes`].
+    pub fn from_sorted_bytes(alloc: A, pairs: &[(&[u8], i32)]) -> Result<Self, CedarError>
+        ensures built { IsSortedBuild reduced_layout 1073741824 default_settings (entries_of pairs.now) result }
+        ensures fits { IfOk result (λ _. ReducedFitsInMemory A.row A.Allocator) }
+    {
+        Self::builder().from_sorted_bytes_reduced(alloc, pairs)
+    }
+
+    /// `from_sorted_bytes` for text keys.
+    ///
+    /// ```
+    /// let small = ReducedCedar::from_sorted(rt.alloc(), &[("net", 7), ("ten", 2)])?;
+    /// assert_eq!(rt; small.get("ten"), Some(2));
+    /// ```
+    ///
+    /// # Errors
+    /// As [`CedarBuilder::from_sorted`].
+    pub fn from_sorted(alloc: A, pairs: &[(&str, i32)]) -> Result<Self, CedarError>
+        ensures built { IsSortedBuild reduced_layout 1073741824 default_settings (entries_of pairs.now) result }
+        ensures fits { IfOk result (λ _. ReducedFitsInMemory A.row A.Allocator) }
+    {
+        Self::builder().from_sorted_reduced(alloc, pairs)
+    }
+
+    /// The settings by default.
+    ///
+    /// ```
+    /// let small = ReducedCedar::<Global>::builder().build_reduced(rt.alloc())?;
+    /// ```
+    pub fn builder() -> CedarBuilder
+        ensures ordered { result.ordered ≡ true }
+        ensures max_trial { result.max_trial ≡ pos 1 }
+    {
+        CedarBuilder::default()
+    }
+}
+
 impl<L: Layout, const SLOTS: usize, A: Allocator + Copy> Trie<L, SLOTS, A> {
     /// An empty dictionary with the settings of a builder, of any layout and limit of slots. It takes its memory from `alloc`.
     ///
@@ -141,7 +208,7 @@ impl<L: Layout, const SLOTS: usize, A: Allocator + Copy> Trie<L, SLOTS, A> {
     /// # Errors
     /// `Memory` where a request was refused.
     pub fn with(alloc: A, builder: CedarBuilder) -> Result<Self, CedarError>
-        requires limit { IsSlotLimit SLOTS }
+        requires limit { IsLimit SLOTS }
         ensures made { IsNew builder result }
     {
         Ok(Trie {
@@ -169,7 +236,7 @@ impl<L: Layout, const SLOTS: usize, A: Allocator + Copy> Trie<L, SLOTS, A> {
         builder: CedarBuilder,
         pairs: &[(&[u8], i32)],
     ) -> Result<Self, CedarError>
-        requires limit { IsSlotLimit SLOTS }
+        requires limit { IsLimit SLOTS }
         ensures built { IsSortedBuild L.kind SLOTS builder (entries_of pairs.now) result }
     {
         Self::from_sorted_keys(alloc, builder, pairs)
@@ -190,7 +257,7 @@ impl<L: Layout, const SLOTS: usize, A: Allocator + Copy> Trie<L, SLOTS, A> {
         builder: CedarBuilder,
         pairs: &[(&str, i32)],
     ) -> Result<Self, CedarError>
-        requires limit { IsSlotLimit SLOTS }
+        requires limit { IsLimit SLOTS }
         ensures built { IsSortedBuild L.kind SLOTS builder (entries_of pairs.now) result }
     {
         Self::from_sorted_keys(alloc, builder, pairs)

@@ -3,6 +3,7 @@ use crate::callers::{Lexicon, slots, with_one};
 use crate::counted::search;
 use crate::counter::count;
 use crate::filter::{has_keyword, keywords_of};
+use crate::pieces::pieces_of;
 use crate::service::publish;
 use crate::tokenizer::Tokenizer;
 use cedarwood::{
@@ -92,6 +93,13 @@ fn expect_keywords(rt: &impl Abort, alloc: Global, words: &Cedar<Global>) -> Res
     Ok(())
 }
 
+fn expect_pieces(rt: &impl Abort, alloc: Global, tokenizer: &Tokenizer) -> Result<(), Fail> {
+    let pieces = pieces_of(&tokenizer.words, alloc, b"a nets")?;
+    assert!(rt; pieces.len() == 3);
+    assert!(rt; pieces[2] == b"nets".as_slice());
+    Ok(())
+}
+
 #[test]
 fn tokens(rt: HostRuntime) -> Result<(), Fail> {
     let counts = count(rt.alloc(), &["net", "nets"])?;
@@ -99,7 +107,8 @@ fn tokens(rt: HostRuntime) -> Result<(), Fail> {
     let tokenizer = loaded(rt.alloc(), &file)?;
     expect_tokens(&rt, rt.alloc(), &tokenizer)?;
     expect_cheap_tokens(&rt, rt.alloc(), &tokenizer)?;
-    expect_keywords(&rt, rt.alloc(), &tokenizer.words)
+    expect_keywords(&rt, rt.alloc(), &tokenizer.words)?;
+    expect_pieces(&rt, rt.alloc(), &tokenizer)
 }
 
 type Live<'a> = Trie<DefaultLayout, 512, &'a Refusing<Global>>;

@@ -21,7 +21,6 @@ impl Tokenizer {
     ///
     /// # Errors
     /// Those of a load.
-    #[tactic(auto, using(cedarwood::proofs::DictionaryLemmas::default_limit))]
     pub fn load<R: Read>(
         alloc: Global,
         file: &mut Watched<R>,

@@ -1,7 +1,7 @@
 //! How a dictionary is loaded: from a watched reader, or from bytes in memory.
 
 ghost use Rattle.std.specs.Prelude.{◌*◌, ◌+◌};
-ghost use Rattle.cedarwood.specs.Words.{CountsWithin, IsSlotLimit, LoadsBy, TellsBreaks, layout_byte, need};
+ghost use Rattle.cedarwood.specs.Words.{CountsWithin, IsLimit, LoadsBy, TellsBreaks, layout_byte, need};
 
 use crate::counted::load_uncounted;
 use crate::{CedarPersistenceError, DEFAULT_LOAD_MEMORY_LIMIT, Layout, Source, Ticks, Trie};
@@ -30,7 +30,7 @@ impl<L: Layout, const SLOTS: usize, A: Allocator + Copy> Trie<L, SLOTS, A> {
         asked: &mut Ticks<C>,
         reads: &mut Ticks<D>,
     ) -> Result<Self, CedarPersistenceError>
-        requires limit { IsSlotLimit SLOTS }
+        requires limit { IsLimit SLOTS }
 
         //= A dictionary is loaded only from just the bytes of its table in one of the versions, and the table is well-formed, also where
         //  the reader fails. [also load_from_reader_with_limit, load_from_reader; by LoadsBy, bytes, formed]
@@ -73,7 +73,7 @@ impl<L: Layout, const SLOTS: usize, A: Allocator + Copy> Trie<L, SLOTS, A> {
         reader: &mut S,
         memory_limit: usize,
     ) -> Result<Self, CedarPersistenceError>
-        requires limit { IsSlotLimit SLOTS }
+        requires limit { IsLimit SLOTS }
         ensures loads { LoadsBy (λ trie. trie.table) L.kind SLOTS memory_limit (S.remaining reader.old) (S.remaining reader.new) (S.failed reader.new) result }
         ensures told { TellsBreaks (S.broken reader.old) (S.broken reader.new) result }
     {
@@ -103,7 +103,7 @@ impl<L: Layout, const SLOTS: usize, A: Allocator + Copy> Trie<L, SLOTS, A> {
         alloc: A,
         reader: &mut S,
     ) -> Result<Self, CedarPersistenceError>
-        requires limit { IsSlotLimit SLOTS }
+        requires limit { IsLimit SLOTS }
         ensures loads { LoadsBy (λ trie. trie.table) L.kind SLOTS 536870912 (S.remaining reader.old) (S.remaining reader.new) (S.failed reader.new) result }
         ensures told { TellsBreaks (S.broken reader.old) (S.broken reader.new) result }
     {

@@ -1,7 +1,7 @@
 //! Files by their paths, through a buffer.
 
 ghost use Rattle.std.specs.Prelude.{IfErr, IfOk, OnOk, length};
-ghost use Rattle.cedarwood.specs.Words.{FailsToSave, IsSlotLimit, IsTableFile, IsWellFormed, LacksByPath, PassesAgain, layout_byte, table_bytes};
+ghost use Rattle.cedarwood.specs.Words.{FailsToSave, IsLimit, IsTableFile, IsWellFormed, LacksByPath, PassesAgain, layout_byte, table_bytes};
 
 use crate::persistence::replace::no_buffer;
 use crate::{CedarPersistenceError, DEFAULT_LOAD_MEMORY_LIMIT, Layout, Trie, Watched};
@@ -76,7 +76,7 @@ impl<L: Layout, const SLOTS: usize, A: Allocator + Copy> Trie<L, SLOTS, A> {
         path: &str,
         memory_limit: usize,
     ) -> Result<Self, CedarPersistenceError>
-        requires limit { IsSlotLimit SLOTS }
+        requires limit { IsLimit SLOTS }
 
         //= A load by path that succeeds gives a well-formed table. [also load_from_path]
         ensures formed { IfOk result (λ trie. IsWellFormed SLOTS trie.table) }
@@ -105,7 +105,7 @@ impl<L: Layout, const SLOTS: usize, A: Allocator + Copy> Trie<L, SLOTS, A> {
         files: &F,
         path: &str,
     ) -> Result<Self, CedarPersistenceError>
-        requires limit { IsSlotLimit SLOTS }
+        requires limit { IsLimit SLOTS }
         ensures formed { IfOk result (λ trie. IsWellFormed SLOTS trie.table) }
         ensures lacks { IfErr result (LacksByPath (layout_byte L.kind) SLOTS 536870912) }
     {

@@ -1,9 +1,9 @@
 //! What a dictionary answers: exact searches, prefix walks, predictions and entries.
 
 mod batch;
-pub(crate) mod bounded;
 mod calls;
 pub(crate) mod counted;
+mod ends;
 pub(crate) mod entries;
 mod lookups;
 pub(crate) mod predict;

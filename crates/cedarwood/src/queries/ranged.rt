@@ -1,9 +1,12 @@
-//! The entries of a range of keys: those that begin with a prefix, and those from a key on.
+//! The entries of a range of keys: those that begin with a prefix, those from a key on, and those between two keys.
 
-ghost use Rattle.std.specs.Prelude.{◌≡◌, ◌<◌, ◌++◌, List, [], ◌∷◌, false, IfErr, IfOk, IfSome, length, MatchOption, MatchResult, true, ⊤};
+ghost use Rattle.std.specs.Prelude.{◌≡◌, ◌<◌, ◌++◌, ◌↔◌, List, [], ◌∷◌, false, IfErr, IfOk, IfSome, IsTrue, length, MatchOption, MatchResult, Some, true};
 ghost use Rattle.std.specs.Iterator.{item_count, UpTo};
 ghost use Rattle.std.specs.Iterator.SizeHint.{IsWithinCount};
+ghost use Rattle.std.specs.Cmp.Lexicographic.{slice_cmp};
+ghost use Rattle.std.specs.Ordering.{is_lt, nat_cmp};
 ghost use Rattle.cedar_tree.specs.Queries.{Entry};
+ghost use Rattle.cedar_walk.specs.declared.visits.Numbered.{Numbered};
 ghost use Rattle.cedar_walk.specs.Visits.{IsNumberedBelow, path_to};
 ghost use Rattle.cedar_model.specs.Meaning.WellFormed.{IsWellFormed};
 ghost use Rattle.cedarwood.specs.declared.error.CedarError.TheVariants.{Memory};
@@ -12,6 +15,7 @@ use crate::queries::walked::Walked;
 use crate::{CedarError, Layout, Trie};
 use cedar_walk::Numbered;
 use std::alloc::{AllocError, Allocator};
+use std::cmp::Ordering;
 use std::iter::FusedIterator;
 use std::marker::Model;
 
@@ -25,20 +29,26 @@ pub struct RangeEntries<'a, T: Walked, A: Allocator + Copy> {
     // What all keys begin with, and the node of the first entry that is to come, so many labels below that.
     start: &'a [u8],
     next: Option<Numbered>,
+    // The node of the first entry behind the range: so no key is compared.
+    end: Option<Numbered>,
+    // What the range ends before, if it has an end: contracts read it.
+    to: Option<&'a [u8]>,
     alloc: A,
 }
 
 impl<'a, T: Walked, A: Allocator + Copy> Model for RangeEntries<'a, T, A> {
     ghost use Rattle.std.specs.Prelude.{List};
+    ghost use Rattle.std.specs.Option.{option_map};
     ghost use Rattle.cedar_tree.specs.Queries.{Entry};
     ghost use Rattle.cedar_model.specs.Meaning.WellFormed.{IsWellFormed};
-    ghost use Rattle.cedarwood.specs.RangeWalks.{IsRangePlace, ranged};
+    ghost use Rattle.cedarwood.specs.RangeWalks.{bounded, IsEnd, IsRangePlace};
 
     ghost Value = { List Entry };
 
-    ghost view = { λ it. ranged (T.shown it.trie.now) it.start.now it.next };
+    ghost view = { λ it. bounded (T.shown it.trie.now) it.start.now (option_map (λ to. to.now) it.to) it.next };
 
-    ghost invariant = { λ it. IsWellFormed T.slots (T.shown it.trie.now) × IsRangePlace (T.shown it.trie.now) it.start.now it.next };
+    ghost invariant = { λ it. IsWellFormed T.slots (T.shown it.trie.now) × IsRangePlace (T.shown it.trie.now) it.start.now it.next × IsRangePlace (T.shown it.trie.now) it.start.now it.end
+        × IsEnd (T.shown it.trie.now) it.start.now (option_map (λ to. to.now) it.to) it.next it.end };
 }
 
 /// Writes the key of a node into a buffer, in place of what that held: a path, and then the labels below it.
@@ -62,9 +72,31 @@ pub(crate) fn write_key<T: Walked, A: Allocator>(
     Ok(())
 }
 
+/// Whether a walk ends at a slot.
+fn ends_at(end: Option<Numbered>, slot: usize) -> bool
+    ensures { IsTrue result ↔ ((last : Numbered) × (end ≡ Some last) × (last.slot ≡ slot)) }
+{
+    match end {
+        Some(last) => last.slot == slot,
+        None => false,
+    }
+}
+
+/// Whether a path comes before another one by bytes.
+fn is_before(from: &[u8], to: &[u8]) -> bool
+    ensures { result ≡ is_lt (slice_cmp nat_cmp from.now to.now) }
+{
+    match from.cmp(to) {
+        Ordering::Less => true,
+        Ordering::Equal => false,
+        Ordering::Greater => false,
+    }
+}
+
 impl<'a, T: Walked, A: Allocator + Copy> RangeEntries<'a, T, A> {
     ghost use Rattle.cedar_model.specs.Meaning.WellFormed.{tree_of};
     ghost use Rattle.cedar_walk.specs.Ranges.{entries_since, entries_with};
+    ghost use Rattle.cedarwood.specs.RangeWalks.{entries_between};
 
     // The entries at keys that begin with a prefix.
     pub(crate) fn with_prefix(trie: &'a T, prefix: &'a [u8], alloc: A) -> Self
@@ -75,6 +107,8 @@ impl<'a, T: Walked, A: Allocator + Copy> RangeEntries<'a, T, A> {
             trie,
             start: prefix,
             next: trie.first_numbered(prefix),
+            end: None,
+            to: None,
             alloc,
         }
     }
@@ -89,6 +123,36 @@ impl<'a, T: Walked, A: Allocator + Copy> RangeEntries<'a, T, A> {
             trie,
             start: &key[..0],
             next: trie.first_since(key),
+            end: None,
+            to: None,
+            alloc,
+        }
+    }
+
+    // The entries at a key and after it, before another key.
+    pub(crate) fn between(trie: &'a T, from: &[u8], to: &'a [u8], alloc: A) -> Self
+        requires well_formed { IsWellFormed T.slots (T.shown trie.now) }
+        requires ordered { (T.shown trie.now).ordered ≡ true }
+        ensures { result ≡ entries_between (tree_of (T.shown trie.now)) from.now to.now }
+    {
+        if !is_before(from, to) {
+            return RangeEntries {
+                trie,
+                start: &to[..0],
+                next: None,
+                end: None,
+                to: Some(to),
+                alloc,
+            };
+        }
+        let next = trie.first_since(from);
+        let end = trie.first_since(to);
+        RangeEntries {
+            trie,
+            start: &to[..0],
+            next,
+            end,
+            to: Some(to),
             alloc,
         }
     }
@@ -102,6 +166,10 @@ impl<'a, T: Walked, A: Allocator + Copy> RangeEntries<'a, T, A> {
     /// let mut key = Vec::new(rt.alloc());
     /// assert_eq!(rt; entries.next_into(&mut key)?, Some(1));
     /// assert_eq!(rt; key.as_slice(), b"ne".as_slice());
+    ///
+    /// let mut entries = cedar.range("nea", "neu").ok_or("ascending labels")?;
+    /// assert_eq!(rt; entries.next_into(&mut key)?, Some(7));
+    /// assert_eq!(rt; key.as_slice(), b"net".as_slice());
     /// ```
     ///
     /// # Errors
@@ -111,13 +179,16 @@ impl<'a, T: Walked, A: Allocator + Copy> RangeEntries<'a, T, A> {
         key: &mut Vec<u8, B>,
     ) -> Result<Option<i32>, CedarError>
         //= An item's key can be written into a buffer instead; where that is refused for memory, the walk stands where it stood. [with
-        //  refused; also BoundedEntries::next_into]
+        //  refused]
         ensures found { IfOk result (λ found. MatchOption found ((self.old ≡ []) × (self.new ≡ [])) (λ value. self.old ≡ (key.new.items, value) ∷ self.new)) }
         ensures refused { IfErr result (λ e. (e ≡ CedarError.Memory) × (self.new ≡ self.old) × (0 < length self.old)) }
     {
         let Some(next) = self.next else {
             return Ok(None);
         };
+        if ends_at(self.end, next.slot) {
+            return Ok(None);
+        }
         match write_key(self.trie, self.start, next.slot, next.depth, key) {
             Ok(()) => {
                 self.next = self.trie.next_numbered(next.slot, next.depth);
@@ -144,6 +215,7 @@ impl<'a, T: Walked, A: Allocator + Copy> Iterator for RangeEntries<'a, T, A> {
             Ok(None) => None,
             Err(error) => {
                 self.next = None;
+                self.end = None;
                 Some(Err(error))
             }
         }
@@ -153,7 +225,7 @@ impl<'a, T: Walked, A: Allocator + Copy> Iterator for RangeEntries<'a, T, A> {
         ensures lower { IsWithinCount result.0 (item_count (λ (rest : List Entry). rest) self.now) }
         ensures upper { IfSome result.1 (UpTo (item_count (λ (rest : List Entry). rest) self.now)) }
 
-        //= The size hint of such a walk is from 0 on. [also BoundedEntries::size_hint]
+        //= The size hint of such a walk is from 0 on.
         ensures hint { result ≡ (0, None) }
     {
         (0, None)
@@ -164,6 +236,7 @@ impl<'a, T: Walked, A: Allocator + Copy> FusedIterator for RangeEntries<'a, T, A
 
 impl<L: Layout, const SLOTS: usize, A: Allocator + Copy> Trie<L, SLOTS, A> {
     ghost use Rattle.cedar_walk.specs.Ranges.{entries_since, entries_with};
+    ghost use Rattle.cedarwood.specs.RangeWalks.{entries_between};
 
     /// The entries at keys that begin with a prefix, each key before its extensions and in the order of the walk. Nothing outside the
     /// prefix's node is walked over. Each key is written for its item, in memory of the dictionary's own allocator;
@@ -226,5 +299,37 @@ impl<L: Layout, const SLOTS: usize, A: Allocator + Copy> Trie<L, SLOTS, A> {
         ensures { MatchOption result (self.now.state.ordered ≡ false) (λ entries. (self.now.state.ordered ≡ true) × (entries ≡ entries_since self.now.state.tree key.now)) }
     {
         self.entries_from_bytes(key.as_bytes())
+    }
+
+    /// The entries at the keys from `from` on and before `to` by bytes, in ascending order; None of a dictionary whose labels don't
+    /// ascend. It looks both keys up once, and walks over no entry outside.
+    ///
+    /// ```
+    /// cedar.build(&[("net", 7), ("ten", 2)])?;
+    /// let entries = cedar.range_bytes(b"net", b"ten").ok_or("ascending labels")?;
+    /// assert_eq!(rt; entries.count(), 1);
+    /// ```
+    pub fn range_bytes<'a>(&'a self, from: &[u8], to: &'a [u8]) -> Option<RangeEntries<'a, Self, A>>
+        //= `range` gives likewise those of them before another key, none where that isn't above the first, and None exactly if the order is
+        //  not ascending. [also range, RangeEntries.next_gives; by entries_between]
+        ensures { MatchOption result (self.now.state.ordered ≡ false) (λ entries. (self.now.state.ordered ≡ true) × (entries ≡ entries_between self.now.state.tree from.now to.now)) }
+    {
+        if self.table.ordered() {
+            return Some(RangeEntries::between(self, from, to, self.table.allocator()));
+        }
+        None
+    }
+
+    /// `range_bytes` for text keys.
+    ///
+    /// ```
+    /// cedar.build(&[("net", 7), ("ten", 2)])?;
+    /// let entries = cedar.range("n", "u").ok_or("ascending labels")?;
+    /// assert_eq!(rt; entries.count(), 2);
+    /// ```
+    pub fn range<'a>(&'a self, from: &str, to: &'a str) -> Option<RangeEntries<'a, Self, A>>
+        ensures { MatchOption result (self.now.state.ordered ≡ false) (λ entries. (self.now.state.ordered ≡ true) × (entries ≡ entries_between self.now.state.tree from.now to.now)) }
+    {
+        self.range_bytes(from.as_bytes(), to.as_bytes())
     }
 }

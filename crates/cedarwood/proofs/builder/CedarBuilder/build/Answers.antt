@@ -4,7 +4,7 @@ use Rattle.cedarwood.proofs.DictionaryLemmas.{default_limit, if_ok_always}
 use Rattle.cedarwood.proofs.builder.CedarBuilder.build.Goals as goal
 
 pub with-requires : goal.with-requires
-with-requires g c = (c.fits-has_room.ensures c.if-has_room.true, default_limit)
+with-requires g c = (c.fits-has_room.ensures c.if-has_room.true, λ _. default_limit)
 
 pub returns-in-None-clause-fits : goal.returns-in-None-clause-fits
 returns-in-None-clause-fits g c =

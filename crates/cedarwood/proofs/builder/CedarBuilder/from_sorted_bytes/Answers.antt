@@ -4,7 +4,7 @@ use Rattle.cedarwood.proofs.DictionaryLemmas.{default_limit, if_ok_always}
 use Rattle.cedarwood.proofs.builder.CedarBuilder.from_sorted_bytes.Goals as goal
 
 pub from_sorted_bytes_with-requires : goal.from_sorted_bytes_with-requires
-from_sorted_bytes_with-requires g c = (c.fits-has_room.ensures c.if-has_room.true, default_limit)
+from_sorted_bytes_with-requires g c = (c.fits-has_room.ensures c.if-has_room.true, λ _. default_limit)
 
 pub returns-in-None-clause-fits : goal.returns-in-None-clause-fits
 returns-in-None-clause-fits g c =

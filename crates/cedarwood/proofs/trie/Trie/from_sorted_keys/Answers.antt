@@ -3,6 +3,7 @@ use Rattle.std.proofs.lemmas.Result.{err_from_is_err_and}
 use Rattle.cedar_bulk.specs.Sorted.{entries_by}
 use Rattle.cedarwood.specs.declared.error.CedarError.{CedarError}
 use Rattle.cedarwood.specs.SortedInput.{fault_from}
+use Rattle.cedarwood.proofs.DictionaryLemmas.{limit_of}
 use Rattle.cedarwood.proofs.FaultLemmas.{no_fault}
 use Rattle.cedarwood.proofs.GrowthLemmas.{capacity_by_blocks}
 use Rattle.cedarwood.proofs.MakingLemmas.{refused_build}
@@ -29,7 +30,7 @@ build_sorted-requires g c =
     let first : Option CedarError = fault_from 0 [] (entries_by g.K.AsSlice.items c.args.pairs.now) in
     let fine : first ≡ None = no_fault first c.check_sorted.result tt c.check_sorted.ensures.faulty c.in_ok-check_sorted.was in
     let k = sorted_from 0 [] (entries_by g.K.AsSlice.items c.args.pairs.now) c.in_ok-check_sorted.ensures.bytes fine in
-    (search rules, (search rules, (c.requires.limit, (k.keys, (k.sorted, k.values)))))
+    (search rules, (search rules, (limit_of g.row.SLOTS c.requires.limit, (k.keys, (k.sorted, k.values)))))
 
 pub returns-in_err-build_sorted : goal.returns-in_err-build_sorted
 returns-in_err-build_sorted g c =

@@ -1,7 +1,7 @@
 use Rattle.std.proofs.Common.{◌∙◌, sym}
 use Rattle.cedar_model.specs.Meaning.WellFormed.{tree_of}
 use Rattle.cedarwood.proofs.BoundedLemmas.{between_turned, bounded_ends, bounded_is, bounded_places}
-use Rattle.cedarwood.proofs.queries.bounded.BoundedEntries.between.Goals as goal
+use Rattle.cedarwood.proofs.queries.ranged.RangeEntries.between.Goals as goal
 
 pub returns-then-not-is_before : goal.returns-then-not-is_before
 returns-then-not-is_before g c =
