@@ -64,7 +64,7 @@ uint32_t cedar_load_file(cedar_dictionary *d, const char *path, size_t memory_li
 }
 
 /* The bytes of the dictionary's file, in memory that the caller frees, also after an error. */
-static uint32_t save_bytes(cedar_dictionary *d, bool is_full, uint8_t **bytes, size_t *length) {
+static uint32_t save_bytes(const cedar_dictionary *d, bool is_full, uint8_t **bytes, size_t *length) {
     /* This is enough, also where all slots are listed; were it not, the library would tell how much is. */
     size_t room = FIRST_ROOM + SLOT_BYTES * cedar_capacity(d);
     uint32_t status;
@@ -139,7 +139,7 @@ static uint32_t replace(const char *path, const struct stat *old, const uint8_t 
     return is_placed ? CEDAR_OK : CEDAR_FILE_UNREAD;
 }
 
-uint32_t cedar_save_file(cedar_dictionary *d, bool is_full, const char *path) {
+uint32_t cedar_save_file(const cedar_dictionary *d, bool is_full, const char *path) {
     uint8_t *bytes = NULL;
     size_t length = 0;
     struct stat old;

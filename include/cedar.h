@@ -293,7 +293,7 @@ uint32_t cedar_load_file(cedar_dictionary *d, const char *path, size_t memory_li
  * is left if it could be removed. A file of that name that was there is lost. A symbolic link is replaced by the file. Where the path leads
  * to a pipe or a device, that is written to as it is. CEDAR_OK, CEDAR_IS_CLOSED, CEDAR_MEMORY, or CEDAR_FILE_UNREAD where a call on a file
  * failed: errno has its number. */
-uint32_t cedar_save_file(cedar_dictionary *d, bool is_full, const char *path);
+uint32_t cedar_save_file(const cedar_dictionary *d, bool is_full, const char *path);
 
 #ifdef __cplusplus
 }

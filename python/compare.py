@@ -4,7 +4,7 @@
 
 It prints a table in Markdown: what a step of each takes, by the median of all rounds, in which the contenders take turns; and how many
 times as long as the package it takes. All answers are compared with those of the dict. On Debian the others are the packages
-python3-datrie, python3-ahocorasick, python3-marisa and python3-pygtrie, the words are wamerican's.
+python3-datrie, python3-ahocorasick, python3-marisa and python3-pygtrie, the words are those of wamerican.
 """
 
 import argparse
@@ -13,11 +13,15 @@ import importlib
 import os
 import random
 import statistics
+import subprocess
 import sys
 import time
 from types import SimpleNamespace
 
-FEW, COMPLETED, TEXT_LENGTH = 20_000, 2000, 1_000_000
+# This folder has the package's sources without the compiled part: the package that is installed is meant.
+sys.path[:] = [folder for folder in sys.path if os.path.realpath(folder or ".") != os.path.dirname(os.path.realpath(__file__))]
+
+FEW, COMPLETED, TEXT_LENGTH = 5000, 1000, 200_000
 
 
 MAKES = ("sorted_inserts", "build")  # the measures that make a dictionary
@@ -41,7 +45,7 @@ class Contender:
     def erasures(self, made, keys):
         for key in keys:
             del made[key]
-        return len(made)
+        return made
 
     def insert(self, made, key, value):
         made[key] = value
@@ -105,6 +109,8 @@ class Datrie(Contender):
 
 
 class Ahocorasick(Contender):
+    """Its longest_prefix is the longest one of any key, and not the longest key."""
+
     name, module = "ahocorasick", "ahocorasick"
 
     def empty(self):
@@ -124,10 +130,7 @@ class Ahocorasick(Contender):
     def erasures(self, made, keys):
         for key in keys:
             made.remove_word(key)
-        return len(made)
-
-    def longest(self, made, texts):
-        return sum([made.longest_prefix(text) for text in texts])
+        return made
 
     def completions(self, made, prefixes):
         return sum([value for prefix in prefixes for _, value in made.items(prefix)])
@@ -187,7 +190,7 @@ class Pygtrie(Contender):
         return sum([value for text in texts for _, value in made.prefixes(text)])
 
     def longest(self, made, texts):
-        return sum([len(made.longest_prefix(text).key) for text in texts])
+        return sum([len(made.longest_prefix(text)[0]) for text in texts])
 
     def completions(self, made, prefixes):
         return sum([value for prefix in prefixes for value in made.itervalues(prefix)])
@@ -248,7 +251,7 @@ def measures(words, text):
         ("insert, in order", "sorted_inserts", pairs, len(words), len(words)),
         (f"insert of {FEW:,}, in no order", "sorted_inserts", few, FEW, FEW),
         ("build of sorted pairs, a key", "build", pairs, len(words), len(words)),
-        (f"erasure of {FEW:,}", "erasures", shuffled[:FEW], FEW, len(words) - FEW),
+        (f"erasure of {FEW:,}", "erasures", shuffled[:FEW], FEW, 0),
         ("keys that a text begins with, a text", "prefixes", texts, FEW, sum(plain[key] for keys in fronts for key in keys)),
         ("the longest of them, a text", "longest", texts, FEW, sum(len(keys[-1]) for keys in fronts)),
         (f"completions, {found / len(set(prefixes)):.0f} a prefix, each", "completions", prefixes, COMPLETED, sum(below[prefix] for prefix in prefixes)),
@@ -276,6 +279,8 @@ def timed(one, method, pairs, given):
     gc.enable()
     if method in MAKES:
         answer = len(answer.values if one.name == "marisa" else answer)
+    elif method == "erasures":
+        answer = one.misses(answer, given)  # how many are still held
     return took, answer
 
 
@@ -284,38 +289,36 @@ def resident():
         return int(file.read().split()[1]) * os.sysconf("SC_PAGE_SIZE")
 
 
-def memory(one, pairs):
-    """By how many bytes a process grows that makes the dictionary."""
-    reading, writing = os.pipe()
-    child = os.fork()
-    if child == 0:
-        gc.collect()
-        before = resident()
-        made = made_of(one, fresh(pairs))
-        os.write(writing, str(resident() - before).encode())
-        os._exit(made is None)
-    os.close(writing)
-    with os.fdopen(reading) as told:
-        grown = int(told.read())
-    os.waitpid(child, 0)
-    return grown
+def tell_memory(one, words):
+    """Prints by how many bytes this process grows that makes the dictionary, and returns it."""
+    gc.collect()
+    before = resident()
+    made = made_of(one, fresh((word, i) for i, word in enumerate(words)))
+    print(resident() - before)
+    return made
 
 
-def compare(all_contenders, words, text, rounds):
+def memory(one, given):
+    """The same of a process of its own, since one that ran before has memory to use again."""
+    command = [sys.executable, __file__, "--words", given.words, "--text", given.text, "--memory", one.name]
+    return int(subprocess.check_output(command))
+
+
+def compare(all_contenders, words, text, given):
     """The table's rows: for each measure its name, its unit, and a number for each contender, or None."""
     pairs = [(word, i) for i, word in enumerate(words)]
     for one in all_contenders:
         one.made = made_of(one, fresh(pairs))
-    for name, method, given, steps, wanted in measures(words, text):
+    for name, method, asked, steps, wanted in measures(words, text):
         times = {one.name: [] for one in all_contenders if getattr(one, method, None)}
-        for _ in range(rounds):
+        for _ in range(given.rounds):
             for one in all_contenders:
                 if one.name in times:
-                    took, answer = timed(one, method, pairs, given)
+                    took, answer = timed(one, method, pairs, asked)
                     assert answer == wanted, (one.name, name, answer, wanted)
                     times[one.name].append(took / steps)
         yield name, "ns", [1e9 * statistics.median(times[one.name]) if one.name in times else None for one in all_contenders]
-    yield "memory, a key", "bytes", [statistics.median(memory(one, pairs) for _ in range(3)) / len(words) for one in all_contenders]
+    yield "memory, a key", "bytes", [memory(one, given) / len(words) for one in all_contenders]
 
 
 def cell(number, unit, first):
@@ -330,6 +333,7 @@ def main():
     given.add_argument("--words", default="/usr/share/dict/american-english")
     given.add_argument("--text", default="/usr/share/common-licenses/GPL-3")
     given.add_argument("--rounds", type=int, default=9)
+    given.add_argument("--memory", help=argparse.SUPPRESS)
     given = given.parse_args()
     with open(given.words, encoding="utf-8") as file:
         words = sorted({line.strip() for line in file} - {""})
@@ -339,10 +343,13 @@ def main():
     all_contenders = list(contenders("".join(sorted(set(text).union(*words)))))
     if all_contenders[0].name != "roskvidh":
         raise SystemExit(2)
+    if given.memory:
+        tell_memory(next(one for one in all_contenders if one.name == given.memory), words)
+        return
     print(f"{len(words):,} words, a text of {len(text):,} characters, Python {sys.version.split()[0]}, {given.rounds} rounds\n")
     print("| measure | " + " | ".join(one.name for one in all_contenders) + " |")
     print("|---" * (1 + len(all_contenders)) + "|")
-    for name, unit, numbers in compare(all_contenders, words, text, given.rounds):
+    for name, unit, numbers in compare(all_contenders, words, text, given):
         print(f"| {name} | " + " | ".join(cell(number, unit, numbers[0]) for number in numbers) + " |", flush=True)
 
 
