@@ -4,8 +4,8 @@ use Rattle.cedar_c.proofs.LengthLemmas.{fit_drop}
 use Rattle.cedar_c.proofs.MatchLemmas.{nothing_filled}
 use Rattle.cedar_c.proofs.pages.go_on.Goals as goal
 
-pub fill_page-requires : goal.fill_page-requires
-fill_page-requires g c =
+pub fill_page-count-requires : goal.fill_page-count-requires
+fill_page-count-requires g c =
     subst (Fit c.args.more) (sym (c.pass.ensures.passed c.if-not-pass.false)) (fit_drop c.args.more c.args.next.now (g.F.Finds.left c.args.walk.now) c.requires.fit)
 
 pub returns-then-not-pass-clause-filled : goal.returns-then-not-pass-clause-filled
