@@ -10,7 +10,7 @@
  *   to `count` pairs whose keys are such, at most PTRDIFF_MAX bytes each. What is only written to needn't be set before. What two
  *   parameters point to doesn't overlap, but for what is only read. During the call nobody else writes it, nor reads what the call may
  *   write.
- * - A pointer may be null where its length, room or count is 0, and position, held, before and needed where nobody wants to know. No other
+ * - A pointer may be null where its length, room or count is 0, and position, held, before, needed and erased where nobody wants to know. No other
  *   one is null. What is proved is of pointers that aren't, and of places that are set; that others do the same is tested.
  * - A `cedar_dictionary` begins as CEDAR_CLOSED, or cedar_closed(), and is changed by these calls alone. It may be moved. Its fields aren't
  *   read or written.
@@ -164,6 +164,13 @@ uint32_t cedar_build_reduced(cedar_dictionary *d, bool ordered, int32_t max_tria
 /* Removes a key, and says whether it was held. It takes no memory. */
 bool cedar_erase(cedar_dictionary *d, const uint8_t *key, size_t length);
 
+/* Removes each key that begins with a prefix, and writes to *erased how many these were; the empty prefix removes all. It takes no memory
+ * and gives none back. CEDAR_OK, or CEDAR_IS_CLOSED: then *erased stays. */
+uint32_t cedar_erase_prefix(cedar_dictionary *d, const uint8_t *prefix, size_t length, size_t *erased);
+
+/* Removes all keys; slots and settings stay. It takes no memory and gives none back. On a closed one it does nothing. */
+void cedar_clear(cedar_dictionary *d);
+
 /* Says whether a key is held, and writes its value to *value if it is. It takes no memory. */
 bool cedar_get(const cedar_dictionary *d, const uint8_t *key, size_t length, int32_t *value);
 
@@ -180,6 +187,12 @@ size_t cedar_spare_blocks(const cedar_dictionary *d);
  * until they are. CEDAR_OK; CEDAR_IS_CLOSED; CEDAR_SLOT_LIMIT where there can't be so many blocks (2^22 in all), else CEDAR_MEMORY. After
  * an error nothing has changed. */
 uint32_t cedar_reserve(cedar_dictionary *d, size_t blocks);
+
+/* Gives back the memory that growth and erasures have left: all keys are put into a new dictionary, which takes the place of the present
+ * one unless it has more slots. Keys, values, their order, layout and settings stay. While it runs there are both, and a list of 24 bytes
+ * for each key. CEDAR_OK; CEDAR_IS_CLOSED; CEDAR_MEMORY, or CEDAR_SLOT_LIMIT where the limit of slots allows no further block of the new
+ * one. After an error nothing has changed. */
+uint32_t cedar_shrink(cedar_dictionary *d);
 
 /* A key that a walk found: its value, and how many bytes the whole key has. */
 typedef struct cedar_match {
@@ -229,9 +242,9 @@ size_t cedar_scan(const cedar_dictionary *d, const uint8_t *text, size_t length,
  * with the value -1. Else as cedar_scan: with room 1 or more each call goes on. */
 size_t cedar_segment(const cedar_dictionary *d, const uint8_t *text, size_t length, size_t *next, cedar_found *found, size_t room);
 
-/* The library's own functions take no null for position, held, before and needed. In a program these here go by their names, and put a
+/* The library's own functions take no null for position, held, before, needed and erased. In a program these here go by their names, and put a
  * place of their own there. They cost nothing where the compiler sees that a pointer isn't null. Another language, which calls the library
- * without this header, passes no null for these four. */
+ * without this header, passes no null for these five. */
 CEDAR_INLINE uint32_t cedar_nullable_save(const cedar_dictionary *d, bool is_full, uint8_t *buffer, size_t room, size_t *needed) {
     size_t unwanted = 0;
     return cedar_save(d, is_full, buffer, room, needed ? needed : &unwanted);
@@ -266,6 +279,10 @@ CEDAR_INLINE uint32_t cedar_nullable_keys(const cedar_dictionary *d, uint8_t *bu
     size_t unwanted = 0;
     return cedar_keys(d, buffer, room, needed ? needed : &unwanted);
 }
+CEDAR_INLINE uint32_t cedar_nullable_erase_prefix(cedar_dictionary *d, const uint8_t *prefix, size_t length, size_t *erased) {
+    size_t unwanted = 0;
+    return cedar_erase_prefix(d, prefix, length, erased ? erased : &unwanted);
+}
 #define cedar_save cedar_nullable_save
 #define cedar_update cedar_nullable_update
 #define cedar_insert cedar_nullable_insert
@@ -273,6 +290,7 @@ CEDAR_INLINE uint32_t cedar_nullable_keys(const cedar_dictionary *d, uint8_t *bu
 #define cedar_build cedar_nullable_build
 #define cedar_build_reduced cedar_nullable_build_reduced
 #define cedar_keys cedar_nullable_keys
+#define cedar_erase_prefix cedar_nullable_erase_prefix
 
 /* Files by their paths, and the version. This block is C beside the proved library: tested, and not proved. */
 

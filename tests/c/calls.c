@@ -89,6 +89,27 @@ static void room_ahead(bool is_reduced) {
     cedar_free(&d);
 }
 
+/* Keys erased by a prefix and all together, and the memory given back. */
+static void erased_by_prefix(bool is_reduced) {
+    const char *keys[] = {"net", "network", "networks", "ten"};
+    cedar d = CEDAR_CLOSED;
+    size_t erased = 77;
+    int32_t value;
+    CHECK(cedar_erase_prefix(&d, (const uint8_t *)"net", 3, &erased) == CEDAR_IS_CLOSED && erased == 77);
+    CHECK(cedar_shrink(&d) == CEDAR_IS_CLOSED);
+    cedar_clear(&d);
+    CHECK((is_reduced ? cedar_new_reduced(&d, true, 1) : cedar_new(&d)) == CEDAR_OK && cedar_reserve(&d, 9) == CEDAR_OK);
+    for (int i = 0; i < 4; i++) CHECK(cedar_update(&d, (const uint8_t *)keys[i], strlen(keys[i]), i, NULL) == CEDAR_OK);
+    CHECK(cedar_erase_prefix(&d, (const uint8_t *)"netw", 4, &erased) == CEDAR_OK && erased == 2 && cedar_len(&d) == 2);
+    CHECK(cedar_erase_prefix(&d, (const uint8_t *)"netw", 4, NULL) == CEDAR_OK && cedar_len(&d) == 2);
+    CHECK(cedar_shrink(&d) == CEDAR_OK && cedar_capacity(&d) <= 1024 && cedar_len(&d) == 2 && cedar_is_reduced(&d) == is_reduced);
+    CHECK(cedar_get(&d, (const uint8_t *)"net", 3, &value) && value == 0 && cedar_get(&d, (const uint8_t *)"ten", 3, &value) && value == 3);
+    cedar_clear(&d);
+    CHECK(cedar_len(&d) == 0 && cedar_used_slots(&d) == 1 && cedar_shrink(&d) == CEDAR_OK && cedar_capacity(&d) == 256);
+    CHECK(cedar_erase_prefix(&d, NULL, 0, &erased) == CEDAR_OK && erased == 0);
+    cedar_free(&d);
+}
+
 static void refused_files(void) {
     cedar d = CEDAR_CLOSED;
     const uint8_t wrong[8] = {'n', 'o', ' ', 'f', 'i', 'l', 'e', '.'};
@@ -386,6 +407,9 @@ int main(int count, char **arguments) {
     settings_and_walks();
     room_ahead(false);
     room_ahead(true);
+    for (int is_reduced = 0; is_reduced < 2; is_reduced++) {
+        erased_by_prefix(is_reduced);
+    }
     refused_files();
     files_and_texts();
     many_pairs();

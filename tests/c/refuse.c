@@ -100,6 +100,28 @@ static int reserves(void) {
     }
 }
 
+/* The memory given back with each request refused in turn: the dictionary stays till all are met. Answers how many were refused. */
+static int shrinks(void) {
+    for (int refused = 0;; refused++) {
+        cedar d = CEDAR_CLOSED;
+        uint8_t key[3];
+        int32_t value;
+        CHECK(cedar_new(&d) == CEDAR_OK && fill(&d) == KEYS && cedar_reserve(&d, 5000) == CEDAR_OK);
+        size_t capacity = cedar_capacity(&d);
+        left = refused;
+        uint32_t status = cedar_shrink(&d);
+        left = -1;
+        CHECK(status == CEDAR_OK || (status == CEDAR_MEMORY && cedar_capacity(&d) == capacity));
+        if (status == CEDAR_OK) CHECK(cedar_capacity(&d) < capacity);
+        for (int32_t i = 0; i < KEYS; i += 500) {
+            nth_key(i, key);
+            CHECK(cedar_get(&d, key, 3, &value) && value == i);
+        }
+        cedar_free(&d);
+        if (status == CEDAR_OK) return refused;
+    }
+}
+
 int main(void) {
     int refused_new = 0, refused_update = 0;
     for (long budget = 0; budget < 60; budget++) {
@@ -121,8 +143,8 @@ int main(void) {
         left = -1;
         cedar_free(&d);
     }
-    int refused_builds = builds(), refused_reserves = reserves();
-    CHECK(refused_new > 0 && refused_update > 0 && refused_builds > 10 && refused_reserves > 0);
+    int refused_builds = builds(), refused_reserves = reserves(), refused_shrinks = shrinks();
+    CHECK(refused_new > 0 && refused_update > 0 && refused_builds > 10 && refused_reserves > 0 && refused_shrinks > 0);
     printf("refused: %d new, %d updates, %d builds, %d reserves\nok\n", refused_new, refused_update, refused_builds, refused_reserves);
     return 0;
 }

@@ -1,5 +1,5 @@
 -- What a handle has.
-use Rattle.std.specs.Prelude.{ℕ, ℤ, Option, None, Some, option_map}
+use Rattle.std.specs.Prelude.{◌≡◌, ℕ, ℤ, Option, None, Some, option_map}
 use Rattle.cedar_model.specs.Table.Layouts.{LayoutKind}
 use Rattle.cedarwood.specs.Dictionary.{Dictionary}
 use Rattle.cedarwood.specs.State.{State}
@@ -50,3 +50,7 @@ size_in = figure_of (λ d. d.size)
 
 abbrev pub capacity_in : Handle → ℕ
 capacity_in = figure_of (λ d. d.capacity)
+
+-- an open handle stays open, and its dictionaries before and after are related so
+abbrev pub ChangesBy : (AnyCedar → AnyCedar → Type 0) → Handle → Handle → Type 0
+ChangesBy P before after = (a : AnyCedar) × (b : AnyCedar) × (content before ≡ Some a) × (content after ≡ Some b) × P a b

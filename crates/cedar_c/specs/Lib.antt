@@ -8,4 +8,5 @@ pub mod Ownership
 pub mod Pairs
 pub mod Readings
 pub mod Scans
+pub mod Shrinks
 pub mod Status

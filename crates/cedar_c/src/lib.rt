@@ -7,6 +7,7 @@
 
 mod any;
 mod calls;
+mod erasing;
 mod figures;
 mod files;
 mod handle;
@@ -20,6 +21,7 @@ mod room;
 mod save;
 mod scans;
 mod shown;
+mod shrink;
 mod sorted;
 mod status;
 mod texts;
