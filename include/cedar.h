@@ -174,6 +174,9 @@ void cedar_clear(cedar_dictionary *d);
 /* Says whether a key is held, and writes its value to *value if it is. It takes no memory. */
 bool cedar_get(const cedar_dictionary *d, const uint8_t *key, size_t length, int32_t *value);
 
+/* Says whether a key is held. It takes no memory. */
+bool cedar_contains(const cedar_dictionary *d, const uint8_t *key, size_t length);
+
 /* How many keys are held; how many slots are (one for the root, one for each distinct nonempty prefix of keys, one for each
  * value that has a slot of its own, as each has but in the reduced layout); how many slots there are; how many blocks of 256 slots can
  * come into use before memory is asked for. 0 if closed. */
@@ -204,6 +207,10 @@ typedef struct cedar_match {
  * on; the other places stay. It answers how many there are, never more than the text has bytes: an answer above room asks for a second
  * call with more room. It is one walk, and takes no memory. 0 if closed. */
 size_t cedar_prefixes(const cedar_dictionary *d, const uint8_t *text, size_t length, cedar_match *matches, size_t room);
+
+/* Writes the longest key that a text begins with to *found, and says whether there is one; else *found stays. It goes along the text once,
+ * and takes no memory. */
+bool cedar_longest_prefix(const cedar_dictionary *d, const uint8_t *text, size_t length, cedar_match *found);
 
 /* The keys that begin with a text, in the order of the walk: `length` bytes of each are the text, and match.length - length follow it.
  * Else as cedar_prefixes: there are never more than keys. */

@@ -110,6 +110,21 @@ static void erased_by_prefix(bool is_reduced) {
     cedar_free(&d);
 }
 
+/* Whether a key is held, and the longest one that a text begins with. */
+static void short_questions(bool is_reduced) {
+    cedar d = CEDAR_CLOSED;
+    cedar_match found = {55, 77};
+    CHECK(!cedar_contains(&d, (const uint8_t *)"net", 3) && !cedar_longest_prefix(&d, (const uint8_t *)"net", 3, &found));
+    CHECK((is_reduced ? cedar_new_reduced(&d, true, 1) : cedar_new(&d)) == CEDAR_OK);
+    CHECK(cedar_update(&d, (const uint8_t *)"ne", 2, 1, NULL) == CEDAR_OK && cedar_update(&d, (const uint8_t *)"net", 3, 7, NULL) == CEDAR_OK);
+    CHECK(cedar_contains(&d, (const uint8_t *)"net", 3) && !cedar_contains(&d, (const uint8_t *)"n", 1) && !cedar_contains(&d, NULL, 0));
+    CHECK(!cedar_longest_prefix(&d, (const uint8_t *)"ten", 3, &found) && found.value == 55 && found.length == 77);
+    CHECK(!cedar_longest_prefix(&d, NULL, 0, &found) && found.value == 55);
+    CHECK(cedar_longest_prefix(&d, (const uint8_t *)"nets", 4, &found) && found.value == 7 && found.length == 3);
+    CHECK(cedar_longest_prefix(&d, (const uint8_t *)"nest", 4, &found) && found.value == 1 && found.length == 2);
+    cedar_free(&d);
+}
+
 static void refused_files(void) {
     cedar d = CEDAR_CLOSED;
     const uint8_t wrong[8] = {'n', 'o', ' ', 'f', 'i', 'l', 'e', '.'};
@@ -409,6 +424,7 @@ int main(int count, char **arguments) {
     room_ahead(true);
     for (int is_reduced = 0; is_reduced < 2; is_reduced++) {
         erased_by_prefix(is_reduced);
+        short_questions(is_reduced);
     }
     refused_files();
     files_and_texts();

@@ -1,7 +1,7 @@
 -- A buffer that is filled a place at a time.
 use Rattle.std.proofs.Common.{◌≡◌, ℕ, ◌+◌, ◌-◌, ◌<◌, ◌≤◌, ◌^◌, List, [], ◌∷◌, ◌++◌, length, take, drop, set, add-one, Bool, refl, sym, ap, subst, ◌∙◌, arith}
-use Rattle.std.specs.Prelude.{ℤ, nat_eq}
-use Rattle.std.specs.List.{Contains, filter, starts_with}
+use Rattle.std.specs.Prelude.{ℤ, nat_eq, Option, None, option_map}
+use Rattle.std.specs.List.{Contains, filter, last_or, starts_with}
 use Rattle.std.proofs.lemmas.List.{append_assoc, drop-set-lt, drop-drop, drop_all, drop_more, take-append-drop, take_all}
 use Rattle.std.proofs.lemmas.Option.{none-some}
 use Rattle.std.proofs.Math.Seq.{take-suc-set}
@@ -12,8 +12,12 @@ use Rattle.cedar_tree.specs.Queries.{Entry, front, predict, walk}
 use Rattle.cedar_tree.proofs.FrontLemmas.{held_from_front}
 use Rattle.cedar_tree.proofs.TreeLemmas.{number_at-empty}
 use Rattle.cedar_tree.proofs.FrontFromLemmas.{front_begins, front_short}
+use Rattle.cedarwood.specs.Ranges.{longest_front}
+use Rattle.cedar_c.specs.Content.{content_tree}
+use Rattle.cedar_c.specs.declared.any.AnyCedar.{AnyCedar}
 use Rattle.cedar_c.specs.declared.walks.Match.{Match}
 use Rattle.cedar_c.specs.Matches.{filled_matches, match_of}
+use Rattle.cedar_c.proofs.ClosedLemmas.{closed_is_empty}
 
 -- the next place is written
 pub written : (ms : List Match) (p : ℕ) (d : Match) (x : ℤ × ℕ) (rest : List (ℤ × ℕ)) → p < length ms
@@ -78,3 +82,9 @@ nothing_told ms n all none =
     let left = nothing_left n all none in
     let within : length {A = ℤ × ℕ} [] ≤ length ms = omega arith in
     (sym (ap (λ l. length (take (length ms) l)) left ∙ ap length (take_all (length ms) [] within)), sym (ap (filled_matches ms) left ∙ nothing_filled ms))
+
+-- nor has it a longest one, as where a dictionary is closed
+pub closed_has_no_front : (d : Option AnyCedar) (text : List ℕ) → d ≡ None → ◌≡◌ {A = Option (ℤ × ℕ)} (longest_front (content_tree d) text) None
+closed_has_no_front d text closed =
+    let last : List (ℤ × ℕ) → Option (ℤ × ℕ) = λ l. option_map (λ found. (found.0, found.1 + 1)) (last_or None l) in
+    ap (λ t. longest_front t text) (closed_is_empty d closed) ∙ ap last (no_fronts text)

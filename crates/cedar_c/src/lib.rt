@@ -6,6 +6,7 @@
 #![tactic(auto)]
 
 mod any;
+mod asks;
 mod calls;
 mod erasing;
 mod figures;
