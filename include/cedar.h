@@ -129,6 +129,10 @@ size_t cedar_status_text(uint32_t status, uint8_t *text, size_t room);
 /* Gives the memory of *d back. *d is closed then. On a closed one it does nothing. */
 void cedar_free(cedar_dictionary *d);
 
+/* Opens *copy with a copy of *d, in the place of the one that it has, if it is open: two dictionaries then, each of which is freed. CEDAR_OK,
+ * CEDAR_IS_CLOSED where *d is closed, or CEDAR_MEMORY. After an error *copy is as it was. */
+uint32_t cedar_clone(const cedar_dictionary *d, cedar_dictionary *copy);
+
 /* Stores a value at a key, in place of the value that the key holds, if it holds one. CEDAR_IS_CLOSED, the pair's first
  * fault of CEDAR_EMPTY_KEY, CEDAR_NUL_BYTE (*position is then the first byte 0, counted from 0; else *position stays) and
  * CEDAR_INVALID_VALUE, or, only where the key isn't held, CEDAR_MEMORY or CEDAR_SLOT_LIMIT. After an error the dictionary

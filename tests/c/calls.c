@@ -125,6 +125,21 @@ static void short_questions(bool is_reduced) {
     cedar_free(&d);
 }
 
+/* A copy, which changes alone. */
+static void copies(bool is_reduced) {
+    cedar d = CEDAR_CLOSED, copy = CEDAR_CLOSED;
+    CHECK(cedar_clone(&d, &copy) == CEDAR_IS_CLOSED && cedar_capacity(&copy) == 0);
+    CHECK(cedar_new(&copy) == CEDAR_OK && cedar_update(&copy, (const uint8_t *)"old", 3, 1, NULL) == CEDAR_OK);
+    CHECK(cedar_clone(&d, &copy) == CEDAR_IS_CLOSED && cedar_contains(&copy, (const uint8_t *)"old", 3));
+    CHECK((is_reduced ? cedar_new_reduced(&d, true, 1) : cedar_new(&d)) == CEDAR_OK);
+    CHECK(cedar_update(&d, (const uint8_t *)"net", 3, 7, NULL) == CEDAR_OK && cedar_clone(&d, &copy) == CEDAR_OK);
+    CHECK(cedar_len(&copy) == 1 && cedar_contains(&copy, (const uint8_t *)"net", 3) && cedar_is_reduced(&copy) == is_reduced);
+    CHECK(cedar_erase(&d, (const uint8_t *)"net", 3) && cedar_contains(&copy, (const uint8_t *)"net", 3));
+    cedar_free(&d);
+    CHECK(cedar_contains(&copy, (const uint8_t *)"net", 3));
+    cedar_free(&copy);
+}
+
 static void refused_files(void) {
     cedar d = CEDAR_CLOSED;
     const uint8_t wrong[8] = {'n', 'o', ' ', 'f', 'i', 'l', 'e', '.'};
@@ -425,6 +440,7 @@ int main(int count, char **arguments) {
     for (int is_reduced = 0; is_reduced < 2; is_reduced++) {
         erased_by_prefix(is_reduced);
         short_questions(is_reduced);
+        copies(is_reduced);
     }
     refused_files();
     files_and_texts();

@@ -100,24 +100,26 @@ static int reserves(void) {
     }
 }
 
-/* The memory given back with each request refused in turn: the dictionary stays till all are met. Answers how many were refused. */
-static int shrinks(void) {
+/* A copy, or the memory given back, with each request refused in turn: both dictionaries stay till all are met. Answers how many were
+ * refused. */
+static int copies(bool is_shrink) {
     for (int refused = 0;; refused++) {
-        cedar d = CEDAR_CLOSED;
+        cedar d = CEDAR_CLOSED, copy = CEDAR_CLOSED;
         uint8_t key[3];
         int32_t value;
-        CHECK(cedar_new(&d) == CEDAR_OK && fill(&d) == KEYS && cedar_reserve(&d, 5000) == CEDAR_OK);
+        CHECK(cedar_new(&d) == CEDAR_OK && fill(&d) == KEYS && cedar_reserve(&d, 5000) == CEDAR_OK && cedar_new(&copy) == CEDAR_OK);
         size_t capacity = cedar_capacity(&d);
         left = refused;
-        uint32_t status = cedar_shrink(&d);
+        uint32_t status = is_shrink ? cedar_shrink(&d) : cedar_clone(&d, &copy);
         left = -1;
-        CHECK(status == CEDAR_OK || (status == CEDAR_MEMORY && cedar_capacity(&d) == capacity));
-        if (status == CEDAR_OK) CHECK(cedar_capacity(&d) < capacity);
+        CHECK(status == CEDAR_OK || (status == CEDAR_MEMORY && cedar_capacity(&d) == capacity && cedar_len(&copy) == 0));
+        if (status == CEDAR_OK) CHECK(is_shrink ? cedar_capacity(&d) < capacity : cedar_len(&copy) == KEYS);
         for (int32_t i = 0; i < KEYS; i += 500) {
             nth_key(i, key);
             CHECK(cedar_get(&d, key, 3, &value) && value == i);
         }
         cedar_free(&d);
+        cedar_free(&copy);
         if (status == CEDAR_OK) return refused;
     }
 }
@@ -143,8 +145,8 @@ int main(void) {
         left = -1;
         cedar_free(&d);
     }
-    int refused_builds = builds(), refused_reserves = reserves(), refused_shrinks = shrinks();
-    CHECK(refused_new > 0 && refused_update > 0 && refused_builds > 10 && refused_reserves > 0 && refused_shrinks > 0);
+    int refused_builds = builds(), refused_reserves = reserves(), refused_copies = copies(false), refused_shrinks = copies(true);
+    CHECK(refused_new > 0 && refused_update > 0 && refused_builds > 10 && refused_reserves > 0 && refused_copies > 0 && refused_shrinks > 0);
     printf("refused: %d new, %d updates, %d builds, %d reserves\nok\n", refused_new, refused_update, refused_builds, refused_reserves);
     return 0;
 }

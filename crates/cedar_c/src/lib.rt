@@ -8,6 +8,7 @@
 mod any;
 mod asks;
 mod calls;
+mod copies;
 mod erasing;
 mod figures;
 mod files;
