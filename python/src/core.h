@@ -127,6 +127,7 @@ PyObject *core_open(Core *core, PyObject *arguments);
 PyObject *core_build(Core *core, PyObject *arguments);
 PyObject *core_load(Core *core, PyObject *arguments);
 PyObject *core_clear(Core *core, PyObject *nothing);
+PyObject *core_shrink(Core *core, PyObject *nothing);
 PyObject *core_update(Core *core, PyObject *pairs);
 PyObject *core_dump(Core *core, PyObject *is_full);
 

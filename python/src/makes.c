@@ -66,19 +66,37 @@ PyObject *core_open(Core *core, PyObject *arguments) {
     return NULL;
 }
 
-/* Takes all keys out, and gives their memory back. */
-PyObject *core_clear(Core *core, PyObject *nothing) {
-    (void)nothing;
-    cedar fresh = CEDAR_CLOSED;
-    if (core_ready(core) < 0) return NULL;
-    Settings settings = {core->is_text, core->is_ordered, core->is_reduced, core->max_trial};
-    uint32_t status = make_empty(&fresh, settings);
+/* Calls what changes a dictionary as a whole. It is a long call where there are many keys. */
+static PyObject *change_whole(Core *core, uint32_t (*change)(cedar *)) {
+    Turn turn;
+    if (core_ready(core) < 0 || turn_begin(core, cedar_len(&core->dictionary) >= LONG_COUNT, &turn) < 0) return NULL;
+    size_t before = cedar_len(&core->dictionary);
+    uint32_t status = change(&core->dictionary);
+    size_t after = cedar_len(&core->dictionary);
+    turn_end(&turn);
+    if (after != before) core->keys_changed++;
     if (status != CEDAR_OK) {
         fail_with(status);
         return NULL;
     }
-    core_install(core, &fresh);
     Py_RETURN_NONE;
+}
+
+static uint32_t clear_open(cedar *dictionary) {
+    cedar_clear(dictionary);
+    return CEDAR_OK;
+}
+
+/* Takes all keys out, and keeps their memory. */
+PyObject *core_clear(Core *core, PyObject *nothing) {
+    (void)nothing;
+    return change_whole(core, clear_open);
+}
+
+/* Gives the memory back that the keys don't need. */
+PyObject *core_shrink(Core *core, PyObject *nothing) {
+    (void)nothing;
+    return change_whole(core, cedar_shrink);
 }
 
 /* Pairs as C takes them, and the objects that keep their keys. */

@@ -105,8 +105,12 @@ static PyMethodDef core_methods[] = {
      "popitem($self, /)\n--\n\nRemoves some key and returns it with its value. An empty dictionary raises KeyError.\n\n"
      ">>> Cedar({b'net': 7}).popitem()\n(b'net', 7)\n"},
     {"clear", (PyCFunction)core_clear, METH_NOARGS,
-     "clear($self, /)\n--\n\nRemoves all keys and gives their memory back.\n\n"
+     "clear($self, /)\n--\n\nRemoves all keys. Their memory is kept for others: shrink() gives it back.\n\n"
      ">>> d = Cedar({b'net': 7})\n>>> d.clear()\n>>> len(d)\n0\n"},
+    {"shrink", (PyCFunction)core_shrink, METH_NOARGS,
+     "shrink($self, /)\n--\n\nGives the memory back that growth and removed keys have left. It makes an equal dictionary, for which there has to be\n"
+     "memory; else it raises MemoryError, and nothing has changed.\n\n"
+     ">>> d = Cedar((b'%d' % i, i) for i in range(10000))\n>>> d.clear()\n>>> d.shrink()\n>>> d.stats().capacity\n256\n"},
     {"close", (PyCFunction)core_close_call, METH_NOARGS,
      "close($self, /)\n--\n\nGives the memory back. Any call but close raises ValueError from then on.\n\n"
      ">>> d = Cedar()\n>>> d.close()\n>>> d.closed\nTrue\n"},

@@ -263,24 +263,16 @@ PyObject *core_popitem(Core *core, PyObject *nothing) {
 PyObject *core_erase_prefix(Core *core, PyObject *given) {
     Span prefix;
     Turn turn;
-    Gathered gathered = {0};
-    bool done = false;
+    size_t erased = 0;
+    uint32_t status = CEDAR_OK;
     if (span_take(core, given, &prefix) < 0) return NULL;
     int begun = begin_below(core, &prefix, &turn);
     if (begun == 0) {
-        const uint8_t *key;
-        done = gather_below(&core->dictionary, &prefix, true, &gathered);
-        key = gathered.bytes;
-        for (size_t i = 0; done && i < gathered.count; i++) {
-            cedar_erase(&core->dictionary, key, gathered.matches[i].length);
-            key += gathered.matches[i].length;
-        }
+        status = cedar_erase_prefix(&core->dictionary, prefix.at, prefix.length, &erased);
         turn_end(&turn);
-        if (done && gathered.count > 0) core->keys_changed++;
-        if (!done) fail_with(CEDAR_MEMORY);
+        if (erased > 0) core->keys_changed++;
     }
     Py_DECREF(prefix.owner);
-    PyObject *count = done ? PyLong_FromSize_t(gathered.count) : NULL;
-    gathered_free(&gathered);
-    return count;
+    if (begun < 0 || (status != CEDAR_OK && fail_with(status) < 0)) return NULL;
+    return PyLong_FromSize_t(erased);
 }

@@ -51,11 +51,13 @@ class Refused(unittest.TestCase):
         for reduced in (False, True):
             new = {b"new%d" % i: i for i in range(300)}
             part = lambda d: len(PLAIN) <= len(d) <= len(PLAIN) + 300 and all(d[key] == value for key, value in PLAIN.items())
-            for call in (lambda d: d.update(new), lambda d: d.__setitem__(b"n" * 2000, 1), lambda d: d.reserve(300)):
+            for call in (lambda d: d.update(new), lambda d: d.__setitem__(b"n" * 2000, 1), lambda d: d.reserve(300), Cedar.shrink):
                 self.each(lambda: Cedar(PLAIN, reduced=reduced), call, part)
-            either = lambda d: len(d) in (0, len(PLAIN))
             for call in (Cedar.clear, lambda d: d.erase_prefix(b"")):
-                self.each(lambda: Cedar(PLAIN, reduced=reduced), call, either)
+                cedar = Cedar(PLAIN, reduced=reduced)
+                self.refuse(1)
+                call(cedar)
+                self.assertEqual((self.refuse(0), len(cedar)), (1, 0), "it asks for memory")
             self.each(lambda: Cedar(PLAIN, reduced=reduced), Cedar.popitem, lambda d: len(d) in (len(PLAIN), len(PLAIN) - 1))
 
     def test_makes(self):
