@@ -382,9 +382,14 @@ public:
         return built;
     }
 
-    /// An equal dictionary, with the same order, settings and layout. It is saved and loaded, which takes memory for the file's bytes and
-    /// a copy of them besides. Throws std::bad_alloc, and CEDAR_IS_CLOSED.
-    dictionary clone() const { return load(save(), unlimited); }
+    /// An equal dictionary, with the same order, settings and layout. Throws std::bad_alloc, and CEDAR_IS_CLOSED.
+    dictionary clone() const {
+        const cedar_dictionary mine = inside_;
+        dictionary copy{closed()};
+        detail::check(cedar_clone(&mine, &copy.inside_));
+        copy.is_ordered_ = is_ordered_;
+        return copy;
+    }
 
     /// Stores a value at a key, in place of the value that the key holds. Throws CEDAR_EMPTY_KEY, CEDAR_NUL_BYTE, CEDAR_INVALID_VALUE,
     /// and, where the key isn't held, CEDAR_SLOT_LIMIT and std::bad_alloc.
@@ -417,6 +422,21 @@ public:
     /// Removes a key, and returns whether it was held. Its slots are used again. It allocates nothing.
     bool erase(std::string_view key) noexcept { return cedar_erase(&inside_, detail::bytes(key), key.size()); }
 
+    /// Removes each key that begins with a prefix, and returns how many these were; the empty prefix removes all. It allocates nothing and
+    /// gives nothing back.
+    std::size_t erase_prefix(std::string_view prefix) noexcept {
+        std::size_t erased = 0;
+        cedar_erase_prefix(&inside_, detail::bytes(prefix), prefix.size(), &erased);
+        return erased;
+    }
+
+    /// Removes all keys. It allocates nothing and gives nothing back.
+    void clear() noexcept { cedar_clear(&inside_); }
+
+    /// Gives back the memory that growth and erasures have left: the keys are put into a new table, which takes the place of the present
+    /// one unless it has more slots. Throws CEDAR_IS_CLOSED, CEDAR_SLOT_LIMIT and std::bad_alloc; then nothing has changed.
+    void shrink_to_fit() { detail::check(cedar_shrink(&inside_)); }
+
     /// The value at a key, if it is held. It reads at most one slot for each byte of the key and one for the value, and allocates nothing.
     std::optional<std::int32_t> get(std::string_view key) const noexcept {
         const cedar_dictionary mine = inside_;
@@ -426,7 +446,10 @@ public:
     }
 
     /// Whether a key is held. It costs what get does.
-    bool contains(std::string_view key) const noexcept { return get(key).has_value(); }
+    bool contains(std::string_view key) const noexcept {
+        const cedar_dictionary mine = inside_;
+        return cedar_contains(&mine, detail::bytes(key), key.size());
+    }
 
     /// How many keys are held. They are counted as they come and go, so this costs the same for all dictionaries.
     std::size_t size() const noexcept {
@@ -468,15 +491,9 @@ public:
     /// Of the keys that a text begins with the longest: its value, and its length in bytes. It allocates nothing.
     std::optional<match> longest_match(std::string_view text) const noexcept {
         const cedar_dictionary mine = inside_;
-        std::array<match, 32> found{};
-        const std::size_t count = cedar_prefixes(&mine, detail::bytes(text), text.size(), found.data(), found.size());
-        if (count == 0) return std::nullopt;
-        std::size_t last = count - 1;
-        if (count > found.size()) {
-            cedar_prefixes_from(&mine, detail::bytes(text), text.size(), &last, found.data(), 1);
-            last = 0;
-        }
-        return found[last];
+        match found{};
+        if (!cedar_longest_prefix(&mine, detail::bytes(text), text.size(), &found)) return std::nullopt;
+        return found;
     }
 
     /// The keys that begin with a text, in the order of the walk, at most `most` of them: for each its value, and how many bytes the whole

@@ -114,6 +114,11 @@ void each_member(layout kind) {
     const dictionary copy = d.clone();
     d.update("later", 1);
     CHECK(copy.kind() == kind && listed(copy.entries()) == all && d.size() == 5);
+    CHECK(d.erase_prefix("ne") == 3 && d.erase_prefix("ne") == 0 && listed(d.entries()) == Pairs({{"later", 1}, {"no", CEDAR_MAX_VALUE}}));
+    d.shrink_to_fit();
+    CHECK(d.kind() == kind && d.size() == 2 && d.get("later") == 1 && d.statistics().capacity == 512);
+    d.clear();
+    CHECK(d.empty() && d.is_open() && d.kind() == kind && d.statistics().used_slots == 1);
 }
 
 // Iterators and ranges that outlive what they come from; callables that end a walk or throw.
@@ -197,6 +202,7 @@ void refusals(layout kind) {
     lacks_memory([&] { d.reserve(100); });
     lacks_memory([&] { (void)d.save(); });
     lacks_memory([&] { (void)d.clone(); });
+    lacks_memory([&] { d.shrink_to_fit(); });
     lacks_memory([&] { (void)d.entries(); });
     lacks_memory([&] { dictionary::from_sorted({{"a", 1}}, kind); });
     lacks_memory([&] { d.update_all({{"a", 1}}); });
@@ -220,6 +226,9 @@ void moves(layout kind) {
     refused(CEDAR_IS_CLOSED, {}, text, [&] { first.reserve(1); });
     refused(CEDAR_IS_CLOSED, {}, text, [&] { (void)first.save(); });
     refused(CEDAR_IS_CLOSED, {}, text, [&] { (void)first.clone(); });
+    refused(CEDAR_IS_CLOSED, {}, text, [&] { first.shrink_to_fit(); });
+    first.clear();
+    CHECK(first.erase_prefix("") == 0 && !first.is_open());
     first = dictionary(kind);
     first.update("b", 2);
     swap(first, second);
@@ -411,7 +420,17 @@ void random_calls(layout kind, long count) {
         default:
             CHECK(d.get(key) == before && d.contains(key) == before.has_value());
         }
+        if (i % 1000 == 999 && key.size() > 1) {
+            const std::string prefix = key.substr(0, 2);
+            const auto from = plain.lower_bound(prefix);
+            auto to = from;
+            std::size_t erased = 0;
+            for (; to != plain.end() && to->first.compare(0, 2, prefix) == 0; ++to) ++erased;
+            plain.erase(from, to);
+            CHECK(d.erase_prefix(prefix) == erased);
+        }
         if (i % (count / 20 + 1) == 0) same(d, plain);
+        if (i % (count / 7 + 1) == 0) d.shrink_to_fit();
         if (i % (count / 3 + 1) == 0) d = i % 2 ? d.clone() : dictionary::from_sorted(plain, kind);
     }
     same(d, plain);
