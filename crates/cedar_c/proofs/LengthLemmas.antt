@@ -42,9 +42,9 @@ within_forest (child l n below rest) =
     let beside : r ≤ all = omega (arith, mapped, joined) in
     let own = own_entry n in
     within_all all (map (under l) (own ++ walk_forest below)) (walk_forest rest)
-      (within_more (suc b) all (map (under l) (own ++ walk_forest below)) deeper
-        (within_under l b (own ++ walk_forest below) (within_all b own (walk_forest below) (within_own b n) (within_forest below))))
-      (within_more r all (walk_forest rest) beside (within_forest rest))
+    (within_more (suc b) all (map (under l) (own ++ walk_forest below)) deeper
+    (within_under l b (own ++ walk_forest below) (within_all b own (walk_forest below) (within_own b n) (within_forest below))))
+    (within_more r all (walk_forest rest) beside (within_forest rest))
 
 within_walk : (t : Tree) → Within (length (prefixes t)) (walk t)
 within_walk t = let n = length (prefixes t) in within_all n (own_entry t.number) (walk_forest t.children) (within_own n t.number) (within_forest t.children)
@@ -85,7 +85,7 @@ whole_keys q [] = refl
 whole_keys q (e ∷ es) =
     let ih : lengthened (length q) (map (behind q) (filter (begins q) es)) ≡ map (whole q) (filter (begins q) es) = whole_keys q es in
     (elim (begins q e) as (λ b. begins q e ≡ b
-        → lengthened (length q) (map (behind q) (cond b (e ∷ filter (begins q) es) (filter (begins q) es))) ≡ map (whole q) (cond b (e ∷ filter (begins q) es) (filter (begins q) es))) [
+    → lengthened (length q) (map (behind q) (cond b (e ∷ filter (begins q) es) (filter (begins q) es))) ≡ map (whole q) (cond b (e ∷ filter (begins q) es) (filter (begins q) es))) [
       | true ↦ λ is.
           let short : length q ≤ length e.0 = begins_short e.0 q is in
           let all : length e.0 - length q + length q ≡ length e.0 = omega (arith, short) in

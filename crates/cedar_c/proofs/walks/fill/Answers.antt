@@ -18,7 +18,7 @@ loop-found-preserved g c =
     let count = c.loop-found.count in
     let first : left ≡ c.in-Some.found ∷ later = c.in-Some.ensures in (
       c.put_at.ensures (lengthened more later)
-        ∙ ap (λ l. take count matches ++ filled_matches (drop count matches) (lengthened more l)) (sym first) ∙ c.loop-found.invariant.0,
+          ∙ ap (λ l. take count matches ++ filled_matches (drop count matches) (lengthened more l)) (sym first) ∙ c.loop-found.invariant.0,
       omega (arith, c.loop-found.invariant.1, ap length first),
       (subst (Fit more) first c.loop-found.invariant.2).1,
     )

@@ -27,8 +27,7 @@ slice_bounds-push-end g c =
 pub loop-token-preserved : goal.loop-token-preserved
 loop-token-preserved g c =
     let P = λ (token : Token). token.0 + token.1 ≤ length c.args.text.now in
-    let all = All-same P (c.in-Some.token ∷ c.next.new.self) c.loop-token.token-iterator (sym c.in-Some.ensures.steps) c.loop-token.invariant.0 in
-    (
+    let all = All-same P (c.in-Some.token ∷ c.next.new.self) c.loop-token.token-iterator (sym c.in-Some.ensures.steps) c.loop-token.invariant.0 in (
       All-tail P c.in-Some.token c.next.new.self all,
       omega (arith, c.in_ok-push.ensures.len, c.push.new.self.ok, c.loop-token.pieces.ok, ap length c.in-Some.ensures.steps, c.loop-token.invariant.1),
     )
