@@ -103,6 +103,3 @@ module _ (a : Request) (word value : List ℕ) (rest : List (List ℕ)) (other :
 
   pub limit_wrong : limit_of value ≡ None → request_besides a (word ∷ value ∷ rest) ≡ None
   limit_wrong is = rw (other, full, wide, old, kept, is, and_false (is_new word (codes "--limit") (is_some a.limit))) refl
-
-  pub no_option : is_new word (codes "--limit") (is_some a.limit) ≡ false → request_besides a (word ∷ value ∷ rest) ≡ None
-  no_option last = rw (other, full, wide, old, kept, last) refl

@@ -76,10 +76,6 @@ pub lines_of-last : (b : ℕ) (line : List ℕ) → HasNoNewline (b ∷ line) �
 lines_of-last b [] o = rw o.0 refl
 lines_of-last b (c ∷ line) o = rw o.0 (ap (onto_first b) (lines_of-last c line o.1))
 
-pub open_push : (line : List ℕ) (b : ℕ) → HasNoNewline line → (b == 10) ≡ false → HasNoNewline (line ++ b ∷ [])
-open_push [] b o e = (e, tt)
-open_push (c ∷ line) b o e = (o.0, open_push line b o.1 e)
-
 -- answers to lines and then to more lines
 pub answers-append : (t : View) (a b : List (List ℕ)) → answers t (a ++ b) ≡ answers t a ++ answers (view_after t a) b
 answers-append t [] b = refl

@@ -166,12 +166,6 @@ pub if_not_err : {T E : Type 0} (P : E → Type 0) (r : Result T E) → is_err r
 if_not_err P (Ok x) h = tt
 if_not_err P (Err e) h = absurd (false≢true (sym h))
 
--- a call that fails only by its writer, where it fails
-pub write_failed : (P : Type 0) (r : Result (Unit {0}) ScriptError) (e : ScriptError)
-    → OnErr r ((r ≡ Err Write) × P) → r ≡ Err e → P
-write_failed P (Ok x) e h f = absurd (cc)
-write_failed P (Err x) e h f = h.1
-
 pub write_alone : (P : Type 0) (r : Result (Unit {0}) ScriptError) → OnErr r ((r ≡ Err Write) × P)
     → (r ≡ Err Read → ⊥) × (r ≡ Err NoSlot → ⊥)
 write_alone P (Ok x) h = ((λ f. absurd (cc)), (λ f. absurd (cc)))

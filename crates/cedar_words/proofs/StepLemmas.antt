@@ -67,10 +67,6 @@ costs_more t u text costs cost left some len is was = record {
   ];
 }
 
--- no byte costs nothing
-pub costs_begin : (t : Tree) (u : ℕ → ℕ) (text : List ℕ) → AreCostsOver t u text (0 ∷ [])
-costs_begin t u text = record { begin = refl; best = λ k low high. absurd (omega (arith, low, high)) }
-
 -- what holds of a step and of those over some keys holds of the best of them
 best_is : (P : Step → Type 0) (later : List ℕ) (best : Step) (fronts : List (ℤ × ℕ)) → P best → ((found : ℤ × ℕ) → Contains fronts found → P (key_step later found)) → P (best_from later best fronts)
 best_is P later best [] here keys = here

@@ -16,21 +16,6 @@ use Rattle.cedarwood.proofs.GrowthLemmas.{capacity_by_blocks, dictionary_of}
 use Rattle.cedarwood.proofs.OutcomeLemmas.{told_outcome}
 
 module _ (slots n : ℕ) (T T' : Fields) (d : Dictionary) (same : dictionary_of T ≡ d) where
-  pub size_seen : d.size ≡ size_of T
-  size_seen = ap (λ (x : Dictionary). x.size) (sym same)
-
-  pub capacity_seen : d.capacity ≡ capacity_of T
-  capacity_seen = ap (λ (x : Dictionary). x.capacity) (sym same)
-
-  pub state_kept : tree_of T' ≡ tree_of T → T'.ordered ≡ T.ordered → ◌≡◌ {A = State} (record { tree = tree_of T'; ordered = T'.ordered }) d.state
-  state_kept tree ordered =
-      ap (λ t. record { tree = t; ordered = T'.ordered }) tree
-      ∙ ap (λ o. record { tree = tree_of T; ordered = o }) ordered
-      ∙ ap (λ (x : Dictionary). x.state) same
-
-  pub marks_kept : marks T' ≡ marks T → marks T' ≡ d.marked
-  marks_kept kept = kept ∙ ap (λ (x : Dictionary). x.marked) same
-
   pub capacity_then : length T'.places.blocks.records ≡ blocks_after n T.places.blocks.active (length T.places.blocks.records) → capacity_of T' ≡ capacity_after n d.size d.capacity
   capacity_then grown =
       ap (λ b. 256 * b) grown

@@ -65,15 +65,6 @@ fault_of (Some x) r e h sound was = ap Some (err_is r x e h was)
 pub has_fault : {X : Type 0} (f : Option CedarError) (r : Result X CedarError) (e : CedarError) → (f ≡ None → IsOk r) → r ≡ Err e → f ≡ None → ⊥
 has_fault f r e sound was none = not_both r e (sound none) was
 
--- a refusal says nothing of a success, and what holds holds after a refusal
-pub refused_no_ok : {X E : Type 0} (P : Type 0) (r : Result X E) → IsErr r → OnOk r P
-refused_no_ok P (Ok x) h = let apart : false ≡ true = h in cc
-refused_no_ok P (Err e) h = tt
-
-pub always_on_err : {X E : Type 0} {P : Type 0} (r : Result X E) → P → OnErr r P
-always_on_err (Ok x) p = tt
-always_on_err (Err e) p = p
-
 -- what is said of a refusal's error
 pub why_refused : {X E : Type 0} (P : E → Type 0) (r : Result X E) (e : E) → IfErr r P → r ≡ Err e → P e
 why_refused P r e h is = subst (λ x. IfErr x P) is h

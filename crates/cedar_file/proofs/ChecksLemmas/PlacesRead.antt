@@ -29,9 +29,6 @@ root-le b = go (eqb b 0)
     go false = omega arith
 
 module _ (table : PlaceFields) (b : ℕ) where
-  pub all_cleared : (xs : List ℕ) → FreeBlock table b xs → HasBlankLabels table.slots b
-  all_cleared xs block s free here = block.ring.cleared s (omega (arith, block.ring.once s, cond-true {A = ℕ} (free_here table.slots.nodes b s) 1 0 (and_from _ _ free (eq-eqb _ _ here))))
-
   length-free : (xs : List ℕ) → ((s : ℕ) → occurs s xs ≡ cond (free_here table.slots.nodes b s) 1 0) → length xs ≡ free_count table.slots.nodes b
   length-free xs once = length_all (free_here table.slots.nodes b) (256 * b) 256 (slots_within table.slots.nodes b) xs once
 

@@ -78,6 +78,3 @@ cleared_more slots b place sofar here s free low high = elim (cases_eq s (256 * 
   | inl same ↦ subst (λ n. info_at slots.infos n ≡ blank_info) (sym same) (here (subst (λ n. is_free slots.nodes n ≡ true) same free))
   | inr before ↦ sofar s free low (omega arith)
 ]
-
-pub cleared_all : (slots : SlotFields) (b : ℕ) → ClearedTo slots b 256 → HasBlankLabels slots b
-cleared_all slots b all s free here = let range = block_range s b here in all s free range.0 range.1

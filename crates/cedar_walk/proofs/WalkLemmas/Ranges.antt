@@ -135,12 +135,6 @@ pub record Written (T : Fields) (n s : ℕ) (key : List ℕ) (n' s' : ℕ) (now 
   pub front : take (length key - n + n') now ≡ take (length key - n + n') key
   pub path : path_to T n s ≡ path_to T n' s' ++ drop (length key - n + n') now
 
-pub written_none : (T : Fields) (n s : ℕ) (key : List ℕ) → n ≤ length key → Written T n s key n s key
-written_none T n s key room = record {
-  less = omega arith;
-  long = refl;
-  front = refl;
-  path = sym (append-nil (path_to T n s)) ∙ ap (λ r. path_to T n s ++ r) (sym (drop_all (length key - n + n) key (omega (arith, room))));
 }
 
 pub written_on : (T : Fields) (n s : ℕ) (key : List ℕ) (m s' p x : ℕ) (now : List ℕ) → n ≤ length key → Written T n s key (suc m) s' now → (cells_in T).check s' ≡ pos p → x ≡ below (cells_in T) p s'

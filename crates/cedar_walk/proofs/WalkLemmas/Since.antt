@@ -240,9 +240,6 @@ last_ascend : (f g : Forest) → IsAscending f → AreLast f g → IsAscending g
 last_ascend f g s (inl all) = subst IsAscending (sym all) s
 last_ascend f g s (inr behind_one) = subst IsAscending (sym behind_one.2) (ascending_behind f behind_one.0 s)
 
-pub above_all : (f : Forest) (m : ℕ) → AboveFrom f m (first_sibling_label f)
-above_all f m = record { rest = f; last = inl refl; same = refl; first = refl }
-
 pub above_label : (f : Forest) (m next : ℕ) → IsSoundBelow f → AboveFrom f m next → (next ≡ 0 → ⊥) → has_label f next ≡ true
 above_label f m next s a some = by_rest a.rest refl
   where
