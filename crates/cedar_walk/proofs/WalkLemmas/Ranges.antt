@@ -135,8 +135,6 @@ pub record Written (T : Fields) (n s : ℕ) (key : List ℕ) (n' s' : ℕ) (now 
   pub front : take (length key - n + n') now ≡ take (length key - n + n') key
   pub path : path_to T n s ≡ path_to T n' s' ++ drop (length key - n + n') now
 
-}
-
 pub written_on : (T : Fields) (n s : ℕ) (key : List ℕ) (m s' p x : ℕ) (now : List ℕ) → n ≤ length key → Written T n s key (suc m) s' now → (cells_in T).check s' ≡ pos p → x ≡ below (cells_in T) p s'
     → Written T n s key m p (set now (length key - n + m) x)
 written_on T n s key m s' p x now room c o is =

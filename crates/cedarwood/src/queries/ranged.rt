@@ -51,6 +51,17 @@ impl<'a, T: Walked, A: Allocator + Copy> Model for RangeEntries<'a, T, A> {
         × IsEnd (T.shown it.trie.now) it.start.now (option_map (λ to. to.now) it.to) it.next it.end };
 }
 
+/// Gives a buffer a length. Bytes that it holds stay, and only those that it lacks are set to 0: all are written over.
+fn set_len<A: Allocator>(buffer: &mut Vec<u8, A>, len: usize) -> Result<(), AllocError>
+    ensures { IfOk result (λ _. length buffer.new.items ≡ len) }
+{
+    if buffer.len() < len {
+        buffer.resize(len, 0)?;
+    }
+    buffer.truncate(len);
+    Ok(())
+}
+
 /// Writes the key of a node into a buffer, in place of what that held: a path, and then the labels below it.
 pub(crate) fn write_key<T: Walked, A: Allocator>(
     trie: &T,
@@ -63,12 +74,10 @@ pub(crate) fn write_key<T: Walked, A: Allocator>(
     requires below { IsNumberedBelow (T.shown trie.now) start.now depth slot }
     ensures { IfOk result (λ _. key.new.items ≡ start.now ++ path_to (T.shown trie.now) depth slot) }
 {
-    let len = start.len() + depth;
-    key.clear();
-    key.reserve(len)?;
-    key.extend_from_slice(start)?;
-    key.resize(len, 0)?;
-    trie.write_path(slot, depth, key);
+    set_len(key, start.len() + depth)?;
+    let bytes = key.as_mut_slice();
+    bytes[..start.len()].copy_from_slice(start);
+    trie.write_path(slot, depth, bytes);
     Ok(())
 }
 
