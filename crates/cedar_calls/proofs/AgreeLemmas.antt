@@ -1,5 +1,5 @@
 -- That two runs of the same calls agree.
-use Rattle.std.proofs.Common.{◌≡◌, ◌⊎◌, inl, inr, Bool, true, ℕ, List, [], ◌∷◌, ◌++◌, map, take, Option, Some, None, is_some, Ok, Err, IfOk, refl, ap, sym, subst, ◌∙◌, append-nil, slice_set}
+use Rattle.std.proofs.Common.{◌≡◌, ◌⊎◌, inl, inr, Bool, true, ℕ, List, [], ◌∷◌, ◌++◌, length, map, take, Option, Some, None, is_some, Ok, Err, IfOk, refl, ap, sym, subst, ◌∙◌, append-nil, slice_set}
 use Rattle.std.specs.Prelude.{MatchOption}
 use Rattle.std.specs.List.{slice_get, AllByRecursion}
 use Rattle.std.specs.declared.result.Result.{Result}
@@ -22,13 +22,14 @@ use Rattle.cedar_format.specs.Refusal.{Refusal, refusal, refusal_of}
 use Rattle.cedar_format.proofs.OneTable.{one_formed_table}
 use Rattle.cedarwood.specs.Builds.{all_stored, first_fault}
 use Rattle.cedarwood.specs.Dictionary.{Dictionary}
+use Rattle.cedarwood.specs.Erasures.{erased_under}
 use Rattle.cedarwood.specs.Fault.{fault}
 use Rattle.cedarwood.specs.Loading.{IsDecided, LoadAnswers}
 use Rattle.cedarwood.specs.OnTable.{IsOnTable}
 use Rattle.cedarwood.specs.SortedInput.{fault_from}
 use Rattle.cedar_calls.specs.Agreement.{AreSameCalls, IsSameCall, IsSameChange, IsSameQuestion}
 use Rattle.cedar_calls.specs.Making.{IsLoad, Joins}
-use Rattle.cedar_calls.specs.Plain.{Said, all_said, at_state, call_says, change_says, changed_state, done, found, held, listed, IsLoadless, IsMet, kept_at_fault, matched, missing, reply_says, said, said_load, selected, states_after, states_of, unless_fault, unloaded, valued, walked, was}
+use Rattle.cedar_calls.specs.Plain.{Said, all_said, at_state, call_says, change_says, changed_state, counted, done, found, held, listed, IsLoadless, IsMet, kept_at_fault, matched, missing, reply_says, said, said_load, selected, states_after, states_of, unless_fault, unloaded, valued, walked, was}
 use Rattle.cedar_calls.specs.Replies.{in_order}
 use Rattle.cedar_calls.specs.Runs.{IsRun, IsStep}
 use Rattle.cedar_calls.specs.declared.call.Call.{Call}
@@ -59,6 +60,9 @@ change_alike s (change.Insert k v) (change.Insert l w) h = (
   ap (λ x. kept_at_fault (fault x v) s (stored s x v)) h.0 ∙ ap (λ y. kept_at_fault (fault l.now y) s (stored s l.now y)) h.1,
 )
 change_alike s (change.Erase k) (change.Erase l) h = (ap (λ x. held (is_some (number_at s.tree x))) h, ap (erased s) h)
+change_alike s (change.ErasePrefix k) (change.ErasePrefix l) h = (ap (λ x. counted (length (entries_with s.tree x))) h, ap (erased_under s) h)
+change_alike s change.Clear change.Clear h = (refl, refl)
+change_alike s change.Shrink change.Shrink h = (refl, refl)
 change_alike s (change.Renew x) (change.Renew y) h = (refl, ap (λ o. state_with empty_tree o) h)
 change_alike s (change.Build p) (change.Build q) h = (ap (λ es. unless_fault (first_fault es) done) h, ap (λ es. kept_at_fault (first_fault es) s (all_stored s es)) h)
 change_alike s (change.Reserve n) (change.Reserve m) h = (refl, refl)
@@ -72,6 +76,8 @@ reply_alike b s (question.Longest k) (question.Longest l) h = ap (λ x. found (l
 reply_alike b s (question.Batch k) (question.Batch l) h = ap (λ keys. matched (map (exact s.tree) keys)) h
 reply_alike b s (question.Prefixes k) (question.Prefixes l) h = ap (λ x. listed (front s.tree x)) h
 reply_alike b s (question.Predictions k) (question.Predictions l) h = ap (λ x. listed (predict s.tree x)) h
+reply_alike b s question.First question.First h = refl
+reply_alike b s question.Last question.Last h = refl
 reply_alike b s question.Entries question.Entries h = refl
 reply_alike b s question.TextEntries question.TextEntries h = refl
 reply_alike b s (question.EntriesWith k) (question.EntriesWith l) h = ap (λ x. walked (entries_with s.tree x)) h

@@ -1,14 +1,18 @@
 -- What a key holds after a change.
-use Rattle.std.proofs.Common.{◌≡◌, Bool, true, false, ℕ, ℤ, List, [], ◌∷◌, Option, Some, None, cond, fold, refl, ap, sym, ◌∙◌, true≢false}
+use Rattle.std.proofs.Common.{◌≡◌, nat_eq, Bool, true, false, ℕ, ℤ, List, [], ◌∷◌, Option, Some, None, cond, fold, refl, ap, sym, ◌∙◌, true≢false}
+use Rattle.std.specs.List.{Contains, filter, starts_with}
 use Rattle.cedar_tree.specs.Tree.{Tree, cut, number_at, put, IsSoundBelow}
-use Rattle.cedar_tree.specs.Queries.{Entry, is_path, last_at}
-use Rattle.cedar_tree.specs.State.{State, stored}
+use Rattle.cedar_tree.specs.Queries.{Entry, is_path, last_at, walk}
+use Rattle.cedar_tree.specs.State.{State, erased, stored}
 use Rattle.cedar_tree.proofs.BuildLemmas.{is_path_itself, same_path}
-use Rattle.cedar_tree.proofs.TreeLemmas.{number_at-cut_other, number_at-cut_same, number_at-empty, number_at-put_other, number_at-put_same}
+use Rattle.cedar_tree.proofs.TreeLemmas.{number_at-cut_other, number_at-cut_same, number_at-empty, number_at-put_other, number_at-put_same, sound-cut}
+use Rattle.cedar_tree.proofs.MemberLemmas.{contains_first_or_later, contains_none, either_part, into_filter, walk_from_held}
 use Rattle.cedarwood.specs.declared.error.CedarError.{CedarError}
 use Rattle.cedarwood.specs.Words.{entries_of}
 use Rattle.cedarwood.specs.Builds.{all_stored, first_fault}
+use Rattle.cedarwood.specs.Erasures.{all_erased, erased_under}
 use Rattle.cedarwood.specs.Fault.{fault}
+use Rattle.cedarwood.specs.Ranges.{entries_with}
 use Rattle.cedar_calls.specs.Keys.{held_after, AreSoundAlong}
 use Rattle.cedar_calls.specs.Plain.{changed_state, kept_at_fault}
 use Rattle.cedar_calls.specs.declared.call.Change.{Change}
@@ -25,6 +29,51 @@ pub cut_goes : (t : Tree) (k q : List ℕ) → IsSoundBelow t.children → (b : 
 cut_goes t k q sound true e = ap (number_at (cut t k)) (same_path q k e) ∙ number_at-cut_same t k sound
 cut_goes t k q sound false e = number_at-cut_other t k q sound (apart q k e)
 
+-- ---- entries erased one after another
+
+-- what holds nothing holds nothing afterwards
+stays_none : (s : State) (es : List Entry) (q : List ℕ) → IsSoundBelow s.tree.children → number_at s.tree q ≡ None → number_at (all_erased s es).tree q ≡ None
+stays_none s [] q sound h = h
+stays_none s (e ∷ es) q sound h =
+    stays_none (erased s e.0) es q (sound-cut s.tree e.0 sound) (cut_goes s.tree e.0 q sound (is_path q e.0) refl ∙ ap (cond (is_path q e.0) None) h ∙ none_or_none (is_path q e.0))
+  where
+    none_or_none : (b : Bool) → cond {A = Option ℤ} b None None ≡ None
+    none_or_none true = refl
+    none_or_none false = refl
+
+-- nor does the key of one of them
+erased_one : (s : State) (es : List Entry) (q : List ℕ) (v : ℤ) → IsSoundBelow s.tree.children → Contains es (q, v) → number_at (all_erased s es).tree q ≡ None
+erased_one s [] q v sound there = absurd (contains_none (q, v) there)
+erased_one s (e ∷ es) q v sound there =
+    either_part (contains_first_or_later e es (q, v) there)
+    (λ first. stays_none (erased s e.0) es q (sound-cut s.tree e.0 sound) (ap (λ (x : Entry). number_at (cut s.tree x.0) q) first ∙ number_at-cut_same s.tree q sound))
+    (λ later. erased_one (erased s e.0) es q v (sound-cut s.tree e.0 sound) later)
+
+-- and at any other key is held what was
+erased_others : (s : State) (p q : List ℕ) (es : List Entry) → IsSoundBelow s.tree.children → starts_with nat_eq q p ≡ false
+    → number_at (all_erased s (filter (λ e. starts_with nat_eq e.0 p) es)).tree q ≡ number_at s.tree q
+erased_others s p q [] sound apart_from = refl
+erased_others s p q (e ∷ es) sound apart_from =
+    (elim (starts_with nat_eq e.0 p) as (λ b. starts_with nat_eq e.0 p ≡ b
+        → number_at (all_erased s (cond b (e ∷ filter (λ x. starts_with nat_eq x.0 p) es) (filter (λ x. starts_with nat_eq x.0 p) es))).tree q ≡ number_at s.tree q) [
+      | true ↦ λ begins.
+          erased_others (erased s e.0) p q es (sound-cut s.tree e.0 sound) apart_from
+          ∙ number_at-cut_other s.tree e.0 q sound (λ same. true≢false (sym begins ∙ ap (λ k. starts_with nat_eq k p) (sym same) ∙ apart_from))
+      | false ↦ λ _. erased_others s p q es sound apart_from
+    ]) refl
+
+under_goes : (s : State) (p q : List ℕ) → IsSoundBelow s.tree.children → number_at (erased_under s p).tree q ≡ cond (starts_with nat_eq q p) None (number_at s.tree q)
+under_goes s p q sound =
+    (elim (starts_with nat_eq q p) as (λ b. starts_with nat_eq q p ≡ b → number_at (erased_under s p).tree q ≡ cond b None (number_at s.tree q)) [
+      | true ↦ λ begins. by_number begins (number_at s.tree q) refl
+      | false ↦ λ apart_from. erased_others s p q (walk s.tree) sound apart_from
+    ]) refl
+  where
+    by_number : starts_with nat_eq q p ≡ true → (n : Option ℤ) → number_at s.tree q ≡ n → number_at (erased_under s p).tree q ≡ None
+    by_number begins None is = stays_none s (entries_with s.tree p) q sound is
+    by_number begins (Some v) is =
+        erased_one s (entries_with s.tree p) q v sound (into_filter (λ (e : Entry). starts_with nat_eq e.0 p) (walk s.tree) (q, v) begins (walk_from_held s.tree q v sound is))
+
 pub all_go : (s : State) (es : List Entry) (q : List ℕ) → number_at (all_stored s es).tree q ≡ last_at q (number_at s.tree q) es
 all_go s [] q = refl
 all_go s (e ∷ es) q =
@@ -38,6 +87,9 @@ key_goes : (s : State) (c : Change) (q : List ℕ) → IsSoundBelow s.tree.child
 key_goes s (change.Update k v) q sound = at_fault (fault k.now v) s (stored s k.now v) q (cond (is_path q k.now) (Some v) (number_at s.tree q)) (put_goes s.tree s.ordered k.now v q (is_path q k.now) refl)
 key_goes s (change.Insert k v) q sound = at_fault (fault k.now v) s (stored s k.now v) q (cond (is_path q k.now) (Some v) (number_at s.tree q)) (put_goes s.tree s.ordered k.now v q (is_path q k.now) refl)
 key_goes s (change.Erase k) q sound = cut_goes s.tree k.now q sound (is_path q k.now) refl
+key_goes s (change.ErasePrefix prefix) q sound = under_goes s prefix.now q sound
+key_goes s change.Clear q sound = number_at-empty q
+key_goes s change.Shrink q sound = refl
 key_goes s (change.Renew settings) q sound = number_at-empty q
 key_goes s (change.Reserve n) q sound = refl
 key_goes s (change.Build pairs) q sound = at_fault (first_fault (entries_of pairs.now)) s (all_stored s (entries_of pairs.now)) q (last_at q (number_at s.tree q) (entries_of pairs.now)) (all_go s (entries_of pairs.now) q)

@@ -57,6 +57,9 @@ module _ (key : List ℕ) where
   held_goes layout slots d e (change.Insert k v) (changed.Inserted (Ok x)) sound h = ap (λ s. number_at s.tree key) h.0.ok ∙ put_goes d.state.tree d.state.ordered k.now v key (is_path key k.now) refl
   held_goes layout slots d e (change.Insert k v) (changed.Inserted (Err x)) sound h = ap (λ s. number_at s.tree key) h.0.err
   held_goes layout slots d e (change.Erase k) (changed.Erased x) sound h = ap (λ s. number_at s.tree key) h.1.state ∙ cut_goes d.state.tree k.now key sound (is_path key k.now) refl
+  held_goes layout slots d e (change.ErasePrefix prefix) (changed.ErasedPrefix n) sound h = h.held key
+  held_goes layout slots d e change.Clear changed.Cleared sound h = ap (λ t. number_at t key) h.tree ∙ number_at-empty key
+  held_goes layout slots d e change.Shrink (changed.Shrunk x) sound h = ap (λ s. number_at s.tree key) h.state
   held_goes layout slots d e (change.Renew settings) (changed.Renewed (Ok x)) sound h = ap (λ t. number_at t key) h.tree ∙ number_at-empty key
   held_goes layout slots d e (change.Renew settings) (changed.Renewed (Err x)) sound h = ap number_in h.1
   held_goes layout slots d e (change.Build pairs) (changed.Built (Ok x)) sound h = ap (λ s. number_at s.tree key) h.stored ∙ all_go d.state (entries_of pairs.now) key

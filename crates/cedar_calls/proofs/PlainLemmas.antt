@@ -1,5 +1,5 @@
 -- What a change and a reply say as far as trees go.
-use Rattle.std.proofs.Common.{◌≡◌, Bool, true, false, ℕ, ℤ, List, [], ◌∷◌, length, Option, Some, None, is_some, Ok, Err, IfSome, IfOk, IsSome, OnErr, ◌↔◌, refl, ap, sym, subst, ◌∙◌}
+use Rattle.std.proofs.Common.{◌≡◌, inl, inr, Bool, true, false, ℕ, ℤ, List, [], ◌∷◌, length, Option, Some, None, is_some, Ok, Err, IfSome, IfOk, IsSome, OnErr, ◌↔◌, refl, ap, sym, subst, ◌∙◌}
 use Rattle.std.specs.declared.result.Result.{Result}
 use Rattle.cedar_tree.specs.Tree.{Tree, empty_tree, number_at}
 use Rattle.cedar_tree.specs.Queries.{Entry, used, walk}
@@ -12,10 +12,11 @@ use Rattle.cedarwood.specs.Builds.{all_stored, first_fault, outcome}
 use Rattle.cedarwood.specs.Dictionary.{Dictionary}
 use Rattle.cedarwood.specs.Fault.{fault, IsShortage}
 use Rattle.cedarwood.specs.Room.{LacksRoom}
+use Rattle.cedarwood.specs.Shrinking.{LacksPlaces}
 use Rattle.cedarwood.specs.Updates.{IsUpdate}
 use Rattle.cedar_calls.specs.Changes.{IsChange, IsWholeBuild}
 use Rattle.cedar_calls.specs.Replies.{IsReply}
-use Rattle.cedar_calls.specs.Plain.{compared, counted, done, found, held, in_use, listed, matched, measured, selected, valued, walked, was, worded, change_says, changed_state, is_none_left, IsMet, kept_at_fault, reply_says, said_change, said_reply, said_result, unless_fault}
+use Rattle.cedar_calls.specs.Plain.{compared, counted, done, ended, found, held, in_use, listed, matched, measured, selected, valued, walked, was, worded, change_says, changed_state, is_none_left, IsMet, kept_at_fault, reply_says, said_change, said_reply, said_result, unless_fault}
 use Rattle.cedar_calls.specs.declared.call.Change.{Change}
 use Rattle.cedar_calls.specs.declared.call.Change.TheVariants as change
 use Rattle.cedar_calls.specs.declared.call.Figure.TheVariants.{AllocatedBytes, Capacity, SpareBlocks, UsedSlots}
@@ -85,11 +86,20 @@ room_short slots d n Memory h = tt
 room_short slots d n SlotLimit h = tt
 room_short slots d n e h = absurd h
 
+-- a dictionary isn't shrunk only for want of memory or slots
+places_short : (slots : ℕ) (es : List Entry) (e : CedarError) → LacksPlaces slots es e → IsShortage e
+places_short slots es e (inl is) = subst IsShortage (sym is) tt
+places_short slots es e (inr is) = subst IsShortage (sym is.0) tt
+
 pub change_goes : (layout : LayoutKind) (slots : ℕ) (d d' : Dictionary) (c : Change) (a : Changed) → IsChange layout slots d c a d' → IsMet (said_change a)
     → (said_change a ≡ change_says d.state c) × (d'.state ≡ changed_state d.state c)
 change_goes layout slots d d' (change.Update key v) (changed.Updated r) h met = update_goes layout slots d d' key.now v (fault key.now v) refl r h met
 change_goes layout slots d d' (change.Insert key v) (changed.Inserted r) h met = insert_goes layout slots d d' key.now v (fault key.now v) refl r h.0 h.1 met
 change_goes layout slots d d' (change.Erase key) (changed.Erased b) h met = (ap held (bool_same b (is_some (number_at d.state.tree key.now)) h.0), h.1.state)
+change_goes layout slots d d' (change.ErasePrefix prefix) (changed.ErasedPrefix n) h met = (ap counted h.count, h.state)
+change_goes layout slots d d' change.Clear changed.Cleared h met = (refl, state_is d'.state empty_tree d.state.ordered h.tree h.ordered)
+change_goes layout slots d d' change.Shrink (changed.Shrunk (Ok x)) h met = (refl, h.state)
+change_goes layout slots d d' change.Shrink (changed.Shrunk (Err e)) h met = absurd (met (places_short slots (walk d.state.tree) e h.refused))
 change_goes layout slots d d' (change.Renew settings) (changed.Renewed (Ok x)) h met = (refl, state_is d'.state empty_tree settings.ordered h.tree h.ordered)
 change_goes layout slots d d' (change.Renew settings) (changed.Renewed (Err e)) h met = absurd (met (subst IsShortage (sym h.0) tt))
 change_goes layout slots d d' (change.Build pairs) (changed.Built r) h met = build_goes layout slots d d' (entries_of pairs.now) (first_fault (entries_of pairs.now)) refl r h met
@@ -116,6 +126,10 @@ reply_goes b layout slots d (question.Prefixes query) (reply.Prefixes (Ok v)) k 
 reply_goes b layout slots d (question.Prefixes query) (reply.Prefixes (Err e)) k h met = absurd (met (short e h))
 reply_goes b layout slots d (question.Predictions query) (reply.Predictions (Ok v)) k h met = ap listed h
 reply_goes b layout slots d (question.Predictions query) (reply.Predictions (Err e)) k h met = absurd (met (short e h))
+reply_goes b layout slots d question.First (reply.End (Ok o)) k h met = ap ended h
+reply_goes b layout slots d question.First (reply.End (Err e)) k h met = absurd (met (short e h))
+reply_goes b layout slots d question.Last (reply.End (Ok o)) k h met = ap ended h
+reply_goes b layout slots d question.Last (reply.End (Err e)) k h met = absurd (met (short e h))
 reply_goes b layout slots d question.Entries (reply.Entries (Ok v)) k h met = ap walked h
 reply_goes b layout slots d question.Entries (reply.Entries (Err e)) k h met = absurd (met (short e h))
 reply_goes b layout slots d question.TextEntries (reply.TextEntries (Ok v)) k h met = ap worded (texts_are v.items (walk d.state.tree) h)

@@ -10,7 +10,9 @@ use Rattle.cedar_model.specs.Meaning.Marks.{MarksCut}
 use Rattle.cedar_model.specs.Table.Layouts.{LayoutKind}
 use Rattle.cedarwood.specs.Builds.{all_stored, first_fault, outcome, IsBuild, IsRefusedBuild}
 use Rattle.cedarwood.specs.Dictionary.{capacity_after, Dictionary}
+use Rattle.cedarwood.specs.Erasures.{IsCleared, IsErasedUnder}
 use Rattle.cedarwood.specs.Room.{LacksRoom}
+use Rattle.cedarwood.specs.Shrinking.{IsShrunk}
 use Rattle.cedarwood.specs.Updates.{IsUpdate}
 use Rattle.cedarwood.specs.Making.{IsRenewed}
 use Rattle.cedar_calls.specs.declared.call.Change.{Change}
@@ -55,6 +57,9 @@ IsChange layout slots before (change.Update key v) (changed.Updated result) afte
 IsChange layout slots before (change.Insert key v) (changed.Inserted result) after =
     IsUpdate layout slots before after key.now v (outcome result) × IfOk result (λ held. held ≡ number_at before.state.tree key.now)
 IsChange layout slots before (change.Erase key) (changed.Erased held) after = (IsTrue held ↔ IsSome (number_at before.state.tree key.now)) × IsErased before after key.now
+IsChange layout slots before (change.ErasePrefix prefix) (changed.ErasedPrefix n) after = IsErasedUnder before after prefix.now n
+IsChange layout slots before change.Clear changed.Cleared after = IsCleared before after
+IsChange layout slots before change.Shrink (changed.Shrunk result) after = IsShrunk layout slots before after result
 IsChange layout slots before (change.Renew settings) (changed.Renewed result) after = IsRenewed settings before after result
 IsChange layout slots before (change.Build pairs) (changed.Built result) after = IsWholeBuild layout slots before after (entries_of pairs.now) result
 IsChange layout slots before (change.Reserve n) (changed.Reserved result) after = IsReserved slots n before after result

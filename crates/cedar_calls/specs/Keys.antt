@@ -1,5 +1,6 @@
 -- What a key holds after some changes of a dictionary: only changes of that key have a part in it, the last of them decides.
-use Rattle.std.specs.Prelude.{◌≡◌, ◌<◌, ℕ, ℤ, List, [], ◌∷◌, ◌++◌, length, take, map, slice_get, slice_set, Option, Some, None, IsSome, fold, if◌then◌else◌, Result, Ok, Err, OnOk, MatchResult}
+use Rattle.std.specs.Prelude.{◌≡◌, ◌<◌, ℕ, ℤ, List, [], ◌∷◌, ◌++◌, length, take, map, slice_get, slice_set, Option, Some, None, IsSome, fold, nat_eq, if◌then◌else◌, Result, Ok, Err, OnOk, MatchResult}
+use Rattle.std.specs.List.{starts_with}
 use Rattle.cedar_tree.specs.Tree.{number_at, IsSoundBelow}
 use Rattle.cedar_tree.specs.Queries.{is_path, last_at}
 use Rattle.cedar_tree.specs.State.{State}
@@ -27,6 +28,9 @@ abbrev pub held_after : List ℕ → Option ℤ → Change → Option ℤ
 held_after key now (change.Update k v) = kept_at_fault (fault k.now v) now (if is_path key k.now then Some v else now)
 held_after key now (change.Insert k v) = kept_at_fault (fault k.now v) now (if is_path key k.now then Some v else now)
 held_after key now (change.Erase k) = if is_path key k.now then None else now
+held_after key now (change.ErasePrefix prefix) = if starts_with nat_eq key prefix.now then None else now
+held_after key now change.Clear = None
+held_after key now change.Shrink = now
 held_after key now (change.Renew settings) = None
 held_after key now (change.Reserve n) = now
 held_after key now (change.Build pairs) = kept_at_fault (first_fault (entries_of pairs.now)) now (last_at key now (entries_of pairs.now))
@@ -59,6 +63,9 @@ abbrev pub IsHeldAfter : List ℕ → Option ℤ → Change → Changed → Opti
 IsHeldAfter key now (change.Update k v) (changed.Updated result) after = after ≡ if_made result (if is_path key k.now then Some v else now) now
 IsHeldAfter key now (change.Insert k v) (changed.Inserted result) after = after ≡ if_made result (if is_path key k.now then Some v else now) now
 IsHeldAfter key now (change.Erase k) (changed.Erased held) after = after ≡ (if is_path key k.now then None else now)
+IsHeldAfter key now (change.ErasePrefix prefix) (changed.ErasedPrefix n) after = after ≡ (if starts_with nat_eq key prefix.now then None else now)
+IsHeldAfter key now change.Clear changed.Cleared after = after ≡ None
+IsHeldAfter key now change.Shrink (changed.Shrunk result) after = after ≡ now
 IsHeldAfter key now (change.Renew settings) (changed.Renewed result) after = after ≡ if_made result None now
 IsHeldAfter key now (change.Build pairs) (changed.Built result) after =
     MatchResult result (λ _. after ≡ last_at key now (entries_of pairs.now))

@@ -9,6 +9,8 @@ use Rattle.cedarwood.specs.declared.error.CedarError.{CedarError}
 use Rattle.cedarwood.specs.Words.{entries_of, keys_of}
 use Rattle.cedarwood.specs.Ranges.{entries_since, entries_with, longest_front}
 use Rattle.cedarwood.specs.RangeWalks.{entries_between}
+use Rattle.cedarwood.specs.Ends.{first_entry, last_entry}
+use Rattle.cedarwood.specs.Erasures.{erased_under}
 use Rattle.cedar_model.specs.Table.Layouts.{LayoutKind, default_layout}
 use Rattle.cedar_format.specs.declared.error.CedarPersistenceError.{CedarPersistenceError}
 use Rattle.cedar_format.specs.Refusal.{Refusal, AllocationFailed, refusal_of}
@@ -46,6 +48,7 @@ pub data Said : Type 0 where
   listed : List (ℤ × ℕ) → Said
   walked : List Entry → Said
   selected : Option (List Entry) → Said
+  ended : Option Entry → Said
   worded : List (Option Entry) → Said
   counted : ℕ → Said
   in_use : Option ℕ → Said
@@ -60,6 +63,9 @@ abbrev pub said_change : Changed → Said
 said_change (changed.Updated result) = said_result (λ _. done) result
 said_change (changed.Inserted result) = said_result was result
 said_change (changed.Erased result) = held result
+said_change (changed.ErasedPrefix n) = counted n
+said_change changed.Cleared = done
+said_change (changed.Shrunk result) = said_result (λ _. done) result
 said_change (changed.Renewed result) = said_result (λ _. done) result
 said_change (changed.Built result) = said_result (λ _. done) result
 said_change (changed.Reserved result) = said_result (λ _. done) result
@@ -85,6 +91,7 @@ said_reply by_default q (reply.Prefixes result) = said_result (λ v. listed v.it
 said_reply by_default q (reply.Predictions result) = said_result (λ v. listed v.items) result
 said_reply by_default q (reply.Entries result) = said_result (λ v. walked (map (λ e. (e.0.items, e.1)) v.items)) result
 said_reply by_default q (reply.Range result) = said_result (λ o. selected (option_map (λ v. map (λ e. (e.0.items, e.1)) v.items) o)) result
+said_reply by_default q (reply.End result) = said_result (λ o. ended (option_map (λ e. (e.0.items, e.1)) o)) result
 said_reply by_default q (reply.TextEntries result) = said_result (λ v. worded (map (option_map (λ e. (string_bytes e.0, e.1))) v.items)) result
 said_reply by_default q (reply.Len n) = counted n
 said_reply by_default q (reply.Figure n) = said_figure by_default q n
@@ -144,6 +151,9 @@ abbrev pub change_says : State → Change → Said
 change_says s (change.Update key v) = unless_fault (fault key.now v) done
 change_says s (change.Insert key v) = unless_fault (fault key.now v) (was (number_at s.tree key.now))
 change_says s (change.Erase key) = held (is_some (number_at s.tree key.now))
+change_says s (change.ErasePrefix prefix) = counted (length (entries_with s.tree prefix.now))
+change_says s change.Clear = done
+change_says s change.Shrink = done
 change_says s (change.Renew settings) = done
 change_says s (change.Build pairs) = unless_fault (first_fault (entries_of pairs.now)) done
 change_says s (change.Reserve n) = done
@@ -152,6 +162,9 @@ abbrev pub changed_state : State → Change → State
 changed_state s (change.Update key v) = kept_at_fault (fault key.now v) s (stored s key.now v)
 changed_state s (change.Insert key v) = kept_at_fault (fault key.now v) s (stored s key.now v)
 changed_state s (change.Erase key) = erased s key.now
+changed_state s (change.ErasePrefix prefix) = erased_under s prefix.now
+changed_state s change.Clear = record { tree = empty_tree; ordered = s.ordered }
+changed_state s change.Shrink = s
 changed_state s (change.Renew settings) = record { tree = empty_tree; ordered = settings.ordered }
 changed_state s (change.Build pairs) = kept_at_fault (first_fault (entries_of pairs.now)) s (all_stored s (entries_of pairs.now))
 changed_state s (change.Reserve n) = s
@@ -169,6 +182,8 @@ reply_says by_default s (question.Longest text) = found (longest_front s.tree te
 reply_says by_default s (question.Batch keys) = matched (map (exact s.tree) (keys_of keys.now))
 reply_says by_default s (question.Prefixes query) = listed (front s.tree query.now)
 reply_says by_default s (question.Predictions query) = listed (predict s.tree query.now)
+reply_says by_default s question.First = ended (first_entry s.tree)
+reply_says by_default s question.Last = ended (last_entry s.tree)
 reply_says by_default s question.Entries = walked (walk s.tree)
 reply_says by_default s question.TextEntries = worded (texts_of (walk s.tree))
 reply_says by_default s (question.EntriesWith prefix) = walked (entries_with s.tree prefix.now)

@@ -9,6 +9,7 @@ use Rattle.cedar_model.specs.Table.Layouts.{LayoutKind, default_layout}
 use Rattle.cedarwood.specs.Words.{keys_of}
 use Rattle.cedarwood.specs.Ranges.{entries_since, entries_with, longest_front}
 use Rattle.cedarwood.specs.RangeWalks.{entries_between}
+use Rattle.cedarwood.specs.Ends.{first_entry, last_entry}
 use Rattle.cedar_format.specs.Tables.{IsTableFile}
 use Rattle.cedarwood.specs.Dictionary.{Dictionary}
 use Rattle.cedarwood.specs.declared.figures.MemoryStats.{MemoryStats}
@@ -66,6 +67,8 @@ IsReply layout slots d (question.Longest text) (reply.Longest found) = found ≡
 IsReply layout slots d (question.Batch keys) (reply.Batch result) = Collects result (λ found. found.items ≡ map (exact d.state.tree) (keys_of keys.now))
 IsReply layout slots d (question.Prefixes query) (reply.Prefixes result) = Collects result (λ found. found.items ≡ front d.state.tree query.now)
 IsReply layout slots d (question.Predictions query) (reply.Predictions result) = Collects result (λ found. found.items ≡ predict d.state.tree query.now)
+IsReply layout slots d question.First (reply.End result) = Collects result (λ found. option_map (λ e. (e.0.items, e.1)) found ≡ first_entry d.state.tree)
+IsReply layout slots d question.Last (reply.End result) = Collects result (λ found. option_map (λ e. (e.0.items, e.1)) found ≡ last_entry d.state.tree)
 IsReply layout slots d question.Entries (reply.Entries result) = Collects result (λ found. map (λ e. (e.0.items, e.1)) found.items ≡ walk d.state.tree)
 IsReply layout slots d question.TextEntries (reply.TextEntries result) = Collects result (λ found. AreTexts (map (option_map (λ e. (string_bytes e.0, e.1))) found.items) (walk d.state.tree))
 IsReply layout slots d (question.EntriesWith prefix) (reply.Entries result) = Collects result (λ found. map (λ e. (e.0.items, e.1)) found.items ≡ entries_with d.state.tree prefix.now)

@@ -27,6 +27,12 @@ pub enum Changed {
     Inserted(Result<Option<i32>, CedarError>),
     /// Whether the key was held.
     Erased(bool),
+    /// How many keys were removed.
+    ErasedPrefix(usize),
+    /// No key is held any more.
+    Cleared,
+    /// Whether the dictionary was built anew. If not, it is as it was.
+    Shrunk(Result<(), CedarError>),
     /// Whether it is empty now. If not, it holds what it held.
     Renewed(Result<(), CedarError>),
     /// Whether all pairs were stored.
@@ -46,6 +52,8 @@ pub enum Reply<A: Allocator> {
     IsHeld(bool),
     /// The value and the length of the longest key that the text begins with.
     Longest(Option<(i32, usize)>),
+    /// The key and the value of the first entry, or of the last one.
+    End(Result<Option<(Vec<u8, A>, i32)>, CedarError>),
     /// What an exact search answers of each key.
     Batch(Result<Vec<Option<(i32, usize)>, A>, CedarError>),
     /// The fronts of the query that are held.

@@ -55,6 +55,12 @@ pub enum Change<'a> {
     Insert { key: &'a [u8], value: i32 },
     /// Remove a key.
     Erase { key: &'a [u8] },
+    /// Remove all keys that begin with a prefix.
+    ErasePrefix { prefix: &'a [u8] },
+    /// Remove all keys.
+    Clear,
+    /// Give back memory that isn't needed.
+    Shrink,
     /// Begin anew, with these settings.
     Renew { settings: CedarBuilder },
     /// Store some pairs.
@@ -80,6 +86,10 @@ pub enum Question<'a> {
     Prefixes { query: &'a [u8] },
     /// Which keys begin with the query?
     Predictions { query: &'a [u8] },
+    /// Which is the first entry?
+    First,
+    /// Which is the last one?
+    Last,
     /// Which keys are held, with which values?
     Entries,
     /// The same, with keys as texts.

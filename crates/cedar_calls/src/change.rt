@@ -26,6 +26,12 @@ pub(crate) fn make_change<L: Layout, const SLOTS: usize, A: Allocator + Copy>(
         Change::Update { key, value } => Changed::Updated(trie.update_bytes(key, *value)),
         Change::Insert { key, value } => Changed::Inserted(trie.insert_bytes(key, *value)),
         Change::Erase { key } => Changed::Erased(trie.erase_bytes(key)),
+        Change::ErasePrefix { prefix } => Changed::ErasedPrefix(trie.erase_prefix_bytes(prefix)),
+        Change::Clear => {
+            trie.clear();
+            Changed::Cleared
+        }
+        Change::Shrink => Changed::Shrunk(trie.shrink_to_fit()),
         Change::Renew { settings } => Changed::Renewed(trie.renew(alloc, *settings)),
         Change::Build { pairs } => Changed::Built(trie.build_bytes(pairs)),
         Change::Reserve { blocks } => Changed::Reserved(trie.try_reserve(*blocks)),

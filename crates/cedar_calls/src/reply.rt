@@ -5,6 +5,7 @@ ghost use Rattle.cedar_tree.specs.Queries.{exact, walk};
 ghost use Rattle.cedarwood.specs.Words.{keys_of};
 ghost use Rattle.cedarwood.specs.Ranges.{entries_since, entries_with};
 ghost use Rattle.cedarwood.specs.RangeWalks.{entries_between};
+ghost use Rattle.cedarwood.specs.Ends.{first_entry, last_entry};
 ghost use Rattle.cedar_format.specs.Tables.{IsTableFile};
 ghost use Rattle.cedar_calls.specs.Replies.{AreTexts, Collects, IsFigure, IsReply, in_order};
 
@@ -31,6 +32,8 @@ pub(crate) fn reply<L: Layout, const SLOTS: usize, A: Allocator + Copy>(
         Question::Predictions { query } => {
             Reply::Predictions(trie.common_prefix_predict_bytes(query))
         }
+        Question::First => Reply::End(first(trie)),
+        Question::Last => Reply::End(last(trie)),
         Question::Entries => Reply::Entries(entries(trie, alloc)),
         Question::TextEntries => Reply::TextEntries(text_entries(trie, alloc)),
         Question::EntriesWith { prefix } => Reply::Entries(beginning_with(trie, alloc, prefix)),
@@ -71,6 +74,24 @@ fn figure_of<L: Layout, const SLOTS: usize, A: Allocator + Copy>(
         Figure::AllocatedBytes => trie.allocated_bytes(),
         Figure::SpareBlocks => trie.spare_blocks(),
     }
+}
+
+/// The first entry.
+fn first<L: Layout, const SLOTS: usize, A: Allocator + Copy>(
+    trie: &Trie<L, SLOTS, A>,
+) -> Result<Option<(Vec<u8, A>, i32)>, CedarError>
+    ensures { Collects result (λ found. option_map (λ e. (e.0.items, e.1)) found ≡ first_entry trie.now.state.tree) }
+{
+    trie.first()
+}
+
+/// The last entry.
+fn last<L: Layout, const SLOTS: usize, A: Allocator + Copy>(
+    trie: &Trie<L, SLOTS, A>,
+) -> Result<Option<(Vec<u8, A>, i32)>, CedarError>
+    ensures { Collects result (λ found. option_map (λ e. (e.0.items, e.1)) found ≡ last_entry trie.now.state.tree) }
+{
+    trie.last()
 }
 
 /// All keys with their values.

@@ -33,8 +33,8 @@ pub fn run_calls<L: Layout, const SLOTS: usize, A: Allocator + Copy>(
     //= What it is, and what it is refused by, is what the rows of `cedarwood` say of such a call; a clone is refused for memory alone. [by
     //  IsNew, IsSortedBuild, IsLoad, IsCopy]
     //= A dictionary that was loaded stands on the table that its bytes are of. [by IsLoad, IsOnTable]
-    //= An update, an insert, an erasure, `renew`, a build or `try_reserve` changes just the dictionary at its index, as the rows of
-    //  `cedarwood` say. [by ChangesAt, IsChange]
+    //= An update, an insert, an erasure of a key, of a prefix or of all, `renew`, a build, `try_reserve` or `shrink_to_fit` changes just the
+    //  dictionary at its index, as the rows of `cedarwood` say. [by ChangesAt, IsChange]
     //= A question changes nothing, and is answered as they say; where an answer is collected it may be `Memory`. [by AsksAt, IsReply]
     //= A call on a dictionary that isn't there answers `Missing`, and all are as they were. [by MissesAt]
     //= A dictionary that is changed was valid before. [by IsStep, IsValid]

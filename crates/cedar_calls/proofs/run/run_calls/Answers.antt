@@ -1,7 +1,8 @@
-use Rattle.std.proofs.Common.{◌≡◌, ◌≤◌, ◌+◌, ◌-◌, [], ◌∷◌, ◌++◌, arith, take, length, sym, ◌∙◌, ap, vec_len}
-use Rattle.std.proofs.lemmas.List.{take_more}
+use Rattle.std.proofs.Common.{◌≡◌, ◌≤◌, ◌+◌, ◌-◌, [], ◌∷◌, ◌++◌, arith, take, length, subst, sym, ◌∙◌, ap, vec_len}
+use Rattle.std.proofs.lemmas.List.{take_all, take_more}
 use Rattle.std.specs.Vec.{vec_capacity}
 use Rattle.cedar_calls.specs.declared.call.Call.{Call}
+use Rattle.cedar_calls.specs.Runs.{IsRun}
 use Rattle.cedar_calls.proofs.RunLemmas.{run_more}
 use Rattle.cedar_calls.proofs.run.run_calls.Goals as goal
 
@@ -24,3 +25,9 @@ loop-call-preserved g c =
       rw (next, p.items)
           (run_more g.L.Layout.kind g.row.SLOTS c.reserve.new.self.items (take i c.args.calls.now) c.loop-call.answers.items c.loop-call.tries.items c.call-item.result c.make_call.result c.make_call.new.tries.items h.3 m.step),
     )
+
+pub returns-clause-run : goal.returns-clause-run
+returns-clause-run g c =
+    let all : take c.loop-call.call-index c.args.calls.now ≡ c.args.calls.now = take_all c.loop-call.call-index c.args.calls.now (omega (arith, c.loop-call-test.false)) in
+    subst (λ before. IsRun g.L.Layout.kind g.row.SLOTS before c.args.calls.now c.loop-call.answers.items c.loop-call.tries.items) c.in_ok-reserve.ensures.items
+    (subst (λ calls. IsRun g.L.Layout.kind g.row.SLOTS c.reserve.new.self.items calls c.loop-call.answers.items c.loop-call.tries.items) all c.loop-call.invariant.3)
