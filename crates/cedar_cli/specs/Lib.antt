@@ -6,9 +6,11 @@ pub use Rattle.cedarwood.specs.WatchedDevice
 pub use Rattle.cedarwood.specs.Dictionary
 pub mod Blocks
 pub mod Command
+pub mod Devices
 pub mod Lines
 pub mod Loads
 pub mod Options
+pub mod Runs
 pub mod Script
 pub mod View
 pub mod Words

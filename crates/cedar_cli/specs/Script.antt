@@ -1,10 +1,11 @@
 -- What a script's run writes, and what it leaves: first of one order, then of the lines of a script,
 -- and last of a run that has come to some place in its script.
-use Rattle.std.specs.Prelude.{◌≡◌, ◌⊎◌, ℕ, ◌<◌, Bool, true, false, if◌then◌else◌, ℤ, List, [], ◌∷◌, ◌++◌, length, Option, Some, None, Result, Err, OnOk, OnErr, IfErr, codes, decimal, is_some}
+use Rattle.std.specs.Prelude.{◌≡◌, ◌⊎◌, ℕ, ◌<◌, Bool, true, false, if◌then◌else◌, ℤ, List, [], ◌∷◌, ◌++◌, length, Option, Some, None, Result, Err, OnOk, OnErr, IfErr, IsSome, MatchOption, codes, decimal, is_some}
 use Rattle.std.specs.Fmt.{signed_decimal}
 use Rattle.std.specs.Io.KnownBytes.{Appends}
 use Rattle.cedar_tree.specs.Tree.{number_at}
 use Rattle.cedar_tree.specs.Queries.{Entry, front, predict, walk}
+use Rattle.cedar_tree.specs.State.{erased, stored}
 use Rattle.cedar_model.specs.Table.Layouts.{LayoutKind}
 use Rattle.cedar_cli.specs.declared.command.Verb.TheVariants.{Put, Erase, Exact, Segment, Prefixes, Predict, Entries, Figures}
 use Rattle.cedar_cli.specs.declared.script.ScriptError.{ScriptError}
@@ -117,6 +118,11 @@ WritesFront held holds bytes = (part : List ℕ) × (rest : List ℕ) × (0 < le
 abbrev pub AppendsFront : Option (List ℕ) → Option (List ℕ) → List ℕ → Type 0
 AppendsFront held holds bytes = (part : List ℕ) × (rest : List ℕ) × (bytes ≡ part ++ rest) × Appends held holds part
 
+-- what the key held before is put back: it is taken away again, or holds that value
+abbrev pub IsTakenBack : Option ℤ → List ℕ → Dictionary → Dictionary → Type 0
+IsTakenBack held key before after =
+    MatchOption held (after.state ≡ erased before.state key) (λ v. fault key v ≡ None → IsSome (number_at before.state.tree key) → after.state ≡ stored before.state key v)
+
 -- an order was obeyed, and its answer written whole
 abbrev pub Obeys : Option Order → View → View → Option (List ℕ) → Option (List ℕ) → Type 0
 Obeys order old new held holds = (new ≡ view_after_order old order) × Appends held holds (reply old order ++ 10 ∷ [])
@@ -224,3 +230,17 @@ Stops slots d fault old new held holds text =
     × Stays fault (view_after old finished) new × Appends held holds (answers old finished ++ part)
     × ((rest : List ℕ) → IsCutShort (view_after old finished) (lines_of (left ++ rest)) part)
     × ((rest : List ℕ) → MayStop slots d fault (lines_of (left ++ rest)))
+
+-- ---- the same of dictionaries of a layout, before and after
+
+abbrev pub FinishesLines : LayoutKind → Dictionary → Dictionary → List (List ℕ) → Option (List ℕ) → Option (List ℕ) → Type 0
+FinishesLines layout before after lines held holds = Finishes (view_of layout before) (view_of layout after) held holds lines
+
+abbrev pub EndsScript : ℕ → LayoutKind → Dictionary → Dictionary → ScriptError → List ℕ → Option (List ℕ) → Option (List ℕ) → Type 0
+EndsScript slots layout before after fault script held holds = EndsEarly slots after fault (view_of layout before) (view_of layout after) held holds script
+
+abbrev pub AdvancesBy : LayoutKind → Dictionary → Dictionary → List ℕ → List ℕ → Option (List ℕ) → Option (List ℕ) → Type 0
+AdvancesBy layout before after text left held holds = Advances (view_of layout before) (view_of layout after) held holds text left
+
+abbrev pub StopsIn : ℕ → LayoutKind → Dictionary → Dictionary → ScriptError → List ℕ → Option (List ℕ) → Option (List ℕ) → Type 0
+StopsIn slots layout before after fault text held holds = Stops slots after fault (view_of layout before) (view_of layout after) held holds text

@@ -1,7 +1,7 @@
 //! The lines of a dictionary's entries. They take no memory but the walk's own.
 
 ghost use Rattle.std.specs.Prelude.{◌≡◌, ◌*◌, ◌++◌, ◌∷◌, [], OnOk, OnErr, codes, length};
-ghost use Rattle.cedar_cli.specs.Words.{Appends, LineFault, WritesFront, WritesOrFails, device_of, encode_lower, entry_line, entry_lines, has_failed};
+ghost use Rattle.cedar_cli.specs.Words.{BreaksOff, LineFault, Writes, WritesOrFails, encode_lower, entry_line, entry_lines, has_failed};
 
 use crate::script::ScriptError;
 use crate::write::{write_line, write_whole};
@@ -18,8 +18,8 @@ pub(crate) fn write_entries<T: Walked, A: Allocator + Copy, W: Write>(
     writer: &mut Watched<W>,
     mut entries: Entries<'_, T, A>,
 ) -> Result<(), ScriptError>
-    ensures ok { OnOk result (Appends (W.contents (device_of writer.old)) (W.contents (device_of writer.new)) ((entry_lines entries.entry ++ codes "end") ++ 10 ∷ [])) }
-    ensures err { OnErr result (WritesFront (W.contents (device_of writer.old)) (W.contents (device_of writer.new)) ((entry_lines entries.entry ++ codes "end") ++ 10 ∷ [])) }
+    ensures ok { OnOk result (Writes W.contents writer.old writer.new ((entry_lines entries.entry ++ codes "end") ++ 10 ∷ [])) }
+    ensures err { OnErr result (BreaksOff W.contents writer.old writer.new ((entry_lines entries.entry ++ codes "end") ++ 10 ∷ [])) }
     ensures faults { LineFault (has_failed writer.old) (has_failed writer.new) result }
     ensures never_full { result ≡ Err ScriptError.SlotLimit → ⊥ }
 {
@@ -34,8 +34,8 @@ pub(crate) fn write_entries<T: Walked, A: Allocator + Copy, W: Write>(
 
 /// Writes the line of an entry.
 fn write_entry<W: Write>(writer: &mut Watched<W>, key: &[u8], value: i32) -> Result<(), ScriptError>
-    ensures ok { OnOk result (Appends (W.contents (device_of writer.old)) (W.contents (device_of writer.new)) (entry_line (key.now, value))) }
-    ensures err { OnErr result (WritesFront (W.contents (device_of writer.old)) (W.contents (device_of writer.new)) (entry_line (key.now, value))) }
+    ensures ok { OnOk result (Writes W.contents writer.old writer.new (entry_line (key.now, value))) }
+    ensures err { OnErr result (BreaksOff W.contents writer.old writer.new (entry_line (key.now, value))) }
     ensures faults { WritesOrFails (has_failed writer.old) (has_failed writer.new) result }
 {
     write_digits(writer, key)?;
@@ -45,8 +45,8 @@ fn write_entry<W: Write>(writer: &mut Watched<W>, key: &[u8], value: i32) -> Res
 
 /// Writes some bytes in hexadecimal.
 fn write_digits<W: Write>(writer: &mut Watched<W>, bytes: &[u8]) -> Result<(), ScriptError>
-    ensures ok { OnOk result (Appends (W.contents (device_of writer.old)) (W.contents (device_of writer.new)) (encode_lower bytes.now)) }
-    ensures err { OnErr result (WritesFront (W.contents (device_of writer.old)) (W.contents (device_of writer.new)) (encode_lower bytes.now)) }
+    ensures ok { OnOk result (Writes W.contents writer.old writer.new (encode_lower bytes.now)) }
+    ensures err { OnErr result (BreaksOff W.contents writer.old writer.new (encode_lower bytes.now)) }
     ensures faults { WritesOrFails (has_failed writer.old) (has_failed writer.new) result }
 {
     let mut digits = [0u8; 2 * PIECE];
@@ -66,8 +66,8 @@ fn write_piece<W: Write>(
     digits: &mut [u8],
 ) -> Result<(), ScriptError>
     requires room { length digits.old ≡ 2 * length bytes.now }
-    ensures ok { OnOk result (Appends (W.contents (device_of writer.old)) (W.contents (device_of writer.new)) (encode_lower bytes.now)) }
-    ensures err { OnErr result (WritesFront (W.contents (device_of writer.old)) (W.contents (device_of writer.new)) (encode_lower bytes.now)) }
+    ensures ok { OnOk result (Writes W.contents writer.old writer.new (encode_lower bytes.now)) }
+    ensures err { OnErr result (BreaksOff W.contents writer.old writer.new (encode_lower bytes.now)) }
     ensures faults { WritesOrFails (has_failed writer.old) (has_failed writer.new) result }
 {
     let _ = hex::encode_to_slice(bytes, digits);

@@ -1,7 +1,7 @@
 //! The line of what a prefix walk or a prediction found. It takes no memory.
 
 ghost use Rattle.std.specs.Prelude.{◌++◌, ◌∷◌, [], OnOk, OnErr, codes};
-ghost use Rattle.cedar_cli.specs.Words.{Appends, WritesFront, WritesOrFails, device_of, has_failed, pair_text, pairs_text, spaced_texts};
+ghost use Rattle.cedar_cli.specs.Words.{BreaksOff, Writes, WritesOrFails, has_failed, pair_text, pairs_text, spaced_texts};
 
 use crate::script::ScriptError;
 use crate::write::{write_both, write_whole};
@@ -42,8 +42,8 @@ pub(crate) fn write_pairs<P: Pairs, W: Write>(
     writer: &mut Watched<W>,
     pairs: &mut P,
 ) -> Result<(), ScriptError>
-    ensures ok { OnOk result (Appends (W.contents (device_of writer.old)) (W.contents (device_of writer.new)) (pairs_text (P.left pairs.old) ++ 10 ∷ [])) }
-    ensures err { OnErr result (WritesFront (W.contents (device_of writer.old)) (W.contents (device_of writer.new)) (pairs_text (P.left pairs.old) ++ 10 ∷ [])) }
+    ensures ok { OnOk result (Writes W.contents writer.old writer.new (pairs_text (P.left pairs.old) ++ 10 ∷ [])) }
+    ensures err { OnErr result (BreaksOff W.contents writer.old writer.new (pairs_text (P.left pairs.old) ++ 10 ∷ [])) }
     ensures faults { WritesOrFails (has_failed writer.old) (has_failed writer.new) result }
 {
     let Some(first) = pairs.next_pair() else {
@@ -58,8 +58,8 @@ fn write_further<P: Pairs, W: Write>(
     writer: &mut Watched<W>,
     pairs: &mut P,
 ) -> Result<(), ScriptError>
-    ensures ok { OnOk result (Appends (W.contents (device_of writer.old)) (W.contents (device_of writer.new)) (spaced_texts pair_text (P.left pairs.old) ++ 10 ∷ [])) }
-    ensures err { OnErr result (WritesFront (W.contents (device_of writer.old)) (W.contents (device_of writer.new)) (spaced_texts pair_text (P.left pairs.old) ++ 10 ∷ [])) }
+    ensures ok { OnOk result (Writes W.contents writer.old writer.new (spaced_texts pair_text (P.left pairs.old) ++ 10 ∷ [])) }
+    ensures err { OnErr result (BreaksOff W.contents writer.old writer.new (spaced_texts pair_text (P.left pairs.old) ++ 10 ∷ [])) }
     ensures faults { WritesOrFails (has_failed writer.old) (has_failed writer.new) result }
 {
     while let Some(pair) = pairs.next_pair() {
@@ -73,8 +73,8 @@ fn write_after_space<W: Write>(
     writer: &mut Watched<W>,
     pair: (i32, usize),
 ) -> Result<(), ScriptError>
-    ensures ok { OnOk result (Appends (W.contents (device_of writer.old)) (W.contents (device_of writer.new)) (codes " " ++ pair_text pair)) }
-    ensures err { OnErr result (WritesFront (W.contents (device_of writer.old)) (W.contents (device_of writer.new)) (codes " " ++ pair_text pair)) }
+    ensures ok { OnOk result (Writes W.contents writer.old writer.new (codes " " ++ pair_text pair)) }
+    ensures err { OnErr result (BreaksOff W.contents writer.old writer.new (codes " " ++ pair_text pair)) }
     ensures faults { WritesOrFails (has_failed writer.old) (has_failed writer.new) result }
 {
     write_whole(writer, b" ")?;
@@ -83,8 +83,8 @@ fn write_after_space<W: Write>(
 
 /// Writes a pair.
 fn write_pair<W: Write>(writer: &mut Watched<W>, pair: (i32, usize)) -> Result<(), ScriptError>
-    ensures ok { OnOk result (Appends (W.contents (device_of writer.old)) (W.contents (device_of writer.new)) (pair_text pair)) }
-    ensures err { OnErr result (WritesFront (W.contents (device_of writer.old)) (W.contents (device_of writer.new)) (pair_text pair)) }
+    ensures ok { OnOk result (Writes W.contents writer.old writer.new (pair_text pair)) }
+    ensures err { OnErr result (BreaksOff W.contents writer.old writer.new (pair_text pair)) }
     ensures faults { WritesOrFails (has_failed writer.old) (has_failed writer.new) result }
 {
     let (value, count) = pair;

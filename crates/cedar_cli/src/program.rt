@@ -1,7 +1,7 @@
 //! The program: arguments, files and three streams in, a status out.
 
 ghost use Rattle.std.specs.Prelude.{◌≡◌, ◌<◌, ◌≤◌, ◌^◌, ◌↔◌, true, length, None, OnOk, OnErr, IfErr, IfOk, IfSome};
-ghost use Rattle.cedar_cli.specs.Words.{Appends, AppendsFront, BeginsWith, IsSlotLimit, View, answers, asked_limit, device_of, has_failed, asked_layout, layout_byte, lines_of, request_in, request_of, view_of};
+ghost use Rattle.cedar_cli.specs.Words.{AnswersAll, AnswersUpTo, BeginsWith, IsSlotLimit, OnAsked, OnBegun, asked_limit, has_failed, layout_byte, request_in, request_of, view_of};
 ghost use Rattle.cedar_cli.specs.Loads.{LacksWithin};
 
 use crate::fits::fits;
@@ -75,13 +75,11 @@ pub fn run_program<const SLOTS: usize, F: Files, A: Allocator + Copy, R: Read, W
 
     //= Status 0: the answers of the whole input were written, and nothing else: from an empty dictionary of the layout and the order that
     //  were asked for, or with `--load` from some state and marks in that layout.
-    ensures done { result ≡ 0 → IfSome (request_of arguments.now) (λ asked. (begun : View) × BeginsWith (asked_layout asked) asked begun × IfSome (R.remaining (device_of reader.old)) (λ input. length input < 2 ^ 63 →
-        Appends (W.contents (device_of writer.old)) (W.contents (device_of writer.new)) (answers begun (lines_of input)))) }
+    ensures done { result ≡ 0 → IfSome (request_of arguments.now) (λ asked. OnAsked asked (AnswersAll R.remaining reader.old W.contents writer.old writer.new)) }
     ensures unfailed { result ≡ 0 → (has_failed reader.new ≡ has_failed reader.old) × (has_failed writer.new ≡ has_failed writer.old) }
 
     //= With arguments that are right, what was written is a beginning of these answers, or all of them.
-    ensures begun { IfSome (request_of arguments.now) (λ asked. (begun : View) × BeginsWith (asked_layout asked) asked begun × IfSome (R.remaining (device_of reader.old)) (λ input. length input < 2 ^ 63 →
-        AppendsFront (W.contents (device_of writer.old)) (W.contents (device_of writer.new)) (answers begun (lines_of input)))) }
+    ensures begun { IfSome (request_of arguments.now) (λ asked. OnAsked asked (AnswersUpTo R.remaining reader.old W.contents writer.old writer.new)) }
 {
     let Some(options) = options_of(arguments) else {
         let _ = errors.write_all(USAGE_LINE.as_bytes());
@@ -126,10 +124,8 @@ fn run_layout<const SLOTS: usize, F: Files, A: Allocator + Copy, R: Read, W: Wri
     writer: &mut Watched<W>,
 ) -> Result<(), Fault>
     requires limit { IsSlotLimit SLOTS }
-    ensures ok { OnOk result ((begun : View) × BeginsWith (asked_layout (request_in options.entry)) (request_in options.entry) begun × IfSome (R.remaining (device_of reader.old)) (λ input. length input < 2 ^ 63 →
-        Appends (W.contents (device_of writer.old)) (W.contents (device_of writer.new)) (answers begun (lines_of input)))) }
-    ensures begun { (begun : View) × BeginsWith (asked_layout (request_in options.entry)) (request_in options.entry) begun × IfSome (R.remaining (device_of reader.old)) (λ input. length input < 2 ^ 63 →
-        AppendsFront (W.contents (device_of writer.old)) (W.contents (device_of writer.new)) (answers begun (lines_of input))) }
+    ensures ok { OnOk result (OnAsked (request_in options.entry) (AnswersAll R.remaining reader.old W.contents writer.old writer.new)) }
+    ensures begun { OnAsked (request_in options.entry) (AnswersUpTo R.remaining reader.old W.contents writer.old writer.new) }
     ensures unfailed { OnOk result ((has_failed reader.new ≡ has_failed reader.old) × (has_failed writer.new ≡ has_failed writer.old)) }
 {
     if options.reduced {
@@ -148,10 +144,8 @@ fn run_options<L: Layout, const SLOTS: usize, F: Files, A: Allocator + Copy, R: 
     writer: &mut Watched<W>,
 ) -> Result<(), Fault>
     requires limit { IsSlotLimit SLOTS }
-    ensures ok { OnOk result ((begun : View) × BeginsWith L.kind (request_in options.entry) begun × IfSome (R.remaining (device_of reader.old)) (λ input. length input < 2 ^ 63 →
-        Appends (W.contents (device_of writer.old)) (W.contents (device_of writer.new)) (answers begun (lines_of input)))) }
-    ensures begun { (begun : View) × BeginsWith L.kind (request_in options.entry) begun × IfSome (R.remaining (device_of reader.old)) (λ input. length input < 2 ^ 63 →
-        AppendsFront (W.contents (device_of writer.old)) (W.contents (device_of writer.new)) (answers begun (lines_of input))) }
+    ensures ok { OnOk result (OnBegun L.kind (request_in options.entry) (AnswersAll R.remaining reader.old W.contents writer.old writer.new)) }
+    ensures begun { OnBegun L.kind (request_in options.entry) (AnswersUpTo R.remaining reader.old W.contents writer.old writer.new) }
     ensures unfailed { OnOk result ((has_failed reader.new ≡ has_failed reader.old) × (has_failed writer.new ≡ has_failed writer.old)) }
 {
     let place: Option<Trie<L, SLOTS, A>> = None;
@@ -230,10 +224,8 @@ fn answer_script<L: Layout, const SLOTS: usize, A: Allocator + Copy, R: Read, W:
     reader: &mut Watched<R>,
     writer: &mut Watched<W>,
 ) -> Result<(), ScriptError>
-    ensures ok { OnOk result (IfSome (R.remaining (device_of reader.old)) (λ input. length input < 2 ^ 63 →
-        Appends (W.contents (device_of writer.old)) (W.contents (device_of writer.new)) (answers (view_of L.kind trie.old) (lines_of input)))) }
-    ensures begun { IfSome (R.remaining (device_of reader.old)) (λ input. length input < 2 ^ 63 →
-        AppendsFront (W.contents (device_of writer.old)) (W.contents (device_of writer.new)) (answers (view_of L.kind trie.old) (lines_of input))) }
+    ensures ok { OnOk result (AnswersAll R.remaining reader.old W.contents writer.old writer.new (view_of L.kind trie.old)) }
+    ensures begun { AnswersUpTo R.remaining reader.old W.contents writer.old writer.new (view_of L.kind trie.old) }
     ensures read_cause { result ≡ Err ScriptError.Read → has_failed reader.new ≡ true }
     ensures write_cause { result ≡ Err ScriptError.Write → has_failed writer.new ≡ true }
     ensures unfailed { OnOk result ((has_failed reader.new ≡ has_failed reader.old) × (has_failed writer.new ≡ has_failed writer.old)) }

@@ -1,8 +1,8 @@
 //! A run of a script: lines in, answers out.
 
 ghost use Rattle.std.specs.Prelude.{◌≡◌, ◌⊎◌, ◌<◌, ◌≤◌, ◌^◌, ◌+◌, List, ℕ, [], ◌∷◌, ◌++◌, length, true, OnOk, OnErr, IfErr, IfOk, IfSome, position, vec_capacity};
-ghost use Rattle.cedar_cli.specs.Words.{Advances, Answers, Consumes, EndsEarly, Finishes, GrowsBefore, GrowsWithin, HasNoNewline, HasLineRoom, LineFault};
-ghost use Rattle.cedar_cli.specs.Words.{LineMayLackMemory, Stops, device_of, has_failed, is_newline, lines_of, order_of, view_of};
+ghost use Rattle.cedar_cli.specs.Words.{AdvancesBy, Answers, EndsInput, FinishesAll, FinishesComing, GrowsBefore, GrowsWithin, HasLineRoom, HasNoNewline, LineFault, LineMayLackMemory, OnWriter, StopsOn, has_failed, held_by};
+ghost use Rattle.cedar_cli.specs.Words.{is_newline, order_of};
 
 use crate::verbs::answer_line;
 use cedarwood::{Layout, Trie, Watched};
@@ -59,9 +59,7 @@ pub fn run_script<L: Layout, const SLOTS: usize, A: Allocator + Copy, R: Read, W
     //  layout one, plus its prefixes, plus the numbers that have slots of their own. [by answers, reply, slots_held]
     //= Which numbers have slots of their own is said line by line, by the keys that were stored and erased (`put_in`, `cut_in`). [by
     //  view_after_order]
-    ensures ok { OnOk result (IfSome (R.remaining (device_of reader.old)) (λ input. length input < 2 ^ 63 →
-        Finishes (view_of L.kind trie.old) (view_of L.kind trie.new)
-        (W.contents (device_of writer.old)) (W.contents (device_of writer.new)) (lines_of input))) }
+    ensures ok { OnOk result (FinishesAll R.remaining reader.old W.contents writer.old writer.new L.kind trie.old trie.new) }
 
     //= After a fault the script's first lines are finished and no other: their answers were written, then at most a part of the next one's,
     //  never the whole; the state is theirs, and after any fault but `Write` the marks are too. [by Stays]
@@ -70,16 +68,10 @@ pub fn run_script<L: Layout, const SLOTS: usize, A: Allocator + Copy, R: Read, W
     //= `Memory` only before any line is finished, or where the next line has more than 8,192 bytes or lists all keys, or where the
     //  dictionary has no block spare and fewer slots than it may have; so want of slots is never told as want of memory behind the first
     //  line, but at a line that long or such a list. [by MayStop]
-    ensures err { IfErr result (λ fault. IfSome (R.remaining (device_of reader.old)) (λ input. length input < 2 ^ 63 →
-        EndsEarly SLOTS trie.new fault (view_of L.kind trie.old) (view_of L.kind trie.new)
-        (W.contents (device_of writer.old)) (W.contents (device_of writer.new)) input)) }
+    ensures err { IfErr result (EndsInput R.remaining reader.old W.contents writer.old writer.new SLOTS L.kind trie.old trie.new) }
 
     //= After a read fault the finished lines are all that came with their byte 10, and state and marks are theirs.
-    ensures read { result ≡ Err ScriptError.Read → IfSome (R.remaining (device_of reader.old)) (λ input.
-        (came : List ℕ) × (line : List ℕ)
-        × Consumes (R.remaining (device_of reader.old)) (R.remaining (device_of reader.new)) came
-        × HasNoNewline line × Advances (view_of L.kind trie.old) (view_of L.kind trie.new)
-        (W.contents (device_of writer.old)) (W.contents (device_of writer.new)) came line) }
+    ensures read { result ≡ Err ScriptError.Read → FinishesComing R.remaining reader.old reader.new W.contents writer.old writer.new L.kind trie.old trie.new }
 
     //= `Read` and `Write` are answered only where the device failed, in this run or before (always). [with write_cause]
     ensures read_cause { result ≡ Err ScriptError.Read → has_failed reader.new ≡ true }
@@ -92,7 +84,7 @@ pub fn run_script<L: Layout, const SLOTS: usize, A: Allocator + Copy, R: Read, W
     ensures limit { result ≡ Err ScriptError.SlotLimit → trie.new.size ≡ SLOTS }
 
     //= A run on an input of n bytes makes n blocks at most, however it ends (where the reader tells its bytes) (always).
-    ensures blocks { IfSome (R.remaining (device_of reader.old)) (λ input. GrowsWithin (length input) trie.old trie.new) }
+    ensures blocks { IfSome (held_by R.remaining reader.old) (λ input. GrowsWithin (length input) trie.old trie.new) }
 
     //= `Memory` and `SlotLimit` only where no call of a device failed in the run (always). [with full]
     ensures starved { result ≡ Err ScriptError.Memory → (has_failed reader.new ≡ has_failed reader.old) × (has_failed writer.new ≡ has_failed writer.old) }
@@ -147,10 +139,8 @@ fn take_bytes<L: Layout, const SLOTS: usize, A: Allocator + Copy, W: Write>(
     requires room { HasLineRoom (vec_capacity line.old) (length key.old.items) }
     ensures still_open { OnOk result (HasNoNewline line.new.items) }
     ensures kept { HasLineRoom (vec_capacity line.new) (length key.new.items) }
-    ensures ok { OnOk result (Advances (view_of L.kind trie.old) (view_of L.kind trie.new)
-        (W.contents (device_of writer.old)) (W.contents (device_of writer.new)) (line.old.items ++ bytes.now) line.new.items) }
-    ensures err { IfErr result (λ fault. Stops SLOTS trie.new fault (view_of L.kind trie.old) (view_of L.kind trie.new)
-        (W.contents (device_of writer.old)) (W.contents (device_of writer.new)) (line.old.items ++ bytes.now)) }
+    ensures ok { OnOk result (OnWriter W.contents writer.old writer.new (AdvancesBy L.kind trie.old trie.new (line.old.items ++ bytes.now) line.new.items)) }
+    ensures err { IfErr result (StopsOn W.contents writer.old writer.new SLOTS L.kind trie.old trie.new (line.old.items ++ bytes.now)) }
     ensures faults { LineFault (has_failed writer.old) (has_failed writer.new) result }
     ensures limit { result ≡ Err ScriptError.SlotLimit → trie.new.size ≡ SLOTS }
     ensures blocks_taken { OnOk result (GrowsBefore (length line.new.items) (length line.old.items + length bytes.now) trie.old trie.new) }
@@ -189,10 +179,8 @@ fn end_line<L: Layout, const SLOTS: usize, A: Allocator + Copy, W: Write>(
     requires room { HasLineRoom (vec_capacity line.old) (length key.old.items) }
     ensures empty { OnOk result (line.new.items ≡ []) }
     ensures kept { HasLineRoom (vec_capacity line.new) (length key.new.items) }
-    ensures ok { OnOk result (Advances (view_of L.kind trie.old) (view_of L.kind trie.new)
-        (W.contents (device_of writer.old)) (W.contents (device_of writer.new)) (line.old.items ++ (piece.now ++ 10 ∷ [])) []) }
-    ensures err { IfErr result (λ fault. Stops SLOTS trie.new fault (view_of L.kind trie.old) (view_of L.kind trie.new)
-        (W.contents (device_of writer.old)) (W.contents (device_of writer.new)) (line.old.items ++ (piece.now ++ 10 ∷ []))) }
+    ensures ok { OnOk result (OnWriter W.contents writer.old writer.new (AdvancesBy L.kind trie.old trie.new (line.old.items ++ (piece.now ++ 10 ∷ [])) [])) }
+    ensures err { IfErr result (StopsOn W.contents writer.old writer.new SLOTS L.kind trie.old trie.new (line.old.items ++ (piece.now ++ 10 ∷ []))) }
     ensures faults { LineFault (has_failed writer.old) (has_failed writer.new) result }
     ensures limit { result ≡ Err ScriptError.SlotLimit → trie.new.size ≡ SLOTS }
     ensures blocks { GrowsWithin (length line.old.items + length piece.now) trie.old trie.new }
@@ -218,7 +206,7 @@ fn answer_with_room<L: Layout, const SLOTS: usize, A: Allocator + Copy, W: Write
 ) -> Result<(), ScriptError>
     requires room { 4096 ≤ length key.old.items }
     ensures kept { 4096 ≤ length key.new.items }
-    ensures answer { Answers L.kind (order_of line.now) trie.old trie.new (W.contents (device_of writer.old)) (W.contents (device_of writer.new)) result }
+    ensures answer { Answers L.kind (order_of line.now) trie.old trie.new (held_by W.contents writer.old) (held_by W.contents writer.new) result }
     ensures faults { LineFault (has_failed writer.old) (has_failed writer.new) result }
     ensures memory { result ≡ Err ScriptError.Memory → LineMayLackMemory SLOTS line.now trie.new }
     ensures limit { result ≡ Err ScriptError.SlotLimit → trie.new.size ≡ SLOTS }

@@ -1,7 +1,7 @@
 //! The line of a text's tokens. It takes no memory.
 
 ghost use Rattle.std.specs.Prelude.{◌++◌, ◌∷◌, [], OnOk, OnErr, codes};
-ghost use Rattle.cedar_cli.specs.Words.{Appends, WritesFront, WritesOrFails, device_of, field, has_failed, number_text, spaced_texts, token_text, tokens_text};
+ghost use Rattle.cedar_cli.specs.Words.{BreaksOff, Writes, WritesOrFails, field, has_failed, number_text, spaced_texts, token_text, tokens_text};
 
 use crate::script::ScriptError;
 use crate::write::write_whole;
@@ -15,8 +15,8 @@ pub(crate) fn write_tokens<T: LongestPrefix, W: Write>(
     writer: &mut Watched<W>,
     mut tokens: Segments<'_, T>,
 ) -> Result<(), ScriptError>
-    ensures ok { OnOk result (Appends (W.contents (device_of writer.old)) (W.contents (device_of writer.new)) (tokens_text tokens.entry ++ 10 ∷ [])) }
-    ensures err { OnErr result (WritesFront (W.contents (device_of writer.old)) (W.contents (device_of writer.new)) (tokens_text tokens.entry ++ 10 ∷ [])) }
+    ensures ok { OnOk result (Writes W.contents writer.old writer.new (tokens_text tokens.entry ++ 10 ∷ [])) }
+    ensures err { OnErr result (BreaksOff W.contents writer.old writer.new (tokens_text tokens.entry ++ 10 ∷ [])) }
     ensures faults { WritesOrFails (has_failed writer.old) (has_failed writer.new) result }
 {
     let Some(first) = tokens.next() else {
@@ -31,8 +31,8 @@ fn write_spaced<T: LongestPrefix, W: Write>(
     writer: &mut Watched<W>,
     mut tokens: Segments<'_, T>,
 ) -> Result<(), ScriptError>
-    ensures ok { OnOk result (Appends (W.contents (device_of writer.old)) (W.contents (device_of writer.new)) (spaced_texts token_text tokens.entry ++ 10 ∷ [])) }
-    ensures err { OnErr result (WritesFront (W.contents (device_of writer.old)) (W.contents (device_of writer.new)) (spaced_texts token_text tokens.entry ++ 10 ∷ [])) }
+    ensures ok { OnOk result (Writes W.contents writer.old writer.new (spaced_texts token_text tokens.entry ++ 10 ∷ [])) }
+    ensures err { OnErr result (BreaksOff W.contents writer.old writer.new (spaced_texts token_text tokens.entry ++ 10 ∷ [])) }
     ensures faults { WritesOrFails (has_failed writer.old) (has_failed writer.new) result }
 {
     while let Some(token) = tokens.next() {
@@ -46,8 +46,8 @@ fn write_next<W: Write>(
     writer: &mut Watched<W>,
     token: (usize, usize, Option<i32>),
 ) -> Result<(), ScriptError>
-    ensures ok { OnOk result (Appends (W.contents (device_of writer.old)) (W.contents (device_of writer.new)) (codes " " ++ token_text token)) }
-    ensures err { OnErr result (WritesFront (W.contents (device_of writer.old)) (W.contents (device_of writer.new)) (codes " " ++ token_text token)) }
+    ensures ok { OnOk result (Writes W.contents writer.old writer.new (codes " " ++ token_text token)) }
+    ensures err { OnErr result (BreaksOff W.contents writer.old writer.new (codes " " ++ token_text token)) }
     ensures faults { WritesOrFails (has_failed writer.old) (has_failed writer.new) result }
 {
     write_whole(writer, b" ")?;
@@ -59,8 +59,8 @@ fn write_token<W: Write>(
     writer: &mut Watched<W>,
     token: (usize, usize, Option<i32>),
 ) -> Result<(), ScriptError>
-    ensures ok { OnOk result (Appends (W.contents (device_of writer.old)) (W.contents (device_of writer.new)) (token_text token)) }
-    ensures err { OnErr result (WritesFront (W.contents (device_of writer.old)) (W.contents (device_of writer.new)) (token_text token)) }
+    ensures ok { OnOk result (Writes W.contents writer.old writer.new (token_text token)) }
+    ensures err { OnErr result (BreaksOff W.contents writer.old writer.new (token_text token)) }
     ensures faults { WritesOrFails (has_failed writer.old) (has_failed writer.new) result }
 {
     let (start, len, value) = token;
@@ -71,8 +71,8 @@ fn write_token<W: Write>(
 
 /// Writes a number and a colon.
 fn write_field<W: Write>(writer: &mut Watched<W>, number: usize) -> Result<(), ScriptError>
-    ensures ok { OnOk result (Appends (W.contents (device_of writer.old)) (W.contents (device_of writer.new)) (field number)) }
-    ensures err { OnErr result (WritesFront (W.contents (device_of writer.old)) (W.contents (device_of writer.new)) (field number)) }
+    ensures ok { OnOk result (Writes W.contents writer.old writer.new (field number)) }
+    ensures err { OnErr result (BreaksOff W.contents writer.old writer.new (field number)) }
     ensures faults { WritesOrFails (has_failed writer.old) (has_failed writer.new) result }
 {
     let mut figures = Buffer::new();
@@ -82,8 +82,8 @@ fn write_field<W: Write>(writer: &mut Watched<W>, number: usize) -> Result<(), S
 
 /// Writes a token's value, or `-`.
 fn write_value<W: Write>(writer: &mut Watched<W>, value: Option<i32>) -> Result<(), ScriptError>
-    ensures ok { OnOk result (Appends (W.contents (device_of writer.old)) (W.contents (device_of writer.new)) (number_text value)) }
-    ensures err { OnErr result (WritesFront (W.contents (device_of writer.old)) (W.contents (device_of writer.new)) (number_text value)) }
+    ensures ok { OnOk result (Writes W.contents writer.old writer.new (number_text value)) }
+    ensures err { OnErr result (BreaksOff W.contents writer.old writer.new (number_text value)) }
     ensures faults { WritesOrFails (has_failed writer.old) (has_failed writer.new) result }
 {
     match value {

@@ -1,8 +1,7 @@
 //! The answer to one line. A line whose answer isn't written whole changes no key and no value.
 
 ghost use Rattle.std.specs.Prelude.{◌≡◌, ◌⊎◌, ◌<◌, ◌≤◌, ◌*◌, ◌++◌, ◌∷◌, [], length, Some, None, MatchOption, IsSome, OnOk, OnErr};
-ghost use Rattle.cedar_cli.specs.Words.{Appends, Answers, Grows, GrowsWithin, IsPairFault, LineFault, MayLackMemory, WritesFront, WritesOrFails};
-ghost use Rattle.cedar_cli.specs.Words.{device_of, erased, fault, figures_text, found_text, has_failed, number_at, order_of, put_text, stored};
+ghost use Rattle.cedar_cli.specs.Words.{Answers, BreaksOff, Grows, GrowsWithin, IsPairFault, IsTakenBack, LineFault, MayLackMemory, Writes, WritesOrFails, figures_text, found_text, has_failed, held_by, number_at, order_of, put_text};
 
 use crate::command::{Verb, parse_line};
 use crate::entry_lines::write_entries;
@@ -27,7 +26,7 @@ pub(crate) fn answer_line<L: Layout, const SLOTS: usize, A: Allocator + Copy, W:
     requires room { length line.now ≤ 2 * length room.old }
 
     //= A line's answer and its effect are as DEFINITIONS says.
-    ensures answer { Answers L.kind (order_of line.now) trie.old trie.new (W.contents (device_of writer.old)) (W.contents (device_of writer.new)) result }
+    ensures answer { Answers L.kind (order_of line.now) trie.old trie.new (held_by W.contents writer.old) (held_by W.contents writer.new) result }
     ensures faults { LineFault (has_failed writer.old) (has_failed writer.new) result }
 
     //= A line is told `Memory` only where the dictionary has no block spare and fewer slots than it may have, or where the line lists all
@@ -54,7 +53,7 @@ fn answer_command<L: Layout, const SLOTS: usize, A: Allocator + Copy, W: Write>(
     key: &[u8],
     writer: &mut Watched<W>,
 ) -> Result<(), ScriptError>
-    ensures answer { Answers L.kind (Some (verb, key.now)) trie.old trie.new (W.contents (device_of writer.old)) (W.contents (device_of writer.new)) result }
+    ensures answer { Answers L.kind (Some (verb, key.now)) trie.old trie.new (held_by W.contents writer.old) (held_by W.contents writer.new) result }
     ensures faults { LineFault (has_failed writer.old) (has_failed writer.new) result }
     ensures memory { result ≡ Err ScriptError.Memory → MayLackMemory SLOTS (Some (verb, key.now)) trie.new }
     ensures limit { result ≡ Err ScriptError.SlotLimit → trie.new.size ≡ SLOTS }
@@ -81,7 +80,7 @@ fn answer_put<L: Layout, const SLOTS: usize, A: Allocator + Copy, W: Write>(
     value: i32,
     writer: &mut Watched<W>,
 ) -> Result<(), ScriptError>
-    ensures answer { Answers L.kind (Some (Verb.Put value, key.now)) trie.old trie.new (W.contents (device_of writer.old)) (W.contents (device_of writer.new)) result }
+    ensures answer { Answers L.kind (Some (Verb.Put value, key.now)) trie.old trie.new (held_by W.contents writer.old) (held_by W.contents writer.new) result }
     ensures faults { LineFault (has_failed writer.old) (has_failed writer.new) result }
     ensures memory { result ≡ Err ScriptError.Memory → (trie.new.size ≡ trie.new.capacity) × (trie.new.capacity < SLOTS) }
     ensures limit { result ≡ Err ScriptError.SlotLimit → trie.new.size ≡ SLOTS }
@@ -110,7 +109,7 @@ fn answer_erase<L: Layout, const SLOTS: usize, A: Allocator + Copy, W: Write>(
     key: &[u8],
     writer: &mut Watched<W>,
 ) -> Result<(), ScriptError>
-    ensures answer { Answers L.kind (Some (Verb.Erase, key.now)) trie.old trie.new (W.contents (device_of writer.old)) (W.contents (device_of writer.new)) result }
+    ensures answer { Answers L.kind (Some (Verb.Erase, key.now)) trie.old trie.new (held_by W.contents writer.old) (held_by W.contents writer.new) result }
     ensures faults { WritesOrFails (has_failed writer.old) (has_failed writer.new) result }
     ensures blocks { Grows 0 trie.old trie.new }
     ensures max_trial { trie.new.max_trial ≡ trie.old.max_trial }
@@ -129,7 +128,7 @@ fn answer_exact<L: Layout, const SLOTS: usize, A: Allocator + Copy, W: Write>(
     key: &[u8],
     writer: &mut Watched<W>,
 ) -> Result<(), ScriptError>
-    ensures answer { Answers L.kind (Some (Verb.Exact, key.now)) trie.now trie.now (W.contents (device_of writer.old)) (W.contents (device_of writer.new)) result }
+    ensures answer { Answers L.kind (Some (Verb.Exact, key.now)) trie.now trie.now (held_by W.contents writer.old) (held_by W.contents writer.new) result }
     ensures faults { WritesOrFails (has_failed writer.old) (has_failed writer.new) result }
 {
     match trie.exact_match_search_bytes(key) {
@@ -144,7 +143,7 @@ fn answer_prefixes<L: Layout, const SLOTS: usize, A: Allocator + Copy, W: Write>
     key: &[u8],
     writer: &mut Watched<W>,
 ) -> Result<(), ScriptError>
-    ensures answer { Answers L.kind (Some (Verb.Prefixes, key.now)) trie.now trie.now (W.contents (device_of writer.old)) (W.contents (device_of writer.new)) result }
+    ensures answer { Answers L.kind (Some (Verb.Prefixes, key.now)) trie.now trie.now (held_by W.contents writer.old) (held_by W.contents writer.new) result }
     ensures faults { WritesOrFails (has_failed writer.old) (has_failed writer.new) result }
 {
     write_pairs(writer, &mut trie.common_prefix_iter_bytes(key))
@@ -156,7 +155,7 @@ fn answer_predict<L: Layout, const SLOTS: usize, A: Allocator + Copy, W: Write>(
     key: &[u8],
     writer: &mut Watched<W>,
 ) -> Result<(), ScriptError>
-    ensures answer { Answers L.kind (Some (Verb.Predict, key.now)) trie.now trie.now (W.contents (device_of writer.old)) (W.contents (device_of writer.new)) result }
+    ensures answer { Answers L.kind (Some (Verb.Predict, key.now)) trie.now trie.now (held_by W.contents writer.old) (held_by W.contents writer.new) result }
     ensures faults { WritesOrFails (has_failed writer.old) (has_failed writer.new) result }
 {
     write_pairs(writer, &mut trie.common_prefix_predict_iter_bytes(key))
@@ -168,7 +167,7 @@ fn answer_entries<L: Layout, const SLOTS: usize, A: Allocator + Copy, W: Write>(
     key: &[u8],
     writer: &mut Watched<W>,
 ) -> Result<(), ScriptError>
-    ensures answer { Answers L.kind (Some (Verb.Entries, key.now)) trie.now trie.now (W.contents (device_of writer.old)) (W.contents (device_of writer.new)) result }
+    ensures answer { Answers L.kind (Some (Verb.Entries, key.now)) trie.now trie.now (held_by W.contents writer.old) (held_by W.contents writer.new) result }
     ensures faults { LineFault (has_failed writer.old) (has_failed writer.new) result }
     ensures never_full { result ≡ Err ScriptError.SlotLimit → ⊥ }
 {
@@ -184,7 +183,7 @@ fn answer_figures<L: Layout, const SLOTS: usize, A: Allocator + Copy, W: Write>(
     key: &[u8],
     writer: &mut Watched<W>,
 ) -> Result<(), ScriptError>
-    ensures answer { Answers L.kind (Some (Verb.Figures, key.now)) trie.now trie.now (W.contents (device_of writer.old)) (W.contents (device_of writer.new)) result }
+    ensures answer { Answers L.kind (Some (Verb.Figures, key.now)) trie.now trie.now (held_by W.contents writer.old) (held_by W.contents writer.new) result }
     ensures faults { WritesOrFails (has_failed writer.old) (has_failed writer.new) result }
 {
     write_figures(writer, trie.len(), trie.used_node_slots())
@@ -196,7 +195,7 @@ fn answer_segment<L: Layout, const SLOTS: usize, A: Allocator + Copy, W: Write>(
     text: &[u8],
     writer: &mut Watched<W>,
 ) -> Result<(), ScriptError>
-    ensures answer { Answers L.kind (Some (Verb.Segment, text.now)) trie.now trie.now (W.contents (device_of writer.old)) (W.contents (device_of writer.new)) result }
+    ensures answer { Answers L.kind (Some (Verb.Segment, text.now)) trie.now trie.now (held_by W.contents writer.old) (held_by W.contents writer.new) result }
     ensures faults { WritesOrFails (has_failed writer.old) (has_failed writer.new) result }
 {
     write_tokens(writer, segment(trie, text))
@@ -210,10 +209,7 @@ fn take_back<L: Layout, const SLOTS: usize, A: Allocator + Copy>(
 )
     ensures blocks { MatchOption before (Grows 0 trie.old trie.new) (λ _. IsSome (number_at trie.old.state.tree key.now) → Grows 0 trie.old trie.new) }
     ensures max_trial { trie.new.max_trial ≡ trie.old.max_trial }
-    ensures state { MatchOption before
-        (trie.new.state ≡ erased trie.old.state key.now)
-        (λ v. fault key.now v ≡ None → IsSome (number_at trie.old.state.tree key.now)
-        → trie.new.state ≡ stored trie.old.state key.now v) }
+    ensures state { IsTakenBack before key.now trie.old trie.new }
 {
     match before {
         Some(value) => {
@@ -228,8 +224,8 @@ fn take_back<L: Layout, const SLOTS: usize, A: Allocator + Copy>(
 /// Writes the line of a pair's fault. It takes no memory.
 fn write_refusal<W: Write>(writer: &mut Watched<W>, error: CedarError) -> Result<(), ScriptError>
     requires { IsPairFault error }
-    ensures ok { OnOk result (Appends (W.contents (device_of writer.old)) (W.contents (device_of writer.new)) (put_text (Some error) ++ 10 ∷ [])) }
-    ensures err { OnErr result (WritesFront (W.contents (device_of writer.old)) (W.contents (device_of writer.new)) (put_text (Some error) ++ 10 ∷ [])) }
+    ensures ok { OnOk result (Writes W.contents writer.old writer.new (put_text (Some error) ++ 10 ∷ [])) }
+    ensures err { OnErr result (BreaksOff W.contents writer.old writer.new (put_text (Some error) ++ 10 ∷ [])) }
     ensures faults { WritesOrFails (has_failed writer.old) (has_failed writer.new) result }
 {
     let mut figures = Buffer::new();
@@ -253,8 +249,8 @@ fn write_found<W: Write>(
     value: i32,
     length: usize,
 ) -> Result<(), ScriptError>
-    ensures ok { OnOk result (Appends (W.contents (device_of writer.old)) (W.contents (device_of writer.new)) (found_text (Some value) length ++ 10 ∷ [])) }
-    ensures err { OnErr result (WritesFront (W.contents (device_of writer.old)) (W.contents (device_of writer.new)) (found_text (Some value) length ++ 10 ∷ [])) }
+    ensures ok { OnOk result (Writes W.contents writer.old writer.new (found_text (Some value) length ++ 10 ∷ [])) }
+    ensures err { OnErr result (BreaksOff W.contents writer.old writer.new (found_text (Some value) length ++ 10 ∷ [])) }
     ensures faults { WritesOrFails (has_failed writer.old) (has_failed writer.new) result }
 {
     let mut figures = Buffer::new();
@@ -268,8 +264,8 @@ fn write_figures<W: Write>(
     keys: usize,
     slots: usize,
 ) -> Result<(), ScriptError>
-    ensures ok { OnOk result (Appends (W.contents (device_of writer.old)) (W.contents (device_of writer.new)) (figures_text keys slots ++ 10 ∷ [])) }
-    ensures err { OnErr result (WritesFront (W.contents (device_of writer.old)) (W.contents (device_of writer.new)) (figures_text keys slots ++ 10 ∷ [])) }
+    ensures ok { OnOk result (Writes W.contents writer.old writer.new (figures_text keys slots ++ 10 ∷ [])) }
+    ensures err { OnErr result (BreaksOff W.contents writer.old writer.new (figures_text keys slots ++ 10 ∷ [])) }
     ensures faults { WritesOrFails (has_failed writer.old) (has_failed writer.new) result }
 {
     let mut figures = Buffer::new();

@@ -1,7 +1,7 @@
 //! Bytes written whole, or a first part of them and a fault. No other writer calls the device.
 
 ghost use Rattle.std.specs.Prelude.{◌++◌, ◌∷◌, [], OnOk, OnErr};
-ghost use Rattle.cedar_cli.specs.Words.{Appends, WritesFront, WritesOrFails, device_of, has_failed};
+ghost use Rattle.cedar_cli.specs.Words.{BreaksOff, Writes, WritesOrFails, has_failed};
 
 use crate::script::ScriptError;
 use cedarwood::Watched;
@@ -13,8 +13,8 @@ pub(crate) fn write_both<W: Write>(
     first: &[u8],
     second: &[u8],
 ) -> Result<(), ScriptError>
-    ensures ok { OnOk result (Appends (W.contents (device_of writer.old)) (W.contents (device_of writer.new)) (first.now ++ second.now)) }
-    ensures err { OnErr result (WritesFront (W.contents (device_of writer.old)) (W.contents (device_of writer.new)) (first.now ++ second.now)) }
+    ensures ok { OnOk result (Writes W.contents writer.old writer.new (first.now ++ second.now)) }
+    ensures err { OnErr result (BreaksOff W.contents writer.old writer.new (first.now ++ second.now)) }
     ensures faults { WritesOrFails (has_failed writer.old) (has_failed writer.new) result }
 {
     write_whole(writer, first)?;
@@ -27,8 +27,8 @@ pub(crate) fn write_line<W: Write>(
     first: &[u8],
     second: &[u8],
 ) -> Result<(), ScriptError>
-    ensures ok { OnOk result (Appends (W.contents (device_of writer.old)) (W.contents (device_of writer.new)) (first.now ++ (second.now ++ 10 ∷ []))) }
-    ensures err { OnErr result (WritesFront (W.contents (device_of writer.old)) (W.contents (device_of writer.new)) (first.now ++ (second.now ++ 10 ∷ []))) }
+    ensures ok { OnOk result (Writes W.contents writer.old writer.new (first.now ++ (second.now ++ 10 ∷ []))) }
+    ensures err { OnErr result (BreaksOff W.contents writer.old writer.new (first.now ++ (second.now ++ 10 ∷ []))) }
     ensures faults { WritesOrFails (has_failed writer.old) (has_failed writer.new) result }
 {
     write_whole(writer, first)?;
@@ -42,8 +42,8 @@ pub(crate) fn write_whole<W: Write>(
     writer: &mut Watched<W>,
     bytes: &[u8],
 ) -> Result<(), ScriptError>
-    ensures ok { OnOk result (Appends (W.contents (device_of writer.old)) (W.contents (device_of writer.new)) bytes.now) }
-    ensures err { OnErr result (WritesFront (W.contents (device_of writer.old)) (W.contents (device_of writer.new)) bytes.now) }
+    ensures ok { OnOk result (Writes W.contents writer.old writer.new bytes.now) }
+    ensures err { OnErr result (BreaksOff W.contents writer.old writer.new bytes.now) }
     ensures faults { WritesOrFails (has_failed writer.old) (has_failed writer.new) result }
 {
     let mut rest = bytes;

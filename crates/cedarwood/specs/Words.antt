@@ -6,6 +6,7 @@ pub use Rattle.cedar_format.specs.Format.{CountsWithin, IsVersion, Passes, heade
 pub use Rattle.cedar_format.specs.Reading.{IsIo, LacksNoMore, TellsBreaks}
 pub use Rattle.cedar_format.specs.Tables.{IsTableFile, header_of, table_bytes}
 pub use Rattle.cedar_format.specs.WatchedDevice.{device_of, has_failed}
+pub use Rattle.cedar_format.specs.declared.watched.Watched.{Watched}
 pub use Rattle.cedar_model.specs.Meaning.Marks.{MarksCut, MarksPut, marks}
 pub use Rattle.cedar_model.specs.Meaning.WellFormed.{IsWellFormed, cells_in, tree_of}
 pub use Rattle.cedar_model.specs.Table.Layouts.{LayoutKind, default_layout, layout_byte, reduced_layout}

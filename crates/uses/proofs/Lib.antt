@@ -1,2 +1,3 @@
 pub mod CountLemmas
+pub mod PageLemmas
 pub mod KeywordLemmas

@@ -1,26 +1,27 @@
 //! What a typed text may become.
 
-ghost use Rattle.std.specs.Prelude.{◌≡◌, IfOk, take};
-ghost use Rattle.cedarwood.specs.Words.{predict};
+ghost use Rattle.std.specs.Prelude.{◌≡◌, IfOk, map, take};
+ghost use Rattle.cedarwood.specs.Ranges.{entries_with};
 
-use cedarwood::{Layout, Trie};
+use cedarwood::{CedarError, Layout, Trie};
 use std::alloc::{AllocError, Allocator, Global};
 
-/// The first entries that begin with a text, `most` at most: for each its value, and how many bytes follow the text.
+/// The first entries whose keys begin with a text, `most` at most.
 ///
 /// # Errors
-/// No memory for the answer.
+/// `Memory` where there is none for the answer or a key.
 pub fn complete<L: Layout, const SLOTS: usize, A: Allocator + Copy>(
     words: &Trie<L, SLOTS, A>,
     alloc: Global,
     typed: &str,
     most: usize,
-) -> Result<Vec<(i32, usize), Global>, AllocError>
-    //= The first entries that begin with a text, so many at most, are the first of `predict`.
-    ensures { IfOk result (λ found. found.items ≡ take most (predict words.now.state.tree typed.now)) }
+) -> Result<Vec<(Vec<u8, A>, i32), Global>, CedarError>
+    //= The first entries whose keys begin with a text, so many at most, are the first of `entries_with`.
+    ensures { IfOk result (λ found. map (λ e. (e.0.items, e.1)) found.items ≡ take most (entries_with words.now.state.tree typed.now)) }
 {
-    words
-        .common_prefix_predict_iter(typed)
-        .take(most)
-        .collect(alloc)
+    let mut found = Vec::new(alloc);
+    for entry in words.entries_with_prefix(typed).take(most) {
+        found.push(entry?).map_err(AllocError::from)?;
+    }
+    Ok(found)
 }

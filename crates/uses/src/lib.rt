@@ -6,6 +6,7 @@ mod callers;
 mod counted;
 mod counter;
 mod filter;
+mod pages;
 mod pieces;
 mod service;
 #[cfg(test)]
