@@ -3,6 +3,7 @@ use crate::callers::{Lexicon, slots, with_one};
 use crate::counted::search;
 use crate::counter::count;
 use crate::filter::{has_keyword, keywords_of};
+use crate::pages::{page_behind, page_from};
 use crate::pieces::pieces_of;
 use crate::service::publish;
 use crate::tokenizer::Tokenizer;
@@ -26,10 +27,25 @@ fn expect_first(
     rt: &impl Abort,
     alloc: Global,
     words: &Cedar<Global>,
-    wanted: (i32, usize),
+    wanted: (&[u8], i32),
 ) -> Result<(), Fail> {
     let found = complete(words, alloc, "ne", 1)?;
-    assert!(rt; found.as_slice() == [wanted].as_slice());
+    expect_page(rt, &found, wanted);
+    Ok(())
+}
+
+fn expect_page(rt: &impl Abort, page: &[(Vec<u8>, i32)], wanted: (&[u8], i32)) {
+    assert!(rt; page.len() == 1);
+    for (key, value) in page {
+        assert!(rt; key.as_slice() == wanted.0 && *value == wanted.1);
+    }
+}
+
+fn expect_pages(rt: &impl Abort, alloc: Global, words: &Cedar<Global>) -> Result<(), Fail> {
+    let first = page_from(words, alloc, b"a", 1)?.ok_or("ascending labels")?;
+    expect_page(rt, &first, (b"net", 2));
+    let next = page_behind(words, alloc, b"net", 1)?.ok_or("ascending labels")?;
+    expect_page(rt, &next, (b"nets", 1));
     Ok(())
 }
 
@@ -39,7 +55,8 @@ fn expect_counted(rt: &impl Abort, alloc: Global) -> Result<(), Fail> {
     expect_number(rt, &counts, b"ne", None);
     expect_keyword(rt, &counts, b"attention", true);
     expect_keyword(rt, &counts, b"a n.e.t. of nests", false);
-    expect_first(rt, alloc, &counts, (2, 1))
+    expect_first(rt, alloc, &counts, (b"net", 2))?;
+    expect_pages(rt, alloc, &counts)
 }
 
 fn expect_one(rt: &impl Abort, alloc: Global) -> Result<(), Fail> {
