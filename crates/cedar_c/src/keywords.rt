@@ -11,12 +11,7 @@ use crate::scans::{Found, put_at};
 use cedar_words::LongestPrefix;
 
 /// Writes the keywords of a text from a place on, as far as there is room.
-fn keywords<T: LongestPrefix>(
-    trie: &T,
-    text: &[u8],
-    next: &mut usize,
-    found: &mut [Found],
-) -> usize
+fn keywords<T: LongestPrefix>(trie: &T, text: &[u8], next: &mut usize, found: &mut [Found]) -> usize
     ensures told { GoesOn (keywords_from (T.tree trie.now)) text.now next.old next.new (take result found.new) }
     ensures full { (length text.now ≤ next.new) ⊎ (result ≡ length found.new) }
     ensures within { (result ≤ length found.new) × (next.old ≤ next.new) }
@@ -95,9 +90,5 @@ pub extern "C" fn cedar_keywords(
         *next = text.len().max(*next);
         return 0;
     }
-    handle
-        .shown
-        .see()
-        .dictionary()
-        .keywords(text, next, found)
+    handle.shown.see().dictionary().keywords(text, next, found)
 }
