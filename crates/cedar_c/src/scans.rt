@@ -196,12 +196,12 @@ pub extern "C" fn cedar_scan(
     //  and then what stands from the new one on. [by spots_from]
     ensures told { IsSome (shown_in handle.old) → GoesOn (spots_from (shown_tree handle.old)) text.now next.old next.new (take result found.new) }
 
-    //= A scan ends where the text does, or where the keys of a place don't fit in the room left; tokens end where the text or the room
-    //  does. [also cedar_segment]
+    //= A scan ends where the text does, or where the keys of a place don't fit in the room left; tokens and keywords end where the text or
+    //  the room does. [also cedar_segment, cedar_keywords]
     ensures full { (length text.now ≤ next.new) ⊎ (length found.new < result + length (front (shown_tree handle.old) (drop next.new text.now))) }
 
     //= `next` never goes back, nor behind the text's end if it wasn't there, the answer is at most the room, and 0 where the handle is
-    //  closed. [with ends, closed; also cedar_segment]
+    //  closed. [with ends, closed; also cedar_segment, cedar_keywords]
     ensures within { (result ≤ length found.new) × (next.old ≤ next.new) }
     ensures ends { (next.new ≤ length text.now) ⊎ (next.new ≡ next.old) }
     ensures closed { shown_in handle.old ≡ None → result ≡ 0 }
