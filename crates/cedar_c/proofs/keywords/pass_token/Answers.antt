@@ -1,6 +1,6 @@
-use Rattle.std.proofs.Common.{◌≡◌, ◌+◌, ◌∙◌, ℤ, ℕ, List, Option, None, Some, ap, drop, set, subst, sym, take}
+use Rattle.std.proofs.Common.{◌≡◌, ◌+◌, ◌∙◌, ℤ, ℕ, List, Option, None, Some, ap, drop, subst, sym, take}
 use Rattle.cedar_words.specs.Words.{longest}
-use Rattle.cedar_c.specs.Scans.{WritesOn, keywords_from, spot}
+use Rattle.cedar_c.specs.Scans.{WritesOn, keywords_from}
 use Rattle.cedar_c.specs.declared.scans.Found.{Found}
 use Rattle.cedar_c.proofs.KeywordLemmas.{byte_passed, keyword_told}
 use Rattle.cedar_c.proofs.ScanLemmas.{rest_of}
