@@ -253,6 +253,19 @@ size_t cedar_scan(const cedar_dictionary *d, const uint8_t *text, size_t length,
  * with the value -1. Else as cedar_scan: with room 1 or more each call goes on. */
 size_t cedar_segment(const cedar_dictionary *d, const uint8_t *text, size_t length, size_t *next, cedar_found *found, size_t room);
 
+/* The keywords of a text from the place *next on, where a token begins, leftmost longest: of the keys that begin first the longest, and
+ * so on from its end, so that none overlap. The bytes between them aren't told. Else as cedar_segment. */
+size_t cedar_keywords(const cedar_dictionary *d, const uint8_t *text, size_t length, size_t *next, cedar_found *found, size_t room);
+
+/* Cuts a whole text into keys and single bytes so that they cost the least together, writes these tokens to found[0] and on, and to *needed
+ * how many they are; the other places stay. A key costs its value. A byte without a key, which has the value -1, costs `unknown`; where
+ * by_characters, one from 128 to 191, which goes on with a character of UTF-8, costs nothing. Of cuts that cost the same it is the one with
+ * the longer token where they first differ, and with a key rather than a byte. There are never more tokens than bytes. CEDAR_OK,
+ * CEDAR_IS_CLOSED, CEDAR_NO_ROOM where there are more than room tokens (a call with room 0 asks how many, and costs as much), or
+ * CEDAR_MEMORY: it asks for 8 bytes for each byte of the text, and for a list of the tokens. After an error the places are as they were. */
+uint32_t cedar_cheapest(const cedar_dictionary *d, const uint8_t *text, size_t length, uint32_t unknown, bool by_characters,
+                        cedar_found *found, size_t room, size_t *needed);
+
 /* The library's own functions take no null for position, held, before, needed and erased. In a program these here go by their names, and put a
  * place of their own there. They cost nothing where the compiler sees that a pointer isn't null. Another language, which calls the library
  * without this header, passes no null for these five. */
@@ -290,6 +303,11 @@ CEDAR_INLINE uint32_t cedar_nullable_keys(const cedar_dictionary *d, uint8_t *bu
     size_t unwanted = 0;
     return cedar_keys(d, buffer, room, needed ? needed : &unwanted);
 }
+CEDAR_INLINE uint32_t cedar_nullable_cheapest(const cedar_dictionary *d, const uint8_t *text, size_t length, uint32_t unknown,
+                                              bool by_characters, cedar_found *found, size_t room, size_t *needed) {
+    size_t unwanted = 0;
+    return cedar_cheapest(d, text, length, unknown, by_characters, found, room, needed ? needed : &unwanted);
+}
 CEDAR_INLINE uint32_t cedar_nullable_erase_prefix(cedar_dictionary *d, const uint8_t *prefix, size_t length, size_t *erased) {
     size_t unwanted = 0;
     return cedar_erase_prefix(d, prefix, length, erased ? erased : &unwanted);
@@ -301,6 +319,7 @@ CEDAR_INLINE uint32_t cedar_nullable_erase_prefix(cedar_dictionary *d, const uin
 #define cedar_build cedar_nullable_build
 #define cedar_build_reduced cedar_nullable_build_reduced
 #define cedar_keys cedar_nullable_keys
+#define cedar_cheapest cedar_nullable_cheapest
 #define cedar_erase_prefix cedar_nullable_erase_prefix
 
 /* Files by their paths, and the version. This block is C beside the proved library: tested, and not proved. */

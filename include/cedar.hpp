@@ -150,6 +150,10 @@ bool tell(Callable &callable, const Item &item) {
     }
 }
 
+inline token token_of(const cedar_found &one) noexcept {
+    return {one.place, one.length, one.value < 0 ? std::nullopt : std::optional(one.value)};
+}
+
 struct close_file {
     void operator()(std::FILE *file) const noexcept { std::fclose(file); }
 };
@@ -540,10 +544,32 @@ public:
     /// which has no value. If it returns a bool, false ends it. Else as scan, but that it allocates nothing.
     template <class Callable>
     void segment(std::string_view text, Callable &&callable) const {
-        told(cedar_segment, text, [&callable](const cedar_found &one) {
-            const token cut{one.place, one.length, one.value < 0 ? std::nullopt : std::optional(one.value)};
-            return detail::tell(callable, cut);
-        });
+        told(cedar_segment, text, [&callable](const cedar_found &one) { return detail::tell(callable, detail::token_of(one)); });
+    }
+
+    /// Calls `callable(occurrence)` for the keywords of a text, leftmost longest: of the keys that begin first the longest, and so on from
+    /// its end, so that none overlap. If it returns a bool, false ends it. Else as scan, but that it allocates nothing.
+    template <class Callable>
+    void keywords(std::string_view text, Callable &&callable) const {
+        told(cedar_keywords, text, [&callable](const cedar_found &one) { return detail::tell(callable, one); });
+    }
+
+    /// The tokens that cost the least together, of which a text is made: a key costs its value, and a byte without a key `unknown`. Where
+    /// `by_characters`, a byte that goes on with a character of UTF-8 costs nothing, so that an unknown character costs once; its bytes
+    /// are tokens of their own too. Of cuts that cost the same it is the one with the longer token where they first differ, and with a
+    /// key rather than a byte. While it runs, it allocates 32 bytes for each byte of the text, and lists of the tokens. Throws
+    /// std::bad_alloc and CEDAR_IS_CLOSED.
+    std::vector<token> cheapest(std::string_view text, std::uint32_t unknown, bool by_characters = false) const {
+        const cedar_dictionary mine = inside_;
+        std::vector<cedar_found> found(text.size() + 1); // so that data() isn't null
+        std::size_t count = 0;
+        const std::uint32_t status =
+            cedar_cheapest(&mine, detail::bytes(text), text.size(), unknown, by_characters, found.data(), text.size(), &count);
+        detail::check(status);
+        std::vector<token> tokens;
+        tokens.reserve(count);
+        for (std::size_t i = 0; i < count; ++i) tokens.push_back(detail::token_of(found[i]));
+        return tokens;
     }
 
     /// The bytes of the dictionary's file. Throws std::bad_alloc and CEDAR_IS_CLOSED.

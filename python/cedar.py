@@ -7,6 +7,8 @@
     d.update({"net": 7, "nets": 8})
     list(d.scan(b"a net, nets")) == [(2, 3, 7), (7, 3, 7), (7, 4, 8)]
     list(d.segment(b"nets!")) == [(0, 4, 8), (4, 1, None)]
+    list(d.keywords(b"a net, nets")) == [(2, 3, 7), (7, 4, 8)]
+    list(d.cheapest(b"nets!", unknown=0)) == [(0, 1, None), (1, 1, None), (2, 1, None), (3, 1, None), (4, 1, None)]
     Cedar.loaded(d.save())
     Cedar.from_sorted([(b"net", 7), (b"nets", 8)])
     Cedar({"net": 7}, reduced=True)
@@ -67,6 +69,8 @@ def _library(path=os.environ.get("CEDAR_LIBRARY", Path(__file__).parent / "libce
         ("cedar_predictions_from", c_size_t, [handle, c_char_p, c_size_t, POINTER(c_size_t), POINTER(_Match), c_size_t]),
         ("cedar_scan", c_size_t, [handle, c_char_p, c_size_t, POINTER(c_size_t), POINTER(_Found), c_size_t]),
         ("cedar_segment", c_size_t, [handle, c_char_p, c_size_t, POINTER(c_size_t), POINTER(_Found), c_size_t]),
+        ("cedar_keywords", c_size_t, [handle, c_char_p, c_size_t, POINTER(c_size_t), POINTER(_Found), c_size_t]),
+        ("cedar_cheapest", c_uint32, [handle, c_char_p, c_size_t, c_uint32, c_bool, POINTER(_Found), c_size_t, POINTER(c_size_t)]),
         ("cedar_keys", c_uint32, [handle, c_char_p, c_size_t, POINTER(c_size_t)]),
         ("cedar_len", c_size_t, [handle]),
         ("cedar_used_slots", c_size_t, [handle]),
@@ -358,6 +362,23 @@ class Cedar:
     def segment(self, text):
         """The tokens of a text: at each place the longest key that stands there, or else one byte without a value."""
         return self._everything(_CEDAR.cedar_segment, text)
+
+    def keywords(self, text):
+        """The keywords of a text, which don't overlap: of the keys that begin first the longest, and so on from its end."""
+        return self._everything(_CEDAR.cedar_keywords, text)
+
+    def cheapest(self, text, unknown, by_characters=False):
+        """The tokens of a text that cost the least together: a key costs its value, and a byte without one `unknown`. `by_characters`, one
+        that goes on with a character of UTF-8 costs nothing."""
+        if not 0 <= unknown < 2**32:
+            raise ValueError("the cost of a byte is 0 to 4294967295")
+        text, count = _bytes(text), c_size_t()
+        if not text or not self._handle.is_open:
+            return Matches([])
+        memory = _fresh_memory(len(text) * ctypes.sizeof(_Found))
+        found = _Found.from_buffer(memory)
+        _check(_CEDAR.cedar_cheapest(self._this, text, len(text), unknown, by_characters, found, len(text), byref(count)))
+        return Matches([memoryview(memory)[: count.value * ctypes.sizeof(_Found)]])
 
     def is_reduced(self):
         return _CEDAR.cedar_is_reduced(self._this)

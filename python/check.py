@@ -130,6 +130,23 @@ def from_sorted(plain, reduced):
     assert cedar["new"] == 5
 
 
+def cheapest_in(plain, text, unknown):
+    """The tokens of least cost, by what the text from each place on costs: of those that cost the same the longest first."""
+    longest = max(map(len, plain))
+    costs, first = [0] * (len(text) + 1), [None] * len(text)
+    for place in reversed(range(len(text))):
+        costs[place], first[place] = unknown + costs[place + 1], (place, 1, None)
+        for n in range(1, min(longest, len(text) - place) + 1):
+            value = plain.get(text[place : place + n])
+            if value is not None and value + costs[place + n] <= costs[place]:
+                costs[place], first[place] = value + costs[place + n], (place, n, value)
+    tokens, place = [], 0
+    while place < len(text):
+        tokens.append(first[place])
+        place += first[place][1]
+    return tokens
+
+
 def whole_texts(cedar, plain):
     """Scans and tokens of texts beside those found by tries, texts long enough for several calls to C among them."""
     longest = max(map(len, plain))
@@ -146,13 +163,20 @@ def whole_texts(cedar, plain):
         scanned, cut = cedar.scan(text), cedar.segment(text)
         assert list(scanned) == found and len(scanned) == len(found)
         assert list(cut) == tokens and sum(length for _, length, _ in cut) == size
+        assert list(cedar.keywords(text)) == [token for token in tokens if token[2] is not None]
+        for unknown in (0, 1 << 20):
+            assert list(cedar.cheapest(text, unknown)) == list(cedar.cheapest(text, unknown, True)) == cheapest_in(plain, text, unknown)
     assert scanned[0] == found[0] and scanned[-1] == found[-1] and scanned[2:4] == found[2:4]
     assert list(pickle.loads(pickle.dumps(scanned))) == found
     # More matches than bytes, so that a text takes many calls.
     nested, text = Cedar({b"a" * n: n for n in range(1, 200)}), b"a" * 300
     assert list(nested.scan(text)) == [(place, n, n) for place in range(300) for n in range(1, min(199, 300 - place) + 1)]
     nested.close()
-    assert len(nested.scan(text)) == len(nested.segment(text)) == 0
+    assert len(nested.scan(text)) == len(nested.segment(text)) == len(nested.keywords(text)) == len(nested.cheapest(text, 1)) == 0
+    refuses(ValueError, lambda: cedar.cheapest(b"a", -1))
+    refuses(ValueError, lambda: cedar.cheapest(b"a", 1 << 32))
+    unknown = Cedar().cheapest("网a", 3, by_characters=True)
+    assert list(unknown) == [(place, 1, None) for place in range(4)]
 
 
 def loads(data, reduced):

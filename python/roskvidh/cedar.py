@@ -33,7 +33,7 @@ class Cedar(_core.Core[K], MutableMapping[K, int]):  # type: ignore[misc]  # set
     `pairs` is a mapping or an iterable of pairs. An iteration gives the keys ascending by bytes, unless `ordered=False`. `reduced=True`
     takes fewer slots. `max_trial` says how many failed searches for a place close a block of slots.
 
-    It takes a lock for each call, so threads may share it. Scans, segmentations, saves and calls of many keys let other threads run.
+    It takes a lock for each call, so threads may share it. Calls on long texts, saves and calls of many keys let other threads run.
 
     >>> d = Cedar({b"net": 7, b"nets": 8})
     >>> d[b"ten"] = 9

@@ -77,19 +77,39 @@ int span_take(Core *core, PyObject *given, Span *span) {
     return 0;
 }
 
-/* A value in its range. Whole numbers alone are taken: a bool or a float is an error of the caller's. */
-int value_take(PyObject *given, int32_t *value) {
+/* A whole number, or -1 for one that is too long. A bool or a float is an error of the caller's. */
+static int whole_take(PyObject *given, const char *taken, long long *whole) {
     if (PyBool_Check(given) || !PyIndex_Check(given)) {
-        fail_type("a value is an int", given);
+        fail_type(taken, given);
         return -1;
     }
     PyObject *number = PyNumber_Index(given);
     if (!number) return -1;
     int overflow;
-    long long whole = PyLong_AsLongLongAndOverflow(number, &overflow);
+    *whole = PyLong_AsLongLongAndOverflow(number, &overflow);
     Py_DECREF(number);
-    if (overflow || whole < CEDAR_MIN_VALUE || whole > CEDAR_MAX_VALUE) return fail_with(CEDAR_INVALID_VALUE);
+    if (overflow) *whole = -1;
+    return 0;
+}
+
+/* A value in its range. */
+int value_take(PyObject *given, int32_t *value) {
+    long long whole;
+    if (whole_take(given, "a value is an int", &whole) < 0) return -1;
+    if (whole < CEDAR_MIN_VALUE || whole > CEDAR_MAX_VALUE) return fail_with(CEDAR_INVALID_VALUE);
     *value = (int32_t)whole;
+    return 0;
+}
+
+/* What a byte without a value costs. */
+int cost_take(PyObject *given, uint32_t *cost) {
+    long long whole;
+    if (whole_take(given, "a cost is an int", &whole) < 0) return -1;
+    if (whole < 0 || whole > UINT32_MAX) {
+        PyErr_SetString(PyExc_ValueError, "a cost is outside the range 0..=4294967295");
+        return -1;
+    }
+    *cost = (uint32_t)whole;
     return 0;
 }
 

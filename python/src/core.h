@@ -68,6 +68,7 @@ typedef struct Span {
 
 int span_take(Core *core, PyObject *given, Span *span);
 int value_take(PyObject *given, int32_t *value);
+int cost_take(PyObject *given, uint32_t *cost);
 PyObject *key_give(Core *core, const uint8_t *at, size_t length);
 PyObject *pair_give(PyObject *key, int32_t value);
 int fail_with(uint32_t status);
@@ -121,6 +122,8 @@ extern PyTypeObject *match_type;
 PyTypeObject *match_make(void);
 PyObject *core_scan(Core *core, PyObject *text);
 PyObject *core_segment(Core *core, PyObject *text);
+PyObject *core_keywords(Core *core, PyObject *text);
+PyObject *core_cheapest(Core *core, PyObject *arguments, PyObject *named);
 
 /* makes.c: what puts a dictionary in place, and what gives its file. */
 PyObject *core_open(Core *core, PyObject *arguments);

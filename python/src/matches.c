@@ -1,4 +1,4 @@
-/* What stands in a text: all keys, or its tokens. The numbers stay as C wrote them, and become Python's as they are asked for. */
+/* What stands in a text: all keys, its tokens, or its keywords. The numbers stay as C wrote them, and become Python's as they are asked for. */
 #define _DEFAULT_SOURCE /* madvise */
 #include "core.h"
 
@@ -198,6 +198,19 @@ static bool find_all(Core *core, Finder *finder, const Span *text, Matches *matc
     return true;
 }
 
+/* The tokens of a text that cost the least together. False where memory is wanted. */
+static bool find_cheapest(Core *core, uint32_t unknown, const Span *text, Matches *matches) {
+    size_t count = 0;
+    if (text->length == 0) return true;
+    Piece *piece = piece_begin(matches, text->length);
+    if (!piece) return false;
+    uint32_t status =
+        cedar_cheapest(&core->dictionary, text->at, text->length, unknown, core->is_text, piece->found, text->length, &count);
+    if (status != CEDAR_OK) return false;
+    piece_end(matches, piece, count);
+    return true;
+}
+
 /* Whether a byte begins a character of UTF-8. */
 static bool begins_character(uint8_t byte) {
     return (byte & 0xC0) != 0x80;
@@ -227,14 +240,15 @@ static void count_characters(const Span *text, Matches *matches) {
     matches->count = end;
 }
 
-static PyObject *find(Core *core, Finder *finder, PyObject *given) {
+/* What a finder tells of a text, or, where that is NULL, the tokens of least cost. */
+static PyObject *find(Core *core, Finder *finder, uint32_t unknown, PyObject *given) {
     Span text;
     Turn turn;
     bool done = false;
     if (span_take(core, given, &text) < 0) return NULL;
     Matches *matches = (Matches *)PyType_GenericAlloc(matches_type, 0);
     if (matches && turn_begin(core, text.length >= LONG_TEXT, &turn) == 0) {
-        done = find_all(core, finder, &text, matches);
+        done = finder ? find_all(core, finder, &text, matches) : find_cheapest(core, unknown, &text, matches);
         if (done && core->is_text) count_characters(&text, matches);
         turn_end(&turn);
         if (!done) fail_with(CEDAR_MEMORY);
@@ -245,9 +259,21 @@ static PyObject *find(Core *core, Finder *finder, PyObject *given) {
 }
 
 PyObject *core_scan(Core *core, PyObject *text) {
-    return find(core, cedar_scan, text);
+    return find(core, cedar_scan, 0, text);
 }
 
 PyObject *core_segment(Core *core, PyObject *text) {
-    return find(core, cedar_segment, text);
+    return find(core, cedar_segment, 0, text);
+}
+
+PyObject *core_keywords(Core *core, PyObject *text) {
+    return find(core, cedar_keywords, 0, text);
+}
+
+PyObject *core_cheapest(Core *core, PyObject *arguments, PyObject *named) {
+    static char *names[] = {"", "unknown", NULL};
+    PyObject *text, *cost;
+    uint32_t unknown;
+    if (!PyArg_ParseTupleAndKeywords(arguments, named, "OO:cheapest", names, &text, &cost)) return NULL;
+    return cost_take(cost, &unknown) < 0 ? NULL : find(core, NULL, unknown, text);
 }

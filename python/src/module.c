@@ -127,6 +127,14 @@ static PyMethodDef core_methods[] = {
      "segment($self, text, /)\n--\n\nReturns the tokens of a text: at each place the longest key, or else one byte (with text=True one\n"
      "character), whose value is None.\n\n"
      ">>> [tuple(m) for m in Cedar({b'net': 7, b'nets': 8}).segment(b'nets!')]\n[(0, 4, 8), (4, 1, None)]\n"},
+    {"keywords", (PyCFunction)core_keywords, METH_O,
+     "keywords($self, text, /)\n--\n\nReturns the keywords of a text, which don't overlap: of the keys that begin first the longest, and so on from\n"
+     "its end.\n\n"
+     ">>> [tuple(m) for m in Cedar({b'net': 7, b'nets': 8, b'sew': 9}).keywords(b'a netsew')]\n[(2, 4, 8)]\n"},
+    {"cheapest", (PyCFunction)(void (*)(void))core_cheapest, METH_VARARGS | METH_KEYWORDS,
+     "cheapest($self, text, /, unknown)\n--\n\nReturns the tokens of a text that cost the least together: a key costs its value, and a byte (with\n"
+     "text=True a character) that is no key costs `unknown`, 0 to 4294967295. Its value is None.\n\n"
+     ">>> [tuple(m) for m in Cedar({b'a': 5, b'ab': 6, b'bcd': 1}).cheapest(b'abcd', unknown=10)]\n[(0, 1, 5), (1, 3, 1)]\n"},
     {"erase_prefix", (PyCFunction)core_erase_prefix, METH_O,
      "erase_prefix($self, prefix, /)\n--\n\nRemoves all keys that begin with a prefix, and returns how many there were.\n\n"
      ">>> Cedar({b'net': 7, b'nets': 8, b'ten': 9}).erase_prefix(b'ne')\n2\n"},

@@ -11,12 +11,14 @@ def keys_are_bytes(data: bytes) -> None:
     built: Cedar[bytes] = Cedar.from_sorted([(b"net", 7)], reduced=True)
     value: Optional[int] = d.get(b"x")
     matches: Matches = d.scan(b"text")
+    keywords: Matches = d.keywords(b"text")
+    cut: Matches = d.cheapest(b"text", unknown=5)
     match: Match = matches[0]
     some: List[Match] = matches[1:]
     stats: Stats = d.stats()
     as_mapping: MutableMapping[bytes, int] = d
     loaded |= built
-    print(value, match.value, some, stats.keys, as_mapping)
+    print(value, match.value, some, keywords, cut, stats.keys, as_mapping)
 
 
 def keys_are_texts(path: str, plain: Dict[str, int]) -> None:

@@ -23,6 +23,23 @@ def found_in(plain, text):
     return found, tokens
 
 
+def cheapest_in(plain, text, unknown):
+    """The tokens of least cost, by what the text from each place on costs: of those that cost the same the longest first."""
+    longest = max(map(len, plain), default=0)
+    costs, first = [0] * (len(text) + 1), [None] * len(text)
+    for place in reversed(range(len(text))):
+        costs[place], first[place] = unknown + costs[place + 1], (place, 1, None)
+        for n in range(1, min(longest, len(text) - place) + 1):
+            value = plain.get(text[place : place + n])
+            if value is not None and value + costs[place + n] <= costs[place]:
+                costs[place], first[place] = value + costs[place + n], (place, n, value)
+    tokens, place = [], 0
+    while place < len(text):
+        tokens.append(first[place])
+        place += first[place][1]
+    return tokens
+
+
 class Texts(unittest.TestCase):
     def test_beside_tries(self):
         chance = random.Random(5)
@@ -40,6 +57,9 @@ class Texts(unittest.TestCase):
         scanned, cut = cedar.scan(text), cedar.segment(text)
         self.assertEqual((list(scanned), len(scanned)), (found, len(found)))
         self.assertEqual((list(cut), sum(match.length for match in cut)), (tokens, len(text)))
+        self.assertEqual(list(cedar.keywords(text)), [match for match in tokens if match[2] is not None])
+        for unknown in (0, 7, 40, 2**32 - 1):
+            self.assertEqual(list(cedar.cheapest(text, unknown)), cheapest_in(plain, text, unknown))
         fronts = [(text[:n], plain[text[:n]]) for n in range(1, min(len(text), 9) + 1) if text[:n] in plain]
         self.assertEqual(cedar.prefixes(text), fronts)
         self.assertEqual(cedar.longest_prefix(text), fronts[-1] if fronts else None)
@@ -50,6 +70,23 @@ class Texts(unittest.TestCase):
         self.assertEqual(len(nested.scan(text)), sum(min(299, 5000 - place) for place in range(5000)))
         self.assertEqual(nested.prefixes(text), [(b"a" * n, n) for n in range(1, 300)])
         self.assertEqual(nested.longest_prefix(text), (b"a" * 299, 299))
+
+    def test_cuts_of_least_cost(self):
+        words = {"event": 6517, "he": 1999, "out": 3011, "the": 485, "they": 2451, "vent": 11305, "you": 2200, "youth": 6923}
+        d = Cedar(words, text=True)
+        tokens = d.cheapest("theyouthevent", unknown=20_000)
+        self.assertEqual([m.value for m in tokens], [485, 6923, 6517])
+        self.assertEqual([m.value for m in d.keywords("theyouthevent")], [2451, 3011, 1999, 11305])
+        self.assertEqual([tuple(m) for m in d.cheapest("漢you", 5)], [(0, 1, None), (1, 1, None), (2, 1, None), (3, 1, None)])
+        self.assertEqual(list(Cedar({"漢": 6}, text=True).cheapest("漢", 5)), [(0, 1, None)])
+        self.assertEqual(list(Cedar({"漢".encode(): 6}).cheapest("漢".encode(), 5)), [(0, 3, 6)])
+        self.assertEqual(len(d.cheapest("", 0)), 0)
+        for wrong, error in ((-1, ValueError), (2**32, ValueError), (2**70, ValueError), (1.0, TypeError), (True, TypeError), (None, TypeError)):
+            with self.assertRaises(error):
+                d.cheapest("a", wrong)
+        for call in (lambda: d.cheapest("a"), lambda: d.cheapest(b"a", 1), lambda: d.cheapest(text="a", unknown=1), lambda: d.keywords(5)):
+            with self.assertRaises(TypeError):
+                call()
 
     def test_matches_are_a_sequence(self):
         matches = Cedar({b"net": 7, b"nets": 8}).scan(b"net nets")

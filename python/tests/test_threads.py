@@ -79,12 +79,26 @@ class Threads(unittest.TestCase):
             def read(chance):
                 found.add(len(cedar.scan(text)))
                 found.add(len(cedar.segment(text)))
+                found.add(len(cedar.keywords(text)))
+                found.add(len(cedar.cheapest(text, unknown=1000)))
                 loaded = Cedar.load(cedar.to_bytes())
                 assert len(loaded) in (2000, 2001, 2299) and loaded[b"7"] == cedar[b"7"]
 
             self.run_all(SECONDS / 8, change, read, lambda chance: read(chance), lambda chance: list(loaded_keys(cedar)))
             whole = sum(min(299, 20_000 - place) for place in range(20_000))
             self.assertLessEqual(found, {0, 20_000, whole, len(range(0, 20_000, 299))})
+
+    def test_cuts_beside_each_other(self):
+        """Four threads cut one text: each has what one thread alone has."""
+        cedar = Cedar({b"ab": 3, b"a": 1, b"abc": 9, b"c": 2})
+        text = bytes(random.Random(3).choices(b"abcd", k=20_000))
+        keywords, tokens = list(cedar.keywords(text)), list(cedar.cheapest(text, unknown=4))
+
+        def cut(chance):
+            assert list(cedar.keywords(text)) == keywords
+            assert list(cedar.cheapest(text, unknown=4)) == tokens
+
+        self.run_all(SECONDS / 4, *[lambda chance, n=n: cut(chance) for n in range(4)])
 
     def test_one_iteration_of_many_threads(self):
         cedar, text = Cedar({b"%d" % i: i for i in range(3000)}), b"7" * 20_000

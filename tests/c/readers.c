@@ -8,10 +8,10 @@
 
 enum { THREADS = 8, KEYS = 5000, TEXT = 20000, ROOM = 4096, FILE_ROOM = 1 << 18, ALL = KEYS * 8 };
 
-/* What a thread reads: the counts of scans, tokens, prefixes and predictions, the sum of all values, the bytes of keys and of the file, and
+/* What a thread reads: the counts of scans, tokens, keywords, tokens of least cost, prefixes and predictions, the sum of all values, the bytes of keys and of the file, and
  * the figures. */
 typedef struct Answers {
-    size_t found, tokens, prefixes, predictions, key_bytes, file_bytes, figures;
+    size_t found, tokens, keywords, cheapest, prefixes, predictions, key_bytes, file_bytes, figures;
     uint64_t sum;
 } Answers;
 
@@ -30,6 +30,7 @@ static void read_texts(const cedar *d, Answers *answers) {
         answers->found += count;
     }
     for (size_t next = 0; next < TEXT;) answers->tokens += cedar_segment(d, text, TEXT, &next, found, ROOM);
+    for (size_t next = 0; next < TEXT;) answers->keywords += cedar_keywords(d, text, TEXT, &next, found, ROOM);
     for (size_t place = 0; place < TEXT; place++) {
         size_t length = TEXT - place < 16 ? TEXT - place : 16, next = 1;
         answers->prefixes += cedar_prefixes(d, text + place, length, matches, 64);
@@ -39,12 +40,14 @@ static void read_texts(const cedar *d, Answers *answers) {
     }
 }
 
-/* Whether the memory for a file and a list of keys was there. */
+/* Whether the memory for a file, a list of keys and a cut was there. */
 static bool read_wholes(const cedar *d, Answers *answers) {
     static _Thread_local uint8_t file[FILE_ROOM];
     static _Thread_local uint8_t all[ALL];
+    static _Thread_local cedar_found cut[TEXT];
     answers->figures = cedar_len(d) + 3 * cedar_used_slots(d) + 5 * cedar_capacity(d) + 7 * cedar_spare_blocks(d) + cedar_is_reduced(d);
     return cedar_keys(d, all, ALL, &answers->key_bytes) == CEDAR_OK
+           && cedar_cheapest(d, text, TEXT, KEYS, false, cut, TEXT, &answers->cheapest) == CEDAR_OK
            && cedar_save(d, false, file, FILE_ROOM, &answers->file_bytes) == CEDAR_OK;
 }
 

@@ -124,6 +124,30 @@ static int copies(bool is_shrink) {
     }
 }
 
+/* A cut of least cost with each request refused in turn: places and count stay till all are met. Answers how many were refused. */
+static int cuts(void) {
+    enum { LENGTH = 3000 };
+    static uint8_t text[LENGTH];
+    static cedar_found found[LENGTH];
+    cedar d = CEDAR_CLOSED;
+    CHECK(cedar_new(&d) == CEDAR_OK && fill(&d) == KEYS);
+    for (int32_t i = 0; i < LENGTH; i += 3) nth_key(i, text + i);
+    for (int refused = 0;; refused++) {
+        size_t needed = 77;
+        for (size_t i = 0; i < LENGTH; i++) found[i] = (cedar_found){7, 7, 7};
+        left = refused;
+        uint32_t status = cedar_cheapest(&d, text, LENGTH, KEYS, refused % 2, found, LENGTH, &needed);
+        left = -1;
+        if (status == CEDAR_OK) {
+            CHECK(needed == LENGTH / 3 && found[1].place == 3 && found[1].length == 3 && found[1].value == 3);
+            cedar_free(&d);
+            return refused;
+        }
+        CHECK(status == CEDAR_MEMORY && needed == 77);
+        for (size_t i = 0; i < LENGTH; i++) CHECK(found[i].place == 7 && found[i].length == 7 && found[i].value == 7);
+    }
+}
+
 int main(void) {
     int refused_new = 0, refused_update = 0;
     for (long budget = 0; budget < 60; budget++) {
@@ -147,6 +171,7 @@ int main(void) {
     }
     int refused_builds = builds(), refused_reserves = reserves(), refused_copies = copies(false), refused_shrinks = copies(true);
     CHECK(refused_new > 0 && refused_update > 0 && refused_builds > 10 && refused_reserves > 0 && refused_copies > 0 && refused_shrinks > 0);
+    CHECK(cuts() > 0);
     printf("refused: %d new, %d updates, %d builds, %d reserves\nok\n", refused_new, refused_update, refused_builds, refused_reserves);
     return 0;
 }

@@ -86,6 +86,18 @@ Tokens segmented(const dictionary &d, std::string_view text) {
     return found;
 }
 
+Tokens keywords_in(const dictionary &d, std::string_view text) {
+    Tokens found;
+    d.keywords(text, [&](const roskvidh::occurrence &one) { found.emplace_back(one.place, one.length, one.value); });
+    return found;
+}
+
+Tokens cut_cheapest(const dictionary &d, std::string_view text, std::uint32_t unknown, bool by_characters = false) {
+    Tokens found;
+    for (const roskvidh::token &one : d.cheapest(text, unknown, by_characters)) found.emplace_back(one.place, one.length, one.value);
+    return found;
+}
+
 void each_member(layout kind) {
     dictionary d(kind);
     CHECK(d.kind() == kind && d.is_open() && d.empty() && d.size() == 0 && listed(d.entries()).empty());
@@ -106,6 +118,10 @@ void each_member(layout kind) {
     CHECK(longest && longest->value == 8 && longest->length == 7 && !d.longest_match("ten"));
     CHECK(scanned(d, "no network") == Tokens({{0, 2, CEDAR_MAX_VALUE}, {3, 3, 7}, {3, 7, 8}}) && scanned(d, "").empty());
     CHECK(segmented(d, "network!") == Tokens({{0, 7, 8}, {7, 1, std::nullopt}}));
+    CHECK(keywords_in(d, "a network, new") == Tokens({{2, 7, 8}, {11, 3, 2}}) && keywords_in(d, "").empty());
+    CHECK(cut_cheapest(d, "network!", 3) == Tokens({{0, 7, 8}, {7, 1, std::nullopt}}) && cut_cheapest(d, "", 3).empty());
+    CHECK(cut_cheapest(d, "net", 2) == Tokens({{0, 1, {}}, {1, 1, {}}, {2, 1, {}}}));
+    CHECK(cut_cheapest(d, "\xE7\xBD\x91", 2, true) == cut_cheapest(d, "\xE7\xBD\x91", 2));
     const roskvidh::statistics figures = d.statistics();
     CHECK(figures.keys == 4 && figures.used_slots == (kind == layout::standard ? 1 + 9 + 4 : 1 + 9 + 1));
     CHECK(figures.capacity == 512 && figures.spare_blocks == 0);
@@ -139,6 +155,8 @@ void ranges_and_callables() {
     CHECK(calls == 3);
     d.segment("aaaa", [&](const roskvidh::token &) { return --calls > 2; });
     CHECK(calls == 2);
+    d.keywords("aaaa", [&](const roskvidh::occurrence &) { return --calls > 1; });
+    CHECK(calls == 1);
     try {
         d.scan("aaaa", [](const roskvidh::occurrence &one) { throw one.length; });
         CHECK(false);
@@ -204,6 +222,7 @@ void refusals(layout kind) {
     lacks_memory([&] { (void)d.clone(); });
     lacks_memory([&] { d.shrink_to_fit(); });
     lacks_memory([&] { (void)d.entries(); });
+    lacks_memory([&] { (void)d.cheapest("held", 1); });
     lacks_memory([&] { dictionary::from_sorted({{"a", 1}}, kind); });
     lacks_memory([&] { d.update_all({{"a", 1}}); });
     lacks_memory([&] {
@@ -219,6 +238,7 @@ void moves(layout kind) {
     CHECK(second.get("a") == 1 && !first.is_open() && first.empty() && first.get("a") == std::nullopt && !first.erase("a"));
     CHECK(first.entries().empty() && first.prefixes("a").empty() && first.predictions("").empty() && !first.longest_match("a"));
     CHECK(scanned(first, "a").empty() && segmented(first, "a").empty() && first.statistics().capacity == 0);
+    CHECK(keywords_in(first, "a").empty());
     const char *const text = "the dictionary is closed";
     refused(CEDAR_IS_CLOSED, {}, text, [&] { first.update("a", 1); });
     refused(CEDAR_IS_CLOSED, {}, text, [&] { first.insert("a", 1); });
@@ -371,8 +391,26 @@ void same_walks(const dictionary &d, const Plain &plain, const std::string &text
     CHECK(longest ? ends({*longest}) == Ends({fronts.back()}) : fronts.empty());
 }
 
+// The cut of least cost by a table of what the bytes from each place on cost.
+Tokens plain_cheapest(const Plain &plain, const std::string &text, std::uint32_t unknown) {
+    std::vector<std::uint64_t> costs(text.size() + 1);
+    Tokens first(text.size()), cut;
+    for (std::size_t place = text.size(); place-- > 0;) {
+        costs[place] = costs[place + 1] + unknown;
+        first[place] = {place, 1, std::nullopt};
+        for (std::size_t length = 1; length <= std::min<std::size_t>(6, text.size() - place); length++) {
+            const auto held = plain.find(text.substr(place, length));
+            if (held == plain.end() || static_cast<std::uint64_t>(held->second) + costs[place + length] > costs[place]) continue;
+            costs[place] = static_cast<std::uint64_t>(held->second) + costs[place + length];
+            first[place] = {place, length, held->second};
+        }
+    }
+    for (std::size_t place = 0; place < text.size(); place += std::get<1>(first[place])) cut.push_back(first[place]);
+    return cut;
+}
+
 void same_texts(const dictionary &d, const Plain &plain, const std::string &text) {
-    Tokens all, cut;
+    Tokens all, cut, keywords;
     for (std::size_t place = 0, next = 0; place < text.size(); place++) {
         std::tuple<std::size_t, std::size_t, std::optional<std::int32_t>> longest = {place, 1, std::nullopt};
         for (std::size_t length = 1; length <= std::min<std::size_t>(6, text.size() - place); length++) {
@@ -383,9 +421,12 @@ void same_texts(const dictionary &d, const Plain &plain, const std::string &text
         }
         if (place < next) continue;
         cut.push_back(longest);
+        if (std::get<2>(longest)) keywords.push_back(longest);
         next = place + std::get<1>(longest);
     }
-    CHECK(scanned(d, text) == all && segmented(d, text) == cut);
+    CHECK(scanned(d, text) == all && segmented(d, text) == cut && keywords_in(d, text) == keywords);
+    const std::uint32_t unknown = static_cast<std::uint32_t>(next_random() % 2000);
+    CHECK(cut_cheapest(d, text, unknown) == plain_cheapest(plain, text, unknown));
 }
 
 void same(const dictionary &d, const Plain &plain) {

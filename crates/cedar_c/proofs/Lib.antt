@@ -1,5 +1,7 @@
 pub mod ClosedLemmas
+pub mod CutLemmas
 pub mod FileLemmas
+pub mod KeywordLemmas
 pub mod LengthLemmas
 pub mod LoanLemmas
 pub mod MatchLemmas

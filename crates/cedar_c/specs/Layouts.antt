@@ -1,5 +1,5 @@
 -- A dictionary of either layout.
-use Rattle.std.specs.Prelude.{◌≡◌, ℕ, Bool, true, false}
+use Rattle.std.specs.Prelude.{◌≡◌, ℕ, ◌+◌, ◌*◌, ◌<◌, ◌≤◌, Bool, true, false}
 use Rattle.std.specs.Coded.{Coded, code_by, coded×, coded_bool}
 use Rattle.std.proofs.Common.{refl}
 use Rattle.cedar_model.specs.Table.Layouts.{LayoutKind, default_layout, reduced_layout}
@@ -10,6 +10,10 @@ use Rattle.cedar_c.specs.declared.any.AnyCedar.TheVariants.{Default, Reduced}
 -- how many slots it has at most
 abbrev pub most_slots : ℕ
 most_slots = 1073741824
+
+-- so many blocks more than are in use are more than there are slots for, and may be there
+abbrev pub HasToGrow : ℕ → ℕ → ℕ → Type 0
+HasToGrow size capacity blocks = (capacity < size + 256 * blocks) × (size + 256 * blocks ≤ most_slots)
 
 -- what a caller sees of it in either layout
 abbrev pub dictionary_in : AnyCedar → Dictionary

@@ -1,4 +1,5 @@
 pub mod Content
+pub mod Cuts
 pub mod Files
 pub mod Layouts
 pub mod Lending
@@ -10,3 +11,4 @@ pub mod Readings
 pub mod Scans
 pub mod Shrinks
 pub mod Status
+pub mod Stores

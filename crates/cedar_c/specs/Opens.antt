@@ -1,15 +1,14 @@
 -- What calls that open a handle say.
-use Rattle.std.specs.Prelude.{◌≡◌, ◌≢◌, ◌⊎◌, ◌↔◌, ◌*◌, ◌≤◌, ◌≤ℤ◌, ◌<ℤ◌, ℕ, ℤ, pos, Bool, List, length, None, Some, IfSome}
+use Rattle.std.specs.Prelude.{◌≡◌, ◌≢◌, ◌⊎◌, ◌↔◌, ◌≤ℤ◌, ◌<ℤ◌, ℕ, ℤ, pos, Bool, List, None, Some, IfSome}
 use Rattle.cedar_format.specs.Format.{header_answer}
 use Rattle.cedar_model.specs.Table.Layouts.{LayoutKind, layout_byte}
-use Rattle.cedar_tree.specs.Queries.{asc, prefixes}
 use Rattle.cedarwood.specs.Words.{IsEmpty, IsOnTable, IsSorted}
 use Rattle.cedarwood.specs.declared.builder.CedarBuilder.{CedarBuilder}
 use Rattle.cedar_c.specs.Content.{content, layout_in}
 use Rattle.cedar_c.specs.Files.{early_refusal, file_status, IsFileOf, IsOfNoTable, TellsHeader}
 use Rattle.cedar_c.specs.Layouts.{dictionary_in, layout_of, most_slots}
-use Rattle.cedar_c.specs.Pairs.{entries_in, fault_in}
-use Rattle.cedar_c.specs.Status.{position_of, status_of, TellsPosition}
+use Rattle.cedar_c.specs.Pairs.{MayWantSlots, entries_in, fault_in}
+use Rattle.cedar_c.specs.Status.{TellsFault, TellsPosition}
 use Rattle.cedar_c.specs.declared.any.AnyCedar.{AnyCedar}
 use Rattle.cedar_c.specs.declared.handle.Handle.{Handle}
 use Rattle.cedar_c.specs.declared.pairs.Pair.{Pair}
@@ -32,10 +31,10 @@ pub record OpensSorted (kind : LayoutKind) (ordered : Bool) (trials : ℤ) (pair
   pub layout : status ≡ OK → layout_in after ≡ Some kind
   pub invalid : trials <ℤ pos 1 → status ≡ INVALID_MAX_TRIAL
   -- the first fault of the pairs is told, unless memory was wanted before it was found
-  pub faulty : pos 1 ≤ℤ trials → IfSome (fault_in pairs) (λ e. (status ≡ MEMORY) ⊎ ((status ≡ status_of e) × (told ≡ position_of found e)))
+  pub faulty : pos 1 ≤ℤ trials → IfSome (fault_in pairs) (TellsFault found told status)
   -- without a fault slots are wanted only where there might not be enough
   pub refused : pos 1 ≤ℤ trials → fault_in pairs ≡ None
-      → (status ≡ OK) ⊎ (status ≡ MEMORY) ⊎ ((status ≡ SLOT_LIMIT) × (most_slots ≤ 256 * length (prefixes (asc (entries_in pairs)))))
+      → (status ≡ OK) ⊎ (status ≡ MEMORY) ⊎ ((status ≡ SLOT_LIMIT) × MayWantSlots most_slots pairs)
   pub kept : (status ≡ OK) ⊎ (content after ≡ content before)
   -- only an error that tells a position writes it
   pub stays : TellsPosition status ⊎ (told ≡ found)

@@ -1,9 +1,12 @@
 -- Pairs of C's.
-use Rattle.std.specs.Prelude.{ℕ, ℤ, List, [], ◌∷◌, ◌++◌, map, Option}
+use Rattle.std.specs.Prelude.{◌≡◌, ◌*◌, ◌<◌, ◌≤◌, ℕ, ℤ, List, [], ◌∷◌, ◌++◌, length, map, take, Option, None}
 use Rattle.std.specs.Borrow.{Bor}
 use Rattle.cedarwood.specs.declared.error.CedarError.{CedarError}
-use Rattle.cedar_tree.specs.Queries.{Entry}
+use Rattle.cedar_tree.specs.Tree.{number_at}
+use Rattle.cedar_tree.specs.Queries.{Entry, asc, prefixes}
+use Rattle.cedarwood.specs.Builds.{all_stored, path_at}
 use Rattle.cedarwood.specs.SortedInput.{fault_from}
+use Rattle.cedarwood.specs.State.{State}
 use Rattle.cedar_c.specs.declared.pairs.Pair.{Pair}
 
 abbrev pub entries_in : List Pair → List Entry
@@ -21,3 +24,16 @@ fault_in pairs = fault_from 0 [] (entries_in pairs)
 abbrev pub keys_in : List Entry → List ℕ
 keys_in [] = []
 keys_in (e ∷ es) = e.0 ++ keys_in es
+
+-- a front of some entries is stored, and nothing else
+abbrev pub StoresFront : State → State → List Entry → Type 0
+StoresFront before after entries = (m : ℕ) × (m ≤ length entries) × (after ≡ all_stored before (take m entries))
+
+-- those before one whose key isn't held then
+abbrev pub StoresPart : State → State → List Entry → Type 0
+StoresPart before after entries =
+    (m : ℕ) × (m < length entries) × (after ≡ all_stored before (take m entries)) × (number_at after.tree (path_at entries m) ≡ None)
+
+-- 256 slots for each prefix of the keys of some pairs are no fewer than this
+abbrev pub MayWantSlots : ℕ → List Pair → Type 0
+MayWantSlots slots pairs = slots ≤ 256 * length (prefixes (asc (entries_in pairs)))

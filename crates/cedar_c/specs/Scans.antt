@@ -1,8 +1,8 @@
 -- What a text has at all of its places, written into a buffer.
-use Rattle.std.specs.Prelude.{ℕ, ◌+◌, ℤ, negsuc, List, [], ◌∷◌, ◌++◌, map, Option, Some, None}
+use Rattle.std.specs.Prelude.{◌≡◌, ℕ, ◌+◌, ℤ, negsuc, List, [], ◌∷◌, ◌++◌, drop, map, Option, Some, None}
 use Rattle.cedar_tree.specs.Tree.{Tree}
 use Rattle.cedar_tree.specs.Queries.{front}
-use Rattle.cedar_words.specs.Words.{Token, tokens_behind}
+use Rattle.cedar_words.specs.Words.{Spot, Token, keywords_of, tokens_behind}
 use Rattle.cedar_c.specs.declared.scans.Found.{Found}
 
 -- a key that was found at a place
@@ -25,3 +25,19 @@ token_spot t = record { place = t.0; length = t.1; value = number_or_none t.2 }
 -- the tokens of a text, of which these bytes are left from a place on
 abbrev pub tokens_from : Tree → ℕ → List ℕ → List Found
 tokens_from tree place rest = map token_spot (tokens_behind tree 0 place rest)
+
+-- a keyword as it is written
+abbrev pub keyword_spot : Spot → Found
+keyword_spot s = record { place = s.0; length = s.1; value = s.2 }
+
+-- the keywords of a text, of which these bytes are left from a place on
+abbrev pub keywords_from : Tree → ℕ → List ℕ → List Found
+keywords_from tree place rest = map keyword_spot (keywords_of (tokens_behind tree 0 place rest))
+
+-- what stands in a text from one place on is what was written, and then what stands from another place on
+abbrev pub GoesOn : (ℕ → List ℕ → List Found) → List ℕ → ℕ → ℕ → List Found → Type 0
+GoesOn stands text before after written = stands before (drop before text) ≡ written ++ stands after (drop after text)
+
+-- what was written first, and then what stands from one place on, is what is written now, and then what stands from another place on
+abbrev pub WritesOn : (ℕ → List ℕ → List Found) → List ℕ → ℕ → ℕ → List Found → List Found → Type 0
+WritesOn stands text before after first written = first ++ stands before (drop before text) ≡ written ++ stands after (drop after text)

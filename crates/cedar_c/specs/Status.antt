@@ -26,6 +26,10 @@ position_of before e = before
 abbrev pub TellsPosition : ℕ → Type 0
 TellsPosition status = (status ≡ NUL_BYTE) ⊎ (status ≡ DUPLICATE_KEY) ⊎ (status ≡ KEYS_NOT_SORTED)
 
+-- the number of this error is told, and its position, or want of memory. `found` and `told` are the position before and after
+abbrev pub TellsFault : ℕ → ℕ → ℕ → CedarError → Type 0
+TellsFault found told status e = (status ≡ MEMORY) ⊎ ((status ≡ status_of e) × (told ≡ position_of found e))
+
 -- each number that is answered, with its text: the library's own text of that error where it has one, without numbers
 abbrev pub texts_by_status : List (ℕ × List ℕ)
 texts_by_status =

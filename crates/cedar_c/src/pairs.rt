@@ -1,13 +1,13 @@
 //! Many pairs in one call.
 
-ghost use Rattle.std.specs.Prelude.{◌≡◌, ◌⊎◌, ◌<◌, ◌≤◌, ◌↔◌, ℕ, length, map, take, None, Err, IsSome, IfSome, IfErr, OnOk, OnErr, option_map};
-ghost use Rattle.cedarwood.specs.Tree.{number_at};
+ghost use Rattle.std.specs.Prelude.{◌≡◌, ◌⊎◌, ◌↔◌, map, None, Err, IsSome, IfSome, IfErr, OnOk, OnErr, option_map};
 ghost use Rattle.cedarwood.specs.Fault.{IsShortage};
-ghost use Rattle.cedarwood.specs.Builds.{all_stored, first_fault, path_at};
-ghost use Rattle.cedar_c.specs.Content.{content, layout_in, size_in, state_in, tree_in, trials_in};
+ghost use Rattle.cedarwood.specs.Builds.{all_stored, first_fault};
+ghost use Rattle.cedar_c.specs.Content.{content, layout_in, size_in, state_in, trials_in};
 ghost use Rattle.cedar_c.specs.Layouts.{dictionary_in, layout_of, most_slots};
-ghost use Rattle.cedar_c.specs.Pairs.{entries_in, taken_pair};
-ghost use Rattle.cedar_c.specs.Status.{position_of, status_of, TellsPosition};
+ghost use Rattle.cedar_c.specs.Pairs.{StoresFront, StoresPart, entries_in, taken_pair};
+ghost use Rattle.cedar_c.specs.Status.{TellsPosition};
+ghost use Rattle.cedar_c.specs.Stores.{HoldsFront, HoldsPart, RefusesAll};
 
 use crate::any::AnyCedar;
 use crate::handle::Handle;
@@ -43,10 +43,10 @@ fn store_all<L: Layout, const SLOTS: usize>(
 ) -> Result<(), CedarError>
     ensures stored { OnOk result (trie.new.state ≡ all_stored trie.old.state (entries_in pairs.now)) }
     ensures faulty { IfSome (first_fault (entries_in pairs.now)) (λ e. ((result ≡ Err e) ⊎ (result ≡ Err CedarError.Memory)) × (trie.new ≡ trie.old)) }
-    ensures front { (m : ℕ) × (m ≤ length (entries_in pairs.now)) × (trie.new.state ≡ all_stored trie.old.state (take m (entries_in pairs.now))) }
+    ensures front { StoresFront trie.old.state trie.new.state (entries_in pairs.now) }
     ensures refused { first_fault (entries_in pairs.now) ≡ None → IfErr result IsShortage }
     ensures limit { result ≡ Err CedarError.SlotLimit → trie.new.size ≡ SLOTS }
-    ensures part { OnErr result ((trie.new ≡ trie.old) ⊎ ((m : ℕ) × (m < length (entries_in pairs.now)) × (trie.new.state ≡ all_stored trie.old.state (take m (entries_in pairs.now))) × (number_at trie.new.state.tree (path_at (entries_in pairs.now) m) ≡ None))) }
+    ensures part { OnErr result ((trie.new ≡ trie.old) ⊎ StoresPart trie.old.state trie.new.state (entries_in pairs.now)) }
     ensures max_trial { trie.new.max_trial ≡ trie.old.max_trial }
 {
     match taken(alloc, pairs) {
@@ -59,11 +59,11 @@ impl AnyCedar {
     fn store_all(&mut self, alloc: Global, pairs: &[Pair<'_>]) -> Result<(), CedarError>
         ensures stored { OnOk result ((dictionary_in self.new).state ≡ all_stored (dictionary_in self.old).state (entries_in pairs.now)) }
         ensures faulty { IfSome (first_fault (entries_in pairs.now)) (λ e. ((result ≡ Err e) ⊎ (result ≡ Err CedarError.Memory)) × (self.new ≡ self.old)) }
-        ensures front { (m : ℕ) × (m ≤ length (entries_in pairs.now)) × ((dictionary_in self.new).state ≡ all_stored (dictionary_in self.old).state (take m (entries_in pairs.now))) }
+        ensures front { StoresFront (dictionary_in self.old).state (dictionary_in self.new).state (entries_in pairs.now) }
         ensures refused { first_fault (entries_in pairs.now) ≡ None → IfErr result IsShortage }
         ensures layout { layout_of self.new ≡ layout_of self.old }
         ensures limit { result ≡ Err CedarError.SlotLimit → (dictionary_in self.new).size ≡ most_slots }
-        ensures part { OnErr result ((self.new ≡ self.old) ⊎ ((m : ℕ) × (m < length (entries_in pairs.now)) × ((dictionary_in self.new).state ≡ all_stored (dictionary_in self.old).state (take m (entries_in pairs.now))) × (number_at (dictionary_in self.new).state.tree (path_at (entries_in pairs.now) m) ≡ None))) }
+        ensures part { OnErr result ((self.new ≡ self.old) ⊎ StoresPart (dictionary_in self.old).state (dictionary_in self.new).state (entries_in pairs.now)) }
         ensures max_trial { (dictionary_in self.new).max_trial ≡ (dictionary_in self.old).max_trial }
     {
         match self {
@@ -93,17 +93,15 @@ pub extern "C" fn cedar_update_all(
     //= Some pairs are all stored in turn; with a fault among them nothing changes, and the first fault is told, or want of memory; without
     //  one the answer is `OK`, `MEMORY` or `SLOT_LIMIT`. [with faulty, refused]
     ensures ok { result ≡ OK → state_in handle.new ≡ option_map (λ s. all_stored s (entries_in pairs.now)) (state_in handle.old) }
-    ensures faulty { IsSome (content handle.old) → IfSome (first_fault (entries_in pairs.now)) (λ e.
-        (content handle.new ≡ content handle.old) × ((result ≡ MEMORY) ⊎ ((result ≡ status_of e) × (position.new ≡ position_of position.old e)))) }
-    ensures front { (m : ℕ) × (m ≤ length (entries_in pairs.now)) × (state_in handle.new ≡ option_map (λ s. all_stored s (take m (entries_in pairs.now))) (state_in handle.old)) }
+    ensures faulty { IsSome (content handle.old) → IfSome (first_fault (entries_in pairs.now)) (RefusesAll handle.old handle.new position.old position.new result) }
+    ensures front { HoldsFront handle.old handle.new (entries_in pairs.now) }
     ensures layout { layout_in handle.new ≡ layout_in handle.old }
     ensures refused { IsSome (content handle.old) → first_fault (entries_in pairs.now) ≡ None → (result ≡ OK) ⊎ (result ≡ MEMORY) ⊎ (result ≡ SLOT_LIMIT) }
 
     //= After an error nothing has changed, or the pairs before one whose key isn't held then are stored; `SLOT_LIMIT` is told only where
     //  all slots are in use. [with part]
     ensures limit { result ≡ SLOT_LIMIT → size_in handle.new ≡ most_slots }
-    ensures part { (result ≡ OK) ⊎ (content handle.new ≡ content handle.old) ⊎ ((m : ℕ) × (m < length (entries_in pairs.now))
-        × (state_in handle.new ≡ option_map (λ s. all_stored s (take m (entries_in pairs.now))) (state_in handle.old)) × (number_at (tree_in handle.new) (path_at (entries_in pairs.now) m) ≡ None)) }
+    ensures part { (result ≡ OK) ⊎ (content handle.new ≡ content handle.old) ⊎ HoldsPart handle.old handle.new (entries_in pairs.now) }
     ensures stays { TellsPosition result ⊎ (position.new ≡ position.old) }
     ensures trials { trials_in handle.new ≡ trials_in handle.old }
 {

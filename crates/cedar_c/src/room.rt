@@ -3,7 +3,7 @@
 ghost use Rattle.std.specs.Prelude.{◌≡◌, ◌⊎◌, ◌+◌, ◌-◌, ◌*◌, ◌<◌, ◌≤◌, ◌↔◌, None, IsSome};
 ghost use Rattle.cedarwood.specs.Dictionary.{capacity_after};
 ghost use Rattle.cedar_c.specs.Content.{content, layout_in, marks_in, state_in, trials_in, size_in, capacity_in};
-ghost use Rattle.cedar_c.specs.Layouts.{dictionary_in, layout_of, most_slots};
+ghost use Rattle.cedar_c.specs.Layouts.{HasToGrow, dictionary_in, layout_of, most_slots};
 
 use crate::any::AnyCedar;
 use crate::handle::Handle;
@@ -35,7 +35,7 @@ pub extern "C" fn cedar_reserve(handle: &mut Handle, blocks: usize) -> u32
     ensures enough { 256 * blocks ≤ capacity_in handle.old - size_in handle.old → content handle.new ≡ content handle.old }
     ensures asks_nothing { IsSome (content handle.old) → 256 * blocks ≤ capacity_in handle.old - size_in handle.old → result ≡ OK }
     ensures limit { IsSome (content handle.old) → (result ≡ SLOT_LIMIT) ↔ (most_slots < size_in handle.old + 256 * blocks) }
-    ensures memory { result ≡ MEMORY → (capacity_in handle.old < size_in handle.old + 256 * blocks) × (size_in handle.old + 256 * blocks ≤ most_slots) }
+    ensures memory { result ≡ MEMORY → HasToGrow (size_in handle.old) (capacity_in handle.old) blocks }
     ensures refused { (result ≡ OK) ⊎ (((result ≡ CLOSED) ⊎ (result ≡ MEMORY) ⊎ (result ≡ SLOT_LIMIT)) × (content handle.new ≡ content handle.old)) }
 {
     if !handle.is_open() {
@@ -56,7 +56,7 @@ impl AnyCedar {
         ensures spare { result ≡ OK → 256 * blocks ≤ (dictionary_in self.new).capacity - (dictionary_in self.new).size }
         ensures enough { 256 * blocks ≤ (dictionary_in self.old).capacity - (dictionary_in self.old).size → (self.new ≡ self.old) × (result ≡ OK) }
         ensures limit { (result ≡ SLOT_LIMIT) ↔ (most_slots < (dictionary_in self.old).size + 256 * blocks) }
-        ensures memory { result ≡ MEMORY → ((dictionary_in self.old).capacity < (dictionary_in self.old).size + 256 * blocks) × ((dictionary_in self.old).size + 256 * blocks ≤ most_slots) }
+        ensures memory { result ≡ MEMORY → HasToGrow (dictionary_in self.old).size (dictionary_in self.old).capacity blocks }
         ensures refused { (result ≡ OK) ⊎ (((result ≡ MEMORY) ⊎ (result ≡ SLOT_LIMIT)) × (self.new ≡ self.old)) }
     {
         match self.try_reserve(blocks) {

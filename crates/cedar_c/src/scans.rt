@@ -5,7 +5,7 @@ ghost use Rattle.cedar_tree.specs.Queries.{front};
 ghost use Rattle.cedar_c.specs.Layouts.{dictionary_in};
 ghost use Rattle.cedar_c.specs.Matches.{Fit};
 ghost use Rattle.cedar_c.specs.Readings.{shown_in, shown_tree};
-ghost use Rattle.cedar_c.specs.Scans.{spot, spots_from, tokens_from};
+ghost use Rattle.cedar_c.specs.Scans.{GoesOn, spot, spots_from, tokens_from};
 
 use crate::any::AnyCedar;
 use crate::reading::Reading;
@@ -88,7 +88,7 @@ fn tell<F: Finds>(walk: &mut F, place: usize, found: &mut [Found], count: usize)
 }
 
 /// Writes a key that was found.
-fn put_at(found: &mut [Found], at: usize, place: usize, front: (i32, usize))
+pub(crate) fn put_at(found: &mut [Found], at: usize, place: usize, front: (i32, usize))
     requires place { at < length found.old }
     requires fits { front.1 + 1 < 2 ^ 64 }
     ensures { found.new ≡ set found.old at (spot place front) }
@@ -102,7 +102,7 @@ fn put_at(found: &mut [Found], at: usize, place: usize, front: (i32, usize))
 
 /// Writes the keys that stand in a text from a place on, as those of whole places, as far as there is room.
 fn scan<T: Scanned>(trie: &T, text: &[u8], next: &mut usize, found: &mut [Found]) -> usize
-    ensures told { spots_from (T.scanned trie.now) next.old (drop next.old text.now) ≡ take result found.new ++ spots_from (T.scanned trie.now) next.new (drop next.new text.now) }
+    ensures told { GoesOn (spots_from (T.scanned trie.now)) text.now next.old next.new (take result found.new) }
     ensures full { (length text.now ≤ next.new) ⊎ (length found.new < result + length (front (T.scanned trie.now) (drop next.new text.now))) }
     ensures within { (result ≤ length found.new) × (next.old ≤ next.new) }
     ensures ends { (next.new ≤ length text.now) ⊎ (next.new ≡ next.old) }
@@ -120,7 +120,7 @@ fn scan<T: Scanned>(trie: &T, text: &[u8], next: &mut usize, found: &mut [Found]
 
 /// Writes the tokens of a text from a place on, as far as there is room.
 fn cut<T: LongestPrefix>(trie: &T, text: &[u8], next: &mut usize, found: &mut [Found]) -> usize
-    ensures told { tokens_from (T.tree trie.now) next.old (drop next.old text.now) ≡ take result found.new ++ tokens_from (T.tree trie.now) next.new (drop next.new text.now) }
+    ensures told { GoesOn (tokens_from (T.tree trie.now)) text.now next.old next.new (take result found.new) }
     ensures full { (length text.now ≤ next.new) ⊎ (result ≡ length found.new) }
     ensures within { (result ≤ length found.new) × (next.old ≤ next.new) }
     ensures ends { (next.new ≤ length text.now) ⊎ (next.new ≡ next.old) }
@@ -157,7 +157,7 @@ fn token_at<T: LongestPrefix>(trie: &T, text: &[u8], place: usize) -> Found
 
 impl AnyCedar {
     fn scan(&self, text: &[u8], next: &mut usize, found: &mut [Found]) -> usize
-        ensures told { spots_from (dictionary_in self.now).state.tree next.old (drop next.old text.now) ≡ take result found.new ++ spots_from (dictionary_in self.now).state.tree next.new (drop next.new text.now) }
+        ensures told { GoesOn (spots_from (dictionary_in self.now).state.tree) text.now next.old next.new (take result found.new) }
         ensures full { (length text.now ≤ next.new) ⊎ (length found.new < result + length (front (dictionary_in self.now).state.tree (drop next.new text.now))) }
         ensures within { (result ≤ length found.new) × (next.old ≤ next.new) }
         ensures ends { (next.new ≤ length text.now) ⊎ (next.new ≡ next.old) }
@@ -169,7 +169,7 @@ impl AnyCedar {
     }
 
     fn cut(&self, text: &[u8], next: &mut usize, found: &mut [Found]) -> usize
-        ensures told { tokens_from (dictionary_in self.now).state.tree next.old (drop next.old text.now) ≡ take result found.new ++ tokens_from (dictionary_in self.now).state.tree next.new (drop next.new text.now) }
+        ensures told { GoesOn (tokens_from (dictionary_in self.now).state.tree) text.now next.old next.new (take result found.new) }
         ensures full { (length text.now ≤ next.new) ⊎ (result ≡ length found.new) }
         ensures within { (result ≤ length found.new) × (next.old ≤ next.new) }
         ensures ends { (next.new ≤ length text.now) ⊎ (next.new ≡ next.old) }
@@ -194,14 +194,14 @@ pub extern "C" fn cedar_scan(
 ) -> usize
     //= A scan writes what keys stand in a text from `next` on, place after place: what stood from the old `next` on is what was written,
     //  and then what stands from the new one on. [by spots_from]
-    ensures told { IsSome (shown_in handle.old) → spots_from (shown_tree handle.old) next.old (drop next.old text.now) ≡ take result found.new ++ spots_from (shown_tree handle.old) next.new (drop next.new text.now) }
+    ensures told { IsSome (shown_in handle.old) → GoesOn (spots_from (shown_tree handle.old)) text.now next.old next.new (take result found.new) }
 
-    //= A scan ends where the text does, or where the keys of a place don't fit in the room left; tokens end where the text or the room
-    //  does. [also cedar_segment]
+    //= A scan ends where the text does, or where the keys of a place don't fit in the room left; tokens and keywords end where the text or
+    //  the room does. [also cedar_segment, cedar_keywords]
     ensures full { (length text.now ≤ next.new) ⊎ (length found.new < result + length (front (shown_tree handle.old) (drop next.new text.now))) }
 
     //= `next` never goes back, nor behind the text's end if it wasn't there, the answer is at most the room, and 0 where the handle is
-    //  closed. [with ends, closed; also cedar_segment]
+    //  closed. [with ends, closed; also cedar_segment, cedar_keywords]
     ensures within { (result ≤ length found.new) × (next.old ≤ next.new) }
     ensures ends { (next.new ≤ length text.now) ⊎ (next.new ≡ next.old) }
     ensures closed { shown_in handle.old ≡ None → result ≡ 0 }
@@ -225,7 +225,7 @@ pub extern "C" fn cedar_segment(
     found: &mut [Found],
 ) -> usize
     //= A cut writes the tokens so too, with -1 for no value, from a place on where one begins. [by tokens_from]
-    ensures told { IsSome (shown_in handle.old) → tokens_from (shown_tree handle.old) next.old (drop next.old text.now) ≡ take result found.new ++ tokens_from (shown_tree handle.old) next.new (drop next.new text.now) }
+    ensures told { IsSome (shown_in handle.old) → GoesOn (tokens_from (shown_tree handle.old)) text.now next.old next.new (take result found.new) }
     ensures full { (length text.now ≤ next.new) ⊎ (result ≡ length found.new) }
     ensures within { (result ≤ length found.new) × (next.old ≤ next.new) }
     ensures ends { (next.new ≤ length text.now) ⊎ (next.new ≡ next.old) }

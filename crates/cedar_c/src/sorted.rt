@@ -1,15 +1,14 @@
 //! A dictionary of sorted pairs, made at once.
 
-ghost use Rattle.std.specs.Prelude.{◌≡◌, ◌⊎◌, ◌*◌, ◌≤◌, length, None, Some, Err, IfOk, IfErr, IfSome};
+ghost use Rattle.std.specs.Prelude.{◌≡◌, ◌⊎◌, None, Some, Err, IfOk, IfErr, IfSome};
 ghost use Rattle.cedar_slots.specs.Places.{IsSlotLimit};
 ghost use Rattle.cedar_model.specs.Table.Layouts.{default_layout, reduced_layout};
-ghost use Rattle.cedar_tree.specs.Queries.{asc, prefixes};
 ghost use Rattle.cedarwood.specs.Words.{IsSorted};
 ghost use Rattle.cedar_c.specs.Content.{content, layout_in};
 ghost use Rattle.cedar_c.specs.Layouts.{dictionary_in, layout_if, layout_of, most_slots};
 ghost use Rattle.cedar_c.specs.Opens.{OpensSorted};
-ghost use Rattle.cedar_c.specs.Pairs.{entries_in, fault_in};
-ghost use Rattle.cedar_c.specs.Status.{position_of, status_of, TellsPosition};
+ghost use Rattle.cedar_c.specs.Pairs.{MayWantSlots, entries_in, fault_in};
+ghost use Rattle.cedar_c.specs.Status.{TellsFault, TellsPosition};
 ghost use Rattle.cedar_c.specs.declared.any.AnyCedar.{AnyCedar};
 
 use crate::any::AnyCedar;
@@ -28,8 +27,7 @@ fn made<L: Layout, const SLOTS: usize>(
     requires limit { IsSlotLimit SLOTS }
     ensures faulty { IfSome (fault_in pairs.now) (λ e. (result ≡ Err e) ⊎ (result ≡ Err CedarError.Memory)) }
     ensures made { IfOk result (IsSorted L.kind settings (entries_in pairs.now)) }
-    ensures refused { fault_in pairs.now ≡ None → IfErr result (λ e.
-        (e ≡ CedarError.Memory) ⊎ ((e ≡ CedarError.SlotLimit) × (SLOTS ≤ 256 * length (prefixes (asc (entries_in pairs.now)))))) }
+    ensures refused { fault_in pairs.now ≡ None → IfErr result (λ e. (e ≡ CedarError.Memory) ⊎ ((e ≡ CedarError.SlotLimit) × MayWantSlots SLOTS pairs.now)) }
 {
     match taken(alloc, pairs) {
         Some(taken) => Trie::from_sorted_bytes_with(alloc, settings, taken.as_slice()),
@@ -49,8 +47,7 @@ impl AnyCedar {
         ensures faulty { IfSome (fault_in pairs.now) (λ e. (result ≡ Err e) ⊎ (result ≡ Err CedarError.Memory)) }
         ensures made { IfOk result (λ a. IsSorted (layout_of a) settings (entries_in pairs.now) (dictionary_in a)) }
         ensures layout { IfOk result (λ a. layout_of a ≡ layout_if is_reduced) }
-        ensures refused { fault_in pairs.now ≡ None → IfErr result (λ e.
-            (e ≡ CedarError.Memory) ⊎ ((e ≡ CedarError.SlotLimit) × (most_slots ≤ 256 * length (prefixes (asc (entries_in pairs.now)))))) }
+        ensures refused { fault_in pairs.now ≡ None → IfErr result (λ e. (e ≡ CedarError.Memory) ⊎ ((e ≡ CedarError.SlotLimit) × MayWantSlots most_slots pairs.now)) }
     {
         if is_reduced {
             let cedar = made(alloc, settings, pairs)?;
@@ -71,8 +68,7 @@ fn boxed(
     ensures faulty { IfSome (fault_in pairs.now) (λ e. (result ≡ Err e) ⊎ (result ≡ Err CedarError.Memory)) }
     ensures made { IfOk result (λ b. IsSorted (layout_of b.value) settings (entries_in pairs.now) (dictionary_in b.value)) }
     ensures layout { IfOk result (λ b. layout_of b.value ≡ layout_if is_reduced) }
-    ensures refused { fault_in pairs.now ≡ None → IfErr result (λ e.
-        (e ≡ CedarError.Memory) ⊎ ((e ≡ CedarError.SlotLimit) × (most_slots ≤ 256 * length (prefixes (asc (entries_in pairs.now)))))) }
+    ensures refused { fault_in pairs.now ≡ None → IfErr result (λ e. (e ≡ CedarError.Memory) ⊎ ((e ≡ CedarError.SlotLimit) × MayWantSlots most_slots pairs.now)) }
 {
     let cedar = AnyCedar::from_sorted(alloc, is_reduced, settings, pairs)?;
     match Box::new(alloc, cedar) {
@@ -92,8 +88,8 @@ fn renew(
 ) -> u32
     ensures made { result ≡ OK → (a : AnyCedar) × (content handle.new ≡ Some a) × IsSorted (layout_of a) settings (entries_in pairs.now) (dictionary_in a) }
     ensures layout { result ≡ OK → layout_in handle.new ≡ Some (layout_if is_reduced) }
-    ensures faulty { IfSome (fault_in pairs.now) (λ e. (result ≡ MEMORY) ⊎ ((result ≡ status_of e) × (position.new ≡ position_of position.old e))) }
-    ensures refused { fault_in pairs.now ≡ None → (result ≡ OK) ⊎ (result ≡ MEMORY) ⊎ ((result ≡ SLOT_LIMIT) × (most_slots ≤ 256 * length (prefixes (asc (entries_in pairs.now))))) }
+    ensures faulty { IfSome (fault_in pairs.now) (TellsFault position.old position.new result) }
+    ensures refused { fault_in pairs.now ≡ None → (result ≡ OK) ⊎ (result ≡ MEMORY) ⊎ ((result ≡ SLOT_LIMIT) × MayWantSlots most_slots pairs.now) }
     ensures kept { (result ≡ OK) ⊎ (content handle.new ≡ content handle.old) }
     ensures stays { TellsPosition result ⊎ (position.new ≡ position.old) }
 {

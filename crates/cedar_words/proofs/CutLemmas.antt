@@ -4,8 +4,8 @@ use Rattle.std.proofs.lemmas.List.{get_or-take, length-drop, length-take-le}
 use Rattle.std.proofs.lemmas.Bool.Decides.{eqb_tells}
 use Rattle.cedarwood.specs.Tree.{Tree, number_at}
 use Rattle.cedarwood.specs.Queries.{front}
-use Rattle.cedar_words.specs.Cuts.{character_price, cost_by, IsAhead, IsCheapestBy, IsCut, IsCutFrom, IsPiece, price}
-use Rattle.cedar_words.specs.Steps.{AreCosts, best_of, cost_at, cut_along, IsFoundBy, step_at}
+use Rattle.cedar_words.specs.Cuts.{character_price, cost_by, IsAhead, IsCheapestBy, IsCut, IsCutFrom, IsLeastCapped, IsPiece, price}
+use Rattle.cedar_words.specs.Steps.{AreCosts, best_cut, best_of, cost_at, cut_along, IsFoundBy, step_at}
 use Rattle.cedar_words.specs.Tokens.{Token}
 use Rattle.cedar_words.proofs.StepLemmas.{along_step, best_least_byte, best_least_key, best_longest_key, best_over, IsStepOver}
 
@@ -61,7 +61,7 @@ along_cut t u text costs are zero place (suc left) low end =
       subst (λ p. IsCutFrom t text p (cut_along (step_at t u text costs) (step.len - 1) (place + 1) left)) behind more,
     )
 
-pub steps_cut : (t : Tree) (u : ℕ → ℕ) (text costs : List ℕ) → AreCosts t u text costs → IsCut t text (cut_along (step_at t u text costs) 0 0 (length text))
+pub steps_cut : (t : Tree) (u : ℕ → ℕ) (text costs : List ℕ) → AreCosts t u text costs → IsCut t text (best_cut t u text costs)
 steps_cut t u text costs are = along_cut t u text costs are 0 0 (length text) (omega arith) (omega arith)
 
 -- they cost what the first step says
@@ -206,8 +206,7 @@ steps_small t u text costs are low short =
     let all = bytes_cost u 0 (length text) low in
     omega (arith, least, all, short)
 
-pub steps_capped : (t : Tree) (u : ℕ → ℕ) (text costs : List ℕ) → AreCosts t u text costs → (other : List Token) → IsCut t text other
-    → min (cost_by u (cut_along (step_at t u text costs) 0 0 (length text))) (2 ^ 64 - 1) ≤ cost_by u other
+pub steps_capped : (t : Tree) (u : ℕ → ℕ) (text costs : List ℕ) → AreCosts t u text costs → IsLeastCapped t u text (best_cut t u text costs)
 steps_capped t u text costs are other is =
     let all : length text - 0 ≡ length text = omega arith in
     let same = along_costs t u text costs are 0 0 (length text) (omega arith) (omega arith) ∙ ap (λ n. cost_at costs n) all in
@@ -222,7 +221,7 @@ steps_exact t u text costs are low short =
     omega (arith, same, small)
 
 -- so they are the cheapest
-pub steps_cheapest : (t : Tree) (u : ℕ → ℕ) (text costs : List ℕ) → AreCosts t u text costs → ((p : ℕ) → u p < 2 ^ 32) → length text < 2 ^ 32 → IsCheapestBy t u text (cut_along (step_at t u text costs) 0 0 (length text))
+pub steps_cheapest : (t : Tree) (u : ℕ → ℕ) (text costs : List ℕ) → AreCosts t u text costs → ((p : ℕ) → u p < 2 ^ 32) → length text < 2 ^ 32 → IsCheapestBy t u text (best_cut t u text costs)
 steps_cheapest t u text costs are low short =
     let exact = steps_exact t u text costs are low short in
     record {
@@ -233,14 +232,14 @@ steps_cheapest t u text costs are low short =
 
 -- what is said of the tokens along the best steps, of the vector that holds them
 pub said_of : {A E : Type 0} (t : Tree) (u : ℕ → ℕ) (text : List ℕ) (P : List Token → Type 0) (result : Result (Vec Token A) E) → IfOk result (λ tokens. IsFoundBy t u text tokens.items)
-    → ((costs : List ℕ) → AreCosts t u text costs → P (cut_along (step_at t u text costs) 0 0 (length text))) → IfOk result (λ tokens. P tokens.items)
+    → ((costs : List ℕ) → AreCosts t u text costs → P (best_cut t u text costs)) → IfOk result (λ tokens. P tokens.items)
 said_of t u text P (Ok tokens) found holds = subst P (sym found.along) (holds found.costs found.are)
 said_of t u text P (Err e) found holds = tt
 
 -- what is found, in a vector, by costs that are handed on as a slice
 pub found_by : {A E : Type 0} (t : Tree) (u : ℕ → ℕ) (text slice costs : List ℕ) (result : Result (Vec Token A) E) → slice ≡ costs → AreCosts t u text costs
-    → IfOk result (λ tokens. tokens.items ≡ cut_along (step_at t u text slice) 0 0 (length text)) → IfOk result (λ tokens. IsFoundBy t u text tokens.items)
-found_by t u text slice costs (Ok tokens) same are is = record { costs = costs; are = are; along = is ∙ ap (λ s. cut_along (step_at t u text s) 0 0 (length text)) same }
+    → IfOk result (λ tokens. tokens.items ≡ best_cut t u text slice) → IfOk result (λ tokens. IsFoundBy t u text tokens.items)
+found_by t u text slice costs (Ok tokens) same are is = record { costs = costs; are = are; along = is ∙ ap (λ s. best_cut t u text s) same }
 found_by t u text slice costs (Err e) same are is = tt
 
 -- a character's price is no more than is said

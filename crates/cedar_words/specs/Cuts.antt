@@ -1,5 +1,5 @@
 -- Cuts of a text into keys and single bytes, and what they cost.
-use Rattle.std.specs.Prelude.{◌≡◌, ℕ, ◌+◌, ◌<◌, ◌≤◌, ◌⊎◌, nat_le, if◌then◌else◌, ℤ, unsigned_abs, List, [], ◌∷◌, length, drop, take, slice_index_or, Option, Some, None, MatchOption}
+use Rattle.std.specs.Prelude.{◌≡◌, ℕ, ◌+◌, ◌-◌, ◌^◌, ◌<◌, ◌≤◌, ◌⊎◌, min, nat_le, if◌then◌else◌, ℤ, unsigned_abs, List, [], ◌∷◌, length, drop, take, slice_index_or, Option, Some, None, MatchOption}
 use Rattle.cedarwood.specs.Tree.{Tree, number_at}
 use Rattle.cedar_words.specs.Tokens.{Token}
 
@@ -50,6 +50,14 @@ pub record IsCheapestBy (tree : Tree) (unknown : ℕ → ℕ) (text : List ℕ) 
   pub cut : IsCut tree text tokens
   pub least : (other : List Token) → IsCut tree text other → cost_by unknown tokens ≤ cost_by unknown other
   pub ahead : (other : List Token) → IsCut tree text other → cost_by unknown other ≤ cost_by unknown tokens → IsAhead tokens other
+
+-- a text has at most one such cut
+abbrev pub HasOneCheapest : Tree → (ℕ → ℕ) → List ℕ → Type 0
+HasOneCheapest tree unknown text = (one other : List Token) → IsCheapestBy tree unknown text one → IsCheapestBy tree unknown text other → one ≡ other
+
+-- no cut costs less than these tokens, where sums above 2 ^ 64 - 1 count as 2 ^ 64 - 1
+abbrev pub IsLeastCapped : Tree → (ℕ → ℕ) → List ℕ → List Token → Type 0
+IsLeastCapped tree unknown text tokens = (other : List Token) → IsCut tree text other → min (cost_by unknown tokens) (2 ^ 64 - 1) ≤ cost_by unknown other
 
 -- where each such byte costs the same
 abbrev pub IsCheapest : Tree → ℕ → List ℕ → List Token → Type 0

@@ -26,6 +26,10 @@ spots_from tree place (b ∷ rest) = map (spot place) (front tree (b ∷ rest)) 
 abbrev pub spots_left : Tree → List ℕ → ℕ → List (ℤ × ℕ) → List Spot
 spots_left tree text place fronts = map (spot place) fronts ++ spots_from tree (place + 1) (drop (place + 1) text)
 
+-- the same, where the place and the walk are one value
+abbrev pub spots_at : Tree → List ℕ → ℕ × List (ℤ × ℕ) → List Spot
+spots_at tree text at = spots_left tree text at.0 at.1
+
 -- a token that is a key
 abbrev pub keyword_of : Token → Option Spot
 keyword_of t = option_map (λ v. (t.0, t.1, v)) t.2

@@ -60,8 +60,12 @@ cut_along steps (suc taken) place (suc left) = cut_along steps taken (place + 1)
 cut_along steps zero place (suc left) =
     (place, (steps (suc left)).len, (steps (suc left)).value) ∷ cut_along steps ((steps (suc left)).len - 1) (place + 1) left
 
+-- the tokens that the best steps lead along over a text, where it is known what its last bytes cost
+abbrev pub best_cut : Tree → (ℕ → ℕ) → List ℕ → List ℕ → List Token
+best_cut tree unknown text costs = cut_along (step_at tree unknown text costs) 0 0 (length text)
+
 -- the tokens along the best steps over a text, by what its last bytes cost
 pub record IsFoundBy (tree : Tree) (unknown : ℕ → ℕ) (text : List ℕ) (tokens : List Token) : Type 0 where
   pub costs : List ℕ
   pub are : AreCosts tree unknown text costs
-  pub along : tokens ≡ cut_along (step_at tree unknown text costs) 0 0 (length text)
+  pub along : tokens ≡ best_cut tree unknown text costs

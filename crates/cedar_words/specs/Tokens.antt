@@ -28,6 +28,11 @@ tokens_behind tree zero place (b ∷ rest) =
     let found = longest tree (b ∷ rest) in
     (place, len_of found, found_number found) ∷ tokens_behind tree (len_of found - 1) (place + 1) rest
 
+-- the tokens of these bytes from a place on are the first one, and then those from its end on
+abbrev pub TokensGoOn : Tree → ℕ → List ℕ → Type 0
+TokensGoOn tree place text = 0 < length text → (found : Option (ℤ × ℕ)) → longest tree text ≡ found
+    → tokens_behind tree 0 place text ≡ (place, len_of found, found_number found) ∷ tokens_behind tree 0 (place + len_of found) (drop (len_of found) text)
+
 -- the tokens of a text
 abbrev pub segments : Tree → List ℕ → List Token
 segments tree text = tokens_behind tree 0 0 text

@@ -1,8 +1,8 @@
 //! The cut of least cost: a key costs its value, and each byte without a value costs the same.
 
-ghost use Rattle.std.specs.Prelude.{◌≡◌, ◌+◌, ◌<◌, ◌≤◌, ◌^◌, ◌-◌, List, length, min, IfOk};
-ghost use Rattle.cedar_words.specs.Steps.{AreCosts, AreWithin, IsFoundBy, best_of, better_of, cut_along, key_step, step_at, step_over};
-ghost use Rattle.cedar_words.specs.Words.{IsCheapest, IsCheapestBy, IsCut, Token, character_price, cost_by, cost_of};
+ghost use Rattle.std.specs.Prelude.{◌≡◌, ◌+◌, ◌<◌, ◌≤◌, ◌^◌, length, IfOk};
+ghost use Rattle.cedar_words.specs.Steps.{AreCosts, AreWithin, IsFoundBy, best_cut, best_of, better_of, key_step, step_over};
+ghost use Rattle.cedar_words.specs.Words.{IsCheapest, IsCheapestBy, IsCut, IsLeastCapped, character_price};
 
 use cedarwood::{Layout, PrefixIter, Trie, Walked};
 use std::alloc::{AllocError, Allocator};
@@ -185,7 +185,7 @@ fn tokens_along<T: FirstStep, P: BytePrice, B: Allocator>(
     costs: &[u64],
 ) -> Result<Vec<(usize, usize, Option<i32>), B>, AllocError>
     requires covered { length costs.now ≡ length text.now + 1 }
-    ensures { IfOk result (λ tokens. tokens.items ≡ cut_along (step_at (T.tree trie.now) (P.price_at unknown.now text.now) text.now costs.now) 0 0 (length text.now)) }
+    ensures { IfOk result (λ tokens. tokens.items ≡ best_cut (T.tree trie.now) (P.price_at unknown.now text.now) text.now costs.now) }
 {
     let mut tokens = Vec::new(alloc);
     let mut place = 0;
@@ -244,7 +244,7 @@ pub fn cheapest<L: Layout, const SLOTS: usize, A: Allocator + Copy, B: Allocator
     ensures least { length text.now < 2 ^ 32 → IfOk result (λ tokens. IsCheapest trie.now.state.tree unknown text.now tokens.items) }
 
     //= No cut of any text costs less, where sums above 2^64 - 1 count as 2^64 - 1.
-    ensures capped { IfOk result (λ tokens. (other : List Token) → IsCut trie.now.state.tree text.now other → min (cost_of unknown tokens.items) (2 ^ 64 - 1) ≤ cost_of unknown other) }
+    ensures capped { IfOk result (λ tokens. IsLeastCapped trie.now.state.tree (λ _. unknown) text.now tokens.items) }
 {
     cut_by(alloc, trie, text, &EachByte { cost: unknown })
 }
@@ -281,8 +281,7 @@ pub fn cheapest_by_characters<
     ensures least { length text.now < 2 ^ 32 → IfOk result (λ tokens. IsCheapestBy trie.now.state.tree (character_price unknown text.now) text.now tokens.items) }
 
     //= By characters too no cut of any text costs less, where sums above 2^64 - 1 count as 2^64 - 1.
-    ensures capped { IfOk result (λ tokens. (other : List Token) → IsCut trie.now.state.tree text.now other
-        → min (cost_by (character_price unknown text.now) tokens.items) (2 ^ 64 - 1) ≤ cost_by (character_price unknown text.now) other) }
+    ensures capped { IfOk result (λ tokens. IsLeastCapped trie.now.state.tree (character_price unknown text.now) text.now tokens.items) }
 {
     cut_by(alloc, trie, text, &EachCharacter { cost: unknown })
 }

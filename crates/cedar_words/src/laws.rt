@@ -1,9 +1,9 @@
 //! Laws of the tokens of a text.
 
-ghost use Rattle.std.specs.Prelude.{◌≡◌, ℕ, ◌+◌, ◌<◌, ◌≤◌, ◌↔◌, ℤ, List, [], ◌∷◌, length, drop, All, Option};
+ghost use Rattle.std.specs.Prelude.{◌≡◌, ℕ, ◌+◌, ◌≤◌, ◌↔◌, List, [], length, All};
 ghost use Rattle.std.specs.List.{Contains};
 ghost use Rattle.cedarwood.specs.Tree.{Tree};
-ghost use Rattle.cedar_words.specs.Words.{bytes_in, AreAdjacent, IsCheapestBy, IsCut, IsKeyIn, IsLeftmost, IsLongest, Spot, Token, keywords_in, len_of, longest, found_number, segments, spots_from, tokens_behind};
+ghost use Rattle.cedar_words.specs.Words.{AreAdjacent, HasOneCheapest, IsCut, IsKeyIn, IsLeftmost, IsLongest, Spot, Token, TokensGoOn, bytes_in, keywords_in, segments, spots_from, tokens_behind};
 
 /// The tokens of a text cover it in order: each begins where the one before it ended, has one byte or more, and together they have
 /// the bytes of the text.
@@ -32,8 +32,7 @@ pub fn tokens_are_longest()
 pub fn tokens_go_on()
     //= The tokens from a place on are the one there, and then those from its end on. [with more]
     ensures ends { (tree : Tree) (place : ℕ) → tokens_behind tree 0 place [] ≡ [] }
-    ensures more { (tree : Tree) (place : ℕ) (text : List ℕ) → 0 < length text → (found : Option (ℤ × ℕ)) → longest tree text ≡ found
-        → tokens_behind tree 0 place text ≡ (place, len_of found, found_number found) ∷ tokens_behind tree 0 (place + len_of found) (drop (len_of found) text) }
+    ensures more { (tree : Tree) (place : ℕ) (text : List ℕ) → TokensGoOn tree place text }
 {}
 
 /// The tokens of any cut cover the text in order, as those of `segment` do.
@@ -46,7 +45,7 @@ pub fn cuts_cover()
 /// One text has one cheapest cut: so the answer hangs on the tree alone, and is the same in both layouts.
 pub fn cheapest_is_one()
     //= Two cuts that are both the cheapest, and first among those that cost as little, are the same.
-    ensures { (tree : Tree) (unknown : ℕ → ℕ) (text : List ℕ) (one other : List Token) → IsCheapestBy tree unknown text one → IsCheapestBy tree unknown text other → one ≡ other }
+    ensures { (tree : Tree) (unknown : ℕ → ℕ) (text : List ℕ) → HasOneCheapest tree unknown text }
 {}
 
 /// The matches of a text are just the keys that stand in it.

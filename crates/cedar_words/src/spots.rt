@@ -1,9 +1,9 @@
 //! All keys that stand in a text.
 
-ghost use Rattle.std.specs.Prelude.{◌≡◌, ◌+◌, ◌-◌, ◌<◌, ◌≤◌, ◌^◌, ⊤, List, [], ◌∷◌, length, drop, MatchOption};
+ghost use Rattle.std.specs.Prelude.{◌≡◌, ◌-◌, ◌≤◌, ⊤, List, length, drop};
 ghost use Rattle.std.specs.Iterator.{item_count, YieldsFirst};
 ghost use Rattle.cedar_words.specs.Steps.{AreWithin};
-ghost use Rattle.cedar_words.specs.Words.{Spot, spots_from, spots_left};
+ghost use Rattle.cedar_words.specs.Words.{Spot, spots_at, spots_from};
 
 use crate::costs::NextFront;
 use cedarwood::{Layout, PrefixIter, Trie, Walked};
@@ -123,9 +123,7 @@ fn next_match<'a, T: Fronts>(
 ) -> Option<(usize, usize, i32)>
     requires place { place.old ≤ length text.now }
     requires within { AreWithin (length text.now - place.old) walk.old.rest }
-    ensures gives { MatchOption result
-        ((spots_left (T.fronts_of trie.now) text.now place.old walk.old.rest ≡ []) × (spots_left (T.fronts_of trie.now) text.now place.new walk.new.rest ≡ []))
-        (λ s. spots_left (T.fronts_of trie.now) text.now place.old walk.old.rest ≡ s ∷ spots_left (T.fronts_of trie.now) text.now place.new walk.new.rest) }
+    ensures gives { YieldsFirst (spots_at (T.fronts_of trie.now) text.now) (place.old, walk.old.rest) result (place.new, walk.new.rest) }
     ensures place { place.new ≤ length text.now }
     ensures within { AreWithin (length text.now - place.new) walk.new.rest }
 {

@@ -1,5 +1,5 @@
-use Rattle.std.proofs.Common.{◌-◌, ◌^◌, ◌≤◌, ℕ, List, min}
-use Rattle.cedar_words.specs.Cuts.{character_price, cost_by, IsCheapestBy, IsCut}
+use Rattle.std.proofs.Common.{ℕ, List}
+use Rattle.cedar_words.specs.Cuts.{character_price, IsCheapestBy, IsCut, IsLeastCapped}
 use Rattle.cedar_words.specs.Tokens.{Token}
 use Rattle.cedar_words.proofs.CutLemmas.{character_small, said_of, steps_capped, steps_cheapest, steps_cut}
 use Rattle.cedar_words.proofs.costs.cheapest_by_characters.Goals as goal
@@ -23,4 +23,4 @@ returns-clause-capped g c =
     let t = c.args.trie.now.state.tree in
     let text = c.args.text.now in
     let u : ℕ → ℕ = character_price c.args.unknown text in
-    said_of t u text (λ (tokens : List Token). (other : List Token) → IsCut t text other → min (cost_by u tokens) (2 ^ 64 - 1) ≤ cost_by u other) c.cut_by.result c.cut_by.ensures (λ costs are. steps_capped t u text costs are)
+    said_of t u text (λ (tokens : List Token). IsLeastCapped t u text tokens) c.cut_by.result c.cut_by.ensures (λ costs are. steps_capped t u text costs are)

@@ -1,0 +1,145 @@
+//! The cut of least cost of a whole text, written into a buffer of the caller's.
+
+ghost use Rattle.std.specs.Prelude.{◌≡◌, ◌⊎◌, ◌++◌, ◌<◌, ◌≤◌, ◌↔◌, None, IfSome, length, map, drop, set};
+ghost use Rattle.cedar_c.specs.Cuts.{IsLeastCut, LacksPlaces, WritesLeastCut, prices};
+ghost use Rattle.cedar_c.specs.Layouts.{dictionary_in};
+ghost use Rattle.cedar_c.specs.Readings.{shown_in, shown_tree};
+ghost use Rattle.cedar_c.specs.Scans.{token_spot};
+
+use crate::any::AnyCedar;
+use crate::reading::Reading;
+use crate::scans::Found;
+use crate::status::{CLOSED, MEMORY, NO_ROOM, OK};
+use cedar_words::{cheapest, cheapest_by_characters};
+use cedarwood::{Layout, Trie};
+use std::alloc::Global;
+
+/// Cuts a whole text into keys and single bytes so that they cost the least together, writes these tokens into the first places of a
+/// buffer, and tells how many they are. A key costs its value. A byte without a value, which is told by the value -1, costs `unknown`; if
+/// `by_characters`, one that goes on with a character of UTF-8 costs nothing. Of cuts that cost the same it is the one with the longer
+/// token where they first differ, and with a key rather than a byte. There are never more tokens than bytes. It asks for 8 bytes of memory
+/// for each byte of the text, and for a list of the tokens.
+///
+/// # Errors
+/// `CLOSED` where the handle is closed, `NO_ROOM` where there are more tokens than the buffer has places: then it tells how many; `MEMORY`
+/// where a request for memory was refused. After an error the buffer is as it was.
+#[unsafe(no_mangle)]
+pub extern "C" fn cedar_cheapest(
+    handle: &mut Reading,
+    alloc: Global,
+    text: &[u8],
+    unknown: u32,
+    by_characters: bool,
+    found: &mut [Found],
+    needed: &mut usize,
+) -> u32
+    //= A cut of least cost answers `CLOSED` exactly if the handle is closed, `OK` only if all its tokens fit, `NO_ROOM` only if they don't,
+    //  and else `MEMORY`; after any error the buffer is as it was. [with refused, cut, room]
+    ensures closed { (result ≡ CLOSED) ↔ (shown_in handle.old ≡ None) }
+
+    //= It writes the tokens of the text's cut of least cost, as `cheapest` or `cheapest_by_characters` has it, into the first places of a
+    //  buffer, and leaves the others; `needed` is how many they are, and stays where neither `OK` nor `NO_ROOM` is answered. [with room,
+    //  stays; by IsLeastCut, prices]
+    ensures cut { result ≡ OK → WritesLeastCut (shown_tree handle.old) (prices by_characters unknown text.now) text.now found.old found.new needed.new }
+    ensures room { result ≡ NO_ROOM → LacksPlaces (shown_tree handle.old) (prices by_characters unknown text.now) text.now found.old needed.new }
+    ensures refused { (result ≡ OK) ⊎ (((result ≡ CLOSED) ⊎ (result ≡ MEMORY) ⊎ (result ≡ NO_ROOM)) × (found.new ≡ found.old)) }
+    ensures stays { (result ≡ OK) ⊎ (result ≡ NO_ROOM) ⊎ (needed.new ≡ needed.old) }
+    ensures kept { handle.new ≡ handle.old }
+{
+    if !handle.is_open() {
+        return CLOSED;
+    }
+    handle
+        .shown
+        .see()
+        .dictionary()
+        .cheapest(alloc, text, unknown, by_characters, found, needed)
+}
+
+impl AnyCedar {
+    /// Writes the tokens of a text's cut of least cost into the first places of a buffer, and tells how many they are.
+    fn cheapest(
+        &self,
+        alloc: Global,
+        text: &[u8],
+        unknown: u32,
+        by_characters: bool,
+        found: &mut [Found],
+        needed: &mut usize,
+    ) -> u32
+        ensures cut { result ≡ OK → WritesLeastCut (dictionary_in self.now).state.tree (prices by_characters unknown text.now) text.now found.old found.new needed.new }
+        ensures room { result ≡ NO_ROOM → LacksPlaces (dictionary_in self.now).state.tree (prices by_characters unknown text.now) text.now found.old needed.new }
+        ensures refused { (result ≡ OK) ⊎ (((result ≡ MEMORY) ⊎ (result ≡ NO_ROOM)) × (found.new ≡ found.old)) }
+        ensures stays { (result ≡ OK) ⊎ (result ≡ NO_ROOM) ⊎ (needed.new ≡ needed.old) }
+    {
+        match self.least_cut(alloc, text, unknown, by_characters) {
+            Some(tokens) => write_whole(tokens.as_slice(), found, needed),
+            None => MEMORY,
+        }
+    }
+
+    fn least_cut(
+        &self,
+        alloc: Global,
+        text: &[u8],
+        unknown: u32,
+        by_characters: bool,
+    ) -> Option<Vec<(usize, usize, Option<i32>), Global>>
+        ensures { IfSome result (λ tokens. IsLeastCut (dictionary_in self.now).state.tree (prices by_characters unknown text.now) text.now tokens.items) }
+    {
+        match self {
+            AnyCedar::Default(cedar) => either_cut(cedar, alloc, text, unknown, by_characters),
+            AnyCedar::Reduced(cedar) => either_cut(cedar, alloc, text, unknown, by_characters),
+        }
+    }
+}
+
+/// The tokens of a text's cut of least cost, or `None` where memory is refused.
+fn either_cut<L: Layout, const SLOTS: usize>(
+    trie: &Trie<L, SLOTS, Global>,
+    alloc: Global,
+    text: &[u8],
+    unknown: u32,
+    by_characters: bool,
+) -> Option<Vec<(usize, usize, Option<i32>), Global>>
+    ensures { IfSome result (λ tokens. IsLeastCut trie.now.state.tree (prices by_characters unknown text.now) text.now tokens.items) }
+{
+    if by_characters {
+        cheapest_by_characters(alloc, trie, text, unknown).ok()
+    } else {
+        cheapest(alloc, trie, text, unknown).ok()
+    }
+}
+
+/// Writes some tokens into the first places of a buffer, if it has room for all, and tells how many they are.
+fn write_whole(
+    tokens: &[(usize, usize, Option<i32>)],
+    found: &mut [Found],
+    needed: &mut usize,
+) -> u32
+    ensures needed { needed.new ≡ length tokens.now }
+    ensures written { result ≡ OK → (found.new ≡ map token_spot tokens.now ++ drop (length tokens.now) found.old) × (length tokens.now ≤ length found.old) }
+    ensures no_room { (result ≡ OK) ⊎ ((result ≡ NO_ROOM) × (length found.old < length tokens.now) × (found.new ≡ found.old)) }
+{
+    *needed = tokens.len();
+    if found.len() < tokens.len() {
+        return NO_ROOM;
+    }
+    for at in 0..tokens.len() {
+        put_token(found, at, tokens[at]);
+    }
+    OK
+}
+
+/// Writes a token at a place.
+fn put_token(found: &mut [Found], at: usize, token: (usize, usize, Option<i32>))
+    requires { at < length found.old }
+    ensures { found.new ≡ set found.old at (token_spot token) }
+{
+    let (place, length, value) = token;
+    found[at] = Found {
+        place,
+        length,
+        value: value.unwrap_or(-1),
+    };
+}

@@ -1,0 +1,94 @@
+//! The keywords of a text, of which a buffer takes as many as it has room for.
+
+ghost use Rattle.std.specs.Prelude.{◌≡◌, ◌⊎◌, ◌++◌, ◌<◌, ◌≤◌, length, take, drop, None, IsSome};
+ghost use Rattle.cedar_c.specs.Layouts.{dictionary_in};
+ghost use Rattle.cedar_c.specs.Readings.{shown_in, shown_tree};
+ghost use Rattle.cedar_c.specs.Scans.{GoesOn, WritesOn, keywords_from};
+
+use crate::any::AnyCedar;
+use crate::reading::Reading;
+use crate::scans::{Found, put_at};
+use cedar_words::LongestPrefix;
+
+/// Writes the keywords of a text from a place on, as far as there is room.
+fn keywords<T: LongestPrefix>(trie: &T, text: &[u8], next: &mut usize, found: &mut [Found]) -> usize
+    ensures told { GoesOn (keywords_from (T.tree trie.now)) text.now next.old next.new (take result found.new) }
+    ensures full { (length text.now ≤ next.new) ⊎ (result ≡ length found.new) }
+    ensures within { (result ≤ length found.new) × (next.old ≤ next.new) }
+    ensures ends { (next.new ≤ length text.now) ⊎ (next.new ≡ next.old) }
+{
+    let mut count = 0;
+    while *next < text.len() && count < found.len() {
+        count = pass_token(trie, text, next, found, count);
+    }
+    count
+}
+
+/// Passes the token at a place of a text. If it is a key, this is written behind the first `count` places of a buffer. It says how many
+/// places are written then.
+fn pass_token<T: LongestPrefix>(
+    trie: &T,
+    text: &[u8],
+    next: &mut usize,
+    found: &mut [Found],
+    count: usize,
+) -> usize
+    requires place { next.old < length text.now }
+    requires room { count < length found.old }
+    ensures told { WritesOn (keywords_from (T.tree trie.now)) text.now next.old next.new (take count found.old) (take result found.new) }
+    ensures within { (next.old < next.new) × (next.new ≤ length text.now) }
+    ensures count { result ≤ length found.new }
+    ensures room { length found.new ≡ length found.old }
+{
+    match trie.longest_prefix(&text[*next..]) {
+        Some(front) => {
+            put_at(found, count, *next, front);
+            *next += front.1 + 1;
+            count + 1
+        }
+        None => {
+            *next += 1;
+            count
+        }
+    }
+}
+
+impl AnyCedar {
+    fn keywords(&self, text: &[u8], next: &mut usize, found: &mut [Found]) -> usize
+        ensures told { GoesOn (keywords_from (dictionary_in self.now).state.tree) text.now next.old next.new (take result found.new) }
+        ensures full { (length text.now ≤ next.new) ⊎ (result ≡ length found.new) }
+        ensures within { (result ≤ length found.new) × (next.old ≤ next.new) }
+        ensures ends { (next.new ≤ length text.now) ⊎ (next.new ≡ next.old) }
+    {
+        match self {
+            AnyCedar::Default(cedar) => keywords(cedar, text, next, found),
+            AnyCedar::Reduced(cedar) => keywords(cedar, text, next, found),
+        }
+    }
+}
+
+/// Writes the keywords of a text from a place on, leftmost longest: of the keys that begin first the longest, and so on from its end. It
+/// ends where the text or the room does, and `next` is the end of the last one then, so that a call from there goes on. It returns how many
+/// places of the buffer it wrote; what the others have then is left open. It takes no memory.
+#[unsafe(no_mangle)]
+pub extern "C" fn cedar_keywords(
+    handle: &mut Reading,
+    text: &[u8],
+    next: &mut usize,
+    found: &mut [Found],
+) -> usize
+    //= Keywords are written so too, from a place on where a token begins: what stood from the old `next` on is what was written, and then
+    //  what stands from the new one on. [by keywords_from]
+    ensures told { IsSome (shown_in handle.old) → GoesOn (keywords_from (shown_tree handle.old)) text.now next.old next.new (take result found.new) }
+    ensures full { (length text.now ≤ next.new) ⊎ (result ≡ length found.new) }
+    ensures within { (result ≤ length found.new) × (next.old ≤ next.new) }
+    ensures ends { (next.new ≤ length text.now) ⊎ (next.new ≡ next.old) }
+    ensures closed { shown_in handle.old ≡ None → result ≡ 0 }
+    ensures kept { handle.new ≡ handle.old }
+{
+    if !handle.is_open() {
+        *next = text.len().max(*next);
+        return 0;
+    }
+    handle.shown.see().dictionary().keywords(text, next, found)
+}
