@@ -1,4 +1,5 @@
 pub mod ClosedLemmas
+pub mod EntryLemmas
 pub mod FileLemmas
 pub mod LengthLemmas
 pub mod LoanLemmas

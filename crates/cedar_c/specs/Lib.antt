@@ -1,4 +1,5 @@
 pub mod Content
+pub mod Entries
 pub mod Files
 pub mod Layouts
 pub mod Lending

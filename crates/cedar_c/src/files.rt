@@ -62,7 +62,7 @@ pub extern "C" fn cedar_load_reduced(
 }
 
 /// Opens a handle with the dictionary that a file's bytes are of, if they are of one of this layout.
-fn renew(
+pub(crate) fn renew(
     handle: &mut Handle,
     alloc: Global,
     is_reduced: bool,

@@ -9,6 +9,8 @@ mod any;
 mod asks;
 mod calls;
 mod copies;
+mod either;
+mod entries;
 mod erasing;
 mod figures;
 mod files;
