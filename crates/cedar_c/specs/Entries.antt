@@ -1,15 +1,28 @@
 -- A page of entries with their keys, written into two buffers: places, and the bytes of the keys.
-use Rattle.std.specs.Prelude.{◌≡◌, ◌⊎◌, ◌+◌, ◌-◌, ◌++◌, ℕ, suc, zero, true, List, [], ◌∷◌, drop, if◌then◌else◌, length, nat_eq, nat_lt, None, Option, Some, IfSome}
+use Rattle.std.specs.Prelude.{◌≡◌, ◌⊎◌, ◌+◌, ◌-◌, ◌<◌, ◌++◌, ℕ, suc, zero, false, true, List, [], ◌∷◌, drop, if◌then◌else◌, length, nat_eq, nat_lt, None, Option, Some, IfSome}
 use Rattle.std.specs.List.{filter, starts_with}
 use Rattle.std.specs.Cmp.Lexicographic.{slice_cmp}
 use Rattle.std.specs.Ordering.{is_gt, nat_cmp}
+use Rattle.cedar_model.specs.Table.TableFields.{Fields}
 use Rattle.cedar_tree.specs.Queries.{Entry, walk}
 use Rattle.cedar_tree.specs.State.{State}
 use Rattle.cedar_tree.specs.Tree.{Tree}
+use Rattle.cedar_walk.specs.declared.visits.Numbered.{Numbered}
 use Rattle.cedar_walk.specs.Ranges.{entries_with}
+use Rattle.cedar_walk.specs.Visits.{path_to}
+use Rattle.cedar_c.specs.Layouts.{dictionary_in}
 use Rattle.cedar_c.specs.Pairs.{keys_in}
+use Rattle.cedar_c.specs.declared.any.AnyCedar.{AnyCedar}
 use Rattle.cedar_c.specs.declared.scans.Found.{Found}
 use Rattle.cedar_c.specs.declared.status.TheConstants.{OK, NO_ROOM, NOT_ASCENDING}
+
+-- the key of a node that a walk below the path `start` has come to
+abbrev pub key_at : Fields → List ℕ → Numbered → List ℕ
+key_at T start at = start ++ path_to T at.depth at.slot
+
+-- a page goes no further at this key: it has no room, or another prefix
+abbrev pub Stops : List ℕ → ℕ → List ℕ → Type 0
+Stops prefix room key = (room < length key) ⊎ (starts_with nat_eq key prefix ≡ false)
 
 -- the entries of a tree behind a key by bytes, in the order of the walk
 abbrev pub entries_behind : Tree → List ℕ → List Entry
@@ -65,3 +78,8 @@ pub record TellsPage (prefix : List ℕ) (entries : List Entry) (found told : Li
 pub record TellsEntries (s : State) (prefix behind : List ℕ) (found told : List Found) (bytes written : List ℕ) (count counted needed wanted status : ℕ) : Type 0 where
   pub page : GoesOn s behind → TellsPage prefix (following s.tree prefix behind) found told bytes written count counted needed wanted status
   pub unordered : (GoesOn s behind → ⊥) → (status ≡ NOT_ASCENDING) × WritesNothing found told bytes written count counted × (wanted ≡ needed)
+
+-- the same of a dictionary of either layout
+abbrev pub PageOf : List ℕ → List ℕ → List Found → List Found → List ℕ → List ℕ → ℕ → ℕ → ℕ → ℕ → ℕ → AnyCedar → Type 0
+PageOf prefix behind found told bytes written count counted needed wanted status a =
+    TellsEntries (dictionary_in a).state prefix behind found told bytes written count counted needed wanted status

@@ -1,13 +1,12 @@
 //! Entries with their keys, a page of them a call.
 
-ghost use Rattle.std.specs.Prelude.{◌≡◌, ◌⊎◌, ◌↔◌, ◌+◌, ◌-◌, ◌++◌, ◌<◌, ◌≤◌, [], false, length, nat_eq, None, IfSome, IsSome, IsTrue, take, true};
+ghost use Rattle.std.specs.Prelude.{◌≡◌, ◌↔◌, ◌+◌, ◌-◌, ◌++◌, ◌≤◌, [], length, nat_eq, None, IfSome, IsSome, IsTrue, take, true};
 ghost use Rattle.std.specs.List.{starts_with};
 ghost use Rattle.cedar_model.specs.Meaning.WellFormed.{IsWellFormed, tree_of};
 ghost use Rattle.cedar_tree.specs.Tree.{number_at};
-ghost use Rattle.cedar_walk.specs.Visits.{ComesToFirst, IsNumberedBelow, path_to};
+ghost use Rattle.cedar_walk.specs.Visits.{ComesToFirst, IsNumberedBelow};
 ghost use Rattle.cedarwood.specs.RangeWalks.{IsRangePlace, ranged};
-ghost use Rattle.cedar_c.specs.Entries.{entries_behind, lacking, TellsEntries, TellsPage, WritesNothing, WritesPage};
-ghost use Rattle.cedar_c.specs.Layouts.{dictionary_in};
+ghost use Rattle.cedar_c.specs.Entries.{entries_behind, key_at, lacking, PageOf, Stops, TellsEntries, TellsPage, WritesNothing, WritesPage};
 ghost use Rattle.cedar_c.specs.Readings.{shown_in};
 
 use crate::any::AnyCedar;
@@ -23,7 +22,7 @@ fn write_key<T: Walked>(trie: &T, start: &[u8], at: Numbered, key: &mut [u8])
     requires well_formed { IsWellFormed T.slots (T.shown trie.now) }
     requires below { IsNumberedBelow (T.shown trie.now) start.now at.depth at.slot }
     requires room { length key.old ≡ length start.now + at.depth }
-    ensures { key.new ≡ start.now ++ path_to (T.shown trie.now) at.depth at.slot }
+    ensures { key.new ≡ key_at (T.shown trie.now) start.now at }
 {
     key[..start.len()].copy_from_slice(start);
     trie.write_path(at.slot, at.depth, key);
@@ -33,7 +32,7 @@ fn write_key<T: Walked>(trie: &T, start: &[u8], at: Numbered, key: &mut [u8])
 fn key_length<T: Walked>(trie: &T, start: &[u8], at: Numbered) -> usize
     requires well_formed { IsWellFormed T.slots (T.shown trie.now) }
     requires below { IsNumberedBelow (T.shown trie.now) start.now at.depth at.slot }
-    ensures whole { result ≡ length (start.now ++ path_to (T.shown trie.now) at.depth at.slot) }
+    ensures whole { result ≡ length (key_at (T.shown trie.now) start.now at) }
     ensures parts { result ≡ length start.now + at.depth }
 {
     let _ = trie;
@@ -54,12 +53,11 @@ fn write_entry<T: Walked>(
     requires below { IsNumberedBelow (T.shown trie.now) start.now at.depth at.slot }
     requires used { used ≤ length bytes.old }
     ensures kept { (take used bytes.new ≡ take used bytes.old) × (length bytes.new ≡ length bytes.old) }
-    ensures left { result ≡ None → (length bytes.old - used < length (start.now ++ path_to (T.shown trie.now) at.depth at.slot))
-        ⊎ (starts_with nat_eq (start.now ++ path_to (T.shown trie.now) at.depth at.slot) prefix.now ≡ false) }
-    ensures length { IfSome result (λ len. (len ≡ length (start.now ++ path_to (T.shown trie.now) at.depth at.slot)) × (used + len ≤ length bytes.old)) }
-    ensures begins { IfSome result (λ _. starts_with nat_eq (start.now ++ path_to (T.shown trie.now) at.depth at.slot) prefix.now ≡ true) }
+    ensures left { result ≡ None → Stops prefix.now (length bytes.old - used) (key_at (T.shown trie.now) start.now at) }
+    ensures length { IfSome result (λ len. (len ≡ length (key_at (T.shown trie.now) start.now at)) × (used + len ≤ length bytes.old)) }
+    ensures begins { IfSome result (λ _. starts_with nat_eq (key_at (T.shown trie.now) start.now at) prefix.now ≡ true) }
     ensures written { IfSome result (λ len.
-        take (used + len) bytes.new ≡ take used bytes.old ++ (start.now ++ path_to (T.shown trie.now) at.depth at.slot)) }
+        take (used + len) bytes.new ≡ take used bytes.old ++ (key_at (T.shown trie.now) start.now at)) }
 {
     let len = key_length(trie, start, at);
     if bytes.len() - used < len {
@@ -136,21 +134,21 @@ fn tell_page<T: Walked>(
     first: Option<Numbered>,
     prefix: &[u8],
     found: &mut [Found],
-    bytes: &mut [u8],
+    keys: &mut [u8],
     count: &mut usize,
-    needed: &mut usize,
+    need: &mut usize,
 ) -> u32
     requires well_formed { IsWellFormed T.slots (T.shown trie.now) }
     requires place { IsRangePlace (T.shown trie.now) start.now first }
-    ensures { TellsPage prefix.now (ranged (T.shown trie.now) start.now first) found.old found.new bytes.old bytes.new count.old count.new needed.old needed.new result }
+    ensures { TellsPage prefix.now (ranged (T.shown trie.now) start.now first) found.old found.new keys.old keys.new count.old count.new need.old need.new result }
 {
-    match lack(trie, start, first, found.len(), bytes.len()) {
+    match lack(trie, start, first, found.len(), keys.len()) {
         Some(len) => {
-            *needed = len;
+            *need = len;
             NO_ROOM
         }
         None => {
-            *count = write_page(trie, start, first, prefix, found, bytes);
+            *count = write_page(trie, start, first, prefix, found, keys);
             OK
         }
     }
@@ -184,32 +182,23 @@ fn entries_of<L: Layout, const SLOTS: usize>(
     prefix: &[u8],
     behind: &[u8],
     found: &mut [Found],
-    bytes: &mut [u8],
+    keys: &mut [u8],
     count: &mut usize,
-    needed: &mut usize,
+    need: &mut usize,
 ) -> u32
-    ensures { TellsEntries trie.now.state prefix.now behind.now found.old found.new bytes.old bytes.new count.old count.new needed.old needed.new result }
+    ensures { TellsEntries trie.now.state prefix.now behind.now found.old found.new keys.old keys.new count.old count.new need.old need.new result }
 {
     trie.stands_on_its_table();
     if behind.is_empty() {
         let first = trie.first_numbered(prefix);
-        return tell_page(trie, prefix, first, prefix, found, bytes, count, needed);
+        return tell_page(trie, prefix, first, prefix, found, keys, count, need);
     }
     if !is_ordered(trie) {
         return NOT_ASCENDING;
     }
     let is_held = trie.contains_key_bytes(behind);
     let first = first_behind(trie, behind, is_held);
-    tell_page(
-        trie,
-        &behind[..0],
-        first,
-        prefix,
-        found,
-        bytes,
-        count,
-        needed,
-    )
+    tell_page(trie, &behind[..0], first, prefix, found, keys, count, need)
 }
 
 impl AnyCedar {
@@ -218,19 +207,15 @@ impl AnyCedar {
         prefix: &[u8],
         behind: &[u8],
         found: &mut [Found],
-        bytes: &mut [u8],
+        keys: &mut [u8],
         count: &mut usize,
-        needed: &mut usize,
+        need: &mut usize,
     ) -> u32
-        ensures { TellsEntries (dictionary_in self.now).state prefix.now behind.now found.old found.new bytes.old bytes.new count.old count.new needed.old needed.new result }
+        ensures { PageOf prefix.now behind.now found.old found.new keys.old keys.new count.old count.new need.old need.new result self.now }
     {
         match self {
-            AnyCedar::Default(cedar) => entries_of(
-                cedar, prefix, behind, found, bytes, count, needed,
-            ),
-            AnyCedar::Reduced(cedar) => entries_of(
-                cedar, prefix, behind, found, bytes, count, needed,
-            ),
+            AnyCedar::Default(cedar) => entries_of(cedar, prefix, behind, found, keys, count, need),
+            AnyCedar::Reduced(cedar) => entries_of(cedar, prefix, behind, found, keys, count, need),
         }
     }
 }
@@ -250,9 +235,9 @@ pub extern "C" fn cedar_entries_from(
     prefix: &[u8],
     behind: &[u8],
     found: &mut [Found],
-    bytes: &mut [u8],
+    keys: &mut [u8],
     count: &mut usize,
-    needed: &mut usize,
+    need: &mut usize,
 ) -> u32
     ensures closed { (result ≡ CLOSED) ↔ (shown_in handle.old ≡ None) }
 
@@ -261,10 +246,10 @@ pub extern "C" fn cedar_entries_from(
     //  key stands, its length and its value, and the others stay; the keys stand one after another in the first bytes. [by page,
     //  TellsEntries, following, page_of]
     //= It is refused exactly by a closed handle, by `NOT_ASCENDING` where a key is given and labels don't ascend, and else by `NO_ROOM`
-    //  where the first key to come has more bytes than there are: `needed` is how many. Then nothing else is written. [with closed,
+    //  where the first key to come has more bytes than there are: `need` is how many. Then nothing else is written. [with closed,
     //  closed_stays]
-    ensures entries { IfSome (shown_in handle.old) (λ a. TellsEntries (dictionary_in a).state prefix.now behind.now found.old found.new bytes.old bytes.new count.old count.new needed.old needed.new result) }
-    ensures closed_stays { result ≡ CLOSED → WritesNothing found.old found.new bytes.old bytes.new count.old count.new × (needed.new ≡ needed.old) }
+    ensures page { IfSome (shown_in handle.old) (PageOf prefix.now behind.now found.old found.new keys.old keys.new count.old count.new need.old need.new result) }
+    ensures closed_stays { result ≡ CLOSED → WritesNothing found.old found.new keys.old keys.new count.old count.new × (need.new ≡ need.old) }
     ensures kept { handle.new ≡ handle.old }
 {
     if !handle.is_open() {
@@ -274,5 +259,5 @@ pub extern "C" fn cedar_entries_from(
         .shown
         .see()
         .dictionary()
-        .entries_from(prefix, behind, found, bytes, count, needed)
+        .entries_from(prefix, behind, found, keys, count, need)
 }

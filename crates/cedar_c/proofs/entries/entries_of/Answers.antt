@@ -26,7 +26,7 @@ returns-then-is_empty g c =
     ∙ ap (following s.tree prefix) (sym empty) in
     let told = c.tell_page.new in
     record {
-      page = λ goes. subst (λ es. TellsPage prefix es c.args.found.now told.found c.args.bytes.now told.bytes c.args.count.now told.count c.args.needed.now told.needed c.tell_page.result) left c.tell_page.ensures;
+      page = λ goes. subst (λ es. TellsPage prefix es c.args.found.now told.found c.args.keys.now told.keys c.args.count.now told.count c.args.need.now told.need c.tell_page.result) left c.tell_page.ensures;
       unordered = λ stops. absurd (stops (inl empty));
     }
 
@@ -47,6 +47,6 @@ returns g c =
     ∙ following_behind s.tree prefix key some in
     let told = c.tell_page-2.new in
     record {
-      page = λ goes. subst (λ es. TellsPage prefix es c.args.found.now told.found c.args.bytes.now told.bytes c.args.count.now told.count c.args.needed.now told.needed c.tell_page-2.result) left c.tell_page-2.ensures;
+      page = λ goes. subst (λ es. TellsPage prefix es c.args.found.now told.found c.args.keys.now told.keys c.args.count.now told.count c.args.need.now told.need c.tell_page-2.result) left c.tell_page-2.ensures;
       unordered = λ stops. absurd (stops (inr ordered));
     }
