@@ -56,8 +56,7 @@ uint32_t cedar_load_file(cedar_dictionary *d, const char *path, size_t memory_li
     uint32_t status = read_file(file, most, &bytes, &length);
     int number = errno;
     close(file);
-    if (status == CEDAR_OK) status = cedar_load(d, bytes, length, memory_limit);
-    if (status == CEDAR_FILE_LAYOUT) status = cedar_load_reduced(d, bytes, length, memory_limit);
+    if (status == CEDAR_OK) status = cedar_load_any(d, bytes, length, memory_limit);
     free(bytes);
     errno = number;
     return status;

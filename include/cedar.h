@@ -78,6 +78,7 @@ enum {
     CEDAR_DUPLICATE_KEY = 8,   /* of sorted pairs: see *position */
     CEDAR_KEYS_NOT_SORTED = 9, /* of sorted pairs: see *position */
     CEDAR_NO_ROOM = 11,      /* the buffer is too short */
+    CEDAR_NOT_ASCENDING = 12, /* labels do not ascend, so that a walk can't go on behind a key */
     /* of a file: the first thing that is wrong with it */
     CEDAR_FILE_TRUNCATED = 20,
     CEDAR_FILE_MAGIC = 21,         /* not a file of this format */
@@ -113,8 +114,12 @@ bool cedar_is_reduced(const cedar_dictionary *d);
 uint32_t cedar_load(cedar_dictionary *d, const uint8_t *bytes, size_t length, size_t memory_limit);
 
 /* As cedar_load, of a file of the reduced layout. Each of the two refuses the other layout's files by CEDAR_FILE_LAYOUT, before it asks
- * for memory: so where either may come, call the other one then. */
+ * for memory. */
 uint32_t cedar_load_reduced(cedar_dictionary *d, const uint8_t *bytes, size_t length, size_t memory_limit);
+
+/* As cedar_load_reduced where the file's byte of its layout names the reduced one, and else as cedar_load: so a file of either layout is
+ * loaded by one call, and one that names neither is refused by CEDAR_FILE_LAYOUT, unless something before that byte is wrong. */
+uint32_t cedar_load_any(cedar_dictionary *d, const uint8_t *bytes, size_t length, size_t memory_limit);
 
 /* Writes the file of *d to the first places of a buffer, and to *needed how many bytes it has; the other places stay. The file
  * lists the slots and blocks that are in use, or, where is_full, all of them, as format 1.0 does. CEDAR_OK, CEDAR_IS_CLOSED,
@@ -241,6 +246,18 @@ typedef struct cedar_found {
     int32_t value;
 } cedar_found;
 
+/* A page of entries with their keys: of those whose keys begin with a prefix, and come behind a key that was shown last, in the order of the
+ * walk; from the first one on where `behind` has no byte. That key needn't be held any more. found[0] and on tell where each key stands
+ * among the bytes, how many bytes it has, and its value; the other places stay. The keys are written to bytes[0] and on, one after another,
+ * and the other bytes may be written to as well. *count is how many entries were written: as many as found room, and 0 only if none is
+ * left, or `places` is 0. To go on, copy the last key, and give it as `behind`. A page costs a look-up or two and its own entries, and takes
+ * no memory; the dictionary may be changed between two pages. CEDAR_OK; CEDAR_IS_CLOSED; CEDAR_NOT_ASCENDING where `behind` has a byte and
+ * labels don't ascend; CEDAR_NO_ROOM where the first key to come has more than `room` bytes, and *needed is how many: behind the last key
+ * with the prefix this may be one without it. After an error nothing else is written. */
+uint32_t cedar_entries_from(const cedar_dictionary *d, const uint8_t *prefix, size_t prefix_length, const uint8_t *behind,
+                            size_t behind_length, cedar_found *found, size_t places, uint8_t *bytes, size_t room, size_t *count,
+                            size_t *needed);
+
 /* All keys that stand in a text, from the place *next on: place after place, and at each the shortest first. It writes them to
  * found[0] and on, and answers how many it wrote; the other places may be written to as well. The keys of a place are told as a
  * whole: where there is no room left for them, the call ends and *next is this place, so that the same call with this *next goes on;
@@ -312,6 +329,14 @@ CEDAR_INLINE uint32_t cedar_nullable_erase_prefix(cedar_dictionary *d, const uin
     size_t unwanted = 0;
     return cedar_erase_prefix(d, prefix, length, erased ? erased : &unwanted);
 }
+CEDAR_INLINE uint32_t cedar_nullable_entries_from(const cedar_dictionary *d, const uint8_t *prefix, size_t prefix_length,
+                                                  const uint8_t *behind, size_t behind_length, cedar_found *found, size_t places,
+                                                  uint8_t *bytes, size_t room, size_t *count, size_t *needed) {
+    size_t unwanted = 0;
+    return cedar_entries_from(d, prefix, prefix_length, behind, behind_length, found, places, bytes, room, count,
+                              needed ? needed : &unwanted);
+}
+#define cedar_entries_from cedar_nullable_entries_from
 #define cedar_save cedar_nullable_save
 #define cedar_update cedar_nullable_update
 #define cedar_insert cedar_nullable_insert

@@ -1,5 +1,6 @@
 pub mod ClosedLemmas
 pub mod CutLemmas
+pub mod EntryLemmas
 pub mod FileLemmas
 pub mod KeywordLemmas
 pub mod LengthLemmas

@@ -1,7 +1,8 @@
 -- What a handle has.
-use Rattle.std.specs.Prelude.{◌≡◌, ℕ, ℤ, Option, None, Some, option_map}
+use Rattle.std.specs.Prelude.{◌≡◌, ℕ, ℤ, List, Option, None, Some, option_map}
 use Rattle.cedar_model.specs.Table.Layouts.{LayoutKind}
 use Rattle.cedarwood.specs.Dictionary.{Dictionary}
+use Rattle.cedarwood.specs.Erasures.{IsErasedUnder}
 use Rattle.cedarwood.specs.State.{State}
 use Rattle.cedarwood.specs.Tree.{Tree, empty_tree}
 use Rattle.cedar_c.specs.Layouts.{dictionary_in, layout_of}
@@ -50,6 +51,10 @@ size_in = figure_of (λ d. d.size)
 
 abbrev pub capacity_in : Handle → ℕ
 capacity_in = figure_of (λ d. d.capacity)
+
+-- the keys that begin with a prefix are erased, of which there were `count`
+abbrev pub ErasesUnder : List ℕ → ℕ → AnyCedar → AnyCedar → Type 0
+ErasesUnder prefix count a b = IsErasedUnder (dictionary_in a) (dictionary_in b) prefix count
 
 -- an open handle stays open, and its dictionaries before and after are related so
 abbrev pub ChangesBy : (AnyCedar → AnyCedar → Type 0) → Handle → Handle → Type 0

@@ -1,11 +1,22 @@
 -- What a file's bytes are of, and the numbers that a refused one is answered by.
-use Rattle.std.specs.Prelude.{◌≡◌, ◌⊎◌, ℕ, Bool, true, false, List, [], ◌∷◌, take, Option}
+use Rattle.std.specs.Prelude.{◌≡◌, ◌⊎◌, ℕ, Bool, true, false, ◌==◌, List, [], ◌∷◌, slice_get, take, None, Option, Some}
+use Rattle.cedar_model.specs.Table.Layouts.{LayoutKind}
 use Rattle.cedar_model.specs.Table.TableFields.{Fields}
 use Rattle.cedar_format.specs.Format.{header_at, header_refusal, size_refusal}
-use Rattle.cedar_format.specs.Tables.{IsTableFile}
-use Rattle.cedar_c.specs.Layouts.{most_slots}
+use Rattle.cedar_format.specs.Tables.{IsTableFile, table_bytes}
+use Rattle.cedar_c.specs.Layouts.{dictionary_in, layout_if, most_slots}
+use Rattle.cedar_c.specs.declared.any.AnyCedar.{AnyCedar}
 use Rattle.cedar_c.specs.declared.status.TheConstants.{MEMORY, FILE_TRUNCATED, FILE_MAGIC, FILE_VERSION, FILE_BYTE_ORDER, FILE_LAYOUT, FILE_HEADER, FILE_MEMORY_LIMIT, FILE_CORRUPT, FILE_TRAILING, FILE_UNREAD}
 use Rattle.cedar_format.specs.Refusal.{Refusal, first_refusal, Truncated, InvalidMagic, UnsupportedVersion, UnsupportedByteOrder, LayoutMismatch, InvalidHeader, AllocationLimitExceeded, AllocationFailed, CorruptData, TrailingData, Failed}
+
+-- whether a file's byte of its layout is there, and names the reduced one
+abbrev pub is_reduced_byte : Option ℕ → Bool
+is_reduced_byte None = false
+is_reduced_byte (Some byte) = byte == 1
+
+-- the layout that a file names: the default one, unless its byte names the reduced one
+abbrev pub layout_named : List ℕ → LayoutKind
+layout_named bytes = layout_if (is_reduced_byte (slice_get bytes 13))
 
 -- the bytes are those of this well-formed table, in a version that is read
 abbrev pub IsFileOf : Fields → List ℕ → Type 0
@@ -36,7 +47,22 @@ early_refusal layout slots limit bytes = first_refusal (header_refusal layout (t
 abbrev pub TellsHeader : Refusal → ℕ → Type 0
 TellsHeader r status = (status ≡ file_status r) ⊎ (status ≡ MEMORY)
 
+-- just the number of a refusal is told
+abbrev pub TellsJust : Refusal → ℕ → Type 0
+TellsJust r status = status ≡ file_status r
+
+-- behind a header that passes: memory was wanted, or the bytes are of no well-formed table
+abbrev pub LacksOrCorrupt : ℕ → List ℕ → ℕ → Type 0
+LacksOrCorrupt slots bytes status = (status ≡ MEMORY) ⊎ ((status ≡ FILE_CORRUPT) × IsOfNoTable slots bytes)
+
+abbrev pub LacksTable : List ℕ → ℕ → Type 0
+LacksTable bytes status = LacksOrCorrupt most_slots bytes status
+
 -- which version's file a save writes: format 1.0, which lists all slots and blocks, or 1.1
 abbrev pub minor_of : Bool → ℕ
 minor_of true = 0
 minor_of false = 1
+
+-- the file of a dictionary
+abbrev pub file_in : Bool → AnyCedar → List ℕ
+file_in is_full a = table_bytes (minor_of is_full) (dictionary_in a).table

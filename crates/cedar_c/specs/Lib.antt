@@ -1,5 +1,6 @@
 pub mod Content
 pub mod Cuts
+pub mod Entries
 pub mod Files
 pub mod Layouts
 pub mod Lending

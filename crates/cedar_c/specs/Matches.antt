@@ -1,5 +1,5 @@
 -- What a walk writes into a buffer.
-use Rattle.std.specs.Prelude.{ℕ, ◌+◌, ◌<◌, ◌^◌, ℤ, List, [], ◌∷◌, length, map, filter, nat_eq}
+use Rattle.std.specs.Prelude.{ℕ, ◌+◌, ◌<◌, ◌^◌, ℤ, List, [], ◌∷◌, ◌++◌, drop, length, map, filter, nat_eq, take}
 use Rattle.std.specs.List.{starts_with}
 use Rattle.cedar_tree.specs.Tree.{Tree}
 use Rattle.cedar_tree.specs.Queries.{front, walk}
@@ -33,3 +33,7 @@ abbrev pub filled_matches : List Match → List (ℤ × ℕ) → List Match
 filled_matches [] found = []
 filled_matches (m ∷ matches) [] = m ∷ matches
 filled_matches (m ∷ matches) (x ∷ found) = match_of x ∷ filled_matches matches found
+
+-- the same behind the first places
+abbrev pub filled_from : ℕ → List Match → List (ℤ × ℕ) → List Match
+filled_from place matches found = take place matches ++ filled_matches (drop place matches) found

@@ -1,6 +1,7 @@
 -- The numbers that C is answered.
-use Rattle.std.specs.Prelude.{◌≡◌, ◌⊎◌, ℕ, List, [], ◌∷◌, ◌==◌, codes, if◌then◌else◌}
-use Rattle.cedar_c.specs.declared.status.TheConstants.{OK, CLOSED, MEMORY, SLOT_LIMIT, EMPTY_KEY, NUL_BYTE, INVALID_VALUE, INVALID_MAX_TRIAL, DUPLICATE_KEY, KEYS_NOT_SORTED, NO_ROOM, FILE_TRUNCATED, FILE_MAGIC, FILE_VERSION, FILE_BYTE_ORDER, FILE_LAYOUT, FILE_HEADER, FILE_MEMORY_LIMIT, FILE_CORRUPT, FILE_TRAILING, FILE_UNREAD}
+use Rattle.std.specs.Prelude.{◌≡◌, ◌⊎◌, ℕ, List, [], ◌∷◌, ◌==◌, codes, if◌then◌else◌, None}
+use Rattle.cedar_c.specs.declared.status.TheConstants.{OK, CLOSED, MEMORY, SLOT_LIMIT, EMPTY_KEY, NUL_BYTE, INVALID_VALUE, INVALID_MAX_TRIAL, DUPLICATE_KEY, KEYS_NOT_SORTED, NO_ROOM, NOT_ASCENDING, FILE_TRUNCATED, FILE_MAGIC, FILE_VERSION, FILE_BYTE_ORDER, FILE_LAYOUT, FILE_HEADER, FILE_MEMORY_LIMIT, FILE_CORRUPT, FILE_TRAILING, FILE_UNREAD}
+use Rattle.cedarwood.specs.Tree.{Tree, number_at}
 use Rattle.cedarwood.specs.declared.error.CedarError.{CedarError}
 use Rattle.cedarwood.specs.declared.error.CedarError.TheVariants.{EmptyKey, NulByte, InvalidValue, InvalidMaxTrial, DuplicateKey, KeysNotSorted, Memory, SlotLimit}
 
@@ -14,6 +15,10 @@ status_of (InvalidValue v) = INVALID_VALUE
 status_of (InvalidMaxTrial n) = INVALID_MAX_TRIAL
 status_of (DuplicateKey i) = DUPLICATE_KEY
 status_of (KeysNotSorted i) = KEYS_NOT_SORTED
+
+-- an update is done, or memory or slots were wanted, and that only for a key that isn't held
+abbrev pub LacksOnlyNew : Tree → List ℕ → ℕ → Type 0
+LacksOnlyNew t key status = (status ≡ OK) ⊎ (((status ≡ MEMORY) ⊎ (status ≡ SLOT_LIMIT)) × (number_at t key ≡ None))
 
 -- the position that an error tells, which is a pair's index where keys don't ascend; or what stood there
 abbrev pub position_of : ℕ → CedarError → ℕ
@@ -44,6 +49,7 @@ texts_by_status =
     ∷ (DUPLICATE_KEY, codes "duplicate key in sorted input")
     ∷ (KEYS_NOT_SORTED, codes "key in sorted input is smaller than its predecessor")
     ∷ (NO_ROOM, codes "the buffer is too short")
+    ∷ (NOT_ASCENDING, codes "the labels of the dictionary do not ascend")
     ∷ (FILE_TRUNCATED, codes "serialized cedar trie is truncated")
     ∷ (FILE_MAGIC, codes "input is not a cedarwood serialized trie")
     ∷ (FILE_VERSION, codes "unsupported cedarwood format version")

@@ -10,7 +10,7 @@ ghost use Rattle.cedar_c.specs.Content.{content, layout_in, state_in, tree_in, t
 ghost use Rattle.cedar_c.specs.Layouts.{dictionary_in, layout_if, layout_of, most_slots};
 ghost use Rattle.cedar_c.specs.Opens.{OpensNew};
 ghost use Rattle.cedar_c.specs.Readings.{shown_tree};
-ghost use Rattle.cedar_c.specs.Status.{position_of, status_of, TellsPosition};
+ghost use Rattle.cedar_c.specs.Status.{LacksOnlyNew, position_of, status_of, TellsPosition};
 ghost use Rattle.cedar_c.specs.declared.any.AnyCedar.{AnyCedar};
 
 use crate::any::AnyCedar;
@@ -158,8 +158,7 @@ pub extern "C" fn cedar_update(
 
     //= `max_trial` stays. [also cedar_insert, cedar_update_all, cedar_erase]
     ensures trials { trials_in handle.new ≡ trials_in handle.old }
-    ensures refused { IsSome (content handle.old) → fault key.now value ≡ None →
-        (result ≡ OK) ⊎ (((result ≡ MEMORY) ⊎ (result ≡ SLOT_LIMIT)) × (number_at (tree_in handle.old) key.now ≡ None)) }
+    ensures refused { IsSome (content handle.old) → fault key.now value ≡ None → LacksOnlyNew (tree_in handle.old) key.now result }
 {
     if !handle.is_open() {
         return CLOSED;
@@ -201,8 +200,7 @@ pub extern "C" fn cedar_insert(
     ensures stays { TellsPosition result ⊎ (position.new ≡ position.old) }
     ensures trials { trials_in handle.new ≡ trials_in handle.old }
     ensures untold { (result ≡ OK) ⊎ ((held.new ≡ held.old) × (before.new ≡ before.old)) }
-    ensures refused { IsSome (content handle.old) → fault key.now value ≡ None →
-        (result ≡ OK) ⊎ (((result ≡ MEMORY) ⊎ (result ≡ SLOT_LIMIT)) × (number_at (tree_in handle.old) key.now ≡ None)) }
+    ensures refused { IsSome (content handle.old) → fault key.now value ≡ None → LacksOnlyNew (tree_in handle.old) key.now result }
 {
     if !handle.is_open() {
         return CLOSED;

@@ -2,7 +2,7 @@
 
 ghost use Rattle.std.specs.Prelude.{◌≡◌, ◌⊎◌, ◌↔◌, None, IsSome};
 ghost use Rattle.cedarwood.specs.Words.{IsCleared, IsErasedUnder};
-ghost use Rattle.cedar_c.specs.Content.{content, layout_in, ChangesBy};
+ghost use Rattle.cedar_c.specs.Content.{content, layout_in, ChangesBy, ErasesUnder};
 ghost use Rattle.cedar_c.specs.Layouts.{dictionary_in, layout_of};
 
 use crate::any::AnyCedar;
@@ -19,8 +19,9 @@ pub extern "C" fn cedar_erase_prefix(handle: &mut Handle, prefix: &[u8], erased:
     ensures closed { (result ≡ CLOSED) ↔ (content handle.old ≡ None) }
 
     //= An erasure by a prefix removes all keys that begin with it, and no other one, and tells how many these were; it is refused only by a
-    //  closed handle, which stays closed. [with refused, layout; by erased, IsErasedUnder]
-    ensures erased { IsSome (content handle.old) → ChangesBy (λ a b. IsErasedUnder (dictionary_in a) (dictionary_in b) prefix.now erased.new) handle.old handle.new }
+    //  closed handle, which stays closed. [with refused, layout; by erased, ErasesUnder,
+    //  IsErasedUnder]
+    ensures erased { IsSome (content handle.old) → ChangesBy (ErasesUnder prefix.now erased.new) handle.old handle.new }
     ensures layout { layout_in handle.new ≡ layout_in handle.old }
     ensures refused { (result ≡ OK) ⊎ ((result ≡ CLOSED) × (content handle.new ≡ content handle.old) × (erased.new ≡ erased.old)) }
 {

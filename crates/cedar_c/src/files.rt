@@ -6,7 +6,7 @@ ghost use Rattle.cedar_format.specs.Refusal.{refusal_of};
 ghost use Rattle.cedar_format.specs.Tables.{IsTableFile};
 ghost use Rattle.cedar_slots.specs.Places.{IsSlotLimit};
 ghost use Rattle.cedar_model.specs.Table.Layouts.{default_layout, layout_byte, reduced_layout};
-ghost use Rattle.cedar_c.specs.Files.{early_refusal, file_status, IsFileOf, IsOfNoTable, TellsHeader};
+ghost use Rattle.cedar_c.specs.Files.{early_refusal, file_status, IsFileOf, LacksOrCorrupt, LacksTable, TellsHeader, TellsJust};
 ghost use Rattle.cedarwood.specs.OnTable.{IsOnTable};
 ghost use Rattle.cedar_c.specs.Layouts.{dictionary_in, layout_if, layout_of, most_slots};
 ghost use Rattle.cedar_c.specs.Opens.{OpensLoaded};
@@ -62,7 +62,7 @@ pub extern "C" fn cedar_load_reduced(
 }
 
 /// Opens a handle with the dictionary that a file's bytes are of, if they are of one of this layout.
-fn renew(
+pub(crate) fn renew(
     handle: &mut Handle,
     alloc: Global,
     is_reduced: bool,
@@ -92,8 +92,8 @@ fn boxed(
     ensures layout { IfOk result (λ b. layout_of b.value ≡ layout_if is_reduced) }
     ensures refused { IfErr result (λ status. status ≢ OK) }
     ensures header { IfSome (header_answer (layout_byte (layout_if is_reduced)) most_slots memory_limit bytes.now) (λ r. IsErrAnd result (TellsHeader r)) }
-    ensures early { IfSome (early_refusal (layout_byte (layout_if is_reduced)) most_slots memory_limit bytes.now) (λ r. IsErrAnd result (λ status. status ≡ file_status r)) }
-    ensures behind { header_answer (layout_byte (layout_if is_reduced)) most_slots memory_limit bytes.now ≡ None → IfErr result (λ status. (status ≡ MEMORY) ⊎ ((status ≡ FILE_CORRUPT) × IsOfNoTable most_slots bytes.now)) }
+    ensures early { IfSome (early_refusal (layout_byte (layout_if is_reduced)) most_slots memory_limit bytes.now) (λ r. IsErrAnd result (TellsJust r)) }
+    ensures behind { header_answer (layout_byte (layout_if is_reduced)) most_slots memory_limit bytes.now ≡ None → IfErr result (LacksTable bytes.now) }
     ensures stands { IfOk result (λ b. IsOnTable most_slots (dictionary_in b.value)) }
     ensures read { IfErr result (λ status. status ≢ FILE_UNREAD) }
 {
@@ -119,8 +119,8 @@ impl AnyCedar {
         ensures layout { IfOk result (λ a. layout_of a ≡ layout_if is_reduced) }
         ensures refused { IfErr result (λ status. status ≢ OK) }
         ensures header { IfSome (header_answer (layout_byte (layout_if is_reduced)) most_slots memory_limit bytes.now) (λ r. IsErrAnd result (TellsHeader r)) }
-        ensures early { IfSome (early_refusal (layout_byte (layout_if is_reduced)) most_slots memory_limit bytes.now) (λ r. IsErrAnd result (λ status. status ≡ file_status r)) }
-        ensures behind { header_answer (layout_byte (layout_if is_reduced)) most_slots memory_limit bytes.now ≡ None → IfErr result (λ status. (status ≡ MEMORY) ⊎ ((status ≡ FILE_CORRUPT) × IsOfNoTable most_slots bytes.now)) }
+        ensures early { IfSome (early_refusal (layout_byte (layout_if is_reduced)) most_slots memory_limit bytes.now) (λ r. IsErrAnd result (TellsJust r)) }
+        ensures behind { header_answer (layout_byte (layout_if is_reduced)) most_slots memory_limit bytes.now ≡ None → IfErr result (LacksTable bytes.now) }
         ensures stands { IfOk result (λ a. IsOnTable most_slots (dictionary_in a)) }
         ensures read { IfErr result (λ status. status ≢ FILE_UNREAD) }
     {
@@ -148,8 +148,8 @@ fn load<L: Layout, const SLOTS: usize>(
     ensures loaded { IfOk result (λ d. (version : ℕ) × IsTableFile version SLOTS d.table bytes.now) }
     ensures refused { IfErr result (λ status. status ≢ OK) }
     ensures header { IfSome (header_answer (layout_byte L.kind) SLOTS memory_limit bytes.now) (λ r. IsErrAnd result (TellsHeader r)) }
-    ensures early { IfSome (early_refusal (layout_byte L.kind) SLOTS memory_limit bytes.now) (λ r. IsErrAnd result (λ status. status ≡ file_status r)) }
-    ensures behind { header_answer (layout_byte L.kind) SLOTS memory_limit bytes.now ≡ None → IfErr result (λ status. (status ≡ MEMORY) ⊎ ((status ≡ FILE_CORRUPT) × IsOfNoTable SLOTS bytes.now)) }
+    ensures early { IfSome (early_refusal (layout_byte L.kind) SLOTS memory_limit bytes.now) (λ r. IsErrAnd result (TellsJust r)) }
+    ensures behind { header_answer (layout_byte L.kind) SLOTS memory_limit bytes.now ≡ None → IfErr result (LacksOrCorrupt SLOTS bytes.now) }
     ensures stands { IfOk result (IsOnTable SLOTS) }
     ensures read { IfErr result (λ status. status ≢ FILE_UNREAD) }
 {

@@ -10,6 +10,8 @@ mod asks;
 mod calls;
 mod copies;
 mod cuts;
+mod either;
+mod entries;
 mod erasing;
 mod figures;
 mod files;

@@ -2,7 +2,7 @@
 
 ghost use Rattle.std.specs.Prelude.{◌≡◌, ◌⊎◌, ◌++◌, ◌<◌, ◌≤◌, ◌↔◌, None, IsSome, IfSome, length, take, drop};
 ghost use Rattle.cedar_format.specs.Tables.{table_bytes};
-ghost use Rattle.cedar_c.specs.Files.{minor_of};
+ghost use Rattle.cedar_c.specs.Files.{file_in, minor_of};
 ghost use Rattle.cedar_c.specs.Layouts.{dictionary_in};
 ghost use Rattle.cedar_c.specs.Readings.{shown_in};
 
@@ -32,8 +32,8 @@ pub extern "C" fn cedar_save(
 
     //= A save writes the bytes of the dictionary's table, in 1.1 or in 1.0, into the first places of a buffer, and leaves the others;
     //  `needed` is how many they are. [with needed]
-    ensures saved { result ≡ OK → IfSome (shown_in handle.old) (λ a. buffer.new ≡ table_bytes (minor_of is_full) (dictionary_in a).table ++ drop needed.new buffer.old) }
-    ensures needed { (result ≡ OK) ⊎ (result ≡ NO_ROOM) → IfSome (shown_in handle.old) (λ a. needed.new ≡ length (table_bytes (minor_of is_full) (dictionary_in a).table)) }
+    ensures saved { result ≡ OK → IfSome (shown_in handle.old) (λ a. buffer.new ≡ file_in is_full a ++ drop needed.new buffer.old) }
+    ensures needed { (result ≡ OK) ⊎ (result ≡ NO_ROOM) → IfSome (shown_in handle.old) (λ a. needed.new ≡ length (file_in is_full a)) }
     ensures room { (result ≡ OK → needed.new ≤ length buffer.old) × (result ≡ NO_ROOM → length buffer.old < needed.new) }
     ensures refused { (result ≡ OK) ⊎ (((result ≡ CLOSED) ⊎ (result ≡ MEMORY) ⊎ (result ≡ NO_ROOM)) × (buffer.new ≡ buffer.old)) }
     ensures kept { handle.new ≡ handle.old }
@@ -51,8 +51,8 @@ pub extern "C" fn cedar_save(
 impl AnyCedar {
     /// Writes the dictionary's file into the first places of a buffer, and tells how many bytes it has.
     fn save(&self, alloc: Global, is_full: bool, buffer: &mut [u8], needed: &mut usize) -> u32
-        ensures saved { result ≡ OK → buffer.new ≡ table_bytes (minor_of is_full) (dictionary_in self.now).table ++ drop needed.new buffer.old }
-        ensures needed { (result ≡ OK) ⊎ (result ≡ NO_ROOM) → needed.new ≡ length (table_bytes (minor_of is_full) (dictionary_in self.now).table) }
+        ensures saved { result ≡ OK → buffer.new ≡ file_in is_full self.now ++ drop needed.new buffer.old }
+        ensures needed { (result ≡ OK) ⊎ (result ≡ NO_ROOM) → needed.new ≡ length (file_in is_full self.now) }
         ensures room { (result ≡ OK → needed.new ≤ length buffer.old) × (result ≡ NO_ROOM → length buffer.old < needed.new) }
         ensures refused { (result ≡ OK) ⊎ (((result ≡ MEMORY) ⊎ (result ≡ NO_ROOM)) × (buffer.new ≡ buffer.old)) }
     {
@@ -63,7 +63,7 @@ impl AnyCedar {
     }
 
     fn file(&self, alloc: Global, is_full: bool) -> Option<Vec<u8, Global>>
-        ensures { IfSome result (λ file. file.items ≡ table_bytes (minor_of is_full) (dictionary_in self.now).table) }
+        ensures { IfSome result (λ file. file.items ≡ file_in is_full self.now) }
     {
         match self {
             AnyCedar::Default(cedar) => either_file(cedar, alloc, is_full),

@@ -41,6 +41,9 @@ pub(crate) const OTHER: u32 = 10;
 /// The buffer has too few places.
 pub(crate) const NO_ROOM: u32 = 11;
 
+/// A walk can't go on behind a key, since the labels of the dictionary don't ascend.
+pub(crate) const NOT_ASCENDING: u32 = 12;
+
 /// The file ends too early.
 pub(crate) const FILE_TRUNCATED: u32 = 20;
 

@@ -7,7 +7,8 @@ use crate::save::copy_front;
 use crate::status::{
     CLOSED, DUPLICATE_KEY, EMPTY_KEY, FILE_BYTE_ORDER, FILE_CORRUPT, FILE_HEADER, FILE_LAYOUT,
     FILE_MAGIC, FILE_MEMORY_LIMIT, FILE_TRAILING, FILE_TRUNCATED, FILE_UNREAD, FILE_VERSION,
-    INVALID_MAX_TRIAL, INVALID_VALUE, KEYS_NOT_SORTED, MEMORY, NO_ROOM, NUL_BYTE, OK, SLOT_LIMIT,
+    INVALID_MAX_TRIAL, INVALID_VALUE, KEYS_NOT_SORTED, MEMORY, NO_ROOM, NOT_ASCENDING, NUL_BYTE,
+    OK, SLOT_LIMIT,
 };
 
 /// Writes the text of a status into the first places of a buffer, as far as there is room, and says how many bytes it has. It has
@@ -38,6 +39,7 @@ fn text_of(status: u32) -> &'static str
         DUPLICATE_KEY => "duplicate key in sorted input",
         KEYS_NOT_SORTED => "key in sorted input is smaller than its predecessor",
         NO_ROOM => "the buffer is too short",
+        NOT_ASCENDING => "the labels of the dictionary do not ascend",
         FILE_TRUNCATED => "serialized cedar trie is truncated",
         FILE_MAGIC => "input is not a cedarwood serialized trie",
         FILE_VERSION => "unsupported cedarwood format version",

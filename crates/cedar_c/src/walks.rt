@@ -3,7 +3,7 @@
 ghost use Rattle.std.specs.Prelude.{◌≡◌, ℕ, ℤ, List, ◌∷◌, ◌++◌, ◌+◌, ◌<◌, ◌^◌, length, take, drop};
 ghost use Rattle.cedarwood.specs.Queries.{front, predict};
 ghost use Rattle.cedar_c.specs.Layouts.{dictionary_in};
-ghost use Rattle.cedar_c.specs.Matches.{Fit, filled_matches, front_keys, lengthened, longer, predicted_keys};
+ghost use Rattle.cedar_c.specs.Matches.{Fit, filled_from, filled_matches, front_keys, lengthened, longer, predicted_keys};
 ghost use Rattle.cedar_c.specs.Readings.{shown_tree};
 
 use crate::any::AnyCedar;
@@ -66,7 +66,7 @@ fn fill<F: Finds>(walk: &mut F, more: usize, matches: &mut [Match]) -> usize
 /// Writes what was found, and has `more` bytes than that, at a place, if there is this place.
 pub(crate) fn put_at(matches: &mut [Match], place: usize, found: (i32, usize), more: usize)
     requires { found.1 + more < 2 ^ 64 }
-    ensures { (rest : List (ℤ × ℕ)) → take (place + 1) matches.new ++ filled_matches (drop (place + 1) matches.new) rest ≡ take place matches.old ++ filled_matches (drop place matches.old) (longer more found ∷ rest) }
+    ensures { (rest : List (ℤ × ℕ)) → filled_from (place + 1) matches.new rest ≡ filled_from place matches.old (longer more found ∷ rest) }
 {
     if place < matches.len() {
         matches[place] = Match {

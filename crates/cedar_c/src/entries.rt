@@ -1,0 +1,263 @@
+//! Entries with their keys, a page of them a call.
+
+ghost use Rattle.std.specs.Prelude.{◌≡◌, ◌↔◌, ◌+◌, ◌-◌, ◌++◌, ◌≤◌, [], length, nat_eq, None, IfSome, IsSome, IsTrue, take, true};
+ghost use Rattle.std.specs.List.{starts_with};
+ghost use Rattle.cedar_model.specs.Meaning.WellFormed.{IsWellFormed, tree_of};
+ghost use Rattle.cedar_tree.specs.Tree.{number_at};
+ghost use Rattle.cedar_walk.specs.Visits.{ComesToFirst, IsNumberedBelow};
+ghost use Rattle.cedarwood.specs.RangeWalks.{IsRangePlace, ranged};
+ghost use Rattle.cedar_c.specs.Entries.{entries_behind, key_at, lacking, PageOf, Stops, TellsEntries, TellsPage, WritesNothing, WritesPage};
+ghost use Rattle.cedar_c.specs.Readings.{shown_in};
+
+use crate::any::AnyCedar;
+use crate::reading::Reading;
+use crate::scans::Found;
+use crate::status::{CLOSED, NO_ROOM, NOT_ASCENDING, OK};
+use cedar_walk::Numbered;
+use cedarwood::{Layout, Trie, Walked};
+use std::alloc::Global;
+
+/// Writes the key of a node: a path, and then the labels below it.
+fn write_key<T: Walked>(trie: &T, start: &[u8], at: Numbered, key: &mut [u8])
+    requires well_formed { IsWellFormed T.slots (T.shown trie.now) }
+    requires below { IsNumberedBelow (T.shown trie.now) start.now at.depth at.slot }
+    requires room { length key.old ≡ length start.now + at.depth }
+    ensures { key.new ≡ key_at (T.shown trie.now) start.now at }
+{
+    key[..start.len()].copy_from_slice(start);
+    trie.write_path(at.slot, at.depth, key);
+}
+
+/// How many bytes the key of a node has.
+fn key_length<T: Walked>(trie: &T, start: &[u8], at: Numbered) -> usize
+    requires well_formed { IsWellFormed T.slots (T.shown trie.now) }
+    requires below { IsNumberedBelow (T.shown trie.now) start.now at.depth at.slot }
+    ensures whole { result ≡ length (key_at (T.shown trie.now) start.now at) }
+    ensures parts { result ≡ length start.now + at.depth }
+{
+    let _ = trie;
+    start.len() + at.depth
+}
+
+/// Writes the key of a node behind the first `used` bytes of a buffer, and says how many bytes it has: `None` where there is no room for
+/// them, or where the key doesn't begin with a prefix.
+fn write_entry<T: Walked>(
+    trie: &T,
+    start: &[u8],
+    at: Numbered,
+    prefix: &[u8],
+    bytes: &mut [u8],
+    used: usize,
+) -> Option<usize>
+    requires well_formed { IsWellFormed T.slots (T.shown trie.now) }
+    requires below { IsNumberedBelow (T.shown trie.now) start.now at.depth at.slot }
+    requires used { used ≤ length bytes.old }
+    ensures kept { (take used bytes.new ≡ take used bytes.old) × (length bytes.new ≡ length bytes.old) }
+    ensures left { result ≡ None → Stops prefix.now (length bytes.old - used) (key_at (T.shown trie.now) start.now at) }
+    ensures length { IfSome result (λ len. (len ≡ length (key_at (T.shown trie.now) start.now at)) × (used + len ≤ length bytes.old)) }
+    ensures begins { IfSome result (λ _. starts_with nat_eq (key_at (T.shown trie.now) start.now at) prefix.now ≡ true) }
+    ensures written { IfSome result (λ len.
+        take (used + len) bytes.new ≡ take used bytes.old ++ (key_at (T.shown trie.now) start.now at)) }
+{
+    let len = key_length(trie, start, at);
+    if bytes.len() - used < len {
+        return None;
+    }
+    write_key(trie, start, at, &mut bytes[used..used + len]);
+    if bytes[used..used + len].starts_with(prefix) {
+        Some(len)
+    } else {
+        None
+    }
+}
+
+/// Writes a page of the entries that a walk has left: where their keys stand, and the keys. It says how many they are.
+fn write_page<T: Walked>(
+    trie: &T,
+    start: &[u8],
+    first: Option<Numbered>,
+    prefix: &[u8],
+    found: &mut [Found],
+    bytes: &mut [u8],
+) -> usize
+    requires well_formed { IsWellFormed T.slots (T.shown trie.now) }
+    requires place { IsRangePlace (T.shown trie.now) start.now first }
+    ensures { WritesPage prefix.now (ranged (T.shown trie.now) start.now first) found.old found.new bytes.old bytes.new result }
+{
+    let mut next = first;
+    let mut used = 0;
+    let mut count = 0;
+    while count < found.len() {
+        let Some(at) = next else {
+            return count;
+        };
+        let Some(len) = write_entry(trie, start, at, prefix, bytes, used) else {
+            return count;
+        };
+        found[count] = Found {
+            place: used,
+            length: len,
+            value: at.number,
+        };
+        used += len;
+        count += 1;
+        next = trie.next_numbered(at.slot, at.depth);
+    }
+    count
+}
+
+/// How many bytes the key needs that a walk comes to first, if it finds no room in a page.
+fn lack<T: Walked>(
+    trie: &T,
+    start: &[u8],
+    first: Option<Numbered>,
+    places: usize,
+    room: usize,
+) -> Option<usize>
+    requires well_formed { IsWellFormed T.slots (T.shown trie.now) }
+    requires place { IsRangePlace (T.shown trie.now) start.now first }
+    ensures { result ≡ lacking places room (ranged (T.shown trie.now) start.now first) }
+{
+    let at = first?;
+    let len = key_length(trie, start, at);
+    if 0 < places && room < len {
+        Some(len)
+    } else {
+        None
+    }
+}
+
+/// Writes a page of the entries that a walk has left, or tells how many bytes its first key needs.
+fn tell_page<T: Walked>(
+    trie: &T,
+    start: &[u8],
+    first: Option<Numbered>,
+    prefix: &[u8],
+    found: &mut [Found],
+    keys: &mut [u8],
+    count: &mut usize,
+    need: &mut usize,
+) -> u32
+    requires well_formed { IsWellFormed T.slots (T.shown trie.now) }
+    requires place { IsRangePlace (T.shown trie.now) start.now first }
+    ensures { TellsPage prefix.now (ranged (T.shown trie.now) start.now first) found.old found.new keys.old keys.new count.old count.new need.old need.new result }
+{
+    match lack(trie, start, first, found.len(), keys.len()) {
+        Some(len) => {
+            *need = len;
+            NO_ROOM
+        }
+        None => {
+            *count = write_page(trie, start, first, prefix, found, keys);
+            OK
+        }
+    }
+}
+
+/// The node of the first entry behind a key.
+fn first_behind<T: Walked>(trie: &T, key: &[u8], is_held: bool) -> Option<Numbered>
+    requires well_formed { IsWellFormed T.slots (T.shown trie.now) }
+    requires ordered { (T.shown trie.now).ordered ≡ true }
+    requires held { IsTrue is_held ↔ IsSome (number_at (tree_of (T.shown trie.now)) key.now) }
+    ensures { ComesToFirst (T.shown trie.now) [] (entries_behind (tree_of (T.shown trie.now)) key.now) result }
+{
+    let first = trie.first_since(key)?;
+    if is_held {
+        trie.next_numbered(first.slot, first.depth)
+    } else {
+        Some(first)
+    }
+}
+
+/// Whether the labels of a dictionary ascend.
+fn is_ordered<L: Layout, const SLOTS: usize>(trie: &Trie<L, SLOTS, Global>) -> bool
+    ensures { result ≡ trie.now.state.ordered }
+{
+    trie.range_bytes(b"", b"").is_some()
+}
+
+/// Writes a page of a dictionary's entries.
+fn entries_of<L: Layout, const SLOTS: usize>(
+    trie: &Trie<L, SLOTS, Global>,
+    prefix: &[u8],
+    behind: &[u8],
+    found: &mut [Found],
+    keys: &mut [u8],
+    count: &mut usize,
+    need: &mut usize,
+) -> u32
+    ensures { TellsEntries trie.now.state prefix.now behind.now found.old found.new keys.old keys.new count.old count.new need.old need.new result }
+{
+    trie.stands_on_its_table();
+    if behind.is_empty() {
+        let first = trie.first_numbered(prefix);
+        return tell_page(trie, prefix, first, prefix, found, keys, count, need);
+    }
+    if !is_ordered(trie) {
+        return NOT_ASCENDING;
+    }
+    let is_held = trie.contains_key_bytes(behind);
+    let first = first_behind(trie, behind, is_held);
+    tell_page(trie, &behind[..0], first, prefix, found, keys, count, need)
+}
+
+impl AnyCedar {
+    fn entries_from(
+        &self,
+        prefix: &[u8],
+        behind: &[u8],
+        found: &mut [Found],
+        keys: &mut [u8],
+        count: &mut usize,
+        need: &mut usize,
+    ) -> u32
+        ensures { PageOf prefix.now behind.now found.old found.new keys.old keys.new count.old count.new need.old need.new result self.now }
+    {
+        match self {
+            AnyCedar::Default(cedar) => entries_of(cedar, prefix, behind, found, keys, count, need),
+            AnyCedar::Reduced(cedar) => entries_of(cedar, prefix, behind, found, keys, count, need),
+        }
+    }
+}
+
+/// Writes a page of the entries whose keys begin with a prefix, behind a key that was shown last, in the order of the walk: where their keys
+/// stand, how long they are and their values into the places, and the keys one after another into the bytes. It tells how many they are: as
+/// many as there are places and room for; none are left where it tells 0. Where `behind` is empty the page begins with the first entry. It
+/// looks `behind` up, walks over no entry before the page, and takes no memory.
+///
+/// # Errors
+/// `CLOSED` where the handle is closed; `NOT_ASCENDING` where `behind` isn't empty and the labels of the dictionary don't ascend; `NO_ROOM`
+/// where the next key, which may be the first one behind those with the prefix, has more bytes than there is room for: then it tells how
+/// many. Then nothing else is written.
+#[unsafe(no_mangle)]
+pub extern "C" fn cedar_entries_from(
+    handle: &mut Reading,
+    prefix: &[u8],
+    behind: &[u8],
+    found: &mut [Found],
+    keys: &mut [u8],
+    count: &mut usize,
+    need: &mut usize,
+) -> u32
+    ensures closed { (result ≡ CLOSED) ↔ (shown_in handle.old ≡ None) }
+
+    //= A page of entries has those behind a key by bytes, or from the first one on where no key is given, in the order of the walk, as long
+    //  as their keys begin with the prefix, and there are places and room for their bytes; `count` is how many. The places tell where each
+    //  key stands, its length and its value, and the others stay; the keys stand one after another in the first bytes. [by page,
+    //  TellsEntries, following, page_of]
+    //= It is refused exactly by a closed handle, by `NOT_ASCENDING` where a key is given and labels don't ascend, and else by `NO_ROOM`
+    //  where the first key to come has more bytes than there are: `need` is how many. Then nothing else is written. [with closed,
+    //  closed_stays]
+    ensures page { IfSome (shown_in handle.old) (PageOf prefix.now behind.now found.old found.new keys.old keys.new count.old count.new need.old need.new result) }
+    ensures closed_stays { result ≡ CLOSED → WritesNothing found.old found.new keys.old keys.new count.old count.new × (need.new ≡ need.old) }
+    ensures kept { handle.new ≡ handle.old }
+{
+    if !handle.is_open() {
+        return CLOSED;
+    }
+    handle
+        .shown
+        .see()
+        .dictionary()
+        .entries_from(prefix, behind, found, keys, count, need)
+}
