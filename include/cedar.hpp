@@ -31,7 +31,6 @@
 #include <limits>
 #include <memory>
 #include <new>
-#include <numeric>
 #include <optional>
 #include <stdexcept>
 #include <string>
@@ -199,79 +198,6 @@ inline bool replace_file(const std::string &path, const std::string &beside, con
     return false;
 }
 
-// Finds the bytes of the keys below a prefix by asking, node by node, below which next byte there are keys. The work goes by the keys that
-// are found and not by the dictionary, of which C tells all keys or none.
-class key_search {
-public:
-    key_search(const cedar_dictionary &dictionary, std::string_view prefix) : dictionary_(dictionary), path_(prefix) {
-        // Small letters first.
-        std::iota(likely_.begin(), likely_.end(), 1);
-        std::rotate(likely_.begin(), std::find(likely_.begin(), likely_.end(), 'a'), likely_.end());
-    }
-
-    // Whether it costs less than to copy the keys of so many slots, which takes as long for a slot as some hundred steps of a walk, while
-    // at most 255 questions are asked at a node.
-    static bool is_cheap(const std::vector<match> &keys, std::size_t prefix, std::size_t slots) noexcept {
-        std::size_t nodes = 1, longest = 0;
-        for (const match &one : keys) {
-            nodes += one.length - prefix;
-            longest = std::max(longest, one.length);
-        }
-        return nodes < slots / longest;
-    }
-
-    // The bytes of the keys, one key after another, in the order of bytes. `keys` has their lengths in this order.
-    std::vector<char> find(const std::vector<match> &keys) {
-        std::vector<char> found;
-        for (std::size_t below = keys.size(), told = 0;;) {
-            if (told < keys.size() && keys[told].length == path_.size()) {
-                found.insert(found.end(), path_.begin(), path_.end());
-                ++told;
-                --below;
-            }
-            add_children(below);
-            if (open_.empty()) return found;
-            const node next = open_.back();
-            open_.pop_back();
-            path_.resize(next.depth - 1);
-            path_.push_back(static_cast<char>(next.last));
-            below = next.keys;
-        }
-    }
-
-private:
-    // A node that has still to be gone to: how many bytes lead to it, the last of them, and how many keys are at it and below.
-    struct node {
-        std::size_t depth;
-        std::size_t keys;
-        std::uint8_t last;
-    };
-
-    // Opens the children of the path's node, below which there are `left` keys. What was found last is asked for first.
-    void add_children(std::size_t left) {
-        const std::size_t first = open_.size();
-        path_.push_back(' ');
-        for (std::size_t i = 0; i < likely_.size() && left > 0; ++i) {
-            const std::uint8_t byte = likely_[i];
-            path_.back() = static_cast<char>(byte);
-            match none{};
-            const std::size_t keys = cedar_predictions(&dictionary_, bytes(path_), path_.size(), &none, 0);
-            if (keys == 0) continue;
-            open_.push_back({path_.size(), keys, byte});
-            left -= keys;
-            std::rotate(likely_.begin(), likely_.begin() + i, likely_.begin() + i + 1);
-        }
-        path_.pop_back();
-        std::sort(open_.begin() + static_cast<std::ptrdiff_t>(first), open_.end(),
-                  [](const node &one, const node &other) { return one.last > other.last; });
-    }
-
-    cedar_dictionary dictionary_; // a copy, to read by
-    std::string path_;
-    std::vector<node> open_;
-    std::array<std::uint8_t, 255> likely_{};
-};
-
 } // namespace detail
 
 /// Keys and values as they were when the range was made, in the order of the walk: in that of bytes where labels ascend. The range has
@@ -287,10 +213,9 @@ public:
         using reference = entry;
 
         iterator() = default;
-        entry operator*() const noexcept { return {std::string_view(key_, match_->length), match_->value}; }
+        entry operator*() const noexcept { return {std::string_view(keys_ + found_->place, found_->length), found_->value}; }
         iterator &operator++() noexcept {
-            key_ += match_->length;
-            ++match_;
+            ++found_;
             return *this;
         }
         iterator operator++(int) noexcept {
@@ -298,42 +223,32 @@ public:
             ++*this;
             return before;
         }
-        friend bool operator==(const iterator &one, const iterator &other) noexcept { return one.match_ == other.match_; }
-        friend bool operator!=(const iterator &one, const iterator &other) noexcept { return one.match_ != other.match_; }
+        friend bool operator==(const iterator &one, const iterator &other) noexcept { return one.found_ == other.found_; }
+        friend bool operator!=(const iterator &one, const iterator &other) noexcept { return one.found_ != other.found_; }
 
     private:
         friend class entries;
-        iterator(const char *key, const match *found) noexcept : key_(key), match_(found) {}
+        iterator(const char *keys, const occurrence *found) noexcept : keys_(keys), found_(found) {}
 
-        const char *key_ = nullptr;
-        const match *match_ = nullptr;
+        const char *keys_ = nullptr;
+        const occurrence *found_ = nullptr;
     };
 
-    iterator begin() const noexcept { return {keys_.data(), matches_.data()}; }
-    iterator end() const noexcept { return {nullptr, matches_.data() + matches_.size()}; }
+    iterator begin() const noexcept { return {keys_.data(), found_.data()}; }
+    iterator end() const noexcept { return {nullptr, found_.data() + found_.size()}; }
 
     /// How many entries there are.
-    std::size_t size() const noexcept { return matches_.size(); }
+    std::size_t size() const noexcept { return found_.size(); }
 
     /// Whether there is none.
-    bool empty() const noexcept { return matches_.empty(); }
+    bool empty() const noexcept { return found_.empty(); }
 
 private:
     friend class dictionary;
     entries() = default;
 
-    // Leaves out the keys before those of a prefix, of which there is one at least. These stand side by side in the walk.
-    void skip_to(std::string_view prefix, const std::vector<match> &all) {
-        std::size_t place = 0;
-        for (const match &one : all) {
-            if (std::string_view(keys_.data() + place, one.length).substr(0, prefix.size()) == prefix) break;
-            place += one.length;
-        }
-        keys_.erase(keys_.begin(), keys_.begin() + static_cast<std::ptrdiff_t>(place));
-    }
-
-    std::vector<char> keys_; // one after another, and further ones behind them
-    std::vector<match> matches_;
+    std::vector<char> keys_; // one after another
+    std::vector<occurrence> found_; // where they stand
 };
 
 /// A mutable dictionary from byte strings to whole numbers. It is moved and not copied; clone() makes a copy. What was moved from is
@@ -346,7 +261,7 @@ public:
     /// An empty dictionary. `ordered` says whether walks go in the order of bytes; else a new branch goes before its siblings, which
     /// makes storing faster. `max_trial`, 1 or more, is how many failed searches for a place close a block of slots: more make the
     /// table denser and storing slower. Throws CEDAR_INVALID_MAX_TRIAL and std::bad_alloc.
-    explicit dictionary(layout kind = layout::standard, bool ordered = true, std::int32_t max_trial = 1) : is_ordered_(ordered) {
+    explicit dictionary(layout kind = layout::standard, bool ordered = true, std::int32_t max_trial = 1) {
         detail::check((kind == layout::reduced ? cedar_new_reduced : cedar_new_with)(&inside_, ordered, max_trial));
     }
     dictionary(const dictionary &) = delete;
@@ -366,7 +281,6 @@ public:
     /// Exchanges the contents. It allocates nothing; no key is touched.
     void swap(dictionary &other) noexcept {
         std::swap(inside_, other.inside_);
-        std::swap(is_ordered_, other.is_ordered_);
     }
     friend void swap(dictionary &one, dictionary &other) noexcept { one.swap(other); }
 
@@ -378,7 +292,6 @@ public:
     static dictionary from_sorted(const Pairs &pairs, layout kind = layout::standard, bool ordered = true, std::int32_t max_trial = 1) {
         const std::vector<cedar_pair> listed = detail::pairs_of(pairs);
         dictionary built{closed()};
-        built.is_ordered_ = ordered;
         std::size_t position = 0;
         const auto build = kind == layout::reduced ? cedar_build_reduced : cedar_build;
         const std::uint32_t status = build(&built.inside_, ordered, max_trial, listed.data(), listed.size(), &position);
@@ -391,7 +304,6 @@ public:
         const cedar_dictionary mine = inside_;
         dictionary copy{closed()};
         detail::check(cedar_clone(&mine, &copy.inside_));
-        copy.is_ordered_ = is_ordered_;
         return copy;
     }
 
@@ -506,29 +418,26 @@ public:
         return walked(cedar_predictions_from, cedar_predictions, text, most);
     }
 
-    /// All keys with their values. It copies the keys, and 16 bytes an entry besides, in a few allocations. Throws std::bad_alloc.
-    roskvidh::entries entries() const {
-        roskvidh::entries range;
-        range.matches_ = predictions({});
-        range.keys_ = keys_of(range.matches_);
-        return range;
-    }
+    /// All keys with their values. It copies the keys, and 24 bytes an entry besides, in a few allocations. Throws std::bad_alloc.
+    roskvidh::entries entries() const { return entries_with_prefix({}); }
 
-    /// The keys that begin with a text, with their values. Where labels ascend, the cost goes by these keys, if they are few; else it is
-    /// that of entries. Throws std::bad_alloc.
+    /// The keys that begin with a text, with their values. It walks over them alone: once or three times to count them, and once to copy
+    /// them. Throws std::bad_alloc.
     roskvidh::entries entries_with_prefix(std::string_view prefix) const {
         roskvidh::entries range;
-        range.matches_ = predictions(prefix);
-        if (range.empty()) return range;
-        const cedar_dictionary mine = inside_;
-        const bool are_few = is_ordered_ && detail::key_search::is_cheap(range.matches_, prefix.size(), cedar_used_slots(&mine));
-        if (are_few) {
-            range.keys_ = detail::key_search(mine, prefix).find(range.matches_);
-        } else {
-            const std::vector<match> all = predictions({});
-            range.keys_ = keys_of(all);
-            range.skip_to(prefix, all);
+        {
+            const std::vector<match> keys = predictions(prefix);
+            if (keys.empty()) return range;
+            std::size_t size = 0;
+            for (const match &one : keys) size += one.length;
+            range.keys_.resize(size);
+            range.found_.resize(keys.size());
         }
+        const cedar_dictionary mine = inside_;
+        std::size_t count = 0;
+        detail::check(cedar_entries_from(&mine, detail::bytes(prefix), prefix.size(), detail::bytes({}), 0, range.found_.data(),
+                                         range.found_.size(), reinterpret_cast<std::uint8_t *>(range.keys_.data()), range.keys_.size(),
+                                         &count, nullptr));
         return range;
     }
 
@@ -592,10 +501,7 @@ public:
         dictionary loaded{closed()};
         const std::uint8_t none = 0;
         if (length == 0) bytes = &none;
-        std::uint32_t status = cedar_load(&loaded.inside_, bytes, length, memory_limit);
-        if (status == CEDAR_FILE_LAYOUT) status = cedar_load_reduced(&loaded.inside_, bytes, length, memory_limit);
-        detail::check(status);
-        loaded.is_ordered_ = (bytes[14] & 1) != 0; // the file's flag of ascending labels
+        detail::check(cedar_load_any(&loaded.inside_, bytes, length, memory_limit));
         return loaded;
     }
 
@@ -622,16 +528,6 @@ private:
 
     struct closed {};
     explicit dictionary(closed) noexcept {}
-
-    // The bytes of all keys, whose lengths these are.
-    std::vector<char> keys_of(const std::vector<match> &all) const {
-        const cedar_dictionary mine = inside_;
-        std::size_t size = 0;
-        for (const match &one : all) size += one.length;
-        std::vector<char> keys(size);
-        if (size > 0) detail::check(cedar_keys(&mine, reinterpret_cast<std::uint8_t *>(keys.data()), size, &size));
-        return keys;
-    }
 
     // The first answers of a walk: a few at once, and where there are more, all that are wanted in a second walk.
     std::vector<match> walked(walk_from some, walk all, std::string_view text, std::size_t most) const {
@@ -673,7 +569,6 @@ private:
 
     // A const member reads by a copy of its own, since C gives the variable to one call at a time.
     cedar_dictionary inside_ = CEDAR_CLOSED;
-    bool is_ordered_ = true;
 };
 
 } // namespace roskvidh

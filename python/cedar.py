@@ -52,8 +52,7 @@ def _library(path=os.environ.get("CEDAR_LIBRARY", Path(__file__).parent / "libce
         ("cedar_new_with", c_uint32, [handle, c_bool, c_int32]),
         ("cedar_new_reduced", c_uint32, [handle, c_bool, c_int32]),
         ("cedar_is_reduced", c_bool, [handle]),
-        ("cedar_load", c_uint32, [handle, c_char_p, c_size_t, c_size_t]),
-        ("cedar_load_reduced", c_uint32, [handle, c_char_p, c_size_t, c_size_t]),
+        ("cedar_load_any", c_uint32, [handle, c_char_p, c_size_t, c_size_t]),
         ("cedar_save", c_uint32, [handle, c_bool, c_char_p, c_size_t, POINTER(c_size_t)]),
         ("cedar_status_text", c_size_t, [c_uint32, c_char_p, c_size_t]),
         ("cedar_free", None, [handle]),
@@ -106,7 +105,6 @@ class CedarError(ValueError):
 _NUL_BYTE = 5
 _UNSORTED = (8, 9)
 _NO_ROOM = 11
-_OTHER_LAYOUT = 24
 _NO_MEMORY = 2
 _SHORTAGES = (_NO_MEMORY, 3)
 _MAX_VALUE = 2147483645
@@ -244,10 +242,7 @@ class Cedar:
     def load(self, data, memory_limit=2**29):
         """Becomes the dictionary that a file's bytes are of, of the layout that they are of. Where they are refused, it stays as it was."""
         data = bytes(memoryview(data))
-        status = _CEDAR.cedar_load(self._this, data, len(data), memory_limit)
-        if status == _OTHER_LAYOUT:
-            status = _CEDAR.cedar_load_reduced(self._this, data, len(data), memory_limit)
-        _check(status)
+        _check(_CEDAR.cedar_load_any(self._this, data, len(data), memory_limit))
 
     @classmethod
     def loaded(cls, data, memory_limit=2**29):

@@ -1,9 +1,9 @@
 /* Keys with their values, gathered into memory of their own. Nothing here calls Python.
  *
- * The library tells the bytes of all keys at once, and of the keys below a prefix their values and lengths alone. So the bytes of a few
- * keys are found by asking, node by node, below which next byte there are keys: at most 255 questions a node, and few where the bytes
- * that were found last are asked for first. The work grows with the keys that are found, and not with the dictionary. Where they are a
- * fair share of it, all keys are taken and the others left out. */
+ * The library writes all keys below a prefix in one page, once their number and the number of their bytes are known, which a walk tells.
+ * The keys between two bounds are found by asking, node by node, below which next byte there are keys: at most 255 questions a node, and
+ * few where the bytes that were found last are asked for first. The work grows with the keys that are found, and not with the dictionary.
+ * Where they are a fair share of it, all keys are taken and the others left out. */
 #include "core.h"
 
 #include <stdlib.h>
@@ -44,20 +44,29 @@ static bool append(Gathered *gathered, const uint8_t *key, cedar_match match) {
     return true;
 }
 
-/* All keys, in the order of the walk. False where memory is wanted. */
-bool gather_all(const cedar *dictionary, Gathered *gathered) {
-    size_t count = cedar_len(dictionary), size = 0;
+/* The keys that begin with a prefix, in the order of the walk. False where memory is wanted. */
+static bool gather_page(const cedar *dictionary, const Span *prefix, Gathered *gathered) {
+    cedar_match unused;
+    size_t size = 0, count = cedar_predictions(dictionary, prefix->at, prefix->length, &unused, 0);
+    if (count == 0) return true;
     if (!make_room((void **)&gathered->matches, &gathered->places, count, sizeof(cedar_match))) return false;
-    cedar_predictions(dictionary, NONE, 0, gathered->matches, count);
+    cedar_predictions(dictionary, prefix->at, prefix->length, gathered->matches, count);
     for (size_t i = 0; i < count; i++) size += gathered->matches[i].length;
-    if (!make_room((void **)&gathered->bytes, &gathered->room, size, 1)) return false;
-    gathered->count = count;
-    return cedar_keys(dictionary, gathered->bytes, size, &gathered->size) == CEDAR_OK;
+    cedar_found *found = malloc(count * sizeof *found);
+    bool done = found && make_room((void **)&gathered->bytes, &gathered->room, size, 1);
+    done = done && cedar_entries_from(dictionary, prefix->at, prefix->length, NONE, 0, found, count, gathered->bytes, size, &gathered->count, NULL) == CEDAR_OK;
+    free(found);
+    if (done) gathered->size = size;
+    return done;
 }
 
-/* Whether keys below a prefix are wanted, or, where that is NULL, keys from `low` on and before `high`; NULL is no bound. */
+/* All keys, in the order of the walk. False where memory is wanted. */
+bool gather_all(const cedar *dictionary, Gathered *gathered) {
+    return gather_page(dictionary, &(Span){NULL, NONE, 0}, gathered);
+}
+
+/* The keys that are wanted: those from `low` on and before `high`; NULL is no bound. */
 typedef struct Wanted {
-    const Span *prefix;
     const Span *low;
     const Span *high;
 } Wanted;
@@ -68,8 +77,6 @@ static bool is_below(const uint8_t *key, size_t length, const Span *bound) {
 }
 
 static bool is_wanted(const Wanted *wanted, const uint8_t *key, size_t length) {
-    const Span *prefix = wanted->prefix;
-    if (prefix) return length >= prefix->length && memcmp(key, prefix->at, prefix->length) == 0;
     return (!wanted->low || !is_below(key, length, wanted->low)) && (!wanted->high || is_below(key, length, wanted->high));
 }
 
@@ -195,19 +202,6 @@ static bool search_node(Search *search, size_t keys) {
     return search_children(search, keys);
 }
 
-static bool search_below(const cedar *dictionary, const Span *prefix, size_t keys, Gathered *found) {
-    Search search;
-    bool done = search_begin(&search, dictionary, prefix, found) && search_node(&search, keys);
-    while (done && search.count > 0) {
-        Node node = search.nodes[--search.count];
-        search.depth = node.depth;
-        search.path[node.depth - 1] = node.byte;
-        done = search_node(&search, node.keys);
-    }
-    search_end(&search);
-    return done;
-}
-
 /* Takes all keys and leaves out those that aren't wanted. */
 static bool gather_wanted(const cedar *dictionary, const Wanted *wanted, bool is_ordered, Gathered *gathered) {
     if (!gather_all(dictionary, gathered)) return false;
@@ -217,11 +211,7 @@ static bool gather_wanted(const cedar *dictionary, const Wanted *wanted, bool is
 
 /* The keys that begin with a prefix, ascending by bytes. False where memory is wanted. */
 bool gather_below(const cedar *dictionary, const Span *prefix, bool is_ordered, Gathered *gathered) {
-    cedar_match unused;
-    size_t keys = cedar_predictions(dictionary, prefix->at, prefix->length, &unused, 0);
-    if (keys == 0) return true;
-    if (keys < cedar_len(dictionary) / ALL_FROM_SHARE) return search_below(dictionary, prefix, keys, gathered);
-    return gather_wanted(dictionary, &(Wanted){prefix, NULL, NULL}, is_ordered, gathered);
+    return gather_page(dictionary, prefix, gathered) && (is_ordered || gathered->count == 0 || sort(gathered));
 }
 
 /* Puts a child of a node on a bound on the list, if there are keys below it. */
@@ -285,7 +275,7 @@ static bool try_between(const cedar *dictionary, const Wanted *wanted, bool is_a
 
 /* The keys from `low` on and before `high`, ascending by bytes; NULL is no bound. False where memory is wanted. */
 bool gather_between(const cedar *dictionary, const Span *low, const Span *high, bool is_ordered, Gathered *gathered) {
-    Wanted wanted = {NULL, low, high};
+    Wanted wanted = {low, high};
     size_t total = 0, unused = 0;
     if (low || high) {
         if (!try_between(dictionary, &wanted, false, gathered, &total)) return false;

@@ -242,11 +242,6 @@ static int test_text(const cedar *dictionary) {
     return done;
 }
 
-static uint32_t load_either(cedar *fresh, const uint8_t *at, size_t length, size_t memory_limit) {
-    uint32_t status = cedar_load(fresh, at, length, memory_limit);
-    return status == CEDAR_FILE_LAYOUT ? cedar_load_reduced(fresh, at, length, memory_limit) : status;
-}
-
 PyObject *core_load(Core *core, PyObject *arguments) {
     const char *data;
     Py_ssize_t length, memory_limit;
@@ -260,7 +255,7 @@ PyObject *core_load(Core *core, PyObject *arguments) {
     const uint8_t *at = (const uint8_t *)data;
     uint32_t status;
     Py_BEGIN_ALLOW_THREADS
-    status = load_either(&fresh, at, (size_t)length, (size_t)memory_limit);
+    status = cedar_load_any(&fresh, at, (size_t)length, (size_t)memory_limit);
     Py_END_ALLOW_THREADS
     if (status != CEDAR_OK) {
         fail_with(status);

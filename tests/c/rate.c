@@ -3,7 +3,8 @@
  *
  *     gcc -std=c11 -O2 -pthread -Iinclude -o rate tests/c/rate.c crates/cedar_c/out/c/libcedar.a && ./rate words.txt
  *
- * Each thread looks up all words in an order of its own, ROUNDS times. It prints the rates, and by how much the one is above the other. */
+ * Each thread looks up all words in an order of its own, ROUNDS times. It prints the rates, by how much the one is above the other, and the
+ * time of a processor that a look-up takes: on four processors without other work the rate is four times as high where that stays. */
 #include "cedar.h"
 #include "check.h"
 #include <pthread.h>
@@ -62,13 +63,16 @@ static void *look_up(void *given) {
     return NULL;
 }
 
-/* The look-ups a second of so many threads. */
+/* Prints the look-ups a second of so many threads, and answers how many these are. */
 static double rate_of(size_t threads, Work *work) {
     pthread_t running[THREADS];
-    double begun = seconds();
+    double begun = seconds(), look_ups = (double)threads * (double)count * rounds;
+    clock_t spent = clock();
     for (size_t i = 0; i < threads; i++) CHECK(pthread_create(&running[i], NULL, look_up, &work[i]) == 0);
     for (size_t i = 0; i < threads; i++) CHECK(pthread_join(running[i], NULL) == 0);
-    return (double)threads * (double)count * rounds / (seconds() - begun);
+    double rate = look_ups / (seconds() - begun);
+    printf("%zu threads: %.0f look-ups a second, each %.0f ns of a processor\n", threads, rate, (double)(clock() - spent) * 1e9 / CLOCKS_PER_SEC / look_ups);
+    return rate;
 }
 
 int main(int argc, char **argv) {
@@ -83,9 +87,8 @@ int main(int argc, char **argv) {
         work[i].d = d;
         work[i].order = shuffled();
     }
-    rate_of(THREADS, work);
-    double one = rate_of(1, work), eight = rate_of(THREADS, work);
-    printf("%zu words; look-ups a second: 1 thread %.0f, %d threads %.0f, which is %.2f times as many\n", count, one, THREADS, eight, eight / one);
+    double one = rate_of(1, work);
+    printf("%.2f times as many\n", rate_of(THREADS, work) / one);
     for (size_t i = 0; i < THREADS; i++) free(work[i].order);
     cedar_free(&d);
     return 0;
