@@ -13,3 +13,4 @@ pub mod Scans
 pub mod Shrinks
 pub mod Status
 pub mod Stores
+pub mod Words

@@ -1,17 +1,8 @@
 //! A dictionary of either layout: each call goes to the one that is there.
 
 ghost use Rattle.std.specs.Prelude.{◌≡◌, ◌↔◌, ◌+◌, ◌-◌, ◌*◌, ◌/◌, ◌<◌, ◌≤◌, Err, IfErr, IfOk, IfSome, IsOk, IsSome, IsTrue, OnErr, OnOk, length};
-ghost use Rattle.cedar_model.specs.Table.Layouts.{default_layout, reduced_layout};
-ghost use Rattle.cedar_tree.specs.Queries.{prefixes, used, walk};
-ghost use Rattle.cedarwood.specs.Builds.{outcome};
-ghost use Rattle.cedarwood.specs.Dictionary.{capacity_after};
-ghost use Rattle.cedarwood.specs.Fault.{fault};
-ghost use Rattle.cedarwood.specs.Room.{LacksRoom};
-ghost use Rattle.cedarwood.specs.State.{erased};
-ghost use Rattle.cedarwood.specs.Tree.{number_at};
-ghost use Rattle.cedarwood.specs.Updates.{IsUpdate};
-ghost use Rattle.cedarwood.specs.Words.{IsEmpty};
-ghost use Rattle.cedar_c.specs.Layouts.{dictionary_in, layout_if, layout_of, most_slots};
+ghost use Rattle.cedar_c.specs.Words.{IsEmpty, IsUpdate, LacksRoom, capacity_after, default_layout, dictionary_in, erased, fault, layout_if, layout_of};
+ghost use Rattle.cedar_c.specs.Words.{most_slots, number_at, outcome, prefixes, reduced_layout, used, walk};
 
 use cedarwood::{Cedar, CedarBuilder, CedarError, ReducedCedar};
 use std::alloc::Global;

@@ -1,11 +1,7 @@
 //! Whether a key is held, and the longest key that a text begins with.
 
 ghost use Rattle.std.specs.Prelude.{◌≡◌, ◌↔◌, None, IfSome, IsSome, IsTrue};
-ghost use Rattle.cedarwood.specs.Ranges.{longest_front};
-ghost use Rattle.cedarwood.specs.Tree.{number_at};
-ghost use Rattle.cedar_c.specs.Layouts.{dictionary_in};
-ghost use Rattle.cedar_c.specs.Matches.{match_of};
-ghost use Rattle.cedar_c.specs.Readings.{shown_tree};
+ghost use Rattle.cedar_c.specs.Words.{dictionary_in, longest_front, match_of, number_at, shown_tree};
 
 use crate::any::AnyCedar;
 use crate::reading::Reading;

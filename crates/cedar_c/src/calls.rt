@@ -1,16 +1,9 @@
 //! The calls that make, change and ask a dictionary.
 
 ghost use Rattle.std.specs.Prelude.{◌≡◌, ◌⊎◌, ◌-◌, ◌*◌, ◌<◌, ◌≤◌, pos, length, None, Some, IsSome, IfSome, IsTrue, ◌↔◌, option_map, true};
-ghost use Rattle.cedarwood.specs.Fault.{fault};
-ghost use Rattle.cedarwood.specs.State.{stored, erased};
-ghost use Rattle.cedarwood.specs.Tree.{number_at};
-ghost use Rattle.cedarwood.specs.Words.{IsEmpty};
-ghost use Rattle.cedar_model.specs.Table.Layouts.{default_layout, reduced_layout};
-ghost use Rattle.cedar_c.specs.Content.{content, layout_in, state_in, tree_in, trials_in, size_in, capacity_in};
-ghost use Rattle.cedar_c.specs.Layouts.{dictionary_in, layout_if, layout_of, most_slots};
-ghost use Rattle.cedar_c.specs.Opens.{OpensNew};
-ghost use Rattle.cedar_c.specs.Readings.{shown_tree};
-ghost use Rattle.cedar_c.specs.Status.{LacksOnlyNew, position_of, status_of, TellsPosition};
+ghost use Rattle.cedar_c.specs.Words.{IsEmpty, LacksOnlyNew, OpensNew, TellsPosition, capacity_in, content, default_layout, dictionary_in, erased, fault};
+ghost use Rattle.cedar_c.specs.Words.{layout_if, layout_in, layout_of, most_slots, number_at, position_of, reduced_layout, shown_tree, size_in, state_in};
+ghost use Rattle.cedar_c.specs.Words.{status_of, stored, tree_in, trials_in};
 ghost use Rattle.cedar_c.specs.declared.any.AnyCedar.{AnyCedar};
 
 use crate::any::AnyCedar;

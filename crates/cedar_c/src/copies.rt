@@ -1,8 +1,7 @@
 //! A dictionary copied into another handle.
 
 ghost use Rattle.std.specs.Prelude.{◌≡◌, ◌⊎◌, ◌↔◌, None, IfSome};
-ghost use Rattle.cedar_c.specs.Content.{content};
-ghost use Rattle.cedar_c.specs.Readings.{shown_in};
+ghost use Rattle.cedar_c.specs.Words.{content, shown_in};
 
 use crate::any::AnyCedar;
 use crate::handle::Handle;

@@ -1,10 +1,7 @@
 //! The cut of least cost of a whole text, written into a buffer of the caller's.
 
 ghost use Rattle.std.specs.Prelude.{◌≡◌, ◌⊎◌, ◌++◌, ◌<◌, ◌≤◌, ◌↔◌, None, IfSome, length, map, drop, set};
-ghost use Rattle.cedar_c.specs.Cuts.{IsLeastCut, LacksPlaces, WritesLeastCut, prices};
-ghost use Rattle.cedar_c.specs.Layouts.{dictionary_in};
-ghost use Rattle.cedar_c.specs.Readings.{shown_in, shown_tree};
-ghost use Rattle.cedar_c.specs.Scans.{token_spot};
+ghost use Rattle.cedar_c.specs.Words.{IsLeastCut, LacksPlaces, WritesLeastCut, dictionary_in, prices, shown_in, shown_tree, token_spot};
 
 use crate::any::AnyCedar;
 use crate::reading::Reading;

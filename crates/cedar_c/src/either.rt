@@ -1,9 +1,7 @@
 //! A dictionary's file of either layout.
 
 ghost use Rattle.std.specs.Prelude.{◌≡◌};
-ghost use Rattle.std.specs.List.{slice_get};
-ghost use Rattle.cedar_c.specs.Files.{is_reduced_byte, layout_named};
-ghost use Rattle.cedar_c.specs.Opens.{OpensLoaded};
+ghost use Rattle.cedar_c.specs.Words.{OpensLoaded, is_reduced_byte, layout_named, slice_get};
 
 use crate::files::renew;
 use crate::handle::Handle;

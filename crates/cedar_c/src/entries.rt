@@ -1,13 +1,8 @@
 //! Entries with their keys, a page of them a call.
 
 ghost use Rattle.std.specs.Prelude.{◌≡◌, ◌↔◌, ◌+◌, ◌-◌, ◌++◌, ◌≤◌, [], length, nat_eq, None, IfSome, IsSome, IsTrue, take, true};
-ghost use Rattle.std.specs.List.{starts_with};
-ghost use Rattle.cedar_model.specs.Meaning.WellFormed.{IsWellFormed, tree_of};
-ghost use Rattle.cedar_tree.specs.Tree.{number_at};
-ghost use Rattle.cedar_walk.specs.Visits.{ComesToFirst, IsNumberedBelow};
-ghost use Rattle.cedarwood.specs.RangeWalks.{IsRangePlace, ranged};
-ghost use Rattle.cedar_c.specs.Entries.{entries_behind, key_at, lacking, PageOf, Stops, TellsEntries, TellsPage, WritesNothing, WritesPage};
-ghost use Rattle.cedar_c.specs.Readings.{shown_in};
+ghost use Rattle.cedar_c.specs.Words.{ComesToFirst, IsNumberedBelow, IsRangePlace, IsWellFormed, PageOf, Stops, TellsEntries, TellsPage, WritesNothing};
+ghost use Rattle.cedar_c.specs.Words.{WritesPage, entries_behind, key_at, lacking, number_at, ranged, shown_in, starts_with, tree_of};
 
 use crate::any::AnyCedar;
 use crate::reading::Reading;

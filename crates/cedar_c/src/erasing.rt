@@ -1,9 +1,7 @@
 //! All keys that begin with a prefix removed, and all keys.
 
 ghost use Rattle.std.specs.Prelude.{◌≡◌, ◌⊎◌, ◌↔◌, None, IsSome};
-ghost use Rattle.cedarwood.specs.Words.{IsCleared, IsErasedUnder};
-ghost use Rattle.cedar_c.specs.Content.{content, layout_in, ChangesBy, ErasesUnder};
-ghost use Rattle.cedar_c.specs.Layouts.{dictionary_in, layout_of};
+ghost use Rattle.cedar_c.specs.Words.{ChangesBy, ErasesUnder, IsCleared, IsErasedUnder, content, dictionary_in, layout_in, layout_of};
 
 use crate::any::AnyCedar;
 use crate::handle::Handle;

@@ -1,15 +1,9 @@
 //! A dictionary's file, in memory of the caller's.
 
 ghost use Rattle.std.specs.Prelude.{◌≡◌, ◌≢◌, ◌⊎◌, ℕ, Some, None, IfOk, IfErr, IfSome, IsErrAnd};
-ghost use Rattle.cedar_format.specs.Format.{header_answer};
-ghost use Rattle.cedar_format.specs.Refusal.{refusal_of};
-ghost use Rattle.cedar_format.specs.Tables.{IsTableFile};
-ghost use Rattle.cedar_slots.specs.Places.{IsSlotLimit};
-ghost use Rattle.cedar_model.specs.Table.Layouts.{default_layout, layout_byte, reduced_layout};
-ghost use Rattle.cedar_c.specs.Files.{early_refusal, file_status, IsFileOf, LacksOrCorrupt, LacksTable, TellsHeader, TellsJust};
-ghost use Rattle.cedarwood.specs.OnTable.{IsOnTable};
-ghost use Rattle.cedar_c.specs.Layouts.{dictionary_in, layout_if, layout_of, most_slots};
-ghost use Rattle.cedar_c.specs.Opens.{OpensLoaded};
+ghost use Rattle.cedar_c.specs.Words.{IsFileOf, IsOnTable, IsSlotLimit, IsTableFile, LacksOrCorrupt, LacksTable, OpensLoaded, TellsHeader, TellsJust};
+ghost use Rattle.cedar_c.specs.Words.{default_layout, dictionary_in, early_refusal, file_status, header_answer, layout_byte, layout_if, layout_of, most_slots};
+ghost use Rattle.cedar_c.specs.Words.{reduced_layout, refusal_of};
 
 use crate::any::AnyCedar;
 use crate::handle::Handle;

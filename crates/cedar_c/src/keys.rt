@@ -1,10 +1,7 @@
 //! The keys themselves, written into a buffer of the caller's.
 
 ghost use Rattle.std.specs.Prelude.{◌≡◌, ◌⊎◌, ◌++◌, ◌<◌, ◌≤◌, ◌↔◌, None, IfSome, length, drop};
-ghost use Rattle.cedar_tree.specs.Queries.{walk};
-ghost use Rattle.cedar_c.specs.Layouts.{dictionary_in};
-ghost use Rattle.cedar_c.specs.Pairs.{keys_in};
-ghost use Rattle.cedar_c.specs.Readings.{shown_in, shown_tree};
+ghost use Rattle.cedar_c.specs.Words.{dictionary_in, keys_in, shown_in, shown_tree, walk};
 
 use crate::any::AnyCedar;
 use crate::reading::Reading;

@@ -1,9 +1,7 @@
 //! The keywords of a text, of which a buffer takes as many as it has room for.
 
 ghost use Rattle.std.specs.Prelude.{◌≡◌, ◌⊎◌, ◌++◌, ◌<◌, ◌≤◌, length, take, drop, None, IsSome};
-ghost use Rattle.cedar_c.specs.Layouts.{dictionary_in};
-ghost use Rattle.cedar_c.specs.Readings.{shown_in, shown_tree};
-ghost use Rattle.cedar_c.specs.Scans.{GoesOn, WritesOn, keywords_from};
+ghost use Rattle.cedar_c.specs.Words.{GoesOn, WritesOn, dictionary_in, keywords_from, shown_in, shown_tree};
 
 use crate::any::AnyCedar;
 use crate::reading::Reading;

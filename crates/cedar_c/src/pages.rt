@@ -1,10 +1,7 @@
 //! Walks of a dictionary in pieces: a call goes on where the one before it ended.
 
 ghost use Rattle.std.specs.Prelude.{◌≡◌, ◌+◌, ◌<◌, ◌^◌, [], length, take, drop, IsTrue, false};
-ghost use Rattle.cedarwood.specs.Queries.{front, predict};
-ghost use Rattle.cedar_c.specs.Layouts.{dictionary_in};
-ghost use Rattle.cedar_c.specs.Matches.{Fit, filled_matches, front_keys, lengthened, predicted_keys};
-ghost use Rattle.cedar_c.specs.Readings.{shown_tree};
+ghost use Rattle.cedar_c.specs.Words.{Fit, dictionary_in, filled_matches, front, front_keys, lengthened, predict, predicted_keys, shown_tree};
 
 use crate::any::AnyCedar;
 use crate::reading::Reading;

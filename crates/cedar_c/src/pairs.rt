@@ -1,13 +1,8 @@
 //! Many pairs in one call.
 
 ghost use Rattle.std.specs.Prelude.{◌≡◌, ◌⊎◌, ◌↔◌, map, None, Err, IsSome, IfSome, IfErr, OnOk, OnErr, option_map};
-ghost use Rattle.cedarwood.specs.Fault.{IsShortage};
-ghost use Rattle.cedarwood.specs.Builds.{all_stored, first_fault};
-ghost use Rattle.cedar_c.specs.Content.{content, layout_in, size_in, state_in, trials_in};
-ghost use Rattle.cedar_c.specs.Layouts.{dictionary_in, layout_of, most_slots};
-ghost use Rattle.cedar_c.specs.Pairs.{StoresFront, StoresPart, entries_in, taken_pair};
-ghost use Rattle.cedar_c.specs.Status.{TellsPosition};
-ghost use Rattle.cedar_c.specs.Stores.{HoldsFront, HoldsPart, RefusesAll};
+ghost use Rattle.cedar_c.specs.Words.{HoldsFront, HoldsPart, IsShortage, RefusesAll, StoresFront, StoresPart, TellsPosition, all_stored, content};
+ghost use Rattle.cedar_c.specs.Words.{dictionary_in, entries_in, first_fault, layout_in, layout_of, most_slots, size_in, state_in, taken_pair, trials_in};
 
 use crate::any::AnyCedar;
 use crate::handle::Handle;

@@ -1,9 +1,8 @@
 //! Memory asked for ahead.
 
 ghost use Rattle.std.specs.Prelude.{◌≡◌, ◌⊎◌, ◌+◌, ◌-◌, ◌*◌, ◌<◌, ◌≤◌, ◌↔◌, None, IsSome};
-ghost use Rattle.cedarwood.specs.Dictionary.{capacity_after};
-ghost use Rattle.cedar_c.specs.Content.{content, layout_in, marks_in, state_in, trials_in, size_in, capacity_in};
-ghost use Rattle.cedar_c.specs.Layouts.{HasToGrow, dictionary_in, layout_of, most_slots};
+ghost use Rattle.cedar_c.specs.Words.{HasToGrow, capacity_after, capacity_in, content, dictionary_in, layout_in, layout_of, marks_in, most_slots, size_in};
+ghost use Rattle.cedar_c.specs.Words.{state_in, trials_in};
 
 use crate::any::AnyCedar;
 use crate::handle::Handle;

@@ -1,11 +1,7 @@
 //! Long texts, of which a buffer takes as much as it has room for: a call goes on where the one before it ended.
 
 ghost use Rattle.std.specs.Prelude.{◌≡◌, ◌⊎◌, ℕ, ℤ, List, ◌∷◌, ◌++◌, ◌+◌, ◌<◌, ◌≤◌, ◌^◌, [], length, map, take, drop, set, None, IfSome, IsSome};
-ghost use Rattle.cedar_tree.specs.Queries.{front};
-ghost use Rattle.cedar_c.specs.Layouts.{dictionary_in};
-ghost use Rattle.cedar_c.specs.Matches.{Fit};
-ghost use Rattle.cedar_c.specs.Readings.{shown_in, shown_tree};
-ghost use Rattle.cedar_c.specs.Scans.{GoesOn, spot, spots_from, tokens_from};
+ghost use Rattle.cedar_c.specs.Words.{Fit, GoesOn, dictionary_in, front, shown_in, shown_tree, spot, spots_from, tokens_from};
 
 use crate::any::AnyCedar;
 use crate::reading::Reading;

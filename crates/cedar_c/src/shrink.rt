@@ -1,10 +1,7 @@
 //! Memory that growth and erasures have left, given back.
 
 ghost use Rattle.std.specs.Prelude.{◌≡◌, ◌⊎◌, ◌↔◌, None, IsSome, OnErr};
-ghost use Rattle.cedarwood.specs.Shrinking.{IsShrunk};
-ghost use Rattle.cedar_c.specs.Content.{content, layout_in};
-ghost use Rattle.cedar_c.specs.Layouts.{dictionary_in, layout_of, most_slots};
-ghost use Rattle.cedar_c.specs.Shrinks.{Shrinks};
+ghost use Rattle.cedar_c.specs.Words.{IsShrunk, Shrinks, content, dictionary_in, layout_in, layout_of, most_slots};
 
 use crate::any::AnyCedar;
 use crate::handle::Handle;

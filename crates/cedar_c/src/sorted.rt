@@ -1,14 +1,8 @@
 //! A dictionary of sorted pairs, made at once.
 
 ghost use Rattle.std.specs.Prelude.{◌≡◌, ◌⊎◌, None, Some, Err, IfOk, IfErr, IfSome};
-ghost use Rattle.cedar_slots.specs.Places.{IsSlotLimit};
-ghost use Rattle.cedar_model.specs.Table.Layouts.{default_layout, reduced_layout};
-ghost use Rattle.cedarwood.specs.Words.{IsSorted};
-ghost use Rattle.cedar_c.specs.Content.{content, layout_in};
-ghost use Rattle.cedar_c.specs.Layouts.{dictionary_in, layout_if, layout_of, most_slots};
-ghost use Rattle.cedar_c.specs.Opens.{OpensSorted};
-ghost use Rattle.cedar_c.specs.Pairs.{MayWantSlots, entries_in, fault_in};
-ghost use Rattle.cedar_c.specs.Status.{TellsFault, TellsPosition};
+ghost use Rattle.cedar_c.specs.Words.{IsSlotLimit, IsSorted, MayWantSlots, OpensSorted, TellsFault, TellsPosition, content, default_layout, dictionary_in};
+ghost use Rattle.cedar_c.specs.Words.{entries_in, fault_in, layout_if, layout_in, layout_of, most_slots, reduced_layout};
 ghost use Rattle.cedar_c.specs.declared.any.AnyCedar.{AnyCedar};
 
 use crate::any::AnyCedar;

@@ -1,10 +1,8 @@
 //! Walks of a dictionary, written into a buffer of the caller's.
 
 ghost use Rattle.std.specs.Prelude.{◌≡◌, ℕ, ℤ, List, ◌∷◌, ◌++◌, ◌+◌, ◌<◌, ◌^◌, length, take, drop};
-ghost use Rattle.cedarwood.specs.Queries.{front, predict};
-ghost use Rattle.cedar_c.specs.Layouts.{dictionary_in};
-ghost use Rattle.cedar_c.specs.Matches.{Fit, filled_from, filled_matches, front_keys, lengthened, longer, predicted_keys};
-ghost use Rattle.cedar_c.specs.Readings.{shown_tree};
+ghost use Rattle.cedar_c.specs.Words.{Fit, dictionary_in, filled_from, filled_matches, front, front_keys, lengthened, longer, predict, predicted_keys};
+ghost use Rattle.cedar_c.specs.Words.{shown_tree};
 
 use crate::any::AnyCedar;
 use crate::reading::Reading;
