@@ -54,7 +54,8 @@ static bool gather_page(const cedar *dictionary, const Span *prefix, Gathered *g
     for (size_t i = 0; i < count; i++) size += gathered->matches[i].length;
     cedar_found *found = malloc(count * sizeof *found);
     bool done = found && make_room((void **)&gathered->bytes, &gathered->room, size, 1);
-    done = done && cedar_entries_from(dictionary, prefix->at, prefix->length, NONE, 0, found, count, gathered->bytes, size, &gathered->count, NULL) == CEDAR_OK;
+    done = done && cedar_entries_from(dictionary, prefix->at, prefix->length, NONE, 0, found, count, gathered->bytes, size, &gathered->count,
+                                      NULL) == CEDAR_OK;
     free(found);
     if (done) gathered->size = size;
     return done;

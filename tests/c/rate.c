@@ -71,7 +71,8 @@ static double rate_of(size_t threads, Work *work) {
     for (size_t i = 0; i < threads; i++) CHECK(pthread_create(&running[i], NULL, look_up, &work[i]) == 0);
     for (size_t i = 0; i < threads; i++) CHECK(pthread_join(running[i], NULL) == 0);
     double rate = look_ups / (seconds() - begun);
-    printf("%zu threads: %.0f look-ups a second, each %.0f ns of a processor\n", threads, rate, (double)(clock() - spent) * 1e9 / CLOCKS_PER_SEC / look_ups);
+    double nanoseconds = (double)(clock() - spent) * 1e9 / CLOCKS_PER_SEC / look_ups;
+    printf("%zu threads: %.0f look-ups a second, each %.0f ns of a processor\n", threads, rate, nanoseconds);
     return rate;
 }
 

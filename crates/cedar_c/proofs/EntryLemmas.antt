@@ -1,5 +1,5 @@
 -- How a page of entries is written, an entry at a time.
-use Rattle.std.proofs.Common.{◌≡◌, ℕ, zero, suc, ◌+◌, ◌-◌, ◌<◌, ◌≤◌, ◌⊎◌, inl, inr, ◌∙◌, ap, arith, true, false, ℤ, IsSome, None, Option, Some, Less, Equal, Greater, Ordering, List, [], ◌∷◌, ◌++◌, length, map, take, drop, set, nat_eq, nat_lt, Bool, cond, refl, sym}
+use Rattle.std.proofs.Common.{◌≡◌, ℕ, zero, suc, ◌+◌, ◌-◌, ◌<◌, ◌≤◌, ◌⊎◌, inl, inr, ◌∙◌, ap, arith, true, false, ℤ, IsSome, None, Some, Less, Equal, Greater, Ordering, List, [], ◌∷◌, ◌++◌, length, map, take, drop, set, nat_eq, nat_lt, Bool, cond, refl, sym}
 use Rattle.std.specs.List.{AllByRecursion, filter, starts_with}
 use Rattle.std.specs.Option.{is_some}
 use Rattle.std.specs.List.Sorted.{IsStrictlySortedBy}
