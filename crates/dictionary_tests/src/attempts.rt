@@ -1,9 +1,11 @@
 //! Calls on a dictionary that take memory, each request of which is refused in turn.
 ghost use Rattle.cedar_slots.specs.Places.{IsSlotLimit};
 
-use crate::bare::{Full, below, build, copied, counts, fronts, insert, made, shrink, update};
-use crate::state::{State, loads_again, state_of};
 use cedarwood::{CedarError, DefaultLayout, Layout, ReducedLayout, Trie};
+use dictionary_support::bare::{
+    Full, below, build, copied, counts, fronts, insert, made, shrink, update,
+};
+use dictionary_support::state::{State, loads_again, state_of};
 use std::alloc::{Allocator, Global};
 use std::process::Abort;
 use std::test::Fail;

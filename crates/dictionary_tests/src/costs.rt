@@ -1,8 +1,8 @@
 //! A text cut at least cost, where each request for memory is refused in turn.
 
-use crate::bare::{Full, build, empty};
 use cedar_words::cheapest;
 use cedarwood::{DefaultLayout, Layout, ReducedLayout};
+use dictionary_support::bare::{Full, build, empty};
 use std::alloc::Global;
 use std::process::Abort;
 use std::test::Fail;

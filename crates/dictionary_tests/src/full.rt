@@ -1,9 +1,9 @@
 //! Dictionaries whose slots are all in use: a refused key leaves them as they were, and they can be emptied and filled again.
 ghost use Rattle.cedar_slots.specs.Places.{IsSlotLimit};
 
-use crate::bare::{counts, erase, found, made, room, update};
-use crate::state::{loads_again, saved};
 use cedarwood::{CedarError, DefaultLayout, Layout, ReducedLayout, Trie};
+use dictionary_support::bare::{counts, erase, found, made, room, update};
+use dictionary_support::state::{loads_again, saved};
 use std::alloc::Global;
 use std::process::Abort;
 use std::test::Fail;
@@ -86,7 +86,7 @@ fn expect_twice<L: Layout, const SLOTS: usize>(
     Ok(())
 }
 
-#[tactic(auto, using(crate::proofs::SlotLimits::limit_256, crate::proofs::SlotLimits::limit_512))]
+#[tactic(auto, using(dictionary_support::proofs::SlotLimits::limit_256, dictionary_support::proofs::SlotLimits::limit_512))]
 #[test]
 fn emptied_and_filled_again(rt: HostRuntime) -> Result<(), Fail> {
     for ordered in [true, false] {

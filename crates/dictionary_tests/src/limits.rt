@@ -1,10 +1,10 @@
 //! Mixed calls on dictionaries of few slots beside the plain tree, most of the time with no slot left.
 ghost use Rattle.cedar_slots.specs.Places.{IsSlotLimit};
 
-use crate::bare::{cut, erase, made, put, room, update};
-use crate::sequence::next;
-use crate::state::{loads_again, state_of};
 use cedarwood::{CedarError, DefaultLayout, Layout, ReducedLayout, Trie};
+use dictionary_support::bare::{cut, erase, made, put, room, update};
+use dictionary_support::sequence::next;
+use dictionary_support::state::{loads_again, state_of};
 use plain_tree::PlainTree;
 use std::alloc::{AllocError, Global};
 use std::process::Abort;
@@ -231,7 +231,7 @@ fn run<L: Layout, const SLOTS: usize>(
     Ok(())
 }
 
-#[tactic(auto, using(crate::proofs::SlotLimits::limit_256, crate::proofs::SlotLimits::limit_512, crate::proofs::SlotLimits::limit_1024))]
+#[tactic(auto, using(dictionary_support::proofs::SlotLimits::limit_256, dictionary_support::proofs::SlotLimits::limit_512, dictionary_support::proofs::SlotLimits::limit_1024))]
 fn run_each<L: Layout>(rt: &impl Abort, alloc: Global) -> Result<(), Fail> {
     for ordered in [true, false] {
         run::<L, 256>(rt, alloc, ordered)?;

@@ -1,11 +1,11 @@
 //! A key of a million bytes and its first half, through each call and through files: a chain of a million nodes.
-use crate::bare::{
+use cedar_words::segment;
+use cedarwood::{CedarError, CedarPersistenceError, DefaultLayout, Entries, Layout, ReducedLayout};
+use dictionary_support::bare::{
     Full, below, build, copied, counts, erase, found, fronts, insert, load_at_path, longest,
     of_sorted, save_at_path, update,
 };
-use crate::state::{loads_again, saved};
-use cedar_words::segment;
-use cedarwood::{CedarError, CedarPersistenceError, DefaultLayout, Entries, Layout, ReducedLayout};
+use dictionary_support::state::{loads_again, saved};
 use std::alloc::{AllocError, Global};
 use std::cell::Cell;
 use std::process::Abort;

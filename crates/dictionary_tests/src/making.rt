@@ -1,9 +1,9 @@
 //! Dictionaries that are made, new ones and of sorted pairs, each request refused in turn.
 ghost use Rattle.cedar_slots.specs.Places.{IsSlotLimit};
 
-use crate::bare::{Full, counts, made, of_sorted, of_sorted_texts};
-use crate::state::loads_again;
 use cedarwood::{CedarError, DefaultLayout, Layout, ReducedLayout, Trie};
+use dictionary_support::bare::{Full, counts, made, of_sorted, of_sorted_texts};
+use dictionary_support::state::loads_again;
 use std::alloc::{Allocator, Global};
 use std::process::Abort;
 use std::test::Fail;

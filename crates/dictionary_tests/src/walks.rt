@@ -1,11 +1,11 @@
 //! Walks over all entries, each request of which is refused in turn.
 ghost use Rattle.cedar_slots.specs.Places.{IsSlotLimit};
 
-use crate::bare::{Full, build, made};
 use cedarwood::{
     CedarError, DefaultLayout, Entries, EntryError, Layout, ReducedLayout, Trie, Utf8Entries,
     Walked,
 };
+use dictionary_support::bare::{Full, build, made};
 use std::alloc::{Allocator, Global};
 use std::process::Abort;
 use std::test::Fail;

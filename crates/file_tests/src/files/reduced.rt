@@ -1,7 +1,7 @@
 //! Files of the reduced layout.
-use crate::bare::empty;
 use crate::files::bytes::{empty_file, expect_loaded, expect_saved, loaded_as, saved, set};
 use cedarwood::{Cedar, CedarPersistenceError, DefaultLayout, Layout, ReducedLayout};
+use dictionary_support::bare::empty;
 use std::alloc::{AllocError, Global};
 use std::test::Fail;
 

@@ -1,10 +1,10 @@
 //! Loads that are refused memory, by readers that give a byte a read and that fail.
 ghost use Rattle.cedar_slots.specs.Places.{IsSlotLimit};
 
-use crate::bare::{build, empty};
-use crate::state::{loaded, saved, saves};
-use crate::verdict::{Answer, LOADS, Verdict, refusal};
 use cedarwood::{CedarPersistenceError, DefaultLayout, Layout, ReducedLayout, Trie, Watched};
+use dictionary_support::bare::{build, empty};
+use dictionary_support::state::{loaded, saved, saves};
+use dictionary_support::verdict::{Answer, LOADS, Verdict, refusal};
 use std::alloc::{AllocError, Allocator, Global};
 use std::process::Abort;
 use std::test::Fail;
@@ -122,7 +122,7 @@ fn large_header(alloc: Global) -> Result<Vec<u8>, AllocError> {
 }
 
 // A load of a table that is larger than is allowed, with the first request refused.
-#[tactic(auto, using(crate::proofs::SlotLimits::limit_256))]
+#[tactic(auto, using(dictionary_support::proofs::SlotLimits::limit_256))]
 fn load_small(alloc: Global) -> Result<Loaded, Fail> {
     let file = file_of::<DefaultLayout>(alloc)?;
     let memory = Refusing::new(alloc);

@@ -5,7 +5,7 @@ use std::alloc::Allocator;
 use std::process::Abort;
 
 /// A key has to be found with a number and its length, or not at all.
-pub(crate) fn expect_found<L: Layout, const SLOTS: usize, A: Allocator + Copy>(
+pub fn expect_found<L: Layout, const SLOTS: usize, A: Allocator + Copy>(
     rt: &impl Abort,
     trie: &Trie<L, SLOTS, A>,
     key: &[u8],
@@ -15,7 +15,7 @@ pub(crate) fn expect_found<L: Layout, const SLOTS: usize, A: Allocator + Copy>(
 }
 
 /// So many keys have to be held, and so many slots used.
-pub(crate) fn expect_counts<L: Layout, const SLOTS: usize, A: Allocator + Copy>(
+pub fn expect_counts<L: Layout, const SLOTS: usize, A: Allocator + Copy>(
     rt: &impl Abort,
     trie: &Trie<L, SLOTS, A>,
     keys: usize,
@@ -25,7 +25,7 @@ pub(crate) fn expect_counts<L: Layout, const SLOTS: usize, A: Allocator + Copy>(
 }
 
 /// So many slots have to be there, and so many blocks to spare.
-pub(crate) fn expect_room<L: Layout, const SLOTS: usize, A: Allocator + Copy>(
+pub fn expect_room<L: Layout, const SLOTS: usize, A: Allocator + Copy>(
     rt: &impl Abort,
     trie: &Trie<L, SLOTS, A>,
     capacity: usize,
@@ -35,7 +35,7 @@ pub(crate) fn expect_room<L: Layout, const SLOTS: usize, A: Allocator + Copy>(
 }
 
 /// A key is erased, and has to have been held or not.
-pub(crate) fn expect_erased<L: Layout, const SLOTS: usize, A: Allocator + Copy>(
+pub fn expect_erased<L: Layout, const SLOTS: usize, A: Allocator + Copy>(
     rt: &impl Abort,
     trie: &mut Trie<L, SLOTS, A>,
     key: &[u8],

@@ -1,10 +1,10 @@
 //! Loads and saves by path, over files that can't be opened, made, read, written or flushed, and without memory.
 ghost use Rattle.cedar_slots.specs.Places.{IsSlotLimit};
 
-use crate::bare::{load_at_path, made, save_at_path, update};
 use crate::files::bytes::{one_key_file, set};
-use crate::verdict::{Answer, Verdict, answer_of};
 use cedarwood::{Cedar, CedarError, CedarPersistenceError, Layout, Trie};
+use dictionary_support::bare::{load_at_path, made, save_at_path, update};
+use dictionary_support::verdict::{Answer, Verdict, answer_of};
 use std::alloc::{AllocError, Allocator, Global};
 use std::cell::Cell;
 use std::process::Abort;
