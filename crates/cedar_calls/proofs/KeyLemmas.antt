@@ -55,7 +55,7 @@ erased_others : (s : State) (p q : List ℕ) (es : List Entry) → IsSoundBelow 
 erased_others s p q [] sound apart_from = refl
 erased_others s p q (e ∷ es) sound apart_from =
     (elim (starts_with nat_eq e.0 p) as (λ b. starts_with nat_eq e.0 p ≡ b
-        → number_at (all_erased s (cond b (e ∷ filter (λ x. starts_with nat_eq x.0 p) es) (filter (λ x. starts_with nat_eq x.0 p) es))).tree q ≡ number_at s.tree q) [
+    → number_at (all_erased s (cond b (e ∷ filter (λ x. starts_with nat_eq x.0 p) es) (filter (λ x. starts_with nat_eq x.0 p) es))).tree q ≡ number_at s.tree q) [
       | true ↦ λ begins.
           erased_others (erased s e.0) p q es (sound-cut s.tree e.0 sound) apart_from
           ∙ number_at-cut_other s.tree e.0 q sound (λ same. true≢false (sym begins ∙ ap (λ k. starts_with nat_eq k p) (sym same) ∙ apart_from))
