@@ -1,5 +1,5 @@
 -- What is written in parts, and calls of a writer that didn't fail.
-use Rattle.std.proofs.Common.{◌≡◌, ◌<◌, ℕ, List, [], ◌∷◌, ◌++◌, Option, Some, None, refl, sym, ap, ◌∙◌, append_assoc, append-nil, take, drop, length, ◌-◌, arith, take-append-drop, length-drop, length-append, Bool, true, false, ◌||◌, ◌&&◌, ◌==◌}
+use Rattle.std.proofs.Common.{◌≡◌, ℕ, List, [], ◌++◌, Option, Some, None, refl, sym, ap, ◌∙◌, append_assoc, append-nil, take, drop, length, ◌-◌, arith, take-append-drop, length-drop, length-append, Bool, true, false, ◌||◌, ◌&&◌, ◌==◌}
 use Rattle.std.proofs.lemmas.List.{take_all}
 use Rattle.std.proofs.lemmas.Bool.{eqb-true}
 use Rattle.std.specs.Prelude.{Result, Ok, Err, OnOk, OnErr}

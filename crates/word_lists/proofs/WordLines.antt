@@ -26,7 +26,7 @@ bytes_more a b d t bytes done rest x e first written more = (
   done ++ x ∷ [],
   e ∙ ap (λ l. done ++ l) first ∙ sym (append_assoc done (x ∷ []) (drop 1 rest)) ∙ ap (λ l. (done ++ x ∷ []) ++ l) (sym whole),
   subst (Appends a d) (sym (escaped-append t done (x ∷ []) ∙ ap (λ l. escaped t done ++ l) (append-nil (byte_text t x))))
-  (Appends-append a b d (escaped t done) (byte_text t x) written more),
+      (Appends-append a b d (escaped t done) (byte_text t x) written more),
 ) where
   whole : take (length rest - 1) (drop 1 rest) ≡ drop 1 rest
   whole = take_all (length rest - 1) (drop 1 rest) (omega (arith, length-drop 1 rest))

@@ -44,11 +44,7 @@ fn is_text(word: &[u8]) -> bool
 }
 
 /// Writes some bytes of a word, which is UTF-8 or not.
-fn write_bytes<W: Write>(
-    writer: &mut Watched<W>,
-    text: bool,
-    bytes: &[u8],
-) -> Result<(), ListError>
+fn write_bytes<W: Write>(writer: &mut Watched<W>, text: bool, bytes: &[u8]) -> Result<(), ListError>
     ensures ok { OnOk result (Writes W.contents writer.old writer.new (escaped text bytes.now)) }
     ensures err { OnErr result (BreaksOff W.contents writer.old writer.new (escaped text bytes.now)) }
     ensures faults { WritesOrFails (has_failed writer.old) (has_failed writer.new) result }

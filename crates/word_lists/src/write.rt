@@ -32,10 +32,7 @@ pub(crate) fn write_line<W: Write>(
 
 /// Writes all of some bytes. The first fault ends it, an interrupted write too: a part was then written, and
 /// not all. (`write_all` of the standard library promises nothing of what a failed call wrote.)
-pub(crate) fn write_whole<W: Write>(
-    writer: &mut Watched<W>,
-    bytes: &[u8],
-) -> Result<(), ListError>
+pub(crate) fn write_whole<W: Write>(writer: &mut Watched<W>, bytes: &[u8]) -> Result<(), ListError>
     ensures ok { OnOk result (Writes W.contents writer.old writer.new bytes.now) }
     ensures err { OnErr result (BreaksOff W.contents writer.old writer.new bytes.now) }
     ensures faults { WritesOrFails (has_failed writer.old) (has_failed writer.new) result }

@@ -1,4 +1,4 @@
-use Rattle.std.proofs.Common.{rules, w32, to_z, of_z, FitsSigned, ap, sym, subst, ◌∙◌, ◌≡◌, ◌++◌, ◌∷◌, [], append_assoc, List, ◌<◌, length}
+use Rattle.std.proofs.Common.{rules, w32, to_z, of_z, FitsSigned, ap, sym, subst, ◌∙◌, ◌≡◌, ◌++◌, ◌∷◌, [], append_assoc, ◌<◌, length}
 use Rattle.std.proofs.lemmas.Int.{to_z-of_z}
 use Rattle.std.specs.Io.KnownBytes.{Appends}
 use Rattle.cedar_tree.specs.Queries.{Entry}
@@ -45,4 +45,3 @@ loop-entry-preserved g c =
           (subst (λ (x : Entry). Appends begun holds (entry_line x)) same c.in_ok-write_entry-in-Ok.ensures.ok)),
       c.in_ok-write_entry-in-Ok.ensures.faults.unfailed ∙ i.3,
     )
-

@@ -1,4 +1,4 @@
-use Rattle.std.proofs.Common.{rules, ◌≡◌, [], ◌∷◌, List, ℕ, get_or, ◌∙◌}
+use Rattle.std.proofs.Common.{rules, ◌≡◌, [], get_or, ◌∙◌}
 use Rattle.cedarwood.specs.WatchedDevice.{device_of}
 use Rattle.word_lists.proofs.Bytes.{on_err}
 use Rattle.word_lists.proofs.WordLines.{bytes_more, bytes_stopped, first_byte}
