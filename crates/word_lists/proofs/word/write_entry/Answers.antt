@@ -1,0 +1,26 @@
+use Rattle.std.proofs.Common.{w32, ap, ◌∙◌, ◌≡◌, ◌++◌, ◌∷◌, [], List, ℕ, subst}
+use Rattle.std.proofs.lemmas.Int.{to_z-of_z}
+use Rattle.std.specs.Prelude.{OnErr}
+use Rattle.std.specs.Fmt.{signed_decimal}
+use Rattle.cedarwood.specs.WatchedDevice.{device_of}
+use Rattle.word_lists.specs.Devices.{WritesFront}
+use Rattle.word_lists.specs.Lines.{word_text}
+use Rattle.word_lists.proofs.Bytes.{front_more, then_err, on_err}
+use Rattle.word_lists.proofs.word.write_entry.Goals as goal
+
+pub returns-in_err-write_word-clause-err : goal.returns-in_err-write_word-clause-err
+returns-in_err-write_word-clause-err g c =
+    on_err c.from_residual.result
+    (front_more (g.W.Write.contents (device_of c.args.writer.now)) (g.W.Write.contents (device_of c.write_word.new.writer)) (word_text c.args.word.now)
+    (9 ∷ [] ++ (signed_decimal c.args.number ++ 10 ∷ [])) c.in_err-write_word.ensures.err)
+
+pub returns-clause-err : goal.returns-clause-err
+returns-clause-err g c =
+    let held = g.W.Write.contents (device_of c.args.writer.now) in
+    let begun = g.W.Write.contents (device_of c.write_word.new.writer) in
+    let holds = g.W.Write.contents (device_of c.write_line.new.writer) in
+    let digits = word_text c.args.word.now in
+    let text = c.as_bytes.result.now in
+    let figures : text ≡ signed_decimal c.args.number = c.as_bytes.ensures.value ∙ c.format.ensures.text ∙ ap signed_decimal (to_z-of_z w32 c.args.number c.ranges.number) in
+    subst (λ (t : List ℕ). OnErr c.write_line.result (WritesFront held holds (digits ++ (9 ∷ [] ++ (t ++ 10 ∷ []))))) figures
+    (then_err c.write_line.result held begun holds digits (9 ∷ [] ++ (text ++ 10 ∷ [])) c.in_ok-write_word.ensures.ok c.write_line.ensures.err)

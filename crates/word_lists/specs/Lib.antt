@@ -1,0 +1,5 @@
+pub use Rattle.cedar_tree.specs.Tree
+pub use Rattle.cedarwood.specs.WatchedDevice
+pub mod Devices
+pub mod Lines
+pub mod Words

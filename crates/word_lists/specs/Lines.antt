@@ -1,0 +1,37 @@
+-- The lines of words and their numbers.
+use Rattle.std.specs.Prelude.{ℕ, ℤ, ltb, Bool, ◌==◌, ◌&&◌, ◌||◌, not, if◌then◌else◌, List, [], ◌∷◌, ◌++◌, Option, Some, None}
+use Rattle.std.specs.Str.{is_utf8}
+use Rattle.std.specs.Fmt.{signed_decimal}
+use Rattle.hex.specs.Hex.{encode_lower}
+use Rattle.cedar_tree.specs.Queries.{Entry}
+
+-- whether a byte of a word stands as it is: no tab, no byte 10, no backslash, and below 128 where the word isn't UTF-8
+abbrev pub is_plain : Bool → ℕ → Bool
+is_plain text b = not (b == 9) && (not (b == 10) && (not (b == 92) && (text || ltb b 128)))
+
+-- a byte as it is, or as `\x` and two digits
+abbrev pub byte_text : Bool → ℕ → List ℕ
+byte_text text b = if is_plain text b then b ∷ [] else (92 ∷ (120 ∷ encode_lower (b ∷ [])))
+
+-- some bytes of a word, which is UTF-8 or not
+abbrev pub escaped : Bool → List ℕ → List ℕ
+escaped text [] = []
+escaped text (b ∷ bytes) = byte_text text b ++ escaped text bytes
+
+-- a word as it is written
+abbrev pub word_text : List ℕ → List ℕ
+word_text word = escaped (is_utf8 word) word
+
+-- a word, a tab, its number and byte 10
+abbrev pub entry_line : Entry → List ℕ
+entry_line entry = word_text entry.0 ++ (9 ∷ [] ++ (signed_decimal entry.1 ++ 10 ∷ []))
+
+-- the lines of some entries
+abbrev pub entry_lines : List Entry → List ℕ
+entry_lines [] = []
+entry_lines (entry ∷ entries) = entry_line entry ++ entry_lines entries
+
+-- the line of a word that was looked up, and nothing for one that isn't held
+abbrev pub found_line : List ℕ → Option ℤ → List ℕ
+found_line word None = []
+found_line word (Some number) = entry_line (word, number)

@@ -1,0 +1,45 @@
+//! The line of a word that is looked up.
+
+ghost use Rattle.std.specs.Prelude.{◌≡◌, OnOk, OnErr};
+ghost use Rattle.word_lists.specs.Words.{BreaksOff, Writes, has_failed, found_line, number_at, WritesOrFails};
+
+use crate::word::write_entry;
+use crate::write::ListError;
+use cedarwood::{Layout, Trie, Watched};
+use std::alloc::Allocator;
+use std::io::Write;
+
+/// Writes the line of a word that the dictionary holds, and nothing for another one. It takes no memory.
+///
+/// # Errors
+/// `Write` where the writer failed. Then a beginning of the line is written, and not all.
+pub fn write_number<L: Layout, const SLOTS: usize, A: Allocator + Copy, W: Write>(
+    writer: &mut Watched<W>,
+    trie: &Trie<L, SLOTS, A>,
+    word: &[u8],
+) -> Result<(), ListError>
+    //= A look-up that is `Ok` wrote the line of a word that is held, and nothing for another one.
+    ensures ok { OnOk result (Writes W.contents writer.old writer.new (found_line word.now (number_at trie.now.state.tree word.now))) }
+
+    //= One that fails wrote a beginning of that line, and not all; a call of the writer failed. [with faults]
+    ensures err { OnErr result (BreaksOff W.contents writer.old writer.new (found_line word.now (number_at trie.now.state.tree word.now))) }
+    ensures faults { WritesOrFails (has_failed writer.old) (has_failed writer.new) result }
+{
+    write_found(writer, word, trie.get_bytes(word))
+}
+
+/// Writes the line of a word that has a number, and nothing for one that has none.
+fn write_found<W: Write>(
+    writer: &mut Watched<W>,
+    word: &[u8],
+    number: Option<i32>,
+) -> Result<(), ListError>
+    ensures ok { OnOk result (Writes W.contents writer.old writer.new (found_line word.now number)) }
+    ensures err { OnErr result (BreaksOff W.contents writer.old writer.new (found_line word.now number)) }
+    ensures faults { WritesOrFails (has_failed writer.old) (has_failed writer.new) result }
+{
+    match number {
+        Some(number) => write_entry(writer, word, number),
+        None => Ok(()),
+    }
+}
