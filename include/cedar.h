@@ -246,14 +246,15 @@ typedef struct cedar_found {
     int32_t value;
 } cedar_found;
 
-/* A page of entries with their keys: of those whose keys begin with a prefix, and come behind a key that was shown last, in the order of the
- * walk; from the first one on where `behind` has no byte. That key needn't be held any more. found[0] and on tell where each key stands
- * among the bytes, how many bytes it has, and its value; the other places stay. The keys are written to bytes[0] and on, one after another,
- * and the other bytes may be written to as well. *count is how many entries were written: as many as found room, and 0 only if none is
- * left, or `places` is 0. To go on, copy the last key, and give it as `behind`. A page costs a look-up or two and its own entries, and takes
- * no memory; the dictionary may be changed between two pages. CEDAR_OK; CEDAR_IS_CLOSED; CEDAR_NOT_ASCENDING where `behind` has a byte and
- * labels don't ascend; CEDAR_NO_ROOM where the first key to come has more than `room` bytes, and *needed is how many: behind the last key
- * with the prefix this may be one without it. After an error nothing else is written. */
+/* A page of entries with their keys: of those whose keys begin with a prefix, and come behind a key that was shown last, in the order of
+ * the walk; from the first one on where `behind` has no byte. That key begins with the prefix, as the page's last key does, and needn't
+ * be held any more; behind a key without the prefix the page ends at the first key without it. found[0] and on tell where each key stands
+ * among the bytes, how many bytes it has, and its value; the other places stay. The keys are written to bytes[0] and on, one after
+ * another, and the other bytes may be written to as well. *count is how many entries were written: as many as found room, and 0 only if
+ * none is left, or `places` is 0. To go on, copy the last key, and give it as `behind`. A page costs a look-up or two and its own
+ * entries, and takes no memory; the dictionary may be changed between two pages. CEDAR_OK; CEDAR_IS_CLOSED; CEDAR_NOT_ASCENDING where
+ * `behind` has a byte and labels don't ascend; CEDAR_NO_ROOM where the first key to come has more than `room` bytes, and *needed is how
+ * many: behind the last key with the prefix this may be one without it. After an error nothing else is written. */
 uint32_t cedar_entries_from(const cedar_dictionary *d, const uint8_t *prefix, size_t prefix_length, const uint8_t *behind,
                             size_t behind_length, cedar_found *found, size_t places, uint8_t *bytes, size_t room, size_t *count,
                             size_t *needed);
