@@ -1,9 +1,8 @@
-//! For tests of the dictionary and its files: calls without their clauses, comparisons that tests make again and again, and what a test
-//! sees of a dictionary or of a load.
+//! For tests of the dictionary and its files: calls without their clauses, and what a test sees of a dictionary or of
+//! a load. What compares may end the process, which no library may: so each crate of tests has that itself.
 #![tactic(auto)]
 
 pub mod bare;
-pub mod expect;
 pub mod sequence;
 pub mod state;
 pub mod verdict;

@@ -1,7 +1,7 @@
 //! Mixed calls on the dictionary beside the plain tree, in both layouts.
+use crate::expect::{expect_counts, expect_erased};
 use cedarwood::{CedarBuilder, CedarError, DefaultLayout, Layout, ReducedLayout, Trie};
 use dictionary_support::bare::Full;
-use dictionary_support::expect::{expect_counts, expect_erased};
 use dictionary_support::sequence::next;
 use plain_tree::PlainTree;
 use std::alloc::{AllocError, Global};

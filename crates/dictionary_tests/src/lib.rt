@@ -10,6 +10,8 @@ mod beside;
 #[cfg(test)]
 mod costs;
 #[cfg(test)]
+mod expect;
+#[cfg(test)]
 mod full;
 #[cfg(test)]
 mod limits;

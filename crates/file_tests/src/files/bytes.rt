@@ -1,9 +1,9 @@
 //! Saved files byte by byte, and dictionaries that are saved and loaded.
+use crate::expect::{expect_found, expect_room};
 use cedarwood::{
     Cedar, CedarBuilder, CedarError, CedarPersistenceError, DefaultLayout, Layout, Trie, Watched,
 };
 use dictionary_support::bare::Full;
-use dictionary_support::expect::{expect_found, expect_room};
 use std::alloc::{AllocError, Global};
 use std::process::Abort;
 use std::test::Fail;
