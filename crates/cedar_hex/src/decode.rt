@@ -8,8 +8,8 @@ use crate::digits::digit_value;
 
 /// Reads hexadecimal digits of either case, two for each byte, writes the bytes to the front of `room`, and returns how many they are.
 ///
-/// Returns `None` for an odd number of digits, and for a text in which another byte stands. Then what a front of `room` has is left open,
-/// whose bytes are half as many as those of the text. It takes no memory.
+/// Returns `None` for an odd number of digits, and for a text in which another byte stands; then the first bytes of `room`, half as many as
+/// the text has, may have changed. It takes no memory.
 ///
 /// ```
 /// let mut room = [0; 4];
@@ -25,7 +25,7 @@ pub fn decode_into(text: &[u8], room: &mut [u8]) -> Option<usize>
     ensures bytes { option_map (λ n. take n room.new) result ≡ result_ok (decode_of text.now) }
     ensures within { IfSome result (λ n. n ≤ length room.old) }
 
-    //= A reading of digits writes nothing behind the place of the text's last byte, refused or not. [with len]
+    //= Only the first bytes of the room change, half as many as the text has, whether it is refused or not. [with len]
     ensures behind { drop (length text.now / 2) room.new ≡ drop (length text.now / 2) room.old }
     ensures len { length room.new ≡ length room.old }
 {
@@ -48,7 +48,7 @@ fn decode_pairs(text: &[u8], bytes: &mut [u8]) -> u8
         let high = digit_value(text[2 * i]);
         let low = digit_value(text[2 * i + 1]);
         bytes[i] = high.wrapping_mul(16).wrapping_add(low);
-        // What no digit is, is found once behind the loop, so that nothing in it depends on the bytes.
+        // A byte that is no digit is found behind the loop, so that no branch in it depends on the bytes.
         values |= high | low;
     }
     values
