@@ -5,6 +5,7 @@ ghost use Rattle.std.specs.Str.{is_utf8};
 ghost use Rattle.word_lists.specs.Words.{BreaksOff, Writes, WritesOrFails, byte_text, entry_line, escaped, has_failed, is_plain, word_text};
 
 use crate::write::{ListError, write_line, write_whole};
+use cedar_hex::encode_into;
 use cedarwood::Watched;
 use itoa::Buffer;
 use std::io::Write;
@@ -68,7 +69,7 @@ fn write_byte<W: Write>(writer: &mut Watched<W>, text: bool, byte: u8) -> Result
         return write_whole(writer, &[byte]);
     }
     let mut digits = [b'\\', b'x', 0, 0];
-    let _ = hex::encode_to_slice(&[byte], &mut digits[2..]);
+    encode_into(&[byte], &mut digits[2..]);
     write_whole(writer, &digits)
 }
 
