@@ -3,6 +3,7 @@
 ghost use Rattle.std.specs.Prelude.{◌≡◌, ◌≤◌, ◌*◌, IfSome, length, option_map, position, take};
 ghost use Rattle.cedar_cli.specs.Words.{after_first, before_first, is_space, key_of, order_of, value_of, with_key};
 
+use cedar_hex::decode_into;
 use memchr::memchr;
 
 /// What a line asks for.
@@ -106,13 +107,7 @@ fn parse_key(text: &[u8], room: &mut [u8]) -> Option<usize>
     match text {
         [] => None,
         b"." => Some(0),
-        _ => {
-            let len = text.len() / 2;
-            match hex::decode_to_slice(text, &mut room[..len]) {
-                Ok(()) => Some(len),
-                Err(_) => None,
-            }
-        }
+        _ => decode_into(text, room),
     }
 }
 

@@ -5,6 +5,7 @@ ghost use Rattle.cedar_cli.specs.Words.{BreaksOff, LineFault, Writes, WritesOrFa
 
 use crate::script::ScriptError;
 use crate::write::{write_line, write_whole};
+use cedar_hex::encode_into;
 use cedarwood::{Entries, Walked, Watched};
 use itoa::Buffer;
 use std::alloc::Allocator;
@@ -70,6 +71,6 @@ fn write_piece<W: Write>(
     ensures err { OnErr result (BreaksOff W.contents writer.old writer.new (encode_lower bytes.now)) }
     ensures faults { WritesOrFails (has_failed writer.old) (has_failed writer.new) result }
 {
-    let _ = hex::encode_to_slice(bytes, digits);
+    encode_into(bytes, digits);
     write_whole(writer, digits)
 }
