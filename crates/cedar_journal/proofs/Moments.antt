@@ -23,3 +23,11 @@ module _ {D : Type 0} (moment : D → ℕ) (left_since : D → ℕ → List ℕ 
     each = λ c left. ⊎_elim (first.each c) (λ now. now) (second.before (moment old) c first.later left);
     before = λ t c le left. ⊎_elim (first.before t c le) (λ now. inr now) (second.before t c (omega (arith, le, first.later)) left);
   }
+
+  -- what has P has Q
+  pub weakens : (old new : D) (P Q : List ℕ → Type 0) → ((c : List ℕ) → P c → Q c) → LeavesOnly moment left_since old new P → LeavesOnly moment left_since old new Q
+  weakens old new P Q so leaves = record {
+    later = leaves.later;
+    each = λ c left. so c (leaves.each c left);
+    before = λ t c le left. ⊎_elim (λ past. inl past) (λ now. inr (so c now)) (leaves.before t c le left);
+  }

@@ -4,7 +4,7 @@
 //! after a sync: so no checksum is trusted.
 
 ghost use Rattle.std.specs.Prelude.{◌≡◌, ◌+◌, ◌<◌, ◌≤◌, ◌^◌, IfErr, IfOk, IsErrOf, OnOk};
-ghost use Rattle.cedar_journal.specs.declared.journal.StageError.TheVariants.{Device};
+ghost use Rattle.cedar_journal.specs.declared.journal.JournalError.TheVariants.{Device};
 ghost use Rattle.cedar_journal.specs.Device.{Only, LeavesOnly};
 ghost use Rattle.cedar_journal.specs.Files.{added, recovered, HasExtent};
 ghost use Rattle.cedar_journal.specs.Frames.{payload_of};
@@ -17,21 +17,21 @@ use std::alloc::Allocator;
 /// Where the records may end at the latest for one more to be written.
 pub const MAX_END: usize = 1 << 60;
 
-/// Why a record wasn't staged.
+/// Why a record wasn't written.
 #[derive(Clone, Copy, Debug, PartialEq, Eq)]
-pub enum StageError {
+pub enum JournalError {
     /// The records end behind `MAX_END`.
     Full,
     /// The device's error.
     Device(DeviceError),
 }
 
-impl From<DeviceError> for StageError {
+impl From<DeviceError> for JournalError {
     //= A device's error is handed on.
     ghost from_gives = { λ error gives. gives ≡ Device error };
 
     fn from(error: DeviceError) -> Self {
-        StageError::Device(error)
+        JournalError::Device(error)
     }
 }
 
@@ -81,7 +81,7 @@ impl<D: Device> Journal<D> {
     ///
     /// # Errors
     /// `Full` where the records end behind `MAX_END`: nothing is written. `Device` where the device fails: open the file again.
-    pub fn stage<A: Allocator>(&mut self, frame: &Frame<A>) -> Result<(), StageError>
+    pub fn stage<A: Allocator>(&mut self, frame: &Frame<A>) -> Result<(), JournalError>
         requires { IsSettled D.seen D.may_leave self.old.device self.old.end }
 
         //= A staged record stands behind the closed gate, on the disk; the payloads stay the same. [with end, same]
@@ -95,13 +95,13 @@ impl<D: Device> Journal<D> {
 
         //= A record isn't staged just where the records end behind 2^60, and then nothing is written, or where the device fails; `Failed` is
         //  told only where the disk has failed. [with far, untouched, failed]
-        ensures full { IsErrOf result StageError.Full → 2 ^ 60 ≤ self.old.end }
-        ensures far { 2 ^ 60 ≤ self.old.end → IsErrOf result StageError.Full }
-        ensures untouched { IsErrOf result StageError.Full → self.new ≡ self.old }
-        ensures failed { IsErrOf result (StageError.Device DeviceError.Failed) → D.faults self.old.device < D.faults self.new.device }
+        ensures full { IsErrOf result JournalError.Full → 2 ^ 60 ≤ self.old.end }
+        ensures far { 2 ^ 60 ≤ self.old.end → IsErrOf result JournalError.Full }
+        ensures untouched { IsErrOf result JournalError.Full → self.new ≡ self.old }
+        ensures failed { IsErrOf result (JournalError.Device DeviceError.Failed) → D.faults self.old.device < D.faults self.new.device }
     {
         if self.end >= MAX_END {
-            return Err(StageError::Full);
+            return Err(JournalError::Full);
         }
         self.device.write_at(self.end + 1, frame.bytes())?;
         self.device.sync()?;
@@ -129,6 +129,33 @@ impl<D: Device> Journal<D> {
         self.device.write_at(self.end, &[1])?;
         self.device.sync()?;
         self.end += frame.len();
+        Ok(())
+    }
+
+    /// Writes a record and makes it count, by `stage` and `commit`. At `Ok` it is acknowledged.
+    ///
+    /// # Errors
+    /// `Full` where the records end behind `MAX_END`: nothing is written. `Device` where the device fails: the record counts or it doesn't;
+    /// open the file again.
+    pub fn append<A: Allocator>(&mut self, frame: &Frame<A>) -> Result<(), JournalError>
+        requires { IsSettled D.seen D.may_leave self.old.device self.old.end }
+
+        //= Once a record is appended, the file is at rest and on the disk, and stands for one payload more, this one. [with settled]
+        ensures acknowledged { OnOk result (recovered (D.seen self.new.device) ≡ added (payload_of frame.now) (recovered (D.seen self.old.device))) }
+        ensures settled { OnOk result (IsSettled D.seen D.may_leave self.new.device self.new.end) }
+
+        //= A crash at any moment of that leaves the payloads from before it, with the new one or without.
+        ensures any_moment { LeavesOnly D.moment D.left_since self.old.device self.new.device
+            (IsBeforeOrAfter (recovered (D.seen self.old.device)) (payload_of frame.now)) }
+
+        //= A record isn't appended just where the records end behind 2^60, and then nothing is written, or where the device fails. [with
+        //  far, untouched]
+        ensures full { IsErrOf result JournalError.Full → 2 ^ 60 ≤ self.old.end }
+        ensures far { 2 ^ 60 ≤ self.old.end → IsErrOf result JournalError.Full }
+        ensures untouched { IsErrOf result JournalError.Full → self.new ≡ self.old }
+    {
+        self.stage(frame)?;
+        self.commit(frame)?;
         Ok(())
     }
 }

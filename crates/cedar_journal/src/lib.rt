@@ -13,6 +13,6 @@ mod repair;
 pub use device::{Device, DeviceError};
 pub use extent::{Extent, ForeignFile, HEADER_LEN, MAGIC, extent_of};
 pub use frame::{Frame, FrameError, MAX_PAYLOAD};
-pub use journal::{Journal, MAX_END, StageError};
+pub use journal::{Journal, JournalError, MAX_END};
 pub use memory::Memory;
 pub use records::first_payload;
