@@ -58,6 +58,9 @@ pub trait Device {
     /// # Errors
     /// `Memory` where a request was refused, `Failed` where the disk failed.
     fn read<A: Allocator>(&mut self, alloc: A) -> Result<Vec<u8, A>, DeviceError>
+        //= The trait of devices: what each call does to what a read returns and to what a crash may leave, and that `Failed` is told only
+        //  where the disk has failed. [with seen, crash, time, cause; also write_at.written, write_at.crash, write_at.time, write_at.cause,
+        //  cut.cut, cut.crash, cut.time, cut.cause, sync.durable, sync.seen, sync.crash, sync.time, sync.cause]
         ensures bytes { IfOk result (λ bytes. bytes.items ≡ seen self.old) }
         ensures seen { seen self.new ≡ seen self.old }
         ensures crash { (c : List ℕ) → may_leave self.new c → may_leave self.old c }

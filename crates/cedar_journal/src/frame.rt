@@ -19,6 +19,7 @@ pub enum FrameError {
 }
 
 impl From<AllocError> for FrameError {
+    //= Want of memory for a frame is told as `Memory`.
     ghost from_gives = { λ _ e. e ≡ Memory };
 
     fn from(_: AllocError) -> Self {
@@ -27,6 +28,7 @@ impl From<AllocError> for FrameError {
 }
 
 impl<T: Drop> From<AllocFailed<T>> for FrameError {
+    //= So is want of room for one byte more.
     ghost from_gives = { λ _ e. e ≡ Memory };
 
     fn from(_: AllocFailed<T>) -> Self {
