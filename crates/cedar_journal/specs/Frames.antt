@@ -1,0 +1,7 @@
+use Rattle.std.specs.Prelude.{ℕ, List}
+use Rattle.cedar_journal.specs.declared.frame.Frame.{Frame}
+use Rattle.cedar_journal.specs.Records.{unframed}
+
+-- the payload that a frame is of
+abbrev pub payload_of : {A : Type 0} → Frame A → List ℕ
+payload_of frame = unframed frame.bytes.items

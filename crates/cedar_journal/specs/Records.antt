@@ -1,0 +1,50 @@
+-- Records of bytes, one after another. A record is a gate, the length of its payload in four bytes, the lowest first, and the payload. It
+-- counts if its gate is open (1) and all of it is there.
+use Rattle.std.specs.Prelude.{◌≡◌, ℕ, zero, suc, ◌+◌, ◌-◌, ◌*◌, ◌/◌, ◌%◌, ◌≤◌, ◌&&◌, ◌==◌, nat_le, Bool, false, List, [], ◌∷◌, ◌++◌, length, take, drop, get_or, cond}
+
+-- the length that a record tells, whether it is there or not
+abbrev pub payload_length : List ℕ → ℕ
+payload_length bytes = get_or bytes 1 0 + 256 * get_or bytes 2 0 + 65536 * get_or bytes 3 0 + 16777216 * get_or bytes 4 0
+
+-- the gate of the first record is open, and all of it is there
+unfoldable pub has_record : List ℕ → Bool
+has_record bytes = get_or bytes 0 0 == 1 && nat_le (5 + payload_length bytes) (length bytes)
+
+-- the payload of the first record
+unfoldable pub payload : List ℕ → List ℕ
+payload bytes = take (payload_length bytes) (drop 5 bytes)
+
+-- what stands behind the first record
+unfoldable pub behind : List ℕ → List ℕ
+behind bytes = drop (5 + payload_length bytes) bytes
+
+-- the payloads of n records at most, up to the first that doesn't count
+unfoldable pub first_payloads : ℕ → List ℕ → List (List ℕ)
+first_payloads zero bytes = []
+first_payloads (suc n) bytes = cond (has_record bytes) (payload bytes ∷ first_payloads n (behind bytes)) []
+
+-- the payloads of the records up to the first that doesn't count: there are no more of them than bytes
+unfoldable pub payloads_in : List ℕ → List (List ℕ)
+payloads_in bytes = first_payloads (length bytes) bytes
+
+-- whole records and no more: what follows them is read as if it stood alone
+abbrev pub IsFront : List ℕ → Type 0
+IsFront front = (rest : List ℕ) → payloads_in (front ++ rest) ≡ payloads_in front ++ payloads_in rest
+
+-- the whole records, up to the first that doesn't count, end here
+pub record EndsAt (bytes : List ℕ) (end : ℕ) : Type 0 where
+  pub within : end ≤ length bytes
+  pub whole : IsFront (take end bytes)
+  pub no_more : has_record (drop end bytes) ≡ false
+
+-- a length in four bytes, the lowest first
+abbrev pub length_bytes : ℕ → List ℕ
+length_bytes n = n % 256 ∷ n / 256 % 256 ∷ n / 65536 % 256 ∷ n / 16777216 % 256 ∷ []
+
+-- what stands behind a record's gate, and the closed gate behind it
+abbrev pub framed : List ℕ → List ℕ
+framed payload = length_bytes (length payload) ++ (payload ++ 0 ∷ [])
+
+-- the payload that a frame of these bytes has
+abbrev pub unframed : List ℕ → List ℕ
+unframed bytes = take (length bytes - 5) (drop 4 bytes)

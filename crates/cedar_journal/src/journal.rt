@@ -1,0 +1,161 @@
+//! The journal: a record is written behind a closed gate, and counts once its gate is opened.
+//!
+//! A closed gate (0) stands behind the last record, on the disk before anything is written behind it, and is opened by a write of its own
+//! after a sync: so no checksum is trusted.
+
+ghost use Rattle.std.specs.Prelude.{◌≡◌, ◌+◌, ◌<◌, ◌≤◌, ◌^◌, IfErr, IfOk, IsErrOf, OnOk};
+ghost use Rattle.cedar_journal.specs.declared.journal.JournalError.TheVariants.{Device};
+ghost use Rattle.cedar_journal.specs.Device.{Only, LeavesOnly};
+ghost use Rattle.cedar_journal.specs.Files.{added, recovered, HasExtent};
+ghost use Rattle.cedar_journal.specs.Frames.{payload_of};
+ghost use Rattle.cedar_journal.specs.Journal.{IsBeforeOrAfter, IsSettled, IsStaged};
+
+use crate::repair::make_ready;
+use crate::{Device, DeviceError, Extent, Frame};
+use std::alloc::Allocator;
+
+/// Where the records may end at the latest for one more to be written.
+pub const MAX_END: usize = 1 << 60;
+
+/// Why a record wasn't written.
+#[derive(Clone, Copy, Debug, PartialEq, Eq)]
+pub enum JournalError {
+    /// The records end behind `MAX_END`.
+    Full,
+    /// The device's error.
+    Device(DeviceError),
+}
+
+impl From<DeviceError> for JournalError {
+    //= A device's error is handed on.
+    ghost from_gives = { λ error gives. gives ≡ Device error };
+
+    fn from(error: DeviceError) -> Self {
+        JournalError::Device(error)
+    }
+}
+
+/// A device, and where its records end.
+#[derive(Drop)]
+pub struct Journal<D: Device> {
+    /// The file. A read of it changes nothing; whoever writes to it has to open it again.
+    pub device: D,
+    /// The place of the closed gate behind the last record.
+    pub end: usize,
+}
+
+impl<D: Device> Journal<D> {
+    /// Returns the journal of a file that a crash may have left, whose extent `extent_of` has told, with its end cut behind the whole records;
+    /// a new file gets its header.
+    ///
+    /// # Errors
+    /// The device's, with the device. The file stands for the same payloads.
+    pub fn open(device: D, extent: Extent) -> Result<Journal<D>, (DeviceError, D)>
+        // After a restart, what is read is what is on the disk.
+        requires restarted { Only (D.seen device) (D.may_leave device) }
+        requires extent { HasExtent (D.seen device) extent }
+
+        //= An opened journal is at rest and on the disk, and stands for the payloads that the file stood for.
+        ensures settled { IfOk result (λ journal. IsSettled D.seen D.may_leave journal.device journal.end
+            × (recovered (D.seen journal.device) ≡ recovered (D.seen device))) }
+
+        //= A crash at any moment while it is opened leaves the same payloads, and never a file of another kind; also where a device fails.
+        //  [with any_moment_err]
+        ensures any_moment { IfOk result (λ journal. LeavesOnly D.moment D.left_since device journal.device
+            (λ c. recovered c ≡ recovered (D.seen device))) }
+        ensures any_moment_err { IfErr result (λ e. LeavesOnly D.moment D.left_since device e.1
+            (λ c. recovered c ≡ recovered (D.seen device))) }
+
+        //= An opening tells `Failed` only where the disk has failed.
+        ensures failed { IfErr result (λ e. e.0 ≡ DeviceError.Failed → D.faults device < D.faults e.1) }
+    {
+        let mut device = device;
+        match make_ready(&mut device, extent) {
+            Ok(end) => Ok(Journal { device, end }),
+            Err(error) => Err((error, device)),
+        }
+    }
+
+    /// Writes a record behind the closed gate, in the place of whatever is there. It doesn't count yet: `commit` makes it count, and another
+    /// `stage` writes over it.
+    ///
+    /// # Errors
+    /// `Full` where the records end behind `MAX_END`: nothing is written. `Device` where the device fails: open the file again.
+    pub fn stage<A: Allocator>(&mut self, frame: &Frame<A>) -> Result<(), JournalError>
+        requires { IsSettled D.seen D.may_leave self.old.device self.old.end }
+
+        //= A staged record stands behind the closed gate, on the disk; the payloads stay the same. [with end, same]
+        ensures staged { OnOk result (IsStaged D.seen D.may_leave self.new.device self.old.end (payload_of frame.now)) }
+        ensures end { self.new.end ≡ self.old.end }
+        ensures same { OnOk result (recovered (D.seen self.new.device) ≡ recovered (D.seen self.old.device)) }
+
+        //= A crash at any moment while a record is staged leaves the payloads as they were.
+        ensures any_moment { LeavesOnly D.moment D.left_since self.old.device self.new.device
+            (λ c. recovered c ≡ recovered (D.seen self.old.device)) }
+
+        //= A record isn't staged just where the records end behind 2^60, and then nothing is written, or where the device fails; `Failed` is
+        //  told only where the disk has failed. [with far, untouched, failed]
+        ensures full { IsErrOf result JournalError.Full → 2 ^ 60 ≤ self.old.end }
+        ensures far { 2 ^ 60 ≤ self.old.end → IsErrOf result JournalError.Full }
+        ensures untouched { IsErrOf result JournalError.Full → self.new ≡ self.old }
+        ensures failed { IsErrOf result (JournalError.Device DeviceError.Failed) → D.faults self.old.device < D.faults self.new.device }
+    {
+        if self.end >= MAX_END {
+            return Err(JournalError::Full);
+        }
+        self.device.write_at(self.end + 1, frame.bytes())?;
+        self.device.sync()?;
+        Ok(())
+    }
+
+    /// Opens the gate of the record that was staged. At `Ok` it is acknowledged: from then on each crash leaves a file that has it.
+    ///
+    /// # Errors
+    /// The device's. The record counts or it doesn't: open the file again.
+    pub fn commit<A: Allocator>(&mut self, frame: &Frame<A>) -> Result<(), DeviceError>
+        requires { IsStaged D.seen D.may_leave self.old.device self.old.end (payload_of frame.now) }
+
+        //= Once a record is acknowledged, the file is at rest and on the disk, and stands for one payload more, this one. [with settled]
+        ensures acknowledged { OnOk result (recovered (D.seen self.new.device) ≡ added (payload_of frame.now) (recovered (D.seen self.old.device))) }
+        ensures settled { OnOk result (IsSettled D.seen D.may_leave self.new.device self.new.end) }
+
+        //= A crash at any moment of it leaves the payloads from before it, with the new one or without.
+        ensures any_moment { LeavesOnly D.moment D.left_since self.old.device self.new.device
+            (IsBeforeOrAfter (recovered (D.seen self.old.device)) (payload_of frame.now)) }
+
+        //= An acknowledgement tells `Failed` only where the disk has failed.
+        ensures failed { IsErrOf result DeviceError.Failed → D.faults self.old.device < D.faults self.new.device }
+    {
+        self.device.write_at(self.end, &[1])?;
+        self.device.sync()?;
+        self.end += frame.len();
+        Ok(())
+    }
+
+    /// Writes a record and makes it count, by `stage` and `commit`. At `Ok` it is acknowledged.
+    ///
+    /// # Errors
+    /// `Full` where the records end behind `MAX_END`: nothing is written. `Device` where the device fails: the record counts or it doesn't;
+    /// open the file again.
+    pub fn append<A: Allocator>(&mut self, frame: &Frame<A>) -> Result<(), JournalError>
+        requires { IsSettled D.seen D.may_leave self.old.device self.old.end }
+
+        //= Once a record is appended, the file is at rest and on the disk, and stands for one payload more, this one. [with settled]
+        ensures acknowledged { OnOk result (recovered (D.seen self.new.device) ≡ added (payload_of frame.now) (recovered (D.seen self.old.device))) }
+        ensures settled { OnOk result (IsSettled D.seen D.may_leave self.new.device self.new.end) }
+
+        //= A crash at any moment of that leaves the payloads from before it, with the new one or without.
+        ensures any_moment { LeavesOnly D.moment D.left_since self.old.device self.new.device
+            (IsBeforeOrAfter (recovered (D.seen self.old.device)) (payload_of frame.now)) }
+
+        //= A record isn't appended just where the records end behind 2^60, and then nothing is written, or where the device fails. [with
+        //  far, untouched]
+        ensures full { IsErrOf result JournalError.Full → 2 ^ 60 ≤ self.old.end }
+        ensures far { 2 ^ 60 ≤ self.old.end → IsErrOf result JournalError.Full }
+        ensures untouched { IsErrOf result JournalError.Full → self.new ≡ self.old }
+    {
+        self.stage(frame)?;
+        self.commit(frame)?;
+        Ok(())
+    }
+}

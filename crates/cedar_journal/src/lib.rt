@@ -1,0 +1,18 @@
+//! A journal on a device that may crash: records of bytes, each on the disk before it is acknowledged. What the bytes say is the caller's
+//! business; a change that is to be made whole or not at all is one record.
+#![tactic(auto)]
+
+mod device;
+mod extent;
+mod frame;
+mod journal;
+mod memory;
+mod records;
+mod repair;
+
+pub use device::{Device, DeviceError};
+pub use extent::{Extent, ForeignFile, HEADER_LEN, MAGIC, extent_of};
+pub use frame::{Frame, FrameError, MAX_PAYLOAD};
+pub use journal::{Journal, JournalError, MAX_END};
+pub use memory::Memory;
+pub use records::first_payload;

@@ -1,0 +1,83 @@
+//! A file that a crash may have left is made ready for the next record. Each of these calls may itself be cut off by a crash.
+
+ghost use Rattle.std.specs.Prelude.{◌≡◌, ◌⊎◌, ◌<◌, ◌≤◌, [], ◌∷◌, IfOk, IsErrOf, OnOk, Some};
+ghost use Rattle.cedar_journal.specs.Device.{Only, LeavesOnly};
+ghost use Rattle.cedar_journal.specs.Files.{recovered, HasExtent, HasRecords, IsNew};
+ghost use Rattle.cedar_journal.specs.Journal.{IsSettled};
+
+use crate::extent::{HEADER_FRAME, HEADER_LEN};
+use crate::{Device, DeviceError, Extent};
+
+/// Returns where the records end, behind which a closed gate stands now.
+pub(crate) fn make_ready<D: Device>(device: &mut D, extent: Extent) -> Result<usize, DeviceError>
+    requires restarted { Only (D.seen device.old) (D.may_leave device.old) }
+    requires extent { HasExtent (D.seen device.old) extent }
+    ensures settled { IfOk result (λ end. IsSettled D.seen D.may_leave device.new end) }
+    ensures same { OnOk result (recovered (D.seen device.new) ≡ recovered (D.seen device.old)) }
+    ensures any_moment { LeavesOnly D.moment D.left_since device.old device.new
+        (λ c. recovered c ≡ recovered (D.seen device.old)) }
+    ensures failed { IsErrOf result DeviceError.Failed → D.faults device.old < D.faults device.new }
+{
+    match extent {
+        Extent::New => {
+            clear(device)?;
+            write_header(device)?;
+            Ok(HEADER_LEN)
+        }
+        Extent::Until(end) => {
+            close_behind(device, end)?;
+            Ok(end)
+        }
+    }
+}
+
+/// Puts a closed gate behind the whole records.
+fn close_behind<D: Device>(device: &mut D, end: usize) -> Result<(), DeviceError>
+    requires restarted { Only (D.seen device.old) (D.may_leave device.old) }
+    requires records { HasRecords (D.seen device.old) end }
+    ensures settled { OnOk result (IsSettled D.seen D.may_leave device.new end) }
+    ensures same { OnOk result (recovered (D.seen device.new) ≡ recovered (D.seen device.old)) }
+    ensures any_moment { LeavesOnly D.moment D.left_since device.old device.new
+        (λ c. recovered c ≡ recovered (D.seen device.old)) }
+    ensures failed { IsErrOf result DeviceError.Failed → D.faults device.old < D.faults device.new }
+{
+    device.cut(end)?;
+    // The cut has to be on the disk first: behind a gate that is torn open, what was there would count.
+    device.sync()?;
+    device.write_at(end, &[0])?;
+    device.sync()?;
+    Ok(())
+}
+
+/// Leaves nothing but a closed gate of a file that has no whole header.
+fn clear<D: Device>(device: &mut D) -> Result<(), DeviceError>
+    requires restarted { Only (D.seen device.old) (D.may_leave device.old) }
+    requires begun { IsNew (D.seen device.old) }
+    ensures cleared { OnOk result (D.seen device.new ≡ 0 ∷ []) }
+    ensures durable { OnOk result (Only (D.seen device.new) (D.may_leave device.new)) }
+    ensures any_moment { LeavesOnly D.moment D.left_since device.old device.new (λ c. recovered c ≡ Some []) }
+    ensures failed { IsErrOf result DeviceError.Failed → D.faults device.old < D.faults device.new }
+    ensures faults { D.faults device.old ≤ D.faults device.new }
+{
+    device.cut(0)?;
+    device.sync()?;
+    device.write_at(0, &[0])?;
+    device.sync()?;
+    Ok(())
+}
+
+/// Writes the first record, whose payload names what the file is, behind a closed gate, and opens that.
+fn write_header<D: Device>(device: &mut D) -> Result<(), DeviceError>
+    requires cleared { D.seen device.old ≡ 0 ∷ [] }
+    requires durable { Only (D.seen device.old) (D.may_leave device.old) }
+    ensures settled { OnOk result (IsSettled D.seen D.may_leave device.new 13) }
+    ensures none { OnOk result (recovered (D.seen device.new) ≡ Some []) }
+    ensures any_moment { LeavesOnly D.moment D.left_since device.old device.new (λ c. recovered c ≡ Some []) }
+    ensures failed { IsErrOf result DeviceError.Failed → D.faults device.old < D.faults device.new }
+{
+    device.write_at(1, &HEADER_FRAME)?;
+    device.sync()?;
+    device.write_at(0, &[1])?;
+    device.sync()?;
+    Ok(())
+}
