@@ -35,8 +35,8 @@ impl<T: Drop> From<AllocFailed<T>> for DeviceError {
 
 /// One file on a disk, which nobody else writes to. After a crash the next read returns one of the contents that `may_leave` has.
 ///
-/// Until a sync, a write may be on the disk, or not, or in part, with any bytes in the range that it wrote; bytes elsewhere stay. That a real
-/// file is such a device is nothing that a contract can say.
+/// Until a sync, a write may be on the disk, or not, or in part, with any bytes in the range that it wrote; bytes elsewhere stay. That a
+/// real file is such a device is nothing that a contract can say.
 pub trait Device {
     /// The bytes that a read returns.
     ghost seen: { Self → List ℕ };

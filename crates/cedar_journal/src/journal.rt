@@ -45,8 +45,8 @@ pub struct Journal<D: Device> {
 }
 
 impl<D: Device> Journal<D> {
-    /// Returns the journal of a file that a crash may have left, whose extent `extent_of` has told, with its end cut behind the whole records;
-    /// a new file gets its header.
+    /// Returns the journal of a file that a crash may have left, whose extent `extent_of` has told, with its end cut behind the whole
+    /// records; a new file gets its header.
     ///
     /// # Errors
     /// The device's, with the device. The file stands for the same payloads.
@@ -76,8 +76,8 @@ impl<D: Device> Journal<D> {
         }
     }
 
-    /// Writes a record behind the closed gate, in the place of whatever is there. It doesn't count yet: `commit` makes it count, and another
-    /// `stage` writes over it.
+    /// Writes a record behind the closed gate, in the place of whatever is there. It doesn't count yet: `commit` makes it count, and
+    /// another `stage` writes over it.
     ///
     /// # Errors
     /// `Full` where the records end behind `MAX_END`: nothing is written. `Device` where the device fails: open the file again.
