@@ -1,5 +1,5 @@
 -- What is written in parts, and calls of a writer that didn't fail.
-use Rattle.std.proofs.Common.{◌≡◌, ℕ, List, [], ◌++◌, Option, Some, None, refl, sym, ap, ◌∙◌, append_assoc, append-nil, take, drop, length, ◌-◌, arith, take-append-drop, length-drop, length-append, Bool, true, false, ◌||◌, ◌&&◌, ◌==◌}
+use Rattle.std.proofs.Common.{◌≡◌, ℕ, List, [], ◌++◌, Option, Some, None, refl, sym, ap, ◌∙◌, append_assoc, append-nil, take, drop, length, ◌-◌, arith, subst, take-append-drop, length-drop, length-append, Bool, true, false, ◌||◌, ◌&&◌, ◌==◌}
 use Rattle.std.proofs.lemmas.List.{take_all}
 use Rattle.std.proofs.lemmas.Bool.{eqb-true}
 use Rattle.std.specs.Prelude.{Result, Ok, Err, OnOk, OnErr}
@@ -68,3 +68,18 @@ unfailed_by before after count any h some = h ∙ rw (eqb-not count 0 some) (or_
     | true ↦ λ e. absurd (ne (eqb-true m n e))
     | false ↦ λ e. e
   ]) refl
+
+-- a front of what stands for the first part of some bytes
+pub front_as : (a b : Option (List ℕ)) (x first more : List ℕ) → x ≡ first → WritesFront a b x → WritesFront a b (first ++ more)
+front_as a b x first more e h = subst (λ (l : List ℕ). WritesFront a b (l ++ more)) e (front_more a b x more h)
+
+-- what was written stands for the first part, and the call's bytes for the others
+pub then_err_as : {T E : Type 0} (r : Result T E) (a b c : Option (List ℕ)) (x first y second : List ℕ) → x ≡ first → y ≡ second
+    → Appends a b x → OnErr r (WritesFront b c y) → OnErr r (WritesFront a c (first ++ second))
+then_err_as r a b c x first y second e f p h =
+    subst (λ (l : List ℕ). OnErr r (WritesFront a c (l ++ second))) e (subst (λ (l : List ℕ). OnErr r (WritesFront a c (x ++ l))) f (then_err r a b c x y p h))
+
+pub then_ok_as : {T E : Type 0} (r : Result T E) (a b c : Option (List ℕ)) (x first y second : List ℕ) → x ≡ first → y ≡ second
+    → Appends a b x → OnOk r (Appends b c y) → OnOk r (Appends a c (first ++ second))
+then_ok_as r a b c x first y second e f p h =
+    subst (λ (l : List ℕ). OnOk r (Appends a c (l ++ second))) e (subst (λ (l : List ℕ). OnOk r (Appends a c (x ++ l))) f (then_ok r a b c x y p h))

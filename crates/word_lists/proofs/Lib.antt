@@ -1,2 +1,4 @@
 pub mod Bytes
+pub mod NextEntries
+pub mod Texts
 pub mod WordLines

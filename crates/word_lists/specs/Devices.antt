@@ -19,12 +19,12 @@ abbrev pub BreaksOff : {D : Type 0} → (D → Option (List ℕ)) → Watched D 
 BreaksOff contents before after bytes = WritesFront (contents (device_of before)) (contents (device_of after)) bytes
 
 -- a call that writes fails exactly if the writer does
-pub record WritesOrFails (before after : Bool) (result : Result (Unit {0}) ListError) : Type 0 where
+pub record WritesOrFails {X : Type 0} (before after : Bool) (result : Result X ListError) : Type 0 where
   pub unfailed : OnOk result (after ≡ before)
   pub cause : OnErr result ((result ≡ Err Write) × (after ≡ true))
 
 -- the same of lines, which may want memory, and then the writer did not fail
-pub record LineFault (before after : Bool) (result : Result (Unit {0}) ListError) : Type 0 where
+pub record LineFault {X : Type 0} (before after : Bool) (result : Result X ListError) : Type 0 where
   pub unfailed : OnOk result (after ≡ before)
   pub cause : result ≡ Err Write → after ≡ true
   pub starved : result ≡ Err Memory → after ≡ before

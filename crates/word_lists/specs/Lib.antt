@@ -2,4 +2,6 @@ pub use Rattle.cedar_tree.specs.Tree
 pub use Rattle.cedarwood.specs.WatchedDevice
 pub mod Devices
 pub mod Lines
+pub mod Reading
+pub mod Texts
 pub mod Words

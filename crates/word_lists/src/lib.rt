@@ -4,11 +4,24 @@
 //! `\x` and two hexadecimal digits in lower case; so does each byte from 128 on of a word that isn't UTF-8.
 #![tactic(auto)]
 
+mod cut;
+mod fronts;
+mod lines;
 mod lists;
 mod look_up;
+mod pairs;
+mod parts;
+mod read;
+mod scan;
 mod word;
 mod write;
 
-pub use lists::write_entries;
+pub use cut::{write_cheapest_cut, write_cut};
+pub use fronts::write_fronts;
+pub use lines::{LineFault, LineFaults, StoreError, erase_lines, store_lines};
+pub use lists::{write_entries, write_next_entries};
 pub use look_up::write_number;
+pub use pairs::{store_entries, write_lacking};
+pub use read::read_word;
+pub use scan::{write_keywords, write_matches};
 pub use write::ListError;

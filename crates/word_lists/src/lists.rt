@@ -1,6 +1,6 @@
 //! The lines of a dictionary's entries. They take no memory but the walk's own.
 
-ghost use Rattle.std.specs.Prelude.{◌≡◌, OnOk, OnErr};
+ghost use Rattle.std.specs.Prelude.{◌≡◌, ◌<◌, ◌∷◌, [], IfErr, IfOk, MatchOption, OnErr, OnOk, drop, length, min, take};
 ghost use Rattle.word_lists.specs.Words.{BreaksOff, LineFault, Writes, entry_lines, has_failed};
 
 use crate::word::write_entry;
@@ -34,4 +34,62 @@ pub fn write_entries<T: Walked, A: Allocator + Copy, W: Write>(
         }
     }
     Ok(())
+}
+
+/// Writes the lines of the next entries of a walk, so many at most, and returns how many it wrote. Each key is written into a buffer, in
+/// place of what that held: memory is asked for only where the buffer is too short.
+///
+/// ```
+/// cedar.build(&[("net", 7), ("ten", 2)])?;
+/// let mut writer = Watched::new(Vec::new(rt.alloc()));
+/// let mut key = Vec::new(rt.alloc());
+/// assert!(rt; write_next_entries(&mut writer, &mut cedar.entries_with_prefix(""), 1, &mut key) == Ok(1));
+/// assert_eq!(rt; writer.into_inner().as_slice(), b"net\t7\n".as_slice());
+/// ```
+///
+/// # Errors
+/// As of [`write_entries`].
+pub fn write_next_entries<T: Walked, A: Allocator + Copy, B: Allocator, W: Write>(
+    writer: &mut Watched<W>,
+    entries: &mut RangeEntries<'_, T, A>,
+    most: u64,
+    key: &mut Vec<u8, B>,
+) -> Result<u64, ListError>
+    //= A list of the next entries that is `Ok` wrote the lines of the first entries of the walk, so many at most, in its order, and nothing
+    //  else; it tells how many these are. [with count]
+    ensures ok { OnOk result (Writes W.contents writer.old writer.new (entry_lines (take most entries.old))) }
+    ensures count { IfOk result (λ count. count ≡ min most (length entries.old)) }
+
+    //= The walk goes on behind them.
+    ensures rest { OnOk result (entries.new ≡ drop most entries.old) }
+
+    //= One that fails wrote a beginning of these lines, and not all.
+    ensures err { OnErr result (BreaksOff W.contents writer.old writer.new (entry_lines (take most entries.old))) }
+
+    //= It fails with `Write` only where a call of the writer failed; with `Memory`, and where it is `Ok`, none did.
+    ensures faults { LineFault (has_failed writer.old) (has_failed writer.new) result }
+{
+    let mut left = most;
+    while 0 < left {
+        let Some(value) = next_entry(entries, key)? else {
+            return Ok(most - left);
+        };
+        write_entry(writer, key, value)?;
+        left -= 1;
+    }
+    Ok(most)
+}
+
+/// The number of the next entry, whose key is written into a buffer.
+pub(crate) fn next_entry<T: Walked, A: Allocator + Copy, B: Allocator>(
+    entries: &mut RangeEntries<'_, T, A>,
+    key: &mut Vec<u8, B>,
+) -> Result<Option<i32>, ListError>
+    ensures found { IfOk result (λ found. MatchOption found ((entries.old ≡ []) × (entries.new ≡ [])) (λ value. entries.old ≡ (key.new.items, value) ∷ entries.new)) }
+    ensures refused { IfErr result (λ e. (e ≡ ListError.Memory) × (0 < length entries.old)) }
+{
+    match entries.next_into(key) {
+        Ok(found) => Ok(found),
+        Err(_) => Err(ListError::Memory),
+    }
 }

@@ -1,6 +1,6 @@
 //! The line of a word that is looked up.
 
-ghost use Rattle.std.specs.Prelude.{◌≡◌, OnOk, OnErr};
+ghost use Rattle.std.specs.Prelude.{◌≡◌, IfOk, OnOk, OnErr, is_some};
 ghost use Rattle.word_lists.specs.Words.{BreaksOff, Writes, has_failed, found_line, number_at, WritesOrFails};
 
 use crate::word::write_entry;
@@ -9,7 +9,7 @@ use cedarwood::{Layout, Trie, Watched};
 use std::alloc::Allocator;
 use std::io::Write;
 
-/// Writes the line of a word that the dictionary holds, and nothing for another one. It takes no memory.
+/// Writes the line of a word that the dictionary holds, and nothing for another one. Returns whether it is held. It takes no memory.
 ///
 /// # Errors
 /// `Write` where the writer failed. Then a beginning of the line is written, and not all.
@@ -17,15 +17,20 @@ pub fn write_number<L: Layout, const SLOTS: usize, A: Allocator + Copy, W: Write
     writer: &mut Watched<W>,
     trie: &Trie<L, SLOTS, A>,
     word: &[u8],
-) -> Result<(), ListError>
+) -> Result<bool, ListError>
     //= A look-up that is `Ok` wrote the line of a word that is held, and nothing for another one.
     ensures ok { OnOk result (Writes W.contents writer.old writer.new (found_line word.now (number_at trie.now.state.tree word.now))) }
+
+    //= It tells whether the word is held.
+    ensures held { IfOk result (λ held. held ≡ is_some (number_at trie.now.state.tree word.now)) }
 
     //= One that fails wrote a beginning of that line, and not all; a call of the writer failed. [with faults]
     ensures err { OnErr result (BreaksOff W.contents writer.old writer.new (found_line word.now (number_at trie.now.state.tree word.now))) }
     ensures faults { WritesOrFails (has_failed writer.old) (has_failed writer.new) result }
 {
-    write_found(writer, word, trie.get_bytes(word))
+    let number = trie.get_bytes(word);
+    write_found(writer, word, number)?;
+    Ok(number.is_some())
 }
 
 /// Writes the line of a word that has a number, and nothing for one that has none.

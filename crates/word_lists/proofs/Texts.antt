@@ -1,0 +1,85 @@
+-- The lines of words in a text, and its tokens, in parts; characters counted in parts.
+use Rattle.std.proofs.Math.Seq.{take-suc}
+use Rattle.std.proofs.lemmas.Bool.{lt-ltb}
+use Rattle.std.proofs.lemmas.List.{drop-take, length-take, take-take}
+use Rattle.std.proofs.Common.{◌≡◌, ◌<◌, ◌≤◌, ◌+◌, ◌-◌, suc, ℕ, List, [], ◌∷◌, ◌++◌, Bool, true, false, ap₂, get_or, take-append-drop, Option, refl, sym, ap, subst, ◌∙◌, append_assoc, append-nil, length, length-append, take, drop, arith, if◌then◌else◌}
+use Rattle.std.specs.Prelude.{ltb}
+use Rattle.std.specs.Io.KnownBytes.{Appends}
+use Rattle.cedar_words.specs.Words.{Spot, Token}
+use Rattle.word_lists.specs.Devices.{WritesFront}
+use Rattle.word_lists.specs.Texts.{characters, characters_begun, cut_text, goes_on, spot_line, spot_lines, token_text}
+use Rattle.word_lists.proofs.Bytes.{front_after, front_more}
+
+cut-append : (sign text : List ℕ) (a b : List Token) → cut_text sign text (a ++ b) ≡ cut_text sign text a ++ cut_text sign text b
+cut-append sign text [] b = refl
+cut-append sign text (t ∷ a) b = ap (λ l. token_text sign text t ++ l) (cut-append sign text a b) ∙ sym (append_assoc (token_text sign text t) (cut_text sign text a) (cut_text sign text b))
+
+pub cut_push : (sign text : List ℕ) (a : List Token) (t : Token) → cut_text sign text (a ++ t ∷ []) ≡ cut_text sign text a ++ token_text sign text t
+cut_push sign text a t = cut-append sign text a (t ∷ []) ∙ ap (λ l. cut_text sign text a ++ l) (append-nil (token_text sign text t))
+
+-- some tokens were written, and a front of the next one
+pub cut_stopped : (sign text : List ℕ) (a b d : Option (List ℕ)) (tokens came later : List Token) (t : Token) → tokens ≡ came ++ t ∷ later
+    → Appends a b (cut_text sign text came) → WritesFront b d (token_text sign text t) → WritesFront a d (cut_text sign text tokens)
+cut_stopped sign text a b d tokens came later t whole written front =
+    subst (WritesFront a d) (sym (ap (cut_text sign text) whole ∙ cut-append sign text came (t ∷ later)))
+    (front_after a b d (cut_text sign text came) (token_text sign text t ++ cut_text sign text later) written (front_more b d (token_text sign text t) (cut_text sign text later) front))
+
+spots-append : (number : ℕ) (text : List ℕ) (a b : List Spot) → spot_lines number text (a ++ b) ≡ spot_lines number text a ++ spot_lines number text b
+spots-append number text [] b = refl
+spots-append number text (s ∷ a) b = ap (λ l. spot_line number text s ++ l) (spots-append number text a b) ∙ sym (append_assoc (spot_line number text s) (spot_lines number text a) (spot_lines number text b))
+
+pub spots_push : (number : ℕ) (text : List ℕ) (a : List Spot) (s : Spot) → spot_lines number text (a ++ s ∷ []) ≡ spot_lines number text a ++ spot_line number text s
+spots_push number text a s = spots-append number text a (s ∷ []) ∙ ap (λ l. spot_lines number text a ++ l) (append-nil (spot_line number text s))
+
+-- some lines were written, and a front of the next one
+pub spots_stopped : (number : ℕ) (text : List ℕ) (a b d : Option (List ℕ)) (spots came later : List Spot) (s : Spot) → spots ≡ came ++ s ∷ later
+    → Appends a b (spot_lines number text came) → WritesFront b d (spot_line number text s) → WritesFront a d (spot_lines number text spots)
+spots_stopped number text a b d spots came later s whole written front =
+    subst (WritesFront a d) (sym (ap (spot_lines number text) whole ∙ spots-append number text came (s ∷ later)))
+    (front_after a b d (spot_lines number text came) (spot_line number text s ++ spot_lines number text later) written (front_more b d (spot_line number text s) (spot_lines number text later) front))
+
+-- characters in two parts
+pub characters-append : (a b : List ℕ) → characters (a ++ b) ≡ characters a + characters b
+characters-append [] b = omega arith
+characters-append (x ∷ a) b = let below = characters-append a b in omega (arith, below)
+
+-- there are no more of them than bytes
+pub characters_within : (a : List ℕ) → characters a ≤ length a
+characters_within [] = omega arith
+characters_within (x ∷ a) = let below = characters_within a in let one = at_most_one (goes_on x) in omega (arith, below, one) where
+  at_most_one : (b : Bool) → (if b then 0 else 1) ≤ 1
+  at_most_one true = omega arith
+  at_most_one false = omega arith
+
+pub characters_front_within : (n : ℕ) (a : List ℕ) → characters (take n a) ≤ length a
+characters_front_within n a = let some = characters_within (take n a) in let front = length-take n a in omega (arith, some, front)
+
+-- those of the bytes so far, and of one more
+pub characters_next : (xs : List ℕ) (i n : ℕ) → i < length xs → n ≡ characters (take i xs) → n + characters_begun (get_or xs i 0) ≡ characters (take (i + 1) xs)
+characters_next xs i n lt so_far =
+    let step : characters (take (suc i) xs) ≡ characters (take i xs) + characters (get_or xs i 0 ∷ []) = ap characters (take-suc xs i 0 lt) ∙ characters-append (take i xs) (get_or xs i 0 ∷ []) in
+    let one : take (i + 1) xs ≡ take (suc i) xs = ap (λ k. take k xs) (suc_is i) in
+    let same : characters (take (i + 1) xs) ≡ characters (take (suc i) xs) = ap characters one in
+    omega (arith, so_far, step, same) where
+      suc_is : (k : ℕ) → k + 1 ≡ suc k
+      suc_is k = omega arith
+
+-- a front in two parts
+take_in_parts : (n m : ℕ) (xs : List ℕ) → n ≤ m → take m xs ≡ take n xs ++ take (m - n) (drop n xs)
+take_in_parts n m xs le = sym (take-append-drop n (take m xs)) ∙ ap₂ (λ a b. a ++ b) front back where
+  whole : n + (m - n) ≡ m
+  whole = omega (arith, le)
+
+  front : take n (take m xs) ≡ take n xs
+  front = take-take n m xs le
+
+  back : drop n (take m xs) ≡ take (m - n) (drop n xs)
+  back = ap (λ k. drop n (take k xs)) (sym whole) ∙ drop-take n (m - n) xs
+
+-- those before a place, and those from there to another one
+pub characters_between : (text : List ℕ) (n m : ℕ) → n ≤ m → characters (take n text) + characters (take (m - n) (drop n text)) ≡ characters (take m text)
+characters_between text n m le = sym (ap characters (take_in_parts n m text le) ∙ characters-append (take n text) (take (m - n) (drop n text)))
+
+-- one more is some
+pub some_more : {T : Type 0} (came : List T) (t : T) → true ≡ ltb 0 (length (came ++ t ∷ []))
+some_more came t = sym (lt-ltb 0 (length (came ++ t ∷ [])) (let len = length-append came (t ∷ []) in omega (arith, len)))

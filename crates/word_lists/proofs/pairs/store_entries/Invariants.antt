@@ -1,0 +1,5 @@
+use Rattle.std.proofs.Common.{length}
+use Rattle.word_lists.proofs.pairs.store_entries.Given as goal
+
+abbrev pub decreases-loop-value : goal.decreases-loop-value
+decreases-loop-value g l = length l.entries

@@ -1,0 +1,93 @@
+//! The words that a text begins with.
+
+ghost use Rattle.std.specs.Prelude.{◌≡◌, IfOk, OnErr, OnOk, length, ltb, map};
+ghost use Rattle.word_lists.specs.Words.{BreaksOff, Writes, WritesOrFails, entry_line, entry_lines, front_entry, fronts_of, has_failed};
+
+use crate::parts::through;
+use crate::word::write_entry;
+use crate::write::ListError;
+use cedarwood::{Layout, PrefixIter, Trie, Walked, Watched};
+use std::alloc::Allocator;
+use std::io::Write;
+
+/// What finds the words that a text begins with, one after another.
+trait NextFront {
+    ghost use Rattle.std.specs.Prelude.{◌≡◌, ℕ, ℤ, List, [], ◌∷◌, MatchOption};
+
+    /// Those that are still to come, each by its number and one less than its bytes.
+    ghost left: { Self → List (ℤ × ℕ) };
+
+    /// The next one.
+    fn next_front(&mut self) -> Option<(i32, usize)>
+        ensures { MatchOption result (left self.old ≡ []) (λ found. left self.old ≡ found ∷ left self.new) };
+}
+
+impl<'a, T: Walked> NextFront for PrefixIter<'a, T> {
+    ghost left = { λ walk. walk.rest };
+
+    fn next_front(&mut self) -> Option<(i32, usize)> {
+        self.next()
+    }
+}
+
+/// Writes the line of each word that a text begins with, the shortest first, and returns whether there is one. It takes no memory.
+///
+/// ```
+/// cedar.build(&[("ne", 1), ("net", 7), ("ten", 2)])?;
+/// let mut writer = Watched::new(Vec::new(rt.alloc()));
+/// assert!(rt; write_fronts(&mut writer, &cedar, b"nets") == Ok(true));
+/// assert_eq!(rt; writer.into_inner().as_slice(), b"ne\t1\nnet\t7\n".as_slice());
+/// ```
+///
+/// # Errors
+/// `Write` where the writer failed. Then a beginning of the lines is written, and not all.
+pub fn write_fronts<L: Layout, const SLOTS: usize, A: Allocator + Copy, W: Write>(
+    writer: &mut Watched<W>,
+    trie: &Trie<L, SLOTS, A>,
+    text: &[u8],
+) -> Result<bool, ListError>
+    //= A list of the words that a text begins with, where it is `Ok`, wrote the line of each, the shortest first, and nothing else.
+    ensures ok { OnOk result (Writes W.contents writer.old writer.new (entry_lines (fronts_of trie.now.state.tree text.now))) }
+
+    //= It tells whether there is one.
+    ensures any { IfOk result (λ any. any ≡ ltb 0 (length (fronts_of trie.now.state.tree text.now))) }
+
+    //= One that fails wrote a beginning of these lines, and not all; a call of the writer failed. [with faults]
+    ensures err { OnErr result (BreaksOff W.contents writer.old writer.new (entry_lines (fronts_of trie.now.state.tree text.now))) }
+    ensures faults { WritesOrFails (has_failed writer.old) (has_failed writer.new) result }
+{
+    write_all_fronts(writer, text, &mut trie.common_prefix_iter_bytes(text))
+}
+
+/// Writes the lines of some words that a text begins with.
+fn write_all_fronts<F: NextFront, W: Write>(
+    writer: &mut Watched<W>,
+    text: &[u8],
+    fronts: &mut F,
+) -> Result<bool, ListError>
+    ensures ok { OnOk result (Writes W.contents writer.old writer.new (entry_lines (map (front_entry text.now) (F.left fronts.old)))) }
+    ensures any { IfOk result (λ any. any ≡ ltb 0 (length (map (front_entry text.now) (F.left fronts.old)))) }
+    ensures err { OnErr result (BreaksOff W.contents writer.old writer.new (entry_lines (map (front_entry text.now) (F.left fronts.old)))) }
+    ensures faults { WritesOrFails (has_failed writer.old) (has_failed writer.new) result }
+{
+    let mut any = false;
+    while let Some(front) = fronts.next_front() {
+        write_front(writer, text, front)?;
+        any = true;
+    }
+    Ok(any)
+}
+
+/// Writes the line of a word that a text begins with, by its number and one less than its bytes.
+fn write_front<W: Write>(
+    writer: &mut Watched<W>,
+    text: &[u8],
+    front: (i32, usize),
+) -> Result<(), ListError>
+    ensures ok { OnOk result (Writes W.contents writer.old writer.new (entry_line (front_entry text.now front))) }
+    ensures err { OnErr result (BreaksOff W.contents writer.old writer.new (entry_line (front_entry text.now front))) }
+    ensures faults { WritesOrFails (has_failed writer.old) (has_failed writer.new) result }
+{
+    let (value, others) = front;
+    write_entry(writer, through(text, others), value)
+}

@@ -1,0 +1,100 @@
+//! Parts of a text.
+
+ghost use Rattle.std.specs.Prelude.{◌≡◌, ◌+◌, ◌≤◌, take, length};
+ghost use Rattle.word_lists.specs.Words.{body_of, characters, characters_begun, ending_of, ends_with, goes_on, part_of, without_last};
+
+/// So many bytes of a text from a place on, or as many as there are.
+pub(crate) fn part(text: &[u8], start: usize, len: usize) -> &[u8]
+    ensures { result.now ≡ part_of text.now start len }
+{
+    let rest = &text[start.min(text.len())..];
+    &rest[..len.min(rest.len())]
+}
+
+/// The bytes of a text up to the one at a place, or all of them.
+pub(crate) fn through(text: &[u8], place: usize) -> &[u8]
+    ensures { result.now ≡ take (place + 1) text.now }
+{
+    if place < text.len() {
+        &text[..place + 1]
+    } else {
+        text
+    }
+}
+
+/// A line without the bytes that end it: byte 10, and a byte 13 before that.
+pub(crate) fn body(line: &[u8]) -> &[u8]
+    ensures body { result.now ≡ body_of line.now }
+    ensures within { length result.now ≤ length line.now }
+{
+    if ends_with(line, b'\n') {
+        without_last(without_last(line, b'\n'), b'\r')
+    } else {
+        line
+    }
+}
+
+/// The bytes that end a line.
+pub(crate) fn ending(line: &[u8]) -> &[u8]
+    ensures { result.now ≡ ending_of line.now }
+{
+    &line[body(line).len()..]
+}
+
+/// A line without its last byte, if that is this one.
+fn without_last(line: &[u8], byte: u8) -> &[u8]
+    ensures body { result.now ≡ without_last byte line.now }
+    ensures within { length result.now ≤ length line.now }
+{
+    if ends_with(line, byte) {
+        &line[..line.len() - 1]
+    } else {
+        line
+    }
+}
+
+/// Whether a line ends with a byte.
+fn ends_with(line: &[u8], byte: u8) -> bool
+    ensures { result ≡ ends_with byte line.now }
+{
+    0 < line.len() && line[line.len() - 1] == byte
+}
+
+/// Whether a byte goes on with a character of UTF-8.
+pub(crate) fn goes_on(byte: u8) -> bool
+    ensures { result ≡ goes_on byte }
+{
+    128 <= byte && byte < 192
+}
+
+/// How many characters begin before a place, where it is known how many begin before another one. From that on they are counted.
+pub(crate) fn characters_before(text: &[u8], known: (usize, usize), place: usize) -> usize
+    requires { known.1 ≡ characters (take known.0 text.now) }
+    ensures all { result ≡ characters (take place text.now) }
+    ensures within { result ≤ length text.now }
+{
+    if place < known.0 {
+        return characters(part(text, 0, place));
+    }
+    known.1 + characters(part(text, known.0, place - known.0))
+}
+
+/// How many characters begin in some bytes.
+fn characters(bytes: &[u8]) -> usize
+    ensures all { result ≡ characters bytes.now }
+    ensures within { result ≤ length bytes.now }
+{
+    let mut count = 0;
+    for byte in bytes {
+        count += characters_begun(*byte);
+    }
+    count
+}
+
+/// How many characters begin with a byte: one, or none.
+fn characters_begun(byte: u8) -> usize
+    ensures all { result ≡ characters_begun byte }
+    ensures within { result ≤ 1 }
+{
+    if goes_on(byte) { 0 } else { 1 }
+}
