@@ -1,0 +1,108 @@
+//! A dictionary made of a word list.
+
+use crate::dictionary::SLOTS;
+use crate::fault::{Fault, name_of, store_fault};
+use crate::input::open;
+use crate::request::{Build, List};
+use cedarwood::{CedarBuilder, DefaultLayout, Layout, ReducedLayout, Trie, Watched};
+use std::alloc::Global;
+use std::io::{BufRead, Read, Write};
+use std::rt::Files;
+use word_lists::{LineFault, LineFaults, store_lines};
+
+/// Tells of lines on standard error, and counts them.
+#[derive(Drop)]
+struct Teller<'a, E> {
+    errors: &'a mut Watched<E>,
+    /// What the list is named.
+    name: &'a str,
+    /// How many lines were told.
+    told: u64,
+}
+
+impl<'a, E: Write> LineFaults for Teller<'a, E> {
+    fn tell(&mut self, number: u64, line: &[u8], fault: LineFault) {
+        let name = self.name;
+        let why = words_for(fault);
+        let _ = write!(self.errors, "roskvidh: {name}:{number}: {why}: ");
+        let _ = self.errors.write_all(line);
+        let _ = self.errors.write_all(b"\n");
+        self.told = self.told.saturating_add(1);
+    }
+}
+
+/// What a line is told to be.
+fn words_for(fault: LineFault) -> &'static str {
+    match fault {
+        LineFault::EmptyWord => "no word, passed over",
+        LineFault::NulByte => "a word with a byte 0, passed over",
+        LineFault::Number => "no number from 0 to 2147483645, passed over",
+        LineFault::Repeated => "a word that an earlier line has, whose number this one replaces",
+    }
+}
+
+/// Stores the entries of a word list, and tells of its lines that are none of their own.
+pub(crate) fn store_list<'m, L: Layout, R: BufRead, E: Write>(
+    alloc: Global,
+    trie: &mut Trie<L, SLOTS, Global>,
+    list: List<'m>,
+    reader: &mut R,
+    errors: &mut Watched<E>,
+) -> Result<(), Fault<'m>> {
+    let name = name_of(list.path);
+    let mut teller = Teller {
+        errors,
+        name,
+        told: 0,
+    };
+    if let Err(error) = store_lines(alloc, trie, reader, &mut teller) {
+        return Err(store_fault(list.path, error));
+    }
+    if list.strict && 0 < teller.told {
+        return Err(Fault::Strict(list.path));
+    }
+    Ok(())
+}
+
+/// Makes a dictionary of a word list, and saves it.
+pub(crate) fn build<'m, F: Files, R: Read + Drop, E: Write>(
+    alloc: Global,
+    files: &F,
+    asked: Build<'m>,
+    input: R,
+    errors: &mut Watched<E>,
+) -> Result<(), Fault<'m>> {
+    let mut list = open(alloc, files, asked.list.path, input)?;
+    if asked.reduced {
+        build_of::<ReducedLayout, _, _, _>(alloc, files, asked, &mut list, errors)
+    } else {
+        build_of::<DefaultLayout, _, _, _>(alloc, files, asked, &mut list, errors)
+    }
+}
+
+/// Makes a dictionary of this layout.
+fn build_of<'m, L: Layout, F: Files, R: BufRead, E: Write>(
+    alloc: Global,
+    files: &F,
+    asked: Build<'m>,
+    list: &mut R,
+    errors: &mut Watched<E>,
+) -> Result<(), Fault<'m>> {
+    let mut trie = empty::<L>(alloc, !asked.unordered)?;
+    store_list(alloc, &mut trie, asked.list, list, errors)?;
+    match trie.save_to_path(files, asked.output) {
+        Ok(()) => Ok(()),
+        Err(error) => Err(Fault::Save(asked.output, error)),
+    }
+}
+
+/// An empty dictionary of this layout.
+pub(crate) fn empty<'m, L: Layout>(
+    alloc: Global,
+    ordered: bool,
+) -> Result<Trie<L, SLOTS, Global>, Fault<'m>> {
+    match Trie::with(alloc, CedarBuilder::new().ordered(ordered)) {
+        Ok(trie) => Ok(trie),
+        Err(_) => Err(Fault::Memory),
+    }
+}

@@ -1,0 +1,72 @@
+//! What two dictionaries hold differently.
+
+use crate::dictionary::{SLOTS, load, open};
+use crate::fault::Fault;
+use crate::request::Dictionary;
+use cedarwood::{DefaultLayout, Layout, ReducedLayout, Trie, Watched};
+use std::alloc::Global;
+use std::io::Write;
+use std::rt::Files;
+use word_lists::write_lacking;
+
+/// Writes the entries of a first dictionary that a second one doesn't hold, behind `-`, and then those of the second that the first
+/// doesn't, behind `+`. Returns whether there is none.
+pub(crate) fn diff<'m, F: Files, W: Write>(
+    alloc: Global,
+    files: &F,
+    first: Dictionary<'m>,
+    second: Dictionary<'m>,
+    writer: &mut Watched<W>,
+) -> Result<bool, Fault<'m>> {
+    let (reader, reduced) = open(alloc, files, first.path)?;
+    if reduced {
+        let trie = load::<ReducedLayout, F::File>(alloc, first, reader)?;
+        diff_from(alloc, files, &trie, second, writer)
+    } else {
+        let trie = load::<DefaultLayout, F::File>(alloc, first, reader)?;
+        diff_from(alloc, files, &trie, second, writer)
+    }
+}
+
+/// The same, where the first one is loaded.
+fn diff_from<'m, L: Layout, F: Files, W: Write>(
+    alloc: Global,
+    files: &F,
+    first: &Trie<L, SLOTS, Global>,
+    second: Dictionary<'m>,
+    writer: &mut Watched<W>,
+) -> Result<bool, Fault<'m>> {
+    let (reader, reduced) = open(alloc, files, second.path)?;
+    if reduced {
+        let trie = load::<ReducedLayout, F::File>(alloc, second, reader)?;
+        write_diff(alloc, first, &trie, writer)
+    } else {
+        let trie = load::<DefaultLayout, F::File>(alloc, second, reader)?;
+        write_diff(alloc, first, &trie, writer)
+    }
+}
+
+/// The same, where both are.
+fn write_diff<'m, L: Layout, M: Layout, W: Write>(
+    alloc: Global,
+    first: &Trie<L, SLOTS, Global>,
+    second: &Trie<M, SLOTS, Global>,
+    writer: &mut Watched<W>,
+) -> Result<bool, Fault<'m>> {
+    let mut key = Vec::new(alloc);
+    let gone = write_lacking(
+        writer,
+        b"-",
+        first.entries_with_prefix_bytes(&[]),
+        second,
+        &mut key,
+    )?;
+    let come = write_lacking(
+        writer,
+        b"+",
+        second.entries_with_prefix_bytes(&[]),
+        first,
+        &mut key,
+    )?;
+    Ok(!gone && !come)
+}

@@ -1,0 +1,94 @@
+//! Why the program did not do what it was asked for.
+
+use cedarwood::{CedarPersistenceError, Watched};
+use std::alloc::AllocError;
+use std::io;
+use std::io::{ErrorKind, Write};
+use word_lists::{ListError, StoreError};
+
+/// What standard input is named in messages.
+const STANDARD_INPUT: &str = "standard input";
+
+/// Why the program did not do what it was asked for.
+#[derive(Debug, Drop)]
+pub(crate) enum Fault<'m> {
+    /// A dictionary can't be loaded from this path.
+    Load(&'m str, CedarPersistenceError),
+    /// One can't be saved there.
+    Save(&'m str, CedarPersistenceError),
+    /// A list or a text can't be read from this path, or from standard input.
+    Read(Option<&'m str>, io::Error),
+    /// A list has bad or repeated lines, which were told.
+    Strict(Option<&'m str>),
+    /// The dictionary of this path isn't in the order of bytes.
+    Unordered(&'m str),
+    /// The output can't be written.
+    Write,
+    Memory,
+    SlotLimit,
+}
+
+impl<'m> From<AllocError> for Fault<'m> {
+    fn from(_: AllocError) -> Fault<'m> {
+        Fault::Memory
+    }
+}
+
+impl<'m> From<ListError> for Fault<'m> {
+    fn from(error: ListError) -> Fault<'m> {
+        match error {
+            ListError::Write => Fault::Write,
+            ListError::Memory => Fault::Memory,
+        }
+    }
+}
+
+/// The fault of a list that was not stored to its end.
+pub(crate) fn store_fault<'m>(path: Option<&'m str>, error: StoreError) -> Fault<'m> {
+    match error {
+        StoreError::Read(error) => Fault::Read(path, error),
+        StoreError::Memory => Fault::Memory,
+        StoreError::SlotLimit => Fault::SlotLimit,
+    }
+}
+
+/// What the path of an input is named in messages.
+pub(crate) fn name_of(path: Option<&str>) -> &str {
+    path.unwrap_or(STANDARD_INPUT)
+}
+
+/// Tells of a fault on standard error.
+pub(crate) fn tell<E: Write>(errors: &mut Watched<E>, fault: Fault<'_>) {
+    let _ = match fault {
+        Fault::Load(path, error) => writeln!(errors, "roskvidh: {path}: {error}"),
+        Fault::Save(path, error) => writeln!(errors, "roskvidh: {path}: {error}"),
+        Fault::Read(path, error) => {
+            let name = name_of(path);
+            writeln!(errors, "roskvidh: {name}: {error}")
+        }
+        Fault::Strict(path) => {
+            let name = name_of(path);
+            writeln!(
+                errors,
+                "roskvidh: {name}: no dictionary is made of a list with such lines"
+            )
+        }
+        Fault::Unordered(path) => {
+            writeln!(
+                errors,
+                "roskvidh: {path}: it was built --unordered, so no word is the next one"
+            )
+        }
+        Fault::Write => writeln!(errors, "roskvidh: standard output can't be written"),
+        Fault::Memory => writeln!(errors, "roskvidh: out of memory"),
+        Fault::SlotLimit => writeln!(errors, "roskvidh: the dictionary has no slot left"),
+    };
+}
+
+/// Whether the output is a pipe that nobody reads any more.
+pub(crate) fn is_closed<W: Write>(writer: &mut Watched<W>) -> bool {
+    match writer.flush() {
+        Ok(()) => false,
+        Err(error) => error.kind() == ErrorKind::BrokenPipe,
+    }
+}

@@ -1,0 +1,81 @@
+//! The program `roskvidh`: dictionaries made of word lists, looked into, and texts cut and scanned by them.
+#![tactic(auto)]
+
+mod arguments;
+mod build;
+mod changes;
+mod dictionary;
+mod differences;
+mod fault;
+mod input;
+mod queries;
+mod request;
+mod run;
+mod texts;
+
+use arguments::command;
+use cedarwood::Watched;
+use clap::ArgMatches;
+use run::{DONE, FILES, USAGE, run};
+use std::env;
+use std::io::{BufWriter, IsTerminal, LineWriter, Write};
+use std::process::ExitCode;
+
+fn main(rt: HostRuntime) -> ExitCode {
+    let Ok(arguments) = env::args(&rt) else {
+        return tell(&rt, b"roskvidh: an argument is no text\n", USAGE);
+    };
+    let words: Vec<String> = match arguments.collect(rt.alloc()) {
+        Ok(words) => words,
+        Err(_) => return tell(&rt, b"roskvidh: out of memory\n", FILES),
+    };
+    let Ok(command) = command(rt.alloc()) else {
+        return tell(&rt, b"roskvidh: out of memory\n", FILES);
+    };
+    match command.try_get_matches_from(words.as_slice()) {
+        Ok(matches) => answer(&rt, &matches),
+        Err(error) => {
+            let status = if error.use_stderr() { USAGE } else { DONE };
+            let _ = error.print(&rt);
+            ExitCode::from(status)
+        }
+    }
+}
+
+/// Does what the arguments ask for. To a terminal each line is written as soon as it is whole.
+fn answer(rt: &HostRuntime, matches: &ArgMatches<'_>) -> ExitCode {
+    let output = rt.stdout();
+    let status = if output.is_terminal() {
+        match LineWriter::new(rt.alloc(), output) {
+            Ok(lines) => answer_to(rt, matches, lines),
+            Err(_) => return tell(rt, b"roskvidh: out of memory\n", FILES),
+        }
+    } else {
+        match BufWriter::new(rt.alloc(), output) {
+            Ok(blocks) => answer_to(rt, matches, blocks),
+            Err(_) => return tell(rt, b"roskvidh: out of memory\n", FILES),
+        }
+    };
+    ExitCode::from(status)
+}
+
+/// Does what the arguments ask for, with its answers to this output.
+fn answer_to<W: Write + Drop>(rt: &HostRuntime, matches: &ArgMatches<'_>, output: W) -> u8 {
+    let mut writer = Watched::new(output);
+    let mut errors = Watched::new(rt.stderr());
+    run(
+        rt.alloc(),
+        rt,
+        matches,
+        rt.stdin(),
+        &mut writer,
+        &mut errors,
+    )
+}
+
+/// Tells why nothing was done.
+fn tell(rt: &HostRuntime, message: &[u8], status: u8) -> ExitCode {
+    let mut errors = Watched::new(rt.stderr());
+    let _ = errors.write_all(message);
+    ExitCode::from(status)
+}

@@ -1,0 +1,232 @@
+//! What the arguments ask for.
+
+use cedarwood::DEFAULT_LOAD_MEMORY_LIMIT;
+use clap::ArgMatches;
+
+/// What the arguments ask for.
+#[derive(Clone, Copy, Debug)]
+pub(crate) enum Request<'m> {
+    Build(Build<'m>),
+    Query(Dictionary<'m>, Query<'m>),
+    Text(Dictionary<'m>, Reading<'m>),
+    Change(Dictionary<'m>, Change<'m>),
+    Diff(Dictionary<'m>, Dictionary<'m>),
+}
+
+/// How a dictionary is changed, and where it is saved then.
+#[derive(Clone, Copy, Debug)]
+pub(crate) struct Change<'m> {
+    pub how: How<'m>,
+    /// Where the changed dictionary is saved.
+    pub output: &'m str,
+    /// Whether it is saved in format 1.0.
+    pub old_format: bool,
+}
+
+/// What is changed.
+#[derive(Clone, Copy, Debug)]
+pub(crate) enum How<'m> {
+    /// The entries of a list are stored.
+    Add(List<'m>),
+    /// The words of a list are taken out.
+    Remove(Option<&'m str>),
+    /// The entries of another dictionary are stored.
+    Merge(Dictionary<'m>),
+    /// Nothing but the file's format and layout: the reduced one, the other one, or the one that it has.
+    Convert(Option<bool>),
+}
+
+/// A word list.
+#[derive(Clone, Copy, Debug)]
+pub(crate) struct List<'m> {
+    /// Its path; standard input where there is none.
+    pub path: Option<&'m str>,
+    /// Whether a bad line or a repeated word leaves no file.
+    pub strict: bool,
+}
+
+/// A dictionary that is made of a word list.
+#[derive(Clone, Copy, Debug)]
+pub(crate) struct Build<'m> {
+    pub list: List<'m>,
+    /// Where the dictionary is saved.
+    pub output: &'m str,
+    pub reduced: bool,
+    pub unordered: bool,
+}
+
+/// A dictionary's file.
+#[derive(Clone, Copy, Debug)]
+pub(crate) struct Dictionary<'m> {
+    pub path: &'m str,
+    /// How many bytes of memory a load may ask for.
+    pub limit: usize,
+}
+
+/// What is asked of a dictionary alone.
+#[derive(Clone, Copy, Debug)]
+pub(crate) enum Query<'m> {
+    Get(&'m [&'m str]),
+    Prefixes(&'m str),
+    /// The words that begin so, so many at most if that is said.
+    Complete(&'m str, Option<u64>),
+    /// Whether the file is well-formed, and of what kind it is.
+    Check,
+    Stats,
+    List,
+    ListFrom(&'m str),
+    ListUnder(&'m str),
+}
+
+/// What is asked of a dictionary and a text.
+#[derive(Clone, Copy, Debug)]
+pub(crate) struct Reading<'m> {
+    /// The text's path; standard input where there is none.
+    pub text: Option<&'m str>,
+    pub task: Task<'m>,
+}
+
+/// What is done with a text.
+#[derive(Clone, Copy, Debug)]
+pub(crate) enum Task<'m> {
+    /// Cut it, with this sign between words.
+    Cut(&'m str),
+    /// Cut it so that it costs the least, where a character that no word has costs this much.
+    CutCheapest(u32, &'m str),
+    /// Find all words that stand in it.
+    Scan,
+    /// Find those that don't overlap.
+    ScanLongest,
+}
+
+/// What the arguments ask for; None if the command is none of the program's, which no parse gives.
+pub(crate) fn request_of<'m, 'a>(matches: &'m ArgMatches<'a>) -> Option<Request<'m>> {
+    let (name, asked) = matches.subcommand()?;
+    match name {
+        "build" => Some(Request::Build(build_of(asked)?)),
+        "get" => query_of(asked, Query::Get(asked.get_strs("word")?)),
+        "prefixes" => query_of(asked, Query::Prefixes(asked.get_str("text")?)),
+        "complete" => query_of(
+            asked,
+            Query::Complete(asked.get_str("prefix")?, asked.get_one("most")),
+        ),
+        "list" => query_of(asked, list_of(asked)),
+        "cut" => reading_of(asked, cut_of(asked, asked.get_str("sign")?)),
+        "scan" => reading_of(asked, scan_of(asked)),
+        "check" => query_of(asked, Query::Check),
+        "stats" => query_of(asked, Query::Stats),
+        "add" => in_place(asked, How::Add(word_list_of(asked))),
+        "remove" => in_place(asked, How::Remove(path_of(asked.get_str("words")))),
+        "merge" => elsewhere(asked, How::Merge(other_of(asked)?)),
+        "convert" => elsewhere(asked, How::Convert(layout_of(asked))),
+        "diff" => Some(Request::Diff(dictionary_of(asked)?, other_of(asked)?)),
+        _ => None,
+    }
+}
+
+fn build_of<'m, 'a>(asked: &'m ArgMatches<'a>) -> Option<Build<'m>> {
+    Some(Build {
+        list: word_list_of(asked),
+        output: asked.get_str("output")?,
+        reduced: asked.get_flag("reduced"),
+        unordered: asked.get_flag("unordered"),
+    })
+}
+
+fn query_of<'m, 'a>(asked: &'m ArgMatches<'a>, query: Query<'m>) -> Option<Request<'m>> {
+    Some(Request::Query(dictionary_of(asked)?, query))
+}
+
+fn reading_of<'m, 'a>(asked: &'m ArgMatches<'a>, task: Task<'m>) -> Option<Request<'m>> {
+    let text = path_of(asked.get_str("text"));
+    Some(Request::Text(dictionary_of(asked)?, Reading { text, task }))
+}
+
+/// A change that is saved in the dictionary's own file.
+fn in_place<'m, 'a>(asked: &'m ArgMatches<'a>, how: How<'m>) -> Option<Request<'m>> {
+    let dictionary = dictionary_of(asked)?;
+    let change = Change {
+        how,
+        output: dictionary.path,
+        old_format: false,
+    };
+    Some(Request::Change(dictionary, change))
+}
+
+/// A change that is saved in another file.
+fn elsewhere<'m, 'a>(asked: &'m ArgMatches<'a>, how: How<'m>) -> Option<Request<'m>> {
+    let change = Change {
+        how,
+        output: asked.get_str("output")?,
+        old_format: asked.get_flag("v1-0"),
+    };
+    Some(Request::Change(dictionary_of(asked)?, change))
+}
+
+fn word_list_of<'m, 'a>(asked: &'m ArgMatches<'a>) -> List<'m> {
+    List {
+        path: path_of(asked.get_str("words")),
+        strict: asked.get_flag("strict"),
+    }
+}
+
+/// The second dictionary.
+fn other_of<'m, 'a>(asked: &'m ArgMatches<'a>) -> Option<Dictionary<'m>> {
+    let path = asked.get_str("other")?;
+    Some(Dictionary {
+        path,
+        ..dictionary_of(asked)?
+    })
+}
+
+/// Whether the reduced layout is wanted, or the other one.
+fn layout_of(asked: &ArgMatches<'_>) -> Option<bool> {
+    if asked.get_flag("reduced") {
+        return Some(true);
+    }
+    if asked.get_flag("default") {
+        return Some(false);
+    }
+    None
+}
+
+fn dictionary_of<'m, 'a>(asked: &'m ArgMatches<'a>) -> Option<Dictionary<'m>> {
+    Some(Dictionary {
+        path: asked.get_str("file")?,
+        limit: asked.get_one("limit").unwrap_or(DEFAULT_LOAD_MEMORY_LIMIT),
+    })
+}
+
+fn list_of<'m, 'a>(asked: &'m ArgMatches<'a>) -> Query<'m> {
+    if let Some(word) = asked.get_str("from") {
+        return Query::ListFrom(word);
+    }
+    match asked.get_str("prefix") {
+        Some(prefix) => Query::ListUnder(prefix),
+        None => Query::List,
+    }
+}
+
+fn cut_of<'m>(asked: &ArgMatches<'_>, sign: &'m str) -> Task<'m> {
+    if asked.get_flag("cheapest") {
+        Task::CutCheapest(asked.get_one("unknown").unwrap_or(u32::MAX), sign)
+    } else {
+        Task::Cut(sign)
+    }
+}
+
+fn scan_of<'m>(asked: &ArgMatches<'_>) -> Task<'m> {
+    if asked.get_flag("only-longest") {
+        Task::ScanLongest
+    } else {
+        Task::Scan
+    }
+}
+
+/// The path of a file; None for standard input, which `-` stands for.
+fn path_of(path: Option<&str>) -> Option<&str> {
+    match path {
+        Some("-") => None,
+        _ => path,
+    }
+}
