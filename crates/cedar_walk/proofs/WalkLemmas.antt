@@ -8,3 +8,4 @@ pub mod Prefixed
 pub mod Since
 pub mod Ranges
 pub mod Last
+pub mod Keys

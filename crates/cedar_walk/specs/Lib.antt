@@ -6,3 +6,4 @@ pub mod Words
 pub mod Ranges
 pub mod RangePlaces
 pub mod Ends
+pub mod Keys

@@ -4,11 +4,13 @@
 mod batch;
 mod ends;
 mod fronts;
+mod keys;
 mod ranges;
 mod visits;
 
 pub use batch::exact_match_search_batch;
 pub use ends::last_numbered;
 pub use fronts::{Front, next_held_front};
+pub use keys::numbered_after_with_key;
 pub use ranges::{first_since, write_path};
 pub use visits::{Numbered, Visited, first_numbered, node_after, numbered_after};

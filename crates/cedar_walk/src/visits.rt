@@ -37,7 +37,7 @@ pub struct Numbered {
 pub(crate) struct Place {
     pub(crate) slot: usize,
     pub(crate) depth: usize,
-    label: u8,
+    pub(crate) label: u8,
 }
 
 /// The label of a node's first child, or 0.
@@ -94,7 +94,7 @@ pub(crate) fn parent<L: Layout, const SLOTS: usize, A: Allocator>(
 
 /// The number of a node that is known to have one: where the layout keeps each in a slot of its own there is no test.
 #[inline(always)]
-fn number_held<L: Layout, const SLOTS: usize, A: Allocator>(
+pub(crate) fn number_held<L: Layout, const SLOTS: usize, A: Allocator>(
     table: &Table<L, SLOTS, A>,
     node: usize,
 ) -> i32
@@ -111,7 +111,7 @@ fn number_held<L: Layout, const SLOTS: usize, A: Allocator>(
 
 /// The label of the first child of a node that is known to have a number, or 0. It is the sibling of the number's slot.
 #[inline(always)]
-fn label_after_number<L: Layout, const SLOTS: usize, A: Allocator>(
+pub(crate) fn label_after_number<L: Layout, const SLOTS: usize, A: Allocator>(
     table: &Table<L, SLOTS, A>,
     node: usize,
 ) -> u8
@@ -176,7 +176,7 @@ pub(crate) fn next_after<L: Layout, const SLOTS: usize, A: Allocator>(
 /// Where a walk goes on that has been at a node, whose first child has this label: to that child, or else to the sibling after the
 /// node, or else to the one after the nearest node above it that has one.
 #[inline(always)]
-fn place_after<L: Layout, const SLOTS: usize, A: Allocator>(
+pub(crate) fn place_after<L: Layout, const SLOTS: usize, A: Allocator>(
     table: &Table<L, SLOTS, A>,
     node: usize,
     depth: usize,

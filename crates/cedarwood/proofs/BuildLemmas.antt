@@ -51,7 +51,7 @@ refused_here {X} f ps i d layout slots s t r e h is u =
 
 -- ---- what they leave
 
-built : (layout : LayoutKind) (slots : ℕ) (s : Dictionary) (es : List Entry) (r : Result (Unit {0}) CedarError) (a : Dictionary) → IsBuild layout slots s es r a → OnOk r (a.state ≡ all_stored s.state es)
+pub built : (layout : LayoutKind) (slots : ℕ) (s : Dictionary) (es : List Entry) (r : Result (Unit {0}) CedarError) (a : Dictionary) → IsBuild layout slots s es r a → OnOk r (a.state ≡ all_stored s.state es)
 built layout slots s es (Err x) a h = tt
 built layout slots s [] (Ok u) a h = ap (λ (d : Dictionary). d.state) h.1
 built layout slots s (e ∷ es) (Ok u) a h = elim h [
@@ -88,7 +88,7 @@ stopped layout slots s (e ∷ es) x a fine h =
       }
     ]
 
-kept : (layout : LayoutKind) (slots : ℕ) (s : Dictionary) (es : List Entry) (r : Result (Unit {0}) CedarError) (a : Dictionary) → IsBuild layout slots s es r a → a.max_trial ≡ s.max_trial
+pub kept : (layout : LayoutKind) (slots : ℕ) (s : Dictionary) (es : List Entry) (r : Result (Unit {0}) CedarError) (a : Dictionary) → IsBuild layout slots s es r a → a.max_trial ≡ s.max_trial
 kept layout slots s [] r a h = ap (λ (d : Dictionary). d.max_trial) h.1
 kept layout slots s (e ∷ es) r a h = elim h [
   | inl m ↦ kept layout slots m.0 es r a m.2 ∙ m.1.max_trial

@@ -6,6 +6,7 @@ pub mod GrowthLemmas
 pub mod SortedInputLemmas
 pub mod UpdateLemmas
 pub mod PredictionLemmas
+pub mod BatchLemmas
 pub mod BuildLemmas
 pub mod CollectLemmas
 pub mod EntriesLemmas
@@ -26,3 +27,4 @@ mod ShrinkLemmas
 pub mod ErasureLemmas
 mod EndsLemmas
 mod RangeLawLemmas
+pub mod CursorLemmas

@@ -1,6 +1,7 @@
 pub use Rattle.cedar_tree.specs.Tree
 pub use Rattle.cedar_tree.specs.Queries
 pub use Rattle.cedar_tree.specs.State
+pub mod Batches
 pub mod Blanks
 pub mod Builds
 pub mod Dictionary
@@ -23,6 +24,7 @@ pub mod Updates
 pub mod Saving
 pub mod Words
 pub mod RangeWalks
+pub mod Cursors
 pub mod Ends
 pub mod Limits
 pub use Rattle.cedar_walk.specs.Ranges

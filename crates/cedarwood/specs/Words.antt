@@ -20,6 +20,7 @@ pub use Rattle.cedar_tree.specs.Walks.{front_from}
 pub use Rattle.cedar_walk.specs.Batch.{keys_of}
 pub use Rattle.cedar_walk.specs.Fronts.{IsOnQuery, front_length}
 pub use Rattle.cedar_walk.specs.Visits.{ComesTo, ComesToNumber, IsBelow, IsNumberedBelow, left_at, path_to}
+pub use Rattle.cedarwood.specs.Batches.{IsErasure, IsErasures, IsUpdates, StopsAt, held_in_turn, keys_erased, pair_at}
 pub use Rattle.cedarwood.specs.Blanks.{IsBlankOf}
 pub use Rattle.cedarwood.specs.Builds.{IsBuild, IsRefusedBuild, all_stored, first_fault, outcome}
 pub use Rattle.cedarwood.specs.Dictionary.{Dictionary, Grows, IsMarked, IsValid, capacity_after, dictionary_code, first_bytes}

@@ -16,6 +16,7 @@
 //! ledgers are `C` and `D`. `examples/calls.txt` has the lines of each example in tests, and `tests/run` runs them.
 #![tactic(auto)]
 
+mod batches;
 mod build;
 mod builder;
 mod clone;
@@ -35,6 +36,7 @@ mod sorted;
 mod texts;
 mod trie;
 
+pub use batches::RefusedPair;
 pub use builder::CedarBuilder;
 pub use cedar_format::{
     CedarPersistenceError, Source, Watched, one_table_for_its_bytes, well_formed_tables_pass,
@@ -53,6 +55,7 @@ pub use laws::{
     sorted_is_stored_in_turn,
 };
 pub use queries::counted::CountedPrefixIter;
+pub use queries::cursor::EntryCursor;
 pub use queries::entries::{Entries, EntryError, Utf8Entries};
 pub use queries::predict::PrefixPredictIter;
 pub use queries::prefix::PrefixIter;

@@ -3,7 +3,7 @@ use Rattle.std.proofs.Common.{◌≡◌, ◌⊎◌, inl, inr, ℕ, zero, suc, �
 use Rattle.std.specs.Prelude.{pos, unsigned_abs}
 use Rattle.std.proofs.lemmas.Bool.{eqb-false, eqb-true, true≢false}
 use Rattle.std.proofs.lemmas.Bool.Decides.{eqb_tells}
-use Rattle.std.proofs.lemmas.List.{append-nil, drop_all, drop_more, drop-set, length-append, length-set, length-take-le, take_all, take-append-drop, take-set, take-take}
+use Rattle.std.proofs.lemmas.List.{drop_more, drop-set, length-append, length-set, length-take-le, take_all, take-append-drop, take-set, take-take}
 use Rattle.cedar_tree.specs.Edits.{HasPath}
 use Rattle.cedar_tree.specs.Tree.{Forest, none, child, Tree, has_label, IsSoundBelow, subtree}
 use Rattle.cedar_tree.specs.Queries.{node_at, walk}

@@ -3,6 +3,7 @@
 mod batch;
 mod calls;
 pub(crate) mod counted;
+pub(crate) mod cursor;
 mod ends;
 pub(crate) mod entries;
 mod lookups;

@@ -25,15 +25,15 @@ use std::marker::Model;
 /// A contract sees the entries that are left.
 #[derive(Drop)]
 pub struct RangeEntries<'a, T: Walked, A: Allocator + Copy> {
-    trie: &'a T,
+    pub(crate) trie: &'a T,
     // What all keys begin with, and the node of the first entry that is to come, so many labels below that.
-    start: &'a [u8],
-    next: Option<Numbered>,
+    pub(crate) start: &'a [u8],
+    pub(crate) next: Option<Numbered>,
     // The node of the first entry behind the range: so no key is compared.
-    end: Option<Numbered>,
+    pub(crate) end: Option<Numbered>,
     // What the range ends before, if it has an end: contracts read it.
-    to: Option<&'a [u8]>,
-    alloc: A,
+    pub(crate) to: Option<&'a [u8]>,
+    pub(crate) alloc: A,
 }
 
 impl<'a, T: Walked, A: Allocator + Copy> Model for RangeEntries<'a, T, A> {
@@ -82,7 +82,8 @@ pub(crate) fn write_key<T: Walked, A: Allocator>(
 }
 
 /// Whether a walk ends at a slot.
-fn ends_at(end: Option<Numbered>, slot: usize) -> bool
+#[inline(always)]
+pub(crate) fn ends_at(end: Option<Numbered>, slot: usize) -> bool
     ensures { IsTrue result ↔ ((last : Numbered) × (end ≡ Some last) × (last.slot ≡ slot)) }
 {
     match end {

@@ -1,16 +1,17 @@
 //! What walks that are under way ask of a dictionary.
 
-ghost use Rattle.std.specs.Prelude.{◌*◌, ◌++◌, ◌+◌, ◌-◌, ◌<◌, ◌∷◌, ◌≡◌, ◌≤◌, List, MatchOption, [], length, take, true, ℕ};
+ghost use Rattle.std.specs.Prelude.{◌*◌, ◌++◌, ◌+◌, ◌-◌, ◌<◌, ◌∷◌, ◌≡◌, ◌≤◌, IfOk, List, MatchOption, [], length, take, true, ℕ};
 ghost use Rattle.cedarwood.specs.Words.{ComesTo, ComesToNumber, Fields, IsBelow, IsNumberedBelow, IsOnQuery, IsWellFormed, cells_in, front_from, left_at, node_at, front_length, path_to, tree_of, walk};
 ghost use Rattle.cedar_tree.specs.Walks.{visited_entries};
+ghost use Rattle.cedar_walk.specs.Keys.{KeyGoesOn};
 ghost use Rattle.cedar_walk.specs.Ranges.{entries_since};
 
 use crate::{Layout, Ticks, Trie};
 use cedar_walk::{
     Front, Numbered, Visited, first_numbered, first_since, next_held_front, node_after,
-    numbered_after, write_path,
+    numbered_after, numbered_after_with_key, write_path,
 };
-use std::alloc::Allocator;
+use std::alloc::{AllocError, Allocator};
 use std::sync::ledger::Ledger;
 
 /// A dictionary, as its walks see it: any [`Trie`]. A walk knows it by this trait alone, since a call on a type with a const
@@ -49,6 +50,22 @@ pub trait Walked {
         requires well_formed { IsWellFormed slots (shown self.now) }
         requires below { (start : List ℕ) × IsNumberedBelow (shown self.now) start depth node }
         ensures { (start : List ℕ) → IsBelow (cells_in (shown self.now)) start depth node → MatchOption result (visited_entries (left_at (shown self.now) start depth node) ≡ []) (ComesToNumber (shown self.now) start (visited_entries (left_at (shown self.now) start depth node))) };
+
+    /// The next node with a number of a walk that has been at one, with a key that is kept in step: it ended in the path to the one node,
+    /// and ends in that to the other. Where a request for memory is refused, the key may hold anything.
+    fn next_with_key<B: Allocator>(
+        &self,
+        node: usize,
+        depth: usize,
+        key: &mut Vec<u8, B>,
+    ) -> Result<Option<Numbered>, AllocError>
+        requires well_formed { IsWellFormed slots (shown self.now) }
+        requires below { (start : List ℕ) × IsNumberedBelow (shown self.now) start depth node }
+        requires room { depth ≤ length key.old.items }
+
+        //= A walk whose key is kept in step is told the same node, and ends its key in that node's path. [with key]
+        ensures found { IfOk result (λ found. (start : List ℕ) → IsBelow (cells_in (shown self.now)) start depth node → MatchOption found (visited_entries (left_at (shown self.now) start depth node) ≡ []) (ComesToNumber (shown self.now) start (visited_entries (left_at (shown self.now) start depth node)))) }
+        ensures key { IfOk result (λ found. MatchOption found (key.new.items ≡ key.old.items) (KeyGoesOn (shown self.now) depth node key.old.items key.new.items)) };
 
     /// The next node of a walk.
     fn next_node(&self, node: usize, depth: usize) -> Option<Visited>
@@ -93,6 +110,16 @@ impl<L: Layout, const SLOTS: usize, A: Allocator + Copy> Walked for Trie<L, SLOT
     #[inline(always)]
     fn next_numbered(&self, node: usize, depth: usize) -> Option<Numbered> {
         numbered_after(&self.table, node, depth)
+    }
+
+    #[inline(always)]
+    fn next_with_key<B: Allocator>(
+        &self,
+        node: usize,
+        depth: usize,
+        key: &mut Vec<u8, B>,
+    ) -> Result<Option<Numbered>, AllocError> {
+        numbered_after_with_key(&self.table, node, depth, key)
     }
 
     #[inline(always)]

@@ -1,0 +1,69 @@
+//! A walk from number to number that keeps the key of its node: so an item of it costs the labels in which its key differs from the
+//! one before, and no climb to the node where the walk began.
+
+ghost use Rattle.std.specs.Prelude.{◌≡◌, ◌≢◌, ℕ, List, ◌≤◌, IfOk, length, MatchOption};
+ghost use Rattle.cedar_walk.specs.Words.{cells, fields, FindsNumber, GoesToNumber, IsBelow, IsNumberedBelow, IsWellFormed, KeyGoesOn};
+
+use crate::visits::{Numbered, label_after_number, number_held, place_after};
+use cedar_model::Layout;
+use cedar_table::Table;
+use std::alloc::{AllocError, Allocator};
+
+/// `numbered_from`, which writes the labels on the way down behind the key of the node where it begins.
+#[inline(always)]
+fn numbered_from_with_key<L: Layout, const SLOTS: usize, A: Allocator, B: Allocator>(
+    table: &Table<L, SLOTS, A>,
+    node: usize,
+    depth: usize,
+    key: &mut Vec<u8, B>,
+) -> Result<Numbered, AllocError>
+    requires well_formed { IsWellFormed SLOTS (fields table.now) }
+    requires below { (start : List ℕ) × IsBelow (cells table.now) start depth node }
+    requires not_root { node ≢ 0 }
+    ensures found { IfOk result (FindsNumber (fields table.now) depth node) }
+    ensures key { IfOk result (KeyGoesOn (fields table.now) depth node key.old.items key.new.items) }
+{
+    let mut slot = node;
+    let mut steps = depth;
+    let mut label = table.child(slot);
+    while label != 0 {
+        key.push(label)?;
+        slot = table.slot_below(slot, label);
+        steps += 1;
+        label = table.child(slot);
+    }
+    Ok(Numbered {
+        slot,
+        depth: steps,
+        number: number_held(table, slot),
+    })
+}
+
+/// `numbered_after`, which keeps a key in step: whose last `depth` bytes were the path to the one node, it ends in the path to the other,
+/// and the bytes in front of that stay. Where no node is left, all of the key stays. It fails where a request for memory is refused; then
+/// the key may hold anything, and `numbered_after` and `write_path` give what this call would have.
+#[inline(always)]
+pub fn numbered_after_with_key<L: Layout, const SLOTS: usize, A: Allocator, B: Allocator>(
+    table: &Table<L, SLOTS, A>,
+    node: usize,
+    depth: usize,
+    key: &mut Vec<u8, B>,
+) -> Result<Option<Numbered>, AllocError>
+    requires well_formed { IsWellFormed SLOTS (fields table.now) }
+    requires below { (start : List ℕ) × IsNumberedBelow (fields table.now) start depth node }
+    requires room { depth ≤ length key.old.items }
+
+    //= `numbered_after_with_key`: the node that `numbered_after` gives, and its key, where the key was that of the node before. [with key]
+    ensures found { IfOk result (GoesToNumber (fields table.now) depth node) }
+    ensures key { IfOk result (λ found. MatchOption found (key.new.items ≡ key.old.items) (KeyGoesOn (fields table.now) depth node key.old.items key.new.items)) }
+{
+    let front = key.len() - depth;
+    let label = label_after_number(table, node);
+    let Some(place) = place_after(table, node, depth, label) else {
+        return Ok(None);
+    };
+    key.truncate(front + (place.depth - 1));
+    key.push(place.label)?;
+    let next = numbered_from_with_key(table, place.slot, place.depth, key)?;
+    Ok(Some(next))
+}

@@ -1,0 +1,73 @@
+-- Where cursors over the entries of a range stand in a table, and what a caller sees of them.
+use Rattle.std.specs.Prelude.{◌≡◌, ℕ, ℤ, List, [], ◌++◌, filter, map, MatchOption, None, Option, Some}
+use Rattle.std.specs.Coded.{Coded, code_by, coded×, coded_ℕ, coded_ℤ, coded_list}
+use Rattle.std.proofs.Common.{refl}
+use Rattle.cedar_tree.specs.Queries.{Entry}
+use Rattle.cedar_tree.specs.Walks.{visited_entries}
+use Rattle.cedar_model.specs.Table.TableFields.{Fields}
+use Rattle.cedar_walk.specs.declared.visits.Numbered.{Numbered}
+use Rattle.cedar_walk.specs.Visits.{IsNumberedBelow, left_at, path_to}
+use Rattle.cedar_walk.specs.Ranges.{behind_path}
+use Rattle.cedarwood.specs.declared.queries.cursor.CursorPlace.{CursorPlace}
+use Rattle.cedarwood.specs.declared.queries.cursor.CursorPlace.TheVariants.{At, Before, End}
+use Rattle.cedarwood.specs.RangeWalks.{follows_end, IsRangePlace, precedes_end, ranged}
+
+-- a cursor: the key that it holds, and the entries that it has left
+pub record Cursor : Type 0 where
+  pub key : List ℕ
+  pub left : List Entry
+
+-- it serves `impl Model` alone
+abbrev pub cursor_code : Coded Cursor
+cursor_code =
+    code_by (List ℕ × List (List ℕ × ℤ)) (coded× (coded_list coded_ℕ) (coded_list (coded× (coded_list coded_ℕ) coded_ℤ)))
+    (λ c. (c.key, c.left))
+    (λ p. record { key = p.0; left = p.1 })
+    (λ _. refl)
+
+-- where it stands before the node of its first entry, if there is one
+abbrev pub place_before : Option Numbered → CursorPlace
+place_before None = End
+place_before (Some next) = Before next
+
+-- and once it has come to a node, if there was one
+abbrev pub place_at : Option Numbered → CursorPlace
+place_at None = End
+place_at (Some next) = At next.slot next.depth
+
+-- the entries that a walk below the path `start` has left at a place
+abbrev pub cursor_entries : Fields → List ℕ → CursorPlace → List Entry
+cursor_entries T start (Before next) = ranged T start (Some next)
+cursor_entries T start (At slot depth) = map (behind_path start) (visited_entries (left_at T start depth slot))
+cursor_entries T start End = []
+
+-- the place is a node with a number, and the key is that node's once it was given
+abbrev pub IsCursorPlace : Fields → List ℕ → List ℕ → CursorPlace → Type 0
+IsCursorPlace T start key (Before next) = IsNumberedBelow T start next.depth next.slot
+IsCursorPlace T start key (At slot depth) = IsNumberedBelow T start depth slot × (key ≡ start ++ path_to T depth slot)
+IsCursorPlace T start key End = Unit {0}
+
+-- those of the entries that are before the bound
+abbrev pub cursor_left : Fields → List ℕ → Option (List ℕ) → CursorPlace → List Entry
+cursor_left T start to place = filter (λ e. precedes_end to e.0) (cursor_entries T start place)
+
+-- the node where the cursor ends: that of the first entry behind the end
+abbrev pub IsCursorEnd : Fields → List ℕ → Option (List ℕ) → CursorPlace → Option Numbered → Type 0
+IsCursorEnd T start to place end = filter (λ e. follows_end to e.0) (cursor_entries T start place) ≡ ranged T start end
+
+-- from a place the walk comes to a node, that of the first of its entries, or nothing is left
+abbrev pub FindsNext : Fields → List ℕ → CursorPlace → Option Numbered → Type 0
+FindsNext T start place found = (cursor_entries T start place ≡ ranged T start found) × IsRangePlace T start found
+
+-- and its key is written
+pub record LeadsTo (T : Fields) (start : List ℕ) (place : CursorPlace) (key : List ℕ) (found : Option Numbered) : Type 0 where
+  pub finds : FindsNext T start place found
+  pub stands : IsCursorPlace T start key (place_at found)
+
+-- nothing is left before the end: no node is, or the next one is that where the walk ends
+abbrev pub IsAtEnd : Option Numbered → Option Numbered → Type 0
+IsAtEnd found end = MatchOption found (Unit {0}) (λ next. (last : Numbered) × (end ≡ Some last) × (last.slot ≡ next.slot))
+
+-- the next node isn't the one where the walk ends
+abbrev pub IsShortOf : Option Numbered → Numbered → Type 0
+IsShortOf end next = (last : Numbered) → end ≡ Some last → next.slot ≡ last.slot → ⊥

@@ -1,0 +1,104 @@
+//! Many keys changed in one call.
+
+ghost use Rattle.std.specs.Prelude.{◌++◌, ◌≡◌, IfErr, OnOk, drop, length, take};
+ghost use Rattle.cedarwood.specs.Words.{IsErasures, IsUpdates, all_stored, entries_of, held_in_turn, keys_erased, keys_of};
+
+use crate::{CedarError, Layout, Trie};
+use std::alloc::Allocator;
+
+/// How many keys are looked up in step before they are changed.
+const LANES: usize = 16;
+
+/// Which pair of a batch was refused, and why. Those before it are stored.
+//= `==` of two refusals is their equality. [by PartialEq]
+#[derive(Clone, Debug, Drop, PartialEq, Eq)]
+pub struct RefusedPair {
+    /// The place of the pair, counted from 0.
+    pub index: usize,
+    /// What the pair's own update answers.
+    pub error: CedarError,
+}
+
+impl<L: Layout, const SLOTS: usize, A: Allocator + Copy> Trie<L, SLOTS, A> {
+    /// Stores some pairs as [`Trie::update_bytes`] does one after another: a key's last value stands.
+    ///
+    /// A few keys are looked up in step before they are stored, so that their waits for memory can overlap where the table is large and
+    /// the keys come in no order.
+    ///
+    /// ```
+    /// let pairs: [(&[u8], i32); 2] = [(b"ten", 2), (b"net", 7)];
+    /// cedar.update_batch(&pairs)?;
+    /// assert_eq!(rt; cedar.len(), 2);
+    /// ```
+    ///
+    /// # Errors
+    /// As [`Trie::update_bytes`] of the first pair that is refused, with the place of that pair. The pairs before it are stored, it and
+    /// those behind it aren't.
+    pub fn update_batch(&mut self, pairs: &[(&[u8], i32)]) -> Result<(), RefusedPair>
+        //= `update_batch` is as many updates, one after another, of which a refused one is the last and is told with its place. [by IsUpdates]
+        ensures updates { IsUpdates L.kind SLOTS self.old self.new (entries_of pairs.now) result }
+
+        //= So all pairs are stored in turn, or those before the refused one. [with refused]
+        ensures stored { OnOk result (self.new.state ≡ all_stored self.old.state (entries_of pairs.now)) }
+        ensures refused { IfErr result (λ refusal. self.new.state ≡ all_stored self.old.state (take refusal.index (entries_of pairs.now))) }
+
+        //= `max_trial` stays.
+        ensures max_trial { self.new.max_trial ≡ self.old.max_trial }
+    {
+        for index in 0..pairs.len() {
+            if index % LANES == 0 {
+                self.pass_in_step(&pairs[index..]);
+            }
+            let (key, value) = pairs[index];
+            if let Err(error) = self.update_bytes(key, value) {
+                return Err(RefusedPair { index, error });
+            }
+        }
+        Ok(())
+    }
+
+    /// Looks up the keys of the first pairs in step, which brings to the processor what their updates read.
+    fn pass_in_step(&self, pairs: &[(&[u8], i32)]) {
+        let count = pairs.len().min(LANES);
+        let mut keys: [&[u8]; LANES] = [&[]; LANES];
+        for lane in 0..count {
+            keys[lane] = pairs[lane].0;
+        }
+        self.exact_match_search_batch(&keys[..count], &mut [None; LANES]);
+    }
+
+    /// Removes some keys as [`Trie::erase_bytes`] does one after another: `answers[i]` becomes whether `keys[i]` was held then, for as
+    /// many keys as there is room for. Keys without room stay, and so do answers behind the last key. It takes no memory.
+    ///
+    /// A few keys are looked up in step before they are removed, so that their waits for memory can overlap where the table is large and
+    /// the keys come in no order.
+    ///
+    /// ```
+    /// cedar.update_bytes(b"net", 7)?;
+    /// let keys: [&[u8]; 2] = [b"net", b"net"];
+    /// let mut answers = [false; 2];
+    /// cedar.erase_batch(&keys, &mut answers);
+    /// assert_eq!(rt; answers, [true, false]);
+    /// ```
+    pub fn erase_batch(&mut self, keys: &[&[u8]], answers: &mut [bool])
+        //= `erase_batch` is as many erasures, one after another, of as many keys as there are places for answers. [by IsErasures]
+        ensures erasures { IsErasures self.old self.new (take (length answers.old) (keys_of keys.now)) (take (length keys.now) answers.new) }
+
+        //= So each answer is whether its key was held after the erasures before it, and places behind the last key stay; the tree is then
+        //  what is left after all of these. [with after]
+        ensures answers { answers.new ≡ held_in_turn self.old.state (take (length answers.old) (keys_of keys.now)) ++ drop (length keys.now) answers.old }
+        ensures after { self.new.state ≡ keys_erased self.old.state (take (length answers.old) (keys_of keys.now)) }
+
+        //= It leaves the slots in use, those there are, and `max_trial`. [with max_trial]
+        ensures size { (self.new.size ≡ self.old.size) × (self.new.capacity ≡ self.old.capacity) }
+        ensures max_trial { self.new.max_trial ≡ self.old.max_trial }
+    {
+        let count = keys.len().min(answers.len());
+        for index in 0..count {
+            if index % LANES == 0 {
+                self.exact_match_search_batch(&keys[index..count], &mut [None; LANES]);
+            }
+            answers[index] = self.erase_bytes(keys[index]);
+        }
+    }
+}
