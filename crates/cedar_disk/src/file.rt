@@ -1,0 +1,173 @@
+//! A file of the operating system as a device.
+
+ghost use Rattle.std.specs.Prelude.{◌≡◌, length, IfOk};
+ghost use Rattle.std.specs.Option.{ForSome};
+ghost use Rattle.cedar_journal.specs.Device.{Only};
+ghost use Rattle.cedar_journal.specs.declared.device.DeviceError.TheVariants.{Failed};
+ghost use Rattle.cedar_disk.specs.Accounts.{calls_of};
+ghost use Rattle.cedar_disk.specs.Calls.{faults_in, seen_after, LeftSince, MayLeave};
+ghost use Rattle.cedar_disk.specs.Laws.{counts_now, only_now};
+
+use crate::system::{
+    make_file, open_file, open_folder, put_in_place, read_all, resolve, write_all_at,
+    write_synced_at,
+};
+use crate::{Account, OpenError, ReplaceDevice, ReplaceError};
+use cedar_journal::{Device, DeviceError};
+use std::alloc::Allocator;
+use std::fs::{self, OpenFile};
+use std::io;
+use std::path::PathBuf;
+use std::rt::Files;
+
+/// A file of the operating system, which nobody else writes to.
+///
+/// It holds the bytes that were read as it was opened, until it is first written, cut or replaced. From then on a read is refused with
+/// `Failed`: nothing would tell whether what comes is what was written. Open the file again to read it.
+///
+/// Once a call of the system has failed to write, cut, sync or rename, each later call is refused with `Failed`: after a sync that failed
+/// no other one tells what the disk has. Open the file again.
+///
+/// A write that makes the file longer waits until the disk has it, and the `sync` behind it then asks nothing of the system.
+#[derive(Drop)]
+pub struct FileDevice<F: Files + Drop, A: Allocator> {
+    files: F,
+    path: PathBuf<A>,
+    // The path of the file that replaces it.
+    beside: String<A>,
+    folder: F::File,
+    file: F::File,
+    held: Option<Vec<u8, A>>,
+    account: Account,
+    ghost held_is: { ForSome held (λ bytes. bytes.items ≡ seen_after (calls_of account)) },
+}
+
+impl<F: Files + Drop, A: Allocator + Copy> FileDevice<F, A> {
+    ghost use Rattle.cedar_disk.specs.FileDevices.{device_calls};
+
+    /// Opens the file at `path`, or makes it, and puts it and its name on the disk. Then it is read.
+    ///
+    /// Links in the path are followed now and not later. `path` with `.new` behind it is where a file is made that replaces this one.
+    ///
+    /// # Errors
+    /// `Memory` where a request was refused, `Io` where a call of the system failed, or where something else than a file is at the path.
+    pub fn open(files: F, alloc: A, path: &str) -> Result<FileDevice<F, A>, OpenError>
+        //= A file that was opened is on the disk: a crash leaves what a read returns.
+        ensures durable { IfOk result (λ device. Only (seen_after (device_calls device)) (MayLeave (device_calls device))) }
+    {
+        let path = resolve(&files, alloc, path)?;
+        let beside = format!(in alloc; "{}.new", path.as_str())?;
+        let folder = open_folder(&files, path.as_str())?;
+        let mut file = open_file(&files, path.as_str())?;
+        file.sync_all()?;
+        folder.sync_all()?;
+        let bytes = read_all(&mut file, alloc)?;
+        let account = Account::opened(&bytes);
+        Ok(FileDevice {
+            files,
+            path,
+            beside,
+            folder,
+            file,
+            held: Some(bytes),
+            account,
+        })
+    }
+}
+
+fn failed(_error: io::Error) -> DeviceError
+    ensures { result ≡ Failed }
+{
+    DeviceError::Failed
+}
+
+impl<F: Files + Drop, A: Allocator + Copy> Device for FileDevice<F, A> {
+    ghost use Rattle.cedar_disk.specs.FileDevices.{device_calls};
+
+    //= A file of the operating system is a device. What a read returns, and what a crash may leave, is said by the list of its calls, each
+    //  noted with its answer. [with may_leave, moment, left_since, faults]
+    ghost seen = { λ device. seen_after (device_calls device) };
+
+    ghost may_leave = { λ device. MayLeave (device_calls device) };
+
+    ghost moment = { λ device. length (device_calls device) };
+
+    ghost left_since = { λ device. LeftSince (device_calls device) };
+
+    ghost faults = { λ device. faults_in (device_calls device) };
+
+    ghost counts_now = { λ device. counts_now (device_calls device) };
+
+    ghost only_now = { λ device. only_now (device_calls device) };
+
+    fn read<B: Allocator>(&mut self, alloc: B) -> Result<Vec<u8, B>, DeviceError> {
+        match &self.held {
+            Some(bytes) => Ok(bytes.to_vec(alloc)?),
+            None => {
+                self.account.refused();
+                Err(DeviceError::Failed)
+            }
+        }
+    }
+
+    fn write_at(&mut self, at: usize, bytes: &[u8]) -> Result<(), DeviceError> {
+        self.account.admit()?;
+        let Some(end) = at.checked_add(bytes.len()) else {
+            self.account.refused();
+            return Err(DeviceError::Failed);
+        };
+        self.held = None;
+        if end <= self.account.len() {
+            let answer = write_all_at(&mut self.file, at, bytes);
+            self.account.wrote(at, bytes, answer.is_ok());
+            return answer.map_err(failed);
+        }
+        // Else a crash could leave a shorter file than a cut may be told to leave.
+        let answer = write_synced_at(&mut self.file, at, bytes);
+        self.account.extended(at, bytes, end, answer.is_ok());
+        answer.map_err(failed)
+    }
+
+    fn cut(&mut self, len: usize) -> Result<(), DeviceError> {
+        self.account.admit()?;
+        self.held = None;
+        let answer = self.file.set_len(len as u64);
+        self.account.shortened(len, answer.is_ok());
+        answer.map_err(failed)
+    }
+
+    fn sync(&mut self) -> Result<(), DeviceError> {
+        self.account.admit()?;
+        let answer = if self.account.is_dirty() {
+            self.file.sync_data()
+        } else {
+            Ok(())
+        };
+        self.account.synced(answer.is_ok());
+        answer.map_err(failed)
+    }
+}
+
+impl<F: Files + Drop, A: Allocator + Copy> ReplaceDevice for FileDevice<F, A> {
+    fn replace(&mut self, bytes: &[u8]) -> Result<(), ReplaceError> {
+        if self.account.admit().is_err() {
+            return Err(ReplaceError::Failed);
+        }
+        let made = make_file(&self.files, self.beside.as_str(), &self.file, bytes);
+        let Ok(file) = made else {
+            let _ = fs::remove_file(&self.files, self.beside.as_str());
+            self.account.refused();
+            return Err(ReplaceError::Kept(DeviceError::Failed));
+        };
+        self.held = None;
+        let answer = put_in_place(
+            &self.files,
+            &self.folder,
+            self.beside.as_str(),
+            self.path.as_str(),
+        );
+        self.account.replaced(bytes, answer.is_ok());
+        self.file = file;
+        answer.map_err(|_| ReplaceError::Failed)
+    }
+}
