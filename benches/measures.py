@@ -1,0 +1,44 @@
+"""What is measured: the names that the programs print, and how pages and pictures call them."""
+
+# Each measure: its title, what one operation is, and its unit. A time is in nanoseconds, a size in bytes.
+TITLES = {
+    "hit": ("look-up of a held key, in no order", "key", "ns"),
+    "hit_sorted": ("the same, in sorted order", "key", "ns"),
+    "miss": ("look-up of an absent key", "key", "ns"),
+    "update_sorted": ("update of a new key, sorted order", "key", "ns"),
+    "update_shuffled": ("the same, in no order", "key", "ns"),
+    "erase": ("erasure", "key", "ns"),
+    "prefix_walk": ("prefix walk, each start of a character in a text", "start", "ns"),
+    "prediction": ("prediction, each key found", "result", "ns"),
+    "entries": ("all entries with their keys", "key", "ns"),
+    "scan": ("all keys in a text, one call for many matches", "byte", "ns"),
+    "segment": ("the tokens of a text, likewise", "byte", "ns"),
+    "sorted_build": ("build of sorted pairs", "key", "ns"),
+    "save": ("save into memory", "key", "ns"),
+    "load": ("load from memory", "key", "ns"),
+    "file": ("bytes of the file", "key", "bytes"),
+    "resident": ("resident memory after updates in sorted order", "key", "bytes"),
+    "script_short": ("script line with a key of 5 bytes", "line", "ns"),
+    "script_long": ("script line with a key of 200 bytes", "line", "ns"),
+    "threads_1": ("look-ups a second, one thread", "second", "look-ups"),
+    "threads_8": ("look-ups a second, eight threads", "second", "look-ups"),
+    "latency_50": ("single update, half take longer", "update", "ns"),
+    "latency_90": ("one in 10 takes longer", "update", "ns"),
+    "latency_99": ("one in 100", "update", "ns"),
+    "latency_99.9": ("one in 1,000", "update", "ns"),
+    "latency_99.99": ("one in 10,000", "update", "ns"),
+    "latency_most": ("the slowest", "update", "ns"),
+}
+
+LATENCIES = tuple(name for name in TITLES if name.startswith("latency_"))
+THREADS = ("threads_1", "threads_8")
+SCRIPTS = ("script_short", "script_long")
+# What a program for a workload is asked for. `latency` prints all of LATENCIES.
+DICTIONARY = ("hit", "hit_sorted", "miss", "update_sorted", "update_shuffled", "erase", "prefix_walk", "prediction", "entries", "scan", "segment", "sorted_build", "save", "load")
+SIZES = ("file", "resident")
+GROWTH = ("hit", "update_shuffled", "resident", "latency")
+
+
+def unit_of(measure):
+    _, operation, unit = TITLES[measure]
+    return unit if measure in LATENCIES else f"{unit}/{operation}"

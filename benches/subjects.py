@@ -1,0 +1,92 @@
+"""The programs that are measured: this repository's library, and the peers that can be had. Each is built here."""
+
+import os
+import re
+import shutil
+import subprocess
+from dataclasses import dataclass, field
+from pathlib import Path
+
+TOP = Path(__file__).resolve().parent.parent
+CPP = TOP / "benches" / "cpp"
+COMPILE = ["g++", "-std=c++20", "-O2", "-Wall", "-Wextra", "-Werror"]
+
+
+@dataclass
+class Subject:
+    """A program for the measures of dictionaries, and the command that answers scripts, if there is one."""
+
+    name: str
+    program: Path
+    version: str
+    script: list = field(default_factory=list)
+    # The program of tests/c/rate.c, for the library alone.
+    threads: Path | None = None
+    # Measures that it isn't asked for, and the workloads that it is asked on.
+    without: tuple = ()
+    workloads: tuple = ("words", "random", "long")
+
+
+def compiled(out, name, source, *words):
+    program = out / "bin" / name
+    program.parent.mkdir(parents=True, exist_ok=True)
+    subprocess.run([*COMPILE, str(CPP / source), "-o", str(program), *map(str, words)], check=True)
+    return program
+
+
+def here(out):
+    """This repository's library and program, built if they aren't."""
+    library = TOP / "crates" / "cedar_c" / "out" / "c" / "libcedar.a"
+    sources = [*TOP.glob("crates/*/src/**/*.rt"), *TOP.glob("include/*"), *TOP.glob("c/*")]
+    if not library.exists() or any(path.stat().st_mtime > library.stat().st_mtime for path in sources):
+        print("bench: ./build-c proves and builds the library first", flush=True)
+        subprocess.run([str(TOP / "build-c")], check=True)
+    subprocess.run([str(TOP / "cedar")], stdin=subprocess.DEVNULL, check=True)
+    program = compiled(out, "here", "cedar.cpp", "-I", TOP / "include", library)
+    rate = out / "bin" / "rate"
+    c = ["gcc", "-std=c11", "-O2", "-pthread", "-I", TOP / "include", "-o", rate, TOP / "tests" / "c" / "rate.c", library]
+    subprocess.run([*map(str, c)], check=True)
+    version = (TOP / "VERSION").read_text().strip()
+    return Subject("here", program, version, [str(TOP / "crates" / "cedar" / "out" / "cedar")], rate)
+
+
+def peers(out, packages, wants):
+    """Those wanted peers whose packages can be had. What isn't there is said."""
+    wanted = (
+        ("judy", "judy.cpp", "libjudy-dev", "Judy.h", "libJudy.a", {}),
+        # Its updates in no order, and those of keys that share little, take time with the square of their number.
+        ("libdatrie", "datrie.cpp", "libdatrie-dev", "datrie/trie.h", "libdatrie.a",
+         {"without": ("update_shuffled", "erase", "latency"), "workloads": ("words",)}),
+        ("marisa", "marisa.cpp", "libmarisa-dev", "marisa.h", "libmarisa.a", {}),
+    )
+    for name, source, package, header, library, limits in wanted:
+        if not wants(name):
+            continue
+        found = packages.get(package, header)
+        archive = packages.get(package, library)
+        if not found or not archive:
+            print(f"bench: {name} is left out: Debian's package {package} isn't there", flush=True)
+            continue
+        include = found.parents[header.count("/")]
+        program = compiled(out, name, source, *([] if str(include) == "/usr/include" else ["-I", include]), archive)
+        yield Subject(name, program, f"{package} {packages.version(package)}", **limits)
+    version = subprocess.run(["g++", "-dumpfullversion"], capture_output=True, text=True, check=True).stdout.strip()
+    for name, words in (("map", ["-DORDERED"]), ("unordered_map", [])):
+        if wants(name):
+            yield Subject(name, compiled(out, name, "standard.cpp", *words), f"std::{name} of g++ {version}")
+
+
+def original(out, path):
+    """The original crate from its sources: the adapter in benches/original, built with optimisation at link time."""
+    path = Path(path).resolve()
+    manifest = (path / "Cargo.toml").read_text()
+    package = re.search(r'^name = "(.*)"', manifest, re.M).group(1)
+    version = re.search(r'^version = "(.*)"', manifest, re.M).group(1)
+    folder = out / "original"
+    shutil.copytree(TOP / "benches" / "original" / "src", folder / "src", dirs_exist_ok=True)
+    text = (TOP / "benches" / "original" / "Cargo.toml.in").read_text()
+    (folder / "Cargo.toml").write_text(text.replace("@PATH@", str(path)).replace("@PACKAGE@", package))
+    subprocess.run(["cargo", "build", "--release", "--quiet"], cwd=folder, check=True, env={**os.environ, "CARGO_TARGET_DIR": str(folder / "target")})
+    program = folder / "target" / "release" / "original"
+    compiler = subprocess.run(["rustc", "--version"], capture_output=True, text=True, check=True).stdout.split()[1]
+    return Subject("cedarwood", program, f"crate {version}, rustc {compiler}, LTO", [str(program), "script"])
