@@ -2,6 +2,7 @@
 
 ghost use Rattle.std.specs.Prelude.{◌≡◌};
 ghost use Rattle.cedar_disk.specs.declared.system.OpenError.TheVariants.{Memory};
+ghost use Rattle.cedar_disk.specs.Errors.{TellsKind};
 
 use std::alloc::{AllocError, Allocator};
 use std::fs;
@@ -29,11 +30,13 @@ impl From<AllocError> for OpenError {
 }
 
 impl From<io::Error> for OpenError {
+    //= The system's error is handed on, but for one of the kind `OutOfMemory`, which is told as `Memory`.
+    ghost from_gives = { TellsKind };
+
     fn from(error: io::Error) -> Self {
-        if error.kind() == io::ErrorKind::OutOfMemory {
-            OpenError::Memory
-        } else {
-            OpenError::Io(error)
+        match error.kind() {
+            io::ErrorKind::OutOfMemory => OpenError::Memory,
+            _ => OpenError::Io(error),
         }
     }
 }

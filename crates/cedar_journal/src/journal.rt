@@ -94,11 +94,12 @@ impl<D: Device> Journal<D> {
             (λ c. recovered c ≡ recovered (D.seen self.old.device)) }
 
         //= A record isn't staged just where the records end behind 2^60, and then nothing is written, or where the device fails; `Failed` is
-        //  told only where the disk has failed. [with far, untouched, failed]
+        //  told only where the disk has failed. [with far, untouched, failed, faults]
         ensures full { IsErrOf result JournalError.Full → 2 ^ 60 ≤ self.old.end }
         ensures far { 2 ^ 60 ≤ self.old.end → IsErrOf result JournalError.Full }
         ensures untouched { IsErrOf result JournalError.Full → self.new ≡ self.old }
         ensures failed { IsErrOf result (JournalError.Device DeviceError.Failed) → D.faults self.old.device < D.faults self.new.device }
+        ensures faults { D.faults self.old.device ≤ D.faults self.new.device }
     {
         if self.end >= MAX_END {
             return Err(JournalError::Full);
@@ -148,11 +149,12 @@ impl<D: Device> Journal<D> {
         ensures any_moment { LeavesOnly D.moment D.left_since self.old.device self.new.device
             (IsBeforeOrAfter (recovered (D.seen self.old.device)) (payload_of frame.now)) }
 
-        //= A record isn't appended just where the records end behind 2^60, and then nothing is written, or where the device fails. [with
-        //  far, untouched]
+        //= A record isn't appended just where the records end behind 2^60, and then nothing is written, or where the device fails; `Failed` is
+        //  told only where the disk has failed. [with far, untouched, failed]
         ensures full { IsErrOf result JournalError.Full → 2 ^ 60 ≤ self.old.end }
         ensures far { 2 ^ 60 ≤ self.old.end → IsErrOf result JournalError.Full }
         ensures untouched { IsErrOf result JournalError.Full → self.new ≡ self.old }
+        ensures failed { IsErrOf result (JournalError.Device DeviceError.Failed) → D.faults self.old.device < D.faults self.new.device }
     {
         self.stage(frame)?;
         self.commit(frame)?;

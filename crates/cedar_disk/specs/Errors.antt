@@ -1,0 +1,12 @@
+-- How an error of the system is told.
+use Rattle.std.specs.Prelude.{◌≡◌, ◌≢◌}
+use Rattle.std_io.specs.declared.io.error.Error.{Error}
+use Rattle.std_io.specs.declared.io.kind.ErrorKind.TheVariants.{OutOfMemory}
+use Rattle.std_io.specs.IoError.{error_kind}
+use Rattle.cedar_disk.specs.declared.system.OpenError.{OpenError}
+use Rattle.cedar_disk.specs.declared.system.OpenError.TheVariants.{Io, Memory}
+
+-- want of memory as such, and any other error itself
+pub record TellsKind (error : Error) (gives : OpenError) : Type 0 where
+  pub memory : error_kind error ≡ OutOfMemory → gives ≡ Memory
+  pub other : error_kind error ≢ OutOfMemory → gives ≡ Io error

@@ -1,0 +1,30 @@
+-- Why a file isn't opened, and a record not written.
+use Rattle.std.specs.Prelude.{Result, Ok, Err, IfErr, IsErrOf, ◌^◌}
+use Rattle.std.proofs.Common.{◌≡◌, ℕ, ◌<◌, ◌≤◌, List, sym, ◌∙◌, ap, subst, arith}
+use Rattle.cedar_journal.specs.declared.device.DeviceError.TheVariants.{Failed}
+use Rattle.cedar_journal.specs.declared.journal.JournalError.{JournalError}
+use Rattle.cedar_journal.specs.declared.journal.JournalError.TheVariants as journal
+use Rattle.cedar_store.specs.declared.error.DurableError.{DurableError}
+use Rattle.cedar_store.specs.declared.error.DurableError.TheVariants as error
+use Rattle.cedar_store.specs.Causes.{IsOfDevice, LoadCause, OpenCause}
+use Rattle.cedar_store.specs.Told.{journal_error}
+
+open_cause : (file : List ℕ) (before now : ℕ) (e : DurableError) → LoadCause file e → OpenCause file before now e
+open_cause file before now error.Foreign cause = cause
+open_cause file before now error.Corrupt cause = cause
+open_cause file before now (error.Refused e) cause = cause
+open_cause file before now error.TooLong cause = cause
+open_cause file before now error.Full cause = cause
+open_cause file before now (error.Device e) cause = absurd cause
+open_cause file before now error.Failed cause = cause
+
+pub open_causes : {T : Type 0} (bytes file : List ℕ) (before now : ℕ) (r : Result T DurableError) → bytes ≡ file → IfErr r (λ e. LoadCause bytes e) → IfErr r (λ e. OpenCause file before now e)
+open_causes bytes file before now (Ok x) same cause = tt
+open_causes bytes file before now (Err e) same cause = open_cause file before now e (subst (λ f. LoadCause f e) same cause)
+
+-- a record that isn't written is not, once there is room for it, for the device alone
+pub journal_cause : (end before now : ℕ) (e : JournalError) (r : Result (Unit {0}) JournalError) (told : DurableError) → told ≡ journal_error e → r ≡ Err e
+    → (IsErrOf r journal.Full → 2 ^ 60 ≤ end) → end < 2 ^ 60 → (IsErrOf r (journal.Device Failed) → before < now) → IsOfDevice before now told
+journal_cause end before now journal.Full r told is was full room failed = let far = full was in absurd (omega (arith, room, far))
+journal_cause end before now (journal.Device d) r told is was full room failed =
+    subst (λ t. IsOfDevice before now t) (sym is) (λ same. failed (was ∙ ap (λ x. Err (journal.Device x)) same))

@@ -1,0 +1,67 @@
+-- What an error of a store says.
+use Rattle.std.specs.Prelude.{◌≡◌, ◌⊎◌, ℕ, ◌<◌, ◌≤◌, Bool, true, List, Option, None, Some, IsSome}
+use Rattle.cedar_journal.specs.declared.device.DeviceError.TheVariants.{Failed}
+use Rattle.cedar_journal.specs.Files.{recovered}
+use Rattle.cedar_tree.specs.State.{State}
+use Rattle.cedarwood.specs.declared.error.CedarError.{CedarError}
+use Rattle.cedarwood.specs.declared.error.CedarError.TheVariants as cedar
+use Rattle.cedarwood.specs.Fault.{IsShortage}
+use Rattle.cedar_store.specs.declared.error.DurableError.{DurableError}
+use Rattle.cedar_store.specs.declared.error.DurableError.TheVariants as error
+use Rattle.cedar_store.specs.Files.{IsCorrupt}
+
+-- Why the changes of some payloads weren't all made: one of them is no change, or memory or slots were wanting.
+abbrev pub ReplayCause : Option State → DurableError → Type 0
+ReplayCause outcome error.Corrupt = outcome ≡ None
+ReplayCause outcome (error.Refused e) = IsShortage e
+ReplayCause outcome _ = ⊥
+
+-- Why no dictionary was made of a file's bytes: it is of another kind; it is a journal's, and one of its records is no change, or memory or
+-- slots were wanting.
+abbrev pub LoadCause : List ℕ → DurableError → Type 0
+LoadCause file error.Foreign = recovered file ≡ None
+LoadCause file error.Corrupt = IsCorrupt file
+LoadCause file (error.Refused e) = IsSome (recovered file) × IsShortage e
+LoadCause file _ = ⊥
+
+-- Why a file wasn't opened: as above, or the device failed, which has told so often before and now that it did.
+abbrev pub OpenCause : List ℕ → ℕ → ℕ → DurableError → Type 0
+OpenCause file before now (error.Device e) = e ≡ Failed → before < now
+OpenCause file before now e = LoadCause file e
+
+-- the device hasn't been written to
+abbrev pub IsBeforeWrites : DurableError → Type 0
+IsBeforeWrites (error.Device e) = ⊥
+IsBeforeWrites _ = Unit {0}
+
+-- Why no record was made of a payload of this length, for a file whose records end here: it is too long, they end too far back, or memory
+-- was wanting.
+abbrev pub FrameCause : ℕ → ℕ → DurableError → Type 0
+FrameCause end n error.TooLong = 4294967296 ≤ n
+FrameCause end n error.Full = 1152921504606846976 ≤ end
+FrameCause end n (error.Refused e) = e ≡ cedar.Memory
+FrameCause end n _ = ⊥
+
+-- the device failed, which has told so often before and now that it did
+abbrev pub IsOfDevice : ℕ → ℕ → DurableError → Type 0
+IsOfDevice before now (error.Device e) = e ≡ Failed → before < now
+IsOfDevice before now _ = ⊥
+
+-- Why a change wasn't made: the store has failed before, the pair has a fault, the dictionary or memory for the record was wanting, the
+-- payload has too many bytes, the records end too far back, or the device failed.
+abbrev pub ChangeCause : Bool → Option CedarError → ℕ → ℕ → ℕ → ℕ → DurableError → Type 0
+ChangeCause failed fault end n before now error.Failed = failed ≡ true
+ChangeCause failed fault end n before now (error.Refused e) = (fault ≡ Some e) ⊎ IsShortage e
+ChangeCause failed fault end n before now (error.Device e) = e ≡ Failed → before < now
+ChangeCause failed fault end n before now e = FrameCause end n e
+
+-- why an erasure wasn't made: as of a change, but that no pair has a fault, and no slots are asked for
+abbrev pub EraseCause : Bool → ℕ → ℕ → ℕ → ℕ → DurableError → Type 0
+EraseCause failed end n before now error.Failed = failed ≡ true
+EraseCause failed end n before now (error.Device e) = e ≡ Failed → before < now
+EraseCause failed end n before now e = FrameCause end n e
+
+-- what an error leaves: one thing where it is the device's, another one else
+abbrev pub Leaves : DurableError → Type 0 → Type 0 → Type 0
+Leaves (error.Device e) fails stays = fails
+Leaves _ fails stays = stays

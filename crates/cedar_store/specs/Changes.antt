@@ -1,0 +1,42 @@
+-- A change of a dictionary as the payload of a record.
+use Rattle.std.specs.Prelude.{ℕ, ◌+◌, ◌*◌, ◌==◌, nat_le, cond, ℤ, pos, List, [], ◌∷◌, length, drop, get_or, Option, Some, None, option_map, option_and_then}
+use Rattle.cedar_tree.specs.State.{State, stored, erased}
+use Rattle.cedarwood.specs.declared.error.CedarError.{CedarError}
+use Rattle.cedarwood.specs.Fault.{fault}
+
+-- a value put at a key, or a key erased
+pub data Change : Type 0 where
+  put_at : List ℕ → ℤ → Change
+  erase_at : List ℕ → Change
+
+-- the state after a change
+abbrev pub changed : State → Change → State
+changed s (put_at key v) = stored s key v
+changed s (erase_at key) = erased s key
+
+-- four bytes as a number, the lowest first
+abbrev pub number_of : List ℕ → ℕ
+number_of bytes = get_or bytes 0 0 + 256 * get_or bytes 1 0 + 65536 * get_or bytes 2 0 + 16777216 * get_or bytes 3 0
+
+-- a put of a pair that has no fault
+abbrev pub put_unless : Option CedarError → List ℕ → ℤ → Option Change
+put_unless None key v = Some (put_at key v)
+put_unless (Some e) key v = None
+
+-- four bytes of a value, and the key
+unfoldable pub put_of : List ℕ → Option Change
+put_of bytes = cond (nat_le 4 (length bytes)) (put_unless (fault (drop 4 bytes) (pos (number_of bytes))) (drop 4 bytes) (pos (number_of bytes))) None
+
+-- The change of a payload: 0 and a key, the key is erased; 1, four bytes of a value and a key, the value is put there. None: it has none.
+unfoldable pub change_of : List ℕ → Option Change
+change_of [] = None
+change_of (operation ∷ rest) = cond (operation == 0) (Some (erase_at rest)) (cond (operation == 1) (put_of rest) None)
+
+-- the state after the change of a payload
+abbrev pub after : State → List ℕ → Option State
+after s payload = option_map (changed s) (change_of payload)
+
+-- the state after the changes of some payloads, the first of them first; None where one of them has none
+abbrev pub replayed : State → List (List ℕ) → Option State
+replayed s [] = Some s
+replayed s (payload ∷ payloads) = option_and_then (λ t. replayed t payloads) (after s payload)

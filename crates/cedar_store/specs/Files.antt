@@ -1,0 +1,22 @@
+-- The dictionary that a file stands for.
+use Rattle.std.specs.Prelude.{◌≡◌, ◌⊎◌, ℕ, Bool, true, false, ◌||◌, not, is_some, List, [], ◌∷◌, Option, Some, None, option_and_then}
+use Rattle.cedar_journal.specs.Files.{recovered}
+use Rattle.cedar_tree.specs.State.{State, new_state}
+use Rattle.cedar_store.specs.Changes.{change_of, replayed}
+
+-- The state after the changes of all records that count. None: the file is of another kind, or one of its records is no change.
+abbrev pub state_of : List ℕ → Option State
+state_of file = option_and_then (replayed new_state) (recovered file)
+
+-- one of some payloads is no change
+abbrev pub has_no_change : List (List ℕ) → Bool
+has_no_change [] = false
+has_no_change (payload ∷ payloads) = not (is_some (change_of payload)) || has_no_change payloads
+
+-- the file is a journal's, and one of its records is no change
+abbrev pub IsCorrupt : List ℕ → Type 0
+IsCorrupt file = (payloads : List (List ℕ)) × (recovered file ≡ Some payloads) × (has_no_change payloads ≡ true)
+
+-- the file stands for one state or for another
+abbrev pub IsEither : State → State → List ℕ → Type 0
+IsEither before after file = (state_of file ≡ Some before) ⊎ (state_of file ≡ Some after)

@@ -1,0 +1,89 @@
+//! Why a call of a store is refused.
+
+ghost use Rattle.std.specs.Prelude.{◌≡◌};
+ghost use Rattle.cedar_store.specs.declared.error.DurableError.TheVariants.{Device, Foreign, Full, Refused, TooLong};
+ghost use Rattle.cedar_store.specs.Told.{frame_error, journal_error};
+ghost use Rattle.cedarwood.specs.declared.error.CedarError.TheVariants.{Memory};
+
+use cedar_journal::{DeviceError, ForeignFile, FrameError, JournalError};
+use cedarwood::CedarError;
+use std::alloc::AllocError;
+
+/// Why a call of a store was refused.
+#[derive(Clone, Debug, Drop, PartialEq, Eq)]
+pub enum DurableError {
+    /// The file is of another kind. Nothing has been written.
+    Foreign,
+    /// A record of the file is no change of a dictionary. Nothing has been written.
+    Corrupt,
+    /// The pair has a fault, or a request for memory or slots was refused. Nothing has changed.
+    Refused(CedarError),
+    /// The change has 2^32 bytes or more. Nothing has changed.
+    TooLong,
+    /// The file's records end behind 2^60 bytes. Nothing has changed.
+    Full,
+    /// The device failed. From then on each change is refused by `Failed`, until the file is opened again.
+    Device(DeviceError),
+    /// The device failed in an earlier change: open the file again.
+    Failed,
+}
+
+impl From<ForeignFile> for DurableError {
+    //= A file of another kind is told as `Foreign`.
+    ghost from_gives = { λ _ error. error ≡ Foreign };
+
+    fn from(_: ForeignFile) -> DurableError {
+        DurableError::Foreign
+    }
+}
+
+impl From<CedarError> for DurableError {
+    //= What a dictionary refuses is handed on as `Refused`.
+    ghost from_gives = { λ inner error. error ≡ Refused inner };
+
+    fn from(inner: CedarError) -> DurableError {
+        DurableError::Refused(inner)
+    }
+}
+
+impl From<AllocError> for DurableError {
+    //= Want of memory is told as `Memory`.
+    ghost from_gives = { λ _ error. error ≡ Refused Memory };
+
+    fn from(_: AllocError) -> DurableError {
+        DurableError::Refused(CedarError::Memory)
+    }
+}
+
+impl From<FrameError> for DurableError {
+    //= Why no record could be made is handed on.
+    ghost from_gives = { λ inner error. error ≡ frame_error inner };
+
+    fn from(inner: FrameError) -> DurableError {
+        match inner {
+            FrameError::Memory => DurableError::Refused(CedarError::Memory),
+            FrameError::TooLong => DurableError::TooLong,
+        }
+    }
+}
+
+impl From<JournalError> for DurableError {
+    //= Why a record wasn't written is handed on.
+    ghost from_gives = { λ inner error. error ≡ journal_error inner };
+
+    fn from(inner: JournalError) -> DurableError {
+        match inner {
+            JournalError::Full => DurableError::Full,
+            JournalError::Device(error) => DurableError::Device(error),
+        }
+    }
+}
+
+impl From<DeviceError> for DurableError {
+    //= A device's error is handed on as `Device`.
+    ghost from_gives = { λ inner error. error ≡ Device inner };
+
+    fn from(inner: DeviceError) -> DurableError {
+        DurableError::Device(inner)
+    }
+}

@@ -1,0 +1,15 @@
+//! A dictionary that is kept on a device: an acknowledged change isn't lost, whenever the process or the machine stops.
+//!
+//! The file is a journal of changes. Opening makes them again.
+#![tactic(auto)]
+
+mod error;
+mod frames;
+mod replay;
+mod store;
+mod undo;
+mod words;
+
+pub use error::DurableError;
+pub use store::{CedarStore, ReducedStore, Store};
+pub use words::{Made, Words};

@@ -1,0 +1,119 @@
+//! The changes of a file, made again.
+
+ghost use Rattle.std.specs.Prelude.{◌*◌, ◌+◌, ◌≡◌, IfErr, IfOk, OnOk, Some, option_map};
+ghost use Rattle.cedar_journal.specs.Files.{HasExtent};
+ghost use Rattle.cedar_journal.specs.Records.{payloads_in};
+ghost use Rattle.cedar_store.specs.Causes.{LoadCause, ReplayCause};
+ghost use Rattle.cedar_store.specs.Changes.{after, changed, put_of, replayed};
+ghost use Rattle.cedar_store.specs.Files.{state_of};
+ghost use Rattle.cedar_tree.specs.State.{new_state};
+ghost use Rattle.cedarwood.specs.Words.{IsShortage};
+
+use crate::DurableError;
+use crate::words::{Made, Words};
+use cedar_journal::{Extent, HEADER_LEN, extent_of, first_payload};
+use cedarwood::{CedarError, MAX_VALUE};
+use std::alloc::Allocator;
+
+/// The operation of a payload that erases a key.
+pub(crate) const ERASE: u8 = 0;
+
+/// The operation of a payload that puts a value at a key.
+pub(crate) const PUT: u8 = 1;
+
+/// Returns the dictionary that a file's bytes stand for, and how far the file goes.
+pub(crate) fn words_of<T: Made<A>, A: Allocator>(
+    alloc: A,
+    bytes: &[u8],
+) -> Result<(T, Extent), DurableError>
+    requires limit { T.limit }
+    ensures made { IfOk result (λ found. state_of bytes.now ≡ Some (T.state found.0)) }
+    ensures extent { IfOk result (λ found. HasExtent bytes.now found.1) }
+    ensures cause { IfErr result (λ error. LoadCause bytes.now error) }
+{
+    let extent = extent_of(bytes)?;
+    let mut words = T::make(alloc)?;
+    make_changes(&mut words, bytes, extent)?;
+    Ok((words, extent))
+}
+
+/// Makes the changes of a file that goes as far as this, in a new dictionary.
+fn make_changes<T: Words>(words: &mut T, bytes: &[u8], extent: Extent) -> Result<(), DurableError>
+    requires extent { HasExtent bytes.now extent }
+    requires new { (T.state words.old) ≡ new_state }
+    ensures state { OnOk result (state_of bytes.now ≡ Some (T.state words.new)) }
+    ensures cause { IfErr result (λ error. LoadCause bytes.now error) }
+{
+    match extent {
+        Extent::New => Ok(()),
+        Extent::Until(_) => replay(words, &bytes[HEADER_LEN..]),
+    }
+}
+
+/// Makes the changes of some records, one after another.
+fn replay<T: Words>(words: &mut T, bytes: &[u8]) -> Result<(), DurableError>
+    ensures state { OnOk result (replayed (T.state words.old) (payloads_in bytes.now) ≡ Some (T.state words.new)) }
+    ensures cause { IfErr result (λ error. ReplayCause (replayed (T.state words.old) (payloads_in bytes.now)) error) }
+{
+    let mut at = 0;
+    while let Some(payload) = first_payload(&bytes[at..]) {
+        apply(words, payload)?;
+        at += 5 + payload.len();
+    }
+    Ok(())
+}
+
+/// Makes the change of a payload.
+fn apply<T: Words>(words: &mut T, payload: &[u8]) -> Result<(), DurableError>
+    ensures state { OnOk result (after (T.state words.old) payload.now ≡ Some (T.state words.new)) }
+    ensures cause { IfErr result (λ error. ReplayCause (after (T.state words.old) payload.now) error) }
+{
+    if payload.is_empty() {
+        return Err(DurableError::Corrupt);
+    }
+    let rest = &payload[1..];
+    if payload[0] == ERASE {
+        words.remove(rest);
+        return Ok(());
+    }
+    if payload[0] == PUT {
+        return put_again(words, rest);
+    }
+    Err(DurableError::Corrupt)
+}
+
+/// Puts the value of a payload without its operation.
+fn put_again<T: Words>(words: &mut T, bytes: &[u8]) -> Result<(), DurableError>
+    ensures state { OnOk result (option_map (changed (T.state words.old)) (put_of bytes.now) ≡ Some (T.state words.new)) }
+    ensures cause { IfErr result (λ error. ReplayCause (option_map (changed (T.state words.old)) (put_of bytes.now)) error) }
+{
+    if bytes.len() < 4 {
+        return Err(DurableError::Corrupt);
+    }
+    let value = number(bytes[0], bytes[1], bytes[2], bytes[3]);
+    if value > MAX_VALUE as u32 {
+        return Err(DurableError::Corrupt);
+    }
+    match words.put_over(&bytes[4..], value as i32) {
+        Ok(()) => Ok(()),
+        Err(error) => Err(refusal(error)),
+    }
+}
+
+/// A number of four bytes, the lowest first.
+fn number(a: u8, b: u8, c: u8, d: u8) -> u32
+    ensures { result ≡ a + 256 * b + 65536 * c + 16777216 * d }
+{
+    a as u32 + 256 * (b as u32) + 65536 * (c as u32) + 16777216 * (d as u32)
+}
+
+/// What the refusal of a record's pair says: that memory or slots are wanting, or that the pair has a fault, which the store never writes.
+fn refusal(error: CedarError) -> DurableError
+    ensures shortage { IsShortage error → result ≡ DurableError.Refused error }
+    ensures fault { (IsShortage error → ⊥) → result ≡ DurableError.Corrupt }
+{
+    match error {
+        CedarError::Memory | CedarError::SlotLimit => DurableError::Refused(error),
+        _ => DurableError::Corrupt,
+    }
+}

@@ -1,0 +1,344 @@
+//! The store: a dictionary, and the journal of its changes.
+
+ghost use Rattle.std.specs.Prelude.{◌+◌, ◌<◌, ◌^◌, ◌≡◌, ◌≤◌, IfErr, IfOk, IfSome, OnOk, Some, false, if◌then◌else◌, is_some, length, true};
+ghost use Rattle.cedar_journal.specs.Device.{LeavesOnly, Only};
+ghost use Rattle.cedar_journal.specs.Files.{HasExtent, added, recovered};
+ghost use Rattle.cedar_journal.specs.Frames.{payload_of};
+ghost use Rattle.cedar_journal.specs.Journal.{IsBeforeOrAfter, IsSettled};
+ghost use Rattle.cedar_store.specs.Causes.{ChangeCause, EraseCause, IsBeforeWrites, IsOfDevice, Leaves, OpenCause};
+ghost use Rattle.cedar_store.specs.Files.{IsCorrupt, IsEither, state_of};
+ghost use Rattle.cedar_store.specs.Store.{IsConsistent, IsReady};
+ghost use Rattle.cedarwood.specs.Words.{erased, fault, number_at, stored};
+
+use crate::DurableError;
+use crate::frames::{erase_frame, put_frame};
+use crate::replay::words_of;
+use crate::undo::take_back;
+use crate::words::{Made, Words};
+use cedar_journal::{Device, Extent, Frame, Journal};
+use cedarwood::{Cedar, ReducedCedar};
+use std::alloc::Allocator;
+
+/// A dictionary whose changes are on a device before they are acknowledged.
+///
+/// Once the device has failed in a change, the dictionary has that change and the file may lack it. So each later change is refused until
+/// the device is opened again; look-ups go on.
+#[derive(Drop)]
+pub struct Store<T: Words, A: Allocator, D: Device> {
+    alloc: A,
+    journal: Journal<D>,
+    words: T,
+    failed: bool,
+}
+
+/// The store of a dictionary by default.
+pub type CedarStore<A, D> = Store<Cedar<A>, A, D>;
+
+/// The store of a dictionary of fewer slots.
+pub type ReducedStore<A, D> = Store<ReducedCedar<A>, A, D>;
+
+/// Reads a file, and returns the dictionary that it stands for, and how far it goes.
+fn read_words<T: Made<A>, A: Allocator + Copy, D: Device>(
+    alloc: A,
+    device: &mut D,
+) -> Result<(T, Extent), DurableError>
+    requires limit { T.limit }
+    requires restarted { Only (D.seen device.old) (D.may_leave device.old) }
+    ensures made { IfOk result (λ found. state_of (D.seen device.old) ≡ Some (T.state found.0)) }
+    ensures extent { IfOk result (λ found. HasExtent (D.seen device.new) found.1) }
+    ensures seen { D.seen device.new ≡ D.seen device.old }
+    ensures durable { Only (D.seen device.new) (D.may_leave device.new) }
+    ensures any_moment { LeavesOnly D.moment D.left_since device.old device.new (λ c. c ≡ D.seen device.old) }
+    ensures cause { IfErr result (λ error. OpenCause (D.seen device.old) (D.faults device.old) (D.faults device.new) error) }
+    ensures faults { D.faults device.old ≤ D.faults device.new }
+{
+    let bytes = read_file(alloc, device)?;
+    words_of(alloc, &bytes)
+}
+
+/// Reads a file.
+fn read_file<A: Allocator, D: Device>(alloc: A, device: &mut D) -> Result<Vec<u8, A>, DurableError>
+    requires { Only (D.seen device.old) (D.may_leave device.old) }
+    ensures bytes { IfOk result (λ bytes. bytes.items ≡ D.seen device.old) }
+    ensures seen { D.seen device.new ≡ D.seen device.old }
+    ensures durable { Only (D.seen device.new) (D.may_leave device.new) }
+    ensures any_moment { LeavesOnly D.moment D.left_since device.old device.new (λ c. c ≡ D.seen device.old) }
+    ensures cause { IfErr result (λ error. OpenCause (D.seen device.old) (D.faults device.old) (D.faults device.new) error) }
+    ensures faults { D.faults device.old ≤ D.faults device.new }
+{
+    Ok(device.read(alloc)?)
+}
+
+impl<T: Made<A>, A: Allocator + Copy, D: Device> Store<T, A, D> {
+    /// Opens a file that a crash may have left: makes its changes again, and cuts its end behind the whole records. A new file gets its
+    /// header.
+    ///
+    /// # Errors
+    /// With the device: `Foreign` where the file is of another kind, `Corrupt` where a record is no change, `Refused` where memory or slots
+    /// were refused; then nothing has been written. `Device` where the device failed; the file stands for the same dictionary.
+    pub fn open(alloc: A, device: D) -> Result<Self, (DurableError, D)>
+        requires limit { T.limit }
+        // After a restart, what is read is what is on the disk.
+        requires restarted { Only (D.seen device) (D.may_leave device) }
+
+        //= An opened store is ready, and its dictionary is the one that the file stood for. So none is opened of a file of another kind, or of
+        //  one with a record that is no change. [with made, sound]
+        ensures ready { IfOk result (λ store. (store.failed ≡ false)
+            × IsConsistent D.seen D.may_leave store.journal.device store.journal.end (T.state store.words)) }
+        ensures made { IfOk result (λ store. state_of (D.seen device) ≡ Some (T.state store.words)) }
+        ensures sound { IfOk result (λ _. IsCorrupt (D.seen device) → ⊥) }
+
+        //= A crash at any moment while it is opened leaves a file that stands for the same dictionary; also where it isn't opened. [with
+        //  any_moment_err]
+        ensures any_moment { IfOk result (λ store. LeavesOnly D.moment D.left_since device store.journal.device
+            (λ c. state_of c ≡ state_of (D.seen device))) }
+        ensures any_moment_err { IfErr result (λ e. LeavesOnly D.moment D.left_since device e.1
+            (λ c. state_of c ≡ state_of (D.seen device))) }
+
+        //= A file is refused as foreign just where it is of another kind, as corrupt where one of its records is no change, else only for want
+        //  of memory or slots, or where the device failed, which told `Failed` only where the disk has failed.
+        ensures cause { IfErr result (λ e. OpenCause (D.seen device) (D.faults device) (D.faults e.1) e.0) }
+
+        //= A file that is refused by anything but the device stays byte for byte as it was, whenever a crash comes. [with seen]
+        ensures untouched { IfErr result (λ e. IsBeforeWrites e.0 → LeavesOnly D.moment D.left_since device e.1 (λ c. c ≡ D.seen device)) }
+        ensures seen { IfErr result (λ e. IsBeforeWrites e.0 → D.seen e.1 ≡ D.seen device) }
+    {
+        let mut device = device;
+        match read_words(alloc, &mut device) {
+            Ok((words, extent)) => match Journal::open(device, extent) {
+                Ok(journal) => Ok(Store {
+                    alloc,
+                    journal,
+                    words,
+                    failed: false,
+                }),
+                Err((error, device)) => Err((DurableError::Device(error), device)),
+            },
+            Err(error) => Err((error, device)),
+        }
+    }
+}
+
+impl<T: Words, A: Allocator + Copy, D: Device> Store<T, A, D> {
+    /// The dictionary, for look-ups and walks.
+    pub fn dictionary(&self) -> &T
+        //= The dictionary of a store can be looked at by all calls that don't change it.
+        ensures { result.now ≡ self.now.words }
+    {
+        &self.words
+    }
+
+    /// Whether the device has failed in a change. Then each later change is refused, until the file is opened again.
+    pub fn has_failed(&self) -> bool
+        //= A store tells whether it has failed.
+        ensures { result ≡ self.now.failed }
+    {
+        self.failed
+    }
+
+    /// Hands the device back.
+    pub fn into_device(self) -> D
+        //= A store hands its device back.
+        ensures { result ≡ self.journal.device }
+    {
+        self.journal.device
+    }
+
+    /// Stores a value at a key, and returns the value that the key held before, if it held one. At `Ok` the change is acknowledged: each
+    /// crash from then on leaves a file that has it.
+    ///
+    /// # Errors
+    /// `Refused` by the pair's first fault, or where memory or slots were refused, `TooLong` and `Full`: then nothing has changed, in the
+    /// dictionary or in the file. `Device` where the device failed, and `Failed` from then on.
+    pub fn insert_bytes(&mut self, key: &[u8], value: i32) -> Result<Option<i32>, DurableError>
+        requires ready { IsReady D.seen D.may_leave self.old.journal.device self.old.journal.end (T.state self.old.words) self.old.failed }
+
+        //= An acknowledged insert or update has stored the value in the dictionary, and the file stands for it, on the disk. [with ready; also
+        //  insert, update_bytes, update]
+        ensures stored { OnOk result ((self.new.failed ≡ false) × ((T.state self.new.words) ≡ stored (T.state self.old.words) key.now value)) }
+        ensures ready { IsReady D.seen D.may_leave self.new.journal.device self.new.journal.end (T.state self.new.words) self.new.failed }
+
+        //= An insert tells the value that the key held before. [also insert]
+        ensures held { IfOk result (λ held. held ≡ number_at (T.state self.old.words).tree key.now) }
+
+        //= A crash at any moment of an insert or update leaves a file that stands for the dictionary from before it, with the change or
+        //  without. [also insert, update_bytes, update]
+        ensures any_moment { self.old.failed ≡ false → LeavesOnly D.moment D.left_since self.old.journal.device self.new.journal.device
+            (IsEither (T.state self.old.words) (stored (T.state self.old.words) key.now value)) }
+
+        //= A pair that has a fault is refused by its first one, if the store hasn't failed. [also insert, update_bytes, update]
+        ensures faulty { self.old.failed ≡ false → IfSome (fault key.now value) (λ e. result ≡ Err (DurableError.Refused e)) }
+
+        //= Else it is refused only where the store has failed before, for want of memory or slots, where the record is too long or the records
+        //  end too far back, or where the device failed. [also insert, update_bytes, update]
+        ensures cause { IfErr result (λ e. ChangeCause self.old.failed (fault key.now value) self.old.journal.end (length key.now + 5) (D.faults self.old.journal.device) (D.faults self.new.journal.device) e) }
+
+        //= After an error of the device the store has failed; after any other, the dictionary, the file and the store are as they were. [also
+        //  insert, update_bytes, update]
+        ensures err { IfErr result (λ e. Leaves e
+            ((self.new.failed ≡ true) × ((T.state self.new.words) ≡ stored (T.state self.old.words) key.now value))
+            ((self.new.failed ≡ self.old.failed) × (self.new.journal ≡ self.old.journal) × ((T.state self.new.words) ≡ (T.state self.old.words)))) }
+    {
+        if self.failed {
+            return Err(DurableError::Failed);
+        }
+        let held = self.words.put(key, value)?;
+        match put_frame(self.alloc, self.journal.end, key, value) {
+            Ok(frame) => {
+                self.append(&frame)?;
+                Ok(held)
+            }
+            Err(error) => {
+                take_back(&mut self.words, key, held);
+                Err(error)
+            }
+        }
+    }
+
+    /// `insert_bytes` for a text key.
+    ///
+    /// # Errors
+    /// As [`Store::insert_bytes`].
+    pub fn insert(&mut self, key: &str, value: i32) -> Result<Option<i32>, DurableError>
+        requires ready { IsReady D.seen D.may_leave self.old.journal.device self.old.journal.end (T.state self.old.words) self.old.failed }
+        ensures stored { OnOk result ((self.new.failed ≡ false) × ((T.state self.new.words) ≡ stored (T.state self.old.words) key.now value)) }
+        ensures ready { IsReady D.seen D.may_leave self.new.journal.device self.new.journal.end (T.state self.new.words) self.new.failed }
+        ensures held { IfOk result (λ held. held ≡ number_at (T.state self.old.words).tree key.now) }
+        ensures any_moment { self.old.failed ≡ false → LeavesOnly D.moment D.left_since self.old.journal.device self.new.journal.device
+            (IsEither (T.state self.old.words) (stored (T.state self.old.words) key.now value)) }
+        ensures faulty { self.old.failed ≡ false → IfSome (fault key.now value) (λ e. result ≡ Err (DurableError.Refused e)) }
+        ensures cause { IfErr result (λ e. ChangeCause self.old.failed (fault key.now value) self.old.journal.end (length key.now + 5) (D.faults self.old.journal.device) (D.faults self.new.journal.device) e) }
+        ensures err { IfErr result (λ e. Leaves e
+            ((self.new.failed ≡ true) × ((T.state self.new.words) ≡ stored (T.state self.old.words) key.now value))
+            ((self.new.failed ≡ self.old.failed) × (self.new.journal ≡ self.old.journal) × ((T.state self.new.words) ≡ (T.state self.old.words)))) }
+    {
+        self.insert_bytes(key.as_bytes(), value)
+    }
+
+    /// Stores a value at a key, in place of the value that the key holds, if it holds one. At `Ok` the change is acknowledged.
+    ///
+    /// # Errors
+    /// As [`Store::insert_bytes`].
+    pub fn update_bytes(&mut self, key: &[u8], value: i32) -> Result<(), DurableError>
+        requires ready { IsReady D.seen D.may_leave self.old.journal.device self.old.journal.end (T.state self.old.words) self.old.failed }
+        ensures stored { OnOk result ((self.new.failed ≡ false) × ((T.state self.new.words) ≡ stored (T.state self.old.words) key.now value)) }
+        ensures ready { IsReady D.seen D.may_leave self.new.journal.device self.new.journal.end (T.state self.new.words) self.new.failed }
+        ensures any_moment { self.old.failed ≡ false → LeavesOnly D.moment D.left_since self.old.journal.device self.new.journal.device
+            (IsEither (T.state self.old.words) (stored (T.state self.old.words) key.now value)) }
+        ensures faulty { self.old.failed ≡ false → IfSome (fault key.now value) (λ e. result ≡ Err (DurableError.Refused e)) }
+        ensures cause { IfErr result (λ e. ChangeCause self.old.failed (fault key.now value) self.old.journal.end (length key.now + 5) (D.faults self.old.journal.device) (D.faults self.new.journal.device) e) }
+        ensures err { IfErr result (λ e. Leaves e
+            ((self.new.failed ≡ true) × ((T.state self.new.words) ≡ stored (T.state self.old.words) key.now value))
+            ((self.new.failed ≡ self.old.failed) × (self.new.journal ≡ self.old.journal) × ((T.state self.new.words) ≡ (T.state self.old.words)))) }
+    {
+        match self.insert_bytes(key, value) {
+            Ok(_) => Ok(()),
+            Err(error) => Err(error),
+        }
+    }
+
+    /// `update_bytes` for a text key.
+    ///
+    /// # Errors
+    /// As [`Store::insert_bytes`].
+    pub fn update(&mut self, key: &str, value: i32) -> Result<(), DurableError>
+        requires ready { IsReady D.seen D.may_leave self.old.journal.device self.old.journal.end (T.state self.old.words) self.old.failed }
+        ensures stored { OnOk result ((self.new.failed ≡ false) × ((T.state self.new.words) ≡ stored (T.state self.old.words) key.now value)) }
+        ensures ready { IsReady D.seen D.may_leave self.new.journal.device self.new.journal.end (T.state self.new.words) self.new.failed }
+        ensures any_moment { self.old.failed ≡ false → LeavesOnly D.moment D.left_since self.old.journal.device self.new.journal.device
+            (IsEither (T.state self.old.words) (stored (T.state self.old.words) key.now value)) }
+        ensures faulty { self.old.failed ≡ false → IfSome (fault key.now value) (λ e. result ≡ Err (DurableError.Refused e)) }
+        ensures cause { IfErr result (λ e. ChangeCause self.old.failed (fault key.now value) self.old.journal.end (length key.now + 5) (D.faults self.old.journal.device) (D.faults self.new.journal.device) e) }
+        ensures err { IfErr result (λ e. Leaves e
+            ((self.new.failed ≡ true) × ((T.state self.new.words) ≡ stored (T.state self.old.words) key.now value))
+            ((self.new.failed ≡ self.old.failed) × (self.new.journal ≡ self.old.journal) × ((T.state self.new.words) ≡ (T.state self.old.words)))) }
+    {
+        self.update_bytes(key.as_bytes(), value)
+    }
+
+    /// Removes a key, and says whether it was held. At `Ok` the change is acknowledged. A key that isn't held makes no change: nothing is
+    /// written.
+    ///
+    /// # Errors
+    /// `Refused` where memory for the record was refused, `TooLong` and `Full`: then nothing has changed. `Device` where the device failed,
+    /// and `Failed` from then on.
+    pub fn erase_bytes(&mut self, key: &[u8]) -> Result<bool, DurableError>
+        requires ready { IsReady D.seen D.may_leave self.old.journal.device self.old.journal.end (T.state self.old.words) self.old.failed }
+
+        //= An acknowledged erasure has removed the key from the dictionary, and the file stands for it, on the disk. It tells whether the key
+        //  was held; where it wasn't, the file stays. [with ready, answer, missed; also erase]
+        ensures erased { IfOk result (λ held. (self.new.failed ≡ false)
+            × ((T.state self.new.words) ≡ (if held then erased (T.state self.old.words) key.now else (T.state self.old.words)))) }
+        ensures ready { IsReady D.seen D.may_leave self.new.journal.device self.new.journal.end (T.state self.new.words) self.new.failed }
+        ensures answer { IfOk result (λ held. held ≡ is_some (number_at (T.state self.old.words).tree key.now)) }
+        ensures missed { IfOk result (λ held. held ≡ false → self.new.journal ≡ self.old.journal) }
+
+        //= A crash at any moment of an erasure leaves a file that stands for the dictionary from before it, with the change or without. [also
+        //  erase]
+        ensures any_moment { self.old.failed ≡ false → LeavesOnly D.moment D.left_since self.old.journal.device self.new.journal.device
+            (IsEither (T.state self.old.words) (erased (T.state self.old.words) key.now)) }
+
+        //= An erasure is refused only where the store has failed before, for want of memory, where the record is too long or the records end
+        //  too far back, or where the device failed. [also erase]
+        ensures cause { IfErr result (λ e. EraseCause self.old.failed self.old.journal.end (length key.now + 1) (D.faults self.old.journal.device) (D.faults self.new.journal.device) e) }
+
+        //= After an error of the device the store has failed; after any other, the dictionary, the file and the store are as they were. [also
+        //  erase]
+        ensures err { IfErr result (λ e. Leaves e
+            ((self.new.failed ≡ true) × ((T.state self.new.words) ≡ erased (T.state self.old.words) key.now))
+            ((self.new.failed ≡ self.old.failed) × (self.new.journal ≡ self.old.journal) × ((T.state self.new.words) ≡ (T.state self.old.words)))) }
+    {
+        if self.failed {
+            return Err(DurableError::Failed);
+        }
+        if !self.words.holds(key) {
+            return Ok(false);
+        }
+        let erasure = erase_frame(self.alloc, self.journal.end, key)?;
+        self.words.remove(key);
+        self.append(&erasure)?;
+        Ok(true)
+    }
+
+    /// `erase_bytes` for a text key.
+    ///
+    /// # Errors
+    /// As [`Store::erase_bytes`].
+    pub fn erase(&mut self, key: &str) -> Result<bool, DurableError>
+        requires ready { IsReady D.seen D.may_leave self.old.journal.device self.old.journal.end (T.state self.old.words) self.old.failed }
+        ensures erased { IfOk result (λ held. (self.new.failed ≡ false)
+            × ((T.state self.new.words) ≡ (if held then erased (T.state self.old.words) key.now else (T.state self.old.words)))) }
+        ensures ready { IsReady D.seen D.may_leave self.new.journal.device self.new.journal.end (T.state self.new.words) self.new.failed }
+        ensures answer { IfOk result (λ held. held ≡ is_some (number_at (T.state self.old.words).tree key.now)) }
+        ensures missed { IfOk result (λ held. held ≡ false → self.new.journal ≡ self.old.journal) }
+        ensures any_moment { self.old.failed ≡ false → LeavesOnly D.moment D.left_since self.old.journal.device self.new.journal.device
+            (IsEither (T.state self.old.words) (erased (T.state self.old.words) key.now)) }
+        ensures cause { IfErr result (λ e. EraseCause self.old.failed self.old.journal.end (length key.now + 1) (D.faults self.old.journal.device) (D.faults self.new.journal.device) e) }
+        ensures err { IfErr result (λ e. Leaves e
+            ((self.new.failed ≡ true) × ((T.state self.new.words) ≡ erased (T.state self.old.words) key.now))
+            ((self.new.failed ≡ self.old.failed) × (self.new.journal ≡ self.old.journal) × ((T.state self.new.words) ≡ (T.state self.old.words)))) }
+    {
+        self.erase_bytes(key.as_bytes())
+    }
+
+    /// Writes a record of a change that the dictionary has.
+    fn append(&mut self, frame: &Frame<A>) -> Result<(), DurableError>
+        requires settled { IsSettled D.seen D.may_leave self.old.journal.device self.old.journal.end }
+        requires room { self.old.journal.end < 2 ^ 60 }
+        ensures settled { OnOk result (IsSettled D.seen D.may_leave self.new.journal.device self.new.journal.end) }
+        ensures acknowledged { OnOk result (recovered (D.seen self.new.journal.device) ≡ added (payload_of frame.now) (recovered (D.seen self.old.journal.device))) }
+        ensures failed { OnOk result (self.new.failed ≡ self.old.failed) }
+        ensures err { IfErr result (λ e. IsOfDevice (D.faults self.old.journal.device) (D.faults self.new.journal.device) e × (self.new.failed ≡ true)) }
+        ensures words { self.new.words ≡ self.old.words }
+        ensures any_moment { LeavesOnly D.moment D.left_since self.old.journal.device self.new.journal.device
+            (IsBeforeOrAfter (recovered (D.seen self.old.journal.device)) (payload_of frame.now)) }
+    {
+        match self.journal.append(frame) {
+            Ok(()) => Ok(()),
+            Err(error) => {
+                self.failed = true;
+                Err(DurableError::from(error))
+            }
+        }
+    }
+}
