@@ -280,7 +280,7 @@ size_t cedar_keywords(const cedar_dictionary *d, const uint8_t *text, size_t len
  * by_characters, one from 128 to 191, which goes on with a character of UTF-8, costs nothing. Of cuts that cost the same it is the one with
  * the longer token where they first differ, and with a key rather than a byte. There are never more tokens than bytes. CEDAR_OK,
  * CEDAR_IS_CLOSED, CEDAR_NO_ROOM where there are more than room tokens (a call with room 0 asks how many, and costs as much), or
- * CEDAR_MEMORY: it asks for 8 bytes for each byte of the text, and for a list of the tokens. After an error the places are as they were. */
+ * CEDAR_MEMORY: it asks for 9 bytes for each byte of the text, and for a list of the tokens. After an error the places are as they were. */
 uint32_t cedar_cheapest(const cedar_dictionary *d, const uint8_t *text, size_t length, uint32_t unknown, bool by_characters,
                         cedar_found *found, size_t room, size_t *needed);
 

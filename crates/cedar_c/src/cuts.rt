@@ -14,7 +14,7 @@ use std::alloc::Global;
 /// Cuts a whole text into keys and single bytes so that they cost the least together, writes these tokens into the first places of a
 /// buffer, and tells how many they are. A key costs its value. A byte without a value, which is told by the value -1, costs `unknown`; if
 /// `by_characters`, one that goes on with a character of UTF-8 costs nothing. Of cuts that cost the same it is the one with the longer
-/// token where they first differ, and with a key rather than a byte. There are never more tokens than bytes. It asks for 8 bytes of memory
+/// token where they first differ, and with a key rather than a byte. There are never more tokens than bytes. It asks for 9 bytes of memory
 /// for each byte of the text, and for a list of the tokens.
 ///
 /// # Errors

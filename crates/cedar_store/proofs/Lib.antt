@@ -1,5 +1,12 @@
+pub mod Arranged
+pub mod Batched
+pub mod Late
 pub mod Opened
+pub mod Ordered
 pub mod Payloads
 pub mod Reading
+pub mod Recorded
+pub mod Refused
 pub mod States
 pub mod Undone
+pub mod Withdrawn

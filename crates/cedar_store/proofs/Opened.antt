@@ -13,6 +13,7 @@ open_cause : (file : List ℕ) (before now : ℕ) (e : DurableError) → LoadCau
 open_cause file before now error.Foreign cause = cause
 open_cause file before now error.Corrupt cause = cause
 open_cause file before now (error.Refused e) cause = cause
+open_cause file before now (error.RefusedAt index e) cause = cause
 open_cause file before now error.TooLong cause = cause
 open_cause file before now error.Full cause = cause
 open_cause file before now (error.Device e) cause = absurd cause

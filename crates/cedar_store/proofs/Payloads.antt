@@ -1,5 +1,5 @@
 -- A payload and its change.
-use Rattle.std.specs.Prelude.{nat_le, ◌&&◌, int_le, nat_eq, Bool, true, false, option_map, Option, Some, None, pos, ℤ, negsuc, Result, Ok, Err, IfSome, IfErr, IsErrAnd}
+use Rattle.std.specs.Prelude.{◌&&◌, int_le, nat_eq, Bool, true, false, option_map, Option, Some, None, pos, ℤ, negsuc, Result, Ok, Err, IfSome, IfErr, IsErrAnd}
 use Rattle.std.proofs.Common.{◌≡◌, ◌≢◌, ℕ, ◌+◌, ◌*◌, ◌-◌, ◌<◌, ◌≤◌, List, [], ◌∷◌, cond, length, get_or, take, drop, refl, sym, subst, ◌∙◌, ap, arith, length-drop}
 use Rattle.std.proofs.lemmas.Bool.{cond-true, cond-false, eq-eqb, ne_eqb, le-leb, leb-true, lt-leb, false≢true}
 use Rattle.std.proofs.lemmas.List.{take_all}
@@ -13,7 +13,7 @@ use Rattle.cedarwood.proofs.UpdateLemmas.{fault_no_shortage}
 use Rattle.cedar_store.specs.declared.error.DurableError.{DurableError}
 use Rattle.cedar_store.specs.declared.error.DurableError.TheVariants as error
 use Rattle.cedar_store.specs.Causes.{ReplayCause}
-use Rattle.cedar_store.specs.Changes.{change_of, changed, put_of, put_unless, number_of, put_at, erase_at}
+use Rattle.cedar_store.specs.Changes.{Change, change_of, changed, all_changed, batch_of, changes_of, after, put_of, put_unless, number_of, put_at, erase_at}
 
 -- all behind some first bytes
 pub rest_is : (n : ℕ) (bytes : List ℕ) → take (length bytes - n) (drop n bytes) ≡ drop n bytes
@@ -45,6 +45,40 @@ unfolding change_of
 of_other [] some n m = absurd (omega (arith, some))
 of_other (x ∷ rest) some n m = cond-false _ _ _ (ne_eqb x 0 n) ∙ cond-false _ _ _ (ne_eqb x 1 m)
 
+-- ---- one change or a batch
+
+some_is_none : {A : Type 0} (a : A) → Some a ≡ None → ⊥
+some_is_none {A = A} a e = let apart : ◌≡◌ {A = Option A} (Some a) None = e in cc
+
+of_two : (payload : List ℕ) → get_or payload 0 0 ≡ 2 → change_of payload ≡ None
+of_two [] two = of_nothing [] refl
+of_two (x ∷ rest) two = of_other (x ∷ rest) (omega arith) (λ z. absurd (omega (arith, two, z))) (λ z. absurd (omega (arith, two, z)))
+
+pub no_changes : (payload : List ℕ) → length payload ≡ 0 → changes_of payload ≡ None
+unfolding changes_of
+no_changes [] e = ap (option_map (λ (c : Change). c ∷ [])) (of_nothing [] refl)
+no_changes (x ∷ rest) e = absurd (omega (arith, e))
+
+pub of_batch : (payload : List ℕ) → get_or payload 0 0 ≡ 2 → changes_of payload ≡ batch_of (drop 1 payload)
+unfolding changes_of
+of_batch payload two = cond-true _ _ _ (eq-eqb (get_or payload 0 0) 2 two)
+
+pub of_single : (payload : List ℕ) → get_or payload 0 0 ≢ 2 → changes_of payload ≡ option_map (λ c. c ∷ []) (change_of payload)
+unfolding changes_of
+of_single payload other = cond-false _ _ _ (ne_eqb (get_or payload 0 0) 2 other)
+
+-- what has one change has no other
+pub one_change : (payload : List ℕ) (c : Change) → change_of payload ≡ Some c → changes_of payload ≡ Some (c ∷ [])
+one_change payload c is =
+    of_single payload (λ two. some_is_none c (sym is ∙ of_two payload two)) ∙ ap (option_map (λ (d : Change). d ∷ [])) is
+
+single_maps : (s : State) (o : Option Change) → option_map (changed s) o ≡ option_map (all_changed s) (option_map (λ c. c ∷ []) o)
+single_maps s None = refl
+single_maps s (Some c) = refl
+
+pub single_after : (s : State) (payload : List ℕ) → get_or payload 0 0 ≢ 2 → option_map (changed s) (change_of payload) ≡ after s payload
+single_after s payload other = single_maps s (change_of payload) ∙ ap (option_map (all_changed s)) (sym (of_single payload other))
+
 -- ---- a put
 
 pub short_put : (bytes : List ℕ) → length bytes < 4 → put_of bytes ≡ None
@@ -70,9 +104,6 @@ pub high_put : (bytes : List ℕ) → 4 ≤ length bytes → 2147483645 < number
 high_put bytes long high =
     put_is bytes (drop 4 bytes) (pos (number_of bytes)) long refl refl
     ∙ refused_by_value (key_fault (drop 4 bytes)) (value_fault (pos (number_of bytes))) (InvalidValue (pos (number_of bytes))) (drop 4 bytes) (pos (number_of bytes)) (value_too_high (number_of bytes) high)
-
-some_is_none : {A : Type 0} (a : A) → Some a ≡ None → ⊥
-some_is_none {A = A} a e = let apart : ◌≡◌ {A = Option A} (Some a) None = e in cc
 
 -- a number that can be stored is one of 32 bits without a sign
 pub stored_is : (v : ℤ) → value_fault v ≡ None → v ≡ pos (of_z w32 v)

@@ -1,6 +1,6 @@
 -- The records of a file, read one after another.
-use Rattle.std.specs.Prelude.{option_and_then, Option, Some, None, IsSome, IfErr, Result, Ok, Err}
-use Rattle.std.proofs.Common.{◌≡◌, ℕ, ◌+◌, ◌≤◌, true, false, List, [], ◌∷◌, length, take, drop, refl, sym, ◌∙◌, ap, subst, arith}
+use Rattle.std.specs.Prelude.{option_and_then, Option, Some, IsSome, IfErr, Result, Ok, Err}
+use Rattle.std.proofs.Common.{◌≡◌, ℕ, ◌+◌, true, false, List, length, drop, refl, sym, ◌∙◌, ap, subst}
 use Rattle.std.proofs.lemmas.List.{drop-drop}
 use Rattle.cedar_journal.specs.declared.extent.Extent.{Extent}
 use Rattle.cedar_journal.specs.declared.extent.Extent.TheVariants.{New, Until}
@@ -35,6 +35,7 @@ module _ (bytes b p : List ℕ) (at : ℕ) (here : b ≡ drop at bytes) (there :
   stopped s outcome error.Corrupt same none = sym same ∙ first s ∙ ap (option_and_then (λ t. replayed t (payloads_in (behind b)))) none
   stopped s outcome (error.Refused e) same wants = wants
   stopped s outcome error.Foreign same none = none
+  stopped s outcome (error.RefusedAt index e) same none = none
   stopped s outcome error.TooLong same none = none
   stopped s outcome error.Full same none = none
   stopped s outcome (error.Device e) same none = none
@@ -59,6 +60,7 @@ pub load_cause : (file : List ℕ) (end : ℕ) (e : DurableError) → HasRecords
 load_cause file end error.Corrupt records none = (payloads_in (drop 13 file), records.stands, lacks_change (payloads_in (drop 13 file)) new_state none)
 load_cause file end (error.Refused e) records wants = (subst IsSome (sym records.stands) refl, wants)
 load_cause file end error.Foreign records none = absurd none
+load_cause file end (error.RefusedAt index e) records none = none
 load_cause file end error.TooLong records none = none
 load_cause file end error.Full records none = none
 load_cause file end (error.Device e) records none = none

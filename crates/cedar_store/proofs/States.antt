@@ -1,11 +1,11 @@
 -- The state that the records of a file make, one after another.
 use Rattle.std.specs.Prelude.{◌||◌, not, is_some, option_map, option_and_then, Option, Some, None}
-use Rattle.std.proofs.Common.{◌≡◌, ◌⊎◌, inl, inr, ⊎_elim, ℕ, true, List, [], ◌∷◌, ◌++◌, refl, sym, ◌∙◌, ap}
+use Rattle.std.proofs.Common.{◌≡◌, inl, inr, ⊎_elim, ℕ, true, List, [], ◌∷◌, ◌++◌, refl, sym, ◌∙◌, ap}
 use Rattle.std.proofs.lemmas.Bool.{false≢true}
 use Rattle.cedar_journal.specs.Files.{recovered, added}
 use Rattle.cedar_journal.specs.Journal.{IsBeforeOrAfter}
 use Rattle.cedar_tree.specs.State.{State, new_state}
-use Rattle.cedar_store.specs.Changes.{Change, change_of, changed, after, replayed}
+use Rattle.cedar_store.specs.Changes.{Change, changes_of, all_changed, after, replayed}
 use Rattle.cedar_store.specs.Files.{state_of, has_no_change, IsCorrupt, IsEither}
 
 none_is : {A : Type 0} {a : A} → None ≡ Some a → ⊥
@@ -44,22 +44,22 @@ either file c payload s t is told outcome = ⊎_elim
 -- ---- a record that is no change
 
 lacks : (ps : List (List ℕ)) → ((t : State) → replayed t ps ≡ None → has_no_change ps ≡ true)
-    → (s : State) (o : Option Change) → option_and_then (λ t. replayed t ps) (option_map (changed s) o) ≡ None → (not (is_some o) || has_no_change ps) ≡ true
+    → (s : State) (o : Option (List Change)) → option_and_then (λ t. replayed t ps) (option_map (all_changed s) o) ≡ None → (not (is_some o) || has_no_change ps) ≡ true
 lacks ps ih s None e = refl
-lacks ps ih s (Some c) e = ih (changed s c) e
+lacks ps ih s (Some changes) e = ih (all_changed s changes) e
 
 pub lacks_change : (ps : List (List ℕ)) (s : State) → replayed s ps ≡ None → has_no_change ps ≡ true
 lacks_change [] s e = absurd (none_is (sym e))
-lacks_change (p ∷ ps) s e = lacks ps (lacks_change ps) s (change_of p) e
+lacks_change (p ∷ ps) s e = lacks ps (lacks_change ps) s (changes_of p) e
 
 has : (ps : List (List ℕ)) → ((t : State) → has_no_change ps ≡ true → replayed t ps ≡ None)
-    → (s : State) (o : Option Change) → (not (is_some o) || has_no_change ps) ≡ true → option_and_then (λ t. replayed t ps) (option_map (changed s) o) ≡ None
+    → (s : State) (o : Option (List Change)) → (not (is_some o) || has_no_change ps) ≡ true → option_and_then (λ t. replayed t ps) (option_map (all_changed s) o) ≡ None
 has ps ih s None e = refl
-has ps ih s (Some c) e = ih (changed s c) e
+has ps ih s (Some changes) e = ih (all_changed s changes) e
 
 pub stops : (ps : List (List ℕ)) (s : State) → has_no_change ps ≡ true → replayed s ps ≡ None
 stops [] s e = absurd (false≢true e)
-stops (p ∷ ps) s e = has ps (stops ps) s (change_of p) e
+stops (p ∷ ps) s e = has ps (stops ps) s (changes_of p) e
 
 -- a corrupt file stands for no dictionary
 pub stands_for_none : (file : List ℕ) → IsCorrupt file → state_of file ≡ None

@@ -1,11 +1,13 @@
 -- What an error of a store says.
-use Rattle.std.specs.Prelude.{◌≡◌, ◌⊎◌, ℕ, ◌<◌, ◌≤◌, Bool, true, List, Option, None, Some, IsSome}
+use Rattle.std.specs.Prelude.{◌≡◌, ◌⊎◌, ℕ, ◌<◌, ◌≤◌, Bool, true, List, length, Option, None, Some, IsSome}
 use Rattle.cedar_journal.specs.declared.device.DeviceError.TheVariants.{Failed}
 use Rattle.cedar_journal.specs.Files.{recovered}
 use Rattle.cedar_tree.specs.State.{State}
 use Rattle.cedarwood.specs.declared.error.CedarError.{CedarError}
 use Rattle.cedarwood.specs.declared.error.CedarError.TheVariants as cedar
 use Rattle.cedarwood.specs.Fault.{IsShortage}
+use Rattle.cedar_store.specs.Batches.{batch_length, change_at, change_fault}
+use Rattle.cedar_store.specs.Changes.{Change}
 use Rattle.cedar_store.specs.declared.error.DurableError.{DurableError}
 use Rattle.cedar_store.specs.declared.error.DurableError.TheVariants as error
 use Rattle.cedar_store.specs.Files.{IsCorrupt}
@@ -42,6 +44,12 @@ FrameCause end n error.Full = 1152921504606846976 ≤ end
 FrameCause end n (error.Refused e) = e ≡ cedar.Memory
 FrameCause end n _ = ⊥
 
+-- why no payload of this length was made: it is too long, or memory was wanting
+abbrev pub PayloadCause : ℕ → DurableError → Type 0
+PayloadCause n error.TooLong = 4294967296 ≤ n
+PayloadCause n (error.Refused e) = e ≡ cedar.Memory
+PayloadCause n _ = ⊥
+
 -- the device failed, which has told so often before and now that it did
 abbrev pub IsOfDevice : ℕ → ℕ → DurableError → Type 0
 IsOfDevice before now (error.Device e) = e ≡ Failed → before < now
@@ -60,6 +68,22 @@ abbrev pub EraseCause : Bool → ℕ → ℕ → ℕ → ℕ → DurableError �
 EraseCause failed end n before now error.Failed = failed ≡ true
 EraseCause failed end n before now (error.Device e) = e ≡ Failed → before < now
 EraseCause failed end n before now e = FrameCause end n e
+
+-- which of some changes was refused, and why: its pair has that fault, or memory or slots were wanting
+abbrev pub IsRefusedAt : List Change → DurableError → Type 0
+IsRefusedAt changes (error.RefusedAt index e) = (index < length changes) × ((change_fault (change_at changes index) ≡ Some e) ⊎ IsShortage e)
+IsRefusedAt changes _ = ⊥
+
+-- why a batch wasn't prepared: one of its changes was refused, or no record was made
+abbrev pub PrepareCause : List Change → ℕ → DurableError → Type 0
+PrepareCause changes end (error.RefusedAt index e) = IsRefusedAt changes (error.RefusedAt index e)
+PrepareCause changes end e = FrameCause end (batch_length changes) e
+
+-- why a batch wasn't made: the store has failed before, or it wasn't prepared, or the device failed
+abbrev pub BatchCause : Bool → List Change → ℕ → ℕ → ℕ → DurableError → Type 0
+BatchCause failed changes end before now error.Failed = failed ≡ true
+BatchCause failed changes end before now (error.Device e) = e ≡ Failed → before < now
+BatchCause failed changes end before now e = PrepareCause changes end e
 
 -- what an error leaves: one thing where it is the device's, another one else
 abbrev pub Leaves : DurableError → Type 0 → Type 0 → Type 0

@@ -1,5 +1,6 @@
--- A change of a dictionary as the payload of a record.
-use Rattle.std.specs.Prelude.{ℕ, ◌+◌, ◌*◌, ◌==◌, nat_le, cond, ℤ, pos, List, [], ◌∷◌, length, drop, get_or, Option, Some, None, option_map, option_and_then}
+-- Changes of a dictionary as the payload of a record.
+use Rattle.std.specs.Prelude.{ℕ, ◌+◌, ◌*◌, ◌==◌, nat_le, cond, ℤ, pos, List, [], ◌∷◌, length, drop, fold, get_or, Option, Some, None, option_map, option_and_then}
+use Rattle.cedar_journal.specs.Records.{payloads_in}
 use Rattle.cedar_tree.specs.State.{State, stored, erased}
 use Rattle.cedarwood.specs.declared.error.CedarError.{CedarError}
 use Rattle.cedarwood.specs.Fault.{fault}
@@ -13,6 +14,10 @@ pub data Change : Type 0 where
 abbrev pub changed : State → Change → State
 changed s (put_at key v) = stored s key v
 changed s (erase_at key) = erased s key
+
+-- the state after some changes, the first of them first
+abbrev pub all_changed : State → List Change → State
+all_changed s changes = fold changed s changes
 
 -- four bytes as a number, the lowest first
 abbrev pub number_of : List ℕ → ℕ
@@ -32,9 +37,28 @@ unfoldable pub change_of : List ℕ → Option Change
 change_of [] = None
 change_of (operation ∷ rest) = cond (operation == 0) (Some (erase_at rest)) (cond (operation == 1) (put_of rest) None)
 
--- the state after the change of a payload
+-- the change of each of some payloads; None where one of them has none
+abbrev pub each_change : List (List ℕ) → Option (List Change)
+each_change [] = Some []
+each_change (payload ∷ payloads) = option_and_then (λ c. option_map (λ changes. c ∷ changes) (each_change payloads)) (change_of payload)
+
+-- how many bytes the records of some payloads have
+abbrev pub records_length : List (List ℕ) → ℕ
+records_length [] = 0
+records_length (payload ∷ payloads) = 5 + length payload + records_length payloads
+
+-- the changes of records that stand one behind another, with nothing behind the last of them
+unfoldable pub batch_of : List ℕ → Option (List Change)
+batch_of bytes = cond (records_length (payloads_in bytes) == length bytes) (each_change (payloads_in bytes)) None
+
+-- The changes of a payload: 2 and the records of a batch, each of whose payloads has a change; or else the one change that it has. None: it
+-- has none, or something of a batch has none.
+unfoldable pub changes_of : List ℕ → Option (List Change)
+changes_of payload = cond (get_or payload 0 0 == 2) (batch_of (drop 1 payload)) (option_map (λ c. c ∷ []) (change_of payload))
+
+-- the state after the changes of a payload
 abbrev pub after : State → List ℕ → Option State
-after s payload = option_map (changed s) (change_of payload)
+after s payload = option_map (all_changed s) (changes_of payload)
 
 -- the state after the changes of some payloads, the first of them first; None where one of them has none
 abbrev pub replayed : State → List (List ℕ) → Option State

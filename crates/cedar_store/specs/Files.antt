@@ -1,8 +1,8 @@
 -- The dictionary that a file stands for.
-use Rattle.std.specs.Prelude.{◌≡◌, ◌⊎◌, ℕ, Bool, true, false, ◌||◌, not, is_some, List, [], ◌∷◌, Option, Some, None, option_and_then}
+use Rattle.std.specs.Prelude.{◌≡◌, ◌⊎◌, ℕ, Bool, true, false, ◌||◌, not, is_some, List, [], ◌∷◌, Option, Some, option_and_then}
 use Rattle.cedar_journal.specs.Files.{recovered}
 use Rattle.cedar_tree.specs.State.{State, new_state}
-use Rattle.cedar_store.specs.Changes.{change_of, replayed}
+use Rattle.cedar_store.specs.Changes.{changes_of, replayed}
 
 -- The state after the changes of all records that count. None: the file is of another kind, or one of its records is no change.
 abbrev pub state_of : List ℕ → Option State
@@ -11,7 +11,7 @@ state_of file = option_and_then (replayed new_state) (recovered file)
 -- one of some payloads is no change
 abbrev pub has_no_change : List (List ℕ) → Bool
 has_no_change [] = false
-has_no_change (payload ∷ payloads) = not (is_some (change_of payload)) || has_no_change payloads
+has_no_change (payload ∷ payloads) = not (is_some (changes_of payload)) || has_no_change payloads
 
 -- the file is a journal's, and one of its records is no change
 abbrev pub IsCorrupt : List ℕ → Type 0

@@ -1,7 +1,10 @@
+pub mod Batches
 pub mod Causes
 pub mod Changes
 pub mod Files
+pub mod Shown
 pub mod Store
 pub mod Told
 pub mod Undo
 pub mod Puts
+pub mod Words

@@ -1,9 +1,13 @@
--- The errors of a journal, as a store tells them.
+-- The errors of a journal as a store tells them, and the changes that it is told.
+use Rattle.std.specs.Prelude.{List, map}
 use Rattle.cedar_journal.specs.declared.frame.FrameError.{FrameError}
 use Rattle.cedar_journal.specs.declared.frame.FrameError.TheVariants as frame
 use Rattle.cedar_journal.specs.declared.journal.JournalError.{JournalError}
 use Rattle.cedar_journal.specs.declared.journal.JournalError.TheVariants as journal
 use Rattle.cedarwood.specs.declared.error.CedarError.TheVariants.{Memory}
+use Rattle.cedar_store.specs.Changes.{Change, put_at, erase_at}
+use Rattle.cedar_store.specs.declared.change.Change.{Change as ToldChange}
+use Rattle.cedar_store.specs.declared.change.Change.TheVariants as change
 use Rattle.cedar_store.specs.declared.error.DurableError.{DurableError}
 use Rattle.cedar_store.specs.declared.error.DurableError.TheVariants.{Device, Full, Refused, TooLong}
 
@@ -14,3 +18,11 @@ frame_error frame.TooLong = TooLong
 abbrev pub journal_error : JournalError → DurableError
 journal_error journal.Full = Full
 journal_error (journal.Device e) = Device e
+
+-- a change of a batch
+abbrev pub change_told : ToldChange → Change
+change_told (change.Update key v) = put_at key.now v
+change_told (change.Erase key) = erase_at key.now
+
+abbrev pub changes_told : List ToldChange → List Change
+changes_told changes = map change_told changes

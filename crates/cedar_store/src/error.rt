@@ -2,12 +2,12 @@
 
 ghost use Rattle.std.specs.Prelude.{◌≡◌};
 ghost use Rattle.cedar_store.specs.declared.error.DurableError.TheVariants.{Device, Foreign, Full, Refused, TooLong};
-ghost use Rattle.cedar_store.specs.Told.{frame_error, journal_error};
+ghost use Rattle.cedar_store.specs.Words.{frame_error, journal_error};
 ghost use Rattle.cedarwood.specs.declared.error.CedarError.TheVariants.{Memory};
 
 use cedar_journal::{DeviceError, ForeignFile, FrameError, JournalError};
 use cedarwood::CedarError;
-use std::alloc::AllocError;
+use std::alloc::{AllocError, AllocFailed};
 
 /// Why a call of a store was refused.
 #[derive(Clone, Debug, Drop, PartialEq, Eq)]
@@ -18,6 +18,13 @@ pub enum DurableError {
     Corrupt,
     /// The pair has a fault, or a request for memory or slots was refused. Nothing has changed.
     Refused(CedarError),
+    /// A change of a batch has a fault, or a request for memory or slots was refused for it. Nothing has changed.
+    RefusedAt {
+        /// The place of the change, counted from 0.
+        index: usize,
+        /// What the change's own update answers.
+        error: CedarError,
+    },
     /// The change has 2^32 bytes or more. Nothing has changed.
     TooLong,
     /// The file's records end behind 2^60 bytes. Nothing has changed.
@@ -51,6 +58,15 @@ impl From<AllocError> for DurableError {
     ghost from_gives = { λ _ error. error ≡ Refused Memory };
 
     fn from(_: AllocError) -> DurableError {
+        DurableError::Refused(CedarError::Memory)
+    }
+}
+
+impl<T: Drop> From<AllocFailed<T>> for DurableError {
+    //= So is want of room for one value more.
+    ghost from_gives = { λ _ error. error ≡ Refused Memory };
+
+    fn from(_: AllocFailed<T>) -> DurableError {
         DurableError::Refused(CedarError::Memory)
     }
 }

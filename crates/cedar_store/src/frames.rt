@@ -1,14 +1,11 @@
 //! Changes as records.
 
-ghost use Rattle.std.specs.Prelude.{◌*◌, ◌+◌, ◌<◌, ◌^◌, ◌≡◌, IfErr, IfOk, None, OnOk, Some, length, pos};
-ghost use Rattle.cedar_journal.specs.Frames.{payload_of};
-ghost use Rattle.cedar_store.specs.Causes.{FrameCause};
-ghost use Rattle.cedar_store.specs.Changes.{change_of, erase_at, number_of, put_at};
-ghost use Rattle.cedarwood.specs.Words.{fault, value_fault};
+ghost use Rattle.std.specs.Prelude.{◌*◌, ◌+◌, ◌++◌, ◌<◌, ◌^◌, ◌≡◌, ◌∷◌, [], IfErr, IfOk, None, OnOk, Some, length, pos};
+ghost use Rattle.cedar_store.specs.Words.{batch_length, change_length, change_of, change_told, changes_of, changes_told, erase_at, fault, number_of, payload_of, put_at, record_of, value_fault, AllByRecursion, FrameCause, IsFaultless, IsRecorded, PayloadCause};
 
-use crate::DurableError;
-use crate::replay::{ERASE, PUT};
-use cedar_journal::{Frame, MAX_END};
+use crate::replay::{BATCH, ERASE, PUT};
+use crate::{Change, DurableError};
+use cedar_journal::{Frame, MAX_END, MAX_PAYLOAD};
 use std::alloc::{AllocError, Allocator};
 
 /// The record of a put, for a file whose records end here. The pair has no fault.
@@ -19,7 +16,7 @@ pub(crate) fn put_frame<A: Allocator + Copy>(
     value: i32,
 ) -> Result<Frame<A>, DurableError>
     requires { fault key.now value ≡ None }
-    ensures change { IfOk result (λ frame. change_of (payload_of frame) ≡ Some (put_at key.now value)) }
+    ensures change { IfOk result (λ frame. changes_of (payload_of frame) ≡ Some (put_at key.now value ∷ [])) }
     ensures room { OnOk result (end < 2 ^ 60) }
     ensures cause { IfErr result (λ error. FrameCause end (length key.now + 5) error) }
 {
@@ -33,11 +30,26 @@ pub(crate) fn erase_frame<A: Allocator + Copy>(
     end: usize,
     key: &[u8],
 ) -> Result<Frame<A>, DurableError>
-    ensures change { IfOk result (λ frame. change_of (payload_of frame) ≡ Some (erase_at key.now)) }
+    ensures change { IfOk result (λ frame. changes_of (payload_of frame) ≡ Some (erase_at key.now ∷ [])) }
     ensures room { OnOk result (end < 2 ^ 60) }
     ensures cause { IfErr result (λ error. FrameCause end (length key.now + 1) error) }
 {
     let payload = erase_payload(alloc, key)?;
+    frame_of(alloc, end, &payload)
+}
+
+/// The record of a batch, for a file whose records end here. No pair has a fault.
+pub(crate) fn batch_frame<A: Allocator + Copy>(
+    alloc: A,
+    end: usize,
+    changes: &[Change<'_>],
+) -> Result<Frame<A>, DurableError>
+    requires { AllByRecursion IsFaultless (changes_told changes.now) }
+    ensures change { IfOk result (λ frame. changes_of (payload_of frame) ≡ Some (changes_told changes.now)) }
+    ensures room { OnOk result (end < 2 ^ 60) }
+    ensures cause { IfErr result (λ error. FrameCause end (batch_length (changes_told changes.now)) error) }
+{
+    let payload = batch_payload(alloc, changes)?;
     frame_of(alloc, end, &payload)
 }
 
@@ -65,6 +77,7 @@ fn put_payload<A: Allocator + Copy>(
 ) -> Result<Vec<u8, A>, AllocError>
     requires { fault key.now value ≡ None }
     ensures change { IfOk result (λ payload. change_of payload.items ≡ Some (put_at key.now value)) }
+    ensures alone { IfOk result (λ payload. changes_of payload.items ≡ Some (put_at key.now value ∷ [])) }
     ensures length { IfOk result (λ payload. length payload.items ≡ length key.now + 5) }
 {
     let number = value as u32;
@@ -81,10 +94,79 @@ fn put_payload<A: Allocator + Copy>(
 /// The payload of an erasure.
 fn erase_payload<A: Allocator + Copy>(alloc: A, key: &[u8]) -> Result<Vec<u8, A>, AllocError>
     ensures change { IfOk result (λ payload. change_of payload.items ≡ Some (erase_at key.now)) }
+    ensures alone { IfOk result (λ payload. changes_of payload.items ≡ Some (erase_at key.now ∷ [])) }
     ensures length { IfOk result (λ payload. length payload.items ≡ length key.now + 1) }
 {
     let mut payload = Vec::with_capacity(alloc, key.len() + 1)?;
     payload.push(ERASE)?;
     payload.extend_from_slice(key)?;
     Ok(payload)
+}
+
+/// The payload of a batch: behind the operation, each change as a record of its own.
+fn batch_payload<A: Allocator + Copy>(
+    alloc: A,
+    changes: &[Change<'_>],
+) -> Result<Vec<u8, A>, DurableError>
+    requires { AllByRecursion IsFaultless (changes_told changes.now) }
+    ensures change { IfOk result (λ payload. changes_of payload.items ≡ Some (changes_told changes.now)) }
+    ensures length { IfOk result (λ payload. length payload.items ≡ batch_length (changes_told changes.now)) }
+    ensures cause { IfErr result (λ error. PayloadCause (batch_length (changes_told changes.now)) error) }
+{
+    let mut payload = Vec::with_capacity(alloc, 1)?;
+    payload.push(BATCH)?;
+    for index in 0..changes.len() {
+        push_change(&mut payload, alloc, &changes[index])?;
+    }
+    Ok(payload)
+}
+
+/// Writes a change as a record behind some bytes.
+fn push_change<A: Allocator + Copy>(
+    bytes: &mut Vec<u8, A>,
+    alloc: A,
+    change: &Change<'_>,
+) -> Result<(), DurableError>
+    requires { IsFaultless (change_told change.now) }
+    ensures pushed { OnOk result (IsRecorded (change_told change.now) bytes.old.items bytes.new.items) }
+    ensures cause { IfErr result (λ error. PayloadCause (change_length (change_told change.now)) error) }
+{
+    let payload = change_payload(alloc, change)?;
+    if payload.len() > MAX_PAYLOAD {
+        return Err(DurableError::TooLong);
+    }
+    push_record(bytes, &payload)?;
+    Ok(())
+}
+
+/// The payload of a change.
+fn change_payload<A: Allocator + Copy>(
+    alloc: A,
+    change: &Change<'_>,
+) -> Result<Vec<u8, A>, AllocError>
+    requires { IsFaultless (change_told change.now) }
+    ensures change { IfOk result (λ payload. change_of payload.items ≡ Some (change_told change.now)) }
+    ensures length { IfOk result (λ payload. length payload.items ≡ change_length (change_told change.now)) }
+{
+    match change {
+        Change::Update { key, value } => put_payload(alloc, key, *value),
+        Change::Erase { key } => erase_payload(alloc, key),
+    }
+}
+
+/// Writes a payload as a record behind some bytes: an open gate, its length, and itself.
+fn push_record<A: Allocator>(bytes: &mut Vec<u8, A>, payload: &[u8]) -> Result<(), AllocError>
+    ensures { OnOk result (bytes.new.items ≡ bytes.old.items ++ record_of payload.now) }
+{
+    let len = payload.len();
+    let head = [
+        1,
+        (len % 256) as u8,
+        (len / 256 % 256) as u8,
+        (len / 65536 % 256) as u8,
+        (len / 16777216 % 256) as u8,
+    ];
+    bytes.extend_from_slice(&head)?;
+    bytes.extend_from_slice(payload)?;
+    Ok(())
 }

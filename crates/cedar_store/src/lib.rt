@@ -3,13 +3,17 @@
 //! The file is a journal of changes. Opening makes them again.
 #![tactic(auto)]
 
+mod batch;
+mod change;
 mod error;
 mod frames;
 mod replay;
 mod store;
+mod texts;
 mod undo;
 mod words;
 
+pub use change::Change;
 pub use error::DurableError;
 pub use store::{CedarStore, ReducedStore, Store};
 pub use words::{Made, Words};

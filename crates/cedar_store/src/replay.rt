@@ -1,13 +1,7 @@
 //! The changes of a file, made again.
 
 ghost use Rattle.std.specs.Prelude.{◌*◌, ◌+◌, ◌≡◌, IfErr, IfOk, OnOk, Some, option_map};
-ghost use Rattle.cedar_journal.specs.Files.{HasExtent};
-ghost use Rattle.cedar_journal.specs.Records.{payloads_in};
-ghost use Rattle.cedar_store.specs.Causes.{LoadCause, ReplayCause};
-ghost use Rattle.cedar_store.specs.Changes.{after, changed, put_of, replayed};
-ghost use Rattle.cedar_store.specs.Files.{state_of};
-ghost use Rattle.cedar_tree.specs.State.{new_state};
-ghost use Rattle.cedarwood.specs.Words.{IsShortage};
+ghost use Rattle.cedar_store.specs.Words.{after, all_changed, batch_of, change_of, changed, new_state, payloads_in, put_of, replayed, state_of, HasExtent, IsShortage, LoadCause, ReplayCause};
 
 use crate::DurableError;
 use crate::words::{Made, Words};
@@ -20,6 +14,9 @@ pub(crate) const ERASE: u8 = 0;
 
 /// The operation of a payload that puts a value at a key.
 pub(crate) const PUT: u8 = 1;
+
+/// The operation of a payload that makes several changes.
+pub(crate) const BATCH: u8 = 2;
 
 /// Returns the dictionary that a file's bytes stand for, and how far the file goes.
 pub(crate) fn words_of<T: Made<A>, A: Allocator>(
@@ -63,10 +60,40 @@ fn replay<T: Words>(words: &mut T, bytes: &[u8]) -> Result<(), DurableError>
     Ok(())
 }
 
-/// Makes the change of a payload.
+/// Makes the changes of a payload.
 fn apply<T: Words>(words: &mut T, payload: &[u8]) -> Result<(), DurableError>
     ensures state { OnOk result (after (T.state words.old) payload.now ≡ Some (T.state words.new)) }
     ensures cause { IfErr result (λ error. ReplayCause (after (T.state words.old) payload.now) error) }
+{
+    if payload.is_empty() {
+        return Err(DurableError::Corrupt);
+    }
+    if payload[0] == BATCH {
+        return apply_batch(words, &payload[1..]);
+    }
+    apply_one(words, payload)
+}
+
+/// Makes the changes of a batch, whose records these bytes are, with nothing behind them.
+fn apply_batch<T: Words>(words: &mut T, bytes: &[u8]) -> Result<(), DurableError>
+    ensures state { OnOk result (option_map (all_changed (T.state words.old)) (batch_of bytes.now) ≡ Some (T.state words.new)) }
+    ensures cause { IfErr result (λ error. ReplayCause (option_map (all_changed (T.state words.old)) (batch_of bytes.now)) error) }
+{
+    let mut done = 0;
+    while let Some(part) = first_payload(&bytes[done..]) {
+        apply_one(words, part)?;
+        done += 5 + part.len();
+    }
+    if done < bytes.len() {
+        return Err(DurableError::Corrupt);
+    }
+    Ok(())
+}
+
+/// Makes the change of a payload that has one.
+fn apply_one<T: Words>(words: &mut T, payload: &[u8]) -> Result<(), DurableError>
+    ensures state { OnOk result (option_map (changed (T.state words.old)) (change_of payload.now) ≡ Some (T.state words.new)) }
+    ensures cause { IfErr result (λ error. ReplayCause (option_map (changed (T.state words.old)) (change_of payload.now)) error) }
 {
     if payload.is_empty() {
         return Err(DurableError::Corrupt);

@@ -1,20 +1,14 @@
 //! The store: a dictionary, and the journal of its changes.
 
-ghost use Rattle.std.specs.Prelude.{◌+◌, ◌<◌, ◌^◌, ◌≡◌, ◌≤◌, IfErr, IfOk, IfSome, OnOk, Some, false, if◌then◌else◌, is_some, length, true};
-ghost use Rattle.cedar_journal.specs.Device.{LeavesOnly, Only};
-ghost use Rattle.cedar_journal.specs.Files.{HasExtent, added, recovered};
-ghost use Rattle.cedar_journal.specs.Frames.{payload_of};
-ghost use Rattle.cedar_journal.specs.Journal.{IsBeforeOrAfter, IsSettled};
-ghost use Rattle.cedar_store.specs.Causes.{ChangeCause, EraseCause, IsBeforeWrites, IsOfDevice, Leaves, OpenCause};
-ghost use Rattle.cedar_store.specs.Files.{IsCorrupt, IsEither, state_of};
-ghost use Rattle.cedar_store.specs.Store.{IsConsistent, IsReady};
-ghost use Rattle.cedarwood.specs.Words.{erased, fault, number_at, stored};
+ghost use Rattle.std.specs.Prelude.{◌+◌, ◌<◌, ◌^◌, ◌≡◌, ◌≤◌, IfErr, IfOk, IfSome, IsOk, OnOk, Some, [], false, if◌then◌else◌, is_some, length, true};
+ghost use Rattle.cedar_store.specs.Words.{added, all_changed, changes_told, erased, fault, number_at, payload_of, recovered, state_of, stored, AllByRecursion, BatchCause, ChangeCause, EraseCause, HasExtent, IsBeforeOrAfter, IsBeforeWrites, IsConsistent, IsCorrupt, IsEither, IsFaultless, IsOfDevice, IsReady, IsSettled, Leaves, LeavesOnly, Only, OpenCause};
 
-use crate::DurableError;
+use crate::batch::make;
 use crate::frames::{erase_frame, put_frame};
 use crate::replay::words_of;
 use crate::undo::take_back;
 use crate::words::{Made, Words};
+use crate::{Change, DurableError};
 use cedar_journal::{Device, Extent, Frame, Journal};
 use cedarwood::{Cedar, ReducedCedar};
 use std::alloc::Allocator;
@@ -319,6 +313,50 @@ impl<T: Words, A: Allocator + Copy, D: Device> Store<T, A, D> {
             ((self.new.failed ≡ self.old.failed) × (self.new.journal ≡ self.old.journal) × ((T.state self.new.words) ≡ (T.state self.old.words)))) }
     {
         self.erase_bytes(key.as_bytes())
+    }
+
+    /// Makes some changes, one after another, as one: at `Ok` all of them are acknowledged, and a crash at any moment leaves a file that has
+    /// all of them or none. They are one record, and cost the two syncs of one change. A key ends with what its last change says. No
+    /// changes are no change: nothing is written.
+    ///
+    /// Put erasures behind the updates where the order leaves the choice: one with updates behind it is compared with each of them.
+    ///
+    /// # Errors
+    /// `RefusedAt` with the place of a change whose pair has a fault, or for which memory or slots were refused; `Refused` where memory for
+    /// the record was refused, `TooLong` and `Full`: then nothing has changed. `Device` where the device failed, and `Failed` from then on.
+    pub fn apply_batch(&mut self, changes: &[Change<'_>]) -> Result<(), DurableError>
+        requires ready { IsReady D.seen D.may_leave self.old.journal.device self.old.journal.end (T.state self.old.words) self.old.failed }
+
+        //= Once a batch is acknowledged, the dictionary is as all of its changes leave it, one after another, and the file stands for that, on
+        //  the disk; a batch of no changes leaves the file as it was. [with ready, nothing]
+        ensures made { OnOk result ((self.new.failed ≡ false) × ((T.state self.new.words) ≡ all_changed (T.state self.old.words) (changes_told changes.now))) }
+        ensures ready { IsReady D.seen D.may_leave self.new.journal.device self.new.journal.end (T.state self.new.words) self.new.failed }
+        ensures nothing { OnOk result (changes.now ≡ [] → self.new.journal ≡ self.old.journal) }
+
+        //= A crash at any moment of a batch leaves a file that stands for the dictionary from before it, or for the one with all of its changes.
+        ensures any_moment { self.old.failed ≡ false → LeavesOnly D.moment D.left_since self.old.journal.device self.new.journal.device
+            (IsEither (T.state self.old.words) (all_changed (T.state self.old.words) (changes_told changes.now))) }
+
+        //= A batch in which one pair has a fault is refused. Else it is refused only where the store has failed before, for want of memory or
+        //  slots, where the record is too long or the records end too far back, or where the device failed. [with cause]
+        ensures faulty { IsOk result → AllByRecursion IsFaultless (changes_told changes.now) }
+        ensures cause { IfErr result (λ e. BatchCause self.old.failed (changes_told changes.now) self.old.journal.end (D.faults self.old.journal.device) (D.faults self.new.journal.device) e) }
+
+        //= After an error of the device the store has failed and the dictionary has all of a batch; after any other, the dictionary, the file
+        //  and the store are as they were.
+        ensures err { IfErr result (λ e. Leaves e
+            ((self.new.failed ≡ true) × ((T.state self.new.words) ≡ all_changed (T.state self.old.words) (changes_told changes.now)))
+            ((self.new.failed ≡ self.old.failed) × (self.new.journal ≡ self.old.journal) × ((T.state self.new.words) ≡ (T.state self.old.words)))) }
+    {
+        if self.failed {
+            return Err(DurableError::Failed);
+        }
+        if changes.is_empty() {
+            return Ok(());
+        }
+        let batch = make(&mut self.words, self.alloc, self.journal.end, changes)?;
+        self.append(&batch)?;
+        Ok(())
     }
 
     /// Writes a record of a change that the dictionary has.

@@ -1,8 +1,7 @@
 //! A put that is taken back.
 
 ghost use Rattle.std.specs.Prelude.{◌≡◌};
-ghost use Rattle.cedar_tree.specs.State.{State};
-ghost use Rattle.cedar_store.specs.Undo.{IsPutOf};
+ghost use Rattle.cedar_store.specs.Words.{IsPutOf, State};
 
 use crate::words::Words;
 

@@ -5,10 +5,8 @@ use std::alloc::Allocator;
 
 /// A dictionary that a store keeps: a [`Trie`] of any layout and any limit of slots.
 pub trait Words: Drop {
-    ghost use Rattle.std.specs.Prelude.{◌≡◌, IfOk, IfSome, None, OnOk, is_some};
-    ghost use Rattle.cedar_store.specs.Puts.{IsPut};
-    ghost use Rattle.cedarwood.specs.Words.{IsSound, erased, number_at, outcome, value_fault};
-    ghost use Rattle.cedar_tree.specs.State.{State};
+    ghost use Rattle.std.specs.Prelude.{◌≡◌, IfOk, IfSome, None, OnOk, is_some, length, true};
+    ghost use Rattle.cedar_store.specs.Words.{erased, number_at, outcome, value_fault, walk, IsAscending, IsPut, IsSound, State};
 
     /// The state that its answers come from.
     ghost state: { Self → State };
@@ -39,13 +37,20 @@ pub trait Words: Drop {
     /// Whether a key is held.
     fn holds(&self, key: &[u8]) -> bool
         ensures { result ≡ is_some (number_at (state self.now).tree key.now) };
+
+    /// How many keys are held.
+    fn count(&self) -> usize
+        //= Such a dictionary tells how many keys it holds; its tree is sound, and its labels ascend if it is ordered. [with sound,
+        //  ascending]
+        ensures entries { result ≡ length (walk (state self.now).tree) }
+        ensures sound { IsSound (state self.now).tree }
+        ensures ascending { (state self.now).ordered ≡ true → IsAscending (state self.now).tree.children };
 }
 
 /// A dictionary that a store makes.
 pub trait Made<A: Allocator>: Words {
     ghost use Rattle.std.specs.Prelude.{◌≡◌, IfErr, IfOk};
-    ghost use Rattle.cedarwood.specs.Words.{IsShortage};
-    ghost use Rattle.cedar_tree.specs.State.{new_state};
+    ghost use Rattle.cedar_store.specs.Words.{new_state, IsShortage};
 
     /// What its limit of slots has to be.
     ghost limit: { Type 0 };
@@ -79,10 +84,14 @@ impl<L: Layout, const SLOTS: usize, A: Allocator + Copy> Words for Trie<L, SLOTS
     fn holds(&self, key: &[u8]) -> bool {
         self.contains_key_bytes(key)
     }
+
+    fn count(&self) -> usize {
+        self.len()
+    }
 }
 
 impl<L: Layout, const SLOTS: usize, A: Allocator + Copy> Made<A> for Trie<L, SLOTS, A> {
-    ghost use Rattle.cedarwood.specs.Words.{IsLimit};
+    ghost use Rattle.cedar_store.specs.Words.{IsLimit};
 
     ghost limit = { IsLimit SLOTS };
 

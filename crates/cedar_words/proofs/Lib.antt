@@ -1,5 +1,6 @@
 pub mod CutLemmas
 pub mod LongestLemmas
+pub mod MarkLemmas
 pub mod OneLemmas
 pub mod SpotLemmas
 pub mod StepLemmas

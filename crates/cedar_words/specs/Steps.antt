@@ -1,5 +1,5 @@
 -- How a cut of least cost is found: what the last bytes of a text cost, none of them, one, and so on, each by what fewer cost.
-use Rattle.std.specs.Prelude.{◌≡◌, ℕ, zero, suc, ◌+◌, ◌-◌, ◌^◌, ◌<◌, min, nat_le, if◌then◌else◌, ℤ, unsigned_abs, List, [], ◌∷◌, length, drop, take, slice_index_or, Option, Some, None}
+use Rattle.std.specs.Prelude.{◌≡◌, ℕ, zero, suc, ◌+◌, ◌-◌, ◌^◌, ◌<◌, ◌⊎◌, min, nat_le, if◌then◌else◌, ℤ, pos, unsigned_abs, List, [], ◌∷◌, length, drop, take, slice_index_or, Option, Some, None, MatchOption}
 use Rattle.cedarwood.specs.Tree.{Tree}
 use Rattle.cedarwood.specs.Queries.{front}
 use Rattle.cedar_words.specs.Tokens.{Token}
@@ -52,6 +52,23 @@ pub record AreCostsOver (tree : Tree) (unknown : ℕ → ℕ) (text costs : List
 -- what the last bytes of a text cost: none, one, and so on up to all
 abbrev pub AreCosts : Tree → (ℕ → ℕ) → List ℕ → List ℕ → Type 0
 AreCosts tree unknown text costs = (length costs ≡ length text + 1) × AreCostsOver tree unknown text costs
+
+-- what a byte tells of a step: 255 nothing, 0 that it goes over one byte without a number, and else how many bytes its key has, whose
+-- number isn't negative
+abbrev pub IsMark : Step → ℕ → Type 0
+IsMark step mark = (mark ≡ 255) ⊎ MatchOption step.value (mark ≡ 0) (λ v. (mark ≡ step.len) × (v ≡ pos (unsigned_abs v)) × (unsigned_abs v < 2 ^ 31))
+
+-- what tells of the best step over so many of the last bytes
+abbrev pub mark_at : List ℕ → ℕ → ℕ
+mark_at marks left = slice_index_or marks left 0
+
+-- such a byte for each number of bytes so far
+abbrev pub AreMarksOver : Tree → (ℕ → ℕ) → List ℕ → List ℕ → List ℕ → Type 0
+AreMarksOver tree unknown text costs marks = (left : ℕ) → 0 < left → left < length marks → IsMark (step_at tree unknown text costs left) (mark_at marks left)
+
+-- and for each up to all
+abbrev pub AreMarks : Tree → (ℕ → ℕ) → List ℕ → List ℕ → List ℕ → Type 0
+AreMarks tree unknown text costs marks = (length marks ≡ length text + 1) × AreMarksOver tree unknown text costs marks
 
 -- the tokens that steps lead along from a place on, where so many bytes are left: some of them belong to the token before
 abbrev pub cut_along : (ℕ → Step) → ℕ → ℕ → ℕ → List Token

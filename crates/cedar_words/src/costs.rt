@@ -1,7 +1,7 @@
 //! The cut of least cost: a key costs its value, and each byte without a value costs the same.
 
-ghost use Rattle.std.specs.Prelude.{◌≡◌, ◌+◌, ◌<◌, ◌≤◌, ◌^◌, length, IfOk};
-ghost use Rattle.cedar_words.specs.Steps.{AreCosts, AreWithin, IsFoundBy, best_cut, best_of, better_of, key_step, step_over};
+ghost use Rattle.std.specs.Prelude.{◌≡◌, ◌-◌, ◌<◌, ◌≤◌, ◌^◌, length, IfOk};
+ghost use Rattle.cedar_words.specs.Steps.{AreCosts, AreMarks, AreWithin, IsFoundBy, IsMark, best_cut, best_of, better_of, key_step, step_at, step_over};
 ghost use Rattle.cedar_words.specs.Words.{IsCheapest, IsCheapestBy, IsCut, IsLeastCapped, character_price};
 
 use cedarwood::{Layout, PrefixIter, Trie, Walked};
@@ -155,45 +155,106 @@ fn cheaper(first: Step, second: Step) -> Step
     }
 }
 
-/// What the last bytes of a text cost: none of them, one, and so on up to all.
-fn costs_of<T: FirstStep, P: BytePrice, B: Allocator>(
+/// What tells later of a step, in one byte: 0 one byte without a value, 255 nothing, and else how many bytes its key has.
+fn mark_of(step: Step) -> u8
+    ensures { IsMark step result }
+{
+    match step.value {
+        None => 0,
+        Some(value) => {
+            if 0 <= value && step.len < 255 {
+                step.len as u8
+            } else {
+                255
+            }
+        }
+    }
+}
+
+/// What is known of the last bytes of a text: none of them, one, and so on up to all.
+#[derive(Drop)]
+struct Known<B: Allocator> {
+    // What they cost.
+    costs: Vec<u64, B>,
+    // What tells of the first step over them.
+    marks: Vec<u8, B>,
+}
+
+/// What the last bytes of a text cost, and by which first steps.
+fn costs_of<T: FirstStep, P: BytePrice, B: Allocator + Copy>(
     alloc: B,
     trie: &T,
     text: &[u8],
     unknown: &P,
-) -> Result<Vec<u64, B>, AllocError>
-    ensures { IfOk result (λ costs. AreCosts (T.tree trie.now) (P.price_at unknown.now text.now) text.now costs.items) }
+) -> Result<Known<B>, AllocError>
+    ensures costs { IfOk result (λ known. AreCosts (T.tree trie.now) (P.price_at unknown.now text.now) text.now known.costs.items) }
+    ensures marks { IfOk result (λ known. AreMarks (T.tree trie.now) (P.price_at unknown.now text.now) text.now known.costs.items known.marks.items) }
 {
     let mut costs = Vec::with_capacity(alloc, text.len() + 1)?;
+    let mut marks = Vec::with_capacity(alloc, text.len() + 1)?;
     costs.push(0)?;
+    marks.push(0)?;
     for left in 1..text.len() + 1 {
         let place = text.len() - left;
         let price = unknown.price(text, place);
         let step = trie.first_step(&text[place..], price, &costs);
         costs.push(step.cost)?;
+        marks.push(mark_of(step))?;
     }
-    Ok(costs)
+    Ok(Known { costs, marks })
 }
 
-/// The tokens along the best steps over a text. A step is looked for once more at each token, so that eight bytes are kept for a byte of
-/// the text, and no more.
+/// The first token of a cheapest cut of what is left of a text from a place on. A mark tells its bytes, and its value is what they cost
+/// more than what is behind them. Where that tells nothing, the step is looked for once more.
+fn token_at<T: FirstStep, P: BytePrice>(
+    trie: &T,
+    text: &[u8],
+    unknown: &P,
+    costs: &[u64],
+    marks: &[u8],
+    place: usize,
+) -> (usize, Option<i32>)
+    requires some { place < length text.now }
+    requires costs { AreCosts (T.tree trie.now) (P.price_at unknown.now text.now) text.now costs.now }
+    requires marks { AreMarks (T.tree trie.now) (P.price_at unknown.now text.now) text.now costs.now marks.now }
+    ensures some { 0 < result.0 }
+    ensures within { result.0 ≤ length text.now - place }
+    ensures len { result.0 ≡ (step_at (T.tree trie.now) (P.price_at unknown.now text.now) text.now costs.now (length text.now - place)).len }
+    ensures value { result.1 ≡ (step_at (T.tree trie.now) (P.price_at unknown.now text.now) text.now costs.now (length text.now - place)).value }
+{
+    let left = text.len() - place;
+    let mark = marks[left];
+    if mark == 0 {
+        return (1, None);
+    }
+    if mark < 255 && costs[left] < u64::MAX {
+        let len = usize::from(mark);
+        let value = costs[left] - costs[left - len];
+        return (len, Some(value as i32));
+    }
+    let step = trie.first_step(&text[place..], unknown.price(text, place), &costs[..left]);
+    (step.len, step.value)
+}
+
+/// The tokens along the best steps over a text.
 fn tokens_along<T: FirstStep, P: BytePrice, B: Allocator>(
     alloc: B,
     trie: &T,
     text: &[u8],
     unknown: &P,
     costs: &[u64],
+    marks: &[u8],
 ) -> Result<Vec<(usize, usize, Option<i32>), B>, AllocError>
-    requires covered { length costs.now ≡ length text.now + 1 }
+    requires costs { AreCosts (T.tree trie.now) (P.price_at unknown.now text.now) text.now costs.now }
+    requires marks { AreMarks (T.tree trie.now) (P.price_at unknown.now text.now) text.now costs.now marks.now }
     ensures { IfOk result (λ tokens. tokens.items ≡ best_cut (T.tree trie.now) (P.price_at unknown.now text.now) text.now costs.now) }
 {
     let mut tokens = Vec::new(alloc);
     let mut place = 0;
     while place < text.len() {
-        let price = unknown.price(text, place);
-        let step = trie.first_step(&text[place..], price, &costs[..text.len() - place]);
-        tokens.push((place, step.len, step.value))?;
-        place += step.len;
+        let (len, value) = token_at(trie, text, unknown, costs, marks, place);
+        tokens.push((place, len, value))?;
+        place += len;
     }
     Ok(tokens)
 }
@@ -207,8 +268,8 @@ fn cut_by<T: FirstStep, P: BytePrice, B: Allocator + Copy>(
 ) -> Result<Vec<(usize, usize, Option<i32>), B>, AllocError>
     ensures { IfOk result (λ tokens. IsFoundBy (T.tree trie.now) (P.price_at unknown.now text.now) text.now tokens.items) }
 {
-    let costs = costs_of(alloc, trie, text, unknown)?;
-    tokens_along(alloc, trie, text, unknown, &costs)
+    let known = costs_of(alloc, trie, text, unknown)?;
+    tokens_along(alloc, trie, text, unknown, &known.costs, &known.marks)
 }
 
 /// Cuts a text into keys and single bytes so that they cost the least together: a key costs its value, and a byte without a value costs
@@ -218,8 +279,8 @@ fn cut_by<T: FirstStep, P: BytePrice, B: Allocator + Copy>(
 ///
 /// A sum above 2^64 - 1 counts as 2^64 - 1. The least sum of a text of fewer than 2^32 bytes is below that.
 ///
-/// It asks for eight bytes for each byte of the text and eight more at once, and gives them back when it ends; the answer grows as any
-/// vector does. Each place costs a prefix walk, and each token of the answer one more.
+/// It asks for nine bytes for each byte of the text and nine more, by two requests, and gives them back when it ends; the answer grows as
+/// any vector does. Each place costs a prefix walk.
 ///
 /// # Errors
 /// `AllocError` where a request for memory is refused.

@@ -2,8 +2,15 @@
 
 use cedar_disk::OpenError;
 use cedar_journal::{DeviceError, ForeignFile, FrameError, JournalError};
+use cedar_store::DurableError;
+use cedarwood::CedarError;
 use std::alloc::{AllocError, AllocFailed};
 use std::fmt;
+
+/// What can be asked of the program.
+const USAGE: &str =
+    "append PATH COUNT, rewrite PATH COUNT, list PATH, change PATH FIRST COUNT, batch PATH FIRST COUNT SIZE, \
+    entries PATH or len PATH";
 
 /// Why a run ended early.
 #[derive(Clone, Copy, Debug)]
@@ -14,6 +21,10 @@ pub(crate) enum Fault {
     Foreign,
     /// This record isn't the one that was written as the one of its number.
     Broken(u64),
+    /// A record is no change of a dictionary.
+    Corrupt,
+    /// The store failed before.
+    Failed,
     Full,
     Output,
 }
@@ -21,11 +32,13 @@ pub(crate) enum Fault {
 impl fmt::Display for Fault {
     fn fmt<W: fmt::Write>(&self, f: &mut fmt::Formatter<W>) -> fmt::Result {
         match self {
-            Fault::Arguments => f.write_str("append PATH COUNT, rewrite PATH COUNT or list PATH"),
+            Fault::Arguments => f.write_str(USAGE),
             Fault::Memory => f.write_str("out of memory"),
             Fault::Disk => f.write_str("the disk failed"),
             Fault::Foreign => f.write_str("the file is of another kind"),
             Fault::Broken(number) => write!(f, "record {number} is another one"),
+            Fault::Corrupt => f.write_str("a record is no change"),
+            Fault::Failed => f.write_str("the device failed before"),
             Fault::Full => f.write_str("the journal is full"),
             Fault::Output => f.write_str("the output failed"),
         }
@@ -83,5 +96,25 @@ impl From<JournalError> for Fault {
 impl From<ForeignFile> for Fault {
     fn from(_: ForeignFile) -> Self {
         Fault::Foreign
+    }
+}
+
+impl From<CedarError> for Fault {
+    fn from(_: CedarError) -> Self {
+        Fault::Memory
+    }
+}
+
+impl From<DurableError> for Fault {
+    fn from(error: DurableError) -> Self {
+        match error {
+            DurableError::Foreign => Fault::Foreign,
+            DurableError::Corrupt => Fault::Corrupt,
+            DurableError::Refused(error) => error.into(),
+            DurableError::RefusedAt { error, .. } => error.into(),
+            DurableError::TooLong | DurableError::Full => Fault::Full,
+            DurableError::Device(error) => error.into(),
+            DurableError::Failed => Fault::Failed,
+        }
     }
 }

@@ -1,10 +1,12 @@
-//! The program that `tests/kill` kills: it appends numbered records to a journal, and lists those that are there.
+//! The program that `tests/kill` kills: it appends numbered records to a journal, or makes numbered changes in a dictionary, and lists what
+//! is there.
 #![tactic(auto)]
 
 ghost use Rattle.cedar_journal.specs.Device.{Only};
 
 mod fault;
 mod kept;
+mod words;
 
 use cedar_disk::FileDevice;
 use cedar_journal::Device;
@@ -34,6 +36,12 @@ fn answer(rt: &HostRuntime) -> Result<(), Fault> {
         ["append", path, count] => append(rt, path, number(count)?),
         ["rewrite", path, count] => rewrite_often(rt, path, number(count)?),
         ["list", path] => list(rt, path),
+        ["change", path, first, count] => change(rt, path, number(first)?, number(count)?),
+        ["batch", path, first, count, size] => {
+            batch(rt, path, number(first)?, number(count)?, number(size)?)
+        }
+        ["entries", path] => entries(rt, path),
+        ["len", path] => len(rt, path),
         _ => Err(Fault::Arguments),
     }
 }
@@ -80,6 +88,80 @@ fn rewrite_often(rt: &HostRuntime, path: &str, count: u64) -> Result<(), Fault> 
 fn list(rt: &HostRuntime, path: &str) -> Result<(), Fault> {
     let (_, count) = open(FileDevice::open(rt, rt.alloc(), path)?, rt.alloc())?;
     print(rt, count)
+}
+
+/// Makes so many changes in a dictionary, numbered from a number on, and prints each number once the change is acknowledged.
+fn change(rt: &HostRuntime, path: &str, first: u64, count: u64) -> Result<(), Fault> {
+    change_on(rt, FileDevice::open(rt, rt.alloc(), path)?, first, count)
+}
+
+fn change_on<D: Device + Drop>(
+    rt: &HostRuntime,
+    device: D,
+    first: u64,
+    count: u64,
+) -> Result<(), Fault>
+    requires restarted { Only (D.seen device) (D.may_leave device) }
+{
+    let mut store = words::open(device, rt.alloc())?;
+    for turn in 0..count {
+        let number = first.saturating_add(turn);
+        words::change(&mut store, rt.alloc(), number)?;
+        print(rt, number)?;
+    }
+    Ok(())
+}
+
+/// Makes so many changes in a dictionary, numbered from a number on, so many of them as one, and prints how many those are that are
+/// acknowledged, each time.
+fn batch(rt: &HostRuntime, path: &str, first: u64, count: u64, size: u64) -> Result<(), Fault> {
+    batch_on(
+        rt,
+        FileDevice::open(rt, rt.alloc(), path)?,
+        first,
+        count,
+        size,
+    )
+}
+
+fn batch_on<D: Device + Drop>(
+    rt: &HostRuntime,
+    device: D,
+    first: u64,
+    count: u64,
+    size: u64,
+) -> Result<(), Fault>
+    requires restarted { Only (D.seen device) (D.may_leave device) }
+{
+    let mut store = words::open(device, rt.alloc())?;
+    let size = size.max(1);
+    for turn in 0..count / size {
+        let done = turn.saturating_mul(size);
+        words::change_together(&mut store, rt.alloc(), first.saturating_add(done), size)?;
+        print(rt, done.saturating_add(size))?;
+    }
+    Ok(())
+}
+
+/// Opens a dictionary, and prints how many entries it has.
+fn len(rt: &HostRuntime, path: &str) -> Result<(), Fault> {
+    let store = words::open(FileDevice::open(rt, rt.alloc(), path)?, rt.alloc())?;
+    print(rt, store.dictionary().len() as u64)
+}
+
+/// Opens a dictionary, and prints its entries, a key, a space and a value a line.
+fn entries(rt: &HostRuntime, path: &str) -> Result<(), Fault> {
+    let store = words::open(FileDevice::open(rt, rt.alloc(), path)?, rt.alloc())?;
+    for entry in store.dictionary().entries()? {
+        let (key, value) = entry?;
+        let Ok(key) = str::from_utf8(&key) else {
+            return Err(Fault::Foreign);
+        };
+        if println!(rt; "{key} {value}").is_err() {
+            return Err(Fault::Output);
+        }
+    }
+    Ok(())
 }
 
 fn print(rt: &HostRuntime, number: u64) -> Result<(), Fault> {

@@ -1,11 +1,11 @@
-use Rattle.std.specs.Prelude.{option_map, Some, Option, None, IfErr}
-use Rattle.std.proofs.Common.{◌≡◌, ◌-◌, pos, length, drop, take, refl, ◌∙◌, ap, sym, subst, arith}
+use Rattle.std.specs.Prelude.{option_map, Some}
+use Rattle.std.proofs.Common.{◌-◌, pos, length, drop, take, refl, ◌∙◌, ap, sym, subst, arith}
 use Rattle.std.proofs.lemmas.Int.{to_z_pos}
 use mir.Val.{to_z}
 use mir.Syntax.{w32}
 use Rattle.cedarwood.specs.Fault.{fault}
 use Rattle.cedar_store.specs.Causes.{ReplayCause}
-use Rattle.cedar_store.specs.Changes.{changed, number_of, put_unless}
+use Rattle.cedar_store.specs.Changes.{changed, put_unless}
 use Rattle.cedar_store.proofs.Payloads.{short_put, high_put, put_is, rest_is, shortages, sound_pair, refused_pair}
 use Rattle.cedar_store.proofs.replay.put_again.Goals as goal
 

@@ -1,4 +1,4 @@
-use Rattle.std.proofs.Common.{◌≡◌, ◌-◌, length, take, drop, refl, ◌∙◌, ap, sym, arith, length-drop}
+use Rattle.std.proofs.Common.{◌-◌, length, take, drop, refl, ◌∙◌, ap, sym, arith, length-drop}
 use Rattle.cedar_store.specs.Changes.{replayed}
 use Rattle.cedar_store.proofs.Payloads.{handed_on, rest_is}
 use Rattle.cedar_store.proofs.Reading.{one_turn, stopped, ended}

@@ -1,0 +1,48 @@
+-- Why a batch isn't made.
+use Rattle.std.proofs.Common.{ℕ, List, Bool}
+use Rattle.cedar_store.specs.declared.error.DurableError.{DurableError}
+use Rattle.cedar_store.specs.declared.error.DurableError.TheVariants as error
+use Rattle.cedar_store.specs.Batches.{batch_length}
+use Rattle.cedar_store.specs.Causes.{BatchCause, FrameCause, IsRefusedAt, Leaves, PrepareCause}
+use Rattle.cedar_store.specs.Changes.{Change}
+
+pub refused_cause : (changes : List Change) (end : ℕ) (e : DurableError) → IsRefusedAt changes e → PrepareCause changes end e
+refused_cause changes end (error.RefusedAt index e) cause = cause
+refused_cause changes end (error.Refused e) cause = absurd cause
+refused_cause changes end error.TooLong cause = absurd cause
+refused_cause changes end error.Full cause = absurd cause
+refused_cause changes end error.Foreign cause = cause
+refused_cause changes end error.Corrupt cause = cause
+refused_cause changes end (error.Device e) cause = cause
+refused_cause changes end error.Failed cause = cause
+
+pub frame_refused : (changes : List Change) (end : ℕ) (e : DurableError) → FrameCause end (batch_length changes) e → PrepareCause changes end e
+frame_refused changes end (error.RefusedAt index e) cause = absurd cause
+frame_refused changes end (error.Refused e) cause = cause
+frame_refused changes end error.TooLong cause = cause
+frame_refused changes end error.Full cause = cause
+frame_refused changes end error.Foreign cause = cause
+frame_refused changes end error.Corrupt cause = cause
+frame_refused changes end (error.Device e) cause = cause
+frame_refused changes end error.Failed cause = cause
+
+pub batch_cause : (failed : Bool) (changes : List Change) (end before now : ℕ) (e : DurableError) → PrepareCause changes end e → BatchCause failed changes end before now e
+batch_cause failed changes end before now (error.RefusedAt index e) cause = cause
+batch_cause failed changes end before now (error.Refused e) cause = cause
+batch_cause failed changes end before now error.TooLong cause = cause
+batch_cause failed changes end before now error.Full cause = cause
+batch_cause failed changes end before now error.Foreign cause = cause
+batch_cause failed changes end before now error.Corrupt cause = cause
+batch_cause failed changes end before now (error.Device e) cause = absurd cause
+batch_cause failed changes end before now error.Failed cause = absurd cause
+
+-- what isn't prepared wasn't refused by the device
+pub stays_prepared : (changes : List Change) (end : ℕ) (e : DurableError) (fails stays : Type 0) → PrepareCause changes end e → stays → Leaves e fails stays
+stays_prepared changes end (error.RefusedAt index e) fails stays cause same = same
+stays_prepared changes end (error.Refused e) fails stays cause same = same
+stays_prepared changes end error.TooLong fails stays cause same = same
+stays_prepared changes end error.Full fails stays cause same = same
+stays_prepared changes end error.Foreign fails stays cause same = same
+stays_prepared changes end error.Corrupt fails stays cause same = same
+stays_prepared changes end (error.Device e) fails stays cause same = absurd cause
+stays_prepared changes end error.Failed fails stays cause same = same

@@ -1,0 +1,17 @@
+-- What the errors of a store print.
+use Rattle.std.specs.Prelude.{ℕ, List, ◌++◌, codes, decimal}
+use Rattle.cedar_journal.specs.declared.device.DeviceError.TheVariants as device
+use Rattle.cedarwood.specs.Shown.{error_text}
+use Rattle.cedar_store.specs.declared.error.DurableError.{DurableError}
+use Rattle.cedar_store.specs.declared.error.DurableError.TheVariants as error
+
+abbrev pub durable_error_text : DurableError → List ℕ
+durable_error_text error.Foreign = codes "the file is of another kind"
+durable_error_text error.Corrupt = codes "a record of the file is no change of a dictionary"
+durable_error_text (error.Refused e) = error_text e
+durable_error_text (error.RefusedAt index e) = codes "change " ++ (decimal index ++ (codes " of the batch: " ++ error_text e))
+durable_error_text error.TooLong = codes "the record would have 2^32 bytes or more"
+durable_error_text error.Full = codes "the records of the file end behind 2^60 bytes"
+durable_error_text (error.Device device.Memory) = codes "the device is out of memory"
+durable_error_text (error.Device device.Failed) = codes "the device failed"
+durable_error_text error.Failed = codes "the device failed in an earlier change: open the file again"

@@ -1,0 +1,19 @@
+-- The words that the clauses of this crate cite, from one place.
+pub use Rattle.cedar_journal.specs.Device.{LeavesOnly, Only}
+pub use Rattle.cedar_journal.specs.Files.{HasExtent, added, recovered}
+pub use Rattle.cedar_journal.specs.Frames.{payload_of}
+pub use Rattle.cedar_journal.specs.Journal.{IsBeforeOrAfter, IsSettled}
+pub use Rattle.cedar_journal.specs.Records.{payloads_in}
+pub use Rattle.cedar_store.specs.Batches.{AreHeld, HasKey, IsFaultless, IsHeld, IsRecorded, all_erased_late, all_updated, batch_length, change_at, change_fault, change_length, is_put_by, late_erased, only_updated, puts, record_of}
+pub use Rattle.cedar_store.specs.Causes.{BatchCause, ChangeCause, EraseCause, FrameCause, IsBeforeWrites, IsOfDevice, IsRefusedAt, Leaves, LoadCause, OpenCause, PayloadCause, PrepareCause, ReplayCause}
+pub use Rattle.cedar_store.specs.Changes.{after, all_changed, batch_of, change_of, changed, changes_of, erase_at, number_of, put_at, put_of, replayed}
+pub use Rattle.cedar_store.specs.Files.{IsCorrupt, IsEither, state_of}
+pub use Rattle.cedar_store.specs.Puts.{IsPut}
+pub use Rattle.cedar_store.specs.Shown.{durable_error_text}
+pub use Rattle.cedar_store.specs.Store.{IsConsistent, IsReady}
+pub use Rattle.cedar_store.specs.Told.{change_told, changes_told, frame_error, journal_error}
+pub use Rattle.cedar_store.specs.Undo.{IsPutOf}
+pub use Rattle.cedar_tree.specs.State.{State, new_state}
+pub use Rattle.cedar_tree.specs.Tree.{IsAscending}
+pub use Rattle.cedarwood.specs.Words.{IsLimit, IsShortage, IsSound, erased, fault, number_at, outcome, stored, value_fault, walk}
+pub use Rattle.std.specs.List.{AllByRecursion}

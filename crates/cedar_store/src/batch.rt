@@ -1,0 +1,216 @@
+//! A batch of changes, made in a dictionary.
+//!
+//! An update can be taken back without memory, and an erasure can't: its key would want slots again. So the updates are made first, and the
+//! erasures once nothing can be refused any more. One whose key a later change puts again isn't made at all. What each key holds in the end
+//! is what its last change says, so the tree is the one that all changes leave in their order.
+
+ghost use Rattle.std.specs.Prelude.{◌+◌, ◌<◌, ◌^◌, ◌≡◌, ◌≤◌, ◌⊎◌, IfErr, IfOk, List, OnErr, OnOk, Some, drop, false, if◌then◌else◌, length, true, ℕ};
+ghost use Rattle.cedar_store.specs.Words.{all_changed, all_erased_late, all_updated, change_at, change_fault, change_told, changes_of, changes_told, erased, is_put_by, late_erased, only_updated, payload_of, puts, AllByRecursion, AreHeld, HasKey, IsFaultless, IsHeld, IsRefusedAt, IsShortage, PrepareCause, State};
+
+use crate::frames::batch_frame;
+use crate::undo::take_back;
+use crate::words::Words;
+use crate::{Change, DurableError};
+use cedar_journal::Frame;
+use cedarwood::CedarError;
+use std::alloc::Allocator;
+
+/// Makes a batch in a dictionary whose labels ascend, and returns the batch's record for a file whose records end here. Where anything is
+/// refused, the dictionary stays.
+pub(crate) fn make<T: Words, A: Allocator + Copy>(
+    words: &mut T,
+    alloc: A,
+    end: usize,
+    changes: &[Change<'_>],
+) -> Result<Frame<A>, DurableError>
+    requires { (T.state words.old).ordered ≡ true }
+    ensures made { OnOk result ((T.state words.new) ≡ all_changed (T.state words.old) (changes_told changes.now)) }
+    ensures faultless { OnOk result (AllByRecursion IsFaultless (changes_told changes.now)) }
+    ensures change { IfOk result (λ frame. changes_of (payload_of frame) ≡ Some (changes_told changes.now)) }
+    ensures room { OnOk result (end < 2 ^ 60) }
+    ensures err { OnErr result ((T.state words.new) ≡ (T.state words.old)) }
+    ensures cause { IfErr result (λ error. PrepareCause (changes_told changes.now) end error) }
+{
+    // A dictionary is sound, and its labels ascend: so its tree is known by what each key holds.
+    let _ = words.count();
+    let batch = prepare(words, alloc, end, changes)?;
+    erase_rest(words, changes);
+    Ok(batch)
+}
+
+/// Makes the updates of a batch, and the batch's record for a file whose records end here. Where anything is refused, no update stays.
+fn prepare<T: Words, A: Allocator + Copy>(
+    words: &mut T,
+    alloc: A,
+    end: usize,
+    changes: &[Change<'_>],
+) -> Result<Frame<A>, DurableError>
+    ensures updated { OnOk result ((T.state words.new) ≡ all_updated (T.state words.old) (changes_told changes.now)) }
+    ensures keys { OnOk result (AllByRecursion HasKey (changes_told changes.now)) }
+    ensures faultless { OnOk result (AllByRecursion IsFaultless (changes_told changes.now)) }
+    ensures change { IfOk result (λ frame. changes_of (payload_of frame) ≡ Some (changes_told changes.now)) }
+    ensures room { OnOk result (end < 2 ^ 60) }
+    ensures err { OnErr result ((T.state words.new) ≡ (T.state words.old)) }
+    ensures cause { IfErr result (λ error. PrepareCause (changes_told changes.now) end error) }
+{
+    let mut held = Vec::with_capacity(alloc, changes.len())?;
+    held.resize(changes.len(), None)?;
+    update_all(words, changes, &mut held)?;
+    match batch_frame(alloc, end, changes) {
+        Ok(frame) => Ok(frame),
+        Err(error) => {
+            take_all_back(words, changes, &held);
+            Err(error)
+        }
+    }
+}
+
+/// Makes the updates among some changes, and notes what each key held before. Where one is refused, none stays.
+fn update_all<T: Words>(
+    words: &mut T,
+    changes: &[Change<'_>],
+    held: &mut [Option<i32>],
+) -> Result<(), DurableError>
+    requires { length held.old ≡ length changes.now }
+    ensures updated { OnOk result ((T.state words.new) ≡ all_updated (T.state words.old) (changes_told changes.now)) }
+    ensures held { OnOk result (AreHeld (T.state words.old) (changes_told changes.now) held.new) }
+    ensures keys { OnOk result (AllByRecursion HasKey (changes_told changes.now)) }
+    ensures faultless { OnOk result (AllByRecursion IsFaultless (changes_told changes.now)) }
+    ensures err { OnErr result ((T.state words.new) ≡ (T.state words.old)) }
+    ensures cause { IfErr result (λ error. IsRefusedAt (changes_told changes.now) error) }
+{
+    for index in 0..changes.len() {
+        match update_one(words, &changes[index]) {
+            Ok(before) => held[index] = before,
+            Err(error) => {
+                take_all_back(words, &changes[..index], held);
+                return Err(DurableError::RefusedAt { index, error });
+            }
+        }
+    }
+    Ok(())
+}
+
+/// Makes a change if it is an update, and returns what its key held before.
+fn update_one<T: Words>(words: &mut T, change: &Change<'_>) -> Result<Option<i32>, CedarError>
+    ensures updated { OnOk result ((T.state words.new) ≡ only_updated (T.state words.old) (change_told change.now)) }
+    ensures held { IfOk result (λ held. IsHeld (T.state words.old) (change_told change.now) held) }
+    ensures key { OnOk result (HasKey (change_told change.now)) }
+    ensures faultless { OnOk result (IsFaultless (change_told change.now)) }
+    ensures err { OnErr result ((T.state words.new) ≡ (T.state words.old)) }
+    ensures cause { IfErr result (λ error. (change_fault (change_told change.now) ≡ Some error) ⊎ IsShortage error) }
+{
+    match change {
+        Change::Update { key, value } => {
+            let held = words.put(key, *value)?;
+            // A dictionary is sound, and holds the key: so it is one.
+            let _ = words.count();
+            Ok(held)
+        }
+        Change::Erase { .. } => Ok(None),
+    }
+}
+
+/// Takes the updates among some changes back, whose keys held this before, the last one first. It takes no memory.
+fn take_all_back<T: Words>(words: &mut T, changes: &[Change<'_>], held: &[Option<i32>])
+    requires { length changes.now ≤ length held.now }
+    ensures { (s : State) → AreHeld s (changes_told changes.now) held.now → (T.state words.old) ≡ all_updated s (changes_told changes.now) → (T.state words.new) ≡ s }
+{
+    let mut left = changes.len();
+    while left > 0 {
+        left -= 1;
+        take_one_back(words, &changes[left], held[left]);
+    }
+}
+
+/// Takes a change back if it is an update, whose key held this before.
+fn take_one_back<T: Words>(words: &mut T, change: &Change<'_>, held: Option<i32>)
+    ensures { (s : State) → IsHeld s (change_told change.now) held → (T.state words.old) ≡ only_updated s (change_told change.now) → (T.state words.new) ≡ s }
+{
+    match change {
+        Change::Update { key, .. } => take_back(words, key, held),
+        Change::Erase { .. } => {}
+    }
+}
+
+/// Makes the erasures among some changes, but of keys that a later change puts.
+fn erase_rest<T: Words>(words: &mut T, changes: &[Change<'_>])
+    ensures { (T.state words.new) ≡ all_erased_late (T.state words.old) (changes_told changes.now) }
+{
+    let end = updates_end(changes);
+    for index in 0..changes.len() {
+        erase_late(words, changes, index, end);
+    }
+}
+
+/// Makes the change at an index if it is an erasure, unless a later change puts its key. The updates end here.
+fn erase_late<T: Words>(words: &mut T, changes: &[Change<'_>], index: usize, end: usize)
+    requires inside { index < length changes.now }
+    requires within { end ≤ length changes.now }
+    requires no_more { (path : List ℕ) → is_put_by path (drop end (changes_told changes.now)) ≡ false }
+    ensures { (T.state words.new) ≡ late_erased (T.state words.old) (change_at (changes_told changes.now) index) (drop (index + 1) (changes_told changes.now)) }
+{
+    match &changes[index] {
+        Change::Update { .. } => {}
+        Change::Erase { key } => erase_unless(words, key, is_put(key, changes, index + 1, end)),
+    }
+}
+
+/// Erases a key, unless a later change puts it.
+fn erase_unless<T: Words>(words: &mut T, key: &[u8], put: bool)
+    ensures { (T.state words.new) ≡ (if put then (T.state words.old) else erased (T.state words.old) key.now) }
+{
+    if !put {
+        words.remove(key);
+    }
+}
+
+/// Where the last update among some changes ends: behind it there are erasures alone.
+fn updates_end(changes: &[Change<'_>]) -> usize
+    ensures within { result ≤ length changes.now }
+    ensures no_more { (path : List ℕ) → is_put_by path (drop result (changes_told changes.now)) ≡ false }
+{
+    let mut end = changes.len();
+    while end > 0 {
+        let last = end - 1;
+        if is_update(&changes[last]) {
+            return end;
+        }
+        end = last;
+    }
+    end
+}
+
+/// Whether a change is an update.
+fn is_update(change: &Change<'_>) -> bool
+    ensures { result ≡ false → (path : List ℕ) → puts path (change_told change.now) ≡ false }
+{
+    match change {
+        Change::Update { .. } => true,
+        Change::Erase { .. } => false,
+    }
+}
+
+/// Whether one of some changes from an index on puts a value at a key. The updates end here.
+fn is_put(key: &[u8], changes: &[Change<'_>], next: usize, end: usize) -> bool
+    requires within { end ≤ length changes.now }
+    requires no_more { (path : List ℕ) → is_put_by path (drop end (changes_told changes.now)) ≡ false }
+    ensures { result ≡ is_put_by key.now (drop next (changes_told changes.now)) }
+{
+    for index in next..end {
+        if puts(key, &changes[index]) {
+            return true;
+        }
+    }
+    false
+}
+
+/// Whether a change puts a value at a key.
+fn puts(path: &[u8], change: &Change<'_>) -> bool
+    ensures { result ≡ puts path.now (change_told change.now) }
+{
+    match change {
+        Change::Update { key, .. } => path == *key,
+        Change::Erase { .. } => false,
+    }
+}

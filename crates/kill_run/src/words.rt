@@ -1,0 +1,100 @@
+//! What is kept as words: a dictionary on a device, and the changes 0, 1 and so on that are made in it.
+
+ghost use Rattle.std.specs.Prelude.{◌≡◌, IfOk, OnOk, false};
+ghost use Rattle.cedar_journal.specs.Device.{Only};
+ghost use Rattle.cedar_store.specs.Store.{IsReady};
+
+use crate::fault::Fault;
+use cedar_journal::Device;
+use cedar_store::{CedarStore, Change, Words};
+use std::alloc::{AllocError, Global};
+
+/// How many keys there are.
+const KEYS: u64 = 997;
+
+/// The greatest value and one more.
+const VALUES: u64 = 2_147_483_646;
+
+/// Opens the dictionary on a device.
+pub(crate) fn open<D: Device + Drop>(
+    device: D,
+    alloc: Global,
+) -> Result<CedarStore<Global, D>, Fault>
+    requires restarted { Only (D.seen device) (D.may_leave device) }
+    ensures ready { IfOk result (λ store. IsReady D.seen D.may_leave store.journal.device store.journal.end (store.words.state) store.failed) }
+{
+    match CedarStore::open(alloc, device) {
+        Ok(store) => Ok(store),
+        Err((error, _)) => Err(error.into()),
+    }
+}
+
+/// Makes the change of a number.
+pub(crate) fn change<D: Device>(
+    store: &mut CedarStore<Global, D>,
+    alloc: Global,
+    number: u64,
+) -> Result<(), Fault>
+    requires { IsReady D.seen D.may_leave store.old.journal.device store.old.journal.end (store.old.words.state) store.old.failed }
+    ensures { OnOk result (IsReady D.seen D.may_leave store.new.journal.device store.new.journal.end (store.new.words.state) store.new.failed) }
+{
+    let key = key(alloc, number)?;
+    match numbered(number, key.as_str()) {
+        Change::Erase { key } => {
+            store.erase_bytes(key)?;
+        }
+        Change::Update { key, value } => store.update_bytes(key, value)?,
+    }
+    Ok(())
+}
+
+/// Makes the changes of so many numbers as one.
+pub(crate) fn change_together<D: Device>(
+    store: &mut CedarStore<Global, D>,
+    alloc: Global,
+    first: u64,
+    count: u64,
+) -> Result<(), Fault>
+    requires { IsReady D.seen D.may_leave store.old.journal.device store.old.journal.end (store.old.words.state) store.old.failed }
+    ensures { OnOk result (IsReady D.seen D.may_leave store.new.journal.device store.new.journal.end (store.new.words.state) store.new.failed) }
+{
+    let mut keys = Vec::new(alloc);
+    for turn in 0..count {
+        keys.push(key(alloc, first.saturating_add(turn))?)?;
+    }
+    let changes = all_numbered(alloc, first, &keys)?;
+    store.apply_batch(&changes)?;
+    Ok(())
+}
+
+/// The changes of the numbers from one on, of which these are the keys.
+fn all_numbered(alloc: Global, first: u64, keys: &[String]) -> Result<Vec<Change<'_>>, AllocError> {
+    let mut changes = Vec::new(alloc);
+    let mut number = first;
+    for key in keys {
+        changes.push(numbered(number, key.as_str()))?;
+        number = number.saturating_add(1);
+    }
+    Ok(changes)
+}
+
+/// The change of a number, whose key this is: each fifth one erases it, each other one stores a value there.
+fn numbered(number: u64, key: &str) -> Change<'_> {
+    let key = key.as_bytes();
+    if number % 5 == 4 {
+        Change::Erase { key }
+    } else {
+        let value = (number % VALUES) as i32;
+        Change::Update { key, value }
+    }
+}
+
+/// The key that the change of a number is about: the number of the key, and up to 22 letters behind it.
+fn key(alloc: Global, number: u64) -> Result<String, Fault> {
+    let of = number % KEYS * 619 % KEYS;
+    let mut key = format!(in alloc; "{of}")?;
+    for _ in 0..of % 23 {
+        key.push('k')?;
+    }
+    Ok(key)
+}
