@@ -89,7 +89,14 @@ enum {
     CEDAR_FILE_MEMORY_LIMIT = 26,  /* it asks for more than the limit that was given */
     CEDAR_FILE_CORRUPT = 27,       /* the table is not well-formed */
     CEDAR_FILE_TRAILING = 28,      /* something follows the table */
-    CEDAR_FILE_UNREAD = 29         /* a call on a file failed: answered by cedar_load_file and cedar_save_file alone */
+    CEDAR_FILE_UNREAD = 29,        /* a call on a file failed: answered by cedar_load_file and cedar_save_file alone */
+    /* of a store */
+    CEDAR_STORE_FOREIGN = 40,  /* the file is not of a store */
+    CEDAR_STORE_CORRUPT = 41,  /* one of its records is no change */
+    CEDAR_STORE_DEVICE = 42,   /* a call on the file failed: see errno */
+    CEDAR_STORE_FAILED = 43,   /* one has failed in an earlier change: open the file again */
+    CEDAR_STORE_TOO_LONG = 44, /* the key has 2^32 - 5 bytes or more */
+    CEDAR_STORE_FULL = 45      /* the file's records end behind 2^60 bytes */
 };
 
 /* Opens *d with an empty dictionary, in the place of the one that it has, if it is open. CEDAR_OK or CEDAR_MEMORY; then *d
@@ -368,6 +375,54 @@ uint32_t cedar_load_file(cedar_dictionary *d, const char *path, size_t memory_li
  * to a pipe or a device, that is written to as it is. CEDAR_OK, CEDAR_IS_CLOSED, CEDAR_MEMORY, or CEDAR_FILE_UNREAD where a call on a file
  * failed: errno has its number. */
 uint32_t cedar_save_file(const cedar_dictionary *d, bool is_full, const char *path);
+
+/* Stores: dictionaries whose changes are in a file before they are acknowledged. What is written to the file, and in which order, is the
+ * proved library's; the calls of the system are C beside it, tested and not proved. No crash of the process or the machine takes an
+ * acknowledged change away, if the disk keeps what it has acknowledged, and nobody else writes to the file: it isn't locked.
+ * docs/STORE.md has the file. */
+
+/* A store, or none while it is closed. It begins as CEDAR_STORE_CLOSED, and is changed by these calls alone; it may be moved. */
+typedef struct cedar_store {
+    cedar_dictionary dictionary;
+    struct cedar_store_file *file;
+} cedar_store;
+
+#define CEDAR_STORE_CLOSED { CEDAR_CLOSED, NULL }
+
+/* Opens *s with the store of the file at a path, in the place of the one that it has, if it is open. A missing file is made. The changes of
+ * the file are made again, which takes the time of all of them and memory for the file's bytes; what a crash has left of one that wasn't
+ * acknowledged is cut off. CEDAR_OK; CEDAR_STORE_FOREIGN, CEDAR_STORE_CORRUPT, CEDAR_MEMORY or CEDAR_SLOT_LIMIT: then nothing was written;
+ * or CEDAR_STORE_DEVICE where a call on the file failed, or something else than a file is at the path (EINVAL): errno has its number, and
+ * the file stands for the same dictionary. After an error *s is as it was. */
+uint32_t cedar_store_open(cedar_store *s, const char *path);
+
+/* As cedar_store_open, with a dictionary of the reduced layout. The file is of neither layout. */
+uint32_t cedar_store_open_reduced(cedar_store *s, const char *path);
+
+/* The dictionary of a store, for all calls that take a const dictionary. It is closed where the store is. It is lent: it goes with *s. */
+CEDAR_INLINE const cedar_dictionary *cedar_store_dictionary(const cedar_store *s) {
+    return &s->dictionary;
+}
+
+/* Stores a value at a key, in place of the value that the key holds, if it holds one. CEDAR_OK acknowledges the change: it is on the disk.
+ * CEDAR_IS_CLOSED, the pair's first fault as of cedar_update, CEDAR_MEMORY, CEDAR_SLOT_LIMIT, CEDAR_STORE_TOO_LONG and CEDAR_STORE_FULL
+ * leave the dictionary's keys and the file as they were. After CEDAR_STORE_DEVICE (errno has the number) the dictionary has the change, and
+ * the file has it or not: each later change answers CEDAR_STORE_FAILED and changes nothing, until the file is opened again. */
+uint32_t cedar_store_update(cedar_store *s, const uint8_t *key, size_t length, int32_t value, size_t *position);
+
+/* As cedar_store_update; after CEDAR_OK *held says whether the key was held before, and if so *before is the value that it had. */
+uint32_t cedar_store_insert(cedar_store *s, const uint8_t *key, size_t length, int32_t value, bool *held, int32_t *before,
+                            size_t *position);
+
+/* Removes a key; after CEDAR_OK *held says whether it was held. A key that isn't held makes no change, and nothing is written. Errors as of
+ * cedar_store_update, but that no pair has a fault and no slots are asked for. */
+uint32_t cedar_store_erase(cedar_store *s, const uint8_t *key, size_t length, bool *held);
+
+/* Whether the device has failed in a change. False if closed. */
+bool cedar_store_failed(const cedar_store *s);
+
+/* Closes the file, and gives the memory of *s back. *s is closed then. On a closed one it does nothing. */
+void cedar_store_close(cedar_store *s);
 
 #ifdef __cplusplus
 }

@@ -569,6 +569,83 @@ private:
 
     // A const member reads by a copy of its own, since C gives the variable to one call at a time.
     cedar_dictionary inside_ = CEDAR_CLOSED;
+
+    friend class store;
+};
+
+/// A dictionary whose changes are in the file at a path before they are acknowledged. Once a change returns it is on the disk, and no
+/// crash of the process or the machine takes it away; one that a crash cuts off is there as a whole or not at all. Nobody else may write
+/// to the file meanwhile. It is moved and not copied. What was moved from is closed: changes throw the error CEDAR_IS_CLOSED.
+class store {
+public:
+    /// Opens the file, made if it is missing, and makes its changes again. Throws CEDAR_STORE_FOREIGN, CEDAR_STORE_CORRUPT,
+    /// CEDAR_SLOT_LIMIT, std::bad_alloc, and std::system_error where a call on the file failed.
+    explicit store(const std::string &path, layout kind = layout::standard) {
+        const std::uint32_t status = (kind == layout::reduced ? cedar_store_open_reduced : cedar_store_open)(&inside_, path.c_str());
+        if (status == CEDAR_STORE_DEVICE) detail::throw_file_error(errno, path);
+        check(status, 0);
+    }
+    store(const store &) = delete;
+    store &operator=(const store &) = delete;
+    store(store &&other) noexcept { swap(other); }
+    store &operator=(store &&other) noexcept {
+        store moved(std::move(other));
+        swap(moved);
+        return *this;
+    }
+
+    /// Closes the file, and gives the memory back.
+    ~store() {
+        words_.inside_ = cedar_closed();
+        cedar_store_close(&inside_);
+    }
+
+    /// Exchanges the contents. It allocates nothing; no key is touched.
+    void swap(store &other) noexcept {
+        std::swap(inside_, other.inside_);
+        words_.swap(other.words_);
+    }
+    friend void swap(store &one, store &other) noexcept { one.swap(other); }
+
+    /// The dictionary, for all const members. It is lent: it goes with the store.
+    const dictionary &words() const noexcept { return words_; }
+
+    /// Stores a value at a key, in place of the value that the key holds. Throws CEDAR_EMPTY_KEY, CEDAR_NUL_BYTE, CEDAR_INVALID_VALUE,
+    /// CEDAR_SLOT_LIMIT, CEDAR_STORE_TOO_LONG, CEDAR_STORE_FULL and std::bad_alloc: then nothing has changed. std::system_error where a
+    /// call on the file failed: the dictionary has the change, and the file has it or not; from then on CEDAR_STORE_FAILED.
+    void update(std::string_view key, std::int32_t value) { insert(key, value); }
+
+    /// As update, and returns the value that the key held before, if it held one.
+    std::optional<std::int32_t> insert(std::string_view key, std::int32_t value) {
+        std::size_t position = 0;
+        std::int32_t before = 0;
+        bool held = false;
+        const std::uint32_t status = cedar_store_insert(&inside_, detail::bytes(key), key.size(), value, &held, &before, &position);
+        check(status, position);
+        return held ? std::optional(before) : std::nullopt;
+    }
+
+    /// Removes a key, and returns whether it was held. Throws as update, but that no pair has a fault.
+    bool erase(std::string_view key) {
+        bool held = false;
+        check(cedar_store_erase(&inside_, detail::bytes(key), key.size(), &held), 0);
+        return held;
+    }
+
+    /// Whether a change has failed on the disk.
+    bool failed() const noexcept { return cedar_store_failed(&inside_); }
+
+private:
+    // Takes the variable over after each change, and throws what a status says.
+    void check(std::uint32_t status, std::size_t position) {
+        const int number = errno;
+        words_.inside_ = inside_.dictionary;
+        if (status == CEDAR_STORE_DEVICE) throw std::system_error(number, std::generic_category(), "the file of a store");
+        detail::check(status, position);
+    }
+
+    cedar_store inside_ = CEDAR_STORE_CLOSED;
+    dictionary words_{dictionary::closed()};
 };
 
 } // namespace roskvidh

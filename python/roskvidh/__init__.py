@@ -20,7 +20,9 @@ except ImportError as error:
         "In the repository run ./build-c, and then: pip install ./python"
     ) from error
 
-from .cedar import Cedar, Stats
+from .cedar import Cedar
+from .store import Store
+from .words import Stats
 
 __version__ = "0.1.0"
-__all__ = ["LOAD_LIMIT", "MAX_VALUE", "MIN_VALUE", "Cedar", "CedarError", "Match", "Matches", "Stats"]
+__all__ = ["LOAD_LIMIT", "MAX_VALUE", "MIN_VALUE", "Cedar", "CedarError", "Match", "Matches", "Stats", "Store"]

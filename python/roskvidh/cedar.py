@@ -3,30 +3,17 @@
 import sys
 from collections.abc import Mapping as AnyMapping
 from itertools import chain
-from typing import Any, Iterable, Iterator, Literal, Mapping, MutableMapping, NamedTuple, Optional, Tuple, Type, TypeVar, Union, overload
+from typing import Any, Iterable, Iterator, Literal, Mapping, Tuple, Type, TypeVar, Union, overload
 
 from . import _core
-from .files import Source, Target, read_all, write_all
-from .views import KEYS, Items, Keys, Values
+from .files import Source, read_all
+from .words import Stats, Words
 
 K = TypeVar("K", bytes, str)
 Self = TypeVar("Self", bound="Cedar[Any]")
 Pairs = Union[Mapping[K, int], Iterable[Tuple[K, int]]]
 
-_SHOWN = 20  # keys
-
-
-class Stats(NamedTuple):
-    """The figures of a dictionary."""
-
-    keys: int
-    used_slots: int
-    capacity: int
-    spare_blocks: int
-    allocated_bytes: int
-
-
-class Cedar(_core.Core[K], MutableMapping[K, int]):  # type: ignore[misc]  # setdefault wants a default
+class Cedar(Words[K]):
     """A mapping from keys to whole numbers from 0 to 2147483645.
 
     A key is a nonempty `bytes` (a `bytearray` or `memoryview` is taken too), or with `text=True` a nonempty `str`; none has a byte 0.
@@ -136,28 +123,6 @@ class Cedar(_core.Core[K], MutableMapping[K, int]):  # type: ignore[misc]  # set
         """
         return _restore(cls, text, read_all(source), memory_limit)
 
-    def save(self, target: Target, *, full: bool = False) -> None:
-        """Writes its file to a path, or to a file that is open for bytes. `full` lists all slots, as format 1.0 does.
-
-        At a path the new file takes the place of the old one only once it is whole and on the disk: after an error the old one is as it
-        was.
-
-        >>> import io
-        >>> file = io.BytesIO()
-        >>> Cedar({b"net": 7}).save(file)
-        >>> Cedar.load(file.getvalue())
-        Cedar({b'net': 7})
-        """
-        write_all(target, self.to_bytes(full=full))
-
-    def to_bytes(self, *, full: bool = False) -> bytes:
-        """Returns the bytes of its file.
-
-        >>> Cedar().to_bytes()[:6]
-        b'CEDARW'
-        """
-        return self._dump(full)
-
     def update(self, pairs: Pairs[K] = (), /, **keywords: int) -> None:  # type: ignore[override]
         """Stores the pairs of a mapping or of an iterable: a key's last value stands.
 
@@ -170,38 +135,6 @@ class Cedar(_core.Core[K], MutableMapping[K, int]):  # type: ignore[misc]  # set
         """
         self._update(chain(_pairs_of(pairs), keywords.items()) if keywords else _pairs_of(pairs))
 
-    def keys(self, prefix: Optional[K] = None) -> Keys[K]:
-        """Returns a view of the keys, or of those that begin with a prefix: these ascend by bytes.
-
-        >>> list(Cedar({b"net": 7, b"nets": 8, b"ten": 9}).keys(b"ne"))
-        [b'net', b'nets']
-        """
-        return Keys(self, prefix)
-
-    def values(self, prefix: Optional[K] = None) -> Values[K]:
-        """Returns a view of the values, or of those of the keys that begin with a prefix.
-
-        >>> list(Cedar({b"net": 7, b"nets": 8, b"ten": 9}).values(b"ne"))
-        [7, 8]
-        """
-        return Values(self, prefix)
-
-    def items(self, prefix: Optional[K] = None) -> Items[K]:
-        """Returns a view of the keys with their values, or of those that begin with a prefix: these ascend by bytes.
-
-        >>> list(Cedar({b"net": 7, b"nets": 8, b"ten": 9}).items(b"t"))
-        [(b'ten', 9)]
-        """
-        return Items(self, prefix)
-
-    def irange(self, low: Optional[K] = None, high: Optional[K] = None) -> Iterator[K]:
-        """Returns an iterator over the keys from `low` on and before `high`, ascending by bytes. None is no bound.
-
-        >>> list(Cedar({b"net": 7, b"nets": 8, b"ten": 9}).irange(b"nets"))
-        [b'nets', b'ten']
-        """
-        return self._range(low, high, KEYS)
-
     def copy(self: Self) -> Self:
         """Returns an equal dictionary, with the same settings.
 
@@ -211,39 +144,8 @@ class Cedar(_core.Core[K], MutableMapping[K, int]):  # type: ignore[misc]  # set
         """
         return _restore(type(self), self.text, self.to_bytes())
 
-    def stats(self) -> Stats:
-        """Returns how many keys, slots in use, slots, blocks that can come into use without a request for memory, and bytes it has.
-
-        >>> Cedar({b"net": 7}).stats().keys
-        1
-        """
-        keys, used_slots, capacity, spare_blocks = self._figures()
-        # What the contract of `Trie::allocated_bytes` says.
-        return Stats(keys, used_slots, capacity, spare_blocks, 10 * capacity + 20 * (capacity // 256) + 514)
-
-    def __sizeof__(self) -> int:
-        return super().__sizeof__() + (0 if self.closed else self.stats().allocated_bytes)
-
     def __repr__(self) -> str:
-        name = type(self).__name__
-        if self.closed:
-            return f"<{name}, closed>"
-        if len(self) > _SHOWN:
-            return f"<{name} of {len(self)} keys>"
-        settings = [("text", False), ("ordered", True), ("reduced", False), ("max_trial", 1)]
-        told = "".join(f", {name}={getattr(self, name)}" for name, usual in settings if getattr(self, name) != usual)
-        return f"{name}({dict(self.items())}{told})"
-
-    def __eq__(self, other: object) -> bool:
-        if not isinstance(other, AnyMapping):
-            return NotImplemented
-        if len(self) != len(other):
-            return False
-        if isinstance(other, Cedar) and other.text != self.text:
-            return len(self) == 0
-        return all(other.get(key) == value for key, value in self.items())
-
-    __hash__ = None  # type: ignore[assignment]
+        return self._shown("", [("text", False), ("ordered", True), ("reduced", False), ("max_trial", 1)])
 
     def __or__(self: Self, other: Mapping[Any, int]) -> Self:
         if not isinstance(other, AnyMapping):
@@ -259,13 +161,6 @@ class Cedar(_core.Core[K], MutableMapping[K, int]):  # type: ignore[misc]  # set
     def __ior__(self: Self, other: Pairs[Any]) -> Self:
         self.update(other)
         return self
-
-    def __enter__(self: Self) -> Self:
-        len(self)  # a closed one isn't entered
-        return self
-
-    def __exit__(self, *_: object) -> None:
-        self.close()
 
     def __reduce__(self) -> Tuple[Any, ...]:
         return _restore, (type(self), self.text, self.to_bytes()), getattr(self, "__dict__", None) or None

@@ -3,7 +3,7 @@
 from typing import TYPE_CHECKING, Any, Generic, ItemsView, Iterator, KeysView, Optional, Tuple, TypeVar, ValuesView
 
 if TYPE_CHECKING:
-    from .cedar import Cedar
+    from .words import Words
 
 K = TypeVar("K", bytes, str)
 
@@ -14,11 +14,11 @@ class _View(Generic[K]):
     """What the three have in common: a dictionary and a prefix, or None."""
 
     __slots__ = ()
-    _mapping: "Cedar[K]"
+    _mapping: "Words[K]"
     _prefix: Optional[K]
     _kind: int
 
-    def __init__(self, cedar: "Cedar[K]", prefix: Optional[K] = None) -> None:
+    def __init__(self, cedar: "Words[K]", prefix: Optional[K] = None) -> None:
         self._mapping = cedar  # type: ignore[misc]  # the three have both slots
         self._prefix = prefix  # type: ignore[misc]
 

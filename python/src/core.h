@@ -11,11 +11,11 @@
 
 #include "cedar.h"
 
-/* A dictionary as Python sees it. All fields but `dictionary` are read and written under the interpreter's lock alone; `dictionary`
+/* A dictionary as Python sees it. All fields but `store` are read and written under the interpreter's lock alone; `store`
  * belongs to the thread that has the turn. */
 typedef struct Core {
     PyObject_HEAD
-    cedar dictionary;
+    cedar_store store;        /* of a dictionary without a file it has the dictionary alone */
     PyThread_type_lock turn;  /* held by the one long call that has given up the interpreter's lock */
     bool in_use;              /* such a call is under way */
     long process;             /* in this process */
@@ -47,7 +47,7 @@ int turn_idle(Core *core);
 int turn_wait(Core *core);
 int turn_begin(Core *core, bool is_long, Turn *turn);
 void turn_end(Turn *turn);
-void core_install(Core *core, cedar *fresh);
+void core_install(Core *core, cedar_store *fresh);
 int core_close(Core *core);
 
 /* Whether a short call may go ahead: the dictionary is open, and no long call is under way any more. With the interpreter's lock held,
@@ -83,6 +83,7 @@ Py_ssize_t core_length(Core *core);
 PyObject *core_get(Core *core, PyObject *arguments);
 PyObject *core_pop(Core *core, PyObject *arguments);
 PyObject *core_setdefault(Core *core, PyObject *arguments);
+int key_erase(Core *core, const uint8_t *at, size_t length);
 
 /* gather.c: keys with their values, in memory of their own. */
 
@@ -129,6 +130,9 @@ PyObject *core_cheapest(Core *core, PyObject *arguments, PyObject *named);
 PyObject *core_open(Core *core, PyObject *arguments);
 PyObject *core_build(Core *core, PyObject *arguments);
 PyObject *core_load(Core *core, PyObject *arguments);
+PyObject *core_open_store(Core *core, PyObject *arguments);
+int core_without_file(Core *core);
+PyObject *core_has_failed(Core *core, PyObject *nothing);
 PyObject *core_clear(Core *core, PyObject *nothing);
 PyObject *core_shrink(Core *core, PyObject *nothing);
 PyObject *core_update(Core *core, PyObject *pairs);

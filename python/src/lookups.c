@@ -1,11 +1,13 @@
 /* Calls of one key. Each takes its arguments first, then looks whether it may go ahead, and calls no Python from there to its answer. */
 #include "core.h"
 
+#include <errno.h>
+
 static int find(Core *core, PyObject *key, int32_t *value) {
     Span span;
     if (span_take(core, key, &span) < 0) return -1;
     int found = core_ready(core);
-    if (found == 0) found = cedar_get(&core->dictionary, span.at, span.length, value);
+    if (found == 0) found = cedar_get(&core->store.dictionary, span.at, span.length, value);
     Py_DECREF(span.owner);
     return found;
 }
@@ -28,7 +30,7 @@ int core_contains(Core *core, PyObject *key) {
 }
 
 Py_ssize_t core_length(Core *core) {
-    return core_ready(core) < 0 ? -1 : (Py_ssize_t)cedar_len(&core->dictionary);
+    return core_ready(core) < 0 ? -1 : (Py_ssize_t)cedar_len(&core->store.dictionary);
 }
 
 PyObject *core_get(Core *core, PyObject *arguments) {
@@ -42,26 +44,62 @@ PyObject *core_get(Core *core, PyObject *arguments) {
     return otherwise;
 }
 
+/* A change of a store waits for the disk, and lets other threads run. errno stays that of the change. */
+static void change_end(Turn *turn) {
+    int cause = errno;
+    turn_end(turn);
+    errno = cause;
+}
+
+static int insert(Core *core, const Span *span, int32_t value, bool *held, size_t *position, uint32_t *status) {
+    int32_t before;
+    Turn turn;
+    if (!core->store.file) {
+        *status = cedar_insert(&core->store.dictionary, span->at, span->length, value, held, &before, position);
+        return 0;
+    }
+    if (turn_begin(core, true, &turn) < 0) return -1;
+    *status = cedar_store_insert(&core->store, span->at, span->length, value, held, &before, position);
+    change_end(&turn);
+    return 0;
+}
+
 /* Stores a value. The caller has seen that it may go ahead. */
 static int store(Core *core, const Span *span, int32_t value) {
-    bool held;
-    int32_t before;
+    bool held = false;
     size_t position = 0;
-    uint32_t status = cedar_insert(&core->dictionary, span->at, span->length, value, &held, &before, &position);
+    uint32_t status;
+    if (insert(core, span, value, &held, &position, &status) < 0) return -1;
     if (status == CEDAR_NUL_BYTE) return fail_at(status, "byte", position);
-    if (status != CEDAR_OK) return fail_with(status);
+    /* The dictionary has the change also where the device has failed. */
+    if (status != CEDAR_OK && status != CEDAR_STORE_DEVICE) return fail_with(status);
     if (held) core->values_changed++;
     else core->keys_changed++;
-    return 0;
+    return status == CEDAR_OK ? 0 : fail_with(status);
+}
+
+/* Removes a key, and says whether it was held. The caller has seen that it may go ahead. */
+int key_erase(Core *core, const uint8_t *at, size_t length) {
+    bool held = false;
+    uint32_t status = CEDAR_OK;
+    Turn turn;
+    if (!core->store.file) {
+        held = cedar_erase(&core->store.dictionary, at, length);
+    } else {
+        if (turn_begin(core, true, &turn) < 0) return -1;
+        status = cedar_store_erase(&core->store, at, length, &held);
+        change_end(&turn);
+    }
+    if (held || status == CEDAR_STORE_DEVICE) core->keys_changed++;
+    return status == CEDAR_OK ? held : fail_with(status);
 }
 
 static int erase(Core *core, PyObject *key) {
     Span span;
     if (span_take(core, key, &span) < 0) return -1;
     int held = core_ready(core);
-    if (held == 0) held = cedar_erase(&core->dictionary, span.at, span.length);
+    if (held == 0) held = key_erase(core, span.at, span.length);
     Py_DECREF(span.owner);
-    if (held > 0) core->keys_changed++;
     if (held == 0) missing(key);
     return held > 0 ? 0 : -1;
 }
@@ -84,11 +122,8 @@ PyObject *core_pop(Core *core, PyObject *arguments) {
     int32_t value;
     if (span_take(core, key, &span) < 0) return NULL;
     int held = core_ready(core);
-    if (held == 0) held = cedar_get(&core->dictionary, span.at, span.length, &value);
-    if (held > 0) {
-        cedar_erase(&core->dictionary, span.at, span.length);
-        core->keys_changed++;
-    }
+    if (held == 0) held = cedar_get(&core->store.dictionary, span.at, span.length, &value);
+    if (held > 0) held = key_erase(core, span.at, span.length);
     Py_DECREF(span.owner);
     if (held < 0) return NULL;
     if (held) return PyLong_FromLong(value);
@@ -104,7 +139,7 @@ PyObject *core_setdefault(Core *core, PyObject *arguments) {
     int32_t value, number;
     if (value_take(otherwise, &number) < 0 || span_take(core, key, &span) < 0) return NULL;
     int held = core_ready(core);
-    if (held == 0) held = cedar_get(&core->dictionary, span.at, span.length, &value);
+    if (held == 0) held = cedar_get(&core->store.dictionary, span.at, span.length, &value);
     if (held == 0) {
         value = number;
         if (store(core, &span, number) < 0) held = -1;

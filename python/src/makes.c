@@ -1,6 +1,7 @@
 /* What puts a dictionary in place, stores many pairs, and gives a file's bytes. */
 #include "core.h"
 
+#include <errno.h>
 #include <stdlib.h>
 #include <string.h>
 
@@ -39,9 +40,9 @@ static int settings_take(Core *core, PyObject *arguments, Settings *settings, Py
     return 0;
 }
 
-static PyObject *install(Core *core, cedar *fresh, Settings settings) {
+static PyObject *install_store(Core *core, cedar_store *fresh, Settings settings) {
     if (turn_idle(core) < 0) {
-        cedar_free(fresh);
+        cedar_store_close(fresh);
         return NULL;
     }
     core->is_text = settings.is_text;
@@ -50,6 +51,19 @@ static PyObject *install(Core *core, cedar *fresh, Settings settings) {
     core->max_trial = settings.max_trial;
     core_install(core, fresh);
     Py_RETURN_NONE;
+}
+
+static PyObject *install(Core *core, cedar *fresh, Settings settings) {
+    cedar_store whole = CEDAR_STORE_CLOSED;
+    whole.dictionary = *fresh;
+    return install_store(core, &whole, settings);
+}
+
+/* Fails where changes go to a file one by one. */
+int core_without_file(Core *core) {
+    if (!core->store.file) return 0;
+    PyErr_SetString(PyExc_ValueError, "a store takes one change at a time");
+    return -1;
 }
 
 static uint32_t make_empty(cedar *fresh, Settings settings) {
@@ -69,10 +83,10 @@ PyObject *core_open(Core *core, PyObject *arguments) {
 /* Calls what changes a dictionary as a whole. It is a long call where there are many keys. */
 static PyObject *change_whole(Core *core, uint32_t (*change)(cedar *)) {
     Turn turn;
-    if (core_ready(core) < 0 || turn_begin(core, cedar_len(&core->dictionary) >= LONG_COUNT, &turn) < 0) return NULL;
-    size_t before = cedar_len(&core->dictionary);
-    uint32_t status = change(&core->dictionary);
-    size_t after = cedar_len(&core->dictionary);
+    if (core_ready(core) < 0 || turn_begin(core, cedar_len(&core->store.dictionary) >= LONG_COUNT, &turn) < 0) return NULL;
+    size_t before = cedar_len(&core->store.dictionary);
+    uint32_t status = change(&core->store.dictionary);
+    size_t after = cedar_len(&core->store.dictionary);
     turn_end(&turn);
     if (after != before) core->keys_changed++;
     if (status != CEDAR_OK) {
@@ -90,7 +104,7 @@ static uint32_t clear_open(cedar *dictionary) {
 /* Takes all keys out, and keeps their memory. */
 PyObject *core_clear(Core *core, PyObject *nothing) {
     (void)nothing;
-    return change_whole(core, clear_open);
+    return core_without_file(core) < 0 ? NULL : change_whole(core, clear_open);
 }
 
 /* Gives the memory back that the keys don't need. */
@@ -180,14 +194,14 @@ PyObject *core_update(Core *core, PyObject *given) {
     Pairs pairs;
     Turn turn;
     size_t position = 0;
-    if (pairs_take(core, given, &pairs) < 0) return NULL;
+    if (core_without_file(core) < 0 || pairs_take(core, given, &pairs) < 0) return NULL;
     if (turn_begin(core, pairs.count >= LONG_COUNT, &turn) < 0) {
         pairs_free(&pairs);
         return NULL;
     }
-    size_t before = cedar_len(&core->dictionary);
-    uint32_t status = cedar_update_all(&core->dictionary, pairs.pairs, pairs.count, &position);
-    size_t after = cedar_len(&core->dictionary);
+    size_t before = cedar_len(&core->store.dictionary);
+    uint32_t status = cedar_update_all(&core->store.dictionary, pairs.pairs, pairs.count, &position);
+    size_t after = cedar_len(&core->store.dictionary);
     turn_end(&turn);
     if (after != before) core->keys_changed++;
     core->values_changed++;
@@ -272,6 +286,43 @@ PyObject *core_load(Core *core, PyObject *arguments) {
     return install(core, &fresh, settings);
 }
 
+/* Opens the store of the file at a path. */
+PyObject *core_open_store(Core *core, PyObject *arguments) {
+    const char *path;
+    Settings settings = {0};
+    cedar_store fresh = CEDAR_STORE_CLOSED;
+    if (!PyArg_ParseTuple(arguments, "ypp", &path, &settings.is_text, &settings.is_reduced)) return NULL;
+    if (core->is_open) {
+        PyErr_SetString(PyExc_ValueError, "the store is open already");
+        return NULL;
+    }
+    uint32_t status;
+    int cause;
+    Py_BEGIN_ALLOW_THREADS
+    status = (settings.is_reduced ? cedar_store_open_reduced : cedar_store_open)(&fresh, path);
+    cause = errno;
+    Py_END_ALLOW_THREADS
+    errno = cause;
+    if (status != CEDAR_OK) {
+        if (status == CEDAR_STORE_DEVICE) PyErr_SetFromErrnoWithFilename(PyExc_OSError, path);
+        else fail_with(status);
+        return NULL;
+    }
+    if (settings.is_text && test_text(&fresh.dictionary) < 0) {
+        cedar_store_close(&fresh);
+        return NULL;
+    }
+    settings.is_ordered = true;
+    settings.max_trial = 1;
+    return install_store(core, &fresh, settings);
+}
+
+PyObject *core_has_failed(Core *core, PyObject *nothing) {
+    (void)nothing;
+    if (core_ready(core) < 0) return NULL;
+    return PyBool_FromLong(cedar_store_failed(&core->store));
+}
+
 /* The file's bytes. They are written once more where the first guess at their number was too low. */
 PyObject *core_dump(Core *core, PyObject *given) {
     Turn turn;
@@ -282,7 +333,7 @@ PyObject *core_dump(Core *core, PyObject *given) {
     uint8_t *buffer = NULL;
     do {
         uint8_t *grown = realloc(buffer, room);
-        status = grown ? cedar_save(&core->dictionary, is_full, grown, room, &needed) : CEDAR_MEMORY;
+        status = grown ? cedar_save(&core->store.dictionary, is_full, grown, room, &needed) : CEDAR_MEMORY;
         if (grown) buffer = grown;
         room = needed;
     } while (status == CEDAR_NO_ROOM);

@@ -190,7 +190,7 @@ static bool find_all(Core *core, Finder *finder, const Span *text, Matches *matc
         if (places < least) places = least;
         Piece *piece = piece_begin(matches, places);
         if (!piece) return false;
-        size_t count = finder(&core->dictionary, text->at, text->length, &next, piece->found, places);
+        size_t count = finder(&core->store.dictionary, text->at, text->length, &next, piece->found, places);
         piece_end(matches, piece, count);
         /* The keys at a place are told as a whole: those at this one are more than there were places. */
         if (count == 0) least = 4 * places;
@@ -205,7 +205,7 @@ static bool find_cheapest(Core *core, uint32_t unknown, const Span *text, Matche
     Piece *piece = piece_begin(matches, text->length);
     if (!piece) return false;
     uint32_t status =
-        cedar_cheapest(&core->dictionary, text->at, text->length, unknown, core->is_text, piece->found, text->length, &count);
+        cedar_cheapest(&core->store.dictionary, text->at, text->length, unknown, core->is_text, piece->found, text->length, &count);
     if (status != CEDAR_OK) return false;
     piece_end(matches, piece, count);
     return true;

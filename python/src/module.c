@@ -6,7 +6,7 @@ static PyObject *core_make(PyTypeObject *type, PyObject *arguments, PyObject *ke
     (void)keywords;
     Core *core = (Core *)PyType_GenericAlloc(type, 0);
     if (!core) return NULL;
-    core->dictionary = (cedar)CEDAR_CLOSED;
+    core->store = (cedar_store)CEDAR_STORE_CLOSED;
     core->turn = PyThread_allocate_lock();
     if (!core->turn) {
         Py_DECREF(core);
@@ -19,7 +19,7 @@ static PyObject *core_make(PyTypeObject *type, PyObject *arguments, PyObject *ke
 static void core_dealloc(Core *core) {
     PyTypeObject *type = Py_TYPE(core);
     if (!core->in_use) {
-        cedar_free(&core->dictionary);
+        cedar_store_close(&core->store);
         if (core->turn) PyThread_free_lock(core->turn);
     }
     ((freefunc)PyType_GetSlot(type, Py_tp_free))(core);
@@ -36,7 +36,7 @@ static PyObject *core_reserve(Core *core, PyObject *given) {
     size_t blocks = PyLong_AsSize_t(given);
     if (blocks == (size_t)-1 && PyErr_Occurred()) return NULL;
     if (core_ready(core) < 0) return NULL;
-    uint32_t status = cedar_reserve(&core->dictionary, blocks);
+    uint32_t status = cedar_reserve(&core->store.dictionary, blocks);
     if (status == CEDAR_OK) Py_RETURN_NONE;
     fail_with(status);
     return NULL;
@@ -45,7 +45,7 @@ static PyObject *core_reserve(Core *core, PyObject *given) {
 static PyObject *core_figures(Core *core, PyObject *nothing) {
     (void)nothing;
     if (core_ready(core) < 0) return NULL;
-    const cedar *d = &core->dictionary;
+    const cedar *d = &core->store.dictionary;
     return Py_BuildValue("nnnn", (Py_ssize_t)cedar_len(d), (Py_ssize_t)cedar_used_slots(d), (Py_ssize_t)cedar_capacity(d),
                          (Py_ssize_t)cedar_spare_blocks(d));
 }
@@ -146,6 +146,8 @@ static PyMethodDef core_methods[] = {
     {"_open", (PyCFunction)core_open, METH_VARARGS, NULL},
     {"_build", (PyCFunction)core_build, METH_VARARGS, NULL},
     {"_load", (PyCFunction)core_load, METH_VARARGS, NULL},
+    {"_open_store", (PyCFunction)core_open_store, METH_VARARGS, NULL},
+    {"_has_failed", (PyCFunction)core_has_failed, METH_NOARGS, NULL},
     {"_dump", (PyCFunction)core_dump, METH_O, NULL},
     {"_update", (PyCFunction)core_update, METH_O, NULL},
     {"_walk", (PyCFunction)core_walk, METH_VARARGS, NULL},

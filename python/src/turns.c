@@ -74,12 +74,12 @@ void turn_end(Turn *turn) {
 }
 
 /* Puts a dictionary that nobody else knows in the place of the one that is there. The caller has waited for the turn. */
-void core_install(Core *core, cedar *fresh) {
-    cedar old = core->dictionary;
-    core->dictionary = *fresh;
+void core_install(Core *core, cedar_store *fresh) {
+    cedar_store old = core->store;
+    core->store = *fresh;
     core->is_open = true;
     core->keys_changed++;
-    cedar_free(&old);
+    cedar_store_close(&old);
 }
 
 /* Gives the memory back; on a closed dictionary nothing happens. */
@@ -87,6 +87,6 @@ int core_close(Core *core) {
     if (turn_idle(core) < 0) return -1;
     core->is_open = false;
     core->keys_changed++;
-    cedar_free(&core->dictionary);
+    cedar_store_close(&core->store);
     return 0;
 }

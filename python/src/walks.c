@@ -50,7 +50,7 @@ static PyObject *walk_give(Walk *walk, Core *core) {
     cedar_match match = walk->gathered.matches[walk->next++];
     const uint8_t *key = walk->gathered.bytes + walk->at;
     walk->at += match.length;
-    if (walk->values_changed != core->values_changed) cedar_get(&core->dictionary, key, match.length, &match.value);
+    if (walk->values_changed != core->values_changed) cedar_get(&core->store.dictionary, key, match.length, &match.value);
     if (walk->kind == WALK_VALUES) return PyLong_FromLong(match.value);
     PyObject *given = key_give(core, key, match.length);
     return walk->kind == WALK_KEYS ? given : pair_give(given, match.value);
@@ -92,7 +92,7 @@ static int is_long_below(Core *core, const Span *prefix) {
     cedar_match unused;
     size_t next = LONG_COUNT;
     if (core_ready(core) < 0) return -1;
-    return cedar_predictions_from(&core->dictionary, prefix->at, prefix->length, &next, &unused, 1) > 0;
+    return cedar_predictions_from(&core->store.dictionary, prefix->at, prefix->length, &next, &unused, 1) > 0;
 }
 
 static int begin_below(Core *core, const Span *prefix, Turn *turn) {
@@ -111,8 +111,8 @@ static int walk_fill(Walk *walk, const Span *prefix, bool is_all) {
     Core *core = walk->core;
     Turn turn;
     if (begin_below(core, prefix, &turn) < 0) return -1;
-    bool done = is_all ? gather_all(&core->dictionary, &walk->gathered)
-                       : gather_below(&core->dictionary, prefix, core->is_ordered, &walk->gathered);
+    bool done = is_all ? gather_all(&core->store.dictionary, &walk->gathered)
+                       : gather_below(&core->store.dictionary, prefix, core->is_ordered, &walk->gathered);
     turn_end(&turn);
     walk->keys_changed = core->keys_changed;
     walk->values_changed = core->values_changed;
@@ -153,8 +153,8 @@ PyObject *core_walk(Core *core, PyObject *arguments) {
 static int range_fill(Walk *walk, const Span *low, const Span *high) {
     Core *core = walk->core;
     Turn turn;
-    if (core_ready(core) < 0 || turn_begin(core, cedar_len(&core->dictionary) >= LONG_COUNT, &turn) < 0) return -1;
-    bool done = gather_between(&core->dictionary, low, high, core->is_ordered, &walk->gathered);
+    if (core_ready(core) < 0 || turn_begin(core, cedar_len(&core->store.dictionary) >= LONG_COUNT, &turn) < 0) return -1;
+    bool done = gather_between(&core->store.dictionary, low, high, core->is_ordered, &walk->gathered);
     turn_end(&turn);
     walk->keys_changed = core->keys_changed;
     walk->values_changed = core->values_changed;
@@ -185,7 +185,7 @@ PyObject *core_count(Core *core, PyObject *given) {
     if (span_take(core, given, &prefix) < 0) return NULL;
     int begun = begin_below(core, &prefix, &turn);
     if (begun == 0) {
-        count = cedar_predictions(&core->dictionary, prefix.at, prefix.length, &unused, 0);
+        count = cedar_predictions(&core->store.dictionary, prefix.at, prefix.length, &unused, 0);
         turn_end(&turn);
     }
     Py_DECREF(prefix.owner);
@@ -208,10 +208,10 @@ PyObject *core_prefixes(Core *core, PyObject *given) {
     PyObject *list = NULL;
     if (span_take(core, given, &text) < 0) return NULL;
     if (core_ready(core) == 0) {
-        size_t count = cedar_prefixes(&core->dictionary, text.at, text.length, few, FEW);
+        size_t count = cedar_prefixes(&core->store.dictionary, text.at, text.length, few, FEW);
         if (count > FEW) {
             matches = malloc(count * sizeof *matches);
-            if (matches) cedar_prefixes(&core->dictionary, text.at, text.length, matches, count);
+            if (matches) cedar_prefixes(&core->store.dictionary, text.at, text.length, matches, count);
             else fail_with(CEDAR_MEMORY);
         }
         if (matches) list = prefixes_give(core, &text, matches, count);
@@ -229,7 +229,7 @@ PyObject *core_longest_prefix(Core *core, PyObject *given) {
     PyObject *pair = NULL;
     if (span_take(core, given, &text) < 0) return NULL;
     if (core_ready(core) == 0) {
-        if (text.length > 0) cedar_segment(&core->dictionary, text.at, text.length, &next, &found, 1);
+        if (text.length > 0) cedar_segment(&core->store.dictionary, text.at, text.length, &next, &found, 1);
         if (found.value >= 0) {
             pair = pair_give(key_give(core, text.at, found.length), found.value);
         } else {
@@ -245,17 +245,17 @@ PyObject *core_popitem(Core *core, PyObject *nothing) {
     (void)nothing;
     Gathered gathered = {0};
     PyObject *pair = NULL;
-    if (core_ready(core) < 0) return NULL;
-    if (cedar_len(&core->dictionary) == 0) {
-        PyErr_SetString(PyExc_KeyError, "popitem(): dictionary is empty");
-    } else if (gather_any(&core->dictionary, &gathered)) {
-        size_t length = gathered.matches[0].length;
-        cedar_erase(&core->dictionary, gathered.bytes, length);
-        core->keys_changed++;
-        pair = pair_give(key_give(core, gathered.bytes, length), gathered.matches[0].value);
-    } else {
-        fail_with(CEDAR_MEMORY);
+    int held = 0;
+    /* Where a store waits for the disk, another thread may remove the key first. */
+    while (held == 0) {
+        gathered_free(&gathered);
+        held = -1;
+        if (core_ready(core) < 0) break;
+        if (cedar_len(&core->store.dictionary) == 0) PyErr_SetString(PyExc_KeyError, "popitem(): dictionary is empty");
+        else if (!gather_any(&core->store.dictionary, &gathered)) fail_with(CEDAR_MEMORY);
+        else held = key_erase(core, gathered.bytes, gathered.matches[0].length);
     }
+    if (held > 0) pair = pair_give(key_give(core, gathered.bytes, gathered.matches[0].length), gathered.matches[0].value);
     gathered_free(&gathered);
     return pair;
 }
@@ -265,10 +265,10 @@ PyObject *core_erase_prefix(Core *core, PyObject *given) {
     Turn turn;
     size_t erased = 0;
     uint32_t status = CEDAR_OK;
-    if (span_take(core, given, &prefix) < 0) return NULL;
+    if (core_without_file(core) < 0 || span_take(core, given, &prefix) < 0) return NULL;
     int begun = begin_below(core, &prefix, &turn);
     if (begun == 0) {
-        status = cedar_erase_prefix(&core->dictionary, prefix.at, prefix.length, &erased);
+        status = cedar_erase_prefix(&core->store.dictionary, prefix.at, prefix.length, &erased);
         turn_end(&turn);
         if (erased > 0) core->keys_changed++;
     }

@@ -11,7 +11,7 @@ import unittest
 from pathlib import Path
 
 import roskvidh
-from roskvidh import Cedar, _core
+from roskvidh import Cedar, Store, _core
 from roskvidh.__main__ import check_examples
 
 HERE = Path(__file__).resolve().parent.parent
@@ -29,6 +29,7 @@ class Package(unittest.TestCase):
             self.assertTrue(call.__doc__, name)
             if callable(call):
                 self.assertIn(">>>", call.__doc__, name)
+        self.assertTrue(all(getattr(Store, name).__doc__ for name in dir(Store) if not name.startswith("_") and name != "path"))
         self.assertGreater(check_examples(), 40)
 
     def test_hints(self):
@@ -37,9 +38,10 @@ class Package(unittest.TestCase):
         core = next(node for node in stub.body if isinstance(node, ast.ClassDef) and node.name == "Core")
         hinted = {node.name for node in core.body if isinstance(node, ast.FunctionDef)}
         self.assertEqual(hinted, set(vars(_core.Core)) - {"__new__", "__doc__", "__module__", "__class_getitem__"})
-        for name, call in inspect.getmembers(Cedar, inspect.isfunction):
-            if name != "__init__":
-                self.assertIn("return", call.__annotations__, name)
+        for kind in (Cedar, Store):
+            for name, call in inspect.getmembers(kind, inspect.isfunction):
+                if name != "__init__":
+                    self.assertIn("return", call.__annotations__, name)
         self.assertTrue((HERE / "roskvidh" / "py.typed").is_file())
 
     def test_the_readme(self):
@@ -50,7 +52,7 @@ class Package(unittest.TestCase):
             os.chdir(empty)
             self.addCleanup(os.chdir, folder)
             for block in blocks:
-                names = {"Cedar": Cedar}
+                names = {"Cedar": Cedar, "Store": Store}
                 tree = ast.parse(block)
                 for statement in tree.body:
                     code = ast.get_source_segment(block, statement)

@@ -1,5 +1,6 @@
 """Compares the declarations of the header with the exports of the sources, and both with what the shared object has. Arguments: the
-header, the folder of the proved sources, that of the C beside them, and the shared object.
+header, the folder of the proved sources, that of the C beside them, and the shared object. What the headers in that folder declare is the
+library's own, and the shared object doesn't have it.
 
 An export's C form: each `&mut T` and `*mut T` is a pointer, `&[T]` a pointer to constant T and a length, `&mut [T]` a pointer and a
 length, and a `Global` takes no room, so that C doesn't pass it. A `&mut Reading`, whose call leaves it as it was, is a pointer to a
@@ -22,6 +23,7 @@ TYPES = {
     "Match": "cedar_match",
     "Found": "cedar_found",
     "Pair": "cedar_pair",
+    "Plan": "cedar_plan",
 }
 
 
@@ -64,9 +66,14 @@ def main(header, sources, beside, library):
     wanted, has = exported(sources), in_c(header, ";")
     for source in sorted(Path(beside).glob("*.c")):
         wanted.update(in_c(source, r" \{"))
+    inner = {}
+    for own in sorted(Path(beside).glob("*.h")):
+        inner.update(in_c(own, ";"))
+    has.update(inner)
     names = {line.split()[-1] for line in subprocess.check_output(["nm", "-D", "--defined-only", library], text=True).splitlines()}
     faults = [f"{name}: the export is {wanted.get(name)}, the header has {has.get(name)}" for name in wanted.keys() | has.keys() if wanted.get(name) != has.get(name)]
-    faults += [f"{name} isn't in {library}" for name in wanted if name not in names]
+    faults += [f"{name} isn't in {library}" for name in wanted if name not in names and name not in inner]
+    faults += [f"{name} is in {library}, and is the library's own" for name in inner if name in names]
     for fault in sorted(faults):
         print("header.py:", fault, file=sys.stderr)
     if not wanted:

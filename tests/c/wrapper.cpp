@@ -377,6 +377,35 @@ std::string random_key() {
 }
 
 // The walks of a text as the map's keys say.
+// A store, opened again and again, that is moved and fails.
+void stores(layout kind, const std::string &folder) {
+    const std::string path = folder + "/words.store";
+    std::remove(path.c_str());
+    {
+        roskvidh::store s(path, kind);
+        CHECK(s.words().empty() && s.words().kind() == kind && !s.failed());
+        s.update("net", 7);
+        CHECK(s.insert("net", 8) == 7 && !s.insert("network", 9) && s.erase("net") && !s.erase("net"));
+        refused(CEDAR_NUL_BYTE, 2, "cedar keys must not contain the terminal byte 0x00 (at byte 2)", [&] { s.update(std::string_view("ne\0t", 4), 1); });
+        refused(CEDAR_INVALID_VALUE, std::nullopt, "cedar value is outside the supported range 0..=2147483645", [&] { s.update("net", -1); });
+        roskvidh::store moved(std::move(s));
+        CHECK(s.words().empty() && !s.words().is_open() && moved.words().get("network") == 9);
+        refused(CEDAR_IS_CLOSED, std::nullopt, "the dictionary is closed", [&] { s.update("net", 1); });
+        for (int i = 0; i < 1000; ++i) moved.update("k" + std::to_string(i), i); // the table grows
+        CHECK(moved.words().size() == 1001 && moved.words().longest_match("k12x")->length == 3);
+        lacks_memory([&] { moved.erase("k1"); });
+        s = std::move(moved);
+        CHECK(s.words().get("k1") == 1 && s.erase("k1"));
+    }
+    CHECK(roskvidh::store(path, kind).words().size() == 1000);
+    lacks_memory([&] { roskvidh::store(path, kind); });
+    no_file(path + "/none", [&] { roskvidh::store(path + "/none", kind); });
+    std::FILE *file = std::fopen(path.c_str(), "wb");
+    CHECK(file != nullptr && std::fputs("no store at all", file) >= 0 && std::fclose(file) == 0);
+    refused(CEDAR_STORE_FOREIGN, std::nullopt, "the file is not of a store", [&] { roskvidh::store(path, kind); });
+    std::remove(path.c_str());
+}
+
 void same_walks(const dictionary &d, const Plain &plain, const std::string &text) {
     Ends fronts, behind;
     Pairs under;
@@ -494,6 +523,7 @@ int main(int count, char **arguments) {
         refused_files(kind);
         entries_below(kind);
         paths(kind, folder);
+        stores(kind, folder);
         random_calls(kind, count > 1 ? std::atol(arguments[1]) : 200000);
     }
     std::puts("ok");

@@ -9,5 +9,6 @@ pub mod MatchLemmas
 pub mod HeldValues
 pub mod LooseValues
 pub mod PairLemmas
+pub mod PlanLemmas
 pub mod ReaderLemmas
 pub mod ScanLemmas

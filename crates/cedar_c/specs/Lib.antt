@@ -1,3 +1,4 @@
+pub mod Changes
 pub mod Content
 pub mod Cuts
 pub mod Entries
@@ -8,6 +9,7 @@ pub mod Matches
 pub mod Opens
 pub mod Ownership
 pub mod Pairs
+pub mod Plans
 pub mod Readings
 pub mod Scans
 pub mod Shrinks

@@ -5,6 +5,7 @@ pub use Rattle.cedar_format.specs.Refusal.{refusal_of}
 pub use Rattle.cedar_format.specs.Tables.{IsTableFile, table_bytes}
 pub use Rattle.cedar_model.specs.Meaning.WellFormed.{IsWellFormed, tree_of}
 pub use Rattle.cedar_model.specs.Table.Layouts.{default_layout, layout_byte, reduced_layout}
+pub use Rattle.cedar_plan.specs.Plans.{works_of}
 pub use Rattle.cedar_slots.specs.Places.{IsSlotLimit}
 pub use Rattle.cedar_tree.specs.Queries.{prefixes, used, walk}
 pub use Rattle.cedar_walk.specs.Visits.{ComesToFirst, IsNumberedBelow}
@@ -29,6 +30,7 @@ pub use Rattle.cedar_c.specs.Layouts.{HasToGrow, dictionary_in, layout_if, layou
 pub use Rattle.cedar_c.specs.Matches.{Fit, filled_from, filled_matches, front_keys, lengthened, longer, match_of, predicted_keys}
 pub use Rattle.cedar_c.specs.Opens.{OpensLoaded, OpensNew, OpensSorted}
 pub use Rattle.cedar_c.specs.Pairs.{MayWantSlots, StoresFront, StoresPart, entries_in, fault_in, keys_in, taken_pair}
+pub use Rattle.cedar_c.specs.Plans.{IsChange, IsOpening, LacksChange, LacksRecord, TellsWhy, store_status}
 pub use Rattle.cedar_c.specs.Readings.{shown_figure, shown_in, shown_layout, shown_tree}
 pub use Rattle.cedar_c.specs.Scans.{GoesOn, WritesOn, keywords_from, spot, spots_from, token_spot, tokens_from}
 pub use Rattle.cedar_c.specs.Shrinks.{Shrinks}

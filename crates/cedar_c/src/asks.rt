@@ -45,7 +45,7 @@ pub extern "C" fn cedar_longest_prefix(handle: &mut Reading, text: &[u8], found:
 }
 
 impl AnyCedar {
-    fn contains_key_bytes(&self, key: &[u8]) -> bool
+    pub(crate) fn contains_key_bytes(&self, key: &[u8]) -> bool
         ensures { IsTrue result ↔ IsSome (number_at (dictionary_in self.now).state.tree key.now) }
     {
         match self {

@@ -74,6 +74,24 @@ pub(crate) const FILE_TRAILING: u32 = 28;
 /// The reading itself failed, which that of bytes in memory doesn't.
 pub(crate) const FILE_UNREAD: u32 = 29;
 
+/// It is no file of a store.
+pub(crate) const STORE_FOREIGN: u32 = 40;
+
+/// A record of the store's file is no change.
+pub(crate) const STORE_CORRUPT: u32 = 41;
+
+/// A call on the store's file failed: told in C alone.
+pub(crate) const STORE_DEVICE: u32 = 42;
+
+/// The store has failed before: told in C alone.
+pub(crate) const STORE_FAILED: u32 = 43;
+
+/// The change has 2^32 bytes or more.
+pub(crate) const STORE_TOO_LONG: u32 = 44;
+
+/// The records of the store's file end behind 2^60 bytes.
+pub(crate) const STORE_FULL: u32 = 45;
+
 /// The number of an error. Where a byte 0 was refused, it tells its position, and where a key isn't above the one before it, the index
 /// of its pair.
 pub(crate) fn tell(error: CedarError, position: &mut usize) -> u32

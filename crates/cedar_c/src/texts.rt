@@ -8,7 +8,8 @@ use crate::status::{
     CLOSED, DUPLICATE_KEY, EMPTY_KEY, FILE_BYTE_ORDER, FILE_CORRUPT, FILE_HEADER, FILE_LAYOUT,
     FILE_MAGIC, FILE_MEMORY_LIMIT, FILE_TRAILING, FILE_TRUNCATED, FILE_UNREAD, FILE_VERSION,
     INVALID_MAX_TRIAL, INVALID_VALUE, KEYS_NOT_SORTED, MEMORY, NO_ROOM, NOT_ASCENDING, NUL_BYTE,
-    OK, SLOT_LIMIT,
+    OK, SLOT_LIMIT, STORE_CORRUPT, STORE_DEVICE, STORE_FAILED, STORE_FOREIGN, STORE_FULL,
+    STORE_TOO_LONG,
 };
 
 /// Writes the text of a status into the first places of a buffer, as far as there is room, and says how many bytes it has. It has
@@ -50,6 +51,12 @@ fn text_of(status: u32) -> &'static str
         FILE_CORRUPT => "corrupt serialized trie",
         FILE_TRAILING => "serialized trie has trailing data",
         FILE_UNREAD => "persistence I/O error",
+        STORE_FOREIGN => "the file is not of a store",
+        STORE_CORRUPT => "a record of the store's file is no change",
+        STORE_DEVICE => "a call on the store's file failed",
+        STORE_FAILED => "the store has failed: open its file again",
+        STORE_TOO_LONG => "the change is too long for a record",
+        STORE_FULL => "the store's file is too long",
         _ => "an error without a text",
     }
 }

@@ -69,13 +69,17 @@ fn frame_of<A: Allocator + Copy>(
     Ok(Frame::new(alloc, payload)?)
 }
 
-/// The payload of a put.
-fn put_payload<A: Allocator + Copy>(
+/// Returns the payload of a put, for which it asks for as many bytes. The pair has no fault.
+///
+/// # Errors
+/// Where the request was refused.
+pub fn put_payload<A: Allocator + Copy>(
     alloc: A,
     key: &[u8],
     value: i32,
 ) -> Result<Vec<u8, A>, AllocError>
     requires { fault key.now value ≡ None }
+    //= The payload of a put has that change, and 5 bytes more than the key. [with length]
     ensures change { IfOk result (λ payload. change_of payload.items ≡ Some (put_at key.now value)) }
     ensures alone { IfOk result (λ payload. changes_of payload.items ≡ Some (put_at key.now value ∷ [])) }
     ensures length { IfOk result (λ payload. length payload.items ≡ length key.now + 5) }
@@ -91,8 +95,12 @@ fn put_payload<A: Allocator + Copy>(
     Ok(payload)
 }
 
-/// The payload of an erasure.
-fn erase_payload<A: Allocator + Copy>(alloc: A, key: &[u8]) -> Result<Vec<u8, A>, AllocError>
+/// Returns the payload of an erasure, for which it asks for as many bytes.
+///
+/// # Errors
+/// Where the request was refused.
+pub fn erase_payload<A: Allocator + Copy>(alloc: A, key: &[u8]) -> Result<Vec<u8, A>, AllocError>
+    //= The payload of an erasure has that change, and one byte more than the key. [with length]
     ensures change { IfOk result (λ payload. change_of payload.items ≡ Some (erase_at key.now)) }
     ensures alone { IfOk result (λ payload. changes_of payload.items ≡ Some (erase_at key.now ∷ [])) }
     ensures length { IfOk result (λ payload. length payload.items ≡ length key.now + 1) }

@@ -15,5 +15,8 @@ mod words;
 
 pub use change::Change;
 pub use error::DurableError;
+// For whoever keeps the file by other means than a device.
+pub use frames::{erase_payload, put_payload};
+pub use replay::words_of;
 pub use store::{CedarStore, ReducedStore, Store};
 pub use words::{Made, Words};

@@ -19,11 +19,16 @@ pub(crate) const PUT: u8 = 1;
 pub(crate) const BATCH: u8 = 2;
 
 /// Returns the dictionary that a file's bytes stand for, and how far the file goes.
-pub(crate) fn words_of<T: Made<A>, A: Allocator>(
+///
+/// # Errors
+/// `Foreign` where the file is of another kind, `Corrupt` where a record is no change, `Refused` where memory or slots were refused.
+pub fn words_of<T: Made<A>, A: Allocator>(
     alloc: A,
     bytes: &[u8],
 ) -> Result<(T, Extent), DurableError>
     requires limit { T.limit }
+    //= A file's bytes are read as a dictionary, the one that they stand for; they are refused as foreign or corrupt just as by an opening. [with
+    //  extent, cause]
     ensures made { IfOk result (λ found. state_of bytes.now ≡ Some (T.state found.0)) }
     ensures extent { IfOk result (λ found. HasExtent bytes.now found.1) }
     ensures cause { IfErr result (λ error. LoadCause bytes.now error) }

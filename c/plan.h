@@ -1,0 +1,39 @@
+/* What the proved library tells the C beside it of a store's file (c/store.c). No program sees these calls: build-c keeps them inside. */
+#ifndef ROSKVIDH_PLAN_H
+#define ROSKVIDH_PLAN_H
+
+#include "cedar.h"
+
+enum { CEDAR_PLAN_CUT = 0, CEDAR_PLAN_WRITE = 1, CEDAR_PLAN_MOST = 4 };
+
+/* One step: the file is cut to its first `at` bytes; or `length` of the plan's bytes, from `from` on, are written at `at`. It is done once
+ * the disk has it. */
+typedef struct cedar_step {
+    uint32_t kind;
+    size_t at;
+    size_t from;
+    size_t length;
+} cedar_step;
+
+/* The steps are carried out one after another, and none behind one that failed: then what the file stands for isn't known until it is
+ * opened again. */
+typedef struct cedar_plan {
+    size_t count;
+    cedar_step steps[CEDAR_PLAN_MOST];
+} cedar_plan;
+
+/* How many bytes the plan of an opening has, and how many more than its key that of a change has at most. */
+enum { CEDAR_PLAN_OPENING = 14, CEDAR_PLAN_CHANGE = 11 };
+
+/* The bytes are those of the file, which was synced before it was read. Once the plan is carried out the records end at *end. */
+uint32_t cedar_plan_open(cedar_dictionary *d, bool is_reduced, const uint8_t *bytes, size_t length, size_t *end, uint8_t *buffer,
+                         size_t room, cedar_plan *plan);
+
+/* The change is made in the dictionary, and its plan is told: it is acknowledged once the plan is carried out. *end is where the records end
+ * before the plan, and then where they end behind it. Nothing is to be carried out of an erasure that answers CEDAR_OK and *held false. */
+uint32_t cedar_plan_put(cedar_dictionary *d, const uint8_t *key, size_t length, int32_t value, size_t *end, uint8_t *buffer, size_t room,
+                        cedar_plan *plan, bool *held, int32_t *before, size_t *position);
+uint32_t cedar_plan_erase(cedar_dictionary *d, const uint8_t *key, size_t length, size_t *end, uint8_t *buffer, size_t room,
+                          cedar_plan *plan, bool *held);
+
+#endif

@@ -1,0 +1,49 @@
+-- The dictionary of a store whose file somebody else keeps: what the plans say that its calls write down.
+use Rattle.std.specs.Prelude.{◌≡◌, ◌⊎◌, ℕ, ◌+◌, ◌<◌, ◌≤◌, ◌^◌, List, [], ◌∷◌, Some}
+use Rattle.cedar_disk.specs.Calls.{Call, opened, seen_after}
+use Rattle.cedar_plan.specs.Safety.{IsAtRest, Leaves}
+use Rattle.cedar_plan.specs.Works.{AreCarriedOut, Work, all_done}
+use Rattle.cedar_store.specs.Causes.{LoadCause}
+use Rattle.cedar_store.specs.Files.{IsEither, state_of}
+use Rattle.cedar_store.specs.declared.error.DurableError.{DurableError}
+use Rattle.cedar_store.specs.declared.error.DurableError.TheVariants as error
+use Rattle.cedarwood.specs.State.{State}
+use Rattle.cedar_c.specs.Status.{status_of}
+use Rattle.cedar_c.specs.declared.status.TheConstants.{OK, MEMORY, SLOT_LIMIT, NO_ROOM, OTHER, STORE_CORRUPT, STORE_FOREIGN, STORE_FULL, STORE_TOO_LONG}
+
+-- after these calls the file is at rest, its records end here, and it stands for this state of a dictionary
+pub record IsKept (calls : List Call) (end : ℕ) (s : State) : Type 0 where
+  pub rest : IsAtRest calls end
+  pub same : state_of (seen_after calls) ≡ Some s
+
+-- Works that change the state which a file stands for, and where its records end. A crash at any moment, also where one of them fails,
+-- leaves a file that stands for the one state or for the other.
+pub record IsChange (works : List Work) (from to : ℕ) (before after : State) : Type 0 where
+  pub kept : (calls : List Call) → IsKept calls from before → IsKept (all_done works calls) to after
+  pub any_moment : (calls later : List Call) → IsKept calls from before → AreCarriedOut works calls later → Leaves calls later (IsEither before after)
+
+-- Works that make a file of these bytes ready for changes, which was synced and then read. A crash at any moment, also where one of them
+-- fails, leaves a file that stands for the same state.
+pub record IsOpening (bytes : List ℕ) (works : List Work) (end : ℕ) (s : State) : Type 0 where
+  pub kept : IsKept (all_done works (opened bytes ∷ [])) end s
+  pub any_moment : (later : List Call) → AreCarriedOut works (opened bytes ∷ []) later → Leaves (opened bytes ∷ []) later (λ c. state_of c ≡ Some s)
+
+-- the number of why a file wasn't read as a dictionary
+abbrev pub store_status : DurableError → ℕ
+store_status error.Foreign = STORE_FOREIGN
+store_status error.Corrupt = STORE_CORRUPT
+store_status (error.Refused e) = status_of e
+store_status _ = OTHER
+
+-- the number says why a file of these bytes wasn't read as a dictionary
+abbrev pub TellsWhy : List ℕ → ℕ → Type 0
+TellsWhy bytes status = (e : DurableError) × LoadCause bytes e × (status ≡ store_status e)
+
+-- the number says why no record was made of a payload of n bytes, for a file whose records end here, in so many places
+abbrev pub LacksRecord : ℕ → ℕ → ℕ → ℕ → Type 0
+LacksRecord end n places status =
+    ((status ≡ STORE_FULL) × (2 ^ 60 ≤ end)) ⊎ ((status ≡ STORE_TOO_LONG) × (2 ^ 32 ≤ n)) ⊎ ((status ≡ NO_ROOM) × (places < n + 6)) ⊎ (status ≡ MEMORY)
+
+-- a change is done, or no record was made of it, or the dictionary was refused memory or slots
+abbrev pub LacksChange : ℕ → ℕ → ℕ → ℕ → Type 0
+LacksChange end n places status = (status ≡ OK) ⊎ (status ≡ SLOT_LIMIT) ⊎ LacksRecord end n places status

@@ -1,0 +1,324 @@
+//! The dictionary of a store, whose file C keeps (`c/store.c`): each call writes down a plan, and C carries it out before it acknowledges the
+//! change. These exports are the library's own, and no program sees them.
+
+ghost use Rattle.std.specs.Prelude.{◌≡◌, ◌≢◌, ◌⊎◌, ◌↔◌, ◌+◌, ◌<◌, ◌≤◌, ◌^◌, ◌++◌, ◌∷◌, ℕ, List, IfErr, IfOk, IfSome, IsFalse, IsSome, IsTrue, None, Some, length, option_map};
+ghost use Rattle.cedar_c.specs.Words.{IsChange, IsOpening, LacksChange, LacksRecord, TellsWhy, content, dictionary_in, erased, fault, layout_if};
+ghost use Rattle.cedar_c.specs.Words.{layout_in, layout_of, number_at, position_of, state_in, status_of, store_status, stored, tree_in, works_of};
+ghost use Rattle.cedar_journal.specs.Files.{HasExtent};
+ghost use Rattle.cedar_journal.specs.Records.{framed};
+ghost use Rattle.cedar_plan.specs.Works.{append_works, end_of};
+ghost use Rattle.cedar_store.specs.Causes.{LoadCause};
+ghost use Rattle.cedar_store.specs.Files.{state_of};
+
+use crate::any::AnyCedar;
+use crate::handle::Handle;
+use crate::records::{check_pair, place, write_erasure, write_put};
+use crate::status::{CLOSED, NO_ROOM, OK, OTHER, STORE_CORRUPT, STORE_FOREIGN, tell};
+use cedar_journal::{Extent, HEADER_LEN};
+use cedar_plan::{HEADER, Plan, plan_append, plan_opening};
+use cedar_store::{DurableError, words_of};
+use cedarwood::CedarError;
+use std::alloc::Global;
+
+/// Opens a handle with the dictionary that a file's bytes stand for, in the place of the one that it has, if it is open. The file was synced,
+/// and then read. It tells the plan by which the file is made ready, whose bytes it writes into the first places of a buffer, and where the
+/// records end then.
+///
+/// # Errors
+/// `NO_ROOM` where the buffer has fewer than 14 places, `STORE_FOREIGN` where the file is of another kind, `STORE_CORRUPT` where one of its
+/// records is no change, `MEMORY` and `SLOT_LIMIT`. Then the handle is as it was, and nothing is told.
+#[unsafe(no_mangle)]
+pub extern "C" fn cedar_plan_open(
+    handle: &mut Handle,
+    alloc: Global,
+    is_reduced: bool,
+    bytes: &[u8],
+    end: &mut usize,
+    buffer: &mut [u8],
+    plan: &mut Plan,
+) -> u32
+    //= A store that is opened has the dictionary that the file's bytes stand for, of the layout that was asked for. [with layout]
+    ensures stands { result ≡ OK → (state_of bytes.now ≡ state_in handle.new) × IsSome (content handle.new) }
+    ensures layout { result ≡ OK → layout_in handle.new ≡ Some (layout_if is_reduced) }
+
+    //= Once the plan of an opening is carried out, the file is at rest, on the disk, and stands for that dictionary. A crash at any moment,
+    //  also where a step fails, leaves a file that stands for it. [by IsOpening]
+    ensures ready { result ≡ OK → IfSome (state_in handle.new) (IsOpening bytes.now (works_of buffer.new plan.new) end.new) }
+
+    //= A file is refused by its number as foreign or corrupt just as by a store, or for want of memory or slots; then the handle has what it
+    //  had, and no plan is told. [with kept, told; by LoadCause]
+    ensures refused { (result ≡ OK) ⊎ ((result ≡ NO_ROOM) × (length buffer.old < 14)) ⊎ TellsWhy bytes.now result }
+    ensures kept { (result ≡ OK) ⊎ (content handle.new ≡ content handle.old) }
+    ensures told { (result ≡ OK) ⊎ ((end.new ≡ end.old) × (plan.new ≡ plan.old)) }
+{
+    if let Err(status) = place(&HEADER, buffer) {
+        return status;
+    }
+    match boxed(alloc, is_reduced, bytes) {
+        Ok((cedar, extent)) => {
+            let _ = handle.take(alloc);
+            *handle = Handle::of(cedar);
+            *end = end_of(extent);
+            *plan = plan_opening(extent);
+            OK
+        }
+        Err(error) => tell_unread(error),
+    }
+}
+
+/// Stores a value at a key, and tells whether the key was held before, and with which value. It writes the change's record into the first
+/// places of a buffer, whose other places may be written to as well, and tells the plan by which that is appended where the records end;
+/// then they end elsewhere.
+///
+/// # Errors
+/// `CLOSED`, and the number of the pair's first fault; `STORE_FULL` where the records end behind 2^60 bytes; `STORE_TOO_LONG` where the key
+/// has 2^32 - 5 bytes or more; `NO_ROOM` where the buffer has fewer places than the key has bytes and 11 more; `MEMORY` and `SLOT_LIMIT`. Then
+/// the dictionary holds what it held, and nothing is told.
+#[unsafe(no_mangle)]
+pub extern "C" fn cedar_plan_put(
+    handle: &mut Handle,
+    alloc: Global,
+    key: &[u8],
+    value: i32,
+    end: &mut usize,
+    buffer: &mut [u8],
+    plan: &mut Plan,
+    held: &mut bool,
+    before: &mut i32,
+    position: &mut usize,
+) -> u32
+    //= A change of a store answers `CLOSED` exactly if the handle is closed. [also cedar_plan_erase]
+    ensures closed { (result ≡ CLOSED) ↔ (content handle.old ≡ None) }
+
+    //= A put that answers `OK` has stored the value, and tells whether the key was held, and with which value; after an error the tree is as it
+    //  was, and nothing is told. [with kept, held, before, untold, layout]
+    ensures stored { result ≡ OK → state_in handle.new ≡ option_map (λ s. stored s key.now value) (state_in handle.old) }
+    ensures kept { (result ≡ OK) ⊎ (state_in handle.new ≡ state_in handle.old) }
+    ensures held { result ≡ OK → IsTrue held.new ↔ IsSome (number_at (tree_in handle.old) key.now) }
+    ensures before { result ≡ OK → IfSome (number_at (tree_in handle.old) key.now) (λ v. before.new ≡ v) }
+    ensures untold { (result ≡ OK) ⊎ ((held.new ≡ held.old) × (before.new ≡ before.old) × (end.new ≡ end.old) × (plan.new ≡ plan.old)) }
+    ensures layout { layout_in handle.new ≡ layout_in handle.old }
+
+    //= Once the plan of a put is carried out, a file that stood for the dictionary from before it stands for the one with it, on the disk. A
+    //  crash at any moment, also where a step fails, leaves the one or the other. [by IsChange]
+    ensures planned { result ≡ OK → IfSome (state_in handle.old) (λ s. IsChange (works_of buffer.new plan.new) end.old end.new s (stored s key.now value)) }
+
+    //= A put answers the number of the pair's first fault, with the place of a byte 0; else it is refused only where the records end too far
+    //  back, the record is too long or finds no room, or for want of memory or slots. [with refused]
+    ensures faulty { IsSome (content handle.old) → IfSome (fault key.now value) (λ e. (result ≡ status_of e) × (position.new ≡ position_of position.old e)) }
+    ensures refused { IsSome (content handle.old) → fault key.now value ≡ None → LacksChange end.old (length key.now + 5) (length buffer.old) result }
+{
+    if !handle.is_open() {
+        return CLOSED;
+    }
+    handle.held.lend().plan_put(alloc, key, value, end, buffer, plan, held, before, position)
+}
+
+/// Removes a key, and tells whether it was held; if it was, it writes and tells as `cedar_plan_put` does. Else nothing changes, and there is
+/// no plan.
+///
+/// # Errors
+/// `CLOSED`; `STORE_FULL`, `STORE_TOO_LONG`, `NO_ROOM` and `MEMORY` as of `cedar_plan_put`, of a record that is 4 bytes shorter. Then the
+/// dictionary holds what it held, and nothing is told.
+#[unsafe(no_mangle)]
+pub extern "C" fn cedar_plan_erase(
+    handle: &mut Handle,
+    alloc: Global,
+    key: &[u8],
+    end: &mut usize,
+    buffer: &mut [u8],
+    plan: &mut Plan,
+    held: &mut bool,
+) -> u32
+    ensures closed { (result ≡ CLOSED) ↔ (content handle.old ≡ None) }
+
+    //= An erasure that answers `OK` tells whether the key was held, and has removed it; after an error, and where the key wasn't held, the tree
+    //  is as it was. [with missed, kept, held, untold, layout]
+    ensures erased { result ≡ OK → IsTrue held.new → state_in handle.new ≡ option_map (λ s. erased s key.now) (state_in handle.old) }
+    ensures missed { result ≡ OK → IsFalse held.new → (state_in handle.new ≡ state_in handle.old) × (end.new ≡ end.old) × (plan.new ≡ plan.old) }
+    ensures kept { (result ≡ OK) ⊎ (state_in handle.new ≡ state_in handle.old) }
+    ensures held { result ≡ OK → IsTrue held.new ↔ IsSome (number_at (tree_in handle.old) key.now) }
+    ensures untold { (result ≡ OK) ⊎ ((held.new ≡ held.old) × (end.new ≡ end.old) × (plan.new ≡ plan.old)) }
+    ensures layout { layout_in handle.new ≡ layout_in handle.old }
+
+    //= Once the plan of an erasure is carried out, a file that stood for the dictionary from before it stands for the one without the key, on
+    //  the disk. A crash at any moment, also where a step fails, leaves the one or the other. [by IsChange]
+    ensures planned { result ≡ OK → IsTrue held.new
+        → IfSome (state_in handle.old) (λ s. IsChange (works_of buffer.new plan.new) end.old end.new s (erased s key.now)) }
+
+    //= An erasure is refused only where the records end too far back, the record is too long or finds no room, or for want of memory.
+    ensures refused { IsSome (content handle.old) → (result ≡ OK) ⊎ LacksRecord end.old (length key.now + 1) (length buffer.old) result }
+{
+    if !handle.is_open() {
+        return CLOSED;
+    }
+    handle
+        .held
+        .lend()
+        .plan_erase(alloc, key, end, buffer, plan, held)
+}
+
+/// The number of why a file wasn't read as a dictionary.
+fn tell_unread(error: DurableError) -> u32
+    ensures { result ≡ store_status error }
+{
+    match error {
+        DurableError::Foreign => STORE_FOREIGN,
+        DurableError::Corrupt => STORE_CORRUPT,
+        DurableError::Refused(error) => {
+            let mut position = 0;
+            tell(error, &mut position)
+        }
+        _ => OTHER,
+    }
+}
+
+/// Where the records of a file end once it is opened that goes as far as this.
+fn end_of(extent: Extent) -> usize
+    ensures { result ≡ end_of extent }
+{
+    match extent {
+        Extent::New => HEADER_LEN,
+        Extent::Until(end) => end,
+    }
+}
+
+/// The dictionary that a file's bytes stand for, on the heap, and how far the file goes.
+fn boxed(
+    alloc: Global,
+    is_reduced: bool,
+    bytes: &[u8],
+) -> Result<(Box<AnyCedar, Global>, Extent), DurableError>
+    ensures stands { IfOk result (λ found. state_of bytes.now ≡ Some (dictionary_in found.0.value).state) }
+    ensures extent { IfOk result (λ found. HasExtent bytes.now found.1) }
+    ensures layout { IfOk result (λ found. layout_of found.0.value ≡ layout_if is_reduced) }
+    ensures cause { IfErr result (λ e. LoadCause bytes.now e) }
+{
+    match AnyCedar::replayed(alloc, is_reduced, bytes) {
+        Ok((cedar, extent)) => match Box::new(alloc, cedar) {
+            Ok(cedar) => Ok((cedar, extent)),
+            Err(_) => Err(DurableError::Refused(CedarError::Memory)),
+        },
+        Err(error) => Err(error),
+    }
+}
+
+impl AnyCedar {
+    /// The dictionary that a file's bytes stand for, and how far the file goes.
+    #[tactic(auto, using(cedarwood::proofs::DictionaryLemmas::default_limit))]
+    fn replayed(
+        alloc: Global,
+        is_reduced: bool,
+        bytes: &[u8],
+    ) -> Result<(AnyCedar, Extent), DurableError>
+        ensures stands { IfOk result (λ found. state_of bytes.now ≡ Some (dictionary_in found.0).state) }
+        ensures extent { IfOk result (λ found. HasExtent bytes.now found.1) }
+        ensures layout { IfOk result (λ found. layout_of found.0 ≡ layout_if is_reduced) }
+        ensures cause { IfErr result (λ e. LoadCause bytes.now e) }
+    {
+        if is_reduced {
+            match words_of(alloc, bytes) {
+                Ok((cedar, extent)) => Ok((AnyCedar::Reduced(cedar), extent)),
+                Err(error) => Err(error),
+            }
+        } else {
+            match words_of(alloc, bytes) {
+                Ok((cedar, extent)) => Ok((AnyCedar::Default(cedar), extent)),
+                Err(error) => Err(error),
+            }
+        }
+    }
+
+    /// As `cedar_plan_put`, of an open handle.
+    fn plan_put(
+        &mut self,
+        alloc: Global,
+        key: &[u8],
+        value: i32,
+        end: &mut usize,
+        buffer: &mut [u8],
+        plan: &mut Plan,
+        held: &mut bool,
+        before: &mut i32,
+        position: &mut usize,
+    ) -> u32
+        ensures open { result ≢ CLOSED }
+        ensures stored { result ≡ OK → (dictionary_in self.new).state ≡ stored (dictionary_in self.old).state key.now value }
+        ensures kept { (result ≡ OK) ⊎ ((dictionary_in self.new).state ≡ (dictionary_in self.old).state) }
+        ensures held { result ≡ OK → IsTrue held.new ↔ IsSome (number_at (dictionary_in self.old).state.tree key.now) }
+        ensures before { result ≡ OK → IfSome (number_at (dictionary_in self.old).state.tree key.now) (λ v. before.new ≡ v) }
+        ensures untold { (result ≡ OK) ⊎ ((held.new ≡ held.old) × (before.new ≡ before.old) × (end.new ≡ end.old) × (plan.new ≡ plan.old)) }
+        ensures layout { layout_of self.new ≡ layout_of self.old }
+        ensures planned { result ≡ OK → IsChange (works_of buffer.new plan.new) end.old end.new (dictionary_in self.old).state (stored (dictionary_in self.old).state key.now value) }
+        ensures faulty { IfSome (fault key.now value) (λ e. (result ≡ status_of e) × (position.new ≡ position_of position.old e)) }
+        ensures refused { fault key.now value ≡ None → LacksChange end.old (length key.now + 5) (length buffer.old) result }
+    {
+        if let Err(error) = check_pair(key, value) {
+            return tell(error, position);
+        }
+        let size = match write_put(alloc, *end, key, value, buffer) {
+            Ok(size) => size,
+            Err(status) => return status,
+        };
+        match self.insert_bytes(key, value) {
+            Ok(number) => {
+                *held = number.is_some();
+                if let Some(number) = number {
+                    *before = number;
+                }
+                go_on(size, end, plan);
+                OK
+            }
+            Err(error) => tell(error, position),
+        }
+    }
+
+    /// As `cedar_plan_erase`, of an open handle.
+    fn plan_erase(
+        &mut self,
+        alloc: Global,
+        key: &[u8],
+        end: &mut usize,
+        buffer: &mut [u8],
+        plan: &mut Plan,
+        held: &mut bool,
+    ) -> u32
+        ensures open { result ≢ CLOSED }
+        ensures erased { result ≡ OK → IsTrue held.new → (dictionary_in self.new).state ≡ erased (dictionary_in self.old).state key.now }
+        ensures missed { result ≡ OK → IsFalse held.new → ((dictionary_in self.new).state ≡ (dictionary_in self.old).state) × (end.new ≡ end.old) × (plan.new ≡ plan.old) }
+        ensures kept { (result ≡ OK) ⊎ ((dictionary_in self.new).state ≡ (dictionary_in self.old).state) }
+        ensures held { result ≡ OK → IsTrue held.new ↔ IsSome (number_at (dictionary_in self.old).state.tree key.now) }
+        ensures untold { (result ≡ OK) ⊎ ((held.new ≡ held.old) × (end.new ≡ end.old) × (plan.new ≡ plan.old)) }
+        ensures layout { layout_of self.new ≡ layout_of self.old }
+        ensures planned { result ≡ OK → IsTrue held.new
+            → IsChange (works_of buffer.new plan.new) end.old end.new (dictionary_in self.old).state (erased (dictionary_in self.old).state key.now) }
+        ensures refused { (result ≡ OK) ⊎ LacksRecord end.old (length key.now + 1) (length buffer.old) result }
+    {
+        if !self.contains_key_bytes(key) {
+            *held = false;
+            return OK;
+        }
+        match write_erasure(alloc, *end, key, buffer) {
+            Ok(size) => {
+                self.erase_bytes(key);
+                go_on(size, end, plan);
+                *held = true;
+                OK
+            }
+            Err(status) => status,
+        }
+    }
+}
+
+/// Tells the plan by which a record of so many bytes is appended where the records end, and moves that behind it.
+fn go_on(size: usize, end: &mut usize, plan: &mut Plan)
+    requires room { end.old < 2 ^ 60 }
+    requires record { 6 ≤ size }
+    requires short { size < 2 ^ 33 }
+    ensures planned { (payload : List ℕ) (rest : List ℕ) → size ≡ 6 + length payload
+        → works_of ((1 ∷ framed payload) ++ rest) plan.new ≡ append_works end.old payload }
+    ensures end { end.new + 1 ≡ end.old + size }
+{
+    *plan = plan_append(*end, size);
+    *end += size - 1;
+}

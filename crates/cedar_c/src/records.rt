@@ -1,0 +1,139 @@
+//! The records of changes, written into a buffer of the caller's.
+
+ghost use Rattle.std.specs.Prelude.{◌==◌, ◌≡◌, ◌+◌, ◌<◌, ◌^◌, ◌++◌, ◌∷◌, ℕ, IfErr, IfOk, IfSome, IsOk, List, None, OnOk, length, position};
+ghost use Rattle.cedar_c.specs.Changes.{IsRecord};
+ghost use Rattle.cedar_c.specs.Words.{LacksRecord, fault};
+ghost use Rattle.cedarwood.specs.Words.{key_fault, value_fault};
+ghost use Rattle.cedar_journal.specs.Records.{framed};
+ghost use Rattle.cedar_store.specs.Changes.{erase_at, put_at};
+
+use crate::save::copy_whole;
+use crate::status::{MEMORY, NO_ROOM, OK, STORE_FULL, STORE_TOO_LONG};
+use cedar_journal::{FrameError, MAX_END};
+use cedar_plan::record_of;
+use cedar_store::{erase_payload, put_payload};
+use cedarwood::{CedarError, MAX_VALUE, MIN_VALUE};
+use std::alloc::Global;
+
+/// Writes the record of a put into the first places of a buffer, for a file whose records end here, and returns how many bytes it has. The
+/// pair has no fault.
+///
+/// # Errors
+/// The number of why there is none: the records end too far back, the payload is too long, the buffer is too short, or a request for memory
+/// was refused.
+pub(crate) fn write_put(
+    alloc: Global,
+    end: usize,
+    key: &[u8],
+    value: i32,
+    buffer: &mut [u8],
+) -> Result<usize, u32>
+    requires { fault key.now value ≡ None }
+    ensures written { IfOk result (λ size. IsRecord (put_at key.now value) end (length key.now + 5) size buffer.new) }
+    ensures refused { IfErr result (λ status. LacksRecord end (length key.now + 5) (length buffer.old) status) }
+{
+    match put_payload(alloc, key, value) {
+        Ok(payload) => match write_record(alloc, end, &payload, buffer) {
+            Ok(size) => Ok(size),
+            Err(status) => Err(status),
+        },
+        Err(_) => Err(MEMORY),
+    }
+}
+
+/// As `write_put`, of an erasure.
+pub(crate) fn write_erasure(
+    alloc: Global,
+    end: usize,
+    key: &[u8],
+    buffer: &mut [u8],
+) -> Result<usize, u32>
+    ensures written { IfOk result (λ size. IsRecord (erase_at key.now) end (length key.now + 1) size buffer.new) }
+    ensures refused { IfErr result (λ status. LacksRecord end (length key.now + 1) (length buffer.old) status) }
+{
+    match erase_payload(alloc, key) {
+        Ok(payload) => match write_record(alloc, end, &payload, buffer) {
+            Ok(size) => Ok(size),
+            Err(status) => Err(status),
+        },
+        Err(_) => Err(MEMORY),
+    }
+}
+
+/// Writes the record of a payload into the first places of a buffer, for a file whose records end here.
+fn write_record(alloc: Global, end: usize, payload: &[u8], buffer: &mut [u8]) -> Result<usize, u32>
+    ensures size { IfOk result (λ size. size ≡ 6 + length payload.now) }
+    ensures short { OnOk result (length payload.now < 2 ^ 32) }
+    ensures room { OnOk result (end < 2 ^ 60) }
+    ensures written { OnOk result ((rest : List ℕ) × (buffer.new ≡ (1 ∷ framed payload.now) ++ rest)) }
+    ensures refused { IfErr result (λ status. LacksRecord end (length payload.now) (length buffer.old) status) }
+{
+    if end >= MAX_END {
+        return Err(STORE_FULL);
+    }
+    match record_of(alloc, payload) {
+        Ok(record) => match place(&record, buffer) {
+            Ok(()) => Ok(record.len()),
+            Err(status) => Err(status),
+        },
+        Err(FrameError::TooLong) => Err(STORE_TOO_LONG),
+        Err(FrameError::Memory) => Err(MEMORY),
+    }
+}
+
+/// Writes some bytes into the first places of a buffer.
+///
+/// # Errors
+/// `NO_ROOM` where the buffer has fewer places.
+pub(crate) fn place(bytes: &[u8], buffer: &mut [u8]) -> Result<(), u32>
+    ensures written { OnOk result ((rest : List ℕ) × (buffer.new ≡ bytes.now ++ rest)) }
+    ensures refused { IfErr result (λ status. (status ≡ NO_ROOM) × (length buffer.old < length bytes.now)) }
+{
+    let mut needed = 0;
+    match copy_whole(bytes, buffer, &mut needed) {
+        OK => Ok(()),
+        _ => Err(NO_ROOM),
+    }
+}
+
+/// Tests a pair: its key, and then its value.
+pub(crate) fn check_pair(key: &[u8], value: i32) -> Result<(), CedarError>
+    ensures faulty { IfSome (fault key.now value) (λ e. result ≡ Err e) }
+    ensures sound { fault key.now value ≡ None → IsOk result }
+{
+    check_key(key)?;
+    check_value(value)
+}
+
+/// Tests that a key has a byte or more, and no byte 0.
+fn check_key(key: &[u8]) -> Result<(), CedarError>
+    ensures faulty { IfSome (key_fault key.now) (λ e. result ≡ Err e) }
+    ensures sound { key_fault key.now ≡ None → IsOk result }
+{
+    if key.is_empty() {
+        return Err(CedarError::EmptyKey);
+    }
+    match nul_position(key) {
+        Some(position) => Err(CedarError::NulByte { position }),
+        None => Ok(()),
+    }
+}
+
+/// Where a key's first byte 0 stands.
+fn nul_position(key: &[u8]) -> Option<usize>
+    ensures { result ≡ position (λ byte. byte == 0) key.now }
+{
+    key.iter().position(|byte| *byte == 0)
+}
+
+/// Tests that a number can be stored.
+fn check_value(value: i32) -> Result<(), CedarError>
+    ensures faulty { IfSome (value_fault value) (λ e. result ≡ Err e) }
+    ensures sound { value_fault value ≡ None → IsOk result }
+{
+    if (MIN_VALUE..=MAX_VALUE).contains(&value) {
+        Ok(())
+    } else {
+        Err(CedarError::InvalidValue { value })
+    }
+}

@@ -1,0 +1,3 @@
+pub mod Plans
+pub mod Safety
+pub mod Works

@@ -1,0 +1,23 @@
+-- What the steps of a plan say.
+use Rattle.std.specs.Prelude.{ℕ, ◌==◌, if◌then◌else◌, List, [], ◌∷◌, take, drop, map}
+use Rattle.cedar_journal.specs.Files.{magic}
+use Rattle.cedar_journal.specs.Records.{framed}
+use Rattle.cedar_plan.specs.Works.{Work, cut_to, write_to}
+use Rattle.cedar_plan.specs.declared.plan.Plan.{Plan}
+use Rattle.cedar_plan.specs.declared.plan.Step.{Step}
+use Rattle.cedar_plan.specs.declared.plan.TheConstants.{CUT}
+
+-- the first record of a journal, and the closed gate behind it
+abbrev pub header : List ℕ
+header = 1 ∷ framed magic
+
+-- what a step does whose plan has these bytes
+abbrev pub work_of : List ℕ → Step → Work
+work_of bytes s = if s.kind == CUT then cut_to s.at else write_to s.at (take s.length (drop s.from bytes))
+
+abbrev pub steps_of : Plan → List Step
+steps_of p = take p.count (p.first ∷ p.second ∷ p.third ∷ p.fourth ∷ [])
+
+-- what a plan of these bytes does
+abbrev pub works_of : List ℕ → Plan → List Work
+works_of bytes p = map (work_of bytes) (steps_of p)

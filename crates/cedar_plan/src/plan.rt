@@ -1,0 +1,128 @@
+//! Plans: the steps by which a file is opened, and by which a record is appended.
+
+ghost use Rattle.std.specs.Prelude.{◌≡◌, ◌+◌, ◌<◌, ◌^◌, ◌++◌, ◌∷◌, List, length, ℕ};
+ghost use Rattle.cedar_journal.specs.Records.{framed};
+ghost use Rattle.cedar_plan.specs.Plans.{header, works_of};
+ghost use Rattle.cedar_plan.specs.Works.{append_works, opening_works};
+
+use cedar_journal::Extent;
+
+/// The kind of a step that cuts the file to its first `at` bytes, and waits until the disk has that.
+pub const CUT: u32 = 0;
+
+/// The kind of a step that writes bytes from the byte `at` on, and waits until the disk has them.
+pub const WRITE: u32 = 1;
+
+/// The record that each journal begins with, its gate open, and the closed gate behind it.
+pub const HEADER: [u8; 14] = *b"\x01\x08\0\0\0CEDARJ\0\0\0";
+
+/// One step. What is written are `length` of the plan's bytes from `from` on.
+#[repr(C)]
+#[derive(Clone, Copy, Debug, PartialEq, Eq)]
+pub struct Step {
+    pub kind: u32,
+    pub at: usize,
+    pub from: usize,
+    pub length: usize,
+}
+
+/// What stands in a plan behind its last step.
+const NOTHING: Step = Step {
+    kind: CUT,
+    at: 0,
+    from: 0,
+    length: 0,
+};
+
+/// The first `count` of its steps, to be carried out one after another.
+#[repr(C)]
+#[derive(Clone, Copy, Debug, PartialEq, Eq)]
+pub struct Plan {
+    pub count: usize,
+    pub first: Step,
+    pub second: Step,
+    pub third: Step,
+    pub fourth: Step,
+}
+
+/// The plan by which a file that goes as far as this is opened, whose bytes begin with those of `HEADER`: what a crash has left behind the whole
+/// records is cut off, and a closed gate is written there; a new file gets its header.
+pub fn plan_opening(extent: Extent) -> Plan
+    //= The plan of an opening cuts the file behind its whole records and writes a closed gate there; of a new file it leaves only the header.
+    ensures { (rest : List ℕ) → works_of (header ++ rest) result ≡ opening_works extent }
+{
+    match extent {
+        Extent::New => Plan {
+            count: 4,
+            first: Step {
+                kind: CUT,
+                at: 0,
+                from: 0,
+                length: 0,
+            },
+            second: Step {
+                kind: WRITE,
+                at: 0,
+                from: 13,
+                length: 1,
+            },
+            third: Step {
+                kind: WRITE,
+                at: 1,
+                from: 1,
+                length: 13,
+            },
+            fourth: Step {
+                kind: WRITE,
+                at: 0,
+                from: 0,
+                length: 1,
+            },
+        },
+        Extent::Until(end) => Plan {
+            count: 2,
+            first: Step {
+                kind: CUT,
+                at: end,
+                from: 0,
+                length: 0,
+            },
+            second: Step {
+                kind: WRITE,
+                at: end,
+                from: 13,
+                length: 1,
+            },
+            third: NOTHING,
+            fourth: NOTHING,
+        },
+    }
+}
+
+/// The plan by which a record is appended where the records end. Its bytes begin with the record, as `record_of` makes it, which has so
+/// many bytes.
+pub fn plan_append(end: usize, size: usize) -> Plan
+    requires room { end < 2 ^ 60 }
+    requires some { 0 < size }
+    //= The plan of a record writes it behind the closed gate, and then opens that.
+    ensures { (payload : List ℕ) (rest : List ℕ) → size ≡ 6 + length payload
+        → works_of ((1 ∷ framed payload) ++ rest) result ≡ append_works end payload }
+{
+    Plan {
+        count: 2,
+        first: Step {
+            kind: WRITE,
+            at: end + 1,
+            from: 1,
+            length: size - 1,
+        },
+        second: Step {
+            kind: WRITE,
+            at: end,
+            from: 0,
+            length: 1,
+        },
+        third: NOTHING,
+        fourth: NOTHING,
+    }
+}

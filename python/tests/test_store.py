@@ -1,0 +1,171 @@
+"""Stores: changes that are there when the file is opened again, beside a dict; refused files; a disk that fails; processes that are killed."""
+
+import pickle
+import random
+import signal
+import subprocess
+import sys
+import tempfile
+import threading
+import unittest
+from pathlib import Path
+
+from roskvidh import MAX_VALUE, Cedar, CedarError, Store
+
+# Stores numbers from 0 on at their own names, and writes each once it is acknowledged.
+WRITES = """
+import sys
+from roskvidh import Store
+with Store(sys.argv[1], reduced=sys.argv[2] == "1") as s:
+    for number in range(len(s), 10**9):
+        s[str(number).encode()] = number
+        print(number, flush=True)
+"""
+
+# Stores numbers until the file may not grow any more.
+FAILS = """
+import resource, signal, sys
+from roskvidh import CedarError, Store
+signal.signal(signal.SIGXFSZ, signal.SIG_IGN)
+resource.setrlimit(resource.RLIMIT_FSIZE, (200, 200))
+s = Store(sys.argv[1])
+try:
+    for number in range(100):
+        s[b"%d" % number] = number
+except OSError as error:
+    assert error.errno and s.failed and s[b"%d" % number] == number
+try:
+    s[b"x"] = 1
+except CedarError as refused:
+    print(number, refused.status, b"x" in s)
+"""
+
+
+class Stores(unittest.TestCase):
+    def setUp(self):
+        folder = tempfile.TemporaryDirectory()
+        self.addCleanup(folder.cleanup)
+        self.path = Path(folder.name) / "words.store"
+
+    def test_opened_again(self):
+        chance = random.Random(5)
+        for text in (False, True):
+            for reduced in (False, True):
+                self.path.unlink(missing_ok=True)
+                plain, s = {}, Store(self.path, text=text, reduced=reduced)
+                for number in range(300):
+                    letters = "".join(chance.choices("abß", k=chance.randint(1, 4)))
+                    key = letters if text else letters.encode()
+                    if chance.random() < 0.3:
+                        self.assertEqual(s.pop(key, None), plain.pop(key, None))
+                    elif chance.random() < 0.1:
+                        self.assertEqual(s.setdefault(key, number), plain.setdefault(key, number))
+                    else:
+                        s[key] = plain[key] = number
+                    if chance.random() < 0.02:
+                        s.close()
+                        s = Store(str(self.path), text=text, reduced=not s.reduced)
+                self.assertEqual((s, len(s), list(s.items()), s.failed), (plain, len(plain), sorted(plain.items()), False))
+                prefix = "a" if text else b"a"
+                self.assertEqual(list(s.keys(prefix)), sorted(key for key in plain if key.startswith(prefix)))
+                s.close()
+                with Store(self.path, text=text, reduced=reduced) as again:
+                    self.assertEqual((again, again.reduced, again.text), (plain, reduced, text))
+
+    def test_many_keys(self):
+        with Store(self.path) as s:
+            s.update({b"net": 7, b"nets": 8})
+            s.update([(b"ten", MAX_VALUE)])
+            self.assertEqual((s.erase_prefix(b"ne"), dict(s)), (2, {b"ten": MAX_VALUE}))
+            with self.assertRaises(CedarError):
+                s.update([(b"a", 1), (b"", 2), (b"b", 3)])
+            self.assertEqual(dict(s), {b"a": 1, b"ten": MAX_VALUE})
+            self.assertEqual((type(s.copy()), s.copy() == s, s | {b"b": 2}), (Cedar, True, {b"a": 1, b"b": 2, b"ten": MAX_VALUE}))
+            self.assertEqual(({b"b": 2} | s, repr(s)[:7]), ({b"a": 1, b"b": 2, b"ten": MAX_VALUE}, "Store('"))
+            s.shrink()
+            s.reserve(3)
+            popped = dict([s.popitem()])
+            s |= popped
+            self.assertEqual(len(s), 2)
+            s.clear()
+            with self.assertRaises(KeyError):
+                s.popitem()
+        with Store(self.path, text=True) as s:
+            s.update(net=7)
+            self.assertEqual(dict(s), {"net": 7})
+
+    def test_errors(self):
+        with Store(self.path) as s:
+            s[b"net"] = 7
+            for key, value, error in [(b"", 1, CedarError), (b"a\0", 1, CedarError), (b"a", -1, CedarError), ("a", 1, TypeError), (b"a", True, TypeError)]:
+                with self.assertRaises(error):
+                    s[key] = value
+            with self.assertRaises(KeyError):
+                del s[b"ten"]
+            for call in (lambda: pickle.dumps(s), lambda: Cedar.update(s, {b"a": 1}), lambda: Cedar.clear(s), lambda: s.__init__(self.path)):
+                with self.assertRaises((TypeError, ValueError)):
+                    call()
+            with self.assertRaises(RuntimeError):
+                for key in s:
+                    s[key + b"s"] = 8
+        with self.assertRaises(ValueError):
+            s[b"net"] = 8
+        with self.assertRaises(ValueError):
+            s.failed
+        self.assertEqual((repr(s), s.closed), ("<Store, closed>", True))
+
+    def test_refused_files(self):
+        for data, status in [(b"no store at all", 40), (b"\1\x08\0\0\0CEDARJ\0\0\1\1\0\0\0\7", 41)]:
+            self.path.write_bytes(data)
+            with self.assertRaises(CedarError) as caught:
+                Store(self.path)
+            self.assertEqual((caught.exception.status, self.path.read_bytes()), (status, data))
+        with self.assertRaises(IsADirectoryError):
+            Store(self.path.parent)
+        with self.assertRaises(FileNotFoundError):
+            Store(self.path.parent / "none" / "x")
+        self.path.unlink()
+        with Store(self.path) as s:
+            s[b"\xff"] = 1
+        with self.assertRaises(ValueError):
+            Store(self.path, text=True)
+
+    def test_a_disk_that_fails(self):
+        """The file may not grow past a limit: a change fails, and what was acknowledged stays."""
+        run = subprocess.run([sys.executable, "-c", FAILS, str(self.path)], stdout=subprocess.PIPE, text=True, check=True)
+        number, status, held = run.stdout.split()
+        self.assertEqual((status, held), ("43", "False"))
+        with Store(self.path) as s:
+            self.assertIn(len(s), (int(number), int(number) + 1))
+            self.assertEqual(dict(s), {b"%d" % i: i for i in range(len(s))})
+
+    def test_killed(self):
+        for turn in range(6):
+            child = subprocess.Popen([sys.executable, "-c", WRITES, str(self.path), str(turn % 2)], stdout=subprocess.PIPE, text=True)
+            told = [int(child.stdout.readline()) for _ in range(random.Random(turn).randint(1, 30))]
+            child.send_signal(signal.SIGKILL)
+            told += [int(line) for line in child.stdout.read().splitlines() if line.isdigit()]
+            child.stdout.close()
+            child.wait()
+            with Store(self.path) as s:
+                # The last line may be cut off.
+                self.assertGreater(len(s), max(told[:-1], default=-1))
+                self.assertEqual(dict(s), {str(number).encode(): number for number in range(len(s))})
+
+    def test_threads(self):
+        with Store(self.path) as s:
+            def store(first):
+                for number in range(first, first + 50):
+                    s[b"%d" % number] = number
+            threads = [threading.Thread(target=store, args=(first,)) for first in range(0, 200, 50)]
+            for thread in threads:
+                thread.start()
+            for thread in threads:
+                thread.join()
+            self.assertEqual(len(s), 200)
+        with Store(self.path) as s:
+            self.assertEqual(dict(s), {b"%d" % number: number for number in range(200)})
+
+
+if __name__ == "__main__":
+    unittest.main()
