@@ -1,11 +1,12 @@
 #!/usr/bin/env python3
-"""benches/durable.py [--folder FOLDER] [--rounds N] [--changes N]: changes a second of a dictionary on a disk, one by one and in batches, and how
-long a file of many changes takes to open, beside SQLite with the same promise: a change that was acknowledged is on the disk.
+"""benches/durable.py [--folder FOLDER] [--rounds N] [--changes N]: changes a second of a dictionary on a disk, one by one and in
+batches, and how long a file of many changes takes to open, beside SQLite with the same promise: a change that was acknowledged is on the
+disk.
 
-The dictionary is that of crates/kill_run, which has to be built (./test builds it); SQLite is Python's own, with its journal as WAL and
-synchronous FULL, a commit for each change or batch, and one table of keys and values. Both make the same changes. They are measured in turn,
-and a line tells the median, the least and the greatest of the rounds. Each file is made anew in FOLDER (by default benches/out, on the disk
-of this checkout), and removed."""
+The dictionary is that of crates/kill_run, which has to be built (./test builds it). SQLite is Python's own, with its journal as WAL and
+synchronous FULL, a commit for each change or batch, and one table of keys and values. Both make the same changes. They are measured in
+turn, and a line tells the median, the least and the greatest of the rounds. Each file is made anew in FOLDER (by default benches/out, on
+the disk of this checkout), and removed."""
 
 import argparse
 import os

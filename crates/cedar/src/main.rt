@@ -1,35 +1,88 @@
 //! The program `cedar`: it answers the script on standard input.
 #![tactic(auto)]
 
-use cedar_cli::{FAULT, USAGE, USAGE_LINE, run_program};
+mod explained;
+mod named;
+mod texts;
+
+use cedar_cli::{DONE, FAULT, USAGE, USAGE_LINE, run_program};
 use cedarwood::Watched;
+use explained::Explained;
+use named::Named;
 use std::alloc::{AllocError, Global};
 use std::env;
 use std::io::{BufWriter, Stderr, Write};
 use std::process::ExitCode;
+use texts::{HELP, VERSION};
 
 fn main(rt: HostRuntime) -> ExitCode {
-    let mut errors = Watched::new(rt.stderr());
     let Ok(arguments) = env::args(&rt) else {
+        let mut errors = Watched::new(rt.stderr());
         let _ = errors.write_all(USAGE_LINE.as_bytes());
         return ExitCode::from(USAGE);
     };
-    let words: Vec<String> = match arguments.skip(1).collect(rt.alloc()) {
+    let words: Vec<String> = match arguments.collect(rt.alloc()) {
         Ok(words) => words,
-        Err(AllocError) => return out_of_memory(&mut errors),
+        Err(AllocError) => return out_of_memory(&rt),
     };
-    let (Ok(arguments), Ok(output)) = (
-        texts(rt.alloc(), &words),
-        BufWriter::new(rt.alloc(), rt.stdout()),
-    ) else {
-        return out_of_memory(&mut errors);
+    match texts_of(rt.alloc(), &words) {
+        Ok(texts) => answer(&rt, &texts),
+        Err(AllocError) => out_of_memory(&rt),
+    }
+}
+
+/// Does what the arguments ask for, the first of which is the program's name.
+fn answer(rt: &HostRuntime, texts: &[&str]) -> ExitCode {
+    let (name, arguments) = match texts.split_first() {
+        Some((name, arguments)) => (*name, arguments),
+        None => ("cedar", texts),
     };
-    let mut reader = Watched::new(rt.stdin());
+    if is_alone(arguments, "--help") {
+        return print(rt, HELP);
+    }
+    if is_alone(arguments, "--version") {
+        return print(rt, VERSION);
+    }
+    answer_script(rt, name.ends_with("cedar-reduced"), arguments)
+}
+
+/// Whether a word is given alone, or beside `--reduced` before it.
+fn is_alone(arguments: &[&str], word: &str) -> bool {
+    match arguments {
+        [only] => *only == word,
+        [first, last] => *first == "--reduced" && *last == word,
+        _ => false,
+    }
+}
+
+/// Prints a text.
+fn print(rt: &HostRuntime, text: &str) -> ExitCode {
+    match rt.stdout().write_all(text.as_bytes()) {
+        Ok(()) => ExitCode::from(DONE),
+        Err(_) => ExitCode::from(FAULT),
+    }
+}
+
+/// Answers the script. `--explain` is no option of the script's own.
+fn answer_script(rt: &HostRuntime, reduced: bool, arguments: &[&str]) -> ExitCode {
+    let Ok(output) = BufWriter::new(rt.alloc(), rt.stdout()) else {
+        return out_of_memory(rt);
+    };
+    let Ok((asked, explained)) = without_explain(rt.alloc(), arguments) else {
+        return out_of_memory(rt);
+    };
+    let mut reader = Watched::new(Explained::new(
+        rt.alloc(),
+        rt.stdin(),
+        messages(rt, reduced),
+        explained,
+    ));
     let mut writer = Watched::new(output);
+    let mut errors = Watched::new(messages(rt, reduced));
     let status = run_program::<1073741824, _, _, _, _, _>(
         rt.alloc(),
-        &rt,
-        &arguments,
+        rt,
+        &asked,
         &mut reader,
         &mut writer,
         &mut errors,
@@ -37,13 +90,39 @@ fn main(rt: HostRuntime) -> ExitCode {
     ExitCode::from(status)
 }
 
+/// The arguments but for `--explain`, and whether that is among them.
+fn without_explain<'a>(
+    alloc: Global,
+    arguments: &[&'a str],
+) -> Result<(Vec<&'a str>, bool), AllocError> {
+    let mut asked = Vec::new(alloc);
+    let mut explained = false;
+    for word in arguments {
+        if *word == "--explain" && !explained {
+            explained = true;
+        } else {
+            asked.push(*word)?;
+        }
+    }
+    Ok((asked, explained))
+}
+
+/// Standard error, in the name that the program was started by.
+fn messages(rt: &HostRuntime, reduced: bool) -> Named<Stderr> {
+    Named {
+        errors: rt.stderr(),
+        reduced,
+    }
+}
+
 /// The arguments as texts.
-fn texts(alloc: Global, words: &[String]) -> Result<Vec<&str>, AllocError> {
+fn texts_of(alloc: Global, words: &[String]) -> Result<Vec<&str>, AllocError> {
     words.iter().map(|word| word.as_str()).collect(alloc)
 }
 
 /// Where not even the arguments or the output's buffer have room.
-fn out_of_memory(errors: &mut Watched<Stderr>) -> ExitCode {
+fn out_of_memory(rt: &HostRuntime) -> ExitCode {
+    let mut errors = Watched::new(rt.stderr());
     let _ = errors.write_all(b"cedar: out of memory\n");
     ExitCode::from(FAULT)
 }

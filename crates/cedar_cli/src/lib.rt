@@ -20,6 +20,7 @@
 
 mod command;
 mod entry_lines;
+mod explain;
 mod fits;
 mod options;
 mod pairs;
@@ -29,5 +30,6 @@ mod tokens;
 mod verbs;
 mod write;
 
+pub use explain::explain_line;
 pub use program::{DONE, FAULT, REFUSED, USAGE, USAGE_LINE, run_program};
 pub use script::{ScriptError, run_script};
