@@ -39,8 +39,7 @@ def run(*words):
 def ours(path, changes, size):
     """The seconds that some changes take here, in batches of a size."""
     started = run("len", path)
-    words = ["change", path, 0, changes] if size == 1 else ["batch", path, 0, changes, size]
-    return run(*words) - started
+    return run("grow", path, 0, changes, size) - started
 
 
 def opened(path):
@@ -93,7 +92,7 @@ def main():
             told(f"here, {size} a sync", here, "changes/s")
             told(f"SQLite, {size} a commit", there, "changes/s")
         path = os.path.join(room, "many")
-        run("batch", path, 0, given.changes, 1000)
+        run("grow", path, 0, given.changes, 1000)
         told(f"here, opening {given.changes:,} changes", [1000 * run("len", path) for _ in range(given.rounds)], "ms")
         print(f"its file has {os.path.getsize(path):,} bytes")
 

@@ -22,8 +22,9 @@ typedef struct cedar_plan {
     cedar_step steps[CEDAR_PLAN_MOST];
 } cedar_plan;
 
-/* How many bytes the plan of an opening has, and how many more than its key that of a change has at most. */
-enum { CEDAR_PLAN_OPENING = 14, CEDAR_PLAN_CHANGE = 11 };
+/* How many bytes the plan of an opening has, how many more than its key that of a change has at most, and how many stand in front of the
+ * records of a group. */
+enum { CEDAR_PLAN_OPENING = 14, CEDAR_PLAN_CHANGE = 11, CEDAR_PLAN_GROUP = 6 };
 
 /* The bytes are those of the file, which was synced before it was read. Once the plan is carried out the records end at *end. */
 uint32_t cedar_plan_open(cedar_dictionary *d, bool is_reduced, const uint8_t *bytes, size_t length, size_t *end, uint8_t *buffer,
@@ -35,5 +36,9 @@ uint32_t cedar_plan_put(cedar_dictionary *d, const uint8_t *key, size_t length, 
                         cedar_plan *plan, bool *held, int32_t *before, size_t *position);
 uint32_t cedar_plan_erase(cedar_dictionary *d, const uint8_t *key, size_t length, size_t *end, uint8_t *buffer, size_t room,
                           cedar_plan *plan, bool *held);
+
+/* Makes one record of those of several changes, which stand behind the first CEDAR_PLAN_GROUP bytes of the buffer, one behind another, each
+ * without its last byte, and have so many bytes together; behind them there is room for a byte. The plan's bytes begin with that record. */
+uint32_t cedar_plan_group(size_t length, size_t *end, uint8_t *buffer, size_t room, cedar_plan *plan);
 
 #endif

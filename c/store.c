@@ -22,6 +22,9 @@ struct cedar_store_file {
     size_t end;      /* where its records end */
     uint8_t *bytes;  /* those of a plan */
     size_t room;
+    size_t every;    /* how many changes go to the disk together, or 0 */
+    size_t waiting;  /* how many wait for that */
+    size_t filled;   /* how many bytes their records have, behind the head of a group */
 };
 
 /* ---- the calls of the system, each again where a signal has interrupted it */
@@ -151,6 +154,7 @@ static uint32_t open_store(cedar_store *s, bool is_reduced, const char *path) {
     cedar_store fresh = CEDAR_STORE_CLOSED;
     fresh.file = calloc(1, sizeof *fresh.file);
     if (fresh.file == NULL) return CEDAR_MEMORY;
+    fresh.file->every = 1;
     uint32_t status = open_synced(path, &fresh.file->number);
     if (status == CEDAR_OK) status = make_ready(&fresh, is_reduced);
     int cause = errno;
@@ -172,27 +176,73 @@ uint32_t cedar_store_open_reduced(cedar_store *s, const char *path) {
     return open_store(s, true, path);
 }
 
-void cedar_store_close(cedar_store *s) {
-    cedar_free(&s->dictionary);
-    if (s->file == NULL) return;
-    if (s->file->number >= 0) close(s->file->number);
-    free(s->file->bytes);
-    free(s->file);
-    s->file = NULL;
-}
-
 bool cedar_store_failed(const cedar_store *s) {
     return s->file != NULL && s->file->has_failed;
 }
 
+size_t cedar_store_waiting(const cedar_store *s) {
+    return s->file == NULL ? 0 : s->file->waiting;
+}
+
+/* ---- changes on the disk */
+
+/* Acknowledges what a plan does, or says that the device has failed. */
+static uint32_t acknowledge(struct cedar_store_file *file, const cedar_plan *plan) {
+    if (carry_out(file->number, plan, file->bytes)) return CEDAR_OK;
+    file->has_failed = true;
+    return CEDAR_STORE_DEVICE;
+}
+
+/* Puts the changes that wait on the disk, as one record. */
+static uint32_t write_waiting(struct cedar_store_file *file) {
+    cedar_plan plan;
+    if (file->waiting == 0) return CEDAR_OK;
+    uint32_t status = cedar_plan_group(file->filled, &file->end, file->bytes, file->room, &plan);
+    file->waiting = 0;
+    file->filled = 0;
+    return status == CEDAR_OK ? acknowledge(file, &plan) : status;
+}
+
+static uint32_t sync_store(struct cedar_store_file *file) {
+    if (file == NULL) return CEDAR_IS_CLOSED;
+    return file->has_failed ? CEDAR_STORE_FAILED : write_waiting(file);
+}
+
+uint32_t cedar_store_sync(cedar_store *s) {
+    return sync_store(s->file);
+}
+
+uint32_t cedar_store_sync_every(cedar_store *s, size_t changes) {
+    uint32_t status = sync_store(s->file);
+    if (status == CEDAR_OK) s->file->every = changes;
+    return status;
+}
+
+void cedar_store_close(cedar_store *s) {
+    struct cedar_store_file *file = s->file;
+    cedar_free(&s->dictionary);
+    if (file == NULL) return;
+    sync_store(file);
+    if (file->number >= 0) close(file->number);
+    free(file->bytes);
+    free(file);
+    s->file = NULL;
+}
+
 /* ---- changes */
 
-/* Whether a store takes changes, and has room for the record of one with a key of so many bytes. A longer one is refused without. */
-static uint32_t prepare(struct cedar_store_file *file, size_t length) {
-    if (file == NULL) return CEDAR_IS_CLOSED;
-    if (file->has_failed) return CEDAR_STORE_FAILED;
-    size_t room = length > LONGEST ? CEDAR_PLAN_CHANGE : length + CEDAR_PLAN_CHANGE;
+/* Where the record of a change is written: first, or behind those that wait. */
+static uint8_t *place_of(const struct cedar_store_file *file, size_t *room) {
+    size_t before = file->every == 1 ? 0 : CEDAR_PLAN_GROUP + file->filled;
+    *room = file->room - before;
+    return file->bytes + before;
+}
+
+/* Makes room for so many bytes. */
+static uint32_t grow(struct cedar_store_file *file, size_t room) {
     if (room <= file->room) return CEDAR_OK;
+    size_t most = file->every == 1 || file->room > SIZE_MAX / 2 ? 0 : 2 * file->room;
+    if (room < most) room = most;
     uint8_t *grown = realloc(file->bytes, room);
     if (grown == NULL) return CEDAR_MEMORY;
     file->bytes = grown;
@@ -200,11 +250,27 @@ static uint32_t prepare(struct cedar_store_file *file, size_t length) {
     return CEDAR_OK;
 }
 
-/* Acknowledges a change, or says that the device has failed. */
-static uint32_t acknowledge(struct cedar_store_file *file, const cedar_plan *plan) {
-    if (carry_out(file->number, plan, file->bytes)) return CEDAR_OK;
-    file->has_failed = true;
-    return CEDAR_STORE_DEVICE;
+/* Whether a store takes changes, and has room for the record of one with a key of so many bytes. A longer one is refused without. */
+static uint32_t prepare(struct cedar_store_file *file, size_t length) {
+    if (file == NULL) return CEDAR_IS_CLOSED;
+    if (file->has_failed) return CEDAR_STORE_FAILED;
+    size_t room = length > LONGEST ? CEDAR_PLAN_CHANGE : length + CEDAR_PLAN_CHANGE;
+    if (file->every == 1) return grow(file, room);
+    /* The record of a group is no longer than others are. */
+    room += CEDAR_PLAN_GROUP + file->filled;
+    return room > LONGEST ? CEDAR_STORE_TOO_LONG : grow(file, room);
+}
+
+/* Acknowledges a change that the dictionary has: it is on the disk then, or it waits. Its plan's first step writes all of its record but
+ * the first byte. */
+static uint32_t take_up(struct cedar_store_file *file, size_t end, const cedar_plan *plan) {
+    if (file->every == 1) {
+        file->end = end;
+        return acknowledge(file, plan);
+    }
+    file->filled += plan->steps[0].length;
+    file->waiting++;
+    return file->waiting == file->every ? write_waiting(file) : CEDAR_OK;
 }
 
 uint32_t cedar_store_insert(cedar_store *s, const uint8_t *key, size_t length, int32_t value, bool *held, int32_t *before,
@@ -215,10 +281,12 @@ uint32_t cedar_store_insert(cedar_store *s, const uint8_t *key, size_t length, i
     size_t at = 0;
     uint32_t status = prepare(s->file, length);
     if (status != CEDAR_OK) return status;
-    status = cedar_plan_put(&s->dictionary, key, length, value, &s->file->end, s->file->bytes, s->file->room, &plan, &was_held, &was, &at);
+    size_t room, end = s->file->end;
+    uint8_t *place = place_of(s->file, &room);
+    status = cedar_plan_put(&s->dictionary, key, length, value, &end, place, room, &plan, &was_held, &was, &at);
     if (status == CEDAR_NUL_BYTE && position != NULL) *position = at;
     if (status != CEDAR_OK) return status;
-    status = acknowledge(s->file, &plan);
+    status = take_up(s->file, end, &plan);
     if (status != CEDAR_OK) return status;
     if (held != NULL) *held = was_held;
     if (before != NULL && was_held) *before = was;
@@ -234,8 +302,10 @@ uint32_t cedar_store_erase(cedar_store *s, const uint8_t *key, size_t length, bo
     bool was_held = false;
     uint32_t status = prepare(s->file, length);
     if (status != CEDAR_OK) return status;
-    status = cedar_plan_erase(&s->dictionary, key, length, &s->file->end, s->file->bytes, s->file->room, &plan, &was_held);
-    if (status == CEDAR_OK && was_held) status = acknowledge(s->file, &plan);
+    size_t room, end = s->file->end;
+    uint8_t *place = place_of(s->file, &room);
+    status = cedar_plan_erase(&s->dictionary, key, length, &end, place, room, &plan, &was_held);
+    if (status == CEDAR_OK && was_held) status = take_up(s->file, end, &plan);
     if (status == CEDAR_OK && held != NULL) *held = was_held;
     return status;
 }

@@ -404,8 +404,8 @@ CEDAR_INLINE const cedar_dictionary *cedar_store_dictionary(const cedar_store *s
     return &s->dictionary;
 }
 
-/* Stores a value at a key, in place of the value that the key holds, if it holds one. CEDAR_OK acknowledges the change: it is on the disk.
- * CEDAR_IS_CLOSED, the pair's first fault as of cedar_update, CEDAR_MEMORY, CEDAR_SLOT_LIMIT, CEDAR_STORE_TOO_LONG and CEDAR_STORE_FULL
+/* Stores a value at a key, in place of the value that the key holds, if it holds one. CEDAR_OK acknowledges the change: it is on the disk,
+ * or waits as cedar_store_sync_every says. CEDAR_IS_CLOSED, the pair's first fault as of cedar_update, CEDAR_MEMORY, CEDAR_SLOT_LIMIT, CEDAR_STORE_TOO_LONG and CEDAR_STORE_FULL
  * leave the dictionary's keys and the file as they were. After CEDAR_STORE_DEVICE (errno has the number) the dictionary has the change, and
  * the file has it or not: each later change answers CEDAR_STORE_FAILED and changes nothing, until the file is opened again. */
 uint32_t cedar_store_update(cedar_store *s, const uint8_t *key, size_t length, int32_t value, size_t *position);
@@ -418,10 +418,25 @@ uint32_t cedar_store_insert(cedar_store *s, const uint8_t *key, size_t length, i
  * cedar_store_update, but that no pair has a fault and no slots are asked for. */
 uint32_t cedar_store_erase(cedar_store *s, const uint8_t *key, size_t length, bool *held);
 
+/* How many changes go to the disk together from now on. With 1, as at first, each is there before it is acknowledged. With more,
+ * CEDAR_OK of a change says that the dictionary has it, and it waits: the last of so many puts them all on the disk. With 0 they wait for
+ * cedar_store_sync. A crash takes away those that wait, all of them or none, and no others. Their record has at most 2^32 bytes, and one
+ * more that doesn't fit is refused with CEDAR_STORE_TOO_LONG. Those that wait now go to the disk first, with the statuses of
+ * cedar_store_sync; after another one than CEDAR_OK the number is as it was. */
+uint32_t cedar_store_sync_every(cedar_store *s, size_t changes);
+
+/* Puts the changes that wait on the disk as one: a crash at any moment leaves a file with all of them or with none. CEDAR_OK: the disk has
+ * all changes. CEDAR_IS_CLOSED; CEDAR_STORE_DEVICE and CEDAR_STORE_FAILED as of cedar_store_update. */
+uint32_t cedar_store_sync(cedar_store *s);
+
+/* How many changes wait. 0 if closed. */
+size_t cedar_store_waiting(const cedar_store *s);
+
 /* Whether the device has failed in a change. False if closed. */
 bool cedar_store_failed(const cedar_store *s);
 
-/* Closes the file, and gives the memory of *s back. *s is closed then. On a closed one it does nothing. */
+/* Puts the changes that wait on the disk, closes the file, and gives the memory of *s back. *s is closed then. Whether the disk has them only
+ * cedar_store_sync tells. On a closed one it does nothing. */
 void cedar_store_close(cedar_store *s);
 
 #ifdef __cplusplus

@@ -632,6 +632,18 @@ public:
         return held;
     }
 
+    /// How many changes go to the disk together from now on: 1, as at first, each before it returns. With more, a change that has returned
+    /// waits until as many do, and with 0 until sync(). A crash takes away those that wait, all of them or none, and no others. It puts
+    /// those that wait now on the disk. Throws as sync().
+    void sync_every(std::size_t changes) { check(cedar_store_sync_every(&inside_, changes), 0); }
+
+    /// Puts the changes that wait on the disk as one. Throws std::system_error where a call on the file failed, CEDAR_STORE_FAILED and
+    /// CEDAR_IS_CLOSED. The destructor puts them there too, and says nothing of an error.
+    void sync() { check(cedar_store_sync(&inside_), 0); }
+
+    /// How many changes wait.
+    std::size_t waiting() const noexcept { return cedar_store_waiting(&inside_); }
+
     /// Whether a change has failed on the disk.
     bool failed() const noexcept { return cedar_store_failed(&inside_); }
 

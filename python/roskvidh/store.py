@@ -1,7 +1,8 @@
 """The class Store: a mapping whose changes are in a file before they are made known."""
 
 import os
-from typing import Any, Literal, TypeVar, Union, overload
+from contextlib import contextmanager
+from typing import Any, Iterator, Literal, TypeVar, Union, overload
 
 from .cedar import Cedar, Pairs, _pairs_of, _restore
 from .words import Words
@@ -16,6 +17,9 @@ class Store(Words[K]):
 
     Once a change returns it is on the disk, and no crash of the process or the machine takes it away. A change that a crash cuts off is there as a
     whole or not at all. Each change waits for the disk, and the file grows by each. Nobody else may write to the file meanwhile.
+
+    With sync_every=n a change waits until n of them go to the disk as one; with 0 until sync(). A crash takes away those that wait, all of them or
+    none, and no others. batch() does so for the changes of a block.
 
     A call on the file that fails raises OSError. From then on each change raises CedarError and changes nothing, and look-ups go on; open the file
     again.
@@ -33,20 +37,72 @@ class Store(Words[K]):
     >>> folder.cleanup()
     """
 
-    __slots__ = ("__weakref__", "path")
+    __slots__ = ("__weakref__", "_sync_every_now", "path")
 
     @overload
-    def __init__(self: "Store[bytes]", path: Path, *, text: Literal[False] = ..., reduced: bool = ...) -> None: ...
+    def __init__(self: "Store[bytes]", path: Path, *, text: Literal[False] = ..., reduced: bool = ..., sync_every: int = ...) -> None: ...
 
     @overload
-    def __init__(self: "Store[str]", path: Path, *, text: Literal[True], reduced: bool = ...) -> None: ...
+    def __init__(self: "Store[str]", path: Path, *, text: Literal[True], reduced: bool = ..., sync_every: int = ...) -> None: ...
 
     @overload
-    def __init__(self: "Store[Any]", path: Path, *, text: bool, reduced: bool = ...) -> None: ...
+    def __init__(self: "Store[Any]", path: Path, *, text: bool, reduced: bool = ..., sync_every: int = ...) -> None: ...
 
-    def __init__(self, path: Path, *, text: bool = False, reduced: bool = False) -> None:
+    def __init__(self, path: Path, *, text: bool = False, reduced: bool = False, sync_every: int = 1) -> None:
         self.path = os.fspath(path)
         self._open_store(os.fsencode(self.path), text, reduced)
+        self.sync_every = sync_every
+
+    @property
+    def sync_every(self) -> int:
+        """How many changes go to the disk together; 0: they wait for sync(). Setting it puts those that wait on the disk."""
+        return self._sync_every_now
+
+    @sync_every.setter
+    def sync_every(self, changes: int) -> None:
+        self._sync_every(changes)
+        self._sync_every_now = changes
+
+    @property
+    def waiting(self) -> int:
+        """How many changes wait to be put on the disk."""
+        return self._waiting()
+
+    def sync(self) -> None:
+        """Puts the changes that wait on the disk as one: a crash leaves all of them or none."""
+        self._sync()
+
+    @contextmanager
+    def batch(self) -> Iterator[None]:
+        """Puts the changes of a block on the disk as one, when the block ends, also by an exception: a crash leaves all of them or none.
+
+        >>> import os, tempfile
+        >>> with tempfile.TemporaryDirectory() as folder, Store(os.path.join(folder, "words.store")) as s:
+        ...     with s.batch():
+        ...         s[b"net"] = 7
+        ...         s[b"nets"] = 8
+        ...         s.waiting
+        ...     s.waiting
+        2
+        0
+        """
+        before = self.sync_every
+        if before == 0:  # the changes of a batch in a batch are of the outer one
+            yield
+            return
+        self.sync_every = 0
+        try:
+            yield
+        finally:
+            self.sync_every = before
+
+    def close(self) -> None:
+        """Puts the changes that wait on the disk, and closes the file. On a closed store it does nothing."""
+        try:
+            if not self.closed and not self.failed:
+                self.sync()
+        finally:
+            super().close()
 
     @property
     def failed(self) -> bool:
@@ -54,22 +110,25 @@ class Store(Words[K]):
         return self._has_failed()
 
     def update(self, pairs: Pairs[K] = (), /, **keywords: int) -> None:  # type: ignore[override]
-        """Stores the pairs of a mapping or of an iterable, one after another: where one is refused, those before it are stored."""
-        for key, value in _pairs_of(pairs):
-            self[key] = value
-        for name, value in keywords.items():
-            self[name] = value  # type: ignore[index]  # of a store of bytes it is refused
+        """Stores the pairs of a mapping or of an iterable as a batch: where one is refused, those before it are stored."""
+        with self.batch():
+            for key, value in _pairs_of(pairs):
+                self[key] = value
+            for name, value in keywords.items():
+                self[name] = value  # type: ignore[index]  # of a store of bytes it is refused
 
     def clear(self) -> None:
-        """Removes all keys, one after another."""
-        for key in list(self):
-            del self[key]
+        """Removes all keys, as a batch."""
+        with self.batch():
+            for key in list(self):
+                del self[key]
 
     def erase_prefix(self, prefix: K, /) -> int:
-        """Removes each key that begins with a prefix, one after another, and returns how many there were."""
+        """Removes each key that begins with a prefix, as a batch, and returns how many there were."""
         keys = list(self.keys(prefix))
-        for key in keys:
-            del self[key]
+        with self.batch():
+            for key in keys:
+                del self[key]
         return len(keys)
 
     def copy(self) -> "Cedar[K]":

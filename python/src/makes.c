@@ -317,6 +317,41 @@ PyObject *core_open_store(Core *core, PyObject *arguments) {
     return install_store(core, &fresh, settings);
 }
 
+/* Makes a call that puts changes on the disk, and lets other threads run meanwhile. errno stays that of the call. */
+static PyObject *sync_by(Core *core, uint32_t (*call)(cedar_store *, size_t), size_t given) {
+    Turn turn;
+    if (turn_begin(core, true, &turn) < 0) return NULL;
+    uint32_t status = call(&core->store, given);
+    int cause = errno;
+    turn_end(&turn);
+    errno = cause;
+    if (status == CEDAR_OK) Py_RETURN_NONE;
+    fail_with(status);
+    return NULL;
+}
+
+static uint32_t sync_now(cedar_store *s, size_t unused) {
+    (void)unused;
+    return cedar_store_sync(s);
+}
+
+PyObject *core_sync(Core *core, PyObject *nothing) {
+    (void)nothing;
+    return sync_by(core, sync_now, 0);
+}
+
+PyObject *core_sync_every(Core *core, PyObject *given) {
+    size_t changes = PyLong_AsSize_t(given);
+    if (changes == (size_t)-1 && PyErr_Occurred()) return NULL;
+    return sync_by(core, cedar_store_sync_every, changes);
+}
+
+PyObject *core_waiting(Core *core, PyObject *nothing) {
+    (void)nothing;
+    if (core_ready(core) < 0) return NULL;
+    return PyLong_FromSize_t(cedar_store_waiting(&core->store));
+}
+
 PyObject *core_has_failed(Core *core, PyObject *nothing) {
     (void)nothing;
     if (core_ready(core) < 0) return NULL;

@@ -94,6 +94,45 @@ class Stores(unittest.TestCase):
             s.update(net=7)
             self.assertEqual(dict(s), {"net": 7})
 
+    def test_together(self):
+        with Store(self.path, sync_every=3) as s:
+            before = self.path.stat().st_size
+            s[b"net"] = 7
+            s[b"nets"] = 8
+            self.assertEqual((s.sync_every, s.waiting, len(s), self.path.stat().st_size), (3, 2, 2, before))
+            del s[b"net"]
+            self.assertEqual(s.waiting, 0)
+            self.assertGreater(self.path.stat().st_size, before)
+            s[b"a"] = 1
+            s.sync()
+            self.assertEqual(s.waiting, 0)
+            with s.batch():
+                s[b"b"] = 2
+                with s.batch():
+                    s[b"c"] = 3
+                s.update({b"d": 4})
+                self.assertEqual((s.waiting, s.sync_every), (3, 0))
+            self.assertEqual((s.waiting, s.sync_every), (0, 3))
+            with self.assertRaises(KeyError):
+                with s.batch():
+                    s[b"e"] = 5
+                    del s[b"x"]
+            self.assertEqual((s.waiting, s.sync_every), (0, 3))
+            s.sync_every = 0
+            s[b"f"] = 6
+            with self.assertRaises(OverflowError):
+                s.sync_every = -1
+            with self.assertRaises(TypeError):
+                s.sync_every = None
+            self.assertEqual((s.waiting, s.sync_every), (1, 0))
+        with self.assertRaises(ValueError):
+            s.sync()
+        with self.assertRaises(ValueError):
+            s.waiting
+        s.close()
+        with Store(self.path) as s:
+            self.assertEqual(dict(s), {b"nets": 8, b"a": 1, b"b": 2, b"c": 3, b"d": 4, b"e": 5, b"f": 6})
+
     def test_errors(self):
         with Store(self.path) as s:
             s[b"net"] = 7

@@ -245,9 +245,12 @@ static void check_runs(bool is_reduced) {
             CHECK(cedar_store_erase(&s, key, length, &was) == CEDAR_OK && was == (held[name] >= 0));
             held[name] = -1;
         }
-        if (next_random() % 40 == 0) CHECK((next_random() % 2 ? cedar_store_open : cedar_store_open_reduced)(&s, path) == CEDAR_OK);
+        if (next_random() % 20 == 0) CHECK(cedar_store_sync_every(&s, next_random() % 5) == CEDAR_OK && cedar_store_waiting(&s) == 0);
+        if (next_random() % 40 != 0) continue;
+        CHECK(cedar_store_sync(&s) == CEDAR_OK);
+        CHECK((next_random() % 2 ? cedar_store_open : cedar_store_open_reduced)(&s, path) == CEDAR_OK);
     }
-    CHECK(cedar_store_open(&s, path) == CEDAR_OK);
+    CHECK(cedar_store_sync(&s) == CEDAR_OK && cedar_store_open(&s, path) == CEDAR_OK);
     size_t keys = 0;
     for (int name = 0; name < NAMES; name++) {
         uint8_t key[2] = {(uint8_t)(1 + name % 7), (uint8_t)(200 + name / 7)};
@@ -273,6 +276,76 @@ static void check_calls(void) {
     begin(NONE, 0);
     CHECK(cedar_store_open(&s, path) == CEDAR_OK && strcmp(calls, "SScsws") == 0);
     cedar_store_close(&s);
+}
+
+/* Changes that go to the disk together: which calls they make, what waits, and each byte of the file. */
+static void check_group(bool is_reduced) {
+    static const uint8_t wanted[] = "\1\x08\0\0\0CEDARJ\0\0"
+                                    "\1\x24\0\0\0\2\1\x08\0\0\0\1\7\0\0\0net"
+                                    "\1\x08\0\0\0\1\xfd\xff\xff\x7fnet"
+                                    "\1\4\0\0\0\0net"; /* and the closed gate, which ends the text */
+    static uint8_t found[FILE_ROOM];
+    cedar_store s = CEDAR_STORE_CLOSED;
+    bool held = true;
+    CHECK(cedar_store_sync(&s) == CEDAR_IS_CLOSED && cedar_store_sync_every(&s, 3) == CEDAR_IS_CLOSED && cedar_store_waiting(&s) == 0);
+    open_new(&s, is_reduced);
+    CHECK(cedar_store_sync_every(&s, 3) == CEDAR_OK);
+    begin(NONE, 0);
+    CHECK(update(&s, "net", 7) == CEDAR_OK && update(&s, "", 7) == CEDAR_EMPTY_KEY && erase(&s, "ten") == CEDAR_OK);
+    CHECK(cedar_store_waiting(&s) == 1 && at(&s, "net") == 7);
+    CHECK(update(&s, "net", CEDAR_MAX_VALUE) == CEDAR_OK && cedar_store_waiting(&s) == 2 && strcmp(calls, "") == 0);
+    CHECK(cedar_store_erase(&s, bytes("net"), 3, &held) == CEDAR_OK && held && cedar_store_waiting(&s) == 0 && strcmp(calls, "wsws") == 0);
+    CHECK(read_file(found) == sizeof wanted && memcmp(found, wanted, sizeof wanted) == 0);
+    begin(NONE, 0);
+    CHECK(cedar_store_sync(&s) == CEDAR_OK && strcmp(calls, "") == 0);
+    CHECK(update(&s, "net", 8) == CEDAR_OK && cedar_store_sync(&s) == CEDAR_OK && strcmp(calls, "wsws") == 0);
+    /* Any number of them, until they are put on the disk: here by the one setting and the other, and by closing. */
+    CHECK(cedar_store_sync_every(&s, 0) == CEDAR_OK);
+    for (uint8_t i = 1; i < 200; i++) CHECK(cedar_store_update(&s, &i, 1, i, NULL) == CEDAR_OK);
+    CHECK(cedar_store_waiting(&s) == 199 && cedar_store_sync_every(&s, 0) == CEDAR_OK && cedar_store_waiting(&s) == 0);
+    CHECK(update(&s, "nets", 9) == CEDAR_OK && cedar_store_sync_every(&s, 1) == CEDAR_OK && cedar_store_waiting(&s) == 0);
+    begin(NONE, 0);
+    CHECK(update(&s, "nets", 10) == CEDAR_OK && strcmp(calls, "wsws") == 0);
+    CHECK(cedar_store_sync_every(&s, 9) == CEDAR_OK && update(&s, "nets", 11) == CEDAR_OK && cedar_store_waiting(&s) == 1);
+    cedar_store_close(&s);
+    CHECK(cedar_store_open(&s, path) == CEDAR_OK && count(&s) == 201 && at(&s, "net") == 8 && at(&s, "nets") == 11 && at(&s, "\xc7") == 199);
+    cedar_store_close(&s);
+}
+
+/* Three changes that go to the disk together, in whose course a call is met; or the process ends there. */
+static bool check_group_change(enum fault which, long step) {
+    cedar_store s = CEDAR_STORE_CLOSED;
+    open_new(&s, false);
+    CHECK(update(&s, "net", 7) == CEDAR_OK && cedar_store_sync_every(&s, 0) == CEDAR_OK);
+    pid_t child = which == ENDS_THE_PROCESS ? fork() : 0;
+    CHECK(child >= 0);
+    uint32_t status = CEDAR_STORE_DEVICE;
+    bool came = true, all = true;
+    if (child == 0) {
+        begin(which, step);
+        all = update(&s, "a", 1) == CEDAR_OK && erase(&s, "net") == CEDAR_OK && update(&s, "ab", 2) == CEDAR_OK;
+        status = cedar_store_sync(&s);
+        if (which == ENDS_THE_PROCESS) _exit(all && status == CEDAR_OK ? 0 : 1);
+        came = end();
+        CHECK(status == CEDAR_OK || (status == CEDAR_STORE_DEVICE && came && errno == ENOSPC && cedar_store_failed(&s)));
+        CHECK(which != IS_INTERRUPTED || (all && status == CEDAR_OK));
+        CHECK(all || !cedar_store_failed(&s));
+        if (status != CEDAR_OK) CHECK(update(&s, "b", 3) == CEDAR_STORE_FAILED && cedar_store_sync(&s) == CEDAR_STORE_FAILED && cedar_store_waiting(&s) == 0);
+    } else {
+        int how;
+        CHECK(waitpid(child, &how, 0) == child && WIFEXITED(how));
+        CHECK(WEXITSTATUS(how) == 0 || WEXITSTATUS(how) == 7);
+        came = WEXITSTATUS(how) == 7;
+        if (!came) status = CEDAR_OK;
+    }
+    cedar_store_close(&s);
+    CHECK(cedar_store_open(&s, path) == CEDAR_OK);
+    if (all) {
+        bool has_them = at(&s, "a") == 1 && at(&s, "ab") == 2 && at(&s, "net") == -1 && count(&s) == 2;
+        CHECK(has_them || (status != CEDAR_OK && at(&s, "net") == 7 && count(&s) == 1));
+    }
+    cedar_store_close(&s);
+    return came;
 }
 
 /* The file stands for the keys from before a change or for those from behind it. */
@@ -353,6 +426,12 @@ int main(int argument_count, char **arguments) {
     check_files(arguments[1]);
     for (int is_reduced = 0; is_reduced < 2; is_reduced++) check_runs(is_reduced);
     check_calls();
+    for (int is_reduced = 0; is_reduced < 2; is_reduced++) check_group(is_reduced);
+    for (enum fault which = FAILS; which <= ENDS_THE_PROCESS; which++) {
+        long step = 0;
+        while (step < LAST_STEP && check_group_change(which, step)) step++;
+        CHECK(step > 4 && step < LAST_STEP);
+    }
     for (enum fault which = FAILS; which <= DOES_A_PART; which++) {
         for (int which_one = 0; which_one < 2; which_one++) {
             long step = 0;

@@ -397,6 +397,17 @@ void stores(layout kind, const std::string &folder) {
         s = std::move(moved);
         CHECK(s.words().get("k1") == 1 && s.erase("k1"));
     }
+    {
+        roskvidh::store s(path, kind);
+        s.sync_every(3);
+        s.update("x", 1);
+        CHECK(s.waiting() == 1 && s.erase("x") && s.waiting() == 2 && roskvidh::store(path, kind).words().size() == 1000);
+        s.sync();
+        CHECK(s.waiting() == 0);
+        s.sync_every(0);
+        s.update("y", 1);
+        CHECK(s.erase("y") && s.waiting() == 2);
+    }
     CHECK(roskvidh::store(path, kind).words().size() == 1000);
     lacks_memory([&] { roskvidh::store(path, kind); });
     no_file(path + "/none", [&] { roskvidh::store(path + "/none", kind); });

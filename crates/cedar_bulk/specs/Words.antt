@@ -1,9 +1,10 @@
 -- The words of clauses, from one place.
 pub use Rattle.cedar_bulk.specs.Asked.{IsUnfilled, WantsBase, WantsChain, WantsLabel, WantsLabels, WantsNumber, WantsSlots}
-pub use Rattle.cedar_bulk.specs.Sorted.{GoesLast, entries_by, Fills, GetsBase, GetsLabels, GetsNumber, run, slot_labels}
+pub use Rattle.cedar_bulk.specs.Sorted.{entries_by, Fills, GetsBase, GetsLabels, GetsNumber, GoesLast, run, slot_labels}
 pub use Rattle.cedar_bulk.specs.SortedMarks.{KeepsOwn, SortedMarks}
 pub use Rattle.cedar_bulk.specs.Spans.{Filling, first_label, first_number, GoesOnAlike, IsAlike, IsDeeper, IsTreeOfSpan, Lists, parts_of}
-pub use Rattle.cedar_bulk.specs.Steps.{AddsChildren, AddsSpans, AppendsLeaf, based_behind, CoversChildren, EndsFilling, FillsSpan, HasBlocksFor, KeepsOwnOf, LacksMemoryOr, OfTree, StaysBare, StaysOwn, WantsMoreThan}
+pub use Rattle.cedar_bulk.specs.Steps.{AddsChildren, AddsSpans, AppendsLeaf, based_behind, CoversChildren, EndsFilling, FillsSpan}
+pub use Rattle.cedar_bulk.specs.Steps.{HasBlocksFor, KeepsOwnOf, LacksMemoryOr, OfTree, StaysBare, StaysOwn, WantsMoreThan}
 pub use Rattle.cedar_model.specs.Edit.NodeEdits.{IsAt}
 pub use Rattle.cedar_model.specs.Edit.Steps.{MakesBlocks, SameModes}
 pub use Rattle.cedar_model.specs.Meaning.Family.{base_of, below}
@@ -12,7 +13,9 @@ pub use Rattle.cedar_model.specs.Meaning.StandsFor.{HoldsTree, labels}
 pub use Rattle.cedar_model.specs.Meaning.WellFormed.{is_value, IsWellFormed, tree_of}
 pub use Rattle.cedar_model.specs.Table.Cells.{Held}
 pub use Rattle.cedar_model.specs.Table.TableFields.{capacity_of, SameFrame, SameSettings, size_of}
+pub use Rattle.cedar_model.specs.declared.layout.Stored.TheVariants.{AtBase}
 pub use Rattle.cedar_slots.specs.Places.{IsSlotLimit, IsTable, MayRefuse}
+pub use Rattle.cedar_slots.specs.declared.shortage.Shortage.TheVariants.{SlotLimit}
 pub use Rattle.cedar_table.specs.Table.Views.{cells, fields}
 pub use Rattle.cedar_tree.specs.Laws.{ArePathsAscending, ArePathsKeys}
 pub use Rattle.cedar_tree.specs.Queries.{asc, prefixes, prefixes_forest}

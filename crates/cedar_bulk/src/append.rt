@@ -1,8 +1,7 @@
 //! All labels of a node, one behind the other.
 
-ghost use Rattle.std.specs.Prelude.{◌≡◌, ◌⊎◌, ℕ, List, ◌++◌, [], ◌∷◌, bit_xor, pos};
-ghost use Rattle.cedar_bulk.specs.Words.{AppendsLeaf, below, capacity_of, cells, fields, GetsLabels, Held, IsAt, IsTable, SameFrame, SameSettings, size_of, WantsLabel, WantsLabels};
-ghost use Rattle.cedar_model.specs.declared.layout.Stored.TheVariants.{AtBase};
+ghost use Rattle.std.specs.Prelude.{◌++◌, ◌∷◌, ◌≡◌, ◌⊎◌, [], bit_xor, List, pos, ℕ};
+ghost use Rattle.cedar_bulk.specs.Words.{AppendsLeaf, AtBase, below, capacity_of, cells, fields, GetsLabels, Held, IsAt, IsTable, SameFrame, SameSettings, size_of, WantsLabel, WantsLabels};
 
 use cedar_table::{Layout, Table};
 use std::alloc::Allocator;

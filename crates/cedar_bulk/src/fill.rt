@@ -1,7 +1,7 @@
 //! A node with all of its slots at once: its number's and its labels'.
 
-ghost use Rattle.std.specs.Prelude.{◌≡◌, ℕ, ◌≤◌, IfErr, IfOk, IfSome, MatchOption, OnErr, OnOk, Some, true};
-ghost use Rattle.cedar_bulk.specs.Words.{base_of, cells, GoesLast, fields, Fills, GetsBase, GetsNumber, is_value, IsTable, KeepsOwn, MakesBlocks, MayRefuse, SameFrame, SameSettings, size_of, StaysBare, StaysOwn, WantsBase, WantsChain, WantsNumber, WantsSlots};
+ghost use Rattle.std.specs.Prelude.{◌≡◌, ◌≤◌, IfErr, IfOk, IfSome, MatchOption, OnErr, OnOk, Some, true, ℕ};
+ghost use Rattle.cedar_bulk.specs.Words.{base_of, cells, fields, Fills, GetsBase, GetsNumber, GoesLast, is_value, IsTable, KeepsOwn, MakesBlocks, MayRefuse, SameFrame, SameSettings, size_of, StaysBare, StaysOwn, WantsBase, WantsChain, WantsNumber, WantsSlots};
 
 use crate::append::{append_labels, slot_at};
 use cedar_slots::Shortage;

@@ -1,9 +1,7 @@
 //! A table made of sorted pairs: each node gets all of its slots at once, the last child's subtree first.
 
-ghost use Rattle.std.specs.Prelude.{◌≡◌, ℕ, [], ◌++◌, ◌+◌, ◌*◌, ◌<◌, ◌≤◌, ◌≤ℤ◌, ◌≢◌, IfErr, IfOk, length, None, OnErr, OnOk, option_to_list, pos, true};
-ghost use Rattle.cedar_bulk.specs.Words.{AddsChildren, AllByRecursion, ArePathsAscending, ArePathsKeys, asc, cells, CoversChildren, empty_tree, EndsFilling, entries_by, fields, Filling, FillsSpan, Forest, HasBlocksFor, HoldsTree, is_value, IsAlike, IsSlotLimit, IsTable, IsTreeOfSpan, IsUnfilled, IsWellFormed, KeepsOwnOf, LacksMemoryOr, MakesBlocks, marks, MayRefuse, none, OfTree, parts_of, prefixes, prefixes_forest, SameModes, SameSettings, size_of, SortedMarks, Tree, tree_of, WantsMoreThan};
-ghost use Rattle.cedar_slots.specs.declared.shortage.Shortage.TheVariants.{SlotLimit};
-ghost use Rattle.cedar_model.specs.declared.layout.Stored.TheVariants.{AtBase};
+ghost use Rattle.std.specs.Prelude.{◌*◌, ◌++◌, ◌+◌, ◌<◌, ◌≡◌, ◌≢◌, ◌≤ℤ◌, ◌≤◌, [], IfErr, IfOk, length, None, OnErr, OnOk, option_to_list, pos, true, ℕ};
+ghost use Rattle.cedar_bulk.specs.Words.{AddsChildren, AllByRecursion, ArePathsAscending, ArePathsKeys, asc, AtBase, cells, CoversChildren, empty_tree, EndsFilling, entries_by, fields, Filling, FillsSpan, Forest, HasBlocksFor, HoldsTree, is_value, IsAlike, IsSlotLimit, IsTable, IsTreeOfSpan, IsUnfilled, IsWellFormed, KeepsOwnOf, LacksMemoryOr, MakesBlocks, marks, MayRefuse, none, OfTree, parts_of, prefixes, prefixes_forest, SameModes, SameSettings, size_of, SlotLimit, SortedMarks, Tree, tree_of, WantsMoreThan};
 
 use crate::append::slot_at;
 use crate::fill::fill_node;

@@ -1,7 +1,7 @@
 //! Sorted pairs that go on below one node, and what they say of its number and its labels.
 
-ghost use Rattle.std.specs.Prelude.{◌≡◌, ◌↔◌, ◌<◌, ◌≤◌, ◌+◌, [], get_or, IsTrue, length, OnOk};
-ghost use Rattle.cedar_bulk.specs.Words.{AddsSpans, based_behind, entries_by, first_label, first_number, Forest, GoesOnAlike, IsAlike, IsDeeper, IsTreeOfSpan, labels, Lists, parts_of, run, Tree, slot_labels};
+ghost use Rattle.std.specs.Prelude.{◌+◌, ◌<◌, ◌↔◌, ◌≡◌, ◌≤◌, [], get_or, IsTrue, length, OnOk};
+ghost use Rattle.cedar_bulk.specs.Words.{AddsSpans, based_behind, entries_by, first_label, first_number, Forest, GoesOnAlike, IsAlike, IsDeeper, IsTreeOfSpan, labels, Lists, parts_of, run, slot_labels, Tree};
 
 use arrayvec::ArrayVec;
 use std::alloc::{AllocError, Allocator};

@@ -11,7 +11,7 @@ use Rattle.std.proofs.lemmas.Map.Lookups.{exact_bytes}
 use Rattle.std.proofs.lemmas.List.{append-nil, append_assoc, drop-drop, drop-set-lt, length-set, take-append-drop, take_more_set}
 use Rattle.cedar_tree.specs.Queries.{Entry, entry_at, is_path, walk}
 use Rattle.cedar_tree.specs.Tree.{IsAscending, IsSoundBelow, number_at, Tree}
-use Rattle.cedar_tree.proofs.BuildLemmas.{is_path_itself, same_path}
+use Rattle.cedar_tree.proofs.EntryLemmas.Built.{is_path_itself, same_path}
 use Rattle.cedar_tree.proofs.WalkLemmas.{walk_ascends, walk_at}
 use Rattle.cedar_walk.specs.Ranges.{entries_since}
 use Rattle.cedar_c.specs.Entries.{entries_behind, following, page_of, spots_of, WritesPage}

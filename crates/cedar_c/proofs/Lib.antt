@@ -2,6 +2,7 @@ pub mod ClosedLemmas
 pub mod CutLemmas
 pub mod EntryLemmas
 pub mod FileLemmas
+pub mod GroupLemmas
 pub mod KeywordLemmas
 pub mod LengthLemmas
 pub mod LoanLemmas

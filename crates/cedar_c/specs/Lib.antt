@@ -2,7 +2,9 @@ pub mod Changes
 pub mod Content
 pub mod Cuts
 pub mod Entries
+pub mod FieldWords
 pub mod Files
+pub mod Groups
 pub mod Layouts
 pub mod Lending
 pub mod Matches

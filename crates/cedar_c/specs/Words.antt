@@ -1,17 +1,43 @@
 -- The words of clauses, from one place.
-pub use Rattle.std.specs.List.{slice_get, starts_with}
+pub use Rattle.cedar_c.specs.Changes.{IsRecord}
+pub use Rattle.cedar_c.specs.Content.{capacity_in, ChangesBy, content, ErasesUnder, layout_in, marks_in, size_in, state_in, tree_in}
+pub use Rattle.cedar_c.specs.Content.{trials_in}
+pub use Rattle.cedar_c.specs.Cuts.{IsLeastCut, LacksPlaces, prices, WritesLeastCut}
+pub use Rattle.cedar_c.specs.Entries.{entries_behind, key_at, lacking, PageOf, Stops, TellsEntries, TellsPage, WritesNothing, WritesPage}
+pub use Rattle.cedar_c.specs.Files.{early_refusal, file_in, file_status, is_reduced_byte, IsFileOf, LacksOrCorrupt, LacksTable}
+pub use Rattle.cedar_c.specs.Files.{layout_named, minor_of, TellsHeader, TellsJust}
+pub use Rattle.cedar_c.specs.Groups.{AddsChange, IsGroup, LacksGroup}
+pub use Rattle.cedar_c.specs.Layouts.{dictionary_in, HasToGrow, layout_if, layout_of, most_slots}
+pub use Rattle.cedar_c.specs.Lending.{as_shown, LendsCedar, LendsSeen}
+pub use Rattle.cedar_c.specs.Matches.{filled_from, filled_matches, Fit, front_keys, lengthened, longer, match_of, predicted_keys}
+pub use Rattle.cedar_c.specs.Opens.{OpensLoaded, OpensNew, OpensSorted}
+pub use Rattle.cedar_c.specs.Pairs.{entries_in, fault_in, keys_in, MayWantSlots, StoresFront, StoresPart, taken_pair}
+pub use Rattle.cedar_c.specs.Plans.{IsChange, IsOpening, LacksChange, LacksRecord, TellsWhy, store_status}
+pub use Rattle.cedar_c.specs.Readings.{shown_figure, shown_in, shown_layout, shown_tree}
+pub use Rattle.cedar_c.specs.Scans.{GoesOn, keywords_from, spot, spots_from, token_spot, tokens_from, WritesOn}
+pub use Rattle.cedar_c.specs.Shrinks.{Shrinks}
+pub use Rattle.cedar_c.specs.Status.{LacksOnlyNew, position_of, status_of, status_text, TellsFault, TellsPosition}
+pub use Rattle.cedar_c.specs.Stores.{HoldsFront, HoldsPart, RefusesAll}
+pub use Rattle.cedar_c.specs.declared.any.AnyCedar.{AnyCedar}
 pub use Rattle.cedar_format.specs.Format.{header_answer}
 pub use Rattle.cedar_format.specs.Refusal.{refusal_of}
 pub use Rattle.cedar_format.specs.Tables.{IsTableFile, table_bytes}
+pub use Rattle.cedar_journal.specs.Files.{HasExtent}
+pub use Rattle.cedar_journal.specs.Records.{framed}
 pub use Rattle.cedar_model.specs.Meaning.WellFormed.{IsWellFormed, tree_of}
 pub use Rattle.cedar_model.specs.Table.Layouts.{default_layout, layout_byte, reduced_layout}
 pub use Rattle.cedar_plan.specs.Plans.{works_of}
+pub use Rattle.cedar_plan.specs.Works.{append_works, end_of}
 pub use Rattle.cedar_slots.specs.Places.{IsSlotLimit}
+pub use Rattle.cedar_store.specs.Causes.{LoadCause}
+pub use Rattle.cedar_store.specs.Changes.{erase_at, put_at}
+pub use Rattle.cedar_store.specs.Files.{state_of}
 pub use Rattle.cedar_tree.specs.Queries.{prefixes, used, walk}
+pub use Rattle.cedar_tree.specs.Tree.{Tree}
 pub use Rattle.cedar_walk.specs.Visits.{ComesToFirst, IsNumberedBelow}
 pub use Rattle.cedarwood.specs.Builds.{all_stored, first_fault, outcome}
 pub use Rattle.cedarwood.specs.Dictionary.{capacity_after}
-pub use Rattle.cedarwood.specs.Fault.{IsShortage, fault}
+pub use Rattle.cedarwood.specs.Fault.{fault, IsShortage}
 pub use Rattle.cedarwood.specs.OnTable.{IsOnTable}
 pub use Rattle.cedarwood.specs.Queries.{front, predict}
 pub use Rattle.cedarwood.specs.RangeWalks.{IsRangePlace, ranged}
@@ -22,17 +48,6 @@ pub use Rattle.cedarwood.specs.State.{erased, stored}
 pub use Rattle.cedarwood.specs.Tree.{number_at}
 pub use Rattle.cedarwood.specs.Updates.{IsUpdate}
 pub use Rattle.cedarwood.specs.Words.{IsCleared, IsEmpty, IsErasedUnder, IsSorted}
-pub use Rattle.cedar_c.specs.Content.{ChangesBy, ErasesUnder, capacity_in, content, layout_in, marks_in, size_in, state_in, tree_in, trials_in}
-pub use Rattle.cedar_c.specs.Cuts.{IsLeastCut, LacksPlaces, WritesLeastCut, prices}
-pub use Rattle.cedar_c.specs.Entries.{PageOf, Stops, TellsEntries, TellsPage, WritesNothing, WritesPage, entries_behind, key_at, lacking}
-pub use Rattle.cedar_c.specs.Files.{IsFileOf, LacksOrCorrupt, LacksTable, TellsHeader, TellsJust, early_refusal, file_in, file_status, is_reduced_byte, layout_named, minor_of}
-pub use Rattle.cedar_c.specs.Layouts.{HasToGrow, dictionary_in, layout_if, layout_of, most_slots}
-pub use Rattle.cedar_c.specs.Matches.{Fit, filled_from, filled_matches, front_keys, lengthened, longer, match_of, predicted_keys}
-pub use Rattle.cedar_c.specs.Opens.{OpensLoaded, OpensNew, OpensSorted}
-pub use Rattle.cedar_c.specs.Pairs.{MayWantSlots, StoresFront, StoresPart, entries_in, fault_in, keys_in, taken_pair}
-pub use Rattle.cedar_c.specs.Plans.{IsChange, IsOpening, LacksChange, LacksRecord, TellsWhy, store_status}
-pub use Rattle.cedar_c.specs.Readings.{shown_figure, shown_in, shown_layout, shown_tree}
-pub use Rattle.cedar_c.specs.Scans.{GoesOn, WritesOn, keywords_from, spot, spots_from, token_spot, tokens_from}
-pub use Rattle.cedar_c.specs.Shrinks.{Shrinks}
-pub use Rattle.cedar_c.specs.Status.{LacksOnlyNew, TellsFault, TellsPosition, position_of, status_of}
-pub use Rattle.cedar_c.specs.Stores.{HoldsFront, HoldsPart, RefusesAll}
+pub use Rattle.cedarwood.specs.Words.{key_fault, value_fault}
+pub use Rattle.std.specs.Borrow.{sem}
+pub use Rattle.std.specs.List.{starts_with}

@@ -1,8 +1,7 @@
 //! A dictionary of either layout: each call goes to the one that is there.
 
-ghost use Rattle.std.specs.Prelude.{◌≡◌, ◌↔◌, ◌+◌, ◌-◌, ◌*◌, ◌/◌, ◌<◌, ◌≤◌, Err, IfErr, IfOk, IfSome, IsOk, IsSome, IsTrue, OnErr, OnOk, length};
-ghost use Rattle.cedar_c.specs.Words.{IsEmpty, IsUpdate, LacksRoom, capacity_after, default_layout, dictionary_in, erased, fault, layout_if, layout_of};
-ghost use Rattle.cedar_c.specs.Words.{most_slots, number_at, outcome, prefixes, reduced_layout, used, walk};
+ghost use Rattle.std.specs.Prelude.{◌*◌, ◌+◌, ◌-◌, ◌/◌, ◌<◌, ◌↔◌, ◌≡◌, ◌≤◌, Err, IfErr, IfOk, IfSome, IsOk, IsSome, IsTrue, length, OnErr, OnOk};
+ghost use Rattle.cedar_c.specs.Words.{capacity_after, default_layout, dictionary_in, erased, fault, IsEmpty, IsUpdate, LacksRoom, layout_if, layout_of, most_slots, number_at, outcome, prefixes, reduced_layout, used, walk};
 
 use cedarwood::{Cedar, CedarBuilder, CedarError, ReducedCedar};
 use std::alloc::Global;

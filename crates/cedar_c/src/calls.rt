@@ -1,15 +1,13 @@
-//! The calls that make, change and ask a dictionary.
+//! The calls that make, copy, change and ask a dictionary.
 
-ghost use Rattle.std.specs.Prelude.{◌≡◌, ◌⊎◌, ◌-◌, ◌*◌, ◌<◌, ◌≤◌, pos, length, None, Some, IsSome, IfSome, IsTrue, ◌↔◌, option_map, true};
-ghost use Rattle.cedar_c.specs.Words.{IsEmpty, LacksOnlyNew, OpensNew, TellsPosition, capacity_in, content, default_layout, dictionary_in, erased, fault};
-ghost use Rattle.cedar_c.specs.Words.{layout_if, layout_in, layout_of, most_slots, number_at, position_of, reduced_layout, shown_tree, size_in, state_in};
-ghost use Rattle.cedar_c.specs.Words.{status_of, stored, tree_in, trials_in};
-ghost use Rattle.cedar_c.specs.declared.any.AnyCedar.{AnyCedar};
+ghost use Rattle.std.specs.Prelude.{◌*◌, ◌-◌, ◌<◌, ◌↔◌, ◌≡◌, ◌≤◌, ◌⊎◌, IfSome, IsSome, IsTrue, length, None, option_map, pos, Some, true};
+ghost use Rattle.cedar_c.specs.Words.{AnyCedar, capacity_in, ChangesBy, content, default_layout, dictionary_in, erased, ErasesUnder, fault, IsCleared, IsEmpty, IsErasedUnder, LacksOnlyNew, layout_if, layout_in, layout_of, longest_front, match_of, most_slots, number_at, OpensNew, position_of, reduced_layout, shown_in, shown_tree, size_in, state_in, status_of, stored, TellsPosition, tree_in, trials_in};
 
 use crate::any::AnyCedar;
 use crate::handle::Handle;
 use crate::reading::Reading;
 use crate::status::{CLOSED, INVALID_MAX_TRIAL, MEMORY, OK, SLOT_LIMIT, tell};
+use crate::walks::Match;
 use cedarwood::{CedarBuilder, Layout, Trie};
 use std::alloc::Global;
 
@@ -281,5 +279,163 @@ fn get<L: Layout, const SLOTS: usize>(
             true
         }
         None => false,
+    }
+}
+
+/// Says whether a key is held. It takes no memory.
+#[unsafe(no_mangle)]
+pub extern "C" fn cedar_contains(handle: &mut Reading, key: &[u8]) -> bool
+    //= `cedar_contains` says whether the key is held.
+    ensures answer { IsTrue result ↔ IsSome (number_at (shown_tree handle.old) key.now) }
+    ensures kept { handle.new ≡ handle.old }
+{
+    if !handle.is_open() {
+        return false;
+    }
+    handle.shown.see().dictionary().contains_key_bytes(key)
+}
+
+/// Tells the longest key that a text begins with, its value and how many bytes it has, and says whether there is one: else nothing is
+/// told. It goes along the text once, and takes no memory.
+#[unsafe(no_mangle)]
+pub extern "C" fn cedar_longest_prefix(handle: &mut Reading, text: &[u8], found: &mut Match) -> bool
+    //= `cedar_longest_prefix` says whether a text begins with a key, and tells value and length of the longest such key, or nothing. [with
+    //  told, absent; by longest_front]
+    ensures answer { IsTrue result ↔ IsSome (longest_front (shown_tree handle.old) text.now) }
+    ensures told { IfSome (longest_front (shown_tree handle.old) text.now) (λ longest. found.new ≡ match_of longest) }
+    ensures absent { longest_front (shown_tree handle.old) text.now ≡ None → found.new ≡ found.old }
+    ensures kept { handle.new ≡ handle.old }
+{
+    if !handle.is_open() {
+        return false;
+    }
+    let longest = handle.shown.see().dictionary().longest_match_bytes(text);
+    match longest {
+        Some((value, length)) => {
+            *found = Match { value, length };
+            true
+        }
+        None => false,
+    }
+}
+
+impl AnyCedar {
+    pub(crate) fn contains_key_bytes(&self, key: &[u8]) -> bool
+        ensures { IsTrue result ↔ IsSome (number_at (dictionary_in self.now).state.tree key.now) }
+    {
+        match self {
+            AnyCedar::Default(cedar) => cedar.contains_key_bytes(key),
+            AnyCedar::Reduced(cedar) => cedar.contains_key_bytes(key),
+        }
+    }
+
+    fn longest_match_bytes(&self, text: &[u8]) -> Option<(i32, usize)>
+        ensures { result ≡ longest_front (dictionary_in self.now).state.tree text.now }
+    {
+        match self {
+            AnyCedar::Default(cedar) => cedar.longest_match_bytes(text),
+            AnyCedar::Reduced(cedar) => cedar.longest_match_bytes(text),
+        }
+    }
+}
+
+/// Opens a handle with a copy of another one's dictionary, in the place of the one that it has, if it is open. A change of the one doesn't
+/// show in the other.
+///
+/// # Errors
+/// `CLOSED` where the handle that is copied is closed, and `MEMORY` where a request for memory was refused. Then the handle is as it was.
+#[unsafe(no_mangle)]
+pub extern "C" fn cedar_clone(original: &mut Reading, alloc: Global, handle: &mut Handle) -> u32
+    ensures closed { (result ≡ CLOSED) ↔ (shown_in original.old ≡ None) }
+
+    //= A clone has an equal dictionary, its table field by field among it; where it is refused, for memory alone, the handle has what it had.
+    //  [with refused]
+    ensures cloned { result ≡ OK → content handle.new ≡ shown_in original.old }
+    ensures refused { (result ≡ OK) ⊎ (((result ≡ CLOSED) ⊎ (result ≡ MEMORY)) × (content handle.new ≡ content handle.old)) }
+    ensures kept { original.new ≡ original.old }
+{
+    if !original.is_open() {
+        return CLOSED;
+    }
+    let copy = original.shown.see().dictionary().boxed_copy(alloc);
+    match copy {
+        Some(cedar) => {
+            let _ = handle.take(alloc);
+            *handle = Handle::of(cedar);
+            OK
+        }
+        None => MEMORY,
+    }
+}
+
+impl AnyCedar {
+    /// An equal dictionary on the heap, or `None` where memory is refused.
+    fn boxed_copy(&self, alloc: Global) -> Option<Box<AnyCedar, Global>>
+        ensures { IfSome result (λ b. b.value ≡ self.now) }
+    {
+        let copy = match self {
+            AnyCedar::Default(cedar) => AnyCedar::Default(cedar.clone().ok()?),
+            AnyCedar::Reduced(cedar) => AnyCedar::Reduced(cedar.clone().ok()?),
+        };
+        Box::new(alloc, copy).ok()
+    }
+}
+
+/// Removes each key that begins with a prefix, and tells how many these were; the empty prefix removes all. It takes no memory, and gives
+/// none back.
+///
+/// # Errors
+/// `CLOSED` where the handle is closed: then nothing is told.
+#[unsafe(no_mangle)]
+pub extern "C" fn cedar_erase_prefix(handle: &mut Handle, prefix: &[u8], erased: &mut usize) -> u32
+    ensures closed { (result ≡ CLOSED) ↔ (content handle.old ≡ None) }
+
+    //= An erasure by a prefix removes all keys that begin with it, and no other one, and tells how many these were; it is refused only by a
+    //  closed handle, which stays closed. [with refused, layout; by erased, ErasesUnder,
+    //  IsErasedUnder]
+    ensures erased { IsSome (content handle.old) → ChangesBy (ErasesUnder prefix.now erased.new) handle.old handle.new }
+    ensures layout { layout_in handle.new ≡ layout_in handle.old }
+    ensures refused { (result ≡ OK) ⊎ ((result ≡ CLOSED) × (content handle.new ≡ content handle.old) × (erased.new ≡ erased.old)) }
+{
+    if !handle.is_open() {
+        return CLOSED;
+    }
+    *erased = handle.held.lend().erase_prefix_bytes(prefix);
+    OK
+}
+
+/// Removes all keys. It takes no memory and gives none back. On a closed handle it does nothing.
+#[unsafe(no_mangle)]
+pub extern "C" fn cedar_clear(handle: &mut Handle)
+    //= `cedar_clear` removes all keys; layout, settings and slots stay. A closed handle stays closed. [with closed, layout; by cleared, IsCleared]
+    ensures cleared { IsSome (content handle.old) → ChangesBy (λ a b. IsCleared (dictionary_in a) (dictionary_in b)) handle.old handle.new }
+    ensures closed { content handle.old ≡ None → content handle.new ≡ None }
+    ensures layout { layout_in handle.new ≡ layout_in handle.old }
+{
+    if !handle.is_open() {
+        return;
+    }
+    handle.held.lend().clear();
+}
+
+impl AnyCedar {
+    fn erase_prefix_bytes(&mut self, prefix: &[u8]) -> usize
+        ensures erased { IsErasedUnder (dictionary_in self.old) (dictionary_in self.new) prefix.now result }
+        ensures layout { layout_of self.new ≡ layout_of self.old }
+    {
+        match self {
+            AnyCedar::Default(cedar) => cedar.erase_prefix_bytes(prefix),
+            AnyCedar::Reduced(cedar) => cedar.erase_prefix_bytes(prefix),
+        }
+    }
+
+    fn clear(&mut self)
+        ensures cleared { IsCleared (dictionary_in self.old) (dictionary_in self.new) }
+        ensures layout { layout_of self.new ≡ layout_of self.old }
+    {
+        match self {
+            AnyCedar::Default(cedar) => cedar.clear(),
+            AnyCedar::Reduced(cedar) => cedar.clear(),
+        }
     }
 }

@@ -1,7 +1,7 @@
 //! The cut of least cost of a whole text, written into a buffer of the caller's.
 
-ghost use Rattle.std.specs.Prelude.{◌≡◌, ◌⊎◌, ◌++◌, ◌<◌, ◌≤◌, ◌↔◌, None, IfSome, length, map, drop, set};
-ghost use Rattle.cedar_c.specs.Words.{IsLeastCut, LacksPlaces, WritesLeastCut, dictionary_in, prices, shown_in, shown_tree, token_spot};
+ghost use Rattle.std.specs.Prelude.{◌++◌, ◌<◌, ◌↔◌, ◌≡◌, ◌≤◌, ◌⊎◌, drop, IfSome, length, map, None, set};
+ghost use Rattle.cedar_c.specs.Words.{dictionary_in, IsLeastCut, LacksPlaces, prices, shown_in, shown_tree, token_spot, WritesLeastCut};
 
 use crate::any::AnyCedar;
 use crate::reading::Reading;

@@ -1,8 +1,7 @@
 //! Entries with their keys, a page of them a call.
 
-ghost use Rattle.std.specs.Prelude.{◌≡◌, ◌↔◌, ◌+◌, ◌-◌, ◌++◌, ◌≤◌, [], length, nat_eq, None, IfSome, IsSome, IsTrue, take, true};
-ghost use Rattle.cedar_c.specs.Words.{ComesToFirst, IsNumberedBelow, IsRangePlace, IsWellFormed, PageOf, Stops, TellsEntries, TellsPage, WritesNothing};
-ghost use Rattle.cedar_c.specs.Words.{WritesPage, entries_behind, key_at, lacking, number_at, ranged, shown_in, starts_with, tree_of};
+ghost use Rattle.std.specs.Prelude.{◌++◌, ◌+◌, ◌-◌, ◌↔◌, ◌≡◌, ◌≤◌, [], IfSome, IsSome, IsTrue, length, nat_eq, None, take, true};
+ghost use Rattle.cedar_c.specs.Words.{ComesToFirst, entries_behind, IsNumberedBelow, IsRangePlace, IsWellFormed, key_at, lacking, number_at, PageOf, ranged, shown_in, starts_with, Stops, TellsEntries, TellsPage, tree_of, WritesNothing, WritesPage};
 
 use crate::any::AnyCedar;
 use crate::reading::Reading;

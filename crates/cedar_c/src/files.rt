@@ -1,9 +1,7 @@
 //! A dictionary's file, in memory of the caller's.
 
-ghost use Rattle.std.specs.Prelude.{◌≡◌, ◌≢◌, ◌⊎◌, ℕ, Some, None, IfOk, IfErr, IfSome, IsErrAnd};
-ghost use Rattle.cedar_c.specs.Words.{IsFileOf, IsOnTable, IsSlotLimit, IsTableFile, LacksOrCorrupt, LacksTable, OpensLoaded, TellsHeader, TellsJust};
-ghost use Rattle.cedar_c.specs.Words.{default_layout, dictionary_in, early_refusal, file_status, header_answer, layout_byte, layout_if, layout_of, most_slots};
-ghost use Rattle.cedar_c.specs.Words.{reduced_layout, refusal_of};
+ghost use Rattle.std.specs.Prelude.{◌≡◌, ◌≢◌, ℕ, IfErr, IfOk, IfSome, IsErrAnd, None, slice_get};
+ghost use Rattle.cedar_c.specs.Words.{default_layout, dictionary_in, early_refusal, file_status, header_answer, is_reduced_byte, IsFileOf, IsOnTable, IsSlotLimit, IsTableFile, LacksOrCorrupt, LacksTable, layout_byte, layout_if, layout_named, layout_of, most_slots, OpensLoaded, reduced_layout, refusal_of, TellsHeader, TellsJust};
 
 use crate::any::AnyCedar;
 use crate::handle::Handle;
@@ -13,6 +11,12 @@ use crate::status::{
 };
 use cedarwood::{CedarPersistenceError, Layout, Trie};
 use std::alloc::Global;
+
+/// Where a file has the byte of its layout.
+const LAYOUT_PLACE: usize = 13;
+
+/// The byte of the reduced layout.
+const REDUCED_LAYOUT: u8 = 1;
 
 /// Opens a handle with the dictionary that a file's bytes are of, in the place of the one that it has. It asks for
 /// `memory_limit` bytes at most.
@@ -55,8 +59,29 @@ pub extern "C" fn cedar_load_reduced(
     renew(handle, alloc, true, bytes, memory_limit)
 }
 
+/// Opens a handle with the dictionary that a file's bytes are of, of the layout that the file names, in the place of the one that it has, if
+/// it is open. It asks for `memory_limit` bytes at most.
+///
+/// # Errors
+/// As `cedar_load_reduced` where the file's byte names the reduced layout, and else as `cedar_load`: so a file that names neither is refused
+/// by `FILE_LAYOUT` unless something before that is wrong with it, and one that ends before its byte by what that is, or as too short. Then
+/// the handle is as it was.
+#[unsafe(no_mangle)]
+pub extern "C" fn cedar_load_any(
+    handle: &mut Handle,
+    alloc: Global,
+    bytes: &[u8],
+    memory_limit: usize,
+) -> u32
+    //= `cedar_load_any` does what `cedar_load_reduced` does where the file's byte names the reduced layout, and else what `cedar_load` does.
+    //  [by OpensLoaded, layout_named]
+    ensures opens { OpensLoaded (layout_named bytes.now) memory_limit bytes.now handle.old handle.new result }
+{
+    renew(handle, alloc, names_reduced(bytes), bytes, memory_limit)
+}
+
 /// Opens a handle with the dictionary that a file's bytes are of, if they are of one of this layout.
-pub(crate) fn renew(
+fn renew(
     handle: &mut Handle,
     alloc: Global,
     is_reduced: bool,
@@ -72,6 +97,16 @@ pub(crate) fn renew(
             OK
         }
         Err(status) => status,
+    }
+}
+
+/// Whether a file's byte names the reduced layout.
+fn names_reduced(bytes: &[u8]) -> bool
+    ensures { result ≡ is_reduced_byte (slice_get bytes.now 13) }
+{
+    match bytes.get(LAYOUT_PLACE) {
+        Some(byte) => *byte == REDUCED_LAYOUT,
+        None => false,
     }
 }
 

@@ -1,6 +1,6 @@
 //! The keys themselves, written into a buffer of the caller's.
 
-ghost use Rattle.std.specs.Prelude.{◌≡◌, ◌⊎◌, ◌++◌, ◌<◌, ◌≤◌, ◌↔◌, None, IfSome, length, drop};
+ghost use Rattle.std.specs.Prelude.{◌++◌, ◌<◌, ◌↔◌, ◌≡◌, ◌≤◌, ◌⊎◌, drop, IfSome, length, None};
 ghost use Rattle.cedar_c.specs.Words.{dictionary_in, keys_in, shown_in, shown_tree, walk};
 
 use crate::any::AnyCedar;

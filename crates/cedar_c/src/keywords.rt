@@ -1,7 +1,7 @@
 //! The keywords of a text, of which a buffer takes as many as it has room for.
 
-ghost use Rattle.std.specs.Prelude.{◌≡◌, ◌⊎◌, ◌++◌, ◌<◌, ◌≤◌, length, take, drop, None, IsSome};
-ghost use Rattle.cedar_c.specs.Words.{GoesOn, WritesOn, dictionary_in, keywords_from, shown_in, shown_tree};
+ghost use Rattle.std.specs.Prelude.{◌<◌, ◌≡◌, ◌≤◌, ◌⊎◌, IsSome, length, None, take};
+ghost use Rattle.cedar_c.specs.Words.{dictionary_in, GoesOn, keywords_from, shown_in, shown_tree, WritesOn};
 
 use crate::any::AnyCedar;
 use crate::reading::Reading;

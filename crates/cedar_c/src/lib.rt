@@ -6,15 +6,12 @@
 #![tactic(auto)]
 
 mod any;
-mod asks;
 mod calls;
-mod copies;
 mod cuts;
-mod either;
 mod entries;
-mod erasing;
 mod figures;
 mod files;
+mod grouped;
 mod handle;
 mod held;
 mod keys;
@@ -29,8 +26,6 @@ mod room;
 mod save;
 mod scans;
 mod shown;
-mod shrink;
 mod sorted;
 mod status;
-mod texts;
 mod walks;

@@ -1,7 +1,7 @@
 //! Walks of a dictionary in pieces: a call goes on where the one before it ended.
 
-ghost use Rattle.std.specs.Prelude.{◌≡◌, ◌+◌, ◌<◌, ◌^◌, [], length, take, drop, IsTrue, false};
-ghost use Rattle.cedar_c.specs.Words.{Fit, dictionary_in, filled_matches, front, front_keys, lengthened, predict, predicted_keys, shown_tree};
+ghost use Rattle.std.specs.Prelude.{◌+◌, ◌<◌, ◌^◌, ◌≡◌, [], drop, false, IsTrue, length, take};
+ghost use Rattle.cedar_c.specs.Words.{dictionary_in, filled_matches, Fit, front, front_keys, lengthened, predict, predicted_keys, shown_tree};
 
 use crate::any::AnyCedar;
 use crate::reading::Reading;

@@ -1,8 +1,7 @@
 //! Many pairs in one call.
 
-ghost use Rattle.std.specs.Prelude.{◌≡◌, ◌⊎◌, ◌↔◌, map, None, Err, IsSome, IfSome, IfErr, OnOk, OnErr, option_map};
-ghost use Rattle.cedar_c.specs.Words.{HoldsFront, HoldsPart, IsShortage, RefusesAll, StoresFront, StoresPart, TellsPosition, all_stored, content};
-ghost use Rattle.cedar_c.specs.Words.{dictionary_in, entries_in, first_fault, layout_in, layout_of, most_slots, size_in, state_in, taken_pair, trials_in};
+ghost use Rattle.std.specs.Prelude.{◌↔◌, ◌≡◌, ◌⊎◌, Err, IfErr, IfSome, IsSome, map, None, OnErr, OnOk, option_map};
+ghost use Rattle.cedar_c.specs.Words.{all_stored, content, dictionary_in, entries_in, first_fault, HoldsFront, HoldsPart, IsShortage, layout_in, layout_of, most_slots, RefusesAll, size_in, state_in, StoresFront, StoresPart, taken_pair, TellsPosition, trials_in};
 
 use crate::any::AnyCedar;
 use crate::handle::Handle;

@@ -1,14 +1,8 @@
 //! The dictionary of a store, whose file C keeps (`c/store.c`): each call writes down a plan, and C carries it out before it acknowledges the
 //! change. These exports are the library's own, and no program sees them.
 
-ghost use Rattle.std.specs.Prelude.{◌≡◌, ◌≢◌, ◌⊎◌, ◌↔◌, ◌+◌, ◌<◌, ◌≤◌, ◌^◌, ◌++◌, ◌∷◌, ℕ, List, IfErr, IfOk, IfSome, IsFalse, IsSome, IsTrue, None, Some, length, option_map};
-ghost use Rattle.cedar_c.specs.Words.{IsChange, IsOpening, LacksChange, LacksRecord, TellsWhy, content, dictionary_in, erased, fault, layout_if};
-ghost use Rattle.cedar_c.specs.Words.{layout_in, layout_of, number_at, position_of, state_in, status_of, store_status, stored, tree_in, works_of};
-ghost use Rattle.cedar_journal.specs.Files.{HasExtent};
-ghost use Rattle.cedar_journal.specs.Records.{framed};
-ghost use Rattle.cedar_plan.specs.Works.{append_works, end_of};
-ghost use Rattle.cedar_store.specs.Causes.{LoadCause};
-ghost use Rattle.cedar_store.specs.Files.{state_of};
+ghost use Rattle.std.specs.Prelude.{◌≡◌, ◌≢◌, ◌⊎◌, ◌↔◌, ◌+◌, ◌<◌, ◌≤◌, ◌^◌, ◌++◌, ◌∷◌, ℕ, List, IfErr, IfOk, IfSome, IsFalse, IsSome, IsTrue, None, Some, length, option_map, take};
+ghost use Rattle.cedar_c.specs.Words.{AddsChange, append_works, content, dictionary_in, end_of, erase_at, erased, fault, framed, HasExtent, IsChange, IsOpening, LacksChange, LacksRecord, layout_if, layout_in, layout_of, LoadCause, number_at, position_of, put_at, state_in, state_of, status_of, store_status, stored, TellsWhy, tree_in, works_of};
 
 use crate::any::AnyCedar;
 use crate::handle::Handle;
@@ -103,6 +97,10 @@ pub extern "C" fn cedar_plan_put(
     //  crash at any moment, also where a step fails, leaves the one or the other. [by IsChange]
     ensures planned { result ≡ OK → IfSome (state_in handle.old) (λ s. IsChange (works_of buffer.new plan.new) end.old end.new s (stored s key.now value)) }
 
+    //= What a put that answers `OK` has written is the record of its change, which may stand behind those of a group without its last byte. So
+    //  it is of an erasure of a key that was held. [also cedar_plan_erase]
+    ensures recorded { result ≡ OK → AddsChange (put_at key.now value) (take (length key.now + 10) buffer.new) }
+
     //= A put answers the number of the pair's first fault, with the place of a byte 0; else it is refused only where the records end too far
     //  back, the record is too long or finds no room, or for want of memory or slots. [with refused]
     ensures faulty { IsSome (content handle.old) → IfSome (fault key.now value) (λ e. (result ≡ status_of e) × (position.new ≡ position_of position.old e)) }
@@ -145,6 +143,8 @@ pub extern "C" fn cedar_plan_erase(
     //  the disk. A crash at any moment, also where a step fails, leaves the one or the other. [by IsChange]
     ensures planned { result ≡ OK → IsTrue held.new
         → IfSome (state_in handle.old) (λ s. IsChange (works_of buffer.new plan.new) end.old end.new s (erased s key.now)) }
+
+    ensures recorded { result ≡ OK → IsTrue held.new → AddsChange (erase_at key.now) (take (length key.now + 6) buffer.new) }
 
     //= An erasure is refused only where the records end too far back, the record is too long or finds no room, or for want of memory.
     ensures refused { IsSome (content handle.old) → (result ≡ OK) ⊎ LacksRecord end.old (length key.now + 1) (length buffer.old) result }
@@ -250,6 +250,7 @@ impl AnyCedar {
         ensures untold { (result ≡ OK) ⊎ ((held.new ≡ held.old) × (before.new ≡ before.old) × (end.new ≡ end.old) × (plan.new ≡ plan.old)) }
         ensures layout { layout_of self.new ≡ layout_of self.old }
         ensures planned { result ≡ OK → IsChange (works_of buffer.new plan.new) end.old end.new (dictionary_in self.old).state (stored (dictionary_in self.old).state key.now value) }
+        ensures recorded { result ≡ OK → AddsChange (put_at key.now value) (take (length key.now + 10) buffer.new) }
         ensures faulty { IfSome (fault key.now value) (λ e. (result ≡ status_of e) × (position.new ≡ position_of position.old e)) }
         ensures refused { fault key.now value ≡ None → LacksChange end.old (length key.now + 5) (length buffer.old) result }
     {
@@ -292,6 +293,7 @@ impl AnyCedar {
         ensures layout { layout_of self.new ≡ layout_of self.old }
         ensures planned { result ≡ OK → IsTrue held.new
             → IsChange (works_of buffer.new plan.new) end.old end.new (dictionary_in self.old).state (erased (dictionary_in self.old).state key.now) }
+        ensures recorded { result ≡ OK → IsTrue held.new → AddsChange (erase_at key.now) (take (length key.now + 6) buffer.new) }
         ensures refused { (result ≡ OK) ⊎ LacksRecord end.old (length key.now + 1) (length buffer.old) result }
     {
         if !self.contains_key_bytes(key) {
@@ -311,7 +313,7 @@ impl AnyCedar {
 }
 
 /// Tells the plan by which a record of so many bytes is appended where the records end, and moves that behind it.
-fn go_on(size: usize, end: &mut usize, plan: &mut Plan)
+pub(crate) fn go_on(size: usize, end: &mut usize, plan: &mut Plan)
     requires room { end.old < 2 ^ 60 }
     requires record { 6 ≤ size }
     requires short { size < 2 ^ 33 }

@@ -1,11 +1,7 @@
 //! The records of changes, written into a buffer of the caller's.
 
 ghost use Rattle.std.specs.Prelude.{◌==◌, ◌≡◌, ◌+◌, ◌<◌, ◌^◌, ◌++◌, ◌∷◌, ℕ, IfErr, IfOk, IfSome, IsOk, List, None, OnOk, length, position};
-ghost use Rattle.cedar_c.specs.Changes.{IsRecord};
-ghost use Rattle.cedar_c.specs.Words.{LacksRecord, fault};
-ghost use Rattle.cedarwood.specs.Words.{key_fault, value_fault};
-ghost use Rattle.cedar_journal.specs.Records.{framed};
-ghost use Rattle.cedar_store.specs.Changes.{erase_at, put_at};
+ghost use Rattle.cedar_c.specs.Words.{erase_at, fault, framed, IsRecord, key_fault, LacksRecord, put_at, value_fault};
 
 use crate::save::copy_whole;
 use crate::status::{MEMORY, NO_ROOM, OK, STORE_FULL, STORE_TOO_LONG};

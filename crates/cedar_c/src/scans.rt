@@ -1,7 +1,7 @@
 //! Long texts, of which a buffer takes as much as it has room for: a call goes on where the one before it ended.
 
-ghost use Rattle.std.specs.Prelude.{◌≡◌, ◌⊎◌, ℕ, ℤ, List, ◌∷◌, ◌++◌, ◌+◌, ◌<◌, ◌≤◌, ◌^◌, [], length, map, take, drop, set, None, IfSome, IsSome};
-ghost use Rattle.cedar_c.specs.Words.{Fit, GoesOn, dictionary_in, front, shown_in, shown_tree, spot, spots_from, tokens_from};
+ghost use Rattle.std.specs.Prelude.{◌++◌, ◌+◌, ◌<◌, ◌^◌, ◌∷◌, ◌≡◌, ◌≤◌, ◌⊎◌, drop, IfSome, IsSome, length, map, None, set, take};
+ghost use Rattle.cedar_c.specs.Words.{dictionary_in, Fit, front, GoesOn, shown_in, shown_tree, spot, spots_from, tokens_from, Tree};
 
 use crate::any::AnyCedar;
 use crate::reading::Reading;
@@ -21,11 +21,6 @@ pub struct Found {
 
 /// A dictionary whose keys are looked for in texts.
 trait Scanned: LongestPrefix {
-    ghost use Rattle.std.specs.Prelude.{◌≡◌, ◌+◌, ◌<◌, ◌≤◌, length, map, take, ◌++◌, None, IfSome};
-    ghost use Rattle.cedar_tree.specs.Tree.{Tree};
-    ghost use Rattle.cedar_tree.specs.Queries.{front};
-    ghost use Rattle.cedar_c.specs.Scans.{spot};
-
     ghost scanned: { Self → Tree };
 
     /// Writes the held fronts of a text behind the first `count` places of a buffer, as those of the place where the text begins,

@@ -1,10 +1,7 @@
 //! A dictionary that is lent for reading, as a pointer that C can copy.
 
 ghost use Rattle.std.specs.Prelude.{◌≡◌, ℕ, Option, Some, IsSome};
-ghost use Rattle.std.specs.Coded.{coded_option};
-ghost use Rattle.cedar_c.specs.declared.any.AnyCedar.{AnyCedar};
-ghost use Rattle.cedar_c.specs.Layouts.{any_code};
-ghost use Rattle.cedar_c.specs.Ownership.{shown_owns, held_lends};
+ghost use Rattle.cedar_c.specs.FieldWords.{any_code, AnyCedar, coded_option, held_lends, shown_owns};
 
 use crate::any::AnyCedar;
 use std::marker::{Model, Send};
@@ -24,8 +21,7 @@ impl Model for Shown {
 }
 
 impl Shown {
-    ghost use Rattle.std.specs.Borrow.{sem};
-    ghost use Rattle.cedar_c.specs.Lending.{LendsSeen, as_shown};
+    ghost use Rattle.cedar_c.specs.Words.{as_shown, LendsSeen, sem};
 
     /// The same pointer, as one that is read through a `&`: no type with such a pointer may cross to C.
     pub(crate) fn see(&mut self) -> &mut Seen

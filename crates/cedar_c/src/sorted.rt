@@ -1,9 +1,7 @@
 //! A dictionary of sorted pairs, made at once.
 
-ghost use Rattle.std.specs.Prelude.{◌≡◌, ◌⊎◌, None, Some, Err, IfOk, IfErr, IfSome};
-ghost use Rattle.cedar_c.specs.Words.{IsSlotLimit, IsSorted, MayWantSlots, OpensSorted, TellsFault, TellsPosition, content, default_layout, dictionary_in};
-ghost use Rattle.cedar_c.specs.Words.{entries_in, fault_in, layout_if, layout_in, layout_of, most_slots, reduced_layout};
-ghost use Rattle.cedar_c.specs.declared.any.AnyCedar.{AnyCedar};
+ghost use Rattle.std.specs.Prelude.{◌≡◌, ◌⊎◌, Err, IfErr, IfOk, IfSome, None, Some};
+ghost use Rattle.cedar_c.specs.Words.{AnyCedar, content, default_layout, dictionary_in, entries_in, fault_in, IsSlotLimit, IsSorted, layout_if, layout_in, layout_of, MayWantSlots, most_slots, OpensSorted, reduced_layout, TellsFault, TellsPosition};
 
 use crate::any::AnyCedar;
 use crate::handle::Handle;

@@ -1,8 +1,7 @@
 //! Walks of a dictionary, written into a buffer of the caller's.
 
-ghost use Rattle.std.specs.Prelude.{◌≡◌, ℕ, ℤ, List, ◌∷◌, ◌++◌, ◌+◌, ◌<◌, ◌^◌, length, take, drop};
-ghost use Rattle.cedar_c.specs.Words.{Fit, dictionary_in, filled_from, filled_matches, front, front_keys, lengthened, longer, predict, predicted_keys};
-ghost use Rattle.cedar_c.specs.Words.{shown_tree};
+ghost use Rattle.std.specs.Prelude.{◌+◌, ◌<◌, ◌^◌, ◌∷◌, ◌≡◌, [], length, List, MatchOption, ℕ, ℤ};
+ghost use Rattle.cedar_c.specs.Words.{dictionary_in, filled_from, filled_matches, Fit, front, front_keys, lengthened, longer, predict, predicted_keys, shown_tree};
 
 use crate::any::AnyCedar;
 use crate::reading::Reading;
@@ -19,8 +18,6 @@ pub struct Match {
 
 /// What finds keys, one after another.
 pub(crate) trait Finds {
-    ghost use Rattle.std.specs.Prelude.{◌≡◌, ℕ, ℤ, List, [], ◌∷◌, MatchOption};
-
     /// Those that are still to come.
     ghost left: { Self → List (ℤ × ℕ) };
 

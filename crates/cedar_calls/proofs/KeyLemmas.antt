@@ -4,7 +4,7 @@ use Rattle.std.specs.List.{Contains, filter, starts_with}
 use Rattle.cedar_tree.specs.Tree.{Tree, cut, number_at, put, IsSoundBelow}
 use Rattle.cedar_tree.specs.Queries.{Entry, is_path, last_at, walk}
 use Rattle.cedar_tree.specs.State.{State, erased, stored}
-use Rattle.cedar_tree.proofs.BuildLemmas.{is_path_itself, same_path}
+use Rattle.cedar_tree.proofs.EntryLemmas.Built.{is_path_itself, same_path}
 use Rattle.cedar_tree.proofs.TreeLemmas.{number_at-cut_other, number_at-cut_same, number_at-empty, number_at-put_other, number_at-put_same, sound-cut}
 use Rattle.cedar_tree.proofs.MemberLemmas.{contains_first_or_later, contains_none, either_part, into_filter, walk_from_held}
 use Rattle.cedarwood.specs.declared.error.CedarError.{CedarError}

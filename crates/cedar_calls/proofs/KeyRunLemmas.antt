@@ -7,7 +7,7 @@ use Rattle.std.proofs.lemmas.List.{map-append, map-set}
 use Rattle.std.proofs.lemmas.Option.{slice_get-map}
 use Rattle.cedar_tree.specs.Tree.{IsSoundBelow, number_at}
 use Rattle.cedar_tree.specs.Queries.{Entry, is_path, last_at}
-use Rattle.cedar_tree.proofs.BuildLemmas.{number_at-asc}
+use Rattle.cedar_tree.proofs.EntryLemmas.Built.{number_at-asc}
 use Rattle.cedar_tree.proofs.TreeLemmas.{number_at-empty}
 use Rattle.cedarwood.specs.declared.error.CedarError.{CedarError}
 use Rattle.cedarwood.specs.Words.{Pair, entries_of}

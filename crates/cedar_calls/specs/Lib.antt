@@ -6,3 +6,4 @@ pub mod Plain
 pub mod Agreement
 pub mod Keys
 pub mod Files
+pub mod Words

@@ -1,7 +1,6 @@
 //! Changes of a dictionary.
 
-ghost use Rattle.cedarwood.specs.Words.{IsValid};
-ghost use Rattle.cedar_calls.specs.Changes.{IsChange};
+ghost use Rattle.cedar_calls.specs.Words.{IsChange, IsValid};
 
 use crate::{Change, Changed};
 use cedarwood::{Layout, Trie};

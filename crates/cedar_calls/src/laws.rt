@@ -1,9 +1,6 @@
 //! What follows from a run's steps alone.
 
-ghost use Rattle.cedar_calls.specs.Agreement.{RunsAgree};
-ghost use Rattle.cedar_calls.specs.Files.{SavesLoadAgain};
-ghost use Rattle.cedar_calls.specs.Keys.{KeysStandAlone, KeysStandAloneInRuns};
-ghost use Rattle.cedar_calls.specs.Plain.{TreesDecide};
+ghost use Rattle.cedar_calls.specs.Words.{KeysStandAlone, KeysStandAloneInRuns, RunsAgree, SavesLoadAgain, TreesDecide};
 
 use crate::{Answer, Call, Reply};
 use std::alloc::Allocator;

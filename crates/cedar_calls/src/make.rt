@@ -1,13 +1,9 @@
 //! Further dictionaries.
 
-ghost use Rattle.std.specs.Prelude.{◌≡◌, ◌+◌, ◌<◌, ◌≤◌, slice_get, Some, vec_len};
-ghost use Rattle.std.specs.Vec.{vec_capacity};
-ghost use Rattle.cedarwood.specs.Words.{IsSlotLimit};
-ghost use Rattle.cedar_calls.specs.Making.{IsCopy, Joins};
-ghost use Rattle.cedar_calls.specs.Runs.{IsStep};
-ghost use Rattle.cedar_calls.specs.declared.call.Call.TheVariants as call;
+ghost use Rattle.std.specs.Prelude.{◌+◌, ◌<◌, ◌≡◌, ◌≤◌, vec_capacity, vec_len};
+ghost use Rattle.cedar_calls.specs.Words.{IsCopy, IsSlotLimit, IsStep, Joins};
 
-use crate::Answer;
+use crate::{Answer, Call};
 use cedarwood::{CedarError, Layout, Trie};
 use std::alloc::Allocator;
 
@@ -34,7 +30,7 @@ pub(crate) fn load<L: Layout, const SLOTS: usize, A: Allocator + Copy>(
 ) -> Answer<A>
     requires limit { IsSlotLimit SLOTS }
     requires room { vec_len tries.old < vec_capacity tries.old }
-    ensures step { IsStep L.kind SLOTS tries.old.items (call.Load bytes.entry limit) result tries.new.items }
+    ensures step { IsStep L.kind SLOTS tries.old.items (Call.Load bytes.entry limit) result tries.new.items }
     ensures len { vec_len tries.new ≤ vec_len tries.old + 1 }
     ensures capacity { vec_capacity tries.new ≡ vec_capacity tries.old }
 {

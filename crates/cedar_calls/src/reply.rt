@@ -1,13 +1,7 @@
 //! Replies of a dictionary.
 
-ghost use Rattle.std.specs.Prelude.{◌≡◌, ◌++◌, [], ◌∷◌, cond, map, OnOk, option_map, string_bytes};
-ghost use Rattle.cedar_tree.specs.Queries.{exact, walk};
-ghost use Rattle.cedarwood.specs.Words.{keys_of};
-ghost use Rattle.cedarwood.specs.Ranges.{entries_since, entries_with};
-ghost use Rattle.cedarwood.specs.RangeWalks.{entries_between};
-ghost use Rattle.cedarwood.specs.Ends.{first_entry, last_entry};
-ghost use Rattle.cedar_format.specs.Tables.{IsTableFile};
-ghost use Rattle.cedar_calls.specs.Replies.{AreTexts, Collects, IsFigure, IsReply, in_order};
+ghost use Rattle.std.specs.Prelude.{◌++◌, ◌∷◌, ◌≡◌, [], cond, map, OnOk, option_map, string_bytes};
+ghost use Rattle.cedar_calls.specs.Words.{AreTexts, Collects, entries_between, entries_since, entries_with, exact, first_entry, in_order, IsFigure, IsReply, IsTableFile, keys_of, last_entry, walk};
 
 use crate::{Figure, Question, Reply};
 use cedarwood::{CedarError, EntryError, Layout, Trie, Watched};

@@ -1,9 +1,7 @@
 //! Runs of calls, one after another.
 
-ghost use Rattle.std.specs.Prelude.{◌≡◌, ◌+◌, ◌<◌, ◌≤◌, IfOk, OnErr, vec_len};
-ghost use Rattle.std.specs.Vec.{vec_capacity};
-ghost use Rattle.cedarwood.specs.Words.{IsSlotLimit};
-ghost use Rattle.cedar_calls.specs.Runs.{IsRun, IsStep};
+ghost use Rattle.std.specs.Prelude.{◌+◌, ◌<◌, ◌≡◌, ◌≤◌, IfOk, OnErr, vec_capacity, vec_len};
+ghost use Rattle.cedar_calls.specs.Words.{IsRun, IsSlotLimit, IsStep};
 
 use crate::change::{is_valid, make_change};
 use crate::make::{copy, join, load};

@@ -6,8 +6,8 @@ use Rattle.std.proofs.lemmas.Bool.Decides.{eqb_tells}
 use Rattle.cedar_tree.specs.State.{State, stored, erased}
 use Rattle.cedar_tree.specs.Tree.{IsSound, Tree, is_bare, number_at}
 use Rattle.cedar_tree.specs.Queries.{IsFront, is_path, node_at, prefixes, used, walk}
-use Rattle.cedar_tree.proofs.BuildLemmas.{is_path_itself, same_path}
-use Rattle.cedar_tree.proofs.PrefixLemmas.{front_of_node, node_of_held}
+use Rattle.cedar_tree.proofs.EntryLemmas.Built.{is_path_itself, same_path}
+use Rattle.cedar_tree.proofs.EntryLemmas.Prefixes.{front_of_node, node_of_held}
 use Rattle.cedarwood.specs.declared.error.CedarError.{CedarError}
 use Rattle.cedar_model.specs.Meaning.Marks.{HasMark, IsProperFront, MarksCut, MarksPut}
 use Rattle.cedar_model.specs.Table.Layouts.{LayoutKind, default_layout, reduced_layout}

@@ -18,18 +18,15 @@
 //! an optional sign and decimal digits, in the range of an `i32`. One space parts the fields.
 #![tactic(auto)]
 
+mod answers;
 mod command;
-mod entry_lines;
-mod explain;
 mod fits;
 mod options;
-mod pairs;
 mod program;
 mod script;
-mod tokens;
 mod verbs;
 mod write;
 
-pub use explain::explain_line;
+pub use command::explain_line;
 pub use program::{DONE, FAULT, REFUSED, USAGE, USAGE_LINE, run_program};
 pub use script::{ScriptError, run_script};

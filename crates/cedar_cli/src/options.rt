@@ -1,7 +1,7 @@
 //! The program's options.
 
 ghost use Rattle.std.specs.Prelude.{◌≡◌, option_map};
-ghost use Rattle.cedar_cli.specs.Options.{limit_of, limit_or_default, request_besides, request_of, is_excluded, request_in, words};
+ghost use Rattle.cedar_cli.specs.Words.{is_excluded, limit_of, limit_or_default, request_besides, request_in, request_of, words};
 
 use cedarwood::DEFAULT_LOAD_MEMORY_LIMIT;
 

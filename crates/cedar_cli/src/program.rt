@@ -1,8 +1,7 @@
 //! The program: arguments, files and three streams in, a status out.
 
-ghost use Rattle.std.specs.Prelude.{◌≡◌, ◌<◌, ◌≤◌, ◌^◌, ◌↔◌, true, length, None, OnOk, OnErr, IfErr, IfOk, IfSome};
-ghost use Rattle.cedar_cli.specs.Words.{AnswersAll, AnswersUpTo, BeginsWith, IsSlotLimit, OnAsked, OnBegun, asked_limit, has_failed, layout_byte, request_in, request_of, view_of};
-ghost use Rattle.cedar_cli.specs.Loads.{LacksWithin};
+ghost use Rattle.std.specs.Prelude.{◌<◌, ◌↔◌, ◌≡◌, ◌≤◌, IfErr, IfOk, IfSome, None, OnOk, true};
+ghost use Rattle.cedar_cli.specs.Words.{AnswersAll, AnswersUpTo, asked_limit, BeginsWith, has_failed, IsSlotLimit, LacksWithin, layout_byte, OnAsked, OnBegun, request_in, request_of, view_of};
 
 use crate::fits::fits;
 use crate::options::{Options, limit_or_default, options_of};

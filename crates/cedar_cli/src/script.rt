@@ -1,8 +1,7 @@
 //! A run of a script: lines in, answers out.
 
-ghost use Rattle.std.specs.Prelude.{◌≡◌, ◌⊎◌, ◌<◌, ◌≤◌, ◌^◌, ◌+◌, List, ℕ, [], ◌∷◌, ◌++◌, length, true, OnOk, OnErr, IfErr, IfOk, IfSome, position, vec_capacity};
-ghost use Rattle.cedar_cli.specs.Words.{AdvancesBy, Answers, EndsInput, FinishesAll, FinishesComing, GrowsBefore, GrowsWithin, HasLineRoom, HasNoNewline, LineFault, LineMayLackMemory, OnWriter, StopsOn, has_failed, held_by};
-ghost use Rattle.cedar_cli.specs.Words.{is_newline, order_of};
+ghost use Rattle.std.specs.Prelude.{◌++◌, ◌+◌, ◌<◌, ◌∷◌, ◌≡◌, ◌≤◌, [], IfErr, IfOk, IfSome, length, OnErr, OnOk, position, true, vec_capacity};
+ghost use Rattle.cedar_cli.specs.Words.{AdvancesBy, Answers, EndsInput, FinishesAll, FinishesComing, GrowsBefore, GrowsWithin, has_failed, HasLineRoom, HasNoNewline, held_by, is_newline, LineFault, LineMayLackMemory, OnWriter, order_of, StopsOn};
 
 use crate::verbs::answer_line;
 use cedarwood::{Layout, Trie, Watched};

@@ -1,13 +1,11 @@
 //! The answer to one line. A line whose answer isn't written whole changes no key and no value.
 
-ghost use Rattle.std.specs.Prelude.{◌≡◌, ◌⊎◌, ◌<◌, ◌≤◌, ◌*◌, ◌++◌, ◌∷◌, [], length, Some, None, MatchOption, IsSome, OnOk, OnErr};
-ghost use Rattle.cedar_cli.specs.Words.{Answers, BreaksOff, Grows, GrowsWithin, IsPairFault, IsTakenBack, LineFault, MayLackMemory, Writes, WritesOrFails, figures_text, found_text, has_failed, held_by, number_at, order_of, put_text};
+ghost use Rattle.std.specs.Prelude.{◌*◌, ◌++◌, ◌<◌, ◌∷◌, ◌≡◌, ◌≤◌, [], IsSome, length, MatchOption, OnErr, OnOk, Some};
+ghost use Rattle.cedar_cli.specs.Words.{Answers, BreaksOff, figures_text, found_text, Grows, GrowsWithin, has_failed, held_by, IsPairFault, IsTakenBack, LineFault, MayLackMemory, number_at, order_of, put_text, Writes, WritesOrFails};
 
+use crate::answers::{write_entries, write_pairs, write_tokens};
 use crate::command::{Verb, parse_line};
-use crate::entry_lines::write_entries;
-use crate::pairs::write_pairs;
 use crate::script::ScriptError;
-use crate::tokens::write_tokens;
 use crate::write::{write_line, write_whole};
 use cedar_words::segment;
 use cedarwood::{CedarError, Layout, Trie, Watched};

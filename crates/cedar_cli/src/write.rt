@@ -1,7 +1,7 @@
 //! Bytes written whole, or a first part of them and a fault. No other writer calls the device.
 
-ghost use Rattle.std.specs.Prelude.{◌++◌, ◌∷◌, [], OnOk, OnErr};
-ghost use Rattle.cedar_cli.specs.Words.{BreaksOff, Writes, WritesOrFails, has_failed};
+ghost use Rattle.std.specs.Prelude.{◌++◌, ◌∷◌, [], OnErr, OnOk};
+ghost use Rattle.cedar_cli.specs.Words.{BreaksOff, has_failed, Writes, WritesOrFails};
 
 use crate::script::ScriptError;
 use cedarwood::Watched;

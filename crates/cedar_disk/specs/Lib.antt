@@ -3,4 +3,4 @@ pub mod Calls
 pub mod Errors
 pub mod FileDevices
 pub mod Laws
-pub mod Replacing
+pub mod Words

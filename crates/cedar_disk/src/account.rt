@@ -1,9 +1,7 @@
 //! What the calls so far make of a file: what a read returns, and what a crash may leave. `specs/Calls.antt` has the model.
 
 ghost use Rattle.std.specs.Prelude.{◌≡◌, ◌<◌, ◌≤◌, ◌+◌, [], ◌∷◌, false, length, IfErr, IsTrue, OnErr, OnOk};
-ghost use Rattle.cedar_journal.specs.Device.{Only};
-ghost use Rattle.cedar_journal.specs.declared.device.DeviceError.TheVariants.{Failed};
-ghost use Rattle.cedar_disk.specs.Calls.{opened, written, shortened, synced, replaced, extended, refused, all_within, is_usable_after, seen_after, OnDisk};
+ghost use Rattle.cedar_disk.specs.Words.{all_within, extended, is_usable_after, OnDisk, Only, opened, refused, replaced, seen_after, shortened, synced, written};
 
 use crate::history::History;
 use cedar_journal::DeviceError;
@@ -74,7 +72,7 @@ impl Account {
         ensures usable { OnOk result (IsTrue (is_usable_after (calls_of self.new))) }
         ensures same { OnOk result (self.new ≡ self.old) }
         ensures refused { OnErr result (calls_of self.new ≡ refused ∷ calls_of self.old) }
-        ensures failed { IfErr result (λ e. e ≡ Failed) }
+        ensures failed { IfErr result (λ e. e ≡ DeviceError.Failed) }
     {
         if self.is_usable {
             return Ok(());

@@ -1,19 +1,15 @@
 //! A file of the operating system as a device.
 
 ghost use Rattle.std.specs.Prelude.{◌≡◌, length, IfOk};
-ghost use Rattle.std.specs.Option.{ForSome};
-ghost use Rattle.cedar_journal.specs.Device.{Only};
-ghost use Rattle.cedar_journal.specs.declared.device.DeviceError.TheVariants.{Failed};
+ghost use Rattle.cedar_disk.specs.Words.{counts_now, faults_in, ForSome, LeftSince, MayLeave, Only, only_now, seen_after};
 ghost use Rattle.cedar_disk.specs.Accounts.{calls_of};
-ghost use Rattle.cedar_disk.specs.Calls.{faults_in, seen_after, LeftSince, MayLeave};
-ghost use Rattle.cedar_disk.specs.Laws.{counts_now, only_now};
 
 use crate::system::{
     make_file, open_file, open_folder, put_in_place, read_all, resolve, write_all_at,
     write_synced_at,
 };
-use crate::{Account, OpenError, ReplaceDevice, ReplaceError};
-use cedar_journal::{Device, DeviceError};
+use crate::{Account, OpenError};
+use cedar_journal::{Device, DeviceError, ReplaceDevice, ReplaceError};
 use std::alloc::Allocator;
 use std::fs::{self, OpenFile};
 use std::io;
@@ -76,7 +72,7 @@ impl<F: Files + Drop, A: Allocator + Copy> FileDevice<F, A> {
 }
 
 fn failed(_error: io::Error) -> DeviceError
-    ensures { result ≡ Failed }
+    ensures { result ≡ DeviceError.Failed }
 {
     DeviceError::Failed
 }

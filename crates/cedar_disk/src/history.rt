@@ -1,8 +1,7 @@
 //! A list of calls that only clauses read. It takes no memory.
 
 ghost use Rattle.std.specs.Prelude.{◌≡◌, List, [], ◌∷◌};
-ghost use Rattle.std.specs.Borrow.{ftrue};
-ghost use Rattle.cedar_disk.specs.Calls.{Call, call_of};
+ghost use Rattle.cedar_disk.specs.Words.{Call, call_of, ftrue};
 
 use std::marker::{Model, PhantomData};
 

@@ -4,10 +4,9 @@
 mod account;
 mod file;
 mod history;
-mod replace;
 mod system;
 
 pub(crate) use account::Account;
+pub use cedar_journal::{ReplaceDevice, ReplaceError};
 pub use file::FileDevice;
-pub use replace::{ReplaceDevice, ReplaceError};
 pub use system::OpenError;

@@ -1,8 +1,7 @@
 //! The calls of the system. No contract can say what they do: `specs/Calls.antt` has what is supposed of them.
 
 ghost use Rattle.std.specs.Prelude.{◌≡◌};
-ghost use Rattle.cedar_disk.specs.declared.system.OpenError.TheVariants.{Memory};
-ghost use Rattle.cedar_disk.specs.Errors.{TellsKind};
+ghost use Rattle.cedar_disk.specs.Words.{Memory, TellsKind};
 
 use std::alloc::{AllocError, Allocator};
 use std::fs;

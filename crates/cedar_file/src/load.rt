@@ -1,7 +1,7 @@
 //! How a table is loaded, and tested before anybody has it.
 
-ghost use Rattle.std.specs.Prelude.{◌≡◌, ◌≤◌, ◌^◌, ◌+◌, ◌*◌, IfErr};
-ghost use Rattle.cedar_file.specs.Words.{CorruptData, CountsWithin, IsFile, IsIo, IsLack, IsSlotLimit, LoadsBy, TellsBreaks, fields, file_fields, layout_byte, need, refusal, refusal_of, trial_refusal};
+ghost use Rattle.std.specs.Prelude.{◌*◌, ◌+◌, ◌^◌, ◌≡◌, ◌≤◌, IfErr};
+ghost use Rattle.cedar_file.specs.Words.{CorruptData, CountsWithin, fields, file_fields, IsFile, IsIo, IsLack, IsSlotLimit, layout_byte, LoadsBy, need, refusal, refusal_of, TellsBreaks, trial_refusal};
 
 use crate::check::check_well_formed;
 use cedar_format::{CedarPersistenceError, Decoded, Header, Source, decode_counted};

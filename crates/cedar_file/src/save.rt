@@ -1,7 +1,7 @@
 //! How a table is written.
 
-ghost use Rattle.std.specs.Prelude.{◌≡◌, true, IfErr, OnOk};
-ghost use Rattle.cedar_file.specs.Words.{Appends, FitsTable, IsIo, device_of, fields, has_failed, header_of, table_bytes};
+ghost use Rattle.std.specs.Prelude.{◌≡◌, IfErr, OnOk, true};
+ghost use Rattle.cedar_file.specs.Words.{Appends, device_of, fields, FitsTable, has_failed, header_of, IsIo, table_bytes};
 
 use cedar_format::{
     CedarPersistenceError, Header, Watched, listed_slots, write_header, write_lists,

@@ -1,7 +1,7 @@
 //! The tables of a file.
 
-ghost use Rattle.std.specs.Prelude.{◌≡◌, ◌<◌, ◌≤◌, ◌+◌, ◌/◌, ◌^◌, true, false, length, [], IfErr, IfOk, OnOk, None, vec_capacity};
-ghost use Rattle.cedar_format.specs.Words.{Appends, Consumes, CountsWithin, DecodesBy, FitsBody, IsAtEnd, IsIo, IsSlotLimit, LacksTable, Misses, Passes, TellsBreaks, Trails, blank_block, blank_info, blank_node, body_bytes, body_len, device_of, filled_list, has_failed, need, tables_len};
+ghost use Rattle.std.specs.Prelude.{◌+◌, ◌/◌, ◌<◌, ◌^◌, ◌≡◌, ◌≤◌, [], false, IfErr, IfOk, length, OnOk, true, vec_capacity};
+ghost use Rattle.cedar_format.specs.Words.{Appends, blank_block, blank_info, blank_node, body_bytes, body_len, Consumes, CountsWithin, DecodesBy, device_of, filled_list, FitsBody, has_failed, IsAtEnd, IsIo, IsSlotLimit, LacksTable, Misses, need, Passes, tables_len, TellsBreaks, Trails};
 
 use crate::buffer::BUFFER_LEN;
 use crate::error::CedarPersistenceError;

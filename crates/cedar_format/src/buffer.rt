@@ -1,7 +1,7 @@
 //! Numbers at the front of some bytes, at a place among them, and behind those in a buffer.
 
-ghost use Rattle.std.specs.Prelude.{◌≡◌, ◌<◌, ◌≤◌, ◌+◌, length, take, ◌∷◌, ◌++◌};
-ghost use Rattle.cedar_format.specs.Words.{IsI16, IsI32, array_vec_len, i16_bytes, i32_bytes, u16_bytes, u64_bytes};
+ghost use Rattle.std.specs.Prelude.{◌++◌, ◌+◌, ◌∷◌, ◌≡◌, ◌≤◌, length, take};
+ghost use Rattle.cedar_format.specs.Words.{array_vec_len, i16_bytes, i32_bytes, IsI16, IsI32, u16_bytes, u64_bytes};
 
 use crate::header::HEADER_LEN;
 use arrayvec::ArrayVec;

@@ -1,8 +1,7 @@
 //! The header of a file.
 
-ghost use Rattle.std.specs.Prelude.{◌≢◌, ◌≡◌, ◌≤◌, ◌+◌, ◌<◌, ◌^◌, length, nat_eq, slice_index, take, List, ℕ, true, false, ◌⊎◌, IfErr, IfOk, IfNone, IfSome, IsSome, OnOk, Ok, Err};
-ghost use Rattle.cedar_format.specs.Words.{Appends, Consumes, FitsHeader, InvalidHeader, IsHeader, IsIo, IsLack, IsVersion, TellsBreaks, device_of, error_kind, has_failed, header_at, header_bytes, header_refusal, i32_at, kind_refusal, listed_slots, magic, refusal, refusal_of, size_refusal, starts_with, u16_at, u64_at, version_refusal};
-ghost use Rattle.cedar_format.specs.declared.error.CedarPersistenceError.TheVariants.{Io, Truncated};
+ghost use Rattle.std.specs.Prelude.{◌+◌, ◌<◌, ◌^◌, ◌≡◌, ◌≢◌, ◌≤◌, ◌⊎◌, Err, false, IfErr, IfNone, IfOk, IfSome, IsSome, length, List, nat_eq, Ok, OnOk, slice_index, take, true, ℕ};
+ghost use Rattle.cedar_format.specs.Words.{Appends, Consumes, device_of, error_kind, FitsHeader, has_failed, header_at, header_bytes, header_refusal, i32_at, InvalidHeader, Io, IsHeader, IsIo, IsLack, IsVersion, kind_refusal, listed_slots, magic, refusal, refusal_of, size_refusal, starts_with, TellsBreaks, Truncated, u16_at, u64_at, version_refusal};
 
 use crate::buffer::{Buffer, put_bytes, put_i32, put_u16, put_usize};
 use crate::error::CedarPersistenceError;

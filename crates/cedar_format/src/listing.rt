@@ -1,7 +1,7 @@
 //! Lists of records, in large pieces.
 
-ghost use Rattle.std.specs.Prelude.{◌≡◌, ◌+◌, ◌*◌, ◌≤◌, true, All, List, ℕ, [], ◌++◌, length, IfErr, OnOk, vec_len, vec_capacity};
-ghost use Rattle.cedar_format.specs.Words.{Appends, Consumes, IsIo, Misses, TellsBreaks, device_of, filled_list, flat_map, has_failed};
+ghost use Rattle.std.specs.Prelude.{◌*◌, ◌++◌, ◌+◌, ◌≡◌, ◌≤◌, [], All, flat_map, IfErr, length, List, OnOk, true, vec_capacity, vec_len, ℕ};
+ghost use Rattle.cedar_format.specs.Words.{Appends, Consumes, device_of, filled_list, has_failed, IsIo, Misses, TellsBreaks};
 
 use crate::buffer::BUFFER_LEN;
 use crate::error::CedarPersistenceError;

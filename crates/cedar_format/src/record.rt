@@ -1,8 +1,7 @@
 //! What a file holds lists of: the records of a table, and single numbers.
 
-ghost use Rattle.std.specs.Prelude.{◌≡◌, ℕ, ◌+◌, ◌<◌, ◌≤◌, List, ◌++◌, length, take};
-ghost use Rattle.cedar_format.specs.Words.{FitsBlock, FitsInfo, FitsNode, IsI16, block_bytes, i16_bytes, info_bytes, length-i16_bytes, length-i32_bytes, node_bytes};
-ghost use Rattle.std.proofs.Common.{rules, length-append};
+ghost use Rattle.std.specs.Prelude.{◌++◌, ◌+◌, ◌<◌, ◌≡◌, ◌≤◌, length, List, take, ℕ};
+ghost use Rattle.cedar_format.specs.Words.{block_bytes, FitsBlock, FitsInfo, FitsNode, i16_bytes, info_bytes, IsI16, length-append, length-i16_bytes, length-i32_bytes, node_bytes, rules};
 
 use crate::buffer::{take_i16, take_i32, take_u8, write_i16_at, write_i32_at};
 use cedar_slots::{BlockRecord, NInfoRecord, NodeRecord};

@@ -2,8 +2,8 @@
 //!
 //! The flags of `Watched` are out of reach here. So they are set only by a call of the device that answered a fault.
 
-ghost use Rattle.std.specs.Prelude.{◌≡◌, ◌≢◌, ◌||◌, true, false, length, is_err, IfErr, OnOk, OnErr};
-ghost use Rattle.cedar_format.specs.Words.{Appends, Consumes, EndsWithin, Keeps, ReadConsumes, ReadsAtMost, WriteAppends, WritesAtMost, device_of, error_kind, has_failed, is_broken, is_write_fault};
+ghost use Rattle.std.specs.Prelude.{◌||◌, ◌≡◌, ◌≢◌, false, IfErr, is_err, length, OnErr, OnOk, true};
+ghost use Rattle.cedar_format.specs.Words.{Appends, Consumes, device_of, EndsWithin, error_kind, has_failed, is_broken, is_write_fault, Keeps, ReadConsumes, ReadsAtMost, WriteAppends, WritesAtMost};
 
 use crate::error::CedarPersistenceError;
 use crate::source::{Source, fault_of};

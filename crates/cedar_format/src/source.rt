@@ -1,8 +1,7 @@
 //! What a file is loaded from: a watched reader, or bytes in memory.
 
-ghost use Rattle.std.specs.Prelude.{◌≡◌, ◌≢◌, false, Some};
-ghost use Rattle.cedar_format.specs.Words.{IsLack, error_kind};
-ghost use Rattle.cedar_format.specs.declared.error.CedarPersistenceError.TheVariants.{Io, Truncated};
+ghost use Rattle.std.specs.Prelude.{◌<◌, ◌≡◌, ◌≢◌, ◌≤◌, Bool, false, IfErr, IfNone, IfSome, length, List, OnOk, OnSome, Option, Some, take, true, ℕ};
+ghost use Rattle.cedar_format.specs.Words.{Consumes, error_kind, Io, IsAtEnd, IsLack, Misses, TellsBreaks, Truncated};
 
 use crate::buffer::take_bytes;
 use crate::error::CedarPersistenceError;
@@ -14,9 +13,6 @@ use std::io::ErrorKind;
 /// The calls that load know of it only what this trait says. A [`Watched`](crate::Watched) reader has failed where one of its calls
 /// did. Bytes in memory, `&[u8]`, never fail, and begin behind what was taken.
 pub trait Source {
-    ghost use Rattle.std.specs.Prelude.{◌≡◌, ◌<◌, ◌≤◌, true, Bool, length, take, List, ℕ, Option, IfErr, IfNone, IfSome, OnOk, OnSome};
-    ghost use Rattle.cedar_format.specs.Words.{Consumes, IsAtEnd, Misses, TellsBreaks, error_kind};
-
     /// The bytes that are left, where they are known.
     ghost remaining: { Self → Option (List ℕ) };
 

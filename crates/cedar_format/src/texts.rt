@@ -1,16 +1,14 @@
 //! The texts of refusals, each of which a contract knows byte by byte. Of a device's fault that is the prefix of the
 //! device's own text.
 
-ghost use Rattle.std.specs.Prelude.{option_map, ◌++◌};
-ghost use Rattle.cedar_format.specs.Words.{DisplaysOnOk, fault_prefix};
+ghost use Rattle.std.specs.Prelude.{◌++◌, option_map};
+ghost use Rattle.cedar_format.specs.Words.{DisplaysOnOk, fault_prefix, refusal_text};
 
 use crate::error::CedarPersistenceError;
 use std::error::Error;
 use std::fmt;
 
 impl fmt::Display for CedarPersistenceError {
-    ghost use Rattle.cedar_format.specs.Words.{refusal_text};
-
     //= The text of each error is known byte by byte, with its numbers in decimal digits; of `Io` that is a prefix in front of the device's
     //  own text, whatever that is. [also write_fault.writes; by refusal_text]
     ghost output = { refusal_text };

@@ -1,7 +1,7 @@
 //! A reader or writer that remembers whether one of its calls failed.
 
-ghost use Rattle.std.specs.Prelude.{◌≡◌, ◌≢◌, ◌||◌, true, false, is_err, IfErr, OnOk};
-ghost use Rattle.cedar_format.specs.Words.{Keeps, ReadConsumes, ReadsAtMost, WriteAppends, WritesAtMost, device_of, error_kind, has_failed, is_broken, is_write_fault};
+ghost use Rattle.std.specs.Prelude.{◌||◌, ◌≡◌, ◌≢◌, false, IfErr, is_err, OnOk, true};
+ghost use Rattle.cedar_format.specs.Words.{device_of, error_kind, has_failed, is_broken, is_write_fault, Keeps, ReadConsumes, ReadsAtMost, WriteAppends, WritesAtMost};
 
 use std::io;
 use std::io::{ErrorKind, Read, Write};

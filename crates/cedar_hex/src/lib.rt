@@ -4,9 +4,6 @@
 //! Which digits stand for which bytes is said by the definitions of the kit's crate `hex`.
 #![tactic(auto)]
 
-mod decode;
 mod digits;
-mod encode;
 
-pub use decode::decode_into;
-pub use encode::encode_into;
+pub use digits::{decode_into, encode_into};

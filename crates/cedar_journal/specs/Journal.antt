@@ -1,5 +1,5 @@
 -- What a journal's file is between two calls, and what a crash makes of it.
-use Rattle.std.specs.Prelude.{◌≡◌, ◌⊎◌, ℕ, ◌+◌, ◌<◌, List, ◌∷◌, ◌++◌, length, take, drop, Option}
+use Rattle.std.specs.Prelude.{◌≡◌, ◌⊎◌, ℕ, ◌+◌, ◌<◌, List, ◌∷◌, ◌++◌, length, take, drop, Option, Some}
 use Rattle.cedar_journal.specs.Device.{Only}
 use Rattle.cedar_journal.specs.Records.{framed, IsFront}
 use Rattle.cedar_journal.specs.Files.{recovered, added, HasHeader}
@@ -22,3 +22,7 @@ pub record IsStaged {D : Type 0} (seen : D → List ℕ) (may_leave : D → List
 -- the file stands for what another stands for, with one more payload or without it
 abbrev pub IsBeforeOrAfter : Option (List (List ℕ)) → List ℕ → List ℕ → Type 0
 IsBeforeOrAfter before payload file = (recovered file ≡ before) ⊎ (recovered file ≡ added payload before)
+
+-- the file stands for what another stands for, or for these payloads
+abbrev pub StandsForEither : Option (List (List ℕ)) → List (List ℕ) → List ℕ → Type 0
+StandsForEither before payloads file = (recovered file ≡ before) ⊎ (recovered file ≡ Some payloads)

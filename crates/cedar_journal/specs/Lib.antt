@@ -1,7 +1,12 @@
 pub mod Device
+pub mod Fields
 pub mod Files
 pub mod Frames
+pub mod Image
+pub mod Images
 pub mod Journal
 pub mod Memory
 pub mod Past
 pub mod Records
+pub mod Replacing
+pub mod Words

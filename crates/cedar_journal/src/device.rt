@@ -1,8 +1,7 @@
 //! A file as the journal sees it: what a read returns, and what a crash may leave.
 
-ghost use Rattle.std.specs.Prelude.{◌≡◌, ◌≤◌, List, ℕ, length, take, IfOk, OnOk};
-ghost use Rattle.cedar_journal.specs.declared.device.DeviceError.TheVariants.{Memory};
-ghost use Rattle.cedar_journal.specs.Device.{Only, Follows, Torn, Cut, Holds, Elapses, HasCause};
+ghost use Rattle.std.specs.Prelude.{◌≡◌, ◌≤◌, IfOk, length, List, OnOk, take, ℕ};
+ghost use Rattle.cedar_journal.specs.Words.{Cut, Elapses, Follows, HasCause, Holds, Memory, Only, Torn};
 
 use std::alloc::{AllocError, AllocFailed, Allocator};
 

@@ -1,7 +1,7 @@
 //! What the bytes of a file are: a journal's, how far they go, or those of another file.
 
-ghost use Rattle.std.specs.Prelude.{◌≡◌, IfOk, OnErr, None};
-ghost use Rattle.cedar_journal.specs.Files.{is_begun, recovered, HasExtent};
+ghost use Rattle.std.specs.Prelude.{◌≡◌, IfOk, None, OnErr};
+ghost use Rattle.cedar_journal.specs.Words.{HasExtent, is_begun, recovered};
 
 use crate::records::{end_of, first_payload};
 

@@ -1,8 +1,7 @@
 //! A record as it is written: made before anything is written, so that want of memory changes nothing.
 
-ghost use Rattle.std.specs.Prelude.{◌≡◌, ◌+◌, ◌<◌, ◌≤◌, ◌^◌, length};
-ghost use Rattle.cedar_journal.specs.declared.frame.FrameError.TheVariants.{Memory};
-ghost use Rattle.cedar_journal.specs.Records.{framed, unframed};
+ghost use Rattle.std.specs.Prelude.{◌+◌, ◌<◌, ◌^◌, ◌≡◌, ◌≤◌, IfOk, IsErrOf, length};
+ghost use Rattle.cedar_journal.specs.Fields.{framed, Memory, unframed};
 
 use std::alloc::{AllocError, AllocFailed, Allocator};
 
@@ -46,8 +45,7 @@ pub struct Frame<A: Allocator> {
 }
 
 impl<A: Allocator> Frame<A> {
-    ghost use Rattle.std.specs.Prelude.{IfOk, IsErrOf};
-    ghost use Rattle.cedar_journal.specs.Frames.{payload_of};
+    ghost use Rattle.cedar_journal.specs.Words.{payload_of};
 
     /// Returns the record of a payload, for which it allocates its length and 5 bytes.
     ///

@@ -3,15 +3,11 @@
 //! A closed gate (0) stands behind the last record, on the disk before anything is written behind it, and is opened by a write of its own
 //! after a sync: so no checksum is trusted.
 
-ghost use Rattle.std.specs.Prelude.{◌≡◌, ◌+◌, ◌<◌, ◌≤◌, ◌^◌, IfErr, IfOk, IsErrOf, OnOk};
-ghost use Rattle.cedar_journal.specs.declared.journal.JournalError.TheVariants.{Device};
-ghost use Rattle.cedar_journal.specs.Device.{Only, LeavesOnly};
-ghost use Rattle.cedar_journal.specs.Files.{added, recovered, HasExtent};
-ghost use Rattle.cedar_journal.specs.Frames.{payload_of};
-ghost use Rattle.cedar_journal.specs.Journal.{IsBeforeOrAfter, IsSettled, IsStaged};
+ghost use Rattle.std.specs.Prelude.{◌+◌, ◌<◌, ◌^◌, ◌≡◌, ◌≤◌, IfErr, IfOk, IsErrOf, length, OnErr, OnOk, Some};
+ghost use Rattle.cedar_journal.specs.Words.{added, Device, HasExtent, IfKept, image_bytes, IsBeforeOrAfter, IsSettled, IsStaged, LeavesOnly, Only, payload_of, payloads_of, recovered, StandsForEither};
 
 use crate::repair::make_ready;
-use crate::{Device, DeviceError, Extent, Frame};
+use crate::{Device, DeviceError, Extent, Frame, Image, ReplaceDevice, ReplaceError};
 use std::alloc::Allocator;
 
 /// Where the records may end at the latest for one more to be written.
@@ -124,8 +120,9 @@ impl<D: Device> Journal<D> {
         ensures any_moment { LeavesOnly D.moment D.left_since self.old.device self.new.device
             (IsBeforeOrAfter (recovered (D.seen self.old.device)) (payload_of frame.now)) }
 
-        //= An acknowledgement tells `Failed` only where the disk has failed.
+        //= An acknowledgement tells `Failed` only where the disk has failed. [with faults]
         ensures failed { IsErrOf result DeviceError.Failed → D.faults self.old.device < D.faults self.new.device }
+        ensures faults { D.faults self.old.device ≤ D.faults self.new.device }
     {
         self.device.write_at(self.end, &[1])?;
         self.device.sync()?;
@@ -150,14 +147,52 @@ impl<D: Device> Journal<D> {
             (IsBeforeOrAfter (recovered (D.seen self.old.device)) (payload_of frame.now)) }
 
         //= A record isn't appended just where the records end behind 2^60, and then nothing is written, or where the device fails; `Failed` is
-        //  told only where the disk has failed. [with far, untouched, failed]
+        //  told only where the disk has failed. [with far, untouched, failed, faults]
         ensures full { IsErrOf result JournalError.Full → 2 ^ 60 ≤ self.old.end }
         ensures far { 2 ^ 60 ≤ self.old.end → IsErrOf result JournalError.Full }
         ensures untouched { IsErrOf result JournalError.Full → self.new ≡ self.old }
         ensures failed { IsErrOf result (JournalError.Device DeviceError.Failed) → D.faults self.old.device < D.faults self.new.device }
+        ensures faults { D.faults self.old.device ≤ D.faults self.new.device }
     {
         self.stage(frame)?;
         self.commit(frame)?;
+        Ok(())
+    }
+}
+
+impl<D: ReplaceDevice> Journal<D> {
+    /// Puts other records in the place of all that are there, at one stroke.
+    ///
+    /// # Errors
+    /// `Kept` where the records are those from before, and the journal goes on. `Failed` where they are those or the new ones: open the
+    /// file again.
+    pub fn replace<A: Allocator>(&mut self, image: &Image<A>) -> Result<(), ReplaceError>
+        requires { IsSettled D.seen D.may_leave self.old.device self.old.end }
+
+        //= Once the records of a journal are replaced, the file has the image's bytes, is at rest and on the disk, and stands for its
+        //  payloads. [with settled, bytes, end]
+        ensures replaced { OnOk result (recovered (D.seen self.new.device) ≡ Some (payloads_of image.now)) }
+        ensures settled { OnOk result (IsSettled D.seen D.may_leave self.new.device self.new.end) }
+        ensures bytes { OnOk result (D.seen self.new.device ≡ image_bytes image.now) }
+        ensures end { OnOk result (self.new.end + 1 ≡ length (image_bytes image.now)) }
+
+        //= A crash at any moment of that leaves the payloads from before it, or those of the image.
+        ensures any_moment { LeavesOnly D.moment D.left_since self.old.device self.new.device
+            (StandsForEither (recovered (D.seen self.old.device)) (payloads_of image.now)) }
+
+        //= Where it is told that the records are kept, the file has the bytes from before, is at rest and on the disk. [with kept_bytes,
+        //  kept_end]
+        ensures kept { IfKept result (IsSettled D.seen D.may_leave self.new.device self.new.end) }
+        ensures kept_bytes { IfKept result (D.seen self.new.device ≡ D.seen self.old.device) }
+        ensures kept_end { OnErr result (self.new.end ≡ self.old.end) }
+
+        //= That the disk failed is told only where it did. [with kept_failed, faults]
+        ensures failed { IsErrOf result ReplaceError.Failed → D.faults self.old.device < D.faults self.new.device }
+        ensures kept_failed { IsErrOf result (ReplaceError.Kept DeviceError.Failed) → D.faults self.old.device < D.faults self.new.device }
+        ensures faults { D.faults self.old.device ≤ D.faults self.new.device }
+    {
+        self.device.replace(image.bytes())?;
+        self.end = image.bytes().len() - 1;
         Ok(())
     }
 }

@@ -5,14 +5,18 @@
 mod device;
 mod extent;
 mod frame;
+mod image;
 mod journal;
 mod memory;
 mod records;
 mod repair;
+mod replace;
 
 pub use device::{Device, DeviceError};
 pub use extent::{Extent, ForeignFile, HEADER_LEN, MAGIC, extent_of};
 pub use frame::{Frame, FrameError, MAX_PAYLOAD};
+pub use image::Image;
 pub use journal::{Journal, JournalError, MAX_END};
 pub use memory::Memory;
 pub use records::first_payload;
+pub use replace::{ReplaceDevice, ReplaceError};

@@ -1,10 +1,9 @@
 //! A file in memory. Each call is done at once, so a crash leaves what is there. It keeps each past content.
 
-ghost use Rattle.std.specs.Prelude.{◌≡◌, ◌⊎◌, [], ◌∷◌, ◌++◌, length, drop, OnOk, OnErr};
-ghost use Rattle.std.proofs.Common.{inl};
-ghost use Rattle.cedar_journal.specs.Past.{HadBeen, only_bytes};
+ghost use Rattle.std.specs.Prelude.{◌++◌, ◌∷◌, ◌≡◌, ◌⊎◌, [], drop, length, OnErr, OnOk};
+ghost use Rattle.cedar_journal.specs.Words.{HadBeen, inl, memory_bytes, only_bytes};
 
-use crate::{Device, DeviceError};
+use crate::{Device, DeviceError, ReplaceDevice, ReplaceError};
 use std::alloc::{AllocError, Allocator};
 
 /// A file in memory, which never fails but for want of memory.
@@ -16,8 +15,6 @@ pub struct Memory<A: Allocator> {
 }
 
 impl<A: Allocator + Copy> Memory<A> {
-    ghost use Rattle.cedar_journal.specs.Memory.{memory_bytes};
-
     /// Returns a file with these bytes, all of them on the disk.
     pub fn new(alloc: A, bytes: Vec<u8, A>) -> Self
         //= A file in memory has the bytes that it was given.
@@ -91,5 +88,12 @@ impl<A: Allocator + Copy> Device for Memory<A> {
 
     fn sync(&mut self) -> Result<(), DeviceError> {
         Ok(())
+    }
+}
+
+impl<A: Allocator + Copy> ReplaceDevice for Memory<A> {
+    fn replace(&mut self, bytes: &[u8]) -> Result<(), ReplaceError> {
+        let next = bytes.to_vec(self.alloc)?;
+        Ok(replace(self.alloc, &mut self.bytes, &mut self.past, next)?)
     }
 }

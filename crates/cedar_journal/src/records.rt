@@ -1,7 +1,7 @@
 //! Records as bytes: what stands at the front of some bytes, and where whole records end.
 
-ghost use Rattle.std.specs.Prelude.{◌≡◌, ◌+◌, ◌*◌, ◌≤◌, true, false, drop, length, IfNone, IfSome};
-ghost use Rattle.cedar_journal.specs.Records.{behind, has_record, payload, EndsAt};
+ghost use Rattle.std.specs.Prelude.{◌*◌, ◌+◌, ◌≡◌, ◌≤◌, drop, false, IfNone, IfSome, length, true};
+ghost use Rattle.cedar_journal.specs.Words.{behind, EndsAt, has_record, payload};
 
 /// Returns the payload of the record at the front, if its gate is open and all of it is there.
 ///

@@ -1,9 +1,7 @@
 //! A file that a crash may have left is made ready for the next record. Each of these calls may itself be cut off by a crash.
 
-ghost use Rattle.std.specs.Prelude.{◌≡◌, ◌⊎◌, ◌<◌, ◌≤◌, [], ◌∷◌, IfOk, IsErrOf, OnOk, Some};
-ghost use Rattle.cedar_journal.specs.Device.{Only, LeavesOnly};
-ghost use Rattle.cedar_journal.specs.Files.{recovered, HasExtent, HasRecords, IsNew};
-ghost use Rattle.cedar_journal.specs.Journal.{IsSettled};
+ghost use Rattle.std.specs.Prelude.{◌<◌, ◌∷◌, ◌≡◌, ◌≤◌, [], IfOk, IsErrOf, OnOk, Some};
+ghost use Rattle.cedar_journal.specs.Words.{HasExtent, HasRecords, IsNew, IsSettled, LeavesOnly, Only, recovered};
 
 use crate::extent::{HEADER_FRAME, HEADER_LEN};
 use crate::{Device, DeviceError, Extent};

@@ -1,16 +1,7 @@
 //! Laws of what a table stands for.
 
-ghost use Rattle.std.specs.Prelude.{◌≡◌, ◌↔◌, ◌+◌, ℕ, true, List, count_by, length, None, if◌then◌else◌};
-ghost use Rattle.std.specs.List.{range_with_len};
-ghost use Rattle.cedar_tree.specs.Tree.{Forest};
-ghost use Rattle.cedar_tree.specs.Queries.{prefixes, used, walk};
-ghost use Rattle.cedar_model.specs.Table.Cells.{Cells, is_held, NoPlace};
-ghost use Rattle.cedar_model.specs.Table.Layouts.{default_layout};
-ghost use Rattle.cedar_model.specs.Meaning.Marks.{HasMark, KeepsMarks, MarkedAt, marks};
-ghost use Rattle.cedar_model.specs.Meaning.StandsFor.{HoldsTree, labels, Leads, slot_at};
-ghost use Rattle.cedar_slots.specs.Ring.{occurs};
-ghost use Rattle.cedar_model.specs.Table.TableFields.{Fields, size_of};
-ghost use Rattle.cedar_model.specs.Meaning.WellFormed.{cells_in, IsWellFormed, slots_named, tree_of};
+ghost use Rattle.std.specs.Prelude.{if◌then◌else◌, ◌+◌, ◌↔◌, ◌≡◌, count_by, length, List, None, true, ℕ};
+ghost use Rattle.cedar_model.specs.Words.{Cells, cells_in, default_layout, Fields, Forest, HasMark, HoldsTree, is_held, IsWellFormed, KeepsMarks, labels, Leads, MarkedAt, marks, NoPlace, occurs, prefixes, range_with_len, size_of, slot_at, slots_named, tree_of, used, walk};
 
 /// Slots stand for one tree at most, and a table's for the one that is read from it.
 pub fn one_tree()

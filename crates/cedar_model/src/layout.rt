@@ -1,6 +1,7 @@
 //! How a node's base and number are kept in its base field.
 
-ghost use Rattle.std.specs.Prelude.{◌≡◌, ◌<◌, ◌^◌};
+ghost use Rattle.std.specs.Prelude.{◌<◌, ◌^◌, ◌↔◌, ◌≡◌, ◌≢◌, IsTrue};
+ghost use Rattle.cedar_model.specs.Words.{AtBase, default_layout, layout_byte, LayoutKind, Nothing, reading, reduced_layout};
 
 /// What a node's base field says: where its slots begin, its own number, or neither.
 #[derive(Clone, Copy, Debug, PartialEq, Eq)]
@@ -12,11 +13,6 @@ pub enum Stored {
 
 /// How a node's base and number are kept in its base field.
 pub trait Layout {
-    ghost use Rattle.std.specs.Prelude.{◌≡◌, ◌≢◌, ◌<◌, ◌^◌, ◌↔◌, IsTrue};
-    ghost use Rattle.cedar_model.specs.declared.layout.Stored.{Stored};
-    ghost use Rattle.cedar_model.specs.declared.layout.Stored.TheVariants.{AtBase, Nothing};
-    ghost use Rattle.cedar_model.specs.Table.Layouts.{LayoutKind, layout_byte, reading, reduced_layout};
-
     ghost kind: { LayoutKind };
 
     /// Whether a node that owns no slot keeps its number in its own base field.
@@ -49,8 +45,6 @@ pub trait Layout {
 pub struct DefaultLayout;
 
 impl Layout for DefaultLayout {
-    ghost use Rattle.cedar_model.specs.Table.Layouts.{default_layout};
-
     ghost kind = { default_layout };
 
     fn keeps_numbers() -> bool {
@@ -81,8 +75,6 @@ impl Layout for DefaultLayout {
 pub struct ReducedLayout;
 
 impl Layout for ReducedLayout {
-    ghost use Rattle.cedar_model.specs.Table.Layouts.{reduced_layout};
-
     ghost kind = { reduced_layout };
 
     fn keeps_numbers() -> bool {

@@ -1,3 +1,4 @@
 pub mod Plans
 pub mod Safety
+pub mod Words
 pub mod Works

@@ -1,6 +1,6 @@
 //! What becomes of a file whose plans are carried out.
 
-ghost use Rattle.cedar_plan.specs.Safety.{AppendsAreSafe, OpeningsAreSafe};
+ghost use Rattle.cedar_plan.specs.Words.{AppendsAreSafe, OpeningsAreSafe};
 
 /// A record that is appended by its plan counts once all steps are done, and a crash at any moment leaves the records from before it, with
 /// the new one or without.

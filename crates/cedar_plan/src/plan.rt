@@ -1,9 +1,7 @@
 //! Plans: the steps by which a file is opened, and by which a record is appended.
 
 ghost use Rattle.std.specs.Prelude.{◌≡◌, ◌+◌, ◌<◌, ◌^◌, ◌++◌, ◌∷◌, List, length, ℕ};
-ghost use Rattle.cedar_journal.specs.Records.{framed};
-ghost use Rattle.cedar_plan.specs.Plans.{header, works_of};
-ghost use Rattle.cedar_plan.specs.Works.{append_works, opening_works};
+ghost use Rattle.cedar_plan.specs.Words.{append_works, framed, header, opening_works, works_of};
 
 use cedar_journal::Extent;
 

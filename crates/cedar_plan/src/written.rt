@@ -1,7 +1,7 @@
 //! Records as they are written.
 
 ghost use Rattle.std.specs.Prelude.{◌≡◌, ◌≤◌, ◌^◌, ◌∷◌, IfOk, IsErrOf, length};
-ghost use Rattle.cedar_journal.specs.Records.{framed};
+ghost use Rattle.cedar_plan.specs.Words.{framed};
 
 use cedar_journal::{FrameError, MAX_PAYLOAD};
 use std::alloc::Allocator;

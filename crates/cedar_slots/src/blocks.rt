@@ -1,9 +1,7 @@
 //! The blocks, and the lists that they are in.
 
-ghost use Rattle.std.specs.Prelude.{◌≡◌, ℕ, ◌+◌, ◌^◌, ◌<◌, ◌≤◌, ◌+ℤ◌, ◌<ℤ◌, ◌≤ℤ◌, ℤ, List, ◌∷◌, IsTrue, length, unsigned_abs, pos};
-ghost use Rattle.cedar_slots.specs.Words.{block_at, blocks_of, counts_at, fresh_counts, HasLists, head_of, KeepsCounts, KeepsLinks, kind_of, linked_blocks, ListRings, next_at, occurs, Popped, prev_at, lists_with, SameFrom, Sized, total};
-ghost use Rattle.std.specs.Int.{int_max};
-ghost use Rattle.cedar_slots.specs.declared.blocks.BlockType.{BlockType};
+ghost use Rattle.std.specs.Prelude.{◌+ℤ◌, ◌+◌, ◌<ℤ◌, ◌<◌, ◌^◌, ◌∷◌, ◌≡◌, ◌≤ℤ◌, ◌≤◌, IsTrue, length, List, pos, unsigned_abs, ℕ, ℤ};
+ghost use Rattle.cedar_slots.specs.Words.{block_at, blocks_of, BlockType, counts_at, fresh_counts, HasLists, head_of, int_max, KeepsCounts, KeepsLinks, kind_of, linked_blocks, ListRings, lists_with, next_at, occurs, Popped, prev_at, SameFrom, Sized, total};
 
 use crate::records::BlockRecord;
 use std::alloc::Allocator;

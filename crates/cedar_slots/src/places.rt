@@ -1,8 +1,7 @@
 //! The slots and their blocks together: which slots are free, and where free ones are found.
 
-ghost use Rattle.std.specs.List.{range_with_len};
-ghost use Rattle.std.specs.Prelude.{◌+◌, count_by, not, slice_set, IfErr, IfNone, IfOk, IfSome, length, OnErr, OnOk, ◌≡◌, ◌≤◌, ◌⊎◌, ℕ, ◌==◌, if◌then◌else◌, ◌<◌, ◌*◌, ◌/◌, ◌^◌, ◌≤ℤ◌, false, int_lt, pos, true};
-ghost use Rattle.cedar_slots.specs.Words.{AddsBlock, blocks_of, counts_at, FreesSlot, Grown, is_free, IsBase, IsFreePlace, IsNewPlaces, IsOpenBlock, IsPowerOfTwo, IsSlotLimit, IsStart, MayRefuse, node_record_at, NoneFree, places_of, reject_at, Rejects, room_for_one, SameSlots, Shaped, slots_of, Sound, TakesSlot, Within};
+ghost use Rattle.std.specs.Prelude.{if◌then◌else◌, ◌*◌, ◌+◌, ◌/◌, ◌<◌, ◌==◌, ◌^◌, ◌≡◌, ◌≤ℤ◌, ◌≤◌, ◌⊎◌, count_by, false, IfErr, IfNone, IfOk, IfSome, int_lt, length, not, OnErr, OnOk, pos, slice_set, true, ℕ};
+ghost use Rattle.cedar_slots.specs.Words.{AddsBlock, blocks_of, counts_at, FreesSlot, Grown, is_free, IsBase, IsFreePlace, IsNewPlaces, IsOpenBlock, IsPowerOfTwo, IsSlotLimit, IsStart, MayRefuse, node_record_at, NoneFree, places_of, range_with_len, reject_at, Rejects, room_for_one, SameSlots, Shaped, slots_of, Sound, TakesSlot, Within};
 
 use crate::blocks::{BlockType, Blocks};
 use crate::records::{BlockRecord, NInfoRecord, NodeRecord};

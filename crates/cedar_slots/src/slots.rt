@@ -1,7 +1,7 @@
 //! The slots, and the rings of the free ones.
 
-ghost use Rattle.std.specs.Prelude.{◌≡◌, ℕ, ◌+◌, ◌*◌, ◌/◌, ◌^◌, ◌<◌, ◌≤◌, ◌⊎◌, ◌-◌, bit_xor, IsTrue, length, slice_index_or, slice_set, true, unsigned_abs};
-ghost use Rattle.cedar_slots.specs.Slots.{AllFree, base_at, blank_info, check_at, given_after, given_alone, is_free, nodes_after_link, node_record_at, SlotLink, nodes_after_take};
+ghost use Rattle.std.specs.Prelude.{◌*◌, ◌+◌, ◌-◌, ◌/◌, ◌<◌, ◌^◌, ◌≡◌, ◌≤◌, ◌⊎◌, bit_xor, IsTrue, length, slice_index_or, slice_set, true, unsigned_abs, ℕ};
+ghost use Rattle.cedar_slots.specs.Words.{AllFree, base_at, blank_info, check_at, given_after, given_alone, is_free, node_record_at, nodes_after_link, nodes_after_take, SlotLink};
 
 use crate::records::{NInfoRecord, NodeRecord};
 use std::alloc::Allocator;

@@ -1,6 +1,6 @@
 //! A count of steps that takes no room at run time.
 
-ghost use Rattle.std.specs.Prelude.{◌≡◌, ◌+◌, ◌<◌};
+ghost use Rattle.std.specs.Prelude.{◌+◌, ◌<◌, ◌≡◌, ℕ};
 
 use std::marker::Model;
 use std::sync::ledger::{Blank, Book, Ledger, Share};
@@ -18,8 +18,6 @@ pub struct Ticks<C: Ledger> {
 }
 
 impl<C: Ledger> Model for Ticks<C> {
-    ghost use Rattle.std.specs.Prelude.{ℕ, ◌<◌};
-
     ghost Value = { ℕ };
 
     ghost view = { λ s. s.book.total };

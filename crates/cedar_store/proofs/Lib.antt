@@ -1,5 +1,6 @@
 pub mod Arranged
 pub mod Batched
+pub mod Compacted
 pub mod Late
 pub mod Opened
 pub mod Ordered

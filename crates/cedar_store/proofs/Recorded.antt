@@ -16,7 +16,7 @@ use Rattle.cedar_store.proofs.Payloads.{of_batch}
 
 -- ---- records one behind another, each of which is read as if it stood alone
 
-front_of_none : IsFront []
+pub front_of_none : IsFront []
 front_of_none rest = ap (λ (l : List (List ℕ)). l ++ payloads_in rest) (sym (payloads_none [] nothing_there))
 
 front_and : (a b : List ℕ) → IsFront a → IsFront b → IsFront (a ++ b)
@@ -54,7 +54,7 @@ module _ (p : List ℕ) (short : length p < 4294967296) where
   its_front : IsFront (record_of p)
   its_front = record_is_front (record_of p) there alone
 
-  its_payloads : payloads_in (record_of p) ≡ p ∷ []
+  pub its_payloads : payloads_in (record_of p) ≡ p ∷ []
   its_payloads = one_record (record_of p) there alone ∙ ap (λ (l : List ℕ). l ∷ []) itself
 
 -- ---- one change more
@@ -66,12 +66,12 @@ insert_one None r c = refl
 insert_one (Some d) None c = refl
 insert_one (Some d) (Some changes) c = refl
 
-each_more : (ps : List (List ℕ)) (p : List ℕ) (c : Change) → change_of p ≡ Some c → each_change (ps ++ p ∷ []) ≡ option_map (λ changes. changes ++ c ∷ []) (each_change ps)
+pub each_more : (ps : List (List ℕ)) (p : List ℕ) (c : Change) → change_of p ≡ Some c → each_change (ps ++ p ∷ []) ≡ option_map (λ changes. changes ++ c ∷ []) (each_change ps)
 each_more [] p c is = ap (option_and_then (λ (d : Change). option_map (λ changes. d ∷ changes) (Some []))) is
 each_more (q ∷ ps) p c is =
     ap (λ (r : Option (List Change)). option_and_then (λ d. option_map (λ changes. d ∷ changes) r) (change_of q)) (each_more ps p c is) ∙ insert_one (change_of q) (each_change ps) c
 
-longer_records : (ps : List (List ℕ)) (p : List ℕ) → records_length (ps ++ p ∷ []) ≡ records_length ps + (5 + length p)
+pub longer_records : (ps : List (List ℕ)) (p : List ℕ) → records_length (ps ++ p ∷ []) ≡ records_length ps + (5 + length p)
 longer_records [] p = omega arith
 longer_records (q ∷ ps) p = let more = longer_records ps p in omega (arith, more)
 

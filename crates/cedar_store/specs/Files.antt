@@ -20,3 +20,7 @@ IsCorrupt file = (payloads : List (List ℕ)) × (recovered file ≡ Some payloa
 -- the file stands for one state or for another
 abbrev pub IsEither : State → State → List ℕ → Type 0
 IsEither before after file = (state_of file ≡ Some before) ⊎ (state_of file ≡ Some after)
+
+-- the file stands for this state
+abbrev pub StandsFor : State → List ℕ → Type 0
+StandsFor state file = state_of file ≡ Some state

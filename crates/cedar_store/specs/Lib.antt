@@ -1,10 +1,12 @@
 pub mod Batches
 pub mod Causes
 pub mod Changes
+pub mod Compactions
 pub mod Files
 pub mod Shown
 pub mod Store
 pub mod Told
 pub mod Undo
+pub mod Promises
 pub mod Puts
 pub mod Words

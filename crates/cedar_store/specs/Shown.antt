@@ -2,6 +2,8 @@
 use Rattle.std.specs.Prelude.{ℕ, List, ◌++◌, codes, decimal}
 use Rattle.cedar_journal.specs.declared.device.DeviceError.TheVariants as device
 use Rattle.cedarwood.specs.Shown.{error_text}
+use Rattle.cedar_store.specs.declared.compaction.CompactError.{CompactError}
+use Rattle.cedar_store.specs.declared.compaction.CompactError.TheVariants as compact
 use Rattle.cedar_store.specs.declared.error.DurableError.{DurableError}
 use Rattle.cedar_store.specs.declared.error.DurableError.TheVariants as error
 
@@ -15,3 +17,10 @@ durable_error_text error.Full = codes "the records of the file end behind 2^60 b
 durable_error_text (error.Device device.Memory) = codes "the device is out of memory"
 durable_error_text (error.Device device.Failed) = codes "the device failed"
 durable_error_text error.Failed = codes "the device failed in an earlier change: open the file again"
+
+abbrev pub compact_error_text : CompactError → List ℕ
+compact_error_text compact.Memory = codes "out of memory: the file is as it was"
+compact_error_text compact.TooLong = codes "the record of an entry would have 2^32 bytes or more"
+compact_error_text (compact.Kept device.Memory) = codes "the device is out of memory: the file is as it was"
+compact_error_text (compact.Kept device.Failed) = codes "the device kept the file as it was"
+compact_error_text compact.Failed = codes "the device failed: open the file again"

@@ -8,8 +8,7 @@ ghost use Rattle.std.specs.Prelude.{◌+◌, ◌<◌, ◌^◌, ◌≡◌, ◌≤
 ghost use Rattle.cedar_store.specs.Words.{all_changed, all_erased_late, all_updated, change_at, change_fault, change_told, changes_of, changes_told, erased, is_put_by, late_erased, only_updated, payload_of, puts, AllByRecursion, AreHeld, HasKey, IsFaultless, IsHeld, IsRefusedAt, IsShortage, PrepareCause, State};
 
 use crate::frames::batch_frame;
-use crate::undo::take_back;
-use crate::words::Words;
+use crate::words::{Words, take_back};
 use crate::{Change, DurableError};
 use cedar_journal::Frame;
 use cedarwood::CedarError;

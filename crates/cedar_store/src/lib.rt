@@ -5,18 +5,19 @@
 
 mod batch;
 mod change;
+mod compact;
+mod compaction;
 mod error;
 mod frames;
 mod replay;
 mod store;
-mod texts;
-mod undo;
 mod words;
 
 pub use change::Change;
+pub use compaction::{CompactError, Compaction};
 pub use error::DurableError;
 // For whoever keeps the file by other means than a device.
 pub use frames::{erase_payload, put_payload};
-pub use replay::words_of;
+pub use replay::{BATCH, words_of};
 pub use store::{CedarStore, ReducedStore, Store};
 pub use words::{Made, Words};

@@ -16,7 +16,7 @@ pub(crate) const ERASE: u8 = 0;
 pub(crate) const PUT: u8 = 1;
 
 /// The operation of a payload that makes several changes.
-pub(crate) const BATCH: u8 = 2;
+pub const BATCH: u8 = 2;
 
 /// Returns the dictionary that a file's bytes stand for, and how far the file goes.
 ///

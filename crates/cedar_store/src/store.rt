@@ -1,15 +1,14 @@
 //! The store: a dictionary, and the journal of its changes.
 
 ghost use Rattle.std.specs.Prelude.{◌+◌, ◌<◌, ◌^◌, ◌≡◌, ◌≤◌, IfErr, IfOk, IfSome, IsOk, OnOk, Some, [], false, if◌then◌else◌, is_some, length, true};
-ghost use Rattle.cedar_store.specs.Words.{added, all_changed, changes_told, erased, fault, number_at, payload_of, recovered, state_of, stored, AllByRecursion, BatchCause, ChangeCause, EraseCause, HasExtent, IsBeforeOrAfter, IsBeforeWrites, IsConsistent, IsCorrupt, IsEither, IsFaultless, IsOfDevice, IsReady, IsSettled, Leaves, LeavesOnly, Only, OpenCause};
+ghost use Rattle.cedar_store.specs.Words.{added, all_changed, changes_told, erased, fault, number_at, payload_of, recovered, state_of, stored, AllByRecursion, HasExtent, IsBeforeOrAfter, IsBeforeWrites, IsConsistent, IsCorrupt, IsFaultless, IsSettled, LeavesOnly, Only, OpenCause, CrashLeavesEither, FailsByDevice, HasState, IsBatchCause, IsChangeCause, IsEraseCause, IsReadyStore, LeavesStore};
 
 use crate::batch::make;
 use crate::frames::{erase_frame, put_frame};
 use crate::replay::words_of;
-use crate::undo::take_back;
-use crate::words::{Made, Words};
-use crate::{Change, DurableError};
-use cedar_journal::{Device, Extent, Frame, Journal};
+use crate::words::{Made, Words, take_back};
+use crate::{Change, Compaction, DurableError};
+use cedar_journal::{Device, Extent, Frame, Journal, ReplaceDevice};
 use cedarwood::{Cedar, ReducedCedar};
 use std::alloc::Allocator;
 
@@ -19,10 +18,13 @@ use std::alloc::Allocator;
 /// the device is opened again; look-ups go on.
 #[derive(Drop)]
 pub struct Store<T: Words, A: Allocator, D: Device> {
-    alloc: A,
-    journal: Journal<D>,
-    words: T,
-    failed: bool,
+    pub(crate) alloc: A,
+    pub(crate) journal: Journal<D>,
+    pub(crate) words: T,
+    pub(crate) failed: bool,
+    pub(crate) compaction: Compaction,
+    // Where the records ended when it was last looked whether the file is too long: 0 before.
+    pub(crate) base: usize,
 }
 
 /// The store of a dictionary by default.
@@ -105,6 +107,8 @@ impl<T: Made<A>, A: Allocator + Copy, D: Device> Store<T, A, D> {
                     journal,
                     words,
                     failed: false,
+                    compaction: Compaction::default(),
+                    base: 0,
                 }),
                 Err((error, device)) => Err((DurableError::Device(error), device)),
             },
@@ -138,6 +142,24 @@ impl<T: Words, A: Allocator + Copy, D: Device> Store<T, A, D> {
         self.journal.device
     }
 
+    /// When the store compacts its file by itself.
+    pub fn compaction(&self) -> Compaction
+        //= A store tells when it compacts its file by itself.
+        ensures { result ≡ self.now.compaction }
+    {
+        self.compaction
+    }
+
+    /// Sets when the store compacts its file by itself: at the end of a change, from the next one on.
+    pub fn set_compaction(&mut self, compaction: Compaction)
+        //= When it does can be set; that changes nothing else.
+        ensures { self.new ≡ record self.old { compaction = compaction } }
+    {
+        self.compaction = compaction;
+    }
+}
+
+impl<T: Words, A: Allocator + Copy, D: ReplaceDevice> Store<T, A, D> {
     /// Stores a value at a key, and returns the value that the key held before, if it held one. At `Ok` the change is acknowledged: each
     /// crash from then on leaves a file that has it.
     ///
@@ -145,33 +167,30 @@ impl<T: Words, A: Allocator + Copy, D: Device> Store<T, A, D> {
     /// `Refused` by the pair's first fault, or where memory or slots were refused, `TooLong` and `Full`: then nothing has changed, in the
     /// dictionary or in the file. `Device` where the device failed, and `Failed` from then on.
     pub fn insert_bytes(&mut self, key: &[u8], value: i32) -> Result<Option<i32>, DurableError>
-        requires ready { IsReady D.seen D.may_leave self.old.journal.device self.old.journal.end (T.state self.old.words) self.old.failed }
+        requires ready { IsReadyStore D.seen D.may_leave T.state self.old }
 
         //= An acknowledged insert or update has stored the value in the dictionary, and the file stands for it, on the disk. [with ready; also
         //  insert, update_bytes, update]
-        ensures stored { OnOk result ((self.new.failed ≡ false) × ((T.state self.new.words) ≡ stored (T.state self.old.words) key.now value)) }
-        ensures ready { IsReady D.seen D.may_leave self.new.journal.device self.new.journal.end (T.state self.new.words) self.new.failed }
+        ensures stored { OnOk result (HasState T.state self.new (stored (T.state self.old.words) key.now value)) }
+        ensures ready { IsReadyStore D.seen D.may_leave T.state self.new }
 
         //= An insert tells the value that the key held before. [also insert]
         ensures held { IfOk result (λ held. held ≡ number_at (T.state self.old.words).tree key.now) }
 
         //= A crash at any moment of an insert or update leaves a file that stands for the dictionary from before it, with the change or
         //  without. [also insert, update_bytes, update]
-        ensures any_moment { self.old.failed ≡ false → LeavesOnly D.moment D.left_since self.old.journal.device self.new.journal.device
-            (IsEither (T.state self.old.words) (stored (T.state self.old.words) key.now value)) }
+        ensures any_moment { CrashLeavesEither D.moment D.left_since T.state self.old self.new (stored (T.state self.old.words) key.now value) }
 
         //= A pair that has a fault is refused by its first one, if the store hasn't failed. [also insert, update_bytes, update]
         ensures faulty { self.old.failed ≡ false → IfSome (fault key.now value) (λ e. result ≡ Err (DurableError.Refused e)) }
 
         //= Else it is refused only where the store has failed before, for want of memory or slots, where the record is too long or the records
         //  end too far back, or where the device failed. [also insert, update_bytes, update]
-        ensures cause { IfErr result (λ e. ChangeCause self.old.failed (fault key.now value) self.old.journal.end (length key.now + 5) (D.faults self.old.journal.device) (D.faults self.new.journal.device) e) }
+        ensures cause { IfErr result (IsChangeCause D.faults self.old self.new (fault key.now value) (length key.now + 5)) }
 
         //= After an error of the device the store has failed; after any other, the dictionary, the file and the store are as they were. [also
         //  insert, update_bytes, update]
-        ensures err { IfErr result (λ e. Leaves e
-            ((self.new.failed ≡ true) × ((T.state self.new.words) ≡ stored (T.state self.old.words) key.now value))
-            ((self.new.failed ≡ self.old.failed) × (self.new.journal ≡ self.old.journal) × ((T.state self.new.words) ≡ (T.state self.old.words)))) }
+        ensures err { IfErr result (LeavesStore T.state self.old self.new (stored (T.state self.old.words) key.now value)) }
     {
         if self.failed {
             return Err(DurableError::Failed);
@@ -179,7 +198,7 @@ impl<T: Words, A: Allocator + Copy, D: Device> Store<T, A, D> {
         let held = self.words.put(key, value)?;
         match put_frame(self.alloc, self.journal.end, key, value) {
             Ok(frame) => {
-                self.append(&frame)?;
+                self.acknowledge(&frame)?;
                 Ok(held)
             }
             Err(error) => {
@@ -194,17 +213,14 @@ impl<T: Words, A: Allocator + Copy, D: Device> Store<T, A, D> {
     /// # Errors
     /// As [`Store::insert_bytes`].
     pub fn insert(&mut self, key: &str, value: i32) -> Result<Option<i32>, DurableError>
-        requires ready { IsReady D.seen D.may_leave self.old.journal.device self.old.journal.end (T.state self.old.words) self.old.failed }
-        ensures stored { OnOk result ((self.new.failed ≡ false) × ((T.state self.new.words) ≡ stored (T.state self.old.words) key.now value)) }
-        ensures ready { IsReady D.seen D.may_leave self.new.journal.device self.new.journal.end (T.state self.new.words) self.new.failed }
+        requires ready { IsReadyStore D.seen D.may_leave T.state self.old }
+        ensures stored { OnOk result (HasState T.state self.new (stored (T.state self.old.words) key.now value)) }
+        ensures ready { IsReadyStore D.seen D.may_leave T.state self.new }
         ensures held { IfOk result (λ held. held ≡ number_at (T.state self.old.words).tree key.now) }
-        ensures any_moment { self.old.failed ≡ false → LeavesOnly D.moment D.left_since self.old.journal.device self.new.journal.device
-            (IsEither (T.state self.old.words) (stored (T.state self.old.words) key.now value)) }
+        ensures any_moment { CrashLeavesEither D.moment D.left_since T.state self.old self.new (stored (T.state self.old.words) key.now value) }
         ensures faulty { self.old.failed ≡ false → IfSome (fault key.now value) (λ e. result ≡ Err (DurableError.Refused e)) }
-        ensures cause { IfErr result (λ e. ChangeCause self.old.failed (fault key.now value) self.old.journal.end (length key.now + 5) (D.faults self.old.journal.device) (D.faults self.new.journal.device) e) }
-        ensures err { IfErr result (λ e. Leaves e
-            ((self.new.failed ≡ true) × ((T.state self.new.words) ≡ stored (T.state self.old.words) key.now value))
-            ((self.new.failed ≡ self.old.failed) × (self.new.journal ≡ self.old.journal) × ((T.state self.new.words) ≡ (T.state self.old.words)))) }
+        ensures cause { IfErr result (IsChangeCause D.faults self.old self.new (fault key.now value) (length key.now + 5)) }
+        ensures err { IfErr result (LeavesStore T.state self.old self.new (stored (T.state self.old.words) key.now value)) }
     {
         self.insert_bytes(key.as_bytes(), value)
     }
@@ -214,16 +230,13 @@ impl<T: Words, A: Allocator + Copy, D: Device> Store<T, A, D> {
     /// # Errors
     /// As [`Store::insert_bytes`].
     pub fn update_bytes(&mut self, key: &[u8], value: i32) -> Result<(), DurableError>
-        requires ready { IsReady D.seen D.may_leave self.old.journal.device self.old.journal.end (T.state self.old.words) self.old.failed }
-        ensures stored { OnOk result ((self.new.failed ≡ false) × ((T.state self.new.words) ≡ stored (T.state self.old.words) key.now value)) }
-        ensures ready { IsReady D.seen D.may_leave self.new.journal.device self.new.journal.end (T.state self.new.words) self.new.failed }
-        ensures any_moment { self.old.failed ≡ false → LeavesOnly D.moment D.left_since self.old.journal.device self.new.journal.device
-            (IsEither (T.state self.old.words) (stored (T.state self.old.words) key.now value)) }
+        requires ready { IsReadyStore D.seen D.may_leave T.state self.old }
+        ensures stored { OnOk result (HasState T.state self.new (stored (T.state self.old.words) key.now value)) }
+        ensures ready { IsReadyStore D.seen D.may_leave T.state self.new }
+        ensures any_moment { CrashLeavesEither D.moment D.left_since T.state self.old self.new (stored (T.state self.old.words) key.now value) }
         ensures faulty { self.old.failed ≡ false → IfSome (fault key.now value) (λ e. result ≡ Err (DurableError.Refused e)) }
-        ensures cause { IfErr result (λ e. ChangeCause self.old.failed (fault key.now value) self.old.journal.end (length key.now + 5) (D.faults self.old.journal.device) (D.faults self.new.journal.device) e) }
-        ensures err { IfErr result (λ e. Leaves e
-            ((self.new.failed ≡ true) × ((T.state self.new.words) ≡ stored (T.state self.old.words) key.now value))
-            ((self.new.failed ≡ self.old.failed) × (self.new.journal ≡ self.old.journal) × ((T.state self.new.words) ≡ (T.state self.old.words)))) }
+        ensures cause { IfErr result (IsChangeCause D.faults self.old self.new (fault key.now value) (length key.now + 5)) }
+        ensures err { IfErr result (LeavesStore T.state self.old self.new (stored (T.state self.old.words) key.now value)) }
     {
         match self.insert_bytes(key, value) {
             Ok(_) => Ok(()),
@@ -236,16 +249,13 @@ impl<T: Words, A: Allocator + Copy, D: Device> Store<T, A, D> {
     /// # Errors
     /// As [`Store::insert_bytes`].
     pub fn update(&mut self, key: &str, value: i32) -> Result<(), DurableError>
-        requires ready { IsReady D.seen D.may_leave self.old.journal.device self.old.journal.end (T.state self.old.words) self.old.failed }
-        ensures stored { OnOk result ((self.new.failed ≡ false) × ((T.state self.new.words) ≡ stored (T.state self.old.words) key.now value)) }
-        ensures ready { IsReady D.seen D.may_leave self.new.journal.device self.new.journal.end (T.state self.new.words) self.new.failed }
-        ensures any_moment { self.old.failed ≡ false → LeavesOnly D.moment D.left_since self.old.journal.device self.new.journal.device
-            (IsEither (T.state self.old.words) (stored (T.state self.old.words) key.now value)) }
+        requires ready { IsReadyStore D.seen D.may_leave T.state self.old }
+        ensures stored { OnOk result (HasState T.state self.new (stored (T.state self.old.words) key.now value)) }
+        ensures ready { IsReadyStore D.seen D.may_leave T.state self.new }
+        ensures any_moment { CrashLeavesEither D.moment D.left_since T.state self.old self.new (stored (T.state self.old.words) key.now value) }
         ensures faulty { self.old.failed ≡ false → IfSome (fault key.now value) (λ e. result ≡ Err (DurableError.Refused e)) }
-        ensures cause { IfErr result (λ e. ChangeCause self.old.failed (fault key.now value) self.old.journal.end (length key.now + 5) (D.faults self.old.journal.device) (D.faults self.new.journal.device) e) }
-        ensures err { IfErr result (λ e. Leaves e
-            ((self.new.failed ≡ true) × ((T.state self.new.words) ≡ stored (T.state self.old.words) key.now value))
-            ((self.new.failed ≡ self.old.failed) × (self.new.journal ≡ self.old.journal) × ((T.state self.new.words) ≡ (T.state self.old.words)))) }
+        ensures cause { IfErr result (IsChangeCause D.faults self.old self.new (fault key.now value) (length key.now + 5)) }
+        ensures err { IfErr result (LeavesStore T.state self.old self.new (stored (T.state self.old.words) key.now value)) }
     {
         self.update_bytes(key.as_bytes(), value)
     }
@@ -257,30 +267,26 @@ impl<T: Words, A: Allocator + Copy, D: Device> Store<T, A, D> {
     /// `Refused` where memory for the record was refused, `TooLong` and `Full`: then nothing has changed. `Device` where the device failed,
     /// and `Failed` from then on.
     pub fn erase_bytes(&mut self, key: &[u8]) -> Result<bool, DurableError>
-        requires ready { IsReady D.seen D.may_leave self.old.journal.device self.old.journal.end (T.state self.old.words) self.old.failed }
+        requires ready { IsReadyStore D.seen D.may_leave T.state self.old }
 
         //= An acknowledged erasure has removed the key from the dictionary, and the file stands for it, on the disk. It tells whether the key
         //  was held; where it wasn't, the file stays. [with ready, answer, missed; also erase]
-        ensures erased { IfOk result (λ held. (self.new.failed ≡ false)
-            × ((T.state self.new.words) ≡ (if held then erased (T.state self.old.words) key.now else (T.state self.old.words)))) }
-        ensures ready { IsReady D.seen D.may_leave self.new.journal.device self.new.journal.end (T.state self.new.words) self.new.failed }
+        ensures erased { IfOk result (λ held. HasState T.state self.new (if held then erased (T.state self.old.words) key.now else (T.state self.old.words))) }
+        ensures ready { IsReadyStore D.seen D.may_leave T.state self.new }
         ensures answer { IfOk result (λ held. held ≡ is_some (number_at (T.state self.old.words).tree key.now)) }
         ensures missed { IfOk result (λ held. held ≡ false → self.new.journal ≡ self.old.journal) }
 
         //= A crash at any moment of an erasure leaves a file that stands for the dictionary from before it, with the change or without. [also
         //  erase]
-        ensures any_moment { self.old.failed ≡ false → LeavesOnly D.moment D.left_since self.old.journal.device self.new.journal.device
-            (IsEither (T.state self.old.words) (erased (T.state self.old.words) key.now)) }
+        ensures any_moment { CrashLeavesEither D.moment D.left_since T.state self.old self.new (erased (T.state self.old.words) key.now) }
 
         //= An erasure is refused only where the store has failed before, for want of memory, where the record is too long or the records end
         //  too far back, or where the device failed. [also erase]
-        ensures cause { IfErr result (λ e. EraseCause self.old.failed self.old.journal.end (length key.now + 1) (D.faults self.old.journal.device) (D.faults self.new.journal.device) e) }
+        ensures cause { IfErr result (IsEraseCause D.faults self.old self.new (length key.now + 1)) }
 
         //= After an error of the device the store has failed; after any other, the dictionary, the file and the store are as they were. [also
         //  erase]
-        ensures err { IfErr result (λ e. Leaves e
-            ((self.new.failed ≡ true) × ((T.state self.new.words) ≡ erased (T.state self.old.words) key.now))
-            ((self.new.failed ≡ self.old.failed) × (self.new.journal ≡ self.old.journal) × ((T.state self.new.words) ≡ (T.state self.old.words)))) }
+        ensures err { IfErr result (LeavesStore T.state self.old self.new (erased (T.state self.old.words) key.now)) }
     {
         if self.failed {
             return Err(DurableError::Failed);
@@ -290,7 +296,7 @@ impl<T: Words, A: Allocator + Copy, D: Device> Store<T, A, D> {
         }
         let erasure = erase_frame(self.alloc, self.journal.end, key)?;
         self.words.remove(key);
-        self.append(&erasure)?;
+        self.acknowledge(&erasure)?;
         Ok(true)
     }
 
@@ -299,18 +305,14 @@ impl<T: Words, A: Allocator + Copy, D: Device> Store<T, A, D> {
     /// # Errors
     /// As [`Store::erase_bytes`].
     pub fn erase(&mut self, key: &str) -> Result<bool, DurableError>
-        requires ready { IsReady D.seen D.may_leave self.old.journal.device self.old.journal.end (T.state self.old.words) self.old.failed }
-        ensures erased { IfOk result (λ held. (self.new.failed ≡ false)
-            × ((T.state self.new.words) ≡ (if held then erased (T.state self.old.words) key.now else (T.state self.old.words)))) }
-        ensures ready { IsReady D.seen D.may_leave self.new.journal.device self.new.journal.end (T.state self.new.words) self.new.failed }
+        requires ready { IsReadyStore D.seen D.may_leave T.state self.old }
+        ensures erased { IfOk result (λ held. HasState T.state self.new (if held then erased (T.state self.old.words) key.now else (T.state self.old.words))) }
+        ensures ready { IsReadyStore D.seen D.may_leave T.state self.new }
         ensures answer { IfOk result (λ held. held ≡ is_some (number_at (T.state self.old.words).tree key.now)) }
         ensures missed { IfOk result (λ held. held ≡ false → self.new.journal ≡ self.old.journal) }
-        ensures any_moment { self.old.failed ≡ false → LeavesOnly D.moment D.left_since self.old.journal.device self.new.journal.device
-            (IsEither (T.state self.old.words) (erased (T.state self.old.words) key.now)) }
-        ensures cause { IfErr result (λ e. EraseCause self.old.failed self.old.journal.end (length key.now + 1) (D.faults self.old.journal.device) (D.faults self.new.journal.device) e) }
-        ensures err { IfErr result (λ e. Leaves e
-            ((self.new.failed ≡ true) × ((T.state self.new.words) ≡ erased (T.state self.old.words) key.now))
-            ((self.new.failed ≡ self.old.failed) × (self.new.journal ≡ self.old.journal) × ((T.state self.new.words) ≡ (T.state self.old.words)))) }
+        ensures any_moment { CrashLeavesEither D.moment D.left_since T.state self.old self.new (erased (T.state self.old.words) key.now) }
+        ensures cause { IfErr result (IsEraseCause D.faults self.old self.new (length key.now + 1)) }
+        ensures err { IfErr result (LeavesStore T.state self.old self.new (erased (T.state self.old.words) key.now)) }
     {
         self.erase_bytes(key.as_bytes())
     }
@@ -325,28 +327,25 @@ impl<T: Words, A: Allocator + Copy, D: Device> Store<T, A, D> {
     /// `RefusedAt` with the place of a change whose pair has a fault, or for which memory or slots were refused; `Refused` where memory for
     /// the record was refused, `TooLong` and `Full`: then nothing has changed. `Device` where the device failed, and `Failed` from then on.
     pub fn apply_batch(&mut self, changes: &[Change<'_>]) -> Result<(), DurableError>
-        requires ready { IsReady D.seen D.may_leave self.old.journal.device self.old.journal.end (T.state self.old.words) self.old.failed }
+        requires ready { IsReadyStore D.seen D.may_leave T.state self.old }
 
         //= Once a batch is acknowledged, the dictionary is as all of its changes leave it, one after another, and the file stands for that, on
         //  the disk; a batch of no changes leaves the file as it was. [with ready, nothing]
-        ensures made { OnOk result ((self.new.failed ≡ false) × ((T.state self.new.words) ≡ all_changed (T.state self.old.words) (changes_told changes.now))) }
-        ensures ready { IsReady D.seen D.may_leave self.new.journal.device self.new.journal.end (T.state self.new.words) self.new.failed }
+        ensures made { OnOk result (HasState T.state self.new (all_changed (T.state self.old.words) (changes_told changes.now))) }
+        ensures ready { IsReadyStore D.seen D.may_leave T.state self.new }
         ensures nothing { OnOk result (changes.now ≡ [] → self.new.journal ≡ self.old.journal) }
 
         //= A crash at any moment of a batch leaves a file that stands for the dictionary from before it, or for the one with all of its changes.
-        ensures any_moment { self.old.failed ≡ false → LeavesOnly D.moment D.left_since self.old.journal.device self.new.journal.device
-            (IsEither (T.state self.old.words) (all_changed (T.state self.old.words) (changes_told changes.now))) }
+        ensures any_moment { CrashLeavesEither D.moment D.left_since T.state self.old self.new (all_changed (T.state self.old.words) (changes_told changes.now)) }
 
         //= A batch in which one pair has a fault is refused. Else it is refused only where the store has failed before, for want of memory or
         //  slots, where the record is too long or the records end too far back, or where the device failed. [with cause]
         ensures faulty { IsOk result → AllByRecursion IsFaultless (changes_told changes.now) }
-        ensures cause { IfErr result (λ e. BatchCause self.old.failed (changes_told changes.now) self.old.journal.end (D.faults self.old.journal.device) (D.faults self.new.journal.device) e) }
+        ensures cause { IfErr result (IsBatchCause D.faults self.old self.new (changes_told changes.now)) }
 
         //= After an error of the device the store has failed and the dictionary has all of a batch; after any other, the dictionary, the file
         //  and the store are as they were.
-        ensures err { IfErr result (λ e. Leaves e
-            ((self.new.failed ≡ true) × ((T.state self.new.words) ≡ all_changed (T.state self.old.words) (changes_told changes.now)))
-            ((self.new.failed ≡ self.old.failed) × (self.new.journal ≡ self.old.journal) × ((T.state self.new.words) ≡ (T.state self.old.words)))) }
+        ensures err { IfErr result (LeavesStore T.state self.old self.new (all_changed (T.state self.old.words) (changes_told changes.now))) }
     {
         if self.failed {
             return Err(DurableError::Failed);
@@ -355,18 +354,19 @@ impl<T: Words, A: Allocator + Copy, D: Device> Store<T, A, D> {
             return Ok(());
         }
         let batch = make(&mut self.words, self.alloc, self.journal.end, changes)?;
-        self.append(&batch)?;
+        self.acknowledge(&batch)?;
         Ok(())
     }
 
     /// Writes a record of a change that the dictionary has.
-    fn append(&mut self, frame: &Frame<A>) -> Result<(), DurableError>
+    pub(crate) fn append(&mut self, frame: &Frame<A>) -> Result<(), DurableError>
         requires settled { IsSettled D.seen D.may_leave self.old.journal.device self.old.journal.end }
         requires room { self.old.journal.end < 2 ^ 60 }
         ensures settled { OnOk result (IsSettled D.seen D.may_leave self.new.journal.device self.new.journal.end) }
         ensures acknowledged { OnOk result (recovered (D.seen self.new.journal.device) ≡ added (payload_of frame.now) (recovered (D.seen self.old.journal.device))) }
         ensures failed { OnOk result (self.new.failed ≡ self.old.failed) }
-        ensures err { IfErr result (λ e. IsOfDevice (D.faults self.old.journal.device) (D.faults self.new.journal.device) e × (self.new.failed ≡ true)) }
+        ensures faults { D.faults self.old.journal.device ≤ D.faults self.new.journal.device }
+        ensures err { IfErr result (FailsByDevice D.faults self.old self.new) }
         ensures words { self.new.words ≡ self.old.words }
         ensures any_moment { LeavesOnly D.moment D.left_since self.old.journal.device self.new.journal.device
             (IsBeforeOrAfter (recovered (D.seen self.old.journal.device)) (payload_of frame.now)) }

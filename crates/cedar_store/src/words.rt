@@ -1,13 +1,16 @@
 //! The dictionary of a store, as the store sees it.
 
+ghost use Rattle.std.specs.Prelude.{◌≡◌, IfErr, IfOk, IfSome, None, OnOk, Some, is_some, length, true};
+ghost use Rattle.cedar_store.specs.Words.{compacted_length, erased, image_bytes, IsAscending, IsBeforeReplacing, IsLimit, IsPut, IsPutOf, IsShortage, IsSound, new_state, number_at, outcome, payloads_of, replayed, State, value_fault, walk};
+
+use crate::CompactError;
+use crate::compact::image_of;
+use cedar_journal::Image;
 use cedarwood::{CedarBuilder, CedarError, Layout, Trie};
 use std::alloc::Allocator;
 
 /// A dictionary that a store keeps: a [`Trie`] of any layout and any limit of slots.
 pub trait Words: Drop {
-    ghost use Rattle.std.specs.Prelude.{◌≡◌, IfOk, IfSome, None, OnOk, is_some, length, true};
-    ghost use Rattle.cedar_store.specs.Words.{erased, number_at, outcome, value_fault, walk, IsAscending, IsPut, IsSound, State};
-
     /// The state that its answers come from.
     ghost state: { Self → State };
 
@@ -45,13 +48,21 @@ pub trait Words: Drop {
         ensures entries { result ≡ length (walk (state self.now).tree) }
         ensures sound { IsSound (state self.now).tree }
         ensures ascending { (state self.now).ordered ≡ true → IsAscending (state self.now).tree.children };
+
+    /// A journal's file in memory, in which each entry is put, one after another.
+    ///
+    /// # Errors
+    /// `Memory` where a request was refused, `TooLong` where the record of an entry would be too long.
+    fn image<B: Allocator + Copy>(&self, alloc: B) -> Result<Image<B>, CompactError>
+        //= Such a dictionary can be written down as a journal's file, of one record for each entry; if it is ordered, their changes make it
+        //  again. [with length, cause]
+        ensures made { (state self.now).ordered ≡ true → IfOk result (λ image. replayed new_state (payloads_of image) ≡ Some (state self.now)) }
+        ensures length { IfOk result (λ image. length (image_bytes image) ≡ compacted_length (walk (state self.now).tree)) }
+        ensures cause { IfErr result (λ error. IsBeforeReplacing error) };
 }
 
 /// A dictionary that a store makes.
 pub trait Made<A: Allocator>: Words {
-    ghost use Rattle.std.specs.Prelude.{◌≡◌, IfErr, IfOk};
-    ghost use Rattle.cedar_store.specs.Words.{new_state, IsShortage};
-
     /// What its limit of slots has to be.
     ghost limit: { Type 0 };
 
@@ -88,14 +99,36 @@ impl<L: Layout, const SLOTS: usize, A: Allocator + Copy> Words for Trie<L, SLOTS
     fn count(&self) -> usize {
         self.len()
     }
+
+    fn image<B: Allocator + Copy>(&self, alloc: B) -> Result<Image<B>, CompactError> {
+        // A dictionary is valid: so no pair in it has a fault.
+        let _ = self.len();
+        match self.entries() {
+            Ok(entries) => image_of(entries, alloc),
+            Err(_) => Err(CompactError::Memory),
+        }
+    }
 }
 
 impl<L: Layout, const SLOTS: usize, A: Allocator + Copy> Made<A> for Trie<L, SLOTS, A> {
-    ghost use Rattle.cedar_store.specs.Words.{IsLimit};
-
     ghost limit = { IsLimit SLOTS };
 
     fn make(alloc: A) -> Result<Self, CedarError> {
         Trie::with(alloc, CedarBuilder::new())
+    }
+}
+
+/// Takes a put back, of a key that held this value before, or none. It takes no memory.
+pub(crate) fn take_back<T: Words>(words: &mut T, key: &[u8], held: Option<i32>)
+    ensures { (s : State) → IsPutOf s key.now held (T.state words.old) → (T.state words.new) ≡ s }
+{
+    match held {
+        None => {
+            words.remove(key);
+        }
+        Some(value) => {
+            // A key that is held takes no memory and no slot.
+            let _ = words.put_over(key, value);
+        }
     }
 }

@@ -12,13 +12,16 @@ pub use Rattle.cedar_model.specs.Relocation.Reserved.{cells_without}
 pub use Rattle.cedar_model.specs.Table.Cells.{Gives, HasPlaces, Held, InfoWritten, is_held, IsPlace, NodeWritten, NoPlace, SameHeld, Takes}
 pub use Rattle.cedar_model.specs.Table.Layouts.{reading, reduced_layout}
 pub use Rattle.cedar_model.specs.Table.TableFields.{capacity_of, SameFrame, SameSettings, size_of}
+pub use Rattle.cedar_model.specs.declared.layout.Stored.TheVariants.{Nothing, OwnNumber}
 pub use Rattle.cedar_slots.specs.Blocks.{block_at}
-pub use Rattle.cedar_slots.specs.Places.{AddsBlock, Grown, IsNewPlaces, IsTable, MayRefuse, reject_at, SameSlots, Shaped}
+pub use Rattle.cedar_slots.specs.Places.{AddsBlock, Grown, IsNewPlaces, IsSlotLimit, IsTable, MayRefuse, reject_at, SameSlots, Shaped}
 pub use Rattle.cedar_slots.specs.Slots.{check_at}
 pub use Rattle.cedar_slots.specs.Views.{places_of}
+pub use Rattle.cedar_slots.specs.declared.shortage.Shortage.TheVariants.{Memory}
 pub use Rattle.cedar_table.specs.Table.Parts.{parts_fields}
 pub use Rattle.cedar_table.specs.Table.Room.{LacksBlocks}
 pub use Rattle.cedar_table.specs.Table.Views.{cells, fields}
 pub use Rattle.cedar_tree.specs.Edits.{edit_at, HasPath}
 pub use Rattle.cedar_tree.specs.Queries.{exact, node_at}
 pub use Rattle.cedar_tree.specs.Tree.{empty_tree, Forest, has_label, number_at, subtree, Tree}
+pub use Rattle.std.specs.List.{range_with_len}

@@ -6,7 +6,7 @@ use cedar_slots::NInfoRecord;
 use std::alloc::Allocator;
 
 impl<L: Layout, const SLOTS: usize, A: Allocator> Table<L, SLOTS, A> {
-    ghost use Rattle.std.specs.Prelude.{◌≢◌, ◌<◌, MatchOption};
+    ghost use Rattle.std.specs.Prelude.{◌<◌, ◌≢◌, MatchOption};
     ghost use Rattle.cedar_table.specs.Words.{cells, fields, Held, IsTable, LinkedBehind, LinkedChild, SameFrame, SetsChild, SetsSibling, size_of};
 
     /// Makes `label` the one after that of the held slot `slot`.

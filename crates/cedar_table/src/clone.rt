@@ -1,7 +1,7 @@
 //! A table copied.
 
 ghost use Rattle.std.specs.Prelude.{◌≡◌, IfOk};
-ghost use Rattle.cedar_slots.specs.Views.{places_of};
+ghost use Rattle.cedar_table.specs.Words.{fields, places_of};
 
 use crate::table::Table;
 use cedar_model::Layout;
@@ -10,8 +10,6 @@ use std::alloc::{AllocError, Allocator};
 use std::marker::PhantomData;
 
 impl<L: Layout, const SLOTS: usize, A: Allocator + Copy> Clone for Table<L, SLOTS, A> {
-    ghost use Rattle.cedar_table.specs.Table.Views.{fields};
-
     //= A clone has the same fields, so that it is the same table; it may be refused for memory.
     ghost is_clone = { λ table copy. fields copy ≡ fields table };
 

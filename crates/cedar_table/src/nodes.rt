@@ -7,9 +7,8 @@ use cedar_slots::NodeRecord;
 use std::alloc::Allocator;
 
 impl<L: Layout, const SLOTS: usize, A: Allocator> Table<L, SLOTS, A> {
-    ghost use Rattle.cedar_table.specs.Words.{base_of, below, cells, ChecksAt, edit_at, empty_tree, Family, fields, FieldSet, Forest, HasNode, HasPath, Head, Held, is_value, IsAt, IsNode, IsTable, IsWellFormed, Links, node_at, number_at, owned_slots, OwnsNothing, Rebased, reduced_layout, SameFrame, size_of, TableHolds, tree_of};
-    ghost use Rattle.cedar_model.specs.declared.layout.Stored.TheVariants.{Nothing, OwnNumber};
-    ghost use Rattle.std.specs.Prelude.{◌<◌, ◌^◌, ◌↔◌, ◌≡◌, ◌≢◌, IsTrue, List, MatchOption, None, [], false, pos, ℕ, Some, true};
+    ghost use Rattle.std.specs.Prelude.{◌<◌, ◌^◌, ◌↔◌, ◌≡◌, ◌≢◌, [], IsTrue, List, MatchOption, None, pos, Some, true, ℕ};
+    ghost use Rattle.cedar_table.specs.Words.{base_of, below, cells, ChecksAt, edit_at, empty_tree, Family, fields, FieldSet, Forest, HasNode, HasPath, Head, Held, is_value, IsAt, IsNode, IsTable, IsWellFormed, Links, node_at, Nothing, number_at, owned_slots, OwnNumber, OwnsNothing, Rebased, reduced_layout, SameFrame, size_of, TableHolds, tree_of};
 
     /// What the base field of a node says. In the layout by default that is a base, with no test.
     pub fn stored_at_node(&self, node: usize) -> Stored

@@ -1,6 +1,6 @@
 //! Room for blocks that are still to come into use.
 
-ghost use Rattle.std.specs.Prelude.{◌≡◌, ◌<◌, ◌≤◌, ◌+◌, ◌*◌, ◌^◌, IfErr, length, OnErr, OnOk};
+ghost use Rattle.std.specs.Prelude.{◌*◌, ◌+◌, ◌<◌, ◌^◌, ◌≡◌, ◌≤◌, IfErr, length, OnErr, OnOk};
 ghost use Rattle.cedar_table.specs.Words.{blocks_after, capacity_of, cells, fields, Grown, IsWellFormed, LacksBlocks, marks, SameSettings, size_of, tree_of};
 
 use crate::table::Table;

@@ -1,8 +1,7 @@
 //! The table: slots in blocks, free or held, with the settings that it was made with.
 
-ghost use Rattle.std.specs.Prelude.{◌≡◌, ◌≤ℤ◌, ◌*◌, ◌≤◌, length, pos};
-ghost use Rattle.cedar_slots.specs.Places.{IsSlotLimit, IsTable, Shaped};
-ghost use Rattle.cedar_slots.specs.Views.{places_of};
+ghost use Rattle.std.specs.Prelude.{◌*◌, ◌+◌, ◌-◌, ◌/◌, ◌<◌, ◌^◌, ◌↔◌, ◌≡◌, ◌≤◌, ◌≤ℤ◌, ◌⊎◌, count_by, IfErr, IfOk, IsTrue, length, negsuc, OnErr, pos, ℕ};
+ghost use Rattle.cedar_slots.specs.Words.{places_of, Shaped};
 
 use arrayvec::ArrayVec;
 use cedar_model::{Layout, Stored};
@@ -28,10 +27,7 @@ pub struct Table<L: Layout, const SLOTS: usize, A: Allocator> {
 }
 
 impl<L: Layout, const SLOTS: usize, A: Allocator> Table<L, SLOTS, A> {
-    ghost use Rattle.std.specs.Prelude.{ℕ, ◌<◌, ◌^◌, ◌⊎◌, ◌+◌, ◌-◌, ◌/◌, ◌↔◌, count_by, IfErr, IfOk, IsTrue, negsuc, OnErr};
-    ghost use Rattle.std.specs.List.{range_with_len};
-    ghost use Rattle.cedar_slots.specs.declared.shortage.Shortage.TheVariants.{Memory};
-    ghost use Rattle.cedar_table.specs.Words.{AddsBlock, block_at, capacity_of, cells, check_at, empty_tree, fields, cells_without, Gives, HasPlaces, Held, InfoWritten, is_held, IsNewPlaces, IsPlace, IsWellFormed, MakesBlocks, MayClaim, MayRefuse, NodeWritten, NoPlace, reading, reject_at, SameFrame, SameHeld, SameSettings, SameSlots, size_of, Takes, tree_of};
+    ghost use Rattle.cedar_table.specs.Words.{AddsBlock, block_at, capacity_of, cells, cells_without, check_at, empty_tree, fields, Gives, HasPlaces, Held, InfoWritten, is_held, IsNewPlaces, IsPlace, IsSlotLimit, IsTable, IsWellFormed, MakesBlocks, MayClaim, MayRefuse, Memory, NodeWritten, NoPlace, range_with_len, reading, reject_at, SameFrame, SameHeld, SameSettings, SameSlots, size_of, Takes, tree_of};
 
     /// A table with one block, in which the root alone is held. It stands for the empty tree.
     pub fn new(alloc: A, ordered: bool, max_trial: i32) -> Result<Self, Shortage>

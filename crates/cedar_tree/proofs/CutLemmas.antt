@@ -3,7 +3,7 @@ use Rattle.std.proofs.Common.{◌≡◌, ℕ, ℤ, true, cond, ◌==◌, List, [
 use Rattle.cedar_tree.specs.Tree.{AllAbove, child, Forest, IsAscending, none, subtree, Tree, without}
 use Rattle.cedar_tree.specs.Queries.{node_at}
 use Rattle.cedar_tree.specs.Edits.{edit_at, HasPath, number_on, without_leaf, without_number}
-use Rattle.cedar_tree.proofs.EditLemmas.{changed, edit_is_replace, same_number}
+use Rattle.cedar_tree.proofs.EntryLemmas.Steps.{changed, edit_is_replace, same_number}
 use Rattle.cedar_tree.proofs.OrderLemmas.{ascending-without}
 use Rattle.cedar_tree.proofs.TreeLemmas.{subtree-replace_same}
 

@@ -5,7 +5,7 @@ use Rattle.std.proofs.lemmas.List.Elements.{Contains-append_left, Contains-appen
 use Rattle.cedar_tree.specs.Tree.{Tree, number_at, IsSoundBelow}
 use Rattle.cedar_tree.specs.Queries.{Entry, walk, entry_at, is_path}
 use Rattle.cedar_tree.proofs.WalkLemmas.{walk_at}
-use Rattle.cedar_tree.proofs.BuildLemmas.{is_path_itself}
+use Rattle.cedar_tree.proofs.EntryLemmas.Built.{is_path_itself}
 
 pub contains_one : {X : Type 0} (y x : X) (k : ℕ) → k < 1 → slice_index_or (y ∷ []) k x ≡ x → y ≡ x
 contains_one y x zero h e = e

@@ -6,3 +6,4 @@ pub mod State
 pub mod Stored
 pub mod Statements
 pub mod Walks
+pub mod Words

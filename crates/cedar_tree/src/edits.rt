@@ -1,9 +1,7 @@
 //! Laws by which a put and a cut go along a path, one node at a time.
 
-ghost use Rattle.std.specs.Prelude.{◌≡◌, ◌⊎◌, ℕ, ℤ, Bool, true, false, List, [], ◌∷◌, ◌++◌, None};
-ghost use Rattle.cedar_tree.specs.Tree.{Tree, cut, has_label, is_bare, put, subtree, without};
-ghost use Rattle.cedar_tree.specs.Queries.{node_at};
-ghost use Rattle.cedar_tree.specs.Edits.{HasPath, with_leaf, with_number, without_leaf, without_number};
+ghost use Rattle.std.specs.Prelude.{◌++◌, ◌∷◌, ◌≡◌, ◌⊎◌, [], Bool, false, List, None, true, ℕ, ℤ};
+ghost use Rattle.cedar_tree.specs.Words.{cut, has_label, HasPath, is_bare, node_at, put, subtree, Tree, with_leaf, with_number, without, without_leaf, without_number};
 
 /// A put is as it was once the next node of its path, which is missing, was added as a bare leaf; and where no node is
 /// missing, it sets the number.

@@ -1,9 +1,7 @@
 //! Laws of a tree that grows by bare leaves along a path, and of how they are taken back.
 
-ghost use Rattle.std.specs.Prelude.{◌≡◌, ℕ, Bool, true, false, List, [], ◌∷◌, ◌++◌};
-ghost use Rattle.cedar_tree.specs.Tree.{Tree, IsAscending, IsSoundBelow, cut, empty_tree, has_label, is_bare, number_at};
-ghost use Rattle.cedar_tree.specs.Queries.{node_at};
-ghost use Rattle.cedar_tree.specs.Edits.{HasPath, with_leaf};
+ghost use Rattle.std.specs.Prelude.{◌++◌, ◌∷◌, ◌≡◌, [], Bool, false, List, true, ℕ};
+ghost use Rattle.cedar_tree.specs.Words.{cut, empty_tree, has_label, HasPath, is_bare, IsAscending, IsSoundBelow, node_at, number_at, Tree, with_leaf};
 
 /// A new leaf stands at the end of its path, has neither number nor child, brings no number, and keeps ascending labels
 /// ascending.

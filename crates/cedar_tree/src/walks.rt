@@ -1,10 +1,7 @@
 //! Laws of walks that are under way.
 
-ghost use Rattle.std.specs.Prelude.{◌≡◌, ℕ, ◌+◌, ◌-◌, ◌<◌, ◌≤◌, ℤ, List, [], ◌∷◌, length, map, take, slice_index, false, Option, option_map};
-ghost use Rattle.std.specs.List.{cons_option};
-ghost use Rattle.cedar_tree.specs.Tree.{empty_tree, Forest, none, child, Tree, has_label, IsSoundBelow, number_at, subtree};
-ghost use Rattle.cedar_tree.specs.Queries.{front, node_at, predict, walk};
-ghost use Rattle.cedar_tree.specs.Walks.{behind, visited_entries, forwards, front_from, node_up, visits_after, visits_left};
+ghost use Rattle.std.specs.Prelude.{◌+◌, ◌-◌, ◌<◌, ◌∷◌, ◌≡◌, ◌≤◌, [], false, length, List, map, Option, option_map, slice_index, take, ℕ, ℤ};
+ghost use Rattle.cedar_tree.specs.Words.{behind, child, cons_option, empty_tree, Forest, forwards, front, front_from, has_label, IsSoundBelow, node_at, node_up, none, number_at, predict, subtree, Tree, visited_entries, visits_after, visits_left, walk};
 
 /// A walk over all nodes goes on to the first child of its node, or else to the sibling after it, or else to the one after the
 /// nearest node above that has one; and then it is where the walk from there on is what it has left.

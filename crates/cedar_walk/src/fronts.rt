@@ -1,7 +1,7 @@
 //! The next front of a query that is held.
 
-ghost use Rattle.std.specs.Prelude.{◌+◌, ◌*◌, ◌-◌, ◌<◌, ◌≤◌, length, MatchOption};
-ghost use Rattle.cedar_walk.specs.Words.{fields, IsNextFront, IsOnQuery, IsWellFormed, front_length, tree_of};
+ghost use Rattle.std.specs.Prelude.{◌*◌, ◌+◌, ◌-◌, ◌<◌, ◌≤◌, length, MatchOption};
+ghost use Rattle.cedar_walk.specs.Words.{fields, front_length, IsNextFront, IsOnQuery, IsWellFormed, tree_of};
 
 use cedar_model::Layout;
 use cedar_slots::Ticks;

@@ -1,7 +1,7 @@
 //! A walk from number to number that keeps the key of its node: so an item of it costs the labels in which its key differs from the
 //! one before, and no climb to the node where the walk began.
 
-ghost use Rattle.std.specs.Prelude.{◌≡◌, ◌≢◌, ℕ, List, ◌≤◌, IfOk, length, MatchOption};
+ghost use Rattle.std.specs.Prelude.{◌≡◌, ◌≢◌, ◌≤◌, IfOk, length, List, MatchOption, ℕ};
 ghost use Rattle.cedar_walk.specs.Words.{cells, fields, FindsNumber, GoesToNumber, IsBelow, IsNumberedBelow, IsWellFormed, KeyGoesOn};
 
 use crate::visits::{Numbered, label_after_number, number_held, place_after};

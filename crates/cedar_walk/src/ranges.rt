@@ -1,6 +1,6 @@
 //! Walks over a range of keys: the first entry at a key or after it, and the path of a node that a walk has come to.
 
-ghost use Rattle.std.specs.Prelude.{◌≡◌, ◌⊎◌, ℕ, List, [], ◌∷◌, ◌++◌, ◌-◌, ◌<◌, ◌≤◌, length, take, true};
+ghost use Rattle.std.specs.Prelude.{◌++◌, ◌-◌, ◌<◌, ◌∷◌, ◌≡◌, ◌≤◌, ◌⊎◌, [], length, List, take, true, ℕ};
 ghost use Rattle.cedar_walk.specs.Words.{AboveFrom, BeginsAtFirst, below, cells, ComesToFirst, entries_since, fields, IsAt, IsBelow, IsReached, IsWellFormed, left_above, node_at, path_to, tree_of};
 
 use crate::visits::{

@@ -1,4 +1,12 @@
 -- The words that the public clauses cite, from one place: a caller's crate takes them from here, and so do this crate's own sources.
-pub use Rattle.cedar_words.specs.Cuts.{HasOneCheapest, IsAhead, IsCheapest, IsCheapestBy, IsCut, IsLeastCapped, character_price, cost_by, cost_of}
-pub use Rattle.cedar_words.specs.Spots.{IsKeyIn, IsLeftmost, Spot, keywords_from, keywords_in, keywords_of, spots_at, spots_from, spots_left}
-pub use Rattle.cedar_words.specs.Tokens.{AreAdjacent, IsLongest, Token, TokensGoOn, bytes_in, found_number, len_of, longest, segments, tokens_behind}
+pub use Rattle.cedar_words.specs.Cuts.{character_price, cost_by, cost_of, HasOneCheapest, IsAhead, IsCheapest, IsCheapestBy, IsCut}
+pub use Rattle.cedar_words.specs.Cuts.{IsLeastCapped}
+pub use Rattle.cedar_words.specs.Spots.{IsKeyIn, IsLeftmost, keywords_from, keywords_in, keywords_of, Spot, spots_at, spots_from}
+pub use Rattle.cedar_words.specs.Spots.{spots_left}
+pub use Rattle.cedar_words.specs.Steps.{AreCosts, AreMarks, AreWithin, best_cut, best_of, better_of, IsFoundBy, IsMark, key_step, step_at, step_over}
+pub use Rattle.cedar_words.specs.Tokens.{AreAdjacent, bytes_in, found_number, IsLongest, len_of, longest, segments, Token, tokens_behind}
+pub use Rattle.cedar_words.specs.Tokens.{TokensGoOn}
+pub use Rattle.cedarwood.specs.Queries.{front}
+pub use Rattle.cedarwood.specs.Tree.{Tree}
+pub use Rattle.std.specs.Iterator.{item_count, UpTo, YieldsFirst}
+pub use Rattle.std.specs.Iterator.SizeHint.{IsWithinCount}

@@ -1,8 +1,7 @@
 //! The cut of least cost: a key costs its value, and each byte without a value costs the same.
 
-ghost use Rattle.std.specs.Prelude.{◌≡◌, ◌-◌, ◌<◌, ◌≤◌, ◌^◌, length, IfOk};
-ghost use Rattle.cedar_words.specs.Steps.{AreCosts, AreMarks, AreWithin, IsFoundBy, IsMark, best_cut, best_of, better_of, key_step, step_at, step_over};
-ghost use Rattle.cedar_words.specs.Words.{IsCheapest, IsCheapestBy, IsCut, IsLeastCapped, character_price};
+ghost use Rattle.std.specs.Prelude.{◌+◌, ◌-◌, ◌<◌, ◌^◌, ◌∷◌, ◌≡◌, ◌≤◌, [], IfOk, length, List, MatchOption, ℕ, ℤ};
+ghost use Rattle.cedar_words.specs.Words.{AreCosts, AreMarks, AreWithin, best_cut, best_of, better_of, character_price, front, IsCheapest, IsCheapestBy, IsCut, IsFoundBy, IsLeastCapped, IsMark, key_step, step_at, step_over, Tree};
 
 use cedarwood::{Layout, PrefixIter, Trie, Walked};
 use std::alloc::{AllocError, Allocator};
@@ -17,8 +16,6 @@ struct Step {
 
 /// What a byte without a value costs, at each place of a text.
 trait BytePrice {
-    ghost use Rattle.std.specs.Prelude.{◌≡◌, ◌<◌, ℕ, List, length};
-
     /// What it costs at a place.
     ghost price_at: { Self → List ℕ → ℕ → ℕ };
 
@@ -49,8 +46,6 @@ struct EachCharacter {
 }
 
 impl BytePrice for EachCharacter {
-    ghost use Rattle.cedar_words.specs.Words.{character_price};
-
     ghost price_at = { λ it text place. character_price it.cost text place };
 
     fn price(&self, text: &[u8], place: usize) -> u32 {
@@ -64,8 +59,6 @@ impl BytePrice for EachCharacter {
 
 /// What finds the keys that a text begins with, one after another.
 pub(crate) trait NextFront {
-    ghost use Rattle.std.specs.Prelude.{◌≡◌, ℕ, ℤ, List, [], ◌∷◌, MatchOption};
-
     /// Those that are still to come.
     ghost left: { Self → List (ℤ × ℕ) };
 
@@ -84,11 +77,6 @@ impl<'a, T: Walked> NextFront for PrefixIter<'a, T> {
 
 /// A dictionary, as cheapest cuts see it.
 trait FirstStep {
-    ghost use Rattle.std.specs.Prelude.{◌≡◌, ◌<◌, ◌≤◌, length};
-    ghost use Rattle.cedarwood.specs.Tree.{Tree};
-    ghost use Rattle.cedarwood.specs.Queries.{front};
-    ghost use Rattle.cedar_words.specs.Steps.{best_of};
-
     /// The labelled tree that the answers come from.
     ghost tree: { Self → Tree };
 

@@ -1,8 +1,7 @@
 //! The keywords of a text, which don't overlap.
 
-ghost use Rattle.std.specs.Prelude.{◌≡◌, ⊤, List, drop};
-ghost use Rattle.std.specs.Iterator.{item_count, YieldsFirst};
-ghost use Rattle.cedar_words.specs.Words.{Spot, keywords_from, keywords_in, keywords_of};
+ghost use Rattle.std.specs.Prelude.{◌≡◌, drop, List, ⊤};
+ghost use Rattle.cedar_words.specs.Words.{item_count, keywords_from, keywords_in, keywords_of, Spot, YieldsFirst};
 
 use crate::longest::LongestPrefix;
 use crate::segments::{Segments, segment, segment_from};
@@ -21,9 +20,6 @@ pub struct Keywords<'a, T: LongestPrefix> {
 }
 
 impl<'a, T: LongestPrefix> Model for Keywords<'a, T> {
-    ghost use Rattle.std.specs.Prelude.{List};
-    ghost use Rattle.cedar_words.specs.Words.{Spot, keywords_of};
-
     ghost Value = { List Spot };
 
     ghost view = { λ it. keywords_of it.tokens };

@@ -1,9 +1,7 @@
 //! Laws of the tokens of a text.
 
-ghost use Rattle.std.specs.Prelude.{◌≡◌, ℕ, ◌+◌, ◌≤◌, ◌↔◌, List, [], length, All};
-ghost use Rattle.std.specs.List.{Contains};
-ghost use Rattle.cedarwood.specs.Tree.{Tree};
-ghost use Rattle.cedar_words.specs.Words.{AreAdjacent, HasOneCheapest, IsCut, IsKeyIn, IsLeftmost, IsLongest, Spot, Token, TokensGoOn, bytes_in, keywords_in, segments, spots_from, tokens_behind};
+ghost use Rattle.std.specs.Prelude.{◌+◌, ◌↔◌, ◌≡◌, ◌≤◌, [], All, Contains, length, List, ℕ};
+ghost use Rattle.cedar_words.specs.Words.{AreAdjacent, bytes_in, HasOneCheapest, IsCut, IsKeyIn, IsLeftmost, IsLongest, keywords_in, segments, Spot, spots_from, Token, tokens_behind, TokensGoOn, Tree};
 
 /// The tokens of a text cover it in order: each begins where the one before it ended, has one byte or more, and together they have
 /// the bytes of the text.

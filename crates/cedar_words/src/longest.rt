@@ -5,9 +5,8 @@ use std::alloc::Allocator;
 
 /// What tells the longest key that a text begins with: any dictionary. The tokens of a text ask for nothing else.
 pub trait LongestPrefix {
-    ghost use Rattle.std.specs.Prelude.{◌≡◌, ◌<◌, IfSome, length};
-    ghost use Rattle.cedarwood.specs.Tree.{Tree};
-    ghost use Rattle.cedar_words.specs.Words.{longest};
+    ghost use Rattle.std.specs.Prelude.{◌<◌, ◌≡◌, IfSome, length};
+    ghost use Rattle.cedar_words.specs.Words.{longest, Tree};
 
     /// The labelled tree that the answers come from.
     ghost tree: { Self → Tree };

@@ -1,9 +1,7 @@
 //! The tokens of a text, one after another.
 
-ghost use Rattle.std.specs.Prelude.{◌≡◌, ◌<◌, ◌≤◌, ⊤, List, IfSome, Some, drop, length, min};
-ghost use Rattle.std.specs.Iterator.{item_count, UpTo, YieldsFirst};
-ghost use Rattle.std.specs.Iterator.SizeHint.{IsWithinCount};
-ghost use Rattle.cedar_words.specs.Words.{bytes_in, len_of, longest, found_number, segments, Token, tokens_behind};
+ghost use Rattle.std.specs.Prelude.{◌+◌, ◌<◌, ◌^◌, ◌≡◌, ◌≤◌, drop, IfSome, length, List, min, Some, ⊤};
+ghost use Rattle.cedar_words.specs.Words.{bytes_in, found_number, IsWithinCount, item_count, len_of, longest, segments, Token, tokens_behind, UpTo, YieldsFirst};
 
 use crate::longest::LongestPrefix;
 use cedarwood::{Layout, Trie};
@@ -24,9 +22,6 @@ pub struct Segments<'a, T: LongestPrefix> {
 }
 
 impl<'a, T: LongestPrefix> Model for Segments<'a, T> {
-    ghost use Rattle.std.specs.Prelude.{◌+◌, ◌<◌, ◌^◌, List, length};
-    ghost use Rattle.cedar_words.specs.Words.{Token, tokens_behind};
-
     ghost Value = { List Token };
 
     ghost view = { λ it. tokens_behind (T.tree it.trie.now) 0 it.place it.rest.now };

@@ -1,9 +1,7 @@
 //! All keys that stand in a text.
 
-ghost use Rattle.std.specs.Prelude.{◌≡◌, ◌-◌, ◌≤◌, ⊤, List, length, drop};
-ghost use Rattle.std.specs.Iterator.{item_count, YieldsFirst};
-ghost use Rattle.cedar_words.specs.Steps.{AreWithin};
-ghost use Rattle.cedar_words.specs.Words.{Spot, spots_at, spots_from};
+ghost use Rattle.std.specs.Prelude.{◌-◌, ◌≡◌, ◌≤◌, drop, length, List, ⊤};
+ghost use Rattle.cedar_words.specs.Words.{AreWithin, front, item_count, Spot, spots_at, spots_from, spots_left, Tree, YieldsFirst};
 
 use crate::costs::NextFront;
 use cedarwood::{Layout, PrefixIter, Trie, Walked};
@@ -13,10 +11,6 @@ use std::marker::Model;
 
 /// What walks over the keys that a text begins with: any dictionary. The matches of a text ask for nothing else.
 pub trait Fronts: Walked {
-    ghost use Rattle.std.specs.Prelude.{◌≡◌};
-    ghost use Rattle.cedarwood.specs.Tree.{Tree};
-    ghost use Rattle.cedarwood.specs.Queries.{front};
-
     /// The labelled tree that the answers come from.
     ghost fronts_of: { Self → Tree };
 
@@ -55,10 +49,6 @@ pub struct AllMatches<'a, T: Fronts> {
 }
 
 impl<'a, T: Fronts> Model for AllMatches<'a, T> {
-    ghost use Rattle.std.specs.Prelude.{◌-◌, ◌≤◌, List, length};
-    ghost use Rattle.cedar_words.specs.Steps.{AreWithin};
-    ghost use Rattle.cedar_words.specs.Words.{Spot, spots_left};
-
     ghost Value = { List Spot };
 
     ghost view = { λ it. spots_left (T.fronts_of it.trie.now) it.text.now it.place it.walk.rest };

@@ -7,8 +7,8 @@ use Rattle.cedar_tree.specs.Tree.{cut, empty_tree, is_bare, IsSoundBelow, number
 use Rattle.cedar_tree.specs.Queries.{Entry, entry_at, is_path, node_at, walk}
 use Rattle.cedar_tree.specs.State.{erased, State}
 use Rattle.cedar_tree.specs.Walks.{visited_entries}
-use Rattle.cedar_tree.proofs.BuildLemmas.{is_path_itself, same_path}
-use Rattle.cedar_tree.proofs.ChangeLemmas.{walk-cut}
+use Rattle.cedar_tree.proofs.EntryLemmas.Built.{is_path_itself, same_path}
+use Rattle.cedar_tree.proofs.EntryLemmas.Changes.{walk-cut}
 use Rattle.cedar_tree.proofs.MemberLemmas.{contains_none, into_filter, walk_from_held}
 use Rattle.cedar_tree.proofs.OrderLemmas.{front_of_key, number_of_node}
 use Rattle.cedar_tree.proofs.PredictLemmas.{filter-every}

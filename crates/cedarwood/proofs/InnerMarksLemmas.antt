@@ -4,7 +4,7 @@ use Rattle.std.proofs.lemmas.Bool.{true≢false}
 use Rattle.std.proofs.lemmas.List.{append-nil, length-append, length-take-le, take-append-drop, take_at}
 use Rattle.cedar_tree.specs.Tree.{Tree, empty_tree, number_at, put}
 use Rattle.cedar_tree.specs.Queries.{IsFront, is_path}
-use Rattle.cedar_tree.proofs.BuildLemmas.{is_path_itself, same_path}
+use Rattle.cedar_tree.proofs.EntryLemmas.Built.{is_path_itself, same_path}
 use Rattle.cedar_tree.proofs.TreeLemmas.{number_at-empty, number_at-put_other, number_at-put_same}
 use Rattle.cedar_bulk.specs.SortedMarks.{IsInnerKey}
 use Rattle.cedar_model.specs.Meaning.Marks.{HasMark, IsProperFront, MarksPut}

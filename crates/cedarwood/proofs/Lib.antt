@@ -4,6 +4,7 @@ pub mod DictionaryLemmas
 pub mod FaultLemmas
 pub mod GrowthLemmas
 pub mod SortedInputLemmas
+pub mod UnsortedLemmas
 pub mod UpdateLemmas
 pub mod PredictionLemmas
 pub mod BatchLemmas

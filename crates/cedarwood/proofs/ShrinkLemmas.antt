@@ -7,7 +7,7 @@ use Rattle.cedar_tree.specs.Tree.{Tree, empty_tree, IsKey, number_at, put}
 use Rattle.cedar_tree.specs.Queries.{Entry, walk}
 use Rattle.cedar_tree.specs.State.{State, stored}
 use Rattle.cedar_tree.specs.Walks.{visited_entries}
-use Rattle.cedar_tree.proofs.KeyLemmas.{held_key}
+use Rattle.cedar_tree.proofs.EntryLemmas.Keys.{held_key}
 use Rattle.cedar_tree.proofs.OrderLemmas.{number_of_node}
 use Rattle.cedar_bulk.specs.SortedMarks.{IsInnerKey, SortedMarks}
 use Rattle.cedar_model.specs.Meaning.Marks.{HasMark}

@@ -8,6 +8,7 @@ use Rattle.cedar_tree.specs.Tree.{AllNumbers, Forest, none, child, IsAscending, 
 use Rattle.cedar_model.specs.Meaning.StandsFor.{labels}
 use Rattle.cedar_model.specs.Table.TableFields.{Fields}
 use Rattle.cedarwood.specs.TableCode.{fields_code}
+use Rattle.cedarwood.specs.declared.figures.MemoryStats.{MemoryStats}
 use Rattle.cedar_model.specs.Meaning.WellFormed.{is_value}
 
 -- the state that its answers come from, the tree with just those numbers that have slots of their own, how many failed searches
@@ -66,3 +67,8 @@ pub record IsValid (slots : ℕ) (d : Dictionary) : Type 0 where
   pub doubled : (k : ℕ) × (d.capacity ≡ 256 * 2 ^ k)
   pub room : d.size ≤ d.capacity
   pub within : d.capacity ≤ slots
+
+-- figures whose four fields are the same
+abbrev pub AreSameFigures : MemoryStats → MemoryStats → Type 0
+AreSameFigures one other =
+    (one.entries ≡ other.entries) × (one.used_node_slots ≡ other.used_node_slots) × (one.node_capacity ≡ other.node_capacity) × (one.allocated_bytes ≡ other.allocated_bytes)

@@ -20,6 +20,7 @@ pub mod TableCode
 pub mod Told
 pub mod Loading
 pub use Rattle.cedar_format.specs.WatchedDevice
+pub mod Unsorted
 pub mod Updates
 pub mod Saving
 pub mod Words

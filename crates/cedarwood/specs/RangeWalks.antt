@@ -1,8 +1,9 @@
 -- Where walks over the entries of a range stand in a table.
-use Rattle.std.specs.Prelude.{◌≡◌, Bool, false, true, ℕ, List, [], ◌∷◌, ◌++◌, filter, map, None, Option, Some}
+use Rattle.std.specs.Prelude.{◌≡◌, Bool, false, true, ℕ, List, [], ◌∷◌, ◌++◌, filter, map, MatchOption, None, Option, Some}
 use Rattle.std.specs.Cmp.Lexicographic.{slice_cmp}
 use Rattle.std.specs.Ordering.{is_ge, is_lt, nat_cmp}
 use Rattle.cedar_tree.specs.Tree.{Tree}
+use Rattle.cedar_tree.specs.State.{State}
 use Rattle.cedar_tree.specs.Queries.{Entry}
 use Rattle.cedar_tree.specs.Walks.{visited_entries}
 use Rattle.cedar_model.specs.Table.TableFields.{Fields}
@@ -24,6 +25,10 @@ IsRangePlace T start (Some next) = IsNumberedBelow T start next.depth next.slot
 -- the entries at the path `from` and after it by bytes, but not at `to` or after that
 abbrev pub entries_between : Tree → List ℕ → List ℕ → List Entry
 entries_between t from to = filter (λ e. is_lt (slice_cmp nat_cmp e.0 to)) (entries_since t from)
+
+-- what is given of them: all, or nothing where labels don't ascend
+abbrev pub GivesBetween : State → List ℕ → List ℕ → Option (List Entry) → Type 0
+GivesBetween s from to given = MatchOption given (s.ordered ≡ false) (λ entries. (s.ordered ≡ true) × (entries ≡ entries_between s.tree from to))
 
 -- the paths that a walk gives: all where it has no bound, and else those before the bound by bytes
 abbrev pub precedes_end : Option (List ℕ) → List ℕ → Bool

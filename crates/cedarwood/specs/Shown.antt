@@ -3,6 +3,7 @@ use Rattle.std.specs.Prelude.{ℕ, List, Bool, ◌++◌, codes, decimal, length,
 use Rattle.std.specs.Fmt.{signed_decimal}
 use Rattle.cedar_tree.specs.Queries.{walk}
 use Rattle.cedarwood.specs.Dictionary.{Dictionary}
+use Rattle.cedarwood.specs.declared.batches.RefusedPair.{RefusedPair}
 use Rattle.cedarwood.specs.declared.error.CedarError.{CedarError}
 use Rattle.cedarwood.specs.declared.error.CedarError.TheVariants as cedar
 use Rattle.cedarwood.specs.declared.queries.entries.EntryError.{EntryError}
@@ -25,6 +26,10 @@ error_text (cedar.DuplicateKey index) = codes "duplicate key at sorted input ind
 error_text (cedar.KeysNotSorted index) = codes "key at input index " ++ (decimal index ++ codes " is smaller than its predecessor")
 error_text cedar.Memory = codes "out of memory"
 error_text cedar.SlotLimit = codes "cedar trie has no slot left"
+
+-- the place of a refused pair, and why it was refused
+abbrev pub refusal_text : RefusedPair → List ℕ
+refusal_text refusal = codes "pair at input index " ++ (decimal refusal.index ++ (codes ": " ++ error_text refusal.error))
 
 abbrev pub entry_error_text : EntryError → List ℕ
 entry_error_text entry.Utf8 = codes "entry key is not UTF-8"

@@ -1,5 +1,5 @@
 -- A dictionary built anew of another one's entries, in as little room as these take.
-use Rattle.std.specs.Prelude.{◌≡◌, ◌≤◌, ◌<◌, ◌⊎◌, ◌+◌, ◌*◌, ℕ, ℤ, Bool, List, [], ◌∷◌, length, map, Option, Some, None, IfErr, IfSome, OnErr, OnOk, Result, Ok, Err}
+use Rattle.std.specs.Prelude.{◌≡◌, ◌≤◌, ◌<◌, ◌⊎◌, ◌+◌, ◌*◌, ℕ, ℤ, Bool, List, [], ◌∷◌, length, map, Option, Some, None, IfErr, IfSome, MatchResult, OnErr, OnOk, Result, Ok, Err}
 use Rattle.std.specs.List.{AllByRecursion}
 use Rattle.cedar_tree.specs.Tree.{Tree, empty_tree, put}
 use Rattle.cedar_tree.specs.Queries.{Entry, walk}
@@ -78,6 +78,15 @@ pub record IsPutBack (layout : LayoutKind) (order : Bool) (trials : ℤ) (entrie
   pub marks : SortedMarks layout d.state.tree d.marked
   pub marked : IsMarked d
   pub size : (n : ℕ) × (n ≤ key_bytes entries) × (d.size ≡ 256 + 256 * n) × (d.capacity ≡ capacity_after n 256 256)
+
+-- one with these settings is made of some entries, or lacks places for them
+abbrev pub IsMadeOf : LayoutKind → ℕ → Bool → ℤ → List Entry → Result Dictionary CedarError → Type 0
+IsMadeOf layout slots order trials entries made = MatchResult made (IsPutBack layout order trials entries) (LacksPlaces slots entries)
+
+-- some entries are put into an empty one, or it lacks places for them
+abbrev pub PutsBack : LayoutKind → ℕ → Dictionary → Dictionary → List Entry → Result (Unit {0}) CedarError → Type 0
+PutsBack layout slots before after entries result =
+    MatchResult result (λ _. IsPutBack layout before.state.ordered before.max_trial entries after) (LacksPlaces slots entries)
 
 -- an entry is put by an update, or there was no memory for its key
 pub record PutsEntry (layout : LayoutKind) (slots : ℕ) (before after : Dictionary) (entry : Entry) (result : Result (Unit {0}) CedarError) : Type 0 where

@@ -1,5 +1,5 @@
 -- Where walks that are under way stand in a table.
-use Rattle.std.specs.Prelude.{◌≡◌, ◌==◌, cond, ℕ, ◌<◌, ◌≤◌, ℤ, List, [], ◌∷◌, length, map}
+use Rattle.std.specs.Prelude.{◌≡◌, ◌==◌, cond, ℕ, ◌<◌, ◌≤◌, ℤ, List, [], ◌∷◌, length, map, MatchOption, Option}
 use Rattle.cedar_tree.specs.Queries.{Entry, predict}
 use Rattle.cedar_tree.specs.Walks.{visited_entries}
 use Rattle.cedar_walk.specs.declared.visits.Numbered.{Numbered}
@@ -51,3 +51,14 @@ pub record IsEntriesPlace (T : Fields) (key : List ℕ) (s : ℕ) : Type 0 where
 pub record ComesToEntry (T : Fields) (left : List Entry) (key : List ℕ) (found : ℕ × ℤ) : Type 0 where
   pub place : IsEntriesPlace T key found.0
   pub entries : left ≡ (key, found.1) ∷ visited_entries (left_at T [] (length key) found.0)
+
+-- a walk that has been at slot s, at the end of a key, goes to the next entry, at the end of another key, unless none is left
+abbrev pub GoesToEntry : Fields → ℕ → List ℕ → List ℕ → Option (ℕ × ℤ) → Type 0
+GoesToEntry T s before after next =
+    MatchOption next (visited_entries (left_at T [] (length before) s) ≡ []) (ComesToEntry T (visited_entries (left_at T [] (length before) s)) after)
+
+-- the same, with a copy of that key, whose bytes `bytes_of` tells
+abbrev pub GoesToCopied : {X : Type 0} → (X → List ℕ) → Fields → ℕ → List ℕ → List ℕ → Option (ℕ × ℤ × X) → Type 0
+GoesToCopied bytes_of T s before after next =
+    MatchOption next (visited_entries (left_at T [] (length before) s) ≡ [])
+    (λ entry. (bytes_of entry.2 ≡ after) × ComesToEntry T (visited_entries (left_at T [] (length before) s)) after (entry.0, entry.1))

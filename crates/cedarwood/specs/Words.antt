@@ -1,47 +1,64 @@
 -- The words that the public clauses cite, from one place: a caller's crate takes them from here, and so do this crate's own sources.
-pub use Rattle.cedar_bulk.specs.Sorted.{Pair, entries_by, entries_of}
+pub use Rattle.cedar_bulk.specs.Sorted.{entries_by, entries_of, Pair}
 pub use Rattle.cedar_bulk.specs.SortedMarks.{SortedMarks}
 pub use Rattle.cedar_file.specs.Loading.{LoadsBy}
-pub use Rattle.cedar_format.specs.Format.{CountsWithin, IsVersion, Passes, header_answer, need}
+pub use Rattle.cedar_format.specs.Format.{CountsWithin, header_answer, IsVersion, need, Passes}
 pub use Rattle.cedar_format.specs.Reading.{IsIo, LacksNoMore, TellsBreaks}
-pub use Rattle.cedar_format.specs.Tables.{IsTableFile, header_of, table_bytes}
+pub use Rattle.cedar_format.specs.Tables.{header_of, IsTableFile, table_bytes}
 pub use Rattle.cedar_format.specs.WatchedDevice.{device_of, has_failed}
+pub use Rattle.cedar_format.specs.declared.error.CedarPersistenceError.TheVariants.{AllocationFailed}
 pub use Rattle.cedar_format.specs.declared.watched.Watched.{Watched}
-pub use Rattle.cedar_model.specs.Meaning.Marks.{MarksCut, MarksPut, marks}
-pub use Rattle.cedar_model.specs.Meaning.WellFormed.{IsWellFormed, cells_in, tree_of}
-pub use Rattle.cedar_model.specs.Table.Layouts.{LayoutKind, default_layout, layout_byte, reduced_layout}
-pub use Rattle.cedar_model.specs.Table.TableFields.{Fields, capacity_of, size_of}
+pub use Rattle.cedar_model.specs.Meaning.Marks.{marks, MarksCut, MarksPut}
+pub use Rattle.cedar_model.specs.Meaning.WellFormed.{cells_in, IsWellFormed, tree_of}
+pub use Rattle.cedar_model.specs.Table.Layouts.{default_layout, layout_byte, LayoutKind, reduced_layout}
+pub use Rattle.cedar_model.specs.Table.TableFields.{capacity_of, Fields, size_of}
 pub use Rattle.cedar_slots.specs.Places.{IsSlotLimit}
 pub use Rattle.cedar_table.specs.Table.Views.{fields}
-pub use Rattle.cedar_tree.specs.Queries.{Entry, asc, exact, front, node_at, predict, prefixes, used, walk}
-pub use Rattle.cedar_tree.specs.State.{State, erased, new_state, stored}
-pub use Rattle.cedar_tree.specs.Tree.{IsSound, Tree, empty_tree, has_label, number_at}
-pub use Rattle.cedar_tree.specs.Walks.{front_from}
+pub use Rattle.cedar_tree.specs.Queries.{asc, Entry, exact, front, is_path, node_at, predict, prefixes, used, walk}
+pub use Rattle.cedar_tree.specs.State.{erased, new_state, State, stored}
+pub use Rattle.cedar_tree.specs.Tree.{empty_tree, has_label, IsAscending, IsSound, number_at, Tree}
+pub use Rattle.cedar_tree.specs.Walks.{front_from, visited_entries}
 pub use Rattle.cedar_walk.specs.Batch.{keys_of}
-pub use Rattle.cedar_walk.specs.Fronts.{IsOnQuery, front_length}
-pub use Rattle.cedar_walk.specs.Visits.{ComesTo, ComesToNumber, IsBelow, IsNumberedBelow, left_at, path_to}
-pub use Rattle.cedarwood.specs.Batches.{IsErasure, IsErasures, IsUpdates, StopsAt, held_in_turn, keys_erased, pair_at}
+pub use Rattle.cedar_walk.specs.Fronts.{front_length, IsNextFront, IsOnQuery}
+pub use Rattle.cedar_walk.specs.Keys.{KeyGoesOn}
+pub use Rattle.cedar_walk.specs.Ranges.{entries_since, entries_with, longest_front}
+pub use Rattle.cedar_walk.specs.Visits.{ComesTo, ComesToFirst, ComesToNumber, GoesToNode, GoesToNumber, IsBelow, IsNumberedBelow, left_at, path_to}
+pub use Rattle.cedar_walk.specs.declared.visits.Numbered.{Numbered}
+pub use Rattle.cedarwood.specs.Batches.{held_in_turn, IsErasure, IsErasures, IsUpdates, keys_erased, pair_at, StopsAt}
 pub use Rattle.cedarwood.specs.Blanks.{IsBlankOf}
-pub use Rattle.cedarwood.specs.Builds.{IsBuild, IsRefusedBuild, all_stored, first_fault, outcome}
-pub use Rattle.cedarwood.specs.Dictionary.{Dictionary, Grows, IsMarked, IsValid, capacity_after, dictionary_code, first_bytes}
+pub use Rattle.cedarwood.specs.Builds.{all_stored, first_fault, IsBuild, IsRefusedBuild, outcome}
+pub use Rattle.cedarwood.specs.Cursors.{Cursor, cursor_code, cursor_left, FindsNext, IsAtEnd, IsCursorEnd, IsCursorPlace, IsShortOf}
+pub use Rattle.cedarwood.specs.Cursors.{LeadsTo, place_before}
+pub use Rattle.cedarwood.specs.Dictionary.{AreSameFigures, capacity_after, Dictionary, dictionary_code, first_bytes, Grows, IsMarked, IsValid}
 pub use Rattle.cedarwood.specs.Ends.{first_entry, last_entry}
-pub use Rattle.cedarwood.specs.Erasures.{IsCleared, IsErasedUnder, MarksCutUnder, all_erased, entries_without, erased_under}
-pub use Rattle.cedarwood.specs.Fault.{IsInRange, IsShortage, fault, key_fault, value_fault}
+pub use Rattle.cedarwood.specs.Erasures.{all_erased, entries_without, erased_under, IsCleared, IsErasedUnder, MarksCutUnder}
+pub use Rattle.cedarwood.specs.Fault.{fault, IsInRange, IsShortage, key_fault, value_fault}
 pub use Rattle.cedarwood.specs.Limits.{IsLimit}
 pub use Rattle.cedarwood.specs.Loading.{LacksByPath, LoadAnswers, LoadedFilesSaveAgain, OwnFilesLoad}
-pub use Rattle.cedarwood.specs.Making.{IsEmpty, IsNew, IsRenewed, IsSorted, IsSortedBuild, default_settings}
-pub use Rattle.cedarwood.specs.OnTable.{IsOnTable, dictionary_of}
+pub use Rattle.cedarwood.specs.Making.{default_settings, IsEmpty, IsNew, IsRenewed, IsSorted, IsSortedBuild}
+pub use Rattle.cedarwood.specs.Memory.{CedarFitsInMemory, ReducedFitsInMemory}
+pub use Rattle.cedarwood.specs.OnTable.{dictionary_of, IsOnTable}
+pub use Rattle.cedarwood.specs.RangeWalks.{bounded, entries_between, GivesBetween, IsEnd, IsRangePlace}
 pub use Rattle.cedarwood.specs.Room.{LacksRoom}
 pub use Rattle.cedarwood.specs.Saving.{FailsToSave, FailsToWrite, PassesAgain}
-pub use Rattle.cedarwood.specs.Shown.{entry_error_text, error_text, shown_text}
-pub use Rattle.cedarwood.specs.SortedInput.{AreBytes, HasNoNul, IsSharedFront, fault_behind, fault_from, fault_of_order, key_at, sorted_fault}
+pub use Rattle.cedarwood.specs.Shown.{entry_error_text, error_text, refusal_text, shown_text}
+pub use Rattle.cedarwood.specs.Shrinking.{ArePlaces, entry_of, IsEntryPlace, IsMadeOf, IsPutBack, IsRebuilt, IsShrunk, LacksPlaces, PutsBack, PutsEntry}
+pub use Rattle.cedarwood.specs.SortedInput.{AreBytes, fault_behind, fault_from, fault_of_order, HasNoNul, IsSharedFront, key_at}
+pub use Rattle.cedarwood.specs.SortedInput.{sorted_fault}
 pub use Rattle.cedarwood.specs.Told.{told}
+pub use Rattle.cedarwood.specs.Unsorted.{goes_on, IsNotFalling, IsUnsortedBuild, last_of_each, SortsTo}
 pub use Rattle.cedarwood.specs.Updates.{IsUpdate}
-pub use Rattle.cedarwood.specs.WalkPlaces.{ComesToEntry, GoesOnTo, IsEntriesPlace, IsPredictPlace, IsPrefixPlace, entries_from, predicted_from}
-pub use Rattle.cedarwood.specs.Walks.{CountedWalk, IsEntryError, PrefixWalk, counted_walk_code, prefix_walk_code}
+pub use Rattle.cedarwood.specs.WalkPlaces.{ComesToEntry, entries_from, GoesOnTo, GoesToCopied, GoesToEntry, IsEntriesPlace, IsPredictPlace, IsPrefixPlace}
+pub use Rattle.cedarwood.specs.WalkPlaces.{predicted_from}
+pub use Rattle.cedarwood.specs.Walks.{counted_walk_code, CountedWalk, IsEntryError, prefix_walk_code, PrefixWalk}
+pub use Rattle.cedarwood.specs.declared.error.CedarError.TheVariants.{Memory}
 pub use Rattle.std.specs.Cmp.Lexicographic.{slice_cmp}
 pub use Rattle.std.specs.Io.KnownBytes.{Appends, Consumes}
-pub use Rattle.std.specs.Iterator.{MakesProgress, UpTo, YieldsFirst, item_count}
+pub use Rattle.std.specs.Iterator.{item_count, MakesProgress, UpTo, YieldsFirst}
 pub use Rattle.std.specs.Iterator.SizeHint.{IsWithinCount}
+pub use Rattle.std.specs.List.{starts_with}
+pub use Rattle.std.specs.List.Sorted.{IsPermutation}
 pub use Rattle.std.specs.Mem.{FitsInMemory}
-pub use Rattle.std.specs.Ordering.{nat_cmp}
+pub use Rattle.std.specs.Ordering.{is_lt, nat_cmp}
+pub use Rattle.std.specs.Prelude.{[], IfErr, IfOk, IsTrue, length, map, MatchResult, OnOk, Some}
+pub use Rattle.std.specs.declared.cmp.Ordering.TheVariants.{Less}

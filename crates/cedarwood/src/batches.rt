@@ -1,13 +1,14 @@
 //! Many keys changed in one call.
 
-ghost use Rattle.std.specs.Prelude.{◌++◌, ◌≡◌, IfErr, OnOk, drop, length, take};
-ghost use Rattle.cedarwood.specs.Words.{IsErasures, IsUpdates, all_stored, entries_of, held_in_turn, keys_erased, keys_of};
+ghost use Rattle.std.specs.Prelude.{◌++◌, ◌≡◌, drop, IfErr, length, OnOk, take};
+ghost use Rattle.cedarwood.specs.Words.{all_stored, entries_of, held_in_turn, IsErasures, IsUpdates, keys_erased, keys_of};
 
 use crate::{CedarError, Layout, Trie};
 use std::alloc::Allocator;
+use std::convert::AsSlice;
 
 /// How many keys are looked up in step before they are changed.
-const LANES: usize = 16;
+pub(crate) const LANES: usize = 16;
 
 /// Which pair of a batch was refused, and why. Those before it are stored.
 //= `==` of two refusals is their equality. [by PartialEq]
@@ -58,11 +59,11 @@ impl<L: Layout, const SLOTS: usize, A: Allocator + Copy> Trie<L, SLOTS, A> {
     }
 
     /// Looks up the keys of the first pairs in step, which brings to the processor what their updates read.
-    fn pass_in_step(&self, pairs: &[(&[u8], i32)]) {
+    pub(crate) fn pass_in_step<K: AsSlice<u8>>(&self, pairs: &[(K, i32)]) {
         let count = pairs.len().min(LANES);
         let mut keys: [&[u8]; LANES] = [&[]; LANES];
         for lane in 0..count {
-            keys[lane] = pairs[lane].0;
+            keys[lane] = pairs[lane].0.as_slice();
         }
         self.exact_match_search_batch(&keys[..count], &mut [None; LANES]);
     }

@@ -1,15 +1,17 @@
 //! Many pairs stored at once.
 
-ghost use Rattle.std.specs.Prelude.{◌≡◌, IfErr, IfSome, IsOk, IsSome, None, OnOk};
-ghost use Rattle.cedarwood.specs.Words.{IsBuild, IsRefusedBuild, all_stored, entries_by, entries_of, first_fault};
+ghost use Rattle.std.specs.Prelude.{◌<◌, ◌≡◌, get_or, IfErr, IfSome, IsOk, IsSome, None, OnOk, ℕ};
+ghost use Rattle.cedarwood.specs.Words.{all_stored, AreBytes, entries_by, entries_of, fault, first_fault, IsBuild, IsRefusedBuild};
 
+use crate::batches::LANES;
 use crate::pair::check_pair;
 use crate::{CedarError, Layout, Trie};
 use std::alloc::Allocator;
 use std::convert::AsSlice;
 
 impl<L: Layout, const SLOTS: usize, A: Allocator + Copy> Trie<L, SLOTS, A> {
-    /// Stores some pairs, one after another: a key's last value stands. All are tested first.
+    /// Stores some pairs, one after another: a key's last value stands. All are tested first. A few keys are looked up in step before
+    /// they are stored, as by [`Trie::update_batch`].
     ///
     /// ```
     /// let pairs: [(&[u8], i32); 2] = [(b"ten", 2), (b"net", 7)];
@@ -66,7 +68,11 @@ impl<L: Layout, const SLOTS: usize, A: Allocator + Copy> Trie<L, SLOTS, A> {
         ensures updates { first_fault (entries_by K.items pairs.now) ≡ None → IsBuild L.kind SLOTS self.old (entries_by K.items pairs.now) result self.new }
     {
         check_pairs(pairs)?;
-        for pair in pairs {
+        for index in 0..pairs.len() {
+            if index % LANES == 0 {
+                self.pass_in_step(&pairs[index..]);
+            }
+            let pair = &pairs[index];
             self.update_bytes(pair.0.as_slice(), pair.1)?;
         }
         Ok(())
@@ -74,12 +80,22 @@ impl<L: Layout, const SLOTS: usize, A: Allocator + Copy> Trie<L, SLOTS, A> {
 }
 
 /// Tests some pairs, one after another.
-fn check_pairs<K: AsSlice<u8>>(pairs: &[(K, i32)]) -> Result<(), CedarError>
+pub(crate) fn check_pairs<K: AsSlice<u8>>(pairs: &[(K, i32)]) -> Result<(), CedarError>
     ensures faulty { IfSome (first_fault (entries_by K.items pairs.now)) (λ e. result ≡ Err e) }
     ensures sound { first_fault (entries_by K.items pairs.now) ≡ None → IsOk result }
+    ensures bytes { OnOk result (AreBytes (entries_by K.items pairs.now)) }
 {
-    for pair in pairs {
-        check_pair(pair.0.as_slice(), pair.1)?;
+    for index in 0..pairs.len() {
+        check_keyed(&pairs[index])?;
     }
     Ok(())
+}
+
+/// Tests a pair, whose key is bytes or a text.
+fn check_keyed<K: AsSlice<u8>>(pair: &(K, i32)) -> Result<(), CedarError>
+    ensures faulty { IfSome (fault (K.items pair.now.0) pair.now.1) (λ e. result ≡ Err e) }
+    ensures sound { fault (K.items pair.now.0) pair.now.1 ≡ None → IsOk result }
+    ensures bytes { (i : ℕ) → get_or (K.items pair.now.0) i 0 < 256 }
+{
+    check_pair(pair.0.as_slice(), pair.1)
 }

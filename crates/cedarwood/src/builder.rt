@@ -24,9 +24,7 @@ pub struct CedarBuilder {
 }
 
 impl CedarBuilder {
-    ghost use Rattle.cedarwood.specs.Words.{IsNew, IsSortedBuild, default_layout, entries_of, reduced_layout};
-    ghost use Rattle.cedarwood.specs.Memory.{CedarFitsInMemory, ReducedFitsInMemory};
-    ghost use Rattle.cedarwood.specs.declared.builder.CedarBuilder.{CedarBuilder};
+    ghost use Rattle.cedarwood.specs.Words.{CedarFitsInMemory, default_layout, entries_of, IsNew, IsSortedBuild, reduced_layout, ReducedFitsInMemory};
 
     /// Labels ascend, and one failed search closes a block.
     ///

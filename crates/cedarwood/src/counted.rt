@@ -1,7 +1,7 @@
 //! Calls whose steps are counted, made with counts of their own, which nothing reads.
 
-ghost use Rattle.std.specs.Prelude.{◌++◌, ◌≡◌, IfSome, None, drop, length, map, take, ℕ};
-ghost use Rattle.cedarwood.specs.Words.{Fields, IsBlankOf, IsLimit, IsSound, LayoutKind, LoadsBy, TellsBreaks, Tree, exact, keys_of, value_fault};
+ghost use Rattle.std.specs.Prelude.{◌++◌, ◌≡◌, drop, IfSome, length, map, None, take, ℕ};
+ghost use Rattle.cedarwood.specs.Words.{exact, Fields, IsBlankOf, IsLimit, IsSound, keys_of, LayoutKind, LoadsBy, TellsBreaks, Tree, value_fault};
 
 use crate::{CedarPersistenceError, Layout, Source, Ticks, Trie};
 use cedar_walk::exact_match_search_batch;

@@ -1,6 +1,6 @@
 //! All keys that begin with a prefix erased.
 
-ghost use Rattle.cedarwood.specs.Words.{IsCleared, IsErasedUnder, IsWellFormed, dictionary_of, fields};
+ghost use Rattle.cedarwood.specs.Words.{dictionary_of, fields, IsCleared, IsErasedUnder, IsWellFormed};
 
 use crate::{Layout, Trie};
 use cedar_edit::erase_at;

@@ -1,8 +1,7 @@
 //! Why a call on a dictionary is refused.
 
 ghost use Rattle.std.specs.Prelude.{◌≡◌};
-ghost use Rattle.cedarwood.specs.Words.{told};
-ghost use Rattle.cedarwood.specs.declared.error.CedarError.TheVariants.{Memory};
+ghost use Rattle.cedarwood.specs.Words.{Memory, told};
 
 use cedar_slots::Shortage;
 use std::alloc::AllocError;

@@ -1,6 +1,6 @@
 //! The figures of a dictionary, and how it is printed.
 
-ghost use Rattle.std.specs.Prelude.{◌*◌, ◌+◌, ◌/◌, ◌≡◌, Some, length};
+ghost use Rattle.std.specs.Prelude.{◌*◌, ◌+◌, ◌/◌, ◌≡◌, length, Some};
 ghost use Rattle.cedarwood.specs.Words.{default_layout, prefixes, shown_text, used, walk};
 
 use crate::{Layout, Trie};

@@ -1,7 +1,6 @@
 //! Whether a type fits in memory.
 
-ghost use Rattle.std.specs.Prelude.{IsTrue};
-ghost use Rattle.cedarwood.specs.Words.{FitsInMemory};
+ghost use Rattle.cedarwood.specs.Words.{FitsInMemory, IsTrue};
 
 use std::mem;
 

@@ -1,11 +1,7 @@
 //! Laws of the dictionary's states and files.
 
-ghost use Rattle.std.specs.Prelude.{◌↔◌, ◌≡◌, ◌++◌, ◌-◌, ◌<◌, All, IsTrue, List, length, map, nat_eq, true, ℕ};
-ghost use Rattle.std.specs.List.{Contains, filter, starts_with};
-ghost use Rattle.std.specs.Ordering.{is_lt};
-ghost use Rattle.cedar_tree.specs.Tree.{IsAscending};
-ghost use Rattle.cedar_walk.specs.Ranges.{entries_since, entries_with};
-ghost use Rattle.cedarwood.specs.Words.{Entry, LoadedFilesSaveAgain, OwnFilesLoad, Tree, all_stored, asc, front, nat_cmp, new_state, predict, slice_cmp, walk};
+ghost use Rattle.std.specs.Prelude.{◌++◌, ◌-◌, ◌<◌, ◌↔◌, ◌≡◌, All, Contains, filter, IsTrue, length, List, map, nat_eq, true, ℕ};
+ghost use Rattle.cedarwood.specs.Words.{all_stored, AreSameFigures, asc, entries_since, entries_with, Entry, front, is_lt, IsAscending, LoadedFilesSaveAgain, nat_cmp, new_state, OwnFilesLoad, predict, slice_cmp, starts_with, Tree, walk};
 
 use crate::MemoryStats;
 
@@ -60,8 +56,7 @@ pub fn loaded_files_save_again()
 #[must_use]
 pub fn figures_are_equal_by_their_fields(one: MemoryStats, other: MemoryStats) -> bool
     //= `==` of two figures answers whether all four of them are equal.
-    ensures { IsTrue result ↔ ((one.entries ≡ other.entries) × (one.used_node_slots ≡ other.used_node_slots)
-        × (one.node_capacity ≡ other.node_capacity) × (one.allocated_bytes ≡ other.allocated_bytes)) }
+    ensures { IsTrue result ↔ AreSameFigures one other }
 {
     one == other
 }

@@ -35,6 +35,7 @@ mod shrink;
 mod sorted;
 mod texts;
 mod trie;
+mod unsorted;
 
 pub use batches::RefusedPair;
 pub use builder::CedarBuilder;

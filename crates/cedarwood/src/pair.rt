@@ -1,6 +1,6 @@
 //! The test of a pair before it is stored.
 
-ghost use Rattle.std.specs.Prelude.{◌==◌, ◌≡◌, IfSome, IsOk, None, position};
+ghost use Rattle.std.specs.Prelude.{◌<◌, ◌==◌, ◌≡◌, get_or, IfSome, IsOk, None, position, ℕ};
 ghost use Rattle.cedarwood.specs.Words.{fault, key_fault, value_fault};
 
 use crate::{CedarError, MAX_VALUE, MIN_VALUE};
@@ -9,6 +9,7 @@ use crate::{CedarError, MAX_VALUE, MIN_VALUE};
 pub(crate) fn check_pair(key: &[u8], value: i32) -> Result<(), CedarError>
     ensures faulty { IfSome (fault key.now value) (λ e. result ≡ Err e) }
     ensures sound { fault key.now value ≡ None → IsOk result }
+    ensures bytes { (i : ℕ) → get_or key.now i 0 < 256 }
 {
     check_key(key)?;
     check_value(value)

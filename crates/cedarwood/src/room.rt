@@ -1,7 +1,7 @@
 //! Memory asked for ahead, so that updates needn't ask for it.
 
 ghost use Rattle.std.specs.Prelude.{◌*◌, ◌+◌, ◌-◌, ◌<◌, ◌≡◌, ◌≤◌, Err, IfErr, IsOk, OnErr, OnOk};
-ghost use Rattle.cedarwood.specs.Words.{LacksRoom, capacity_after};
+ghost use Rattle.cedarwood.specs.Words.{capacity_after, LacksRoom};
 
 use crate::{CedarError, Layout, Trie};
 use std::alloc::Allocator;

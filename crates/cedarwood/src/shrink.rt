@@ -1,10 +1,6 @@
 //! A dictionary in as little room as its entries take.
 
-ghost use Rattle.std.specs.Prelude.{◌≡◌, [], IfOk, map, MatchResult};
-ghost use Rattle.cedar_tree.specs.Queries.{walk};
-ghost use Rattle.cedar_model.specs.Meaning.WellFormed.{IsWellFormed, tree_of};
-ghost use Rattle.cedar_slots.specs.Places.{IsSlotLimit};
-ghost use Rattle.cedarwood.specs.Shrinking.{ArePlaces, entry_of, IsEntryPlace, IsPutBack, IsRebuilt, IsShrunk, LacksPlaces, PutsEntry};
+ghost use Rattle.cedarwood.specs.Words.{[], ArePlaces, entry_of, IfOk, IsEntryPlace, IsMadeOf, IsPutBack, IsRebuilt, IsShrunk, IsSlotLimit, IsWellFormed, LacksPlaces, map, MatchResult, PutsBack, PutsEntry, tree_of, walk};
 
 use crate::builder::CedarBuilder;
 use crate::queries::ranged::write_key;
@@ -87,7 +83,7 @@ impl<L: Layout, const SLOTS: usize, A: Allocator + Copy> Trie<L, SLOTS, A> {
         requires limit { IsSlotLimit SLOTS }
         requires well_formed { IsWellFormed T.slots (T.shown from.now) }
         requires places { ArePlaces (T.shown from.now) (walk (tree_of (T.shown from.now))) places.now }
-        ensures { MatchResult result (IsPutBack L.kind builder.ordered builder.max_trial (walk (tree_of (T.shown from.now)))) (LacksPlaces SLOTS (walk (tree_of (T.shown from.now)))) }
+        ensures { IsMadeOf L.kind SLOTS builder.ordered builder.max_trial (walk (tree_of (T.shown from.now))) result }
     {
         let mut made = Trie::with(alloc, builder)?;
         let mut key = Vec::new(alloc);
@@ -106,7 +102,7 @@ impl<L: Layout, const SLOTS: usize, A: Allocator + Copy> Trie<L, SLOTS, A> {
         requires well_formed { IsWellFormed T.slots (T.shown from.now) }
         requires places { ArePlaces (T.shown from.now) (walk (tree_of (T.shown from.now))) places.now }
         requires empty { IsPutBack L.kind self.old.state.ordered self.old.max_trial [] self.old }
-        ensures { MatchResult result (λ _. IsPutBack L.kind self.old.state.ordered self.old.max_trial (map (entry_of (T.shown from.now)) places.now) self.new) (LacksPlaces SLOTS (map (entry_of (T.shown from.now)) places.now)) }
+        ensures { PutsBack L.kind SLOTS self.old self.new (map (entry_of (T.shown from.now)) places.now) result }
     {
         let mut left = places.len();
         while left != 0 {

@@ -1,8 +1,7 @@
 //! The test of a sorted input, and a dictionary made of one.
 
-ghost use Rattle.std.specs.Prelude.{◌<◌, ◌≡◌, ◌≢◌, ◌≤◌, IfSome, IsOk, IsTrue, None, OnOk, [], get_or, length, ℕ};
-ghost use Rattle.cedarwood.specs.Words.{AreBytes, HasNoNul, IsInRange, IsLimit, IsSharedFront, IsSortedBuild, entries_by, fault_behind, fault_from, fault_of_order, key_at, nat_cmp, slice_cmp};
-ghost use Rattle.std.specs.declared.cmp.Ordering.TheVariants.{Less};
+ghost use Rattle.std.specs.Prelude.{◌<◌, ◌≡◌, ◌≢◌, ◌≤◌, [], get_or, IfSome, IsOk, IsTrue, length, None, OnOk, ℕ};
+ghost use Rattle.cedarwood.specs.Words.{AreBytes, entries_by, fault_behind, fault_from, fault_of_order, HasNoNul, IsInRange, IsLimit, IsSharedFront, IsSortedBuild, key_at, Less, nat_cmp, slice_cmp};
 
 use crate::builder::CedarBuilder;
 use crate::pair::check_pair;

@@ -1,14 +1,14 @@
 //! The texts of errors, each of which a contract knows byte by byte.
 
-ghost use Rattle.std.specs.Prelude.{Some};
-ghost use Rattle.cedarwood.specs.Words.{entry_error_text, error_text};
+ghost use Rattle.cedarwood.specs.Words.{entry_error_text, error_text, refusal_text, Some};
 
-use crate::{CedarError, EntryError};
+use crate::{CedarError, EntryError, RefusedPair};
 use std::error::Error;
 use std::fmt;
 
 impl fmt::Display for CedarError {
-    //= The text of each error is known byte by byte, with its numbers in decimal digits. [also EntryError; by error_text, entry_error_text]
+    //= The text of each error is known byte by byte, with its numbers in decimal digits. [also EntryError,
+    //  RefusedPair; by error_text, entry_error_text, refusal_text]
     ghost output = { λ error. Some (error_text error) };
 
     fn fmt<W: fmt::Write>(&self, f: &mut fmt::Formatter<W>) -> fmt::Result {
@@ -41,6 +41,16 @@ impl fmt::Display for CedarError {
 }
 
 impl Error for CedarError {}
+
+impl fmt::Display for RefusedPair {
+    ghost output = { λ refusal. Some (refusal_text refusal) };
+
+    fn fmt<W: fmt::Write>(&self, f: &mut fmt::Formatter<W>) -> fmt::Result {
+        write!(f, "pair at input index {}: {}", self.index, self.error)
+    }
+}
+
+impl Error for RefusedPair {}
 
 impl fmt::Display for EntryError {
     ghost output = { λ error. Some (entry_error_text error) };

@@ -1,7 +1,7 @@
 //! The dictionary and its calls.
 
-ghost use Rattle.std.specs.Prelude.{◌*◌, ◌+◌, ◌-◌, ◌/◌, ◌<◌, ◌==◌, ◌↔◌, ◌≡◌, ◌≤◌, IfOk, IfSome, IsSome, IsTrue, None, [], length, pos, true};
-ghost use Rattle.cedarwood.specs.Words.{Dictionary, IsLimit, IsMarked, IsNew, IsOnTable, IsRenewed, IsSortedBuild, IsSound, IsUpdate, IsValid, IsWellFormed, MarksCut, capacity_of, default_layout, default_settings, dictionary_code, entries_of, erased, exact, fields, marks, number_at, prefixes, reduced_layout, size_of, tree_of, used, value_fault, walk};
+ghost use Rattle.std.specs.Prelude.{◌+◌, ◌-◌, ◌/◌, ◌↔◌, ◌≡◌, ◌≤◌, [], IfOk, IfSome, IsSome, IsTrue, length, None, pos, true};
+ghost use Rattle.cedarwood.specs.Words.{CedarFitsInMemory, default_layout, default_settings, entries_of, erased, exact, IsLimit, IsMarked, IsNew, IsOnTable, IsRenewed, IsSortedBuild, IsSound, IsUpdate, IsValid, marks, MarksCut, number_at, prefixes, reduced_layout, ReducedFitsInMemory, used, value_fault, walk};
 
 use crate::builder::CedarBuilder;
 use crate::counted::search_uncounted;
@@ -31,6 +31,10 @@ pub type Cedar<A> = Trie<DefaultLayout, 1073741824, A>;
 pub type ReducedCedar<A> = Trie<ReducedLayout, 1073741824, A>;
 
 impl<L: Layout, const SLOTS: usize, A: Allocator> Model for Trie<L, SLOTS, A> {
+    // `Words` names the struct.
+    ghost use Rattle.cedar_table.specs.Words.{capacity_of, fields, IsWellFormed, marks, size_of, tree_of};
+    ghost use Rattle.cedarwood.specs.Dictionary.{Dictionary, dictionary_code};
+
     ghost Value = { Dictionary };
 
     ghost coded = { dictionary_code };
@@ -48,8 +52,6 @@ impl<L: Layout, const SLOTS: usize, A: Allocator> Model for Trie<L, SLOTS, A> {
 }
 
 impl<A: Allocator + Copy> Trie<DefaultLayout, 1073741824, A> {
-    ghost use Rattle.cedarwood.specs.Memory.{CedarFitsInMemory};
-
     /// An empty dictionary, whose labels ascend. It takes its memory from `alloc`.
     ///
     /// ```
@@ -64,8 +66,9 @@ impl<A: Allocator + Copy> Trie<DefaultLayout, 1073741824, A> {
 
         //= The type of the dictionary that was made fits in memory: calls on it in functions over any allocator ask for that. [also
         //  from_sorted_bytes, from_sorted, CedarBuilder::build, CedarBuilder::from_sorted_bytes, CedarBuilder::from_sorted,
-        //  CedarBuilder::build_reduced, CedarBuilder::from_sorted_bytes_reduced, CedarBuilder::from_sorted_reduced; by CedarFitsInMemory,
-        //  ReducedFitsInMemory]
+        //  CedarBuilder::build_reduced, CedarBuilder::from_sorted_bytes_reduced, CedarBuilder::from_sorted_reduced, from_pairs_bytes,
+        //  from_pairs, CedarBuilder::from_pairs_bytes, CedarBuilder::from_pairs, CedarBuilder::from_pairs_bytes_reduced,
+        //  CedarBuilder::from_pairs_reduced; by CedarFitsInMemory, ReducedFitsInMemory]
         ensures fits { IfOk result (λ _. CedarFitsInMemory A.row A.Allocator) }
     {
         Self::builder().build(alloc)
@@ -133,8 +136,6 @@ impl<A: Allocator + Copy> Trie<DefaultLayout, 1073741824, A> {
 }
 
 impl<A: Allocator + Copy> Trie<ReducedLayout, 1073741824, A> {
-    ghost use Rattle.cedarwood.specs.Memory.{ReducedFitsInMemory};
-
     /// An empty dictionary of fewer slots, whose labels ascend. It takes its memory from `alloc`.
     ///
     /// ```

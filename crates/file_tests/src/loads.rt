@@ -1,5 +1,4 @@
 //! Loads that are refused memory, by readers that give a byte a read and that fail.
-ghost use Rattle.cedar_slots.specs.Places.{IsSlotLimit};
 
 use cedarwood::{CedarPersistenceError, DefaultLayout, Layout, ReducedLayout, Trie, Watched};
 use dictionary_support::bare::{build, empty};

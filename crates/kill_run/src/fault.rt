@@ -2,7 +2,7 @@
 
 use cedar_disk::OpenError;
 use cedar_journal::{DeviceError, ForeignFile, FrameError, JournalError};
-use cedar_store::DurableError;
+use cedar_store::{CompactError, DurableError};
 use cedarwood::CedarError;
 use std::alloc::{AllocError, AllocFailed};
 use std::fmt;
@@ -115,6 +115,17 @@ impl From<DurableError> for Fault {
             DurableError::TooLong | DurableError::Full => Fault::Full,
             DurableError::Device(error) => error.into(),
             DurableError::Failed => Fault::Failed,
+        }
+    }
+}
+
+impl From<CompactError> for Fault {
+    fn from(error: CompactError) -> Self {
+        match error {
+            CompactError::Memory => Fault::Memory,
+            CompactError::TooLong => Fault::Full,
+            CompactError::Kept(error) => error.into(),
+            CompactError::Failed => Fault::Disk,
         }
     }
 }

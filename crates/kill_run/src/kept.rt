@@ -1,8 +1,7 @@
 //! What is kept on the disk: the records 0, 1 and so on of a journal.
 
 ghost use Rattle.std.specs.Prelude.{IfOk, OnOk};
-ghost use Rattle.cedar_journal.specs.Device.{Only};
-ghost use Rattle.cedar_journal.specs.Journal.{IsSettled};
+ghost use Rattle.cedar_journal.specs.Words.{IsSettled, Only};
 
 use crate::fault::Fault;
 use cedar_disk::ReplaceDevice;

@@ -2,14 +2,15 @@
 //! is there.
 #![tactic(auto)]
 
-ghost use Rattle.cedar_journal.specs.Device.{Only};
+ghost use Rattle.cedar_journal.specs.Words.{Only};
 
 mod fault;
 mod kept;
 mod words;
 
 use cedar_disk::FileDevice;
-use cedar_journal::Device;
+use cedar_journal::{Device, ReplaceDevice};
+use cedar_store::Compaction;
 use fault::Fault;
 use kept::{open, put, rewrite};
 use std::alloc::{AllocError, Global};
@@ -38,7 +39,12 @@ fn answer(rt: &HostRuntime) -> Result<(), Fault> {
         ["list", path] => list(rt, path),
         ["change", path, first, count] => change(rt, path, number(first)?, number(count)?),
         ["batch", path, first, count, size] => {
-            batch(rt, path, number(first)?, number(count)?, number(size)?)
+            let turns = Turns::of(number(first)?, number(count)?, number(size)?);
+            batch(rt, path, turns, words::OFTEN)
+        }
+        ["grow", path, first, count, size] => {
+            let turns = Turns::of(number(first)?, number(count)?, number(size)?);
+            batch(rt, path, turns, Compaction::Never)
         }
         ["entries", path] => entries(rt, path),
         ["len", path] => len(rt, path),
@@ -95,7 +101,7 @@ fn change(rt: &HostRuntime, path: &str, first: u64, count: u64) -> Result<(), Fa
     change_on(rt, FileDevice::open(rt, rt.alloc(), path)?, first, count)
 }
 
-fn change_on<D: Device + Drop>(
+fn change_on<D: ReplaceDevice + Drop>(
     rt: &HostRuntime,
     device: D,
     first: u64,
@@ -103,7 +109,7 @@ fn change_on<D: Device + Drop>(
 ) -> Result<(), Fault>
     requires restarted { Only (D.seen device) (D.may_leave device) }
 {
-    let mut store = words::open(device, rt.alloc())?;
+    let mut store = words::open(device, rt.alloc(), words::OFTEN)?;
     for turn in 0..count {
         let number = first.saturating_add(turn);
         words::change(&mut store, rt.alloc(), number)?;
@@ -112,46 +118,65 @@ fn change_on<D: Device + Drop>(
     Ok(())
 }
 
-/// Makes so many changes in a dictionary, numbered from a number on, so many of them as one, and prints how many those are that are
-/// acknowledged, each time.
-fn batch(rt: &HostRuntime, path: &str, first: u64, count: u64, size: u64) -> Result<(), Fault> {
-    batch_on(
-        rt,
-        FileDevice::open(rt, rt.alloc(), path)?,
-        first,
-        count,
-        size,
-    )
-}
-
-fn batch_on<D: Device + Drop>(
-    rt: &HostRuntime,
-    device: D,
+/// Batches of numbered changes: the number of the first one, how many batches there are, and how many changes each has.
+#[derive(Clone, Copy)]
+struct Turns {
     first: u64,
     count: u64,
     size: u64,
+}
+
+impl Turns {
+    /// So many changes, from a number on, so many of them as one.
+    fn of(first: u64, changes: u64, size: u64) -> Turns {
+        let size = size.max(1);
+        Turns {
+            first,
+            count: changes / size,
+            size,
+        }
+    }
+}
+
+/// Makes batches of changes in a dictionary, whose file is made short by this rule, and prints how many changes are acknowledged, each time.
+fn batch(rt: &HostRuntime, path: &str, turns: Turns, compaction: Compaction) -> Result<(), Fault> {
+    batch_on(
+        rt,
+        FileDevice::open(rt, rt.alloc(), path)?,
+        turns,
+        compaction,
+    )
+}
+
+fn batch_on<D: ReplaceDevice + Drop>(
+    rt: &HostRuntime,
+    device: D,
+    turns: Turns,
+    compaction: Compaction,
 ) -> Result<(), Fault>
     requires restarted { Only (D.seen device) (D.may_leave device) }
 {
-    let mut store = words::open(device, rt.alloc())?;
-    let size = size.max(1);
-    for turn in 0..count / size {
-        let done = turn.saturating_mul(size);
-        words::change_together(&mut store, rt.alloc(), first.saturating_add(done), size)?;
-        print(rt, done.saturating_add(size))?;
+    let mut store = words::open(device, rt.alloc(), compaction)?;
+    for turn in 0..turns.count {
+        let done = turn.saturating_mul(turns.size);
+        let first = turns.first.saturating_add(done);
+        words::change_together(&mut store, rt.alloc(), first, turns.size)?;
+        print(rt, done.saturating_add(turns.size))?;
     }
     Ok(())
 }
 
 /// Opens a dictionary, and prints how many entries it has.
 fn len(rt: &HostRuntime, path: &str) -> Result<(), Fault> {
-    let store = words::open(FileDevice::open(rt, rt.alloc(), path)?, rt.alloc())?;
+    let device = FileDevice::open(rt, rt.alloc(), path)?;
+    let store = words::open(device, rt.alloc(), words::OFTEN)?;
     print(rt, store.dictionary().len() as u64)
 }
 
 /// Opens a dictionary, and prints its entries, a key, a space and a value a line.
 fn entries(rt: &HostRuntime, path: &str) -> Result<(), Fault> {
-    let store = words::open(FileDevice::open(rt, rt.alloc(), path)?, rt.alloc())?;
+    let device = FileDevice::open(rt, rt.alloc(), path)?;
+    let store = words::open(device, rt.alloc(), words::OFTEN)?;
     for entry in store.dictionary().entries()? {
         let (key, value) = entry?;
         let Ok(key) = str::from_utf8(&key) else {

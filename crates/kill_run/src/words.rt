@@ -1,12 +1,11 @@
 //! What is kept as words: a dictionary on a device, and the changes 0, 1 and so on that are made in it.
 
 ghost use Rattle.std.specs.Prelude.{◌≡◌, IfOk, OnOk, false};
-ghost use Rattle.cedar_journal.specs.Device.{Only};
-ghost use Rattle.cedar_store.specs.Store.{IsReady};
+ghost use Rattle.cedar_store.specs.Words.{IsReady, Only};
 
 use crate::fault::Fault;
-use cedar_journal::Device;
-use cedar_store::{CedarStore, Change, Words};
+use cedar_journal::ReplaceDevice;
+use cedar_store::{CedarStore, Change, Compaction, Words};
 use std::alloc::{AllocError, Global};
 
 /// How many keys there are.
@@ -15,22 +14,35 @@ const KEYS: u64 = 997;
 /// The greatest value and one more.
 const VALUES: u64 = 2_147_483_646;
 
-/// Opens the dictionary on a device.
-pub(crate) fn open<D: Device + Drop>(
+/// The file is made short so often that many kills come while it is.
+pub(crate) const OFTEN: Compaction = Compaction::Beyond {
+    factor: 2,
+    spare: 1024,
+};
+
+/// After so many changes it is made short in any case.
+const TURNS: u64 = 101;
+
+/// Opens the dictionary on a device, whose file is made short by this rule.
+pub(crate) fn open<D: ReplaceDevice + Drop>(
     device: D,
     alloc: Global,
+    compaction: Compaction,
 ) -> Result<CedarStore<Global, D>, Fault>
     requires restarted { Only (D.seen device) (D.may_leave device) }
     ensures ready { IfOk result (λ store. IsReady D.seen D.may_leave store.journal.device store.journal.end (store.words.state) store.failed) }
 {
     match CedarStore::open(alloc, device) {
-        Ok(store) => Ok(store),
+        Ok(mut store) => {
+            store.set_compaction(compaction);
+            Ok(store)
+        }
         Err((error, _)) => Err(error.into()),
     }
 }
 
 /// Makes the change of a number.
-pub(crate) fn change<D: Device>(
+pub(crate) fn change<D: ReplaceDevice>(
     store: &mut CedarStore<Global, D>,
     alloc: Global,
     number: u64,
@@ -45,11 +57,14 @@ pub(crate) fn change<D: Device>(
         }
         Change::Update { key, value } => store.update_bytes(key, value)?,
     }
+    if number % TURNS == 0 {
+        store.compact()?;
+    }
     Ok(())
 }
 
 /// Makes the changes of so many numbers as one.
-pub(crate) fn change_together<D: Device>(
+pub(crate) fn change_together<D: ReplaceDevice>(
     store: &mut CedarStore<Global, D>,
     alloc: Global,
     first: u64,

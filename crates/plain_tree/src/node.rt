@@ -1,9 +1,6 @@
 //! The nodes of a plain tree, which own their children. A node is seen as its label and the tree below it.
-ghost use Rattle.std.specs.Prelude.{◌≡◌, ◌==◌, nat_lt, true, position, is_some, OnOk, OnErr, IfOk, IsOk, IsSome, [], ◌∷◌, ◌++◌, map};
-ghost use Rattle.cedar_tree.specs.Tree.{empty_tree, number_at, put, cut, is_bare};
-ghost use Rattle.cedar_tree.specs.Queries.{walk, prefixes};
-ghost use Rattle.plain_tree.specs.Children.{place_of};
-ghost use Rattle.plain_tree.specs.Listing.{beneath, vector_entries, paths_of};
+ghost use Rattle.std.specs.Prelude.{◌++◌, ◌==◌, ◌∷◌, ◌≡◌, [], IfOk, is_some, IsOk, IsSome, map, nat_lt, OnErr, OnOk, position, true, ℕ};
+ghost use Rattle.plain_tree.specs.Words.{arith, beneath, coded_tree, coded_ℕ, coded×, cut, empty_tree, forest_of, is_bare, most_le-node_count, node_count, number_at, paths_of, place_of, prefixes, put, Tree, vector_entries, walk};
 
 use std::alloc::{AllocError, Allocator};
 use std::marker::Model;
@@ -17,13 +14,6 @@ pub struct Node<A: Allocator> {
 }
 
 impl<A: Allocator> Model for Node<A> {
-    ghost use Rattle.std.specs.Prelude.{ℕ};
-    ghost use Rattle.std.specs.Coded.{coded×, coded_ℕ};
-    ghost use Rattle.std.proofs.Common.{arith};
-    ghost use Rattle.cedar_tree.specs.Tree.{Tree};
-    ghost use Rattle.cedar_tree.specs.Stored.{coded_tree};
-    ghost use Rattle.plain_tree.specs.Children.{forest_of, node_count, most_le-node_count};
-
     ghost Value = { ℕ × Tree };
 
     ghost coded = { coded× coded_ℕ coded_tree };

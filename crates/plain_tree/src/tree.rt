@@ -1,8 +1,6 @@
 //! The plain tree.
-ghost use Rattle.std.specs.Prelude.{◌≡◌, is_some, OnOk, OnErr, IfOk, IsOk, IsSome, length};
-ghost use Rattle.cedar_tree.specs.Tree.{empty_tree, number_at, put, cut};
-ghost use Rattle.cedar_tree.specs.Queries.{walk, exact, front, predict, prefixes, used};
-ghost use Rattle.plain_tree.specs.Listing.{vector_entries, paths_of};
+ghost use Rattle.std.specs.Prelude.{◌≡◌, IfOk, is_some, IsOk, IsSome, length, OnErr, OnOk};
+ghost use Rattle.plain_tree.specs.Words.{coded_tree, cut, empty_tree, exact, front, number_at, paths_of, predict, prefixes, put, Tree, used, vector_entries, walk};
 
 use crate::node;
 use crate::node::Node;
@@ -16,9 +14,6 @@ pub struct PlainTree<A: Allocator> {
 }
 
 impl<A: Allocator> Model for PlainTree<A> {
-    ghost use Rattle.cedar_tree.specs.Tree.{Tree};
-    ghost use Rattle.cedar_tree.specs.Stored.{coded_tree};
-
     ghost Value = { Tree };
 
     ghost coded = { coded_tree };

@@ -32,8 +32,10 @@ pub(crate) fn command<'a>(alloc: Global) -> Result<Command<'a>, AllocError> {
         .subcommand(prefixes(alloc)?)?
         .subcommand(complete(alloc)?)?
         .subcommand(list(alloc)?)?
+        .subcommand(show(alloc)?)?
         .subcommand(cut(alloc)?)?
         .subcommand(scan(alloc)?)?
+        .subcommand(replace(alloc)?)?
         .subcommand(add(alloc)?)?
         .subcommand(remove(alloc)?)?
         .subcommand(merge(alloc)?)?
@@ -59,7 +61,8 @@ fn build<'a>(alloc: Global) -> Result<Command<'a>, AllocError> {
             "unordered",
             "Put new labels first: lists then aren't sorted",
         ))?
-        .arg(strict(alloc))
+        .arg(strict(alloc))?
+        .arg(progress(alloc))
 }
 
 const BUILD_NOTES: &str = "\
@@ -140,6 +143,31 @@ fn list<'a>(alloc: Global) -> Result<Command<'a>, AllocError> {
         .arg(limit(alloc))
 }
 
+fn show<'a>(alloc: Global) -> Result<Command<'a>, AllocError> {
+    let prefix = Arg::new(alloc, "prefix")
+        .value_name("PREFIX")
+        .help("Show only words that begin so");
+    Command::new(alloc, "show")
+        .about("Show the words of a dictionary as a tree")
+        .after_help(SHOW_NOTES)
+        .arg(file(alloc))?
+        .arg(prefix)?
+        .arg(flag(
+            alloc,
+            "dot",
+            "Write a drawing in the language of Graphviz, a node for each byte, in place of text",
+        ))?
+        .arg(limit(alloc))
+}
+
+const SHOW_NOTES: &str = "\
+A line for each word, with a tab and its number behind it. Blanks stand in place of the characters that it shares with the word
+before it. The status is 1 where there is no such word.
+
+Example:
+  roskvidh show words.cedar ne
+  roskvidh show words.cedar ne --dot | dot -Tsvg > words.svg";
+
 fn cut<'a>(alloc: Global) -> Result<Command<'a>, AllocError> {
     let sign = Arg::new(alloc, "sign")
         .short('s')
@@ -167,6 +195,7 @@ fn cut<'a>(alloc: Global) -> Result<Command<'a>, AllocError> {
             "Cut each line so that its words' numbers have the least sum",
         ))?
         .arg(unknown)?
+        .arg(progress(alloc))?
         .arg(limit(alloc))
 }
 
@@ -187,6 +216,12 @@ fn scan<'a>(alloc: Global) -> Result<Command<'a>, AllocError> {
             "only-longest",
             "Of words that overlap tell only the first and longest",
         ))?
+        .arg(flag(
+            alloc,
+            "color",
+            "Write the lines in which those stand, with each of them marked in colour, as grep does",
+        ))?
+        .arg(progress(alloc))?
         .arg(limit(alloc))
 }
 
@@ -197,21 +232,59 @@ counts characters. The status is 1 where there is none.
 Example:
   echo 'the heroes' | roskvidh scan words.cedar --only-longest";
 
+fn replace<'a>(alloc: Global) -> Result<Command<'a>, AllocError> {
+    let pairs = Arg::new(alloc, "pairs")
+        .value_name("PAIRS")
+        .required(true)
+        .help(
+            "The file of the words, a line each: a word, a tab, and what is written in its place",
+        );
+    Command::new(alloc, "replace")
+        .about("Replace the words of a list in a text")
+        .after_help(REPLACE_NOTES)
+        .arg(pairs)?
+        .arg(text_file(alloc))?
+        .arg(flag(
+            alloc,
+            "strict",
+            "Replace nothing where a line is told to be bad or repeated",
+        ))?
+        .arg(progress(alloc))
+}
+
+const REPLACE_NOTES: &str = "\
+Of words that overlap the first and longest is replaced. What is written isn't looked at again, and the rest of the text stays as it
+is. A bad line of the list is told on standard error and passed over; of a word's lines the last one counts.
+
+Example:
+  printf 'colour\\tcolor\\n' > spellings.tsv
+  echo 'two colours' | roskvidh replace spellings.tsv";
+
 fn add<'a>(alloc: Global) -> Result<Command<'a>, AllocError> {
     Command::new(alloc, "add")
         .about("Add the words of a list to a dictionary's file")
         .after_help(ADD_NOTES)
         .arg(file(alloc))?
         .arg(word_list(alloc))?
+        .arg(flag(
+            alloc,
+            "store",
+            "Make the file a store if it is missing or empty; a file of another kind is refused",
+        ))?
         .arg(strict(alloc))?
+        .arg(progress(alloc))?
         .arg(limit(alloc))
 }
 
 const ADD_NOTES: &str = "\
 A list is as of build. A word that is there gets the list's number, and is told.
 
+A store keeps each change behind those before it, and every command reads it. A list is stored as one change: at status 0 it is on the
+disk, and a crash leaves all of it or none. --limit says nothing of a store. Its file isn't locked: let one program at a time change it.
+
 Example:
-  printf 'nest\\t4\\n' | roskvidh add words.cedar";
+  printf 'nest\\t4\\n' | roskvidh add words.cedar
+  printf 'nest\\t4\\n' | roskvidh add words.store --store";
 
 fn remove<'a>(alloc: Global) -> Result<Command<'a>, AllocError> {
     Command::new(alloc, "remove")
@@ -219,11 +292,13 @@ fn remove<'a>(alloc: Global) -> Result<Command<'a>, AllocError> {
         .after_help(REMOVE_NOTES)
         .arg(file(alloc))?
         .arg(word_list(alloc))?
+        .arg(progress(alloc))?
         .arg(limit(alloc))
 }
 
 const REMOVE_NOTES: &str = "\
-Numbers in the list don't count. The status is 1 where a word wasn't there; the others are taken out.
+Numbers in the list don't count. The status is 1 where a word wasn't there; the others are taken out. Of a store they are taken out as
+one change, as add stores them.
 
 Example:
   echo nest | roskvidh remove words.cedar";
@@ -272,8 +347,13 @@ fn check<'a>(alloc: Global) -> Result<Command<'a>, AllocError> {
 fn stats<'a>(alloc: Global) -> Result<Command<'a>, AllocError> {
     Command::new(alloc, "stats")
         .about("Tell a dictionary's figures, a line each: a name, a tab, and what it is")
-        .after_help("Example:\n  roskvidh stats words.cedar")
+        .after_help("Example:\n  roskvidh stats words.cedar --chart")
         .arg(file(alloc))?
+        .arg(flag(
+            alloc,
+            "chart",
+            "Add a line for each length of word in bytes: how many words have it, and a bar",
+        ))?
         .arg(limit(alloc))
 }
 
@@ -314,7 +394,7 @@ fn other<'a>(alloc: Global) -> Arg<'a> {
     Arg::new(alloc, "other")
         .value_name("OTHER")
         .required(true)
-        .help("The second dictionary's file, of either layout")
+        .help("The second dictionary's file, of either layout, or a store")
 }
 
 fn strict<'a>(alloc: Global) -> Arg<'a> {
@@ -338,7 +418,7 @@ fn file<'a>(alloc: Global) -> Arg<'a> {
     Arg::new(alloc, "file")
         .value_name("FILE")
         .required(true)
-        .help("The dictionary's file, of either layout")
+        .help("The dictionary's file, of either layout, or a store")
 }
 
 /// The text that is read.
@@ -346,6 +426,15 @@ fn text_file<'a>(alloc: Global) -> Arg<'a> {
     Arg::new(alloc, "text")
         .value_name("TEXTFILE")
         .help("The text. Without one, or with -, it is standard input")
+}
+
+/// Whether it is told how far a list or a text is read.
+fn progress<'a>(alloc: Global) -> Arg<'a> {
+    flag(
+        alloc,
+        "progress",
+        "Tell on standard error each second how much is read; on a terminal that is told unasked",
+    )
 }
 
 /// How much memory a load may ask for.

@@ -2,13 +2,14 @@
 
 use crate::dictionary::SLOTS;
 use crate::fault::{Fault, name_of, store_fault};
-use crate::input::open;
+use crate::input::{Source, open, read_all};
+use crate::meter::Meter;
 use crate::request::{Build, List};
 use cedarwood::{CedarBuilder, DefaultLayout, Layout, ReducedLayout, Trie, Watched};
 use std::alloc::Global;
 use std::io::{BufRead, Read, Write};
 use std::rt::Files;
-use word_lists::{LineFault, LineFaults, store_lines};
+use word_lists::{LineFault, LineFaults, sorted_list, store_lines};
 
 /// Tells of lines on standard error, and counts them.
 #[derive(Drop)]
@@ -22,13 +23,22 @@ struct Teller<'a, E> {
 
 impl<'a, E: Write> LineFaults for Teller<'a, E> {
     fn tell(&mut self, number: u64, line: &[u8], fault: LineFault) {
-        let name = self.name;
-        let why = words_for(fault);
-        let _ = write!(self.errors, "roskvidh: {name}:{number}: {why}: ");
-        let _ = self.errors.write_all(line);
-        let _ = self.errors.write_all(b"\n");
+        tell_line(self.errors, self.name, number, line, words_for(fault));
         self.told = self.told.saturating_add(1);
     }
+}
+
+/// Tells of a line of a list with this name, and what it is.
+pub(crate) fn tell_line<E: Write>(
+    errors: &mut Watched<E>,
+    name: &str,
+    number: u64,
+    line: &[u8],
+    why: &str,
+) {
+    let _ = write!(errors, "roskvidh: {name}:{number}: {why}: ");
+    let _ = errors.write_all(line);
+    let _ = errors.write_all(b"\n");
 }
 
 /// What a line is told to be.
@@ -65,14 +75,14 @@ pub(crate) fn store_list<'m, L: Layout, R: BufRead, E: Write>(
 }
 
 /// Makes a dictionary of a word list, and saves it.
-pub(crate) fn build<'m, F: Files, R: Read + Drop, E: Write>(
+pub(crate) fn build<'m, F: Files, R: Read + Drop, M: Meter + Drop, E: Write>(
     alloc: Global,
     files: &F,
     asked: Build<'m>,
-    input: R,
+    source: Source<R, M>,
     errors: &mut Watched<E>,
 ) -> Result<(), Fault<'m>> {
-    let mut list = open(alloc, files, asked.list.path, input)?;
+    let mut list = open(alloc, files, asked.list.path, source)?;
     if asked.reduced {
         build_of::<ReducedLayout, _, _, _>(alloc, files, asked, &mut list, errors)
     } else {
@@ -88,12 +98,33 @@ fn build_of<'m, L: Layout, F: Files, R: BufRead, E: Write>(
     list: &mut R,
     errors: &mut Watched<E>,
 ) -> Result<(), Fault<'m>> {
-    let mut trie = empty::<L>(alloc, !asked.unordered)?;
-    store_list(alloc, &mut trie, asked.list, list, errors)?;
+    let bytes = read_all(alloc, asked.list.path, list)?;
+    let trie = trie_of::<L, E>(alloc, asked, &bytes, errors)?;
     match trie.save_to_path(files, asked.output) {
         Ok(()) => Ok(()),
         Err(error) => Err(Fault::Save(asked.output, error)),
     }
+}
+
+/// A dictionary of a word list. One whose words ascend, and have no fault, is made at once.
+fn trie_of<'m, L: Layout, E: Write>(
+    alloc: Global,
+    asked: Build<'m>,
+    list: &[u8],
+    errors: &mut Watched<E>,
+) -> Result<Trie<L, SLOTS, Global>, Fault<'m>> {
+    let ordered = !asked.unordered;
+    if ordered {
+        match sorted_list(alloc, list) {
+            Ok(Some(trie)) => return Ok(trie),
+            Ok(None) => {}
+            Err(error) => return Err(store_fault(asked.list.path, error)),
+        }
+    }
+    let mut trie = empty::<L>(alloc, ordered)?;
+    let mut rest = list;
+    store_list(alloc, &mut trie, asked.list, &mut rest, errors)?;
+    Ok(trie)
 }
 
 /// An empty dictionary of this layout.

@@ -2,9 +2,12 @@
 //! format and layout.
 
 use crate::build::{empty, store_list};
-use crate::dictionary::{SLOTS, load, open};
+use crate::dictionary::{Kind, SLOTS, load, load_default, open};
+use crate::durable::change_store;
 use crate::fault::{Fault, store_fault};
 use crate::input;
+use crate::input::Source;
+use crate::meter::Meter;
 use crate::request::{Change, Dictionary, How};
 use cedarwood::{DefaultLayout, Layout, ReducedLayout, Trie, Watched};
 use std::alloc::Global;
@@ -13,52 +16,83 @@ use std::rt::Files;
 use word_lists::{erase_lines, store_entries};
 
 /// Changes a dictionary, and saves it. False where a word to take out wasn't held.
-pub(crate) fn change<'m, F: Files, R: Read + Drop, E: Write>(
+pub(crate) fn change<'m, F: Files + Copy + Drop, R: Read + Drop, M: Meter + Drop, E: Write>(
     alloc: Global,
     files: &F,
     dictionary: Dictionary<'m>,
     asked: Change<'m>,
-    input: R,
+    source: Source<R, M>,
     errors: &mut Watched<E>,
 ) -> Result<bool, Fault<'m>> {
-    let (reader, reduced) = open(alloc, files, dictionary.path)?;
-    if reduced {
+    if asked.is_store {
+        return change_store(alloc, files, dictionary.path, asked.how, source, errors);
+    }
+    let (reader, kind) = open(alloc, files, dictionary.path)?;
+    if kind == Kind::Store && is_in_place(asked.how) {
+        change_store(alloc, files, dictionary.path, asked.how, source, errors)
+    } else if kind == Kind::Reduced {
         let trie = load::<ReducedLayout, F::File>(alloc, dictionary, reader)?;
-        change_loaded(alloc, files, trie, true, asked, input, errors)
+        change_loaded(alloc, files, trie, true, asked, source, errors)
     } else {
-        let trie = load::<DefaultLayout, F::File>(alloc, dictionary, reader)?;
-        change_loaded(alloc, files, trie, false, asked, input, errors)
+        let trie = load_default(alloc, dictionary, reader, kind)?;
+        change_loaded(alloc, files, trie, false, asked, source, errors)
+    }
+}
+
+/// Whether a change is saved in the dictionary's own file.
+fn is_in_place(how: How<'_>) -> bool {
+    match how {
+        How::Add(_) | How::Remove(_) => true,
+        How::Merge(_) | How::Convert(_) => false,
     }
 }
 
 /// Changes a dictionary that is loaded, which is of the reduced layout or not, and saves it.
-fn change_loaded<'m, L: Layout, F: Files, R: Read + Drop, E: Write>(
+fn change_loaded<'m, L: Layout, F: Files, R: Read + Drop, M: Meter + Drop, E: Write>(
     alloc: Global,
     files: &F,
     mut trie: Trie<L, SLOTS, Global>,
     reduced: bool,
     asked: Change<'m>,
-    input: R,
+    source: Source<R, M>,
     errors: &mut Watched<E>,
 ) -> Result<bool, Fault<'m>> {
-    let mut all = true;
     match asked.how {
-        How::Add(list) => {
-            let mut reader = input::open(alloc, files, list.path, input)?;
-            store_list(alloc, &mut trie, list, &mut reader, errors)?;
-        }
-        How::Remove(path) => {
-            let mut reader = input::open(alloc, files, path, input)?;
-            all = remove(alloc, &mut trie, path, &mut reader)?;
-        }
-        How::Merge(other) => merge(alloc, files, &mut trie, other)?,
         How::Convert(Some(wanted)) if wanted != reduced => {
             return convert(alloc, files, &trie, wanted, asked);
         }
-        How::Convert(_) => {}
+        _ => {}
     }
+    let all = change_words(alloc, files, &mut trie, asked.how, source, errors)?;
     save(files, &trie, asked)?;
     Ok(all)
+}
+
+/// Makes a change in a dictionary, but that of its layout. False where a word to take out wasn't held.
+pub(crate) fn change_words<'m, L: Layout, F: Files, R: Read + Drop, M: Meter + Drop, E: Write>(
+    alloc: Global,
+    files: &F,
+    trie: &mut Trie<L, SLOTS, Global>,
+    how: How<'m>,
+    source: Source<R, M>,
+    errors: &mut Watched<E>,
+) -> Result<bool, Fault<'m>> {
+    match how {
+        How::Add(list) => {
+            let mut reader = input::open(alloc, files, list.path, source)?;
+            store_list(alloc, trie, list, &mut reader, errors)?;
+            Ok(true)
+        }
+        How::Remove(path) => {
+            let mut reader = input::open(alloc, files, path, source)?;
+            remove(alloc, trie, path, &mut reader)
+        }
+        How::Merge(other) => {
+            merge(alloc, files, trie, other)?;
+            Ok(true)
+        }
+        How::Convert(_) => Ok(true),
+    }
 }
 
 /// Takes the words of a list out of a dictionary, and says whether all were held.
@@ -81,12 +115,12 @@ fn merge<'m, L: Layout, F: Files>(
     trie: &mut Trie<L, SLOTS, Global>,
     other: Dictionary<'m>,
 ) -> Result<(), Fault<'m>> {
-    let (reader, reduced) = open(alloc, files, other.path)?;
-    if reduced {
+    let (reader, kind) = open(alloc, files, other.path)?;
+    if kind == Kind::Reduced {
         let more = load::<ReducedLayout, F::File>(alloc, other, reader)?;
         store_all(alloc, trie, &more)
     } else {
-        let more = load::<DefaultLayout, F::File>(alloc, other, reader)?;
+        let more = load_default(alloc, other, reader, kind)?;
         store_all(alloc, trie, &more)
     }
 }

@@ -1,8 +1,11 @@
-//! A dictionary's file of either layout.
+//! A dictionary's file of either layout, and a store's.
 
 use crate::fault::Fault;
+use crate::input::read_all;
 use crate::request::Dictionary;
-use cedarwood::{CedarPersistenceError, Layout, Trie, Watched};
+use cedar_journal::{MAGIC, first_payload};
+use cedar_store::words_of;
+use cedarwood::{CedarPersistenceError, DefaultLayout, Layout, Trie, Watched};
 use std::alloc::Global;
 use std::fs::File;
 use std::io::{BufRead, BufReader, Read};
@@ -17,12 +20,23 @@ const LAYOUT_PLACE: usize = 13;
 /// The byte of the reduced layout.
 const REDUCED_LAYOUT: u8 = 1;
 
-/// Opens a dictionary's file, and says whether it is of the reduced layout.
+/// What a dictionary's file is.
+#[derive(Clone, Copy, Debug, PartialEq, Eq)]
+pub(crate) enum Kind {
+    /// A dictionary of the default layout, as it was saved.
+    Default,
+    /// One of the reduced layout.
+    Reduced,
+    /// A store: the changes that make a dictionary, one after another.
+    Store,
+}
+
+/// Opens a dictionary's file, and says what it is.
 pub(crate) fn open<'m, F: Files>(
     alloc: Global,
     files: &F,
     path: &'m str,
-) -> Result<(BufReader<F::File>, bool), Fault<'m>> {
+) -> Result<(BufReader<F::File>, Kind), Fault<'m>> {
     let file = match File::open(files, path) {
         Ok(file) => file,
         Err(error) => return Err(Fault::Load(path, CedarPersistenceError::Io(error))),
@@ -30,16 +44,22 @@ pub(crate) fn open<'m, F: Files>(
     let Ok(mut reader) = BufReader::new(alloc, file) else {
         return Err(Fault::Memory);
     };
-    match is_reduced(&mut reader) {
-        Ok(reduced) => Ok((reader, reduced)),
+    match kind_of(&mut reader) {
+        Ok(kind) => Ok((reader, kind)),
         Err(error) => Err(Fault::Load(path, error)),
     }
 }
 
-/// Whether a file's byte names the reduced layout. Nothing is taken from the reader.
-fn is_reduced<R: BufRead>(reader: &mut R) -> Result<bool, CedarPersistenceError> {
+/// What a file is, by its first bytes. Nothing is taken from the reader.
+fn kind_of<R: BufRead>(reader: &mut R) -> Result<Kind, CedarPersistenceError> {
     let head = reader.fill_buf()?;
-    Ok(head.get(LAYOUT_PLACE).copied() == Some(REDUCED_LAYOUT))
+    Ok(if first_payload(head) == Some(MAGIC.as_slice()) {
+        Kind::Store
+    } else if head.get(LAYOUT_PLACE).copied() == Some(REDUCED_LAYOUT) {
+        Kind::Reduced
+    } else {
+        Kind::Default
+    })
 }
 
 /// Loads a dictionary of this layout.
@@ -52,5 +72,23 @@ pub(crate) fn load<'m, L: Layout, R: Read + Drop>(
     match Trie::load_from_reader_with_limit(alloc, &mut source, dictionary.limit) {
         Ok(trie) => Ok(trie),
         Err(error) => Err(Fault::Load(dictionary.path, error)),
+    }
+}
+
+/// Loads a dictionary of the default layout, or makes the one that a store's file stands for. A store's file stays as it is.
+pub(crate) fn load_default<'m, R: Read + Drop>(
+    alloc: Global,
+    dictionary: Dictionary<'m>,
+    reader: BufReader<R>,
+    kind: Kind,
+) -> Result<Trie<DefaultLayout, SLOTS, Global>, Fault<'m>> {
+    if kind != Kind::Store {
+        return load::<DefaultLayout, R>(alloc, dictionary, reader);
+    }
+    let mut changes = reader;
+    let bytes = read_all(alloc, Some(dictionary.path), &mut changes)?;
+    match words_of(alloc, &bytes) {
+        Ok((trie, _)) => Ok(trie),
+        Err(error) => Err(Fault::Store(dictionary.path, error)),
     }
 }

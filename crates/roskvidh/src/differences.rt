@@ -1,9 +1,9 @@
 //! What two dictionaries hold differently.
 
-use crate::dictionary::{SLOTS, load, open};
+use crate::dictionary::{Kind, SLOTS, load, load_default, open};
 use crate::fault::Fault;
 use crate::request::Dictionary;
-use cedarwood::{DefaultLayout, Layout, ReducedLayout, Trie, Watched};
+use cedarwood::{Layout, ReducedLayout, Trie, Watched};
 use std::alloc::Global;
 use std::io::Write;
 use std::rt::Files;
@@ -18,12 +18,12 @@ pub(crate) fn diff<'m, F: Files, W: Write>(
     second: Dictionary<'m>,
     writer: &mut Watched<W>,
 ) -> Result<bool, Fault<'m>> {
-    let (reader, reduced) = open(alloc, files, first.path)?;
-    if reduced {
+    let (reader, kind) = open(alloc, files, first.path)?;
+    if kind == Kind::Reduced {
         let trie = load::<ReducedLayout, F::File>(alloc, first, reader)?;
         diff_from(alloc, files, &trie, second, writer)
     } else {
-        let trie = load::<DefaultLayout, F::File>(alloc, first, reader)?;
+        let trie = load_default(alloc, first, reader, kind)?;
         diff_from(alloc, files, &trie, second, writer)
     }
 }
@@ -36,12 +36,12 @@ fn diff_from<'m, L: Layout, F: Files, W: Write>(
     second: Dictionary<'m>,
     writer: &mut Watched<W>,
 ) -> Result<bool, Fault<'m>> {
-    let (reader, reduced) = open(alloc, files, second.path)?;
-    if reduced {
+    let (reader, kind) = open(alloc, files, second.path)?;
+    if kind == Kind::Reduced {
         let trie = load::<ReducedLayout, F::File>(alloc, second, reader)?;
         write_diff(alloc, first, &trie, writer)
     } else {
-        let trie = load::<DefaultLayout, F::File>(alloc, second, reader)?;
+        let trie = load_default(alloc, second, reader, kind)?;
         write_diff(alloc, first, &trie, writer)
     }
 }

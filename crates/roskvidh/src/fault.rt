@@ -1,5 +1,6 @@
 //! Why the program did not do what it was asked for.
 
+use cedar_store::DurableError;
 use cedarwood::{CedarPersistenceError, Watched};
 use std::alloc::AllocError;
 use std::io;
@@ -16,6 +17,8 @@ pub(crate) enum Fault<'m> {
     Load(&'m str, CedarPersistenceError),
     /// One can't be saved there.
     Save(&'m str, CedarPersistenceError),
+    /// The store of this path can't be opened, or its change can't be made.
+    Store(&'m str, DurableError),
     /// A list or a text can't be read from this path, or from standard input.
     Read(Option<&'m str>, io::Error),
     /// A list has bad or repeated lines, which were told.
@@ -62,6 +65,7 @@ pub(crate) fn tell<E: Write>(errors: &mut Watched<E>, fault: Fault<'_>) {
     let _ = match fault {
         Fault::Load(path, error) => writeln!(errors, "roskvidh: {path}: {error}"),
         Fault::Save(path, error) => writeln!(errors, "roskvidh: {path}: {error}"),
+        Fault::Store(path, error) => writeln!(errors, "roskvidh: {path}: {error}"),
         Fault::Read(path, error) => {
             let name = name_of(path);
             writeln!(errors, "roskvidh: {name}: {error}")
@@ -70,7 +74,7 @@ pub(crate) fn tell<E: Write>(errors: &mut Watched<E>, fault: Fault<'_>) {
             let name = name_of(path);
             writeln!(
                 errors,
-                "roskvidh: {name}: no dictionary is made of a list with such lines"
+                "roskvidh: {name}: with --strict no such line may stand in a list"
             )
         }
         Fault::Unordered(path) => {

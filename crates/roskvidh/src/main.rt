@@ -4,11 +4,15 @@
 mod arguments;
 mod build;
 mod changes;
+mod chart;
 mod dictionary;
 mod differences;
+mod durable;
 mod fault;
 mod input;
+mod meter;
 mod queries;
+mod replace;
 mod request;
 mod run;
 mod texts;
@@ -16,6 +20,7 @@ mod texts;
 use arguments::command;
 use cedarwood::Watched;
 use clap::ArgMatches;
+use request::Terminals;
 use run::{DONE, FILES, USAGE, run};
 use std::env;
 use std::io::{BufWriter, IsTerminal, LineWriter, Write};
@@ -63,13 +68,20 @@ fn answer(rt: &HostRuntime, matches: &ArgMatches<'_>) -> ExitCode {
 fn answer_to<W: Write + Drop>(rt: &HostRuntime, matches: &ArgMatches<'_>, output: W) -> u8 {
     let mut writer = Watched::new(output);
     let mut errors = Watched::new(rt.stderr());
+    let terminals = Terminals {
+        input: rt.stdin().is_terminal(),
+        output: rt.stdout().is_terminal(),
+        errors: rt.stderr().is_terminal(),
+    };
     run(
         rt.alloc(),
-        rt,
+        &rt,
         matches,
         rt.stdin(),
         &mut writer,
         &mut errors,
+        rt.stderr(),
+        terminals,
     )
 }
 

@@ -1,18 +1,22 @@
 //! What is asked of a dictionary alone.
 
-use crate::dictionary::SLOTS;
+use crate::chart::write_chart;
+use crate::dictionary::{Kind, SLOTS};
 use crate::fault::Fault;
 use crate::request::{Dictionary, Query};
 use cedarwood::{Layout, Trie, Watched};
 use std::alloc::Global;
 use std::io::Write;
-use word_lists::{read_word, write_fronts, write_next_entries, write_number};
+use word_lists::{
+    read_word, write_drawing, write_fronts, write_next_entries, write_number, write_tree,
+};
 
 /// Answers a query, and says whether something was found: of words that are looked up, all of them.
 pub(crate) fn answer<'m, L: Layout, W: Write>(
     alloc: Global,
     trie: &Trie<L, SLOTS, Global>,
     dictionary: Dictionary<'m>,
+    kind: Kind,
     query: Query<'m>,
     writer: &mut Watched<W>,
 ) -> Result<bool, Fault<'m>> {
@@ -29,12 +33,19 @@ pub(crate) fn answer<'m, L: Layout, W: Write>(
             Ok(0 < found)
         }
         Query::Check => {
-            check(trie, dictionary, writer)?;
+            check(trie, dictionary, kind, writer)?;
             Ok(true)
         }
-        Query::Stats => {
+        Query::Stats(chart) => {
             write_figures(trie, writer)?;
+            if chart {
+                write_chart(alloc, trie, writer)?;
+            }
             Ok(true)
+        }
+        Query::Show(prefix, is_drawing) => {
+            read_word(prefix.as_bytes(), &mut word)?;
+            show(alloc, trie, &word, is_drawing, writer)
         }
         Query::List => {
             list_under(alloc, trie, &[], u64::MAX, writer)?;
@@ -52,19 +63,37 @@ pub(crate) fn answer<'m, L: Layout, W: Write>(
     }
 }
 
+/// Shows the words that begin with a prefix as a tree, and says whether there is one.
+fn show<'m, L: Layout, W: Write>(
+    alloc: Global,
+    trie: &Trie<L, SLOTS, Global>,
+    prefix: &[u8],
+    is_drawing: bool,
+    writer: &mut Watched<W>,
+) -> Result<bool, Fault<'m>> {
+    let entries = trie.entries_with_prefix_bytes(prefix);
+    let shown = if is_drawing {
+        write_drawing(alloc, writer, entries)
+    } else {
+        write_tree(alloc, writer, entries)
+    };
+    Ok(shown?)
+}
+
 /// Tells of what kind a file is that was loaded.
 fn check<'m, L: Layout, W: Write>(
     trie: &Trie<L, SLOTS, Global>,
     dictionary: Dictionary<'m>,
+    kind: Kind,
     writer: &mut Watched<W>,
 ) -> Result<(), Fault<'m>> {
     let path = dictionary.path;
-    let layout = layout_name::<L>();
+    let kind = kind_name(kind);
     let order = order_name(trie);
     let entries = trie.len();
     match writeln!(
         writer,
-        "{path}: well-formed, {layout} layout, {order}, words: {entries}"
+        "{path}: well-formed, {kind}, {order}, words: {entries}"
     ) {
         Ok(()) => Ok(()),
         Err(_) => Err(Fault::Write),
@@ -94,6 +123,15 @@ fn write_figures<'m, L: Layout, W: Write>(
         }
     }
     Ok(())
+}
+
+/// What a kind of file is named.
+fn kind_name(kind: Kind) -> &'static str {
+    match kind {
+        Kind::Default => "default layout",
+        Kind::Reduced => "reduced layout",
+        Kind::Store => "store",
+    }
 }
 
 /// What a layout is named.

@@ -11,6 +11,26 @@ pub(crate) enum Request<'m> {
     Text(Dictionary<'m>, Reading<'m>),
     Change(Dictionary<'m>, Change<'m>),
     Diff(Dictionary<'m>, Dictionary<'m>),
+    Replace(Replace<'m>),
+}
+
+/// A text whose words are replaced.
+#[derive(Clone, Copy, Debug)]
+pub(crate) struct Replace<'m> {
+    /// The list of the words and what each is replaced by.
+    pub list: &'m str,
+    /// The text's path; standard input where there is none.
+    pub text: Option<&'m str>,
+    /// Whether a bad line or a repeated word ends it before the text is read.
+    pub strict: bool,
+}
+
+/// Which of the standard streams are terminals.
+#[derive(Clone, Copy, Debug)]
+pub(crate) struct Terminals {
+    pub input: bool,
+    pub output: bool,
+    pub errors: bool,
 }
 
 /// How a dictionary is changed, and where it is saved then.
@@ -21,6 +41,8 @@ pub(crate) struct Change<'m> {
     pub output: &'m str,
     /// Whether it is saved in format 1.0.
     pub old_format: bool,
+    /// Whether it is a store, which is made where the file is missing or empty.
+    pub is_store: bool,
 }
 
 /// What is changed.
@@ -72,10 +94,13 @@ pub(crate) enum Query<'m> {
     Complete(&'m str, Option<u64>),
     /// Whether the file is well-formed, and of what kind it is.
     Check,
-    Stats,
+    /// The figures, and whether a bar for each length of word is wanted.
+    Stats(bool),
     List,
     ListFrom(&'m str),
     ListUnder(&'m str),
+    /// The words that begin so as a tree in text, or as a drawing.
+    Show(&'m str, bool),
 }
 
 /// What is asked of a dictionary and a text.
@@ -97,6 +122,8 @@ pub(crate) enum Task<'m> {
     Scan,
     /// Find those that don't overlap.
     ScanLongest,
+    /// Write the lines in which those stand, with each of them marked.
+    ScanMarked,
 }
 
 /// What the arguments ask for; None if the command is none of the program's, which no parse gives.
@@ -114,9 +141,15 @@ pub(crate) fn request_of<'m, 'a>(matches: &'m ArgMatches<'a>) -> Option<Request<
         "cut" => reading_of(asked, cut_of(asked, asked.get_str("sign")?)),
         "scan" => reading_of(asked, scan_of(asked)),
         "check" => query_of(asked, Query::Check),
-        "stats" => query_of(asked, Query::Stats),
-        "add" => in_place(asked, How::Add(word_list_of(asked))),
-        "remove" => in_place(asked, How::Remove(path_of(asked.get_str("words")))),
+        "stats" => query_of(asked, Query::Stats(asked.get_flag("chart"))),
+        "show" => query_of(asked, show_of(asked)),
+        "replace" => Some(Request::Replace(replace_of(asked)?)),
+        "add" => in_place(
+            asked,
+            How::Add(word_list_of(asked)),
+            asked.get_flag("store"),
+        ),
+        "remove" => in_place(asked, How::Remove(path_of(asked.get_str("words"))), false),
         "merge" => elsewhere(asked, How::Merge(other_of(asked)?)),
         "convert" => elsewhere(asked, How::Convert(layout_of(asked))),
         "diff" => Some(Request::Diff(dictionary_of(asked)?, other_of(asked)?)),
@@ -143,12 +176,17 @@ fn reading_of<'m, 'a>(asked: &'m ArgMatches<'a>, task: Task<'m>) -> Option<Reque
 }
 
 /// A change that is saved in the dictionary's own file.
-fn in_place<'m, 'a>(asked: &'m ArgMatches<'a>, how: How<'m>) -> Option<Request<'m>> {
+fn in_place<'m, 'a>(
+    asked: &'m ArgMatches<'a>,
+    how: How<'m>,
+    is_store: bool,
+) -> Option<Request<'m>> {
     let dictionary = dictionary_of(asked)?;
     let change = Change {
         how,
         output: dictionary.path,
         old_format: false,
+        is_store,
     };
     Some(Request::Change(dictionary, change))
 }
@@ -159,6 +197,7 @@ fn elsewhere<'m, 'a>(asked: &'m ArgMatches<'a>, how: How<'m>) -> Option<Request<
         how,
         output: asked.get_str("output")?,
         old_format: asked.get_flag("v1-0"),
+        is_store: false,
     };
     Some(Request::Change(dictionary_of(asked)?, change))
 }
@@ -215,8 +254,64 @@ fn cut_of<'m>(asked: &ArgMatches<'_>, sign: &'m str) -> Task<'m> {
     }
 }
 
+fn replace_of<'m, 'a>(asked: &'m ArgMatches<'a>) -> Option<Replace<'m>> {
+    Some(Replace {
+        list: asked.get_str("pairs")?,
+        text: path_of(asked.get_str("text")),
+        strict: asked.get_flag("strict"),
+    })
+}
+
+/// Whether it is told how far a list or a text is read: where that is asked for; and else on a terminal, unless somebody types the text
+/// there or reads the answers.
+pub(crate) fn tells_progress(
+    matches: &ArgMatches<'_>,
+    request: Request<'_>,
+    terminals: Terminals,
+) -> bool {
+    let Some((is_typed, is_answered)) = reads(request) else {
+        return false;
+    };
+    if is_progress_asked(matches) {
+        return true;
+    }
+    terminals.errors && !(is_typed && terminals.input) && !(is_answered && terminals.output)
+}
+
+/// Whether a list or a text comes from standard input, and whether it is answered on standard output; None where none is read.
+fn reads(request: Request<'_>) -> Option<(bool, bool)> {
+    match request {
+        Request::Build(asked) => Some((asked.list.path.is_none(), false)),
+        Request::Text(_, reading) => Some((reading.text.is_none(), true)),
+        Request::Replace(asked) => Some((asked.text.is_none(), true)),
+        Request::Change(_, change) => match change.how {
+            How::Add(list) => Some((list.path.is_none(), false)),
+            How::Remove(path) => Some((path.is_none(), false)),
+            How::Merge(_) | How::Convert(_) => None,
+        },
+        Request::Query(_, _) | Request::Diff(_, _) => None,
+    }
+}
+
+fn is_progress_asked(matches: &ArgMatches<'_>) -> bool {
+    match matches.subcommand() {
+        Some((_, asked)) => asked.get_flag("progress"),
+        None => false,
+    }
+}
+
+fn show_of<'m, 'a>(asked: &'m ArgMatches<'a>) -> Query<'m> {
+    let prefix = match asked.get_str("prefix") {
+        Some(prefix) => prefix,
+        None => "",
+    };
+    Query::Show(prefix, asked.get_flag("dot"))
+}
+
 fn scan_of<'m>(asked: &ArgMatches<'_>) -> Task<'m> {
-    if asked.get_flag("only-longest") {
+    if asked.get_flag("color") {
+        Task::ScanMarked
+    } else if asked.get_flag("only-longest") {
         Task::ScanLongest
     } else {
         Task::Scan

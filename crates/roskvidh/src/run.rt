@@ -2,17 +2,21 @@
 
 use crate::build::build;
 use crate::changes::change;
-use crate::dictionary::{load, open};
+use crate::dictionary::{Kind, load, load_default, open};
 use crate::differences::diff;
 use crate::fault::{Fault, is_closed, tell};
+use crate::input::Source;
+use crate::meter::{Meter, Progress};
 use crate::queries::answer;
-use crate::request::{Dictionary, Query, Reading, Request, request_of};
+use crate::replace::replace;
+use crate::request::{Dictionary, Query, Reading, Request, Terminals, request_of, tells_progress};
 use crate::texts::read_text;
-use cedarwood::{DefaultLayout, ReducedLayout, Watched};
+use cedarwood::{ReducedLayout, Watched};
 use clap::ArgMatches;
 use std::alloc::Global;
 use std::io::{Read, Write};
 use std::rt::Files;
+use std::time::Clock;
 
 /// The status of a run that did all it was asked for.
 pub(crate) const DONE: u8 = 0;
@@ -27,18 +31,38 @@ pub(crate) const USAGE: u8 = 2;
 pub(crate) const FILES: u8 = 3;
 
 /// Does what the arguments ask for, and says the status to end with. A closed pipe ends it without a word.
-pub(crate) fn run<F: Files, R: Read + Drop, W: Write, E: Write>(
+pub(crate) fn run<F: Files + Clock + Copy + Drop, R: Read + Drop, W: Write, E: Write + Drop>(
     alloc: Global,
     files: &F,
     matches: &ArgMatches<'_>,
     input: R,
     writer: &mut Watched<W>,
     errors: &mut Watched<E>,
+    progress: E,
+    terminals: Terminals,
 ) -> u8 {
     let Some(request) = request_of(matches) else {
         return USAGE;
     };
-    match answer_request(alloc, files, request, input, writer, errors) {
+    let is_told = tells_progress(matches, request, terminals);
+    let meter = Progress::new(files, progress, is_told, terminals.errors);
+    let source = Source {
+        standard: input,
+        meter,
+    };
+    end_request(alloc, files, request, source, writer, errors)
+}
+
+/// Does what is asked for, and says the status to end with.
+fn end_request<F: Files + Copy + Drop, R: Read + Drop, M: Meter + Drop, W: Write, E: Write>(
+    alloc: Global,
+    files: &F,
+    request: Request<'_>,
+    source: Source<R, M>,
+    writer: &mut Watched<W>,
+    errors: &mut Watched<E>,
+) -> u8 {
+    match answer_request(alloc, files, request, source, writer, errors) {
         Ok(true) => DONE,
         Ok(false) => NOT_FOUND,
         Err(Fault::Write) if is_closed(writer) => DONE,
@@ -51,27 +75,31 @@ pub(crate) fn run<F: Files, R: Read + Drop, W: Write, E: Write>(
 }
 
 /// Does what is asked for, and flushes what was written. False where nothing was found.
-fn answer_request<'m, F: Files, R: Read + Drop, W: Write, E: Write>(
+fn answer_request<'m, F: Files + Copy + Drop, R: Read + Drop, M: Meter + Drop, W: Write, E: Write>(
     alloc: Global,
     files: &F,
     request: Request<'m>,
-    input: R,
+    source: Source<R, M>,
     writer: &mut Watched<W>,
     errors: &mut Watched<E>,
 ) -> Result<bool, Fault<'m>> {
     let found = match request {
         Request::Build(asked) => {
-            build(alloc, files, asked, input, errors)?;
+            build(alloc, files, asked, source, errors)?;
             true
         }
         Request::Query(dictionary, query) => ask(alloc, files, dictionary, query, writer)?,
         Request::Text(dictionary, reading) => {
-            read(alloc, files, dictionary, reading, input, writer)?
+            read(alloc, files, dictionary, reading, source, writer)?
         }
         Request::Change(dictionary, asked) => {
-            change(alloc, files, dictionary, asked, input, errors)?
+            change(alloc, files, dictionary, asked, source, errors)?
         }
         Request::Diff(first, second) => diff(alloc, files, first, second, writer)?,
+        Request::Replace(asked) => {
+            replace(alloc, files, asked, source, writer, errors)?;
+            true
+        }
     };
     match writer.flush() {
         Ok(()) => Ok(found),
@@ -87,32 +115,32 @@ fn ask<'m, F: Files, W: Write>(
     query: Query<'m>,
     writer: &mut Watched<W>,
 ) -> Result<bool, Fault<'m>> {
-    let (reader, reduced) = open(alloc, files, dictionary.path)?;
-    if reduced {
+    let (reader, kind) = open(alloc, files, dictionary.path)?;
+    if kind == Kind::Reduced {
         let trie = load::<ReducedLayout, F::File>(alloc, dictionary, reader)?;
-        answer(alloc, &trie, dictionary, query, writer)
+        answer(alloc, &trie, dictionary, kind, query, writer)
     } else {
-        let trie = load::<DefaultLayout, F::File>(alloc, dictionary, reader)?;
-        answer(alloc, &trie, dictionary, query, writer)
+        let trie = load_default(alloc, dictionary, reader, kind)?;
+        answer(alloc, &trie, dictionary, kind, query, writer)
     }
 }
 
 /// Reads a text by a dictionary's file.
-fn read<'m, F: Files, R: Read + Drop, W: Write>(
+fn read<'m, F: Files, R: Read + Drop, M: Meter + Drop, W: Write>(
     alloc: Global,
     files: &F,
     dictionary: Dictionary<'m>,
     reading: Reading<'m>,
-    input: R,
+    source: Source<R, M>,
     writer: &mut Watched<W>,
 ) -> Result<bool, Fault<'m>> {
-    let (reader, reduced) = open(alloc, files, dictionary.path)?;
-    let mut text = crate::input::open(alloc, files, reading.text, input)?;
-    if reduced {
+    let (reader, kind) = open(alloc, files, dictionary.path)?;
+    let mut text = crate::input::open(alloc, files, reading.text, source)?;
+    if kind == Kind::Reduced {
         let trie = load::<ReducedLayout, F::File>(alloc, dictionary, reader)?;
         read_text(alloc, &trie, reading, &mut text, writer)
     } else {
-        let trie = load::<DefaultLayout, F::File>(alloc, dictionary, reader)?;
+        let trie = load_default(alloc, dictionary, reader, kind)?;
         read_text(alloc, &trie, reading, &mut text, writer)
     }
 }

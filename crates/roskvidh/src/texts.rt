@@ -7,7 +7,8 @@ use cedarwood::{Layout, Trie, Watched};
 use std::alloc::Global;
 use std::io::{BufRead, Write};
 use word_lists::{
-    ListError, read_word, write_cheapest_cut, write_cut, write_keywords, write_matches,
+    ListError, read_word, write_cheapest_cut, write_cut, write_keywords, write_marked,
+    write_matches,
 };
 
 /// Reads a text, and writes it cut, or the words that stand in it. False where there was none to find.
@@ -33,7 +34,7 @@ pub(crate) fn read_text<'m, L: Layout, R: BufRead, W: Write>(
 }
 
 /// Reads the next line, with its byte 10, in place of what the buffer held. False where there is none.
-fn next_line<'m, R: BufRead>(
+pub(crate) fn next_line<'m, R: BufRead>(
     text: &mut R,
     path: Option<&'m str>,
     line: &mut Vec<u8>,
@@ -60,6 +61,7 @@ fn answer_line<L: Layout, W: Write>(
         Task::CutCheapest(unknown, _) => {
             write_cheapest_cut(alloc, writer, trie, line, unknown, sign)?
         }
+        Task::ScanMarked => return write_marked(writer, trie, line),
         Task::Scan => return write_matches(writer, trie, line, number),
         Task::ScanLongest => return write_keywords(writer, trie, line, number),
     }
@@ -70,7 +72,7 @@ fn answer_line<L: Layout, W: Write>(
 fn is_cut(task: Task<'_>) -> bool {
     match task {
         Task::Cut(_) | Task::CutCheapest(_, _) => true,
-        Task::Scan | Task::ScanLongest => false,
+        Task::Scan | Task::ScanLongest | Task::ScanMarked => false,
     }
 }
 
@@ -78,6 +80,6 @@ fn is_cut(task: Task<'_>) -> bool {
 fn sign_of<'m>(task: Task<'m>) -> &'m str {
     match task {
         Task::Cut(sign) | Task::CutCheapest(_, sign) => sign,
-        Task::Scan | Task::ScanLongest => "",
+        Task::Scan | Task::ScanLongest | Task::ScanMarked => "",
     }
 }

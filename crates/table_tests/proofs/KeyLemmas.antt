@@ -4,7 +4,7 @@ use Rattle.std.proofs.lemmas.Bool.{eqb-false, ltb-false}
 use Rattle.std.specs.List.{position_or_len}
 use Rattle.cedar_tree.specs.Tree.{IsPath, IsKey}
 use Rattle.cedar_tree.proofs.GeneralLemmas.{position-None}
-use Rattle.cedar_tree.proofs.KeyLemmas.{path_without_nul}
+use Rattle.cedar_tree.proofs.EntryLemmas.Keys.{path_without_nul}
 
 true_or_false : true ≡ false → ⊥
 true_or_false h = cc

@@ -1,9 +1,7 @@
 //! Tables that stand for a tree, and tables that don't.
 
-ghost use Rattle.std.specs.Prelude.{◌≡◌, ◌<◌, IfOk};
-ghost use Rattle.cedar_slots.specs.Places.{IsTable};
-ghost use Rattle.cedar_table.specs.Table.Views.{fields};
-ghost use Rattle.cedar_model.specs.Meaning.WellFormed.{IsWellFormed};
+ghost use Rattle.std.specs.Prelude.{◌<◌, ◌≡◌, IfOk};
+ghost use Rattle.table_tests.specs.Words.{fields, IsTable, IsWellFormed};
 
 use crate::keys::{erases, put};
 use crate::steps::takes;

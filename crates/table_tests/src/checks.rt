@@ -1,11 +1,7 @@
 //! Records that nobody has vouched for: those of tables, and the same with one field changed.
 
-ghost use Rattle.std.specs.Prelude.{◌≡◌, ◌<◌, IsTrue};
-ghost use Rattle.cedar_slots.specs.Places.{IsTable};
-ghost use Rattle.cedar_model.specs.Table.Layouts.{default_layout};
-ghost use Rattle.cedar_table.specs.Table.Parts.{parts_fields};
-ghost use Rattle.cedar_table.specs.Table.Views.{fields};
-ghost use Rattle.table_tests.specs.Fitting.{IsFitting};
+ghost use Rattle.std.specs.Prelude.{◌<◌, ◌≡◌, IsTrue};
+ghost use Rattle.table_tests.specs.Words.{default_layout, IsFitting, parts_fields};
 
 use crate::steps::{gives, take_some, takes};
 use cedar_file::check_places;

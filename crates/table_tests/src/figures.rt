@@ -1,8 +1,7 @@
 //! The table's fields, as the original crate has them.
 
-ghost use Rattle.std.specs.Prelude.{◌≡◌, ◌<◌, ◌≤◌, length};
-ghost use Rattle.cedar_slots.specs.Places.{IsTable};
-ghost use Rattle.cedar_table.specs.Table.Views.{fields};
+ghost use Rattle.std.specs.Prelude.{◌<◌, ◌≡◌, ◌≤◌, length};
+ghost use Rattle.table_tests.specs.Words.{fields, IsTable};
 
 use crate::steps::{block, gives, heads, node, take, take_one, take_some, takes};
 use cedar_table::{DefaultLayout, Table, Ticks};

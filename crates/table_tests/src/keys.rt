@@ -1,9 +1,7 @@
 //! Keys put and erased, where a test of the bytes allows it.
 
-ghost use Rattle.std.specs.Prelude.{◌≡◌, ◌==◌, IsTrue, position};
-ghost use Rattle.cedar_tree.specs.Tree.{IsKey};
-ghost use Rattle.cedar_table.specs.Table.Views.{fields};
-ghost use Rattle.cedar_model.specs.Meaning.WellFormed.{IsWellFormed};
+ghost use Rattle.std.specs.Prelude.{◌==◌, ◌≡◌, IsTrue, position};
+ghost use Rattle.table_tests.specs.Words.{fields, IsKey, IsWellFormed};
 
 use cedar_edit::{erase, update};
 use cedar_table::{DefaultLayout, Shortage, Table};

@@ -1,8 +1,7 @@
 //! A long run of changes beside a plain set of held slots.
 
-ghost use Rattle.std.specs.Prelude.{◌≡◌, ◌<◌};
-ghost use Rattle.cedar_slots.specs.Places.{IsTable};
-ghost use Rattle.cedar_table.specs.Table.Views.{fields};
+ghost use Rattle.std.specs.Prelude.{◌<◌, ◌≡◌};
+ghost use Rattle.table_tests.specs.Words.{fields, IsTable};
 
 use crate::steps::{give, take};
 use cedar_table::{DefaultLayout, Shortage, Table, Ticks};

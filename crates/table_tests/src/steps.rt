@@ -1,8 +1,6 @@
 //! Slots taken and given back, where a test of the table allows it.
 
-ghost use Rattle.std.specs.Prelude.{◌≡◌};
-ghost use Rattle.cedar_slots.specs.Places.{IsTable};
-ghost use Rattle.cedar_table.specs.Table.Views.{fields};
+ghost use Rattle.table_tests.specs.Words.{fields, IsTable};
 
 use cedar_table::{DefaultLayout, Shortage, Table, Ticks};
 use std::alloc::{AllocError, Allocator, Global};

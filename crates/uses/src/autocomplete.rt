@@ -1,7 +1,7 @@
 //! What a typed text may become.
 
 ghost use Rattle.std.specs.Prelude.{◌≡◌, IfOk, map, take};
-ghost use Rattle.cedarwood.specs.Ranges.{entries_with};
+ghost use Rattle.uses.specs.Words.{entries_with};
 
 use cedarwood::{CedarError, Layout, Trie};
 use std::alloc::{AllocError, Allocator, Global};

@@ -1,8 +1,7 @@
 //! What a caller has to say more, over any allocator and any limit of slots.
 
-ghost use Rattle.std.specs.Prelude.{◌≡◌, ◌≤◌, IsTrue, OnOk, ◌↔◌, IsSome, pos};
-ghost use Rattle.cedarwood.specs.Words.{IsSlotLimit, number_at, stored};
-ghost use Rattle.cedarwood.specs.Memory.{CedarFitsInMemory};
+ghost use Rattle.std.specs.Prelude.{◌↔◌, ◌≡◌, ◌≤◌, IsSome, IsTrue, OnOk, pos};
+ghost use Rattle.uses.specs.Words.{CedarFitsInMemory, IsSlotLimit, number_at, stored};
 
 use cedarwood::{Cedar, CedarBuilder, CedarError, DefaultLayout, Layout, Trie};
 use std::alloc::Allocator;

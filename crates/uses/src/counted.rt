@@ -1,7 +1,7 @@
 //! A search whose comparisons are counted.
 
 ghost use Rattle.std.specs.Prelude.{◌≡◌};
-ghost use Rattle.cedarwood.specs.Words.{IsBlankOf, exact};
+ghost use Rattle.uses.specs.Words.{exact, IsBlankOf};
 
 use cedarwood::{Cedar, Ticks};
 use std::alloc::Global;

@@ -1,8 +1,7 @@
 //! How often each word comes.
 
-ghost use Rattle.std.specs.Prelude.{◌≡◌, ℕ, List, IfOk, OnOk, option_map};
-ghost use Rattle.cedarwood.specs.Words.{number_at, stored};
-ghost use Rattle.uses.specs.Counts.{count_of, one_more};
+ghost use Rattle.std.specs.Prelude.{◌≡◌, IfOk, List, OnOk, option_map, ℕ};
+ghost use Rattle.uses.specs.Words.{count_of, number_at, one_more, stored};
 
 use cedarwood::{Cedar, CedarError, Layout, MAX_VALUE, Trie};
 use std::alloc::{Allocator, Global};

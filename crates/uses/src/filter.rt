@@ -1,8 +1,7 @@
 //! The keywords of a text.
 
-ghost use Rattle.std.specs.Prelude.{◌≡◌, ◌↔◌, IfOk, IsTrue};
-ghost use Rattle.cedar_words.specs.Words.{keywords_in};
-ghost use Rattle.uses.specs.Keywords.{HasKeyword};
+ghost use Rattle.std.specs.Prelude.{◌↔◌, ◌≡◌, IfOk, IsTrue};
+ghost use Rattle.uses.specs.Words.{HasKeyword, keywords_in};
 
 use cedar_words::leftmost_longest;
 use cedarwood::{Cedar, Layout, Trie};

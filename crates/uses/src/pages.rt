@@ -1,7 +1,7 @@
 //! A dictionary shown page by page, in ascending order.
 
-ghost use Rattle.std.specs.Prelude.{◌≡◌, ◌++◌, ◌∷◌, [], false, IfOk, List, map, MatchOption, take, ℕ};
-ghost use Rattle.cedarwood.specs.Ranges.{entries_since};
+ghost use Rattle.std.specs.Prelude.{◌++◌, ◌∷◌, ◌≡◌, [], false, IfOk, map, MatchOption, take};
+ghost use Rattle.uses.specs.Words.{entries_since};
 
 use cedarwood::{CedarError, Layout, Trie};
 use std::alloc::{AllocError, Allocator, Global};

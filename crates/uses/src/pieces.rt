@@ -1,7 +1,7 @@
 //! The bytes of a text's tokens.
 
 ghost use Rattle.std.specs.Prelude.{◌≡◌, IfOk, length};
-ghost use Rattle.cedar_words.specs.Words.{segments};
+ghost use Rattle.uses.specs.Words.{segments};
 
 use cedar_words::segment;
 use cedarwood::{Layout, Trie};

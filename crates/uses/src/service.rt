@@ -1,7 +1,7 @@
 //! A dictionary that a service answers from.
 
-ghost use Rattle.std.specs.Prelude.{◌≡◌, OnOk, OnErr};
-ghost use Rattle.cedarwood.specs.Words.{all_stored, entries_of};
+ghost use Rattle.std.specs.Prelude.{◌≡◌, OnErr, OnOk};
+ghost use Rattle.uses.specs.Words.{all_stored, entries_of};
 
 use cedarwood::{CedarError, Layout, Trie};
 use std::alloc::Allocator;

@@ -1,9 +1,7 @@
 //! Texts cut into words by a dictionary that was saved.
 
-ghost use Rattle.std.specs.Prelude.{◌≡◌, ◌<◌, ◌^◌, ℕ, IfOk, length};
-ghost use Rattle.std.specs.Io.KnownBytes.{Consumes};
-ghost use Rattle.cedarwood.specs.Words.{IsVersion, device_of, table_bytes};
-ghost use Rattle.cedar_words.specs.Words.{IsCheapest, segments};
+ghost use Rattle.std.specs.Prelude.{◌<◌, ◌^◌, ◌≡◌, IfOk, length, ℕ};
+ghost use Rattle.uses.specs.Words.{Consumes, device_of, IsCheapest, IsVersion, segments, table_bytes};
 
 use cedar_words::{cheapest, segment};
 use cedarwood::{Cedar, CedarPersistenceError, Watched};

@@ -1,4 +1,11 @@
+pub mod Answered
 pub mod Bytes
+pub mod Figures
+pub mod ListedLines
 pub mod NextEntries
+pub mod OneLine
+pub mod PlainLines
+pub mod Refusals
+pub mod SignedLines
 pub mod Texts
 pub mod WordLines

@@ -2,27 +2,28 @@
 use Rattle.std.proofs.Math.Seq.{take-suc}
 use Rattle.std.proofs.lemmas.Bool.{lt-ltb}
 use Rattle.std.proofs.lemmas.List.{drop-take, length-take, take-take}
-use Rattle.std.proofs.Common.{◌≡◌, ◌<◌, ◌≤◌, ◌+◌, ◌-◌, suc, ℕ, List, [], ◌∷◌, ◌++◌, Bool, true, false, ap₂, get_or, take-append-drop, Option, refl, sym, ap, subst, ◌∙◌, append_assoc, append-nil, length, length-append, take, drop, arith, if◌then◌else◌}
+use Rattle.std.proofs.Common.{◌≡◌, ◌<◌, ◌≤◌, ◌+◌, ◌-◌, suc, ℕ, List, [], ◌∷◌, ◌++◌, Bool, true, false, ap₂, get_or, take-append-drop, Option, refl, sym, ap, subst, ◌∙◌, append_assoc, append-nil, length, length-append, take, drop, arith, if◌then◌else◌, cond, ◌^◌}
 use Rattle.std.specs.Prelude.{ltb}
 use Rattle.std.specs.Io.KnownBytes.{Appends}
-use Rattle.cedar_words.specs.Words.{Spot, Token}
+use Rattle.cedar_tree.specs.Tree.{Tree}
+use Rattle.cedar_words.specs.Words.{IsCheapestBy, IsCut, IsLeastCapped, Spot, Token, character_price, keywords_in, segments}
 use Rattle.word_lists.specs.Devices.{WritesFront}
-use Rattle.word_lists.specs.Texts.{characters, characters_begun, cut_text, goes_on, spot_line, spot_lines, token_text}
+use Rattle.word_lists.specs.Texts.{IsCheapestCut, body_of, ending_of, marked_line, marked_token, characters, characters_begun, goes_on, spot_line, spot_lines, texts_of}
 use Rattle.word_lists.proofs.Bytes.{front_after, front_more}
 
-cut-append : (sign text : List ℕ) (a b : List Token) → cut_text sign text (a ++ b) ≡ cut_text sign text a ++ cut_text sign text b
-cut-append sign text [] b = refl
-cut-append sign text (t ∷ a) b = ap (λ l. token_text sign text t ++ l) (cut-append sign text a b) ∙ sym (append_assoc (token_text sign text t) (cut_text sign text a) (cut_text sign text b))
+texts-append : (text_of : Token → List ℕ) (a b : List Token) → texts_of text_of (a ++ b) ≡ texts_of text_of a ++ texts_of text_of b
+texts-append text_of [] b = refl
+texts-append text_of (t ∷ a) b = ap (λ l. text_of t ++ l) (texts-append text_of a b) ∙ sym (append_assoc (text_of t) (texts_of text_of a) (texts_of text_of b))
 
-pub cut_push : (sign text : List ℕ) (a : List Token) (t : Token) → cut_text sign text (a ++ t ∷ []) ≡ cut_text sign text a ++ token_text sign text t
-cut_push sign text a t = cut-append sign text a (t ∷ []) ∙ ap (λ l. cut_text sign text a ++ l) (append-nil (token_text sign text t))
+pub texts_push : (text_of : Token → List ℕ) (a : List Token) (t : Token) → texts_of text_of (a ++ t ∷ []) ≡ texts_of text_of a ++ text_of t
+texts_push text_of a t = texts-append text_of a (t ∷ []) ∙ ap (λ l. texts_of text_of a ++ l) (append-nil (text_of t))
 
 -- some tokens were written, and a front of the next one
-pub cut_stopped : (sign text : List ℕ) (a b d : Option (List ℕ)) (tokens came later : List Token) (t : Token) → tokens ≡ came ++ t ∷ later
-    → Appends a b (cut_text sign text came) → WritesFront b d (token_text sign text t) → WritesFront a d (cut_text sign text tokens)
-cut_stopped sign text a b d tokens came later t whole written front =
-    subst (WritesFront a d) (sym (ap (cut_text sign text) whole ∙ cut-append sign text came (t ∷ later)))
-    (front_after a b d (cut_text sign text came) (token_text sign text t ++ cut_text sign text later) written (front_more b d (token_text sign text t) (cut_text sign text later) front))
+pub texts_stopped : (text_of : Token → List ℕ) (a b d : Option (List ℕ)) (tokens came later : List Token) (t : Token) → tokens ≡ came ++ t ∷ later
+    → Appends a b (texts_of text_of came) → WritesFront b d (text_of t) → WritesFront a d (texts_of text_of tokens)
+texts_stopped text_of a b d tokens came later t whole written front =
+    subst (WritesFront a d) (sym (ap (texts_of text_of) whole ∙ texts-append text_of came (t ∷ later)))
+    (front_after a b d (texts_of text_of came) (text_of t ++ texts_of text_of later) written (front_more b d (text_of t) (texts_of text_of later) front))
 
 spots-append : (number : ℕ) (text : List ℕ) (a b : List Spot) → spot_lines number text (a ++ b) ≡ spot_lines number text a ++ spot_lines number text b
 spots-append number text [] b = refl
@@ -83,3 +84,19 @@ characters_between text n m le = sym (ap characters (take_in_parts n m text le) 
 -- one more is some
 pub some_more : {T : Type 0} (came : List T) (t : T) → true ≡ ltb 0 (length (came ++ t ∷ []))
 some_more came t = sym (lt-ltb 0 (length (came ++ t ∷ [])) (let len = length-append came (t ∷ []) in omega (arith, len)))
+
+-- a line with marks: nothing where it has no keyword
+pub marked_none : (tree : Tree) (line : List ℕ) → ltb 0 (length (keywords_in tree (body_of line))) ≡ false → [] ≡ marked_line tree line
+marked_none tree line h = ap (λ t. cond t (texts_of (marked_token (body_of line)) (segments tree (body_of line)) ++ ending_of line) []) (sym h)
+
+-- and all of its tokens where it has one
+pub marked_some : (tree : Tree) (line : List ℕ) → ltb 0 (length (keywords_in tree (body_of line))) ≡ true
+    → texts_of (marked_token (body_of line)) (segments tree (body_of line)) ++ ending_of line ≡ marked_line tree line
+marked_some tree line h = ap (λ t. cond t (texts_of (marked_token (body_of line)) (segments tree (body_of line)) ++ ending_of line) []) (sym h)
+
+-- a cheapest cut of a line's body, however this was found
+pub is_cheapest : (tree : Tree) (unknown : ℕ) (text body : List ℕ) (tokens : List Token) → body ≡ text → IsCut tree body tokens
+    → (length body < 2 ^ 32 → IsCheapestBy tree (character_price unknown body) body tokens) → IsLeastCapped tree (character_price unknown body) body tokens
+    → IsCheapestCut tree unknown text tokens
+is_cheapest tree unknown text body tokens is cut least capped =
+    subst (λ t. IsCheapestCut tree unknown t tokens) is (record { cut = cut; least = least; capped = capped })

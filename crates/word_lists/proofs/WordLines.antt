@@ -1,10 +1,11 @@
 -- The bytes of a word and the lines of entries in parts.
-use Rattle.std.proofs.Common.{◌≡◌, ◌<◌, suc, ℕ, List, [], ◌∷◌, ◌++◌, Bool, Option, refl, sym, ap, subst, ◌∙◌, append_assoc, append-nil, length, take, drop, get_or, ◌-◌, length-drop, arith, length-append}
+use Rattle.std.proofs.Common.{◌≡◌, ◌<◌, suc, ℕ, List, [], ◌∷◌, ◌++◌, Bool, true, cond, Option, refl, sym, ap, subst, ◌∙◌, append_assoc, append-nil, length, take, drop, get_or, ◌-◌, length-drop, arith, length-append}
 use Rattle.std.proofs.lemmas.List.{take_all}
 use Rattle.std.specs.Io.KnownBytes.{Appends}
 use Rattle.cedar_tree.specs.Queries.{Entry}
 use Rattle.word_lists.specs.Devices.{WritesFront}
-use Rattle.word_lists.specs.Lines.{byte_text, entry_line, entry_lines, escaped, word_text}
+use Rattle.hex.specs.Hex.{encode_lower}
+use Rattle.word_lists.specs.Lines.{byte_text, entry_line, entry_lines, escaped, is_plain, word_text}
 use Rattle.std.specs.Fmt.{signed_decimal}
 use Rattle.word_lists.proofs.Bytes.{Appends-append, front_after, front_more}
 
@@ -65,3 +66,20 @@ lines_begun a b entries came (e ∷ later) whole some written = (
   ap entry_lines whole ∙ entry_lines-append came (e ∷ later),
   written,
 )
+
+-- some bytes stand as they are, and so does the next one
+pub plain_more : (t : Bool) (bytes done rest : List ℕ) (x : ℕ) → bytes ≡ done ++ rest → rest ≡ x ∷ drop 1 rest → escaped t done ≡ done → is_plain t x ≡ true
+    → (y : List ℕ) × (bytes ≡ y ++ take (length rest - 1) (drop 1 rest)) × (escaped t y ≡ y)
+plain_more t bytes done rest x e first same plain = (
+  done ++ x ∷ [],
+  e ∙ ap (λ l. done ++ l) first ∙ sym (append_assoc done (x ∷ []) (drop 1 rest)) ∙ ap (λ l. (done ++ x ∷ []) ++ l) (sym whole),
+  escaped-append t done (x ∷ []) ∙ ap (λ l. l ++ escaped t (x ∷ [])) same ∙ ap (λ l. done ++ l) (append-nil (byte_text t x) ∙ ap (λ p. cond p (x ∷ []) (92 ∷ (120 ∷ encode_lower (x ∷ [])))) plain),
+) where
+  whole : take (length rest - 1) (drop 1 rest) ≡ drop 1 rest
+  whole = take_all (length rest - 1) (drop 1 rest) (omega (arith, length-drop 1 rest))
+
+-- all of them do
+pub plain_all : (t : Bool) (bytes done rest : List ℕ) → bytes ≡ done ++ rest → rest ≡ [] → escaped t done ≡ done → escaped t bytes ≡ bytes
+plain_all t bytes done rest e none same =
+    let whole : bytes ≡ done = e ∙ ap (λ l. done ++ l) none ∙ append-nil done in
+    ap (escaped t) whole ∙ same ∙ sym whole

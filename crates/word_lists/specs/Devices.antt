@@ -28,3 +28,11 @@ pub record LineFault {X : Type 0} (before after : Bool) (result : Result X ListE
   pub unfailed : OnOk result (after ≡ before)
   pub cause : result ≡ Err Write → after ≡ true
   pub starved : result ≡ Err Memory → after ≡ before
+
+-- of some bytes a front was written, or all
+abbrev pub WritesFrontOrAll : Option (List ℕ) → Option (List ℕ) → List ℕ → Type 0
+WritesFrontOrAll held holds bytes = (part : List ℕ) × (rest : List ℕ) × (bytes ≡ part ++ rest) × Appends held holds part
+
+-- a writer took a first part of these bytes, or all
+abbrev pub WritesUpTo : {D : Type 0} → (D → Option (List ℕ)) → Watched D → Watched D → List ℕ → Type 0
+WritesUpTo contents before after bytes = WritesFrontOrAll (contents (device_of before)) (contents (device_of after)) bytes

@@ -1,9 +1,11 @@
 -- The lines of words and their numbers.
-use Rattle.std.specs.Prelude.{ℕ, ℤ, ltb, Bool, ◌==◌, ◌&&◌, ◌||◌, not, if◌then◌else◌, List, [], ◌∷◌, ◌++◌, Option, Some, None}
+use Rattle.std.specs.Prelude.{ℕ, ℤ, ltb, Bool, false, ◌==◌, ◌&&◌, ◌||◌, not, if◌then◌else◌, List, [], ◌∷◌, ◌++◌, Option, Some, None}
+use Rattle.std.specs.Ordering.{int_eq}
 use Rattle.std.specs.Str.{is_utf8}
 use Rattle.std.specs.Fmt.{signed_decimal}
 use Rattle.hex.specs.Hex.{encode_lower}
 use Rattle.cedar_tree.specs.Queries.{Entry}
+use Rattle.cedar_tree.specs.Tree.{Tree, number_at}
 
 -- whether a byte of a word stands as it is: no tab, no byte 10, no backslash, and below 128 where the word isn't UTF-8
 abbrev pub is_plain : Bool → ℕ → Bool
@@ -35,3 +37,25 @@ entry_lines (entry ∷ entries) = entry_line entry ++ entry_lines entries
 abbrev pub found_line : List ℕ → Option ℤ → List ℕ
 found_line word None = []
 found_line word (Some number) = entry_line (word, number)
+
+-- an entry's line behind a sign
+abbrev pub signed_line : List ℕ → Entry → List ℕ
+signed_line sign entry = sign ++ entry_line entry
+
+-- the lines of some entries, each behind a sign
+abbrev pub signed_lines : List ℕ → List Entry → List ℕ
+signed_lines sign [] = []
+signed_lines sign (entry ∷ entries) = signed_line sign entry ++ signed_lines sign entries
+
+abbrev pub is_number : Option ℤ → ℤ → Bool
+is_number None v = false
+is_number (Some held) v = int_eq held v
+
+-- whether a tree holds a key with this number
+abbrev pub holds_entry : Tree → Entry → Bool
+holds_entry tree entry = is_number (number_at tree entry.0) entry.1
+
+-- the entries that a tree doesn't hold with the same number
+abbrev pub lacking : Tree → List Entry → List Entry
+lacking tree [] = []
+lacking tree (entry ∷ entries) = if holds_entry tree entry then lacking tree entries else entry ∷ lacking tree entries

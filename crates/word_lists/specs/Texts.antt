@@ -1,8 +1,11 @@
 -- Texts by the words of a dictionary: the words that one begins with, the words that stand in it, and its cuts.
-use Rattle.std.specs.Prelude.{ℕ, ℤ, ◌+◌, ◌-◌, ltb, nat_le, Bool, ◌==◌, ◌&&◌, ◌||◌, not, if◌then◌else◌, List, [], ◌∷◌, ◌++◌, map, length, take, drop, get_or, is_some, decimal}
+use Rattle.std.specs.Prelude.{ℕ, ℤ, ◌+◌, ◌-◌, ◌^◌, ◌<◌, ltb, nat_le, Bool, ◌==◌, ◌&&◌, ◌||◌, not, if◌then◌else◌, Option, Some, None, List, [], ◌∷◌, ◌++◌, map, length, take, drop, get_or, is_some, decimal, codes, int_le, pos, unsigned_abs}
 use Rattle.cedar_tree.specs.Queries.{Entry, front}
 use Rattle.cedar_tree.specs.Tree.{Tree}
-use Rattle.cedar_words.specs.Words.{Spot, Token}
+use Rattle.cedar_words.specs.Words.{IsCheapestBy, IsCut, IsLeastCapped, Spot, Token, character_price, keywords_in, segments}
+use Rattle.std.specs.Borrow.{Bor}
+use Rattle.word_lists.specs.declared.cut.Style.{Style}
+use Rattle.word_lists.specs.declared.cut.Style.TheVariants.{Parted, Marked, Replaced}
 use Rattle.word_lists.specs.Lines.{entry_line}
 
 -- a word that a text begins with, by its number and one less than its bytes
@@ -59,10 +62,87 @@ parting sign text t = if is_parted text t then sign else []
 abbrev pub token_text : List ℕ → List ℕ → Token → List ℕ
 token_text sign text t = parting sign text t ++ part_of text t.0 t.1
 
+-- the texts of some tokens, one behind another
+abbrev pub texts_of : (Token → List ℕ) → List Token → List ℕ
+texts_of text_of [] = []
+texts_of text_of (t ∷ tokens) = text_of t ++ texts_of text_of tokens
+
 -- the tokens of a text with a sign between them
 abbrev pub cut_text : List ℕ → List ℕ → List Token → List ℕ
-cut_text sign text [] = []
-cut_text sign text (t ∷ tokens) = token_text sign text t ++ cut_text sign text tokens
+cut_text sign text tokens = texts_of (token_text sign text) tokens
+
+-- a line cut into these tokens, with a sign between them and the bytes that end it behind them
+abbrev pub line_cut : List ℕ → List ℕ → List Token → List ℕ
+line_cut sign line tokens = cut_text sign (body_of line) tokens ++ ending_of line
+
+-- a line cut at each place into the longest key that begins there, or else one byte
+abbrev pub greedy_line : Tree → List ℕ → List ℕ → List ℕ
+greedy_line tree sign line = line_cut sign line (segments tree (body_of line))
+
+-- what begins the colour of a match on a terminal, as grep writes it, and what ends it
+abbrev pub mark_on : List ℕ
+mark_on = 27 ∷ (codes "[01;31m" ++ (27 ∷ codes "[K"))
+
+abbrev pub mark_off : List ℕ
+mark_off = 27 ∷ (codes "[m" ++ (27 ∷ codes "[K"))
+
+-- a word in that colour
+abbrev pub mark_text : List ℕ → List ℕ
+mark_text word = mark_on ++ (word ++ mark_off)
+
+-- a token of a text; a key in the colour of a match
+abbrev pub marked_token : List ℕ → Token → List ℕ
+marked_token text t = if is_some t.2 then mark_text (part_of text t.0 t.1) else part_of text t.0 t.1
+
+-- a line with each of its keywords in that colour; nothing where it has none
+abbrev pub marked_line : Tree → List ℕ → List ℕ
+marked_line tree line =
+    if ltb 0 (length (keywords_in tree (body_of line))) then texts_of (marked_token (body_of line)) (segments tree (body_of line)) ++ ending_of line else []
+
+-- the line at a place of a list, or else the word itself
+abbrev pub line_at : List (Bor (List ℕ)) → ℕ → List ℕ → List ℕ
+line_at lines place own = get_or (map (λ line. line.now) lines) place own
+
+-- the line of a number, counted from 1, or else the word itself
+abbrev pub replacement : List (Bor (List ℕ)) → ℤ → List ℕ → List ℕ
+replacement lines number own = if int_le (pos 1) number then line_at lines (unsigned_abs number - 1) own else own
+
+abbrev pub replaced_by : List (Bor (List ℕ)) → Option ℤ → List ℕ → List ℕ
+replaced_by lines None own = own
+replaced_by lines (Some number) own = replacement lines number own
+
+-- a token of a text; a key as the line of its number, if there is one
+abbrev pub replaced_token : List (Bor (List ℕ)) → List ℕ → Token → List ℕ
+replaced_token lines text t = replaced_by lines t.2 (part_of text t.0 t.1)
+
+-- the tokens of a text, each key as the line of its number
+abbrev pub replaced_text : List (Bor (List ℕ)) → List ℕ → List Token → List ℕ
+replaced_text lines text tokens = texts_of (replaced_token lines text) tokens
+
+-- a line with each of its keywords as the line of its number, and the bytes that end it
+abbrev pub replaced_line : Tree → List (Bor (List ℕ)) → List ℕ → List ℕ
+replaced_line tree lines line = replaced_text lines (body_of line) (segments tree (body_of line)) ++ ending_of line
+
+-- a token in a style
+abbrev pub style_text : Style → List ℕ → Token → List ℕ
+style_text (Parted sign) text t = token_text sign.now text t
+style_text Marked text t = marked_token text t
+style_text (Replaced lines) text t = replaced_token lines.now text t
+
+-- the tokens of a text in a style
+abbrev pub styled_text : Style → List ℕ → List Token → List ℕ
+styled_text style text tokens = texts_of (style_text style text) tokens
+
+-- a cut of a text that costs the least, where a key costs its number and a character that no key has this much. Of a text of fewer than 2^32
+-- bytes it is the only one that is ahead of all that cost as little; sums above 2^64 - 1 count as 2^64 - 1
+pub record IsCheapestCut (tree : Tree) (unknown : ℕ) (text : List ℕ) (tokens : List Token) : Type 0 where
+  pub cut : IsCut tree text tokens
+  pub least : length text < 2 ^ 32 → IsCheapestBy tree (character_price unknown text) text tokens
+  pub capped : IsLeastCapped tree (character_price unknown text) text tokens
+
+-- something is so of a line that is cut into the tokens of a cheapest cut, with a sign between them
+abbrev pub OnCheapestLine : Tree → ℕ → List ℕ → List ℕ → (List ℕ → Type 0) → Type 0
+OnCheapestLine tree unknown sign line P = (tokens : List Token) × IsCheapestCut tree unknown (body_of line) tokens × P (line_cut sign line tokens)
 
 -- a number and a tab
 abbrev pub field : ℕ → List ℕ

@@ -1,10 +1,10 @@
 //! A text cut into tokens, with a sign between them.
 
-ghost use Rattle.std.specs.Prelude.{◌≡◌, ◌++◌, OnErr, OnOk, get_or};
-ghost use Rattle.word_lists.specs.Words.{BreaksOff, Writes, WritesOrFails, body_of, cut_text, ending_of, has_failed, is_parted, parting, token_text};
-ghost use Rattle.cedar_words.specs.Words.{segments};
+ghost use Rattle.std.specs.Prelude.{◌++◌, ◌∷◌, ◌≡◌, [], Err, get_or, List, MatchOption, OnErr, OnOk};
+ghost use Rattle.word_lists.specs.Words.{body_of, BreaksOff, ending_of, greedy_line, has_failed, is_parted, LineFault, OnCheapestLine, parting, style_text, styled_text, Token, token_text, Writes, WritesOrFails};
 
-use crate::parts::{body, ending, goes_on, part};
+use crate::marked::{write_marked_token, write_replaced_token};
+use crate::parts::{body, byte_at, ending, goes_on, part};
 use crate::write::{ListError, write_whole};
 use cedar_words::{LongestPrefix, Segments, cheapest_by_characters, segment};
 use cedarwood::{Layout, Trie, Watched};
@@ -31,22 +31,48 @@ pub fn write_cut<L: Layout, const SLOTS: usize, A: Allocator + Copy, W: Write>(
     sign: &[u8],
 ) -> Result<(), ListError>
     //= A cut that is `Ok` wrote the tokens of the line, with a sign between them, and the bytes that end it.
-    ensures ok { OnOk result (Writes W.contents writer.old writer.new (cut_text sign.now (body_of line.now) (segments trie.now.state.tree (body_of line.now)) ++ ending_of line.now)) }
+    ensures ok { OnOk result (Writes W.contents writer.old writer.new (greedy_line trie.now.state.tree sign.now line.now)) }
 
     //= One that fails wrote a beginning of that, and not all; a call of the writer failed. [with faults]
-    ensures err { OnErr result (BreaksOff W.contents writer.old writer.new (cut_text sign.now (body_of line.now) (segments trie.now.state.tree (body_of line.now)) ++ ending_of line.now)) }
+    ensures err { OnErr result (BreaksOff W.contents writer.old writer.new (greedy_line trie.now.state.tree sign.now line.now)) }
     ensures faults { WritesOrFails (has_failed writer.old) (has_failed writer.new) result }
 {
-    let text = body(line);
-    write_tokens(writer, text, sign, &mut segment(trie, text))?;
+    write_line_tokens(
+        writer,
+        line,
+        Style::Parted(sign),
+        &mut segment(trie, body(line)),
+    )
+}
+
+/// How a token is written.
+#[derive(Clone, Copy)]
+pub(crate) enum Style<'a> {
+    /// As it is, with this sign before it.
+    Parted(&'a [u8]),
+    /// As it is; a key in the colour of a match.
+    Marked,
+    /// As it is; a key as the line of its number in this list, counted from 1, if there is one.
+    Replaced(&'a [&'a [u8]]),
+}
+
+/// Writes the tokens of a line, and the bytes that end the line.
+pub(crate) fn write_line_tokens<T: Tokens, W: Write>(
+    writer: &mut Watched<W>,
+    line: &[u8],
+    style: Style<'_>,
+    tokens: &mut T,
+) -> Result<(), ListError>
+    ensures ok { OnOk result (Writes W.contents writer.old writer.new (styled_text style.entry (body_of line.now) (T.left tokens.old) ++ ending_of line.now)) }
+    ensures err { OnErr result (BreaksOff W.contents writer.old writer.new (styled_text style.entry (body_of line.now) (T.left tokens.old) ++ ending_of line.now)) }
+    ensures faults { WritesOrFails (has_failed writer.old) (has_failed writer.new) result }
+{
+    write_tokens(writer, body(line), style, tokens)?;
     write_whole(writer, ending(line))
 }
 
 /// What finds tokens of a text, one after another.
-trait Tokens {
-    ghost use Rattle.std.specs.Prelude.{◌≡◌, List, [], ◌∷◌, MatchOption};
-    ghost use Rattle.cedar_words.specs.Words.{Token};
-
+pub(crate) trait Tokens {
     /// Those that are still to come.
     ghost left: { Self → List Token };
 
@@ -79,21 +105,39 @@ impl<'a> Tokens for Listed<'a> {
     }
 }
 
-/// Writes tokens of a text, with a sign between them.
+/// Writes tokens of a text.
 fn write_tokens<T: Tokens, W: Write>(
     writer: &mut Watched<W>,
     text: &[u8],
-    sign: &[u8],
+    style: Style<'_>,
     tokens: &mut T,
 ) -> Result<(), ListError>
-    ensures ok { OnOk result (Writes W.contents writer.old writer.new (cut_text sign.now text.now (T.left tokens.old))) }
-    ensures err { OnErr result (BreaksOff W.contents writer.old writer.new (cut_text sign.now text.now (T.left tokens.old))) }
+    ensures ok { OnOk result (Writes W.contents writer.old writer.new (styled_text style.entry text.now (T.left tokens.old))) }
+    ensures err { OnErr result (BreaksOff W.contents writer.old writer.new (styled_text style.entry text.now (T.left tokens.old))) }
     ensures faults { WritesOrFails (has_failed writer.old) (has_failed writer.new) result }
 {
     while let Some(token) = tokens.next_token() {
-        write_token(writer, text, sign, token)?;
+        write_token(writer, text, style, token)?;
     }
     Ok(())
+}
+
+/// Writes a token of a text.
+fn write_token<W: Write>(
+    writer: &mut Watched<W>,
+    text: &[u8],
+    style: Style<'_>,
+    token: (usize, usize, Option<i32>),
+) -> Result<(), ListError>
+    ensures ok { OnOk result (Writes W.contents writer.old writer.new (style_text style.entry text.now token)) }
+    ensures err { OnErr result (BreaksOff W.contents writer.old writer.new (style_text style.entry text.now token)) }
+    ensures faults { WritesOrFails (has_failed writer.old) (has_failed writer.new) result }
+{
+    match style {
+        Style::Parted(sign) => write_parted(writer, text, sign, token),
+        Style::Marked => write_marked_token(writer, text, token),
+        Style::Replaced(lines) => write_replaced_token(writer, text, lines, token),
+    }
 }
 
 /// Writes a line as [`write_cut`] does, by its cheapest cut: a key costs its number, and a character that no key has this much. It asks for
@@ -115,18 +159,27 @@ pub fn write_cheapest_cut<L: Layout, const SLOTS: usize, A: Allocator + Copy, W:
     line: &[u8],
     unknown: u32,
     sign: &[u8],
-) -> Result<(), ListError> {
-    let text = body(line);
-    let Ok(tokens) = cheapest_by_characters(alloc, trie, text, unknown) else {
+) -> Result<(), ListError>
+    //= A cut by cost that is `Ok` wrote the tokens of a cheapest cut of the line, with a sign between them, and the bytes that end it. Of a
+    //  line of fewer than 2^32 bytes there is only one such cut. [by IsCheapestCut]
+    ensures ok { OnOk result (OnCheapestLine trie.now.state.tree unknown sign.now line.now (Writes W.contents writer.old writer.new)) }
+
+    //= One that fails with `Write` wrote a beginning of that, and not all; with `Memory` it wrote nothing. [with memory]
+    ensures err { result ≡ Err ListError.Write → OnCheapestLine trie.now.state.tree unknown sign.now line.now (BreaksOff W.contents writer.old writer.new) }
+    ensures memory { result ≡ Err ListError.Memory → writer.new ≡ writer.old }
+
+    //= It fails with `Write` only where a call of the writer failed; with `Memory`, and where it is `Ok`, none did.
+    ensures faults { LineFault (has_failed writer.old) (has_failed writer.new) result }
+{
+    let Ok(tokens) = cheapest_by_characters(alloc, trie, body(line), unknown) else {
         return Err(ListError::Memory);
     };
     let mut listed = Listed { rest: &tokens };
-    write_tokens(writer, text, sign, &mut listed)?;
-    write_whole(writer, ending(line))
+    write_line_tokens(writer, line, Style::Parted(sign), &mut listed)
 }
 
 /// Writes a token of a text, and the sign before it, if there is one.
-fn write_token<W: Write>(
+fn write_parted<W: Write>(
     writer: &mut Watched<W>,
     text: &[u8],
     sign: &[u8],
@@ -157,11 +210,4 @@ fn is_parted(text: &[u8], token: (usize, usize, Option<i32>)) -> bool
 {
     let (start, _, value) = token;
     0 < start && (value.is_some() || !goes_on(byte_at(text, start)))
-}
-
-/// The byte at a place, or 0 behind the end.
-fn byte_at(text: &[u8], place: usize) -> u8
-    ensures { result ≡ get_or text.now place 0 }
-{
-    if place < text.len() { text[place] } else { 0 }
 }

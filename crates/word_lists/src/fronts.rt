@@ -1,7 +1,7 @@
 //! The words that a text begins with.
 
-ghost use Rattle.std.specs.Prelude.{◌≡◌, IfOk, OnErr, OnOk, length, ltb, map};
-ghost use Rattle.word_lists.specs.Words.{BreaksOff, Writes, WritesOrFails, entry_line, entry_lines, front_entry, fronts_of, has_failed};
+ghost use Rattle.std.specs.Prelude.{◌∷◌, ◌≡◌, [], IfOk, length, List, ltb, map, MatchOption, OnErr, OnOk, ℕ, ℤ};
+ghost use Rattle.word_lists.specs.Words.{BreaksOff, entry_line, entry_lines, front_entry, fronts_of, has_failed, Writes, WritesOrFails};
 
 use crate::parts::through;
 use crate::word::write_entry;
@@ -12,8 +12,6 @@ use std::io::Write;
 
 /// What finds the words that a text begins with, one after another.
 trait NextFront {
-    ghost use Rattle.std.specs.Prelude.{◌≡◌, ℕ, ℤ, List, [], ◌∷◌, MatchOption};
-
     /// Those that are still to come, each by its number and one less than its bytes.
     ghost left: { Self → List (ℤ × ℕ) };
 

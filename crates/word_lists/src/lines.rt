@@ -1,12 +1,15 @@
 //! The lines of a word list, stored in a dictionary.
 
+ghost use Rattle.std.specs.Prelude.{◌<◌, ◌∷◌, ◌≡◌, ◌≤◌, [], Err, IfErr, IfOk, IfSome, is_some, length, List, ltb, None, OnErr, OnOk, Option, option_map};
+ghost use Rattle.word_lists.specs.Words.{absent_of, Adds, before_first, ErasesFirstLines, fault, figures_number, figures_of, is_tab, line_absent, line_erased, line_stored, line_told, lines_absent, lines_erased, lines_in, lines_stored, lines_told, Memory, number_at, number_with, OnKnown, own_number, position, refusal_of, stored_by, StoresFirstLines, TakesNext, Told, told_by, told_one, want_of};
+
 use crate::parts::body;
 use crate::read::read_word;
 use cedarwood::{CedarError, Layout, Trie};
 use memchr::memchr;
 use std::alloc::{AllocError, Allocator};
 use std::io;
-use std::io::BufRead;
+use std::io::{BufRead, ErrorKind};
 
 /// Why a line of a list is no entry of its own.
 #[derive(Clone, Copy, Debug, PartialEq, Eq)]
@@ -33,21 +36,21 @@ pub enum StoreError {
 }
 
 impl From<AllocError> for StoreError {
+    ghost from_gives = { λ _ e. e ≡ Memory };
+
     fn from(_: AllocError) -> StoreError {
         StoreError::Memory
     }
 }
 
-impl From<io::Error> for StoreError {
-    fn from(error: io::Error) -> StoreError {
-        StoreError::Read(error)
-    }
-}
-
 /// What is told of lines that are no entries of their own.
 pub trait LineFaults {
+    /// What it was told, line after line, if that is known: the number of each line, its bytes and its fault.
+    ghost told: { Self → Option (List Told) } = { λ _. None };
+
     /// Hears of a line: its number, counted from 1, its bytes without those that end it, and what is wrong with it.
-    fn tell(&mut self, number: u64, line: &[u8], fault: LineFault);
+    fn tell(&mut self, number: u64, line: &[u8], fault: LineFault)
+        ensures { Adds (told self.old) (told self.new) ((number, line.now, fault) ∷ []) };
 }
 
 /// Stores each line of what a reader has left, one after another: a word, or a word, a tab and its number. Without a number it is that
@@ -62,18 +65,82 @@ pub fn store_lines<L: Layout, const SLOTS: usize, A: Allocator + Copy, R: BufRea
     trie: &mut Trie<L, SLOTS, A>,
     reader: &mut R,
     faults: &mut F,
-) -> Result<(), StoreError> {
+) -> Result<(), StoreError>
+    //= A list that is stored `Ok` stored each line of what the reader had left, in order: its word, as its text before the first tab reads,
+    //  has the number in figures behind the tab, or else the line's own; where that is known, and is fewer than 2^63 bytes. Empty lines and
+    //  those that have a fault store nothing. [by lines_stored, line_stored, lines_in]
+    ensures ok { OnOk result (OnKnown (R.remaining reader.old) (λ input. trie.new.state ≡ lines_stored trie.old.state 1 (lines_in input))) }
+
+    //= It told of just the lines that are no entries of their own, each once and in order, and of each why: no number, a fault of word or
+    //  number, or a word that was held. [by lines_told, line_told]
+    ensures told { OnOk result (OnKnown (R.remaining reader.old) (λ input. Adds (F.told faults.old) (F.told faults.new) (lines_told trie.old.state 1 (lines_in input)))) }
+
+    //= One that fails stored and told of the first lines, and of no other.
+    ensures err { OnErr result (StoresFirstLines (R.remaining reader.old) trie.old.state trie.new.state (F.told faults.old) (F.told faults.new)) }
+
+    //= It fails with `SlotLimit` only where all slots that there may be are in use.
+    ensures limit { result ≡ Err StoreError.SlotLimit → trie.new.size ≡ SLOTS }
+{
     let mut line = Vec::new(alloc);
     let mut word = Vec::new(alloc);
     for number in 1..u64::MAX {
-        line.clear();
-        if reader.read_until(b'\n', &mut line)? == 0 {
-            break;
+        let more = next_line(reader, &mut line)?;
+        if !more {
+            return Ok(());
         }
-        let text = body(&line);
-        if let Some(fault) = store_line(trie, text, number, &mut word)? {
-            faults.tell(number, text, fault);
-        }
+        pass_line(trie, body(&line), number, &mut word, faults)?;
+    }
+    Ok(())
+}
+
+/// Reads the next line, with the byte 10 that ends it, in place of what the buffer held. False where there is none.
+fn next_line<A: Allocator, R: BufRead>(
+    reader: &mut R,
+    line: &mut Vec<u8, A>,
+) -> Result<bool, StoreError>
+    ensures next { IfOk result (λ more. TakesNext (R.remaining reader.old) (R.remaining reader.new) line.new.items more) }
+    ensures no_slots { IfErr result (λ e. e ≡ StoreError.SlotLimit → ⊥) }
+{
+    line.clear();
+    match reader.read_until(b'\n', line) {
+        Ok(_) => Ok(has_bytes(line)),
+        Err(error) => Err(read_error(error)),
+    }
+}
+
+/// Whether there is a byte.
+fn has_bytes(line: &[u8]) -> bool
+    ensures { result ≡ ltb 0 (length line.now) }
+{
+    0 < line.len()
+}
+
+/// What a fault of a reader says: the line found no memory, or the reader failed.
+fn read_error(error: io::Error) -> StoreError
+    ensures { result ≡ StoreError.SlotLimit → ⊥ }
+{
+    match error.kind() {
+        ErrorKind::OutOfMemory => StoreError::Memory,
+        _ => StoreError::Read(error),
+    }
+}
+
+/// Stores a line, which has this number, and tells of it if it is no entry of its own.
+fn pass_line<L: Layout, const SLOTS: usize, A: Allocator + Copy, F: LineFaults>(
+    trie: &mut Trie<L, SLOTS, A>,
+    line: &[u8],
+    number: u64,
+    word: &mut Vec<u8, A>,
+    faults: &mut F,
+) -> Result<(), StoreError>
+    ensures ok { OnOk result (trie.new.state ≡ line_stored trie.old.state number line.now) }
+    ensures told { OnOk result (Adds (F.told faults.old) (F.told faults.new) (told_one number line.now (line_told trie.old.state number line.now))) }
+    ensures err { OnErr result ((trie.new.state ≡ trie.old.state) × (faults.new ≡ faults.old)) }
+    ensures limit { result ≡ Err StoreError.SlotLimit → trie.new.size ≡ SLOTS }
+{
+    match store_line(trie, line, number, word)? {
+        Some(fault) => faults.tell(number, line, fault),
+        None => {}
     }
     Ok(())
 }
@@ -84,7 +151,12 @@ fn store_line<L: Layout, const SLOTS: usize, A: Allocator + Copy>(
     line: &[u8],
     number: u64,
     word: &mut Vec<u8, A>,
-) -> Result<Option<LineFault>, StoreError> {
+) -> Result<Option<LineFault>, StoreError>
+    ensures ok { OnOk result (trie.new.state ≡ line_stored trie.old.state number line.now) }
+    ensures told { IfOk result (λ told. told ≡ line_told trie.old.state number line.now) }
+    ensures err { OnErr result (trie.new.state ≡ trie.old.state) }
+    ensures limit { result ≡ Err StoreError.SlotLimit → trie.new.size ≡ SLOTS }
+{
     if line.is_empty() {
         return Ok(None);
     }
@@ -93,15 +165,40 @@ fn store_line<L: Layout, const SLOTS: usize, A: Allocator + Copy>(
         return Ok(Some(LineFault::Number));
     };
     read_word(text, word)?;
+    store_word(trie, word, value)
+}
+
+/// Stores a word with its number, and says what is wrong with them.
+fn store_word<L: Layout, const SLOTS: usize, A: Allocator + Copy>(
+    trie: &mut Trie<L, SLOTS, A>,
+    word: &[u8],
+    value: i32,
+) -> Result<Option<LineFault>, StoreError>
+    ensures ok { OnOk result (trie.new.state ≡ stored_by (fault word.now value) trie.old.state word.now value) }
+    ensures told { IfOk result (λ told. told ≡ told_by (fault word.now value) (is_some (number_at trie.old.state.tree word.now))) }
+    ensures err { OnErr result (trie.new.state ≡ trie.old.state) }
+    ensures limit { result ≡ Err StoreError.SlotLimit → trie.new.size ≡ SLOTS }
+{
     match trie.insert_bytes(word, value) {
-        Ok(None) => Ok(None),
-        Ok(Some(_)) => Ok(Some(LineFault::Repeated)),
+        Ok(held) => Ok(repeated(held)),
         Err(error) => refusal(error),
     }
 }
 
+/// What is told of a word that held a number before, or none.
+fn repeated(held: Option<i32>) -> Option<LineFault>
+    ensures { result ≡ told_by None (is_some held) }
+{
+    match held {
+        Some(_) => Some(LineFault::Repeated),
+        None => None,
+    }
+}
+
 /// What a refused entry says of its line, or of the dictionary.
-fn refusal(error: CedarError) -> Result<Option<LineFault>, StoreError> {
+fn refusal(error: CedarError) -> Result<Option<LineFault>, StoreError>
+    ensures { result ≡ refusal_of error }
+{
     match error {
         CedarError::EmptyKey => Ok(Some(LineFault::EmptyWord)),
         CedarError::NulByte { .. } => Ok(Some(LineFault::NulByte)),
@@ -111,7 +208,9 @@ fn refusal(error: CedarError) -> Result<Option<LineFault>, StoreError> {
 }
 
 /// What a refused update says of the dictionary, where its key and its value have no fault.
-pub(crate) fn store_error(error: CedarError) -> StoreError {
+pub(crate) fn store_error(error: CedarError) -> StoreError
+    ensures { result ≡ want_of error }
+{
     match error {
         CedarError::SlotLimit => StoreError::SlotLimit,
         _ => StoreError::Memory,
@@ -128,47 +227,98 @@ pub fn erase_lines<L: Layout, const SLOTS: usize, A: Allocator + Copy, R: BufRea
     alloc: A,
     trie: &mut Trie<L, SLOTS, A>,
     reader: &mut R,
-) -> Result<u64, StoreError> {
+) -> Result<u64, StoreError>
+    //= Lines that are erased `Ok`: the word of each line of what the reader had left is taken out, and no other, where that
+    //  is known and is fewer than 2^63 bytes. [by lines_erased, line_erased]
+    ensures ok { OnOk result (OnKnown (R.remaining reader.old) (λ input. trie.new.state ≡ lines_erased trie.old.state (lines_in input))) }
+
+    //= The answer is how many lines have a word that wasn't held once those of the lines before were taken out. [by lines_absent]
+    ensures absent { IfOk result (λ absent. OnKnown (R.remaining reader.old) (λ input. absent ≡ lines_absent trie.old.state (lines_in input))) }
+
+    //= Where it fails, the words of the first lines are taken out, and no other; it never fails with `SlotLimit`. [with no_slots]
+    ensures err { OnErr result (ErasesFirstLines (R.remaining reader.old) trie.old.state trie.new.state) }
+    ensures no_slots { IfErr result (λ e. e ≡ StoreError.SlotLimit → ⊥) }
+{
     let mut line = Vec::new(alloc);
     let mut word = Vec::new(alloc);
-    let mut absent: u64 = 0;
-    for _ in 1..u64::MAX {
-        line.clear();
-        if reader.read_until(b'\n', &mut line)? == 0 {
-            break;
+    let mut absent = 0;
+    for turn in 0..u64::MAX {
+        let more = next_line(reader, &mut line)?;
+        if !more {
+            return Ok(absent);
         }
-        if !erase_line(trie, body(&line), &mut word)? {
-            absent = absent.saturating_add(1);
-        }
+        let missing = erase_line(trie, body(&line), &mut word)?;
+        absent += missing;
     }
     Ok(absent)
 }
 
-/// Takes the word of a line out of a dictionary, and says whether it was held, or the line is empty.
+/// Takes the word of a line out of a dictionary, and answers how many words weren't held: none or one. An empty line has none.
 fn erase_line<L: Layout, const SLOTS: usize, A: Allocator + Copy>(
     trie: &mut Trie<L, SLOTS, A>,
     line: &[u8],
     word: &mut Vec<u8, A>,
-) -> Result<bool, AllocError> {
+) -> Result<u64, AllocError>
+    ensures ok { OnOk result (trie.new.state ≡ line_erased trie.old.state line.now) }
+    ensures absent { IfOk result (λ absent. absent ≡ line_absent trie.old.state line.now) }
+    ensures one { IfOk result (λ absent. absent ≤ 1) }
+    ensures err { OnErr result (trie.new.state ≡ trie.old.state) }
+{
     if line.is_empty() {
-        return Ok(true);
+        return Ok(0);
     }
     read_word(split_line(line).0, word)?;
-    Ok(trie.erase_bytes(word))
+    Ok(absent_of(trie.erase_bytes(word)))
+}
+
+/// How many words weren't held, where it is known whether one was.
+fn absent_of(held: bool) -> u64
+    ensures absent { result ≡ absent_of held }
+    ensures one { result ≤ 1 }
+{
+    if held { 0 } else { 1 }
 }
 
 /// What stands before the first tab of a line, and what behind it; the whole line, and None, where there is none.
-fn split_line(line: &[u8]) -> (&[u8], Option<&[u8]>) {
-    match memchr(b'\t', line) {
+pub(crate) fn split_line(line: &[u8]) -> (&[u8], Option<&[u8]>)
+    ensures word { result.0.now ≡ before_first is_tab line.now }
+    ensures figures { option_map (λ text. text.now) result.1 ≡ figures_of line.now }
+{
+    match tab_in(line) {
         Some(at) => (&line[..at], Some(&line[at + 1..])),
         None => (line, None),
     }
 }
 
+/// Where the first tab is.
+fn tab_in(line: &[u8]) -> Option<usize>
+    ensures first { result ≡ position is_tab line.now }
+    ensures within { IfSome result (λ at. at < length line.now) }
+{
+    memchr(b'\t', line)
+}
+
 /// The number of a line's word: the one that is written, or else the line's own.
-fn value_of(figures: Option<&[u8]>, number: u64) -> Option<i32> {
+pub(crate) fn value_of(figures: Option<&[u8]>, number: u64) -> Option<i32>
+    ensures { result ≡ number_with number (option_map (λ text. text.now) figures.entry) }
+{
     match figures {
-        Some(figures) => str::from_utf8(figures).ok()?.parse().ok(),
-        None => i32::try_from(number).ok(),
+        Some(figures) => parse_figures(figures),
+        None => own_number(number),
     }
+}
+
+/// The number of a line that has none, if it is one of 32 bits.
+fn own_number(number: u64) -> Option<i32>
+    ensures { result ≡ own_number number }
+{
+    i32::try_from(number).ok()
+}
+
+/// A number in figures.
+fn parse_figures(figures: &[u8]) -> Option<i32>
+    ensures { result ≡ figures_number figures.now }
+{
+    let text = str::from_utf8(figures).ok()?;
+    text.parse().ok()
 }

@@ -1,7 +1,7 @@
 //! The lines of a dictionary's entries. They take no memory but the walk's own.
 
-ghost use Rattle.std.specs.Prelude.{◌≡◌, ◌<◌, ◌∷◌, [], IfErr, IfOk, MatchOption, OnErr, OnOk, drop, length, min, take};
-ghost use Rattle.word_lists.specs.Words.{BreaksOff, LineFault, Writes, entry_lines, has_failed};
+ghost use Rattle.std.specs.Prelude.{◌<◌, ◌∷◌, ◌≡◌, [], drop, IfErr, IfOk, length, MatchOption, min, OnErr, OnOk, take};
+ghost use Rattle.word_lists.specs.Words.{BreaksOff, entry_lines, has_failed, LineFault, Writes};
 
 use crate::word::write_entry;
 use crate::write::ListError;

@@ -1,7 +1,7 @@
 //! The line of a word that is looked up.
 
-ghost use Rattle.std.specs.Prelude.{◌≡◌, IfOk, OnOk, OnErr, is_some};
-ghost use Rattle.word_lists.specs.Words.{BreaksOff, Writes, has_failed, found_line, number_at, WritesOrFails};
+ghost use Rattle.std.specs.Prelude.{◌≡◌, IfOk, is_some, OnErr, OnOk};
+ghost use Rattle.word_lists.specs.Words.{BreaksOff, found_line, has_failed, number_at, Writes, WritesOrFails};
 
 use crate::word::write_entry;
 use crate::write::ListError;

@@ -1,6 +1,7 @@
 //! Two dictionaries: the entries of one stored in another, and those that another one lacks.
 
-ghost use Rattle.std.specs.Prelude.{◌≡◌, ◌∷◌, [], IfOk, MatchOption};
+ghost use Rattle.std.specs.Prelude.{◌<◌, ◌∷◌, ◌≡◌, [], Err, IfErr, IfOk, length, ltb, MatchOption, OnErr, OnOk};
+ghost use Rattle.word_lists.specs.Words.{all_stored, BreaksOff, has_failed, holds_entry, IsWant, lacking, LineFault, signed_line, signed_lines, stored, StoresFirst, Writes, WritesOrFails, WritesUpTo};
 
 use crate::lines::{StoreError, store_error};
 use crate::lists::next_entry;
@@ -35,13 +36,40 @@ pub fn store_entries<
     trie: &mut Trie<L, SLOTS, A>,
     mut entries: RangeEntries<'_, T, B>,
     key: &mut Vec<u8, C>,
-) -> Result<(), StoreError> {
+) -> Result<(), StoreError>
+    //= Entries that are stored `Ok` are all stored, one after another, and nothing else.
+    ensures ok { OnOk result (trie.new.state ≡ all_stored trie.old.state entries.entry) }
+
+    //= Where that fails, for memory or slots, the first entries are stored, and not all. [with want]
+    ensures err { OnErr result (StoresFirst trie.old.state trie.new.state entries.entry) }
+    ensures want { IfErr result IsWant }
+
+    //= It fails with `SlotLimit` only where all slots that there may be are in use; `max_trial` stays. [with max_trial]
+    ensures limit { result ≡ Err StoreError.SlotLimit → trie.new.size ≡ SLOTS }
+    ensures max_trial { trie.new.max_trial ≡ trie.old.max_trial }
+{
     while let Some(value) = next_stored(&mut entries, key)? {
-        if let Err(error) = trie.update_bytes(key, value) {
-            return Err(store_error(error));
-        }
+        store_pair(trie, key, value)?;
     }
     Ok(())
+}
+
+/// Stores a key with its number.
+fn store_pair<L: Layout, const SLOTS: usize, A: Allocator + Copy>(
+    trie: &mut Trie<L, SLOTS, A>,
+    key: &[u8],
+    value: i32,
+) -> Result<(), StoreError>
+    ensures ok { OnOk result (trie.new.state ≡ stored trie.old.state key.now value) }
+    ensures err { OnErr result (trie.new.state ≡ trie.old.state) }
+    ensures want { IfErr result IsWant }
+    ensures limit { result ≡ Err StoreError.SlotLimit → trie.new.size ≡ SLOTS }
+    ensures max_trial { trie.new.max_trial ≡ trie.old.max_trial }
+{
+    match trie.update_bytes(key, value) {
+        Ok(()) => Ok(()),
+        Err(error) => Err(store_error(error)),
+    }
 }
 
 /// The number of the next entry, whose key is written into a buffer.
@@ -49,11 +77,12 @@ fn next_stored<T: Walked, B: Allocator + Copy, C: Allocator>(
     entries: &mut RangeEntries<'_, T, B>,
     key: &mut Vec<u8, C>,
 ) -> Result<Option<i32>, StoreError>
-    ensures { IfOk result (λ found. MatchOption found ((entries.old ≡ []) × (entries.new ≡ [])) (λ value. entries.old ≡ (key.new.items, value) ∷ entries.new)) }
+    ensures found { IfOk result (λ found. MatchOption found ((entries.old ≡ []) × (entries.new ≡ [])) (λ value. entries.old ≡ (key.new.items, value) ∷ entries.new)) }
+    ensures refused { IfErr result (λ e. (e ≡ StoreError.Memory) × (0 < length entries.old)) }
 {
     match entries.next_into(key) {
         Ok(found) => Ok(found),
-        Err(error) => Err(store_error(error)),
+        Err(_) => Err(StoreError::Memory),
     }
 }
 
@@ -86,14 +115,73 @@ pub fn write_lacking<
     mut entries: RangeEntries<'_, T, B>,
     other: &Trie<L, SLOTS, A>,
     key: &mut Vec<u8, C>,
-) -> Result<bool, ListError> {
+) -> Result<bool, ListError>
+    //= A list of the entries that another dictionary lacks, where it is `Ok`, wrote the line of each entry of the walk that the other one
+    //  doesn't hold with the same number, behind the sign and in the walk's order, and nothing else. [by lacking, signed_lines]
+    ensures ok { OnOk result (Writes W.contents writer.old writer.new (signed_lines sign.now (lacking other.now.state.tree entries.entry))) }
+
+    //= It tells whether there is one.
+    ensures any { IfOk result (λ any. any ≡ ltb 0 (length (lacking other.now.state.tree entries.entry))) }
+
+    //= One that fails wrote a beginning of these lines, and not all where the writer failed. [with broken]
+    ensures err { OnErr result (WritesUpTo W.contents writer.old writer.new (signed_lines sign.now (lacking other.now.state.tree entries.entry))) }
+    ensures broken { result ≡ Err ListError.Write → BreaksOff W.contents writer.old writer.new (signed_lines sign.now (lacking other.now.state.tree entries.entry)) }
+
+    //= It fails with `Write` only where a call of the writer failed; with `Memory`, and where it is `Ok`, none did.
+    ensures faults { LineFault (has_failed writer.old) (has_failed writer.new) result }
+{
     let mut any = false;
     while let Some(value) = next_entry(&mut entries, key)? {
-        if other.get_bytes(key) != Some(value) {
-            write_whole(writer, sign)?;
-            write_entry(writer, key, value)?;
-            any = true;
-        }
+        any |= write_unless_held(writer, sign, key, value, other)?;
     }
     Ok(any)
+}
+
+/// Writes the line of an entry that a dictionary doesn't hold with the same number, behind a sign. Returns whether it wrote it.
+fn write_unless_held<L: Layout, const SLOTS: usize, A: Allocator + Copy, W: Write>(
+    writer: &mut Watched<W>,
+    sign: &[u8],
+    key: &[u8],
+    value: i32,
+    other: &Trie<L, SLOTS, A>,
+) -> Result<bool, ListError>
+    ensures ok { OnOk result (Writes W.contents writer.old writer.new (signed_lines sign.now (lacking other.now.state.tree ((key.now, value) ∷ [])))) }
+    ensures any { IfOk result (λ any. any ≡ ltb 0 (length (lacking other.now.state.tree ((key.now, value) ∷ [])))) }
+    ensures err { OnErr result (BreaksOff W.contents writer.old writer.new (signed_lines sign.now (lacking other.now.state.tree ((key.now, value) ∷ [])))) }
+    ensures faults { WritesOrFails (has_failed writer.old) (has_failed writer.new) result }
+{
+    if holds(other, key, value) {
+        return Ok(false);
+    }
+    write_signed(writer, sign, key, value)?;
+    Ok(true)
+}
+
+/// Whether a dictionary holds a key with this number.
+fn holds<L: Layout, const SLOTS: usize, A: Allocator + Copy>(
+    trie: &Trie<L, SLOTS, A>,
+    key: &[u8],
+    value: i32,
+) -> bool
+    ensures { result ≡ holds_entry trie.now.state.tree (key.now, value) }
+{
+    match trie.get_bytes(key) {
+        Some(held) => held == value,
+        None => false,
+    }
+}
+
+/// Writes the line of an entry behind a sign.
+fn write_signed<W: Write>(
+    writer: &mut Watched<W>,
+    sign: &[u8],
+    key: &[u8],
+    value: i32,
+) -> Result<(), ListError>
+    ensures ok { OnOk result (Writes W.contents writer.old writer.new (signed_line sign.now (key.now, value))) }
+    ensures err { OnErr result (BreaksOff W.contents writer.old writer.new (signed_line sign.now (key.now, value))) }
+    ensures faults { WritesOrFails (has_failed writer.old) (has_failed writer.new) result }
+{
+    write_whole(writer, sign)?;
+    write_entry(writer, key, value)
 }

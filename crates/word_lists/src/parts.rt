@@ -1,6 +1,6 @@
 //! Parts of a text.
 
-ghost use Rattle.std.specs.Prelude.{◌≡◌, ◌+◌, ◌≤◌, take, length};
+ghost use Rattle.std.specs.Prelude.{◌+◌, ◌≡◌, ◌≤◌, get_or, length, take};
 ghost use Rattle.word_lists.specs.Words.{body_of, characters, characters_begun, ending_of, ends_with, goes_on, part_of, without_last};
 
 /// So many bytes of a text from a place on, or as many as there are.
@@ -92,9 +92,16 @@ fn characters(bytes: &[u8]) -> usize
 }
 
 /// How many characters begin with a byte: one, or none.
-fn characters_begun(byte: u8) -> usize
+pub(crate) fn characters_begun(byte: u8) -> usize
     ensures all { result ≡ characters_begun byte }
     ensures within { result ≤ 1 }
 {
     if goes_on(byte) { 0 } else { 1 }
+}
+
+/// The byte at a place, or 0 behind the end.
+pub(crate) fn byte_at(text: &[u8], place: usize) -> u8
+    ensures { result ≡ get_or text.now place 0 }
+{
+    if place < text.len() { text[place] } else { 0 }
 }

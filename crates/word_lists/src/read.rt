@@ -1,8 +1,7 @@
 //! A word as a person writes it.
 
-ghost use Rattle.std.specs.Prelude.{◌<◌, ◌≡◌, ◌≤◌, ◌∷◌, [], IfOk, length};
-ghost use Rattle.hex.specs.Hex.{decode_sized};
-ghost use Rattle.word_lists.specs.Words.{first_of, named_of, read_as};
+ghost use Rattle.std.specs.Prelude.{◌<◌, ◌∷◌, ◌≡◌, ◌≤◌, [], IfOk, length};
+ghost use Rattle.word_lists.specs.Words.{decode_sized, first_of, named_of, read_as};
 
 use std::alloc::{AllocError, Allocator};
 

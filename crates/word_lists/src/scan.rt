@@ -1,8 +1,7 @@
 //! The words that stand in a text, a line each.
 
-ghost use Rattle.std.specs.Prelude.{◌≡◌, ◌+◌, ◌≤◌, IfOk, OnErr, OnOk, length, ltb, take};
-ghost use Rattle.word_lists.specs.Words.{BreaksOff, Writes, WritesOrFails, body_of, characters, field, has_failed, spot_line, spot_lines};
-ghost use Rattle.cedar_words.specs.Words.{keywords_in, spots_from};
+ghost use Rattle.std.specs.Prelude.{◌+◌, ◌∷◌, ◌≡◌, ◌≤◌, [], IfOk, length, List, ltb, MatchOption, OnErr, OnOk, take};
+ghost use Rattle.word_lists.specs.Words.{body_of, BreaksOff, characters, field, has_failed, keywords_in, Spot, spot_line, spot_lines, spots_from, Writes, WritesOrFails};
 
 use crate::parts::{body, characters_before, part};
 use crate::word::write_entry;
@@ -15,9 +14,6 @@ use std::io::Write;
 
 /// What finds words in a text, one after another.
 trait Spots {
-    ghost use Rattle.std.specs.Prelude.{◌≡◌, List, [], ◌∷◌, MatchOption};
-    ghost use Rattle.cedar_words.specs.Words.{Spot};
-
     /// Those that are still to come.
     ghost left: { Self → List Spot };
 

@@ -1,8 +1,7 @@
 //! A word as a person reads it. It takes no memory.
 
-ghost use Rattle.std.specs.Prelude.{◌≡◌, ◌++◌, ◌∷◌, [], OnOk, OnErr};
-ghost use Rattle.std.specs.Str.{is_utf8};
-ghost use Rattle.word_lists.specs.Words.{BreaksOff, Writes, WritesOrFails, byte_text, entry_line, escaped, has_failed, is_plain, word_text};
+ghost use Rattle.std.specs.Prelude.{◌≡◌, IsTrue, OnErr, OnOk};
+ghost use Rattle.word_lists.specs.Words.{BreaksOff, byte_text, entry_line, escaped, has_failed, is_plain, is_utf8, word_text, Writes, WritesOrFails};
 
 use crate::write::{ListError, write_line, write_whole};
 use cedar_hex::encode_into;
@@ -35,7 +34,7 @@ fn write_word<W: Write>(writer: &mut Watched<W>, word: &[u8]) -> Result<(), List
 }
 
 /// Whether a word is UTF-8.
-fn is_text(word: &[u8]) -> bool
+pub(crate) fn is_text(word: &[u8]) -> bool
     ensures { result ≡ is_utf8 word.now }
 {
     match str::from_utf8(word) {
@@ -45,11 +44,18 @@ fn is_text(word: &[u8]) -> bool
 }
 
 /// Writes some bytes of a word, which is UTF-8 or not.
-fn write_bytes<W: Write>(writer: &mut Watched<W>, text: bool, bytes: &[u8]) -> Result<(), ListError>
+pub(crate) fn write_bytes<W: Write>(
+    writer: &mut Watched<W>,
+    text: bool,
+    bytes: &[u8],
+) -> Result<(), ListError>
     ensures ok { OnOk result (Writes W.contents writer.old writer.new (escaped text bytes.now)) }
     ensures err { OnErr result (BreaksOff W.contents writer.old writer.new (escaped text bytes.now)) }
     ensures faults { WritesOrFails (has_failed writer.old) (has_failed writer.new) result }
 {
+    if are_plain(text, bytes) {
+        return write_whole(writer, bytes);
+    }
     let mut rest = bytes;
     while !rest.is_empty() {
         let byte = rest[0];
@@ -57,6 +63,20 @@ fn write_bytes<W: Write>(writer: &mut Watched<W>, text: bool, bytes: &[u8]) -> R
         rest = &rest[1..];
     }
     Ok(())
+}
+
+/// Whether all of some bytes stand as they are, as in most words: they are then written at once.
+fn are_plain(text: bool, bytes: &[u8]) -> bool
+    ensures { IsTrue result → escaped text bytes.now ≡ bytes.now }
+{
+    let mut rest = bytes;
+    while !rest.is_empty() {
+        if !is_plain(text, rest[0]) {
+            return false;
+        }
+        rest = &rest[1..];
+    }
+    true
 }
 
 /// Writes a byte of a word, which is UTF-8 or not.
@@ -74,7 +94,7 @@ fn write_byte<W: Write>(writer: &mut Watched<W>, text: bool, byte: u8) -> Result
 }
 
 /// Whether a byte stands as it is.
-fn is_plain(text: bool, byte: u8) -> bool
+pub(crate) fn is_plain(text: bool, byte: u8) -> bool
     ensures { result ≡ is_plain text byte }
 {
     byte != 9 && byte != 10 && byte != 92 && (text || byte < 128)

@@ -1,7 +1,7 @@
 //! Bytes written whole, or a first part of them and a fault. No other writer calls the device.
 
-ghost use Rattle.std.specs.Prelude.{◌++◌, ◌∷◌, [], OnOk, OnErr};
-ghost use Rattle.word_lists.specs.Words.{BreaksOff, Writes, WritesOrFails, has_failed};
+ghost use Rattle.std.specs.Prelude.{◌++◌, ◌∷◌, [], OnErr, OnOk};
+ghost use Rattle.word_lists.specs.Words.{BreaksOff, has_failed, Writes, WritesOrFails};
 
 use cedarwood::Watched;
 use std::io::Write;

@@ -6,7 +6,7 @@ use Rattle.std.proofs.lemmas.Bool.Decides.{eqb_tells}
 use Rattle.cedar_tree.specs.Tree.{child, empty_tree, Forest, has_label, none, number_at, replace, subtree, Tree}
 use Rattle.cedar_tree.specs.Queries.{node_at}
 use Rattle.cedar_tree.specs.Edits.{edit_at, number_on}
-use Rattle.cedar_tree.proofs.EditLemmas.{changed, edit_is_replace}
+use Rattle.cedar_tree.proofs.EntryLemmas.Steps.{changed, edit_is_replace}
 use Rattle.cedar_tree.proofs.TreeLemmas.{has_label-replace, number_at-empty, subtree-replace_other, subtree-replace_same, subtree_absent}
 use Rattle.cedar_model.specs.declared.layout.Stored.TheVariants.{AtBase, OwnNumber}
 use Rattle.cedar_model.specs.Table.Cells.{Cells}

@@ -7,7 +7,7 @@ use Rattle.cedar_tree.specs.Tree.{child, Forest, has_label, is_bare, none, numbe
 use Rattle.cedar_tree.specs.Queries.{node_at}
 use Rattle.cedar_tree.proofs.CutLemmas.{node_at-end}
 use Rattle.cedar_tree.proofs.OrderLemmas.{sound_node_at}
-use Rattle.cedar_tree.proofs.PrefixLemmas.{front_of_node}
+use Rattle.cedar_tree.proofs.EntryLemmas.Prefixes.{front_of_node}
 use Rattle.cedar_tree.proofs.TreeLemmas.{bare-subtree}
 use Rattle.cedar_tree.proofs.VisitLemmas.{has_here}
 use Rattle.cedar_slots.specs.Slots.{base_at}

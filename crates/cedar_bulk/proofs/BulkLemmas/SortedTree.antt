@@ -6,8 +6,8 @@ use Rattle.std.proofs.lemmas.Bool.{cases_Bool, eqb-false, eqb-true, true≢false
 use Rattle.cedar_tree.specs.Tree.{child, empty_tree, Forest, is_bare, none, Tree}
 use Rattle.cedar_tree.specs.Laws.{ArePathsAscending, ArePathsKeys}
 use Rattle.cedar_tree.specs.Queries.{asc, Entry, own_entry, walk, walk_forest}
-use Rattle.cedar_tree.proofs.BuildLemmas.{numbers-asc}
-use Rattle.cedar_tree.proofs.PairLemmas.{asc_is_tree_of}
+use Rattle.cedar_tree.proofs.EntryLemmas.Built.{numbers-asc}
+use Rattle.cedar_tree.proofs.EntryLemmas.Pairs.{asc_is_tree_of}
 use Rattle.cedar_slots.specs.Slots.{check_at}
 use Rattle.cedar_bulk.specs.Spans.{Filling, IsTreeOfSpan, entries_behind}
 use Rattle.cedar_model.specs.Table.TableFields.{Fields}

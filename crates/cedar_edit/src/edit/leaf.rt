@@ -1,6 +1,6 @@
 //! A label added to a node, and one taken away.
 
-ghost use Rattle.std.specs.Prelude.{◌≡◌, ◌≢◌, ℕ, List, ◌++◌, [], ◌∷◌, ◌<◌, MatchOption, None, pos};
+ghost use Rattle.std.specs.Prelude.{◌++◌, ◌<◌, ◌∷◌, ◌≡◌, ◌≢◌, [], List, MatchOption, None, pos, ℕ};
 ghost use Rattle.cedar_edit.specs.Words.{AddsLabel, AddsLeaf, base_of, below, cells, cells_besides, ComesBehind, EditsNode, fields, Forest, GoesBehind, HasChain, HasNode, Held, InRange, IsAt, IsNodeOf, IsTable, LeadsTo, Node, Removes, SameFrame, SeeksBehind, SeeksPlace, SetsChild, SetsSibling, size_of, without};
 
 use cedar_model::Layout;

@@ -1,6 +1,6 @@
 //! A node's number set, and taken away.
 
-ghost use Rattle.std.specs.Prelude.{◌≡◌, ◌⊎◌, ◌<◌, None, pos, Some};
+ghost use Rattle.std.specs.Prelude.{◌<◌, ◌≡◌, ◌⊎◌, None, pos, Some};
 ghost use Rattle.cedar_edit.specs.Words.{below, cells, cells_besides, DropsNumber, EditsNode, fields, Forest, HasNode, Held, InRange, IsNodeOf, IsTable, SameFrame, SetsNumber, size_of};
 
 use cedar_model::Layout;

@@ -1,8 +1,7 @@
 //! Numbers in the base fields of their own nodes: in a layout that keeps them there, that of each node which owns no slot.
 
-ghost use Rattle.std.specs.Prelude.{◌≡◌, ◌≢◌, ℕ, List, ◌<◌, ◌↔◌, is_some, IsTrue, None, OnOk, pos};
-ghost use Rattle.cedar_edit.specs.Words.{base_of, below, cells, EditsNode, fields, FieldSet, Forest, HasNode, IsAt, IsTable, KeepsOtherMarks, MayMakeBlock, node_at, OwnsNothing, reduced_layout, root_of, SameFrame, size_of, TableHolds};
-ghost use Rattle.cedar_model.specs.declared.layout.Stored.TheVariants.{AtBase, OwnNumber};
+ghost use Rattle.std.specs.Prelude.{◌<◌, ◌↔◌, ◌≡◌, ◌≢◌, is_some, IsTrue, List, None, OnOk, pos, ℕ};
+ghost use Rattle.cedar_edit.specs.Words.{AtBase, base_of, below, cells, EditsNode, fields, FieldSet, Forest, HasNode, IsAt, IsTable, KeepsOtherMarks, MayMakeBlock, node_at, OwnNumber, OwnsNothing, reduced_layout, root_of, SameFrame, size_of, TableHolds};
 
 use crate::edit::number::set_number;
 use cedar_model::{Layout, Stored};

@@ -1,6 +1,6 @@
 //! A key's number put.
 
-ghost use Rattle.std.specs.Prelude.{◌≡◌, ◌≤◌, IfErr, IfOk, drop, is_some, length, take, OnErr, OnOk, true, []};
+ghost use Rattle.std.specs.Prelude.{◌≡◌, ◌≤◌, [], drop, IfErr, IfOk, is_some, length, OnErr, OnOk, take, true};
 ghost use Rattle.cedar_edit.specs.Words.{cells, fields, HasWay, is_value, IsKey, IsWellFormed, KeepsMarks, MakesAtMost, marks, MayRefuse, NewMark, number_at, put, PutsInMarks, PutsMarks, SameModes, TakenBack, TakesNewByte, TakesNewNode, TakesNoBlock, tree_of, Walked};
 
 use crate::keys::erase::trim;

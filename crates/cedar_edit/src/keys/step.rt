@@ -1,8 +1,7 @@
 //! One step of an update: to the child under a label, which is added where there is none, or to the number.
 
-ghost use Rattle.std.specs.Prelude.{◌≡◌, ◌≢◌, ◌⊎◌, ℤ, ◌<◌, IfOk, IsTrue, OnOk, pos, Some, true};
-ghost use Rattle.cedar_edit.specs.Words.{base_of, below, cells, EditsNode, fields, Forest, HasNode, Held, is_value, IsTable, LacksNumberSlot, MayMakeBlock, Placed, PutsInBase, PutsInSlot, PutsMark, size_of, StepsTo, TableHolds, TakesFreeSlot, TakesNoBlock, WantsRoom, WantsSlot};
-ghost use Rattle.cedar_model.specs.declared.layout.Stored.TheVariants.{AtBase, OwnNumber};
+ghost use Rattle.std.specs.Prelude.{◌<◌, ◌≡◌, ◌≢◌, ◌⊎◌, IfOk, IsTrue, OnOk, pos, Some, true, ℤ};
+ghost use Rattle.cedar_edit.specs.Words.{AtBase, base_of, below, cells, EditsNode, fields, Forest, HasNode, Held, is_value, IsTable, LacksNumberSlot, MayMakeBlock, OwnNumber, Placed, PutsInBase, PutsInSlot, PutsMark, size_of, StepsTo, TableHolds, TakesFreeSlot, TakesNoBlock, WantsRoom, WantsSlot};
 
 use crate::edit::leaf::{add_label, add_reserved};
 use crate::edit::number::{set_number, set_reserved};

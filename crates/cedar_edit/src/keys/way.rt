@@ -1,7 +1,7 @@
 //! A number that is in the way of a new label: it moves from its node's own base field into a slot, and back where the
 //! label is refused.
 
-ghost use Rattle.std.specs.Prelude.{◌≡◌, ℕ, List, ◌<◌, IfErr, IfOk, is_some, length, MatchOption, None, OnErr, OnOk, pos, Some, take, true};
+ghost use Rattle.std.specs.Prelude.{◌<◌, ◌≡◌, IfErr, IfOk, is_some, length, List, MatchOption, None, OnErr, OnOk, pos, Some, take, true, ℕ};
 ghost use Rattle.cedar_edit.specs.Words.{below, cells, fields, Forest, HasNode, HasWay, IsAt, IsInWay, IsKey, IsOwnAt, IsWellFormed, KeepsMarks, KeepsOtherMarks, LacksLoneNumber, MakesAtMost, MayRefuse, MovesIn, MovesPrefixOut, number_at, OwnsNumberAlone, reduced_layout, SameFrame, SameModes, size_of, tree_of};
 
 use crate::edit::number::drop_number;

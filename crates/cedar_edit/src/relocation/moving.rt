@@ -1,7 +1,7 @@
 //! Moving the slots of a node to another base.
 
-ghost use Rattle.std.specs.Prelude.{bit_xor, ◌≡◌, ◌≢◌, ℕ, List, ◌<◌, ◌^◌, pos, true};
-ghost use Rattle.cedar_edit.specs.Words.{Always, Among, base_of, cells, Family, fields, cells_without, goes_before, Head, IsNode, IsNumber, IsPlace, IsTable, Links, MayReserve, Movable, MovesSlot, Relocated, Renames, RenamesAround, Repointed, Repoints, RepointsUnder, SameFrame, SameHeld, without_reserved, single, size_of};
+ghost use Rattle.std.specs.Prelude.{◌<◌, ◌^◌, ◌≡◌, ◌≢◌, bit_xor, List, pos, true, ℕ};
+ghost use Rattle.cedar_edit.specs.Words.{Always, Among, base_of, cells, cells_without, Family, fields, goes_before, Head, IsNode, IsNumber, IsPlace, IsTable, Links, MayReserve, Movable, MovesSlot, Relocated, Renames, RenamesAround, Repointed, Repoints, RepointsUnder, SameFrame, SameHeld, single, size_of, without_reserved};
 
 use cedar_model::Layout;
 use cedar_slots::NInfoRecord;

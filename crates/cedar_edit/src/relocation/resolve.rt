@@ -1,7 +1,7 @@
 //! Room for a new label below a node: one of two sets of slots is moved to another base, and the slot for the label is
 //! kept back meanwhile.
 
-ghost use Rattle.std.specs.Prelude.{bit_xor, ◌≡◌, ◌≢◌, ℕ, List, ◌<◌, ◌≤◌, IfOk, length, OnOk, pos};
+ghost use Rattle.std.specs.Prelude.{◌<◌, ◌≡◌, ◌≢◌, ◌≤◌, bit_xor, IfOk, length, List, OnOk, pos, ℕ};
 ghost use Rattle.cedar_edit.specs.Words.{Among, below, cells, ChainsRest, fields, IsNode, IsTable, MayMakeBlock, MovesForLabel, OwnsLabels, Reserves, SetReserved, size_of, StandsBelow, TellsLonger, WantsSlot, with_label};
 
 use crate::relocation::moving::{goes_before, relocate_around, relocate_with};

@@ -3,9 +3,8 @@
 //! A list is walked like a ring of free slots: from its head for as many steps as it is to have blocks, each step to a
 //! block that belongs there and names the one before it. The walk along the full list begins and ends at block 0.
 
-ghost use Rattle.std.specs.Prelude.{◌≡◌, ◌≢◌, ℕ, ◌+◌, ◌*◌, ◌<◌, ◌≤◌, ◌≤ℤ◌, length, pos, true};
-ghost use Rattle.cedar_file.specs.Words.{BlockLink, CountsInRange, HasList, HasLists, HasRing, OkIff, Pruned, Sized, StepsFrom, block_at, blocks_of, counts_at, in_ring, ring_count};
-ghost use Rattle.cedar_slots.specs.declared.blocks.BlockType.TheVariants.{Full};
+ghost use Rattle.std.specs.Prelude.{◌*◌, ◌+◌, ◌<◌, ◌≡◌, ◌≢◌, ◌≤ℤ◌, ◌≤◌, length, OkIff, pos, true};
+ghost use Rattle.cedar_file.specs.Words.{block_at, BlockLink, blocks_of, counts_at, CountsInRange, Full, HasList, HasLists, HasRing, in_ring, Pruned, ring_count, Sized, StepsFrom};
 
 use cedar_slots::{BlockRecord, BlockType, Blocks, Corrupt, Counts, Ticks};
 use std::alloc::Allocator;

@@ -1,7 +1,7 @@
 //! Whether a table that comes from a file has its slots, rings, blocks and lists as they must be.
 
-ghost use Rattle.std.specs.Prelude.{◌≡◌, ℕ, ◌+◌, ◌*◌, ◌-◌, ◌<◌, ◌≤◌, ◌≤ℤ◌, List, length, pos};
-ghost use Rattle.cedar_file.specs.Words.{BlankBlocks, BlankSlots, FreeBlock, HasFree, IsPowerOfTwo, OkIff, Rejects, Shaped, Sound, blocks_of, places_of, reject_at};
+ghost use Rattle.std.specs.Prelude.{◌*◌, ◌+◌, ◌-◌, ◌<◌, ◌≡◌, ◌≤ℤ◌, ◌≤◌, length, List, OkIff, pos, ℕ};
+ghost use Rattle.cedar_file.specs.Words.{BlankBlocks, BlankSlots, blocks_of, FreeBlock, HasFree, IsPowerOfTwo, places_of, reject_at, Rejects, Shaped, Sound};
 
 use crate::check::lists::{check_lists, check_ranges, read_block};
 use crate::check::rings::{check_ring, count_free, read_free, read_info, read_node};

@@ -4,8 +4,8 @@
 //! block that names the slot before it, so no slot is met twice unless the walk comes back to the head. If it doesn't
 //! before its last step, it has met all free slots of the block, and its last step leads back. No marks are kept.
 
-ghost use Rattle.std.specs.Prelude.{◌≡◌, ℕ, ◌+◌, ◌*◌, ◌^◌, ◌<◌, ◌≤◌, length, true};
-ghost use Rattle.cedar_file.specs.Words.{HasBlankLabels, HasRing, OkIff, SlotLink, StepsFrom, free_count, free_here, info_at, is_free, node_record_at, slots_of};
+ghost use Rattle.std.specs.Prelude.{◌*◌, ◌+◌, ◌<◌, ◌^◌, ◌≡◌, ◌≤◌, length, OkIff, true};
+ghost use Rattle.cedar_file.specs.Words.{free_count, free_here, HasBlankLabels, HasRing, info_at, is_free, node_record_at, SlotLink, slots_of, StepsFrom};
 
 use cedar_slots::{BLOCK_SIZE, Corrupt, NInfoRecord, NodeRecord, Slots, Ticks};
 use std::alloc::Allocator;

@@ -1,8 +1,7 @@
 //! Whether the held slots of a table stand for a tree.
 
-ghost use Rattle.std.specs.Prelude.{count_by, ◌≡◌, ◌≢◌, ℕ, ◌+◌, ◌*◌, ◌<◌, ◌≤◌, ◌^◌, ◌/◌, ◌↔◌, IfOk, IsTrue, MatchOption, OnErr, OnOk, pos};
-ghost use Rattle.cedar_file.specs.Words.{ComesBackIn, GoesDown, GoesOn, GoesUp, HasRoom, IsTable, IsWellFormed, LooksLikeRoot, MeetsNode, StepsDown, StepsUp, base_in, base_of, block_at, cells, fields, is_held, is_value, range_with_len, reading, size_of, walk_start};
-ghost use Rattle.cedar_model.specs.declared.layout.Stored.TheVariants.{AtBase, OwnNumber};
+ghost use Rattle.std.specs.Prelude.{◌*◌, ◌+◌, ◌/◌, ◌<◌, ◌^◌, ◌↔◌, ◌≡◌, ◌≢◌, ◌≤◌, count_by, IfOk, IsTrue, MatchOption, OnErr, OnOk, pos, ℕ};
+ghost use Rattle.cedar_file.specs.Words.{AtBase, base_in, base_of, block_at, cells, ComesBackIn, fields, GoesDown, GoesOn, GoesUp, HasRoom, is_held, is_value, IsTable, IsWellFormed, LooksLikeRoot, MeetsNode, OwnNumber, range_with_len, reading, size_of, StepsDown, StepsUp, walk_start};
 
 use cedar_slots::{BLOCK_SIZE, BlockRecord, Corrupt, NInfoRecord, NodeRecord, Ticks};
 use cedar_table::{Layout, Stored, Table};

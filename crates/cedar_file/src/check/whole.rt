@@ -1,7 +1,7 @@
 //! Whether a table that comes from a file has its slots, rings, blocks and lists as they must be, and stands for a tree.
 
-ghost use Rattle.std.specs.Prelude.{◌+◌, ◌*◌, ◌≤◌, ◌≤ℤ◌, length, pos};
-ghost use Rattle.cedar_file.specs.Words.{IsPowerOfTwo, IsSlotLimit, IsTable, IsWellFormed, OkIff, capacity_of, fields};
+ghost use Rattle.std.specs.Prelude.{◌*◌, ◌+◌, ◌≤ℤ◌, ◌≤◌, length, OkIff, pos};
+ghost use Rattle.cedar_file.specs.Words.{capacity_of, fields, IsPowerOfTwo, IsSlotLimit, IsTable, IsWellFormed};
 
 use crate::check::places::check_sound;
 use crate::check::tree::check_tree;

@@ -8,8 +8,8 @@ use Rattle.std.proofs.lemmas.Bool.{true≢false, false≢true}
 use Rattle.cedar_tree.specs.Tree.{Forest, Tree, has_label, put, number_at, IsAscending, IsKey, IsSoundBelow}
 use Rattle.cedar_tree.specs.Queries.{node_at, walk, walk_forest}
 use Rattle.cedar_tree.specs.Edits.{edit_at, HasPath, with_number}
-use Rattle.cedar_tree.proofs.CountLemmas.{length-walk-put}
-use Rattle.cedar_tree.proofs.EditLemmas.{put-with_number}
+use Rattle.cedar_tree.proofs.EntryLemmas.Counts.{length-walk-put}
+use Rattle.cedar_tree.proofs.EntryLemmas.Steps.{put-with_number}
 use Rattle.cedar_tree.proofs.OrderLemmas.{ascending-put, number_of_node}
 use Rattle.cedar_tree.proofs.TreeLemmas.{all-put, sound-put}
 use Rattle.cedar_slots.specs.declared.shortage.Shortage.{Shortage}

@@ -6,9 +6,9 @@ use lib.Bits.{xor_zero_r}
 use Rattle.cedar_tree.specs.Tree.{cut, Forest, is_bare, IsAscending, number_at, Tree}
 use Rattle.cedar_tree.specs.Queries.{node_at, walk}
 use Rattle.cedar_tree.specs.Edits.{edit_at, HasPath, without_number}
-use Rattle.cedar_tree.proofs.CountLemmas.{length-walk-cut}
+use Rattle.cedar_tree.proofs.EntryLemmas.Counts.{length-walk-cut}
 use Rattle.cedar_tree.proofs.CutLemmas.{ascending-without_number, node_at-without_number}
-use Rattle.cedar_tree.proofs.EditLemmas.{cut-without_number, cut_stops_at_end}
+use Rattle.cedar_tree.proofs.EntryLemmas.Steps.{cut-without_number, cut_stops_at_end}
 use Rattle.cedar_tree.proofs.OrderLemmas.{ascending-cut, number_of_node}
 use Rattle.cedar_tree.proofs.TreeLemmas.{all-cut, cut_not_held, sound-cut}
 use Rattle.cedar_model.specs.Table.Cells.{Cells}

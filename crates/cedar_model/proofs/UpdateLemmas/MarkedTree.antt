@@ -6,8 +6,8 @@ use Rattle.std.proofs.lemmas.Bool.Decides.{eqb_tells}
 use Rattle.std.proofs.lemmas.List.{length-take-le}
 use Rattle.cedar_tree.specs.Tree.{Forest, none, child, cut, is_bare, number_at, put, subtree, Tree}
 use Rattle.cedar_tree.specs.Queries.{IsFront, is_path, node_at}
-use Rattle.cedar_tree.proofs.BuildLemmas.{is_path_itself, same_path}
-use Rattle.cedar_tree.proofs.PrefixLemmas.{front_of_node, node_of_held}
+use Rattle.cedar_tree.proofs.EntryLemmas.Built.{is_path_itself, same_path}
+use Rattle.cedar_tree.proofs.EntryLemmas.Prefixes.{front_of_node, node_of_held}
 use Rattle.cedar_tree.proofs.TreeLemmas.{number_at-cut_other, number_at-cut_same, number_at-put_other}
 use Rattle.cedar_model.specs.Table.Cells.{Cells}
 use Rattle.cedar_model.specs.Edit.NodeEdits.{follow_on, IsAt}

@@ -6,7 +6,7 @@ use Rattle.std.proofs.lemmas.List.{append-nil, take-append-drop}
 use Rattle.cedar_tree.specs.Tree.{Forest, is_bare, IsKey, IsSoundBelow, number_at, subtree, Tree}
 use Rattle.cedar_tree.specs.Edits.{HasPath}
 use Rattle.cedar_tree.specs.Queries.{IsFront, node_at}
-use Rattle.cedar_tree.proofs.PrefixLemmas.{front_of_node}
+use Rattle.cedar_tree.proofs.EntryLemmas.Prefixes.{front_of_node}
 use Rattle.cedar_tree.proofs.TreeLemmas.{bare-subtree, sound_subtree}
 use Rattle.cedar_model.specs.Table.Cells.{Cells}
 use Rattle.cedar_model.specs.Edit.NodeEdits.{follow_on, IsAt}

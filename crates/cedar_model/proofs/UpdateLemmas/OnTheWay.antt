@@ -5,10 +5,10 @@ use Rattle.std.proofs.lemmas.Bool.{false≢true}
 use Rattle.cedar_tree.specs.Tree.{Forest, Tree, has_label, is_bare, cut, put, number_at, IsAscending, IsSoundBelow}
 use Rattle.cedar_tree.specs.Queries.{node_at}
 use Rattle.cedar_tree.specs.Edits.{HasPath, with_leaf}
-use Rattle.cedar_tree.proofs.EditLemmas.{cut_stops, put-with_leaf}
+use Rattle.cedar_tree.proofs.EntryLemmas.Steps.{cut_stops, put-with_leaf}
 use Rattle.cedar_tree.proofs.OrderLemmas.{number_at-append}
 use Rattle.cedar_tree.proofs.TreeLemmas.{number_at-empty, subtree_absent}
-use Rattle.cedar_tree.proofs.PutLemmas.{ascending-with_leaf, bare_lacks, cut-with_leaf, cut_at_bare, cut_past_bare, leaf_is_bare, number_at-with_leaf}
+use Rattle.cedar_tree.proofs.EntryLemmas.Leaves.{ascending-with_leaf, bare_lacks, cut-with_leaf, cut_at_bare, cut_past_bare, leaf_is_bare, number_at-with_leaf}
 use Rattle.cedar_model.specs.Edit.Steps.{root_of, tree_after_trim, with_child}
 
 -- what both cases have in common

@@ -6,7 +6,7 @@ use Rattle.cedar_tree.specs.Tree.{cut, Forest, has_label, is_bare, IsAscending, 
 use Rattle.cedar_tree.specs.Queries.{node_at}
 use Rattle.cedar_tree.specs.Edits.{without_leaf}
 use Rattle.cedar_tree.proofs.CutLemmas.{ascending-without_leaf, node_at-end, node_at-without_leaf}
-use Rattle.cedar_tree.proofs.EditLemmas.{cut-without_leaf, cut_stops}
+use Rattle.cedar_tree.proofs.EntryLemmas.Steps.{cut-without_leaf, cut_stops}
 use Rattle.cedar_model.specs.Table.Cells.{Cells}
 use Rattle.cedar_model.specs.Meaning.StandsFor.{HoldsTree, OnPath, slot_at}
 use Rattle.cedar_model.specs.Edit.NodeEdits.{follow_on, IsAt}

@@ -1,5 +1,5 @@
 use Rattle.std.proofs.Common.{◌≡◌, true}
-use Rattle.cedar_tree.proofs.BuildLemmas.{is_sound-asc, ascending-asc, number_at-asc, numbers-asc}
+use Rattle.cedar_tree.proofs.EntryLemmas.Built.{is_sound-asc, ascending-asc, number_at-asc, numbers-asc}
 use Rattle.cedar_tree.proofs.asc_is_built.Goals as goal
 
 pub returns-clause-sound : goal.returns-clause-sound

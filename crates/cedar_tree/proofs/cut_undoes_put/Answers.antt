@@ -1,5 +1,5 @@
 use Rattle.cedar_tree.proofs.TreeLemmas.{cut-put}
-use Rattle.cedar_tree.proofs.ChangeLemmas.{cut-put_any}
+use Rattle.cedar_tree.proofs.EntryLemmas.Changes.{cut-put_any}
 use Rattle.cedar_tree.proofs.cut_undoes_put.Goals as goal
 
 pub returns-clause-new : goal.returns-clause-new

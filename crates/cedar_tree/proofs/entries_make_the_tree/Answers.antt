@@ -1,4 +1,4 @@
-use Rattle.cedar_tree.proofs.KeyLemmas.{walk_keys, asc-walk}
+use Rattle.cedar_tree.proofs.EntryLemmas.Keys.{walk_keys, asc-walk}
 use Rattle.cedar_tree.proofs.entries_make_the_tree.Goals as goal
 
 pub returns-clause-keys : goal.returns-clause-keys

@@ -1,4 +1,4 @@
-use Rattle.cedar_tree.proofs.ExtensionLemmas.{key_before_extension}
+use Rattle.cedar_tree.proofs.EntryLemmas.Extensions.{key_before_extension}
 use Rattle.cedar_tree.proofs.keys_come_before_extensions.Goals as goal
 
 pub returns : goal.returns

@@ -1,4 +1,4 @@
-use Rattle.cedar_tree.proofs.PrefixLemmas.{missing-held, missing-cut, missing-fronts, front_of_node, node_of_held}
+use Rattle.cedar_tree.proofs.EntryLemmas.Prefixes.{missing-held, missing-cut, missing-fronts, front_of_node, node_of_held}
 use Rattle.cedar_tree.proofs.missing_nodes_are_counted.Goals as goal
 
 pub returns-clause-held : goal.returns-clause-held

@@ -1,4 +1,4 @@
-use Rattle.cedar_tree.proofs.ChangeLemmas.{walk-put, walk-cut}
+use Rattle.cedar_tree.proofs.EntryLemmas.Changes.{walk-put, walk-cut}
 use Rattle.cedar_tree.proofs.other_entries_stay.Goals as goal
 
 pub returns-clause-put : goal.returns-clause-put

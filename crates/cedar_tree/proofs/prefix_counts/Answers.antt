@@ -1,4 +1,4 @@
-use Rattle.cedar_tree.proofs.PrefixLemmas.{length-prefixes-put, length-prefixes-cut}
+use Rattle.cedar_tree.proofs.EntryLemmas.Prefixes.{length-prefixes-put, length-prefixes-cut}
 use Rattle.cedar_tree.proofs.prefix_counts.Goals as goal
 
 pub returns-clause-put : goal.returns-clause-put

@@ -1,4 +1,4 @@
-use Rattle.cedar_tree.proofs.PrefixLemmas.{used-put, used-cut}
+use Rattle.cedar_tree.proofs.EntryLemmas.Prefixes.{used-put, used-cut}
 use Rattle.cedar_tree.proofs.slot_counts.Goals as goal
 
 pub returns-clause-put : goal.returns-clause-put

@@ -1,4 +1,4 @@
-use Rattle.cedar_tree.proofs.PairLemmas.{asc_is_tree_of, one_tree_of}
+use Rattle.cedar_tree.proofs.EntryLemmas.Pairs.{asc_is_tree_of, one_tree_of}
 use Rattle.cedar_tree.proofs.sorted_pairs_have_one_tree.Goals as goal
 
 pub returns-clause-exists : goal.returns-clause-exists

@@ -1,7 +1,7 @@
 //! How a dictionary is loaded: from a watched reader, or from bytes in memory.
 
 ghost use Rattle.std.specs.Prelude.{◌*◌, ◌+◌};
-ghost use Rattle.cedarwood.specs.Words.{CountsWithin, IsLimit, LoadsBy, TellsBreaks, layout_byte, need};
+ghost use Rattle.cedarwood.specs.Words.{CountsWithin, IsLimit, layout_byte, LoadsBy, need, TellsBreaks};
 
 use crate::counted::load_uncounted;
 use crate::{CedarPersistenceError, DEFAULT_LOAD_MEMORY_LIMIT, Layout, Source, Ticks, Trie};

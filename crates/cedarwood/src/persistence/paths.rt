@@ -1,7 +1,6 @@
 //! Files by their paths, through a buffer.
 
-ghost use Rattle.std.specs.Prelude.{IfErr, IfOk, OnOk, length};
-ghost use Rattle.cedarwood.specs.Words.{FailsToSave, IsLimit, IsTableFile, IsWellFormed, LacksByPath, PassesAgain, layout_byte, table_bytes};
+ghost use Rattle.cedarwood.specs.Words.{FailsToSave, IfErr, IfOk, IsLimit, IsTableFile, IsWellFormed, LacksByPath, layout_byte, length, OnOk, PassesAgain, table_bytes};
 
 use crate::persistence::replace::no_buffer;
 use crate::{CedarPersistenceError, DEFAULT_LOAD_MEMORY_LIMIT, Layout, Trie, Watched};

@@ -1,8 +1,7 @@
 //! Files that are written beside the one of their name and take its place once they are whole.
 
-ghost use Rattle.std.specs.Prelude.{◌+◌, ◌≡◌, IfErr, IsOk, OnOk, length};
-ghost use Rattle.cedar_format.specs.declared.error.CedarPersistenceError.TheVariants.{AllocationFailed};
-ghost use Rattle.cedarwood.specs.Words.{FailsToSave, FailsToWrite, IsTableFile, IsVersion, PassesAgain, table_bytes};
+ghost use Rattle.std.specs.Prelude.{◌+◌, ◌≡◌, IfErr, IsOk, length, OnOk};
+ghost use Rattle.cedarwood.specs.Words.{AllocationFailed, FailsToSave, FailsToWrite, IsTableFile, IsVersion, PassesAgain, table_bytes};
 
 use crate::{CedarPersistenceError, Layout, Trie, Watched};
 use cedar_file::write_table;

@@ -1,6 +1,6 @@
 //! Exact searches of many keys in one call.
 
-ghost use Rattle.std.specs.Prelude.{◌++◌, ◌<◌, ◌≡◌, drop, length, map, take};
+ghost use Rattle.std.specs.Prelude.{◌++◌, ◌≡◌, drop, length, map, take};
 ghost use Rattle.cedarwood.specs.Words.{exact, keys_of};
 
 use crate::counted::search_batch_uncounted;

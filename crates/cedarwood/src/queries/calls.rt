@@ -1,7 +1,7 @@
 //! The walks of a dictionary: the prefix walk and the prediction, as iterators and collected, and all entries.
 
-ghost use Rattle.std.specs.Prelude.{◌<◌, ◌≡◌, IfErr, IfOk, length};
-ghost use Rattle.cedarwood.specs.Words.{IsBlankOf, front, predict, walk};
+ghost use Rattle.std.specs.Prelude.{◌≡◌, IfErr, IfOk, length};
+ghost use Rattle.cedarwood.specs.Words.{front, IsBlankOf, predict, walk};
 
 use crate::queries::counted::CountedPrefixIter;
 use crate::queries::entries::{Entries, Utf8Entries};

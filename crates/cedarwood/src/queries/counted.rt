@@ -1,7 +1,7 @@
 //! The prefix walk with a count of its own.
 
-ghost use Rattle.std.specs.Prelude.{◌*◌, ◌+◌, ◌<◌, ◌≡◌, ◌≤◌};
-ghost use Rattle.cedarwood.specs.Words.{CountedWalk, IsBlankOf, YieldsFirst, counted_walk_code, item_count};
+ghost use Rattle.std.specs.Prelude.{◌*◌, ◌+◌, ◌≡◌, ◌≤◌};
+ghost use Rattle.cedarwood.specs.Words.{counted_walk_code, CountedWalk, IsBlankOf, item_count, YieldsFirst};
 
 use crate::Ticks;
 use crate::queries::prefix::PrefixIter;

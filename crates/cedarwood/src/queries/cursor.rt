@@ -1,9 +1,7 @@
 //! A cursor over the entries of a range, which lends their keys.
 
-ghost use Rattle.std.specs.Prelude.{◌≡◌, ◌<◌, ℕ, List, [], ◌∷◌, IfErr, IfOk, length, MatchOption, Some};
-ghost use Rattle.cedar_walk.specs.declared.visits.Numbered.{Numbered};
-ghost use Rattle.cedar_model.specs.Meaning.WellFormed.{IsWellFormed};
-ghost use Rattle.cedarwood.specs.Cursors.{FindsNext, IsAtEnd, IsCursorPlace, IsShortOf, LeadsTo, place_before};
+ghost use Rattle.std.specs.Prelude.{◌<◌, ◌∷◌, ◌≡◌, [], IfErr, IfOk, length, List, MatchOption, option_map, Some, ℕ};
+ghost use Rattle.cedarwood.specs.Words.{Cursor, cursor_code, cursor_left, FindsNext, IsAtEnd, IsCursorEnd, IsCursorPlace, IsRangePlace, IsShortOf, IsWellFormed, LeadsTo, place_before};
 
 use crate::CedarError;
 use crate::queries::ranged::{RangeEntries, ends_at, write_key};
@@ -40,11 +38,6 @@ pub struct EntryCursor<'a, T: Walked, A: Allocator> {
 }
 
 impl<'a, T: Walked, A: Allocator> Model for EntryCursor<'a, T, A> {
-    ghost use Rattle.std.specs.Option.{option_map};
-    ghost use Rattle.cedar_model.specs.Meaning.WellFormed.{IsWellFormed};
-    ghost use Rattle.cedarwood.specs.Cursors.{Cursor, cursor_code, cursor_left, IsCursorEnd, IsCursorPlace};
-    ghost use Rattle.cedarwood.specs.RangeWalks.{IsRangePlace};
-
     ghost Value = { Cursor };
 
     ghost coded = { cursor_code };

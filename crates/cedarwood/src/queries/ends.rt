@@ -1,6 +1,6 @@
 //! The first entry and the last one.
 
-ghost use Rattle.std.specs.Prelude.{◌≡◌, ◌<◌, [], IfErr, IfOk, length, MatchOption, Some};
+ghost use Rattle.std.specs.Prelude.{◌<◌, ◌≡◌, [], IfErr, IfOk, length, MatchOption, Some};
 ghost use Rattle.cedarwood.specs.Words.{first_entry, last_entry, walk};
 
 use crate::queries::ranged::write_key;

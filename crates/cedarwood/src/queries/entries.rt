@@ -1,9 +1,7 @@
 //! All keys and their values.
 
-ghost use Rattle.std.specs.Prelude.{◌<◌, ◌↔◌, ◌∷◌, ◌≡◌, IfOk, IfSome, IsTrue, List, MatchOption, MatchResult, Some, [], length, string_bytes};
-ghost use Rattle.cedarwood.specs.Words.{ComesToEntry, Entry, IsEntriesPlace, IsEntryError, IsWellFormed, IsWithinCount, UpTo, entries_from, item_count, left_at, tree_of, walk};
-ghost use Rattle.cedar_tree.specs.Walks.{visited_entries};
-ghost use Rattle.cedarwood.specs.declared.error.CedarError.TheVariants.{Memory};
+ghost use Rattle.std.specs.Prelude.{◌<◌, ◌↔◌, ◌∷◌, ◌≡◌, [], IfOk, IfSome, IsTrue, length, List, MatchOption, MatchResult, Some, string_bytes};
+ghost use Rattle.cedarwood.specs.Words.{entries_from, Entry, GoesToCopied, GoesToEntry, IsEntriesPlace, IsEntryError, IsWellFormed, IsWithinCount, item_count, Memory, tree_of, UpTo, walk};
 
 use crate::CedarError;
 use crate::queries::walked::Walked;
@@ -42,7 +40,7 @@ fn next_entry<T: Walked, A: Allocator>(
 ) -> Result<Option<(usize, i32)>, AllocError>
     requires well_formed { IsWellFormed T.slots (T.shown trie.now) }
     requires place { IsEntriesPlace (T.shown trie.now) key.old.items slot }
-    ensures { IfOk result (λ found. MatchOption found (visited_entries (left_at (T.shown trie.now) [] (length key.old.items) slot) ≡ []) (ComesToEntry (T.shown trie.now) (visited_entries (left_at (T.shown trie.now) [] (length key.old.items) slot)) key.new.items)) }
+    ensures { IfOk result (GoesToEntry (T.shown trie.now) slot key.old.items key.new.items) }
 {
     let mut at = slot;
     while let Some(next) = trie.next_node(at, key.len()) {
@@ -149,8 +147,7 @@ fn next_copied<T: Walked, A: Allocator + Copy>(
 ) -> Result<Option<(usize, i32, Vec<u8, A>)>, AllocError>
     requires well_formed { IsWellFormed T.slots (T.shown trie.now) }
     requires place { IsEntriesPlace (T.shown trie.now) key.old.items slot }
-    ensures { IfOk result (λ found. MatchOption found (visited_entries (left_at (T.shown trie.now) [] (length key.old.items) slot) ≡ []) (λ entry.
-        (entry.2.items ≡ key.new.items) × ComesToEntry (T.shown trie.now) (visited_entries (left_at (T.shown trie.now) [] (length key.old.items) slot)) key.new.items (entry.0, entry.1))) }
+    ensures { IfOk result (GoesToCopied (λ copy. copy.items) (T.shown trie.now) slot key.old.items key.new.items) }
 {
     let Some((found, number)) = next_entry(trie, slot, key)? else {
         return Ok(None);

@@ -1,8 +1,7 @@
 //! Look-ups of one key, and of the longest key that a text begins with.
 
-ghost use Rattle.std.specs.Prelude.{◌≡◌, ◌<◌, ◌≤◌, IfSome, is_some, length};
-ghost use Rattle.cedar_tree.specs.Tree.{number_at};
-ghost use Rattle.cedar_walk.specs.Ranges.{longest_front};
+ghost use Rattle.std.specs.Prelude.{◌<◌, ◌≡◌, ◌≤◌, IfSome, is_some, length};
+ghost use Rattle.cedarwood.specs.Words.{longest_front, number_at};
 
 use crate::{Layout, Trie};
 use std::alloc::Allocator;

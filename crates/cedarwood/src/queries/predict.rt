@@ -1,7 +1,7 @@
 //! The prediction: the numbers of all keys that begin with a query.
 
-ghost use Rattle.std.specs.Prelude.{◌≡◌, IfSome, List, MatchOption, None, [], ℕ, ℤ, ⊤};
-ghost use Rattle.cedarwood.specs.Words.{GoesOnTo, IsPredictPlace, IsWellFormed, IsWithinCount, UpTo, YieldsFirst, item_count, predict, predicted_from, tree_of};
+ghost use Rattle.std.specs.Prelude.{◌≡◌, [], IfSome, List, MatchOption, None, ℕ, ℤ, ⊤};
+ghost use Rattle.cedarwood.specs.Words.{GoesOnTo, IsPredictPlace, IsWellFormed, IsWithinCount, item_count, predict, predicted_from, tree_of, UpTo, YieldsFirst};
 
 use crate::queries::walked::Walked;
 use cedar_walk::Numbered;

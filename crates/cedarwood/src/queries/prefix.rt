@@ -1,7 +1,7 @@
 //! The prefix walk: the numbers of the fronts of a query that are held.
 
-ghost use Rattle.std.specs.Prelude.{◌*◌, ◌+◌, ◌-◌, ◌<◌, ◌≡◌, ◌≤◌, IfSome, Some, length, ⊤};
-ghost use Rattle.cedarwood.specs.Words.{IsBlankOf, IsPrefixPlace, IsWellFormed, IsWithinCount, MakesProgress, PrefixWalk, UpTo, YieldsFirst, front, front_from, item_count, prefix_walk_code, tree_of};
+ghost use Rattle.std.specs.Prelude.{◌*◌, ◌+◌, ◌-◌, ◌≡◌, ◌≤◌, IfSome, length, Some, ⊤};
+ghost use Rattle.cedarwood.specs.Words.{front, front_from, IsBlankOf, IsPrefixPlace, IsWellFormed, IsWithinCount, item_count, MakesProgress, prefix_walk_code, PrefixWalk, tree_of, UpTo, YieldsFirst};
 
 use crate::Ticks;
 use crate::queries::walked::Walked;

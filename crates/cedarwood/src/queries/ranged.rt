@@ -1,15 +1,7 @@
 //! The entries of a range of keys: those that begin with a prefix, those from a key on, and those between two keys.
 
-ghost use Rattle.std.specs.Prelude.{◌≡◌, ◌<◌, ◌++◌, ◌↔◌, List, [], ◌∷◌, false, IfErr, IfOk, IfSome, IsTrue, length, MatchOption, MatchResult, Some, true};
-ghost use Rattle.std.specs.Iterator.{item_count, UpTo};
-ghost use Rattle.std.specs.Iterator.SizeHint.{IsWithinCount};
-ghost use Rattle.std.specs.Cmp.Lexicographic.{slice_cmp};
-ghost use Rattle.std.specs.Ordering.{is_lt, nat_cmp};
-ghost use Rattle.cedar_tree.specs.Queries.{Entry};
-ghost use Rattle.cedar_walk.specs.declared.visits.Numbered.{Numbered};
-ghost use Rattle.cedar_walk.specs.Visits.{IsNumberedBelow, path_to};
-ghost use Rattle.cedar_model.specs.Meaning.WellFormed.{IsWellFormed};
-ghost use Rattle.cedarwood.specs.declared.error.CedarError.TheVariants.{Memory};
+ghost use Rattle.std.specs.Prelude.{◌++◌, ◌<◌, ◌↔◌, ◌∷◌, ◌≡◌, [], false, IfErr, IfOk, IfSome, IsTrue, length, List, MatchOption, MatchResult, option_map, Some, true};
+ghost use Rattle.cedarwood.specs.Words.{bounded, entries_between, entries_since, entries_with, Entry, GivesBetween, is_lt, IsEnd, IsNumberedBelow, IsRangePlace, IsWellFormed, IsWithinCount, item_count, Memory, nat_cmp, Numbered, path_to, slice_cmp, tree_of, UpTo};
 
 use crate::queries::walked::Walked;
 use crate::{CedarError, Layout, Trie};
@@ -37,12 +29,6 @@ pub struct RangeEntries<'a, T: Walked, A: Allocator + Copy> {
 }
 
 impl<'a, T: Walked, A: Allocator + Copy> Model for RangeEntries<'a, T, A> {
-    ghost use Rattle.std.specs.Prelude.{List};
-    ghost use Rattle.std.specs.Option.{option_map};
-    ghost use Rattle.cedar_tree.specs.Queries.{Entry};
-    ghost use Rattle.cedar_model.specs.Meaning.WellFormed.{IsWellFormed};
-    ghost use Rattle.cedarwood.specs.RangeWalks.{bounded, IsEnd, IsRangePlace};
-
     ghost Value = { List Entry };
 
     ghost view = { λ it. bounded (T.shown it.trie.now) it.start.now (option_map (λ to. to.now) it.to) it.next };
@@ -104,10 +90,6 @@ fn is_before(from: &[u8], to: &[u8]) -> bool
 }
 
 impl<'a, T: Walked, A: Allocator + Copy> RangeEntries<'a, T, A> {
-    ghost use Rattle.cedar_model.specs.Meaning.WellFormed.{tree_of};
-    ghost use Rattle.cedar_walk.specs.Ranges.{entries_since, entries_with};
-    ghost use Rattle.cedarwood.specs.RangeWalks.{entries_between};
-
     // The entries at keys that begin with a prefix.
     pub(crate) fn with_prefix(trie: &'a T, prefix: &'a [u8], alloc: A) -> Self
         requires { IsWellFormed T.slots (T.shown trie.now) }
@@ -245,9 +227,6 @@ impl<'a, T: Walked, A: Allocator + Copy> Iterator for RangeEntries<'a, T, A> {
 impl<'a, T: Walked, A: Allocator + Copy> FusedIterator for RangeEntries<'a, T, A> {}
 
 impl<L: Layout, const SLOTS: usize, A: Allocator + Copy> Trie<L, SLOTS, A> {
-    ghost use Rattle.cedar_walk.specs.Ranges.{entries_since, entries_with};
-    ghost use Rattle.cedarwood.specs.RangeWalks.{entries_between};
-
     /// The entries at keys that begin with a prefix, each key before its extensions and in the order of the walk. Nothing outside the
     /// prefix's node is walked over. Each key is written for its item, in memory of the dictionary's own allocator;
     /// [`RangeEntries::next_into`] writes it into a buffer of the caller.
@@ -322,7 +301,7 @@ impl<L: Layout, const SLOTS: usize, A: Allocator + Copy> Trie<L, SLOTS, A> {
     pub fn range_bytes<'a>(&'a self, from: &[u8], to: &'a [u8]) -> Option<RangeEntries<'a, Self, A>>
         //= `range` gives likewise those of them before another key, none where that isn't above the first, and None exactly if the order is
         //  not ascending. [also range, RangeEntries.next_gives; by entries_between]
-        ensures { MatchOption result (self.now.state.ordered ≡ false) (λ entries. (self.now.state.ordered ≡ true) × (entries ≡ entries_between self.now.state.tree from.now to.now)) }
+        ensures { GivesBetween self.now.state from.now to.now result }
     {
         if self.table.ordered() {
             return Some(RangeEntries::between(self, from, to, self.table.allocator()));
@@ -338,7 +317,7 @@ impl<L: Layout, const SLOTS: usize, A: Allocator + Copy> Trie<L, SLOTS, A> {
     /// assert_eq!(rt; entries.count(), 2);
     /// ```
     pub fn range<'a>(&'a self, from: &str, to: &'a str) -> Option<RangeEntries<'a, Self, A>>
-        ensures { MatchOption result (self.now.state.ordered ≡ false) (λ entries. (self.now.state.ordered ≡ true) × (entries ≡ entries_between self.now.state.tree from.now to.now)) }
+        ensures { GivesBetween self.now.state from.now to.now result }
     {
         self.range_bytes(from.as_bytes(), to.as_bytes())
     }

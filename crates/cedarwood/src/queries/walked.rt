@@ -1,10 +1,7 @@
 //! What walks that are under way ask of a dictionary.
 
-ghost use Rattle.std.specs.Prelude.{◌*◌, ◌++◌, ◌+◌, ◌-◌, ◌<◌, ◌∷◌, ◌≡◌, ◌≤◌, IfOk, List, MatchOption, [], length, take, true, ℕ};
-ghost use Rattle.cedarwood.specs.Words.{ComesTo, ComesToNumber, Fields, IsBelow, IsNumberedBelow, IsOnQuery, IsWellFormed, cells_in, front_from, left_at, node_at, front_length, path_to, tree_of, walk};
-ghost use Rattle.cedar_tree.specs.Walks.{visited_entries};
-ghost use Rattle.cedar_walk.specs.Keys.{KeyGoesOn};
-ghost use Rattle.cedar_walk.specs.Ranges.{entries_since};
+ghost use Rattle.std.specs.Prelude.{◌*◌, ◌++◌, ◌+◌, ◌-◌, ◌<◌, ◌≡◌, ◌≤◌, [], IfOk, length, List, MatchOption, take, true, ℕ};
+ghost use Rattle.cedarwood.specs.Words.{cells_in, ComesToFirst, entries_since, Fields, front_length, GoesToNode, GoesToNumber, IsBelow, IsNextFront, IsNumberedBelow, IsOnQuery, IsWellFormed, KeyGoesOn, node_at, path_to, tree_of, walk};
 
 use crate::{Layout, Ticks, Trie};
 use cedar_walk::{
@@ -35,21 +32,20 @@ pub trait Walked {
 
         //= What a walk asks of a dictionary is answered from its table. [with on, cost; also first_numbered, first_since, next_numbered,
         //  next_node, write_path]
-        ensures answer { MatchOption result (front_from (tree_of (shown self.now)) query.now place ≡ []) (λ front.
-            (0 < front.len) × (front_from (tree_of (shown self.now)) query.now place ≡ (front.number, front.len - 1) ∷ front_from (tree_of (shown self.now)) query.now front.len)) }
+        ensures answer { IsNextFront (tree_of (shown self.now)) query.now place result }
         ensures on { MatchOption result (place ≤ length query.now) (λ front. (place < front.len) × IsOnQuery (shown self.now) query.now front.len front.slot) }
         ensures cost { ticks.new ≤ ticks.old + 2 * (front_length query.now result - place) };
 
     /// The first node with a number of those that begin at a query's node, and go on below it.
     fn first_numbered(&self, query: &[u8]) -> Option<Numbered>
         requires { IsWellFormed slots (shown self.now) }
-        ensures { MatchOption result (walk (node_at (tree_of (shown self.now)) query.now) ≡ []) (ComesToNumber (shown self.now) query.now (walk (node_at (tree_of (shown self.now)) query.now))) };
+        ensures { ComesToFirst (shown self.now) query.now (walk (node_at (tree_of (shown self.now)) query.now)) result };
 
     /// The next node with a number of a walk that has been at one.
     fn next_numbered(&self, node: usize, depth: usize) -> Option<Numbered>
         requires well_formed { IsWellFormed slots (shown self.now) }
         requires below { (start : List ℕ) × IsNumberedBelow (shown self.now) start depth node }
-        ensures { (start : List ℕ) → IsBelow (cells_in (shown self.now)) start depth node → MatchOption result (visited_entries (left_at (shown self.now) start depth node) ≡ []) (ComesToNumber (shown self.now) start (visited_entries (left_at (shown self.now) start depth node))) };
+        ensures { GoesToNumber (shown self.now) depth node result };
 
     /// The next node with a number of a walk that has been at one, with a key that is kept in step: it ended in the path to the one node,
     /// and ends in that to the other. Where a request for memory is refused, the key may hold anything.
@@ -64,20 +60,20 @@ pub trait Walked {
         requires room { depth ≤ length key.old.items }
 
         //= A walk whose key is kept in step is told the same node, and ends its key in that node's path. [with key]
-        ensures found { IfOk result (λ found. (start : List ℕ) → IsBelow (cells_in (shown self.now)) start depth node → MatchOption found (visited_entries (left_at (shown self.now) start depth node) ≡ []) (ComesToNumber (shown self.now) start (visited_entries (left_at (shown self.now) start depth node)))) }
+        ensures found { IfOk result (GoesToNumber (shown self.now) depth node) }
         ensures key { IfOk result (λ found. MatchOption found (key.new.items ≡ key.old.items) (KeyGoesOn (shown self.now) depth node key.old.items key.new.items)) };
 
     /// The next node of a walk.
     fn next_node(&self, node: usize, depth: usize) -> Option<Visited>
         requires well_formed { IsWellFormed slots (shown self.now) }
         requires below { (start : List ℕ) × IsBelow (cells_in (shown self.now)) start depth node }
-        ensures { (start : List ℕ) → IsBelow (cells_in (shown self.now)) start depth node → MatchOption result (left_at (shown self.now) start depth node ≡ []) (ComesTo (shown self.now) start (left_at (shown self.now) start depth node) (path_to (shown self.now) depth node)) };
+        ensures { GoesToNode (shown self.now) depth node result };
 
     /// The first node with a number at a key or after it by bytes, of a dictionary whose labels ascend.
     fn first_since(&self, key: &[u8]) -> Option<Numbered>
         requires well_formed { IsWellFormed slots (shown self.now) }
         requires ordered { (shown self.now).ordered ≡ true }
-        ensures { MatchOption result (entries_since (tree_of (shown self.now)) key.now ≡ []) (ComesToNumber (shown self.now) [] (entries_since (tree_of (shown self.now)) key.now)) };
+        ensures { ComesToFirst (shown self.now) [] (entries_since (tree_of (shown self.now)) key.now) result };
 
     /// Writes the last labels on the way to a node, `depth` of them, behind the front of a key.
     fn write_path(&self, node: usize, depth: usize, key: &mut [u8])

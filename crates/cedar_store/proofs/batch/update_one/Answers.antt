@@ -5,7 +5,7 @@ use mir.Val.{of_z, to_z}
 use mir.Syntax.{w32}
 use Rattle.cedar_tree.specs.Tree.{number_at}
 use Rattle.cedar_tree.specs.State.{stored}
-use Rattle.cedar_tree.proofs.KeyLemmas.{held_key}
+use Rattle.cedar_tree.proofs.EntryLemmas.Keys.{held_key}
 use Rattle.cedar_tree.proofs.TreeLemmas.{number_at-put_same}
 use Rattle.cedarwood.specs.Fault.{fault}
 use Rattle.cedar_store.specs.Batches.{HasKey, IsFaultless, IsHeld, only_updated}

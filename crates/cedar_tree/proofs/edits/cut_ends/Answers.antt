@@ -1,4 +1,4 @@
-use Rattle.cedar_tree.proofs.EditLemmas.{cut_stops, cut_stops_at_end}
+use Rattle.cedar_tree.proofs.EntryLemmas.Steps.{cut_stops, cut_stops_at_end}
 use Rattle.cedar_tree.proofs.edits.cut_ends.Goals as goal
 
 pub returns-clause-there : goal.returns-clause-there

@@ -1,4 +1,4 @@
-use Rattle.cedar_tree.proofs.EditLemmas.{cut-without_leaf, cut-without_number}
+use Rattle.cedar_tree.proofs.EntryLemmas.Steps.{cut-without_leaf, cut-without_number}
 use Rattle.cedar_tree.proofs.edits.cut_goes_up_its_path.Goals as goal
 
 pub returns-clause-number : goal.returns-clause-number

@@ -1,4 +1,4 @@
-use Rattle.cedar_tree.proofs.EditLemmas.{put-with_leaf, put-with_number}
+use Rattle.cedar_tree.proofs.EntryLemmas.Steps.{put-with_leaf, put-with_number}
 use Rattle.cedar_tree.proofs.edits.put_goes_along_its_path.Goals as goal
 
 pub returns-clause-leaf : goal.returns-clause-leaf

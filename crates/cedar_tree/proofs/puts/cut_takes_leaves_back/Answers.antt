@@ -1,4 +1,4 @@
-use Rattle.cedar_tree.proofs.PutLemmas.{cut-with_leaf, cut_at_bare, cut_past_bare}
+use Rattle.cedar_tree.proofs.EntryLemmas.Leaves.{cut-with_leaf, cut_at_bare, cut_past_bare}
 use Rattle.cedar_tree.proofs.puts.cut_takes_leaves_back.Goals as goal
 
 pub returns-clause-leaf : goal.returns-clause-leaf

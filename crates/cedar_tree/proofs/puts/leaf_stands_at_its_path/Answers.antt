@@ -1,4 +1,4 @@
-use Rattle.cedar_tree.proofs.PutLemmas.{ascending-with_leaf, leaf_is_bare, number_at-with_leaf, path_of_leaf}
+use Rattle.cedar_tree.proofs.EntryLemmas.Leaves.{ascending-with_leaf, leaf_is_bare, number_at-with_leaf, path_of_leaf}
 use Rattle.cedar_tree.proofs.puts.leaf_stands_at_its_path.Goals as goal
 
 pub returns-clause-path : goal.returns-clause-path

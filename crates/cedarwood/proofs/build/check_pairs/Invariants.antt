@@ -1,7 +1,12 @@
-use Rattle.std.proofs.Common.{◌≡◌, drop, map}
+use Rattle.std.proofs.Common.{◌≡◌, drop, take}
+use Rattle.cedar_bulk.specs.Sorted.{entries_by}
 use Rattle.cedarwood.specs.Builds.{first_fault}
+use Rattle.cedarwood.specs.SortedInput.{AreBytes}
 use Rattle.cedarwood.proofs.build.check_pairs.Given as goal
 
 -- the first fault is one from here on
-abbrev pub invariant-loop-pair : goal.invariant-loop-pair
-invariant-loop-pair g l = first_fault (map (λ p. (g.K.AsSlice.items p.0, p.1)) l.pairs) ≡ first_fault (map (λ p. (g.K.AsSlice.items p.0, p.1)) (drop l.pair-index l.pairs))
+abbrev pub invariant-loop-index : goal.invariant-loop-index
+invariant-loop-index g l = record {
+  first : first_fault (entries_by g.K.AsSlice.items l.pairs) ≡ first_fault (drop l.index (entries_by g.K.AsSlice.items l.pairs));
+  bytes : AreBytes (take l.index (entries_by g.K.AsSlice.items l.pairs));
+}

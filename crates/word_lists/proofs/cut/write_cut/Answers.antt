@@ -1,30 +1,26 @@
-use Rattle.std.proofs.Common.{◌≡◌, ◌++◌, ◌∙◌, ℕ, List, ap}
+use Rattle.std.proofs.Common.{◌≡◌, ◌++◌, ◌∙◌, List, ap, subst}
+use Rattle.std.specs.Prelude.{OnErr, OnOk}
+use Rattle.std.specs.Io.KnownBytes.{Appends}
 use Rattle.cedarwood.specs.WatchedDevice.{device_of}
 use Rattle.cedar_words.specs.Words.{Token, segments}
+use Rattle.word_lists.specs.Devices.{WritesFront}
 use Rattle.word_lists.specs.Texts.{body_of, cut_text, ending_of}
-use Rattle.word_lists.proofs.Bytes.{front_as, on_err, then_err_as, then_ok_as}
 use Rattle.word_lists.proofs.cut.write_cut.Goals as goal
-
-pub returns-in_err-write_tokens-clause-err : goal.returns-in_err-write_tokens-clause-err
-returns-in_err-write_tokens-clause-err g c =
-    let tokens : c.segment.result ≡ segments c.args.trie.now.state.tree (body_of c.args.line.now) = c.segment.ensures ∙ ap (segments c.args.trie.now.state.tree) c.body-text.ensures.body in
-    let cut : cut_text c.args.sign.now c.body-text.result.now c.segment.result ≡ cut_text c.args.sign.now (body_of c.args.line.now) (segments c.args.trie.now.state.tree (body_of c.args.line.now)) = λ k. cut_text c.args.sign.now (c.body-text.ensures.body k) (tokens k) in
-    on_err c.from_residual.result
-    (front_as (g.W.Write.contents (device_of c.args.writer.now)) (g.W.Write.contents (device_of c.write_tokens.new.writer)) (cut_text c.args.sign.now c.body-text.result.now c.segment.result)
-    (cut_text c.args.sign.now (body_of c.args.line.now) (segments c.args.trie.now.state.tree (body_of c.args.line.now))) (ending_of c.args.line.now) cut c.in_err-write_tokens.ensures.err)
 
 pub returns-clause-ok : goal.returns-clause-ok
 returns-clause-ok g c =
-    let tokens : c.segment.result ≡ segments c.args.trie.now.state.tree (body_of c.args.line.now) = c.segment.ensures ∙ ap (segments c.args.trie.now.state.tree) c.body-text.ensures.body in
-    let cut : cut_text c.args.sign.now c.body-text.result.now c.segment.result ≡ cut_text c.args.sign.now (body_of c.args.line.now) (segments c.args.trie.now.state.tree (body_of c.args.line.now)) = λ k. cut_text c.args.sign.now (c.body-text.ensures.body k) (tokens k) in
-    then_ok_as c.write_whole.result (g.W.Write.contents (device_of c.args.writer.now)) (g.W.Write.contents (device_of c.write_tokens.new.writer)) (g.W.Write.contents (device_of c.write_whole.new.writer))
-    (cut_text c.args.sign.now c.body-text.result.now c.segment.result) (cut_text c.args.sign.now (body_of c.args.line.now) (segments c.args.trie.now.state.tree (body_of c.args.line.now)))
-    c.ending.result.now (ending_of c.args.line.now) cut c.ending.ensures c.in_ok-write_tokens.ensures.ok c.write_whole.ensures.ok
+    let held = g.W.Write.contents (device_of c.args.writer.now) in
+    let holds = g.W.Write.contents (device_of c.write_line_tokens.new.writer) in
+    let tree = c.args.trie.now.state.tree in
+    let tokens : c.segment.result ≡ segments tree (body_of c.args.line.now) = c.segment.ensures ∙ ap (segments tree) c.body.ensures.body in
+    subst (λ (t : List Token). OnOk c.write_line_tokens.result (Appends held holds (cut_text c.args.sign.now (body_of c.args.line.now) t ++ ending_of c.args.line.now))) tokens
+    c.write_line_tokens.ensures.ok
 
 pub returns-clause-err : goal.returns-clause-err
 returns-clause-err g c =
-    let tokens : c.segment.result ≡ segments c.args.trie.now.state.tree (body_of c.args.line.now) = c.segment.ensures ∙ ap (segments c.args.trie.now.state.tree) c.body-text.ensures.body in
-    let cut : cut_text c.args.sign.now c.body-text.result.now c.segment.result ≡ cut_text c.args.sign.now (body_of c.args.line.now) (segments c.args.trie.now.state.tree (body_of c.args.line.now)) = λ k. cut_text c.args.sign.now (c.body-text.ensures.body k) (tokens k) in
-    then_err_as c.write_whole.result (g.W.Write.contents (device_of c.args.writer.now)) (g.W.Write.contents (device_of c.write_tokens.new.writer)) (g.W.Write.contents (device_of c.write_whole.new.writer))
-    (cut_text c.args.sign.now c.body-text.result.now c.segment.result) (cut_text c.args.sign.now (body_of c.args.line.now) (segments c.args.trie.now.state.tree (body_of c.args.line.now)))
-    c.ending.result.now (ending_of c.args.line.now) cut c.ending.ensures c.in_ok-write_tokens.ensures.ok c.write_whole.ensures.err
+    let held = g.W.Write.contents (device_of c.args.writer.now) in
+    let holds = g.W.Write.contents (device_of c.write_line_tokens.new.writer) in
+    let tree = c.args.trie.now.state.tree in
+    let tokens : c.segment.result ≡ segments tree (body_of c.args.line.now) = c.segment.ensures ∙ ap (segments tree) c.body.ensures.body in
+    subst (λ (t : List Token). OnErr c.write_line_tokens.result (WritesFront held holds (cut_text c.args.sign.now (body_of c.args.line.now) t ++ ending_of c.args.line.now))) tokens
+    c.write_line_tokens.ensures.err

@@ -1,10 +1,10 @@
-use Rattle.std.proofs.Common.{◌≡◌, ◌++◌, ◌∷◌, ◌∙◌, [], ap, append_assoc, refl, subst, sym}
+use Rattle.std.proofs.Common.{◌++◌, ◌∷◌, ◌∙◌, [], ap, append_assoc, refl, subst, sym}
 use Rattle.std.specs.Io.KnownBytes.{Appends}
 use Rattle.cedarwood.specs.WatchedDevice.{device_of}
 use Rattle.cedar_words.specs.Words.{Token}
-use Rattle.word_lists.specs.Texts.{cut_text, token_text}
+use Rattle.word_lists.specs.Texts.{style_text, styled_text}
 use Rattle.word_lists.proofs.Bytes.{Appends-append, Appends-none, on_err}
-use Rattle.word_lists.proofs.Texts.{cut_push, cut_stopped}
+use Rattle.word_lists.proofs.Texts.{texts_push, texts_stopped}
 use Rattle.word_lists.proofs.cut.write_tokens.Goals as goal
 
 pub loop-token-init : goal.loop-token-init
@@ -20,8 +20,8 @@ loop-token-preserved g c =
     let holds = g.W.Write.contents (device_of c.write_token.new.writer) in (
       came ++ t ∷ [],
       i.1 ∙ ap (λ l. came ++ l) c.in-Some.ensures ∙ sym (append_assoc came (t ∷ []) (g.T.Tokens.left c.next_token.new.self)),
-      subst (Appends held holds) (sym (cut_push c.args.sign.now c.args.text.now came t))
-          (Appends-append held begun holds (cut_text c.args.sign.now c.args.text.now came) (token_text c.args.sign.now c.args.text.now t) i.2 c.in_ok-write_token.ensures.ok),
+      subst (Appends held holds) (sym (texts_push (style_text c.args.style c.args.text.now) came t))
+          (Appends-append held begun holds (styled_text c.args.style c.args.text.now came) (style_text c.args.style c.args.text.now t) i.2 c.in_ok-write_token.ensures.ok),
       c.in_ok-write_token.ensures.faults.unfailed ∙ i.3,
     )
 
@@ -32,5 +32,5 @@ returns-in_err-write_token-clause-err g c =
     let begun = g.W.Write.contents (device_of c.loop-token.writer) in
     let holds = g.W.Write.contents (device_of c.write_token.new.writer) in
     on_err c.from_residual.result
-    (cut_stopped c.args.sign.now c.args.text.now held begun holds (g.T.Tokens.left c.args.tokens.now) i.0 (g.T.Tokens.left c.next_token.new.self) c.in-Some.token
+    (texts_stopped (style_text c.args.style c.args.text.now) held begun holds (g.T.Tokens.left c.args.tokens.now) i.0 (g.T.Tokens.left c.next_token.new.self) c.in-Some.token
     (i.1 ∙ ap (λ l. i.0 ++ l) c.in-Some.ensures) i.2 c.in_err-write_token.ensures.err)

@@ -1,4 +1,4 @@
-use Rattle.std.proofs.Common.{rules, ◌≡◌, ◌+◌, ◌<◌, ◌∙◌, ap, arith, length, get_or}
+use Rattle.std.proofs.Common.{rules, ◌≡◌, ◌+◌, ◌<◌, ◌∙◌, ap, length, get_or}
 use Rattle.word_lists.specs.Texts.{characters_begun}
 use Rattle.word_lists.proofs.Texts.{characters_next}
 use Rattle.word_lists.proofs.parts.characters.Goals as goal

@@ -1,4 +1,4 @@
-use Rattle.std.proofs.Common.{rules, ◌≡◌, ◌+◌, ◌-◌, ◌≤◌, ◌∙◌, ap, ap₂, arith, drop, length, take}
+use Rattle.std.proofs.Common.{rules, ◌≡◌, ◌+◌, ◌-◌, ◌≤◌, ◌∙◌, ap, ap₂, arith, drop, take}
 use Rattle.word_lists.specs.Texts.{characters}
 use Rattle.word_lists.proofs.Texts.{characters_between, characters_front_within}
 use Rattle.word_lists.proofs.parts.characters_before.Goals as goal

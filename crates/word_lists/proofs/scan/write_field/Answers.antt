@@ -1,4 +1,4 @@
-use Rattle.std.proofs.Common.{◌≡◌, ◌∷◌, ◌∙◌, []}
+use Rattle.std.proofs.Common.{◌∷◌, ◌∙◌, []}
 use Rattle.std.specs.Prelude.{decimal}
 use Rattle.cedarwood.specs.WatchedDevice.{device_of}
 use Rattle.word_lists.proofs.Bytes.{front_as, on_err}

@@ -1,17 +1,17 @@
-use Rattle.std.specs.Prelude.{nat_eq, option_map, Some}
+use Rattle.std.specs.Prelude.{nat_eq, option_and_then, option_map, Some}
 use Rattle.std.specs.List.{AllByRecursion}
 use Rattle.std.proofs.Common.{◌≡◌, false, ◌∙◌, ap, length, refl, subst, sym, rules}
 use Rattle.std.proofs.lemmas.Bool.{false≢true}
+use Rattle.cedar_journal.specs.Device.{LeavesOnly}
 use Rattle.cedar_journal.specs.Frames.{payload_of}
-use Rattle.cedar_journal.proofs.Moments.{weakens}
 use Rattle.cedar_store.specs.Batches.{IsFaultless}
-use Rattle.cedar_store.specs.Changes.{all_changed}
+use Rattle.cedar_store.specs.Changes.{after, all_changed}
+use Rattle.cedar_store.specs.Files.{IsEither}
 use Rattle.cedar_store.specs.Told.{changes_told}
 use Rattle.cedar_store.proofs.Ordered.{is_ordered}
 use Rattle.cedar_store.proofs.Payloads.{handed_on}
 use Rattle.cedar_store.proofs.Refused.{batch_cause, stays_prepared}
 use Rattle.cedar_store.proofs.Withdrawn.{nothing_told}
-use Rattle.cedar_store.proofs.States.{either, state_added}
 use Rattle.cedar_store.proofs.store.Store.apply_batch.Goals as goal
 
 pub make-requires : goal.make-requires
@@ -43,33 +43,24 @@ returns-in_err-batch-clause-err g c =
     handed_on c.from_residual.result c.in_err-batch.field-0.0 _ c.from_residual.ensures.1
     (stays_prepared (changes_told c.args.changes.now) c.args.self.now.journal.end c.in_err-batch.field-0.0 _ _ c.in_err-batch.ensures.cause (refl, refl, c.in_err-batch.ensures.err))
 
-pub returns-in_err-append-clause-any_moment : goal.returns-in_err-append-clause-any_moment
-returns-in_err-append-clause-any_moment g c = λ ready.
+pub acknowledge-requires-clause-stands : goal.acknowledge-requires-clause-stands
+acknowledge-requires-clause-stands g c =
     let s = (g.T.Words.state c.args.self.now.words) in
-    let t = all_changed s (changes_told c.args.changes.now) in
-    let file = g.D.Device.seen c.args.self.now.journal.device in
+    let ready : c.args.self.now.failed ≡ false = search rules in
     let told = ap (option_map (all_changed s)) c.in_ok-batch.ensures.change in
-    weakens g.D.Device.moment g.D.Device.left_since c.args.self.now.journal.device c.append.new.self.journal.device _ _
-    (λ f. either file f (payload_of c.in_ok-batch.batch) s t (c.requires.ready ready).same told) c.append.ensures.any_moment
+    let kept : (g.T.Words.state c.make.new.words) ≡ all_changed s (changes_told c.args.changes.now) = search rules in
+    ap (option_and_then (λ t. after t (payload_of c.in_ok-batch.batch))) (c.requires.ready ready).same ∙ told ∙ ap Some (sym kept)
+
+pub returns-in_err-acknowledge-clause-any_moment : goal.returns-in_err-acknowledge-clause-any_moment
+returns-in_err-acknowledge-clause-any_moment g c = λ ready.
+    let s = (g.T.Words.state c.args.self.now.words) in
+    let kept : (g.T.Words.state c.make.new.words) ≡ all_changed s (changes_told c.args.changes.now) = search rules in
+    subst (λ t. LeavesOnly g.D.Device.moment g.D.Device.left_since c.args.self.now.journal.device c.acknowledge.new.self.journal.device (IsEither s t)) kept
+    (c.acknowledge.ensures.any_moment s (c.requires.ready ready).same)
 
 pub returns-clause-any_moment : goal.returns-clause-any_moment
 returns-clause-any_moment g c = λ ready.
     let s = (g.T.Words.state c.args.self.now.words) in
-    let t = all_changed s (changes_told c.args.changes.now) in
-    let file = g.D.Device.seen c.args.self.now.journal.device in
-    let told = ap (option_map (all_changed s)) c.in_ok-batch.ensures.change in
-    weakens g.D.Device.moment g.D.Device.left_since c.args.self.now.journal.device c.append.new.self.journal.device _ _
-    (λ f. either file f (payload_of c.in_ok-batch.batch) s t (c.requires.ready ready).same told) c.append.ensures.any_moment
-
-pub returns-clause-ready : goal.returns-clause-ready
-returns-clause-ready g c = λ _.
-    let s = (g.T.Words.state c.args.self.now.words) in
-    let t = all_changed s (changes_told c.args.changes.now) in
-    let seen = g.D.Device.seen in
-    let ready : c.args.self.now.failed ≡ false = search rules in
-    let kept : (g.T.Words.state c.append.new.self.words) ≡ t = search rules in
-    let told = ap (option_map (all_changed s)) c.in_ok-batch.ensures.change in
-    record {
-      settled = c.in_ok-append.ensures.settled;
-      same = state_added (seen c.args.self.now.journal.device) (seen c.append.new.self.journal.device) (payload_of c.in_ok-batch.batch) s t (c.requires.ready ready).same told c.in_ok-append.ensures.acknowledged ∙ ap Some (sym kept);
-    }
+    let kept : (g.T.Words.state c.make.new.words) ≡ all_changed s (changes_told c.args.changes.now) = search rules in
+    subst (λ t. LeavesOnly g.D.Device.moment g.D.Device.left_since c.args.self.now.journal.device c.acknowledge.new.self.journal.device (IsEither s t)) kept
+    (c.acknowledge.ensures.any_moment s (c.requires.ready ready).same)

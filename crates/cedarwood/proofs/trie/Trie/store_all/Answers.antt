@@ -22,27 +22,27 @@ pub returns-in_err-update_bytes-clause-updates : goal.returns-in_err-update_byte
 returns-in_err-update_bytes-clause-updates g c =
     let f : g.row.K.Denot × ℤ → Entry = λ p. (g.K.AsSlice.items p.0, p.1) in
     let ps = c.args.pairs.now in
-    let i = c.loop-pair.pair-index in
-    let item = c.pair-item.result in
+    let i = c.loop-index.index in
+    let item = c.index-pairs-index.result in
     let fits : FitsSigned w32 item.1 = search rules in
     let r = c.from_residual-in_err-update_bytes.result in
     let p = err_from_is_err_and r c.from_residual-in_err-update_bytes.ensures.1 in
     let same : c.update_bytes.result ≡ r = cc (p.1, p.2, c.in_err-update_bytes.was) in
     let is : r ≡ Err p.0 = p.1 in
-    λ fine. c.loop-pair.invariant r c.update_bytes.new.self
-    (refused_here f ps i item g.L.Layout.kind g.row.SLOTS c.loop-pair.self c.update_bytes.new.self r p.0 c.loop-pair-test.true is
-    (update_at f ps i item g.L.Layout.kind g.row.SLOTS c.loop-pair.self c.update_bytes.new.self _ _ c.update_bytes.result r c.pair-item.is c.as_slice.ensures (to_z-of_z w32 item.1 fits) same c.update_bytes.ensures.updated))
+    λ fine. c.loop-index.invariant r c.update_bytes.new.self
+    (refused_here f ps i item g.L.Layout.kind g.row.SLOTS c.loop-index.self c.update_bytes.new.self r p.0 c.loop-index-test.true is
+    (update_at f ps i item g.L.Layout.kind g.row.SLOTS c.loop-index.self c.update_bytes.new.self _ _ c.update_bytes.result r c.index-pairs-index.is c.as_slice.ensures (to_z-of_z w32 item.1 fits) same c.update_bytes.ensures.updated))
 
-pub loop-pair-preserved : goal.loop-pair-preserved
-loop-pair-preserved g c =
+pub loop-index-preserved : goal.loop-index-preserved
+loop-index-preserved g c =
     let f : g.row.K.Denot × ℤ → Entry = λ p. (g.K.AsSlice.items p.0, p.1) in
     let ps = c.args.pairs.now in
-    let i = c.loop-pair.pair-index in
-    let item = c.pair-item.result in
+    let i = c.loop-index.index in
+    let item = c.index-pairs-index.result in
     let fits : FitsSigned w32 item.1 = search rules in
-    λ r a rest. c.loop-pair.invariant r a
-    (stored_more f ps i item g.L.Layout.kind g.row.SLOTS c.loop-pair.self c.update_bytes.new.self r a c.loop-pair-test.true
-    (update_at f ps i item g.L.Layout.kind g.row.SLOTS c.loop-pair.self c.update_bytes.new.self _ _ c.update_bytes.result _ c.pair-item.is c.as_slice.ensures (to_z-of_z w32 item.1 fits) c.in_ok-update_bytes.was c.update_bytes.ensures.updated)
+    λ r a rest. c.loop-index.invariant r a
+    (stored_more f ps i item g.L.Layout.kind g.row.SLOTS c.loop-index.self c.update_bytes.new.self r a c.loop-index-test.true
+    (update_at f ps i item g.L.Layout.kind g.row.SLOTS c.loop-index.self c.update_bytes.new.self _ _ c.update_bytes.result _ c.index-pairs-index.is c.as_slice.ensures (to_z-of_z w32 item.1 fits) c.in_ok-update_bytes.was c.update_bytes.ensures.updated)
     rest)
 
 pub returns-clause-unchanged : goal.returns-clause-unchanged
@@ -54,5 +54,5 @@ pub returns-clause-updates : goal.returns-clause-updates
 returns-clause-updates g c =
     let f : g.row.K.Denot × ℤ → Entry = λ p. (g.K.AsSlice.items p.0, p.1) in
     let ps = c.args.pairs.now in
-    let ended : length ps ≤ c.loop-pair.pair-index = omega (arith, c.loop-pair-test.false) in
-    λ fine. c.loop-pair.invariant _ _ (none_left f ps c.loop-pair.pair-index g.L.Layout.kind g.row.SLOTS c.loop-pair.self ended)
+    let ended : length ps ≤ c.loop-index.index = omega (arith, c.loop-index-test.false) in
+    λ fine. c.loop-index.invariant _ _ (none_left f ps c.loop-index.index g.L.Layout.kind g.row.SLOTS c.loop-index.self ended)

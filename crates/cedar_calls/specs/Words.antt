@@ -1,0 +1,15 @@
+-- The words that the contracts of this crate cite, from one place.
+pub use Rattle.cedar_calls.specs.Agreement.{RunsAgree}
+pub use Rattle.cedar_calls.specs.Changes.{IsChange}
+pub use Rattle.cedar_calls.specs.Files.{SavesLoadAgain}
+pub use Rattle.cedar_calls.specs.Keys.{KeysStandAlone, KeysStandAloneInRuns}
+pub use Rattle.cedar_calls.specs.Making.{IsCopy, Joins}
+pub use Rattle.cedar_calls.specs.Plain.{TreesDecide}
+pub use Rattle.cedar_calls.specs.Replies.{AreTexts, Collects, in_order, IsFigure, IsReply}
+pub use Rattle.cedar_calls.specs.Runs.{IsRun, IsStep}
+pub use Rattle.cedar_format.specs.Tables.{IsTableFile}
+pub use Rattle.cedar_tree.specs.Queries.{exact, walk}
+pub use Rattle.cedarwood.specs.Ends.{first_entry, last_entry}
+pub use Rattle.cedarwood.specs.RangeWalks.{entries_between}
+pub use Rattle.cedarwood.specs.Ranges.{entries_since, entries_with}
+pub use Rattle.cedarwood.specs.Words.{IsSlotLimit, IsValid, keys_of}

@@ -1,0 +1,34 @@
+use Rattle.std.proofs.Common.{◌++◌, ◌∷◌, ◌∙◌, [], ℕ, ℤ, ap, append_assoc, refl, subst, sym}
+use Rattle.std.specs.Prelude.{codes}
+use Rattle.std.specs.Io.KnownBytes.{Appends}
+use Rattle.cedarwood.specs.WatchedDevice.{device_of}
+use Rattle.cedar_cli.specs.Script.{pair_text, spaced_texts}
+use Rattle.cedar_cli.proofs.Bytes.{Appends-append, Appends-none, on_err}
+use Rattle.cedar_cli.proofs.JoinedLines.{spaced_push, spaced_stopped}
+use Rattle.cedar_cli.proofs.answers.write_further.Goals as goal
+
+pub loop-pair-init : goal.loop-pair-init
+loop-pair-init g c = ([], refl, Appends-none (g.W.Write.contents (device_of c.args.writer.now)), refl)
+
+pub loop-pair-preserved : goal.loop-pair-preserved
+loop-pair-preserved g c =
+    let i = c.loop-pair.invariant in
+    let came = i.0 in
+    let pair : ℤ × ℕ = c.in-Some.pair in
+    let held = g.W.Write.contents (device_of c.args.writer.now) in
+    let begun = g.W.Write.contents (device_of c.loop-pair.writer) in
+    let holds = g.W.Write.contents (device_of c.write_after_space.new.writer) in (
+      came ++ pair ∷ [],
+      i.1 ∙ ap (λ l. came ++ l) c.in-Some.ensures ∙ sym (append_assoc came (pair ∷ []) (g.P.Pairs.left c.next_pair.new.self)),
+      subst (Appends held holds) (sym (spaced_push pair_text came pair)) (Appends-append held begun holds (spaced_texts pair_text came) (codes " " ++ pair_text pair) i.2 c.in_ok-write_after_space.ensures.ok),
+      c.in_ok-write_after_space.ensures.faults.unfailed ∙ i.3,
+    )
+
+pub returns-in_err-write_after_space-clause-err : goal.returns-in_err-write_after_space-clause-err
+returns-in_err-write_after_space-clause-err g c =
+    let i = c.loop-pair.invariant in
+    let held = g.W.Write.contents (device_of c.args.writer.now) in
+    let begun = g.W.Write.contents (device_of c.loop-pair.writer) in
+    let holds = g.W.Write.contents (device_of c.write_after_space.new.writer) in
+    on_err c.from_residual.result
+    (spaced_stopped pair_text held begun holds (g.P.Pairs.left c.args.pairs.now) i.0 (g.P.Pairs.left c.next_pair.new.self) c.in-Some.pair (i.1 ∙ ap (λ l. i.0 ++ l) c.in-Some.ensures) i.2 c.in_err-write_after_space.ensures.err)

@@ -1,0 +1,5 @@
+-- The words of clauses, from one place.
+pub use Rattle.cedar_journal.specs.Records.{framed}
+pub use Rattle.cedar_plan.specs.Plans.{header, works_of}
+pub use Rattle.cedar_plan.specs.Safety.{AppendsAreSafe, OpeningsAreSafe}
+pub use Rattle.cedar_plan.specs.Works.{append_works, opening_works}

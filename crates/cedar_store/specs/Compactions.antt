@@ -1,0 +1,58 @@
+-- When a file is compacted, what it has then, and why it wasn't.
+use Rattle.std.specs.Prelude.{◌≡◌, ◌⊎◌, ◌<◌, ℕ, ◌+◌, ◌-◌, ◌*◌, max, nat_lt, ℤ, Bool, true, false, List, [], ◌∷◌, ◌++◌, length, Some}
+use Rattle.cedar_journal.specs.declared.device.DeviceError.TheVariants as device
+use Rattle.cedar_journal.specs.declared.frame.FrameError.{FrameError}
+use Rattle.cedar_journal.specs.declared.frame.FrameError.TheVariants as frame
+use Rattle.cedar_journal.specs.declared.replace.ReplaceError.{ReplaceError}
+use Rattle.cedar_journal.specs.declared.replace.ReplaceError.TheVariants as replace
+use Rattle.cedar_tree.specs.Queries.{Entry}
+use Rattle.cedar_store.specs.Changes.{changes_of, put_at}
+use Rattle.cedar_store.specs.declared.compaction.Compaction.{Compaction}
+use Rattle.cedar_store.specs.declared.compaction.Compaction.TheVariants.{Never, Beyond}
+use Rattle.cedar_store.specs.declared.compaction.CompactError.{CompactError}
+use Rattle.cedar_store.specs.declared.compaction.CompactError.TheVariants.{Memory, TooLong, Kept, Failed}
+
+-- a file whose records end here is too long for so many bytes
+abbrev pub is_beyond : Compaction → ℕ → ℕ → Bool
+is_beyond Never bytes end = false
+is_beyond (Beyond factor spare) bytes end = nat_lt (bytes + bytes * (max factor 2 - 1) + spare) end
+
+-- how many bytes a file has that has one record for each of these entries
+abbrev pub compacted_length : List Entry → ℕ
+compacted_length [] = 14
+compacted_length (e ∷ entries) = 10 + length e.0 + compacted_length entries
+
+-- behind some payloads stands one more, the put of a value at a key
+pub record IsPutBehind (key : List ℕ) (v : ℤ) (before after : List (List ℕ)) : Type 0 where
+  pub payload : List ℕ
+  pub behind : after ≡ before ++ payload ∷ []
+  pub change : changes_of payload ≡ Some (put_at key v ∷ [])
+
+abbrev pub CompactMemory : CompactError
+CompactMemory = Memory
+
+abbrev pub compact_error : FrameError → CompactError
+compact_error frame.Memory = Memory
+compact_error frame.TooLong = TooLong
+
+abbrev pub replace_error : ReplaceError → CompactError
+replace_error (replace.Kept e) = Kept e
+replace_error replace.Failed = Failed
+
+-- the device hasn't been asked for anything
+abbrev pub IsBeforeReplacing : CompactError → Type 0
+IsBeforeReplacing Memory = Unit {0}
+IsBeforeReplacing TooLong = Unit {0}
+IsBeforeReplacing _ = ⊥
+
+-- Why a file wasn't compacted: no file was made in memory; or the device kept the old one, or failed, which has told so often before and now
+-- that it did; or the store has failed before.
+abbrev pub CompactCause : Bool → ℕ → ℕ → CompactError → Type 0
+CompactCause failed before now (Kept e) = (failed ≡ false) × (e ≡ device.Failed → before < now)
+CompactCause failed before now Failed = (failed ≡ true) ⊎ (before < now)
+CompactCause failed before now e = IsBeforeReplacing e
+
+-- what an error of a compaction leaves: one thing where it can't be known which file is there, another one else
+abbrev pub LeavesFile : CompactError → Type 0 → Type 0 → Type 0
+LeavesFile Failed fails stays = fails
+LeavesFile _ fails stays = stays

@@ -1,0 +1,184 @@
+//! A store's file made short: one record for each entry.
+
+ghost use Rattle.std.specs.Prelude.{◌+◌, ◌<◌, ◌^◌, ◌≡◌, ◌≤◌, false, IfErr, IfOk, IsErrOf, length, None, OnOk, option_and_then, Some, true};
+ghost use Rattle.cedar_store.specs.Words.{after, all_stored, AllByRecursion, CompactCause, compacted_length, CrashLeavesState, FailsByDevice, fault, IfKept, image_bytes, is_beyond, IsBeforeReplacing, IsConsistent, IsEither, IsPutBehind, IsReadyStore, IsSettled, LeavesFile, LeavesOnly, new_state, payload_of, payloads_of, replayed, State, state_of, walk};
+
+use crate::frames::put_payload;
+use crate::store::Store;
+use crate::words::Words;
+use crate::{CompactError, DurableError};
+use cedar_journal::{DeviceError, Frame, Image, ReplaceDevice, ReplaceError};
+use cedarwood::{Entries, Walked};
+use std::alloc::Allocator;
+
+impl<T: Words, A: Allocator + Copy, D: ReplaceDevice> Store<T, A, D> {
+    /// Puts a file of one record for each entry in the place of the one that has all changes. It is made beside that, so what was
+    /// acknowledged stays, whenever the process or the machine stops.
+    ///
+    /// # Errors
+    /// `Memory`, `TooLong` and `Kept`: the old file is there, and the store goes on with it. `Failed`: the device failed, or the store has
+    /// failed before; one of both files is there. Open it again.
+    pub fn compact(&mut self) -> Result<(), CompactError>
+        requires ready { IsReadyStore D.seen D.may_leave T.state self.old }
+
+        //= A file that was compacted has one record for each entry and nothing else; it stands for the dictionary, on the disk, and the
+        //  dictionary is as it was. [with ready, words]
+        ensures compacted { OnOk result ((self.new.failed ≡ false)
+            × (length (D.seen self.new.journal.device) ≡ compacted_length (walk (T.state self.old.words).tree))) }
+        ensures ready { IsReadyStore D.seen D.may_leave T.state self.new }
+        ensures words { self.new.words ≡ self.old.words }
+
+        //= A crash at any moment of a compaction leaves a file that stands for the dictionary.
+        ensures any_moment { self.old.failed ≡ false → CrashLeavesState D.moment D.left_since T.state self.old self.new }
+
+        //= A compaction is refused only where the store has failed before, for want of memory, where the record of an entry would be too
+        //  long, or where the device failed or kept the file.
+        ensures cause { IfErr result (λ e. CompactCause self.old.failed (D.faults self.old.journal.device) (D.faults self.new.journal.device) e) }
+
+        //= After `Failed` the store has failed; after any other error the file is as it was, byte for byte, and the store goes on.
+        ensures err { IfErr result (λ e. LeavesFile e (self.new.failed ≡ true)
+            ((self.new.failed ≡ self.old.failed) × (D.seen self.new.journal.device ≡ D.seen self.old.journal.device))) }
+    {
+        if self.failed {
+            return Err(CompactError::Failed);
+        }
+        let image = self.words.image(self.alloc)?;
+        match self.put_in_place(&image) {
+            Ok(()) => Ok(()),
+            Err(error) => Err(CompactError::from(error)),
+        }
+    }
+
+    /// Writes a record of a change that the dictionary has, and makes the file short where it has grown too long.
+    pub(crate) fn acknowledge(&mut self, frame: &Frame<A>) -> Result<(), DurableError>
+        requires settled { IsSettled D.seen D.may_leave self.old.journal.device self.old.journal.end }
+        requires usable { self.old.failed ≡ false }
+        requires room { self.old.journal.end < 2 ^ 60 }
+        requires stands { option_and_then (λ s. after s (payload_of frame.now)) (state_of (D.seen self.old.journal.device)) ≡ Some (T.state self.old.words) }
+        ensures ready { IsReadyStore D.seen D.may_leave T.state self.new }
+        ensures done { OnOk result (self.new.failed ≡ false) }
+        ensures due { OnOk result (is_beyond self.new.compaction self.new.base self.new.journal.end ≡ false) }
+        ensures err { IfErr result (FailsByDevice D.faults self.old self.new) }
+        ensures words { self.new.words ≡ self.old.words }
+        ensures any_moment { (s : State) → state_of (D.seen self.old.journal.device) ≡ Some s
+            → LeavesOnly D.moment D.left_since self.old.journal.device self.new.journal.device (IsEither s (T.state self.old.words)) }
+    {
+        self.append(frame)?;
+        self.compact_if_due()
+    }
+
+    /// Compacts the file where it is too long for what the entries take. It is looked at again once it is so much longer than it is now:
+    /// so all looks together cost no more than what was written, times a constant.
+    fn compact_if_due(&mut self) -> Result<(), DurableError>
+        requires consistent { IsConsistent D.seen D.may_leave self.old.journal.device self.old.journal.end (T.state self.old.words) }
+        requires usable { self.old.failed ≡ false }
+        ensures ready { IsReadyStore D.seen D.may_leave T.state self.new }
+        ensures done { OnOk result (self.new.failed ≡ false) }
+        ensures due { OnOk result (is_beyond self.new.compaction self.new.base self.new.journal.end ≡ false) }
+        ensures err { IfErr result (FailsByDevice D.faults self.old self.new) }
+        ensures words { self.new.words ≡ self.old.words }
+        ensures any_moment { CrashLeavesState D.moment D.left_since T.state self.old self.new }
+    {
+        let end = self.journal.end;
+        if !self.compaction.is_beyond(self.base, end) {
+            return Ok(());
+        }
+        self.base = end;
+        // Want of memory and a device that keeps the file are no errors of the change, which is acknowledged.
+        match self.words.image(self.alloc) {
+            Ok(image) => self.replace_if_shorter(&image),
+            Err(_) => Ok(()),
+        }
+    }
+
+    /// Puts a file of the entries in the place of the one that is there, if that is too long for these.
+    fn replace_if_shorter(&mut self, image: &Image<A>) -> Result<(), DurableError>
+        requires consistent { IsConsistent D.seen D.may_leave self.old.journal.device self.old.journal.end (T.state self.old.words) }
+        requires usable { self.old.failed ≡ false }
+        requires made { replayed new_state (payloads_of image.now) ≡ Some (T.state self.old.words) }
+        requires looked_at { self.old.base ≡ self.old.journal.end }
+        ensures ready { IsReadyStore D.seen D.may_leave T.state self.new }
+        ensures done { OnOk result ((self.new.failed ≡ false) × (self.new.base ≡ self.new.journal.end)) }
+        ensures err { IfErr result (FailsByDevice D.faults self.old self.new) }
+        ensures words { self.new.words ≡ self.old.words }
+        ensures any_moment { CrashLeavesState D.moment D.left_since T.state self.old self.new }
+    {
+        if !self
+            .compaction
+            .is_beyond(image.bytes().len(), self.journal.end)
+        {
+            return Ok(());
+        }
+        match self.put_in_place(image) {
+            Ok(()) => Ok(()),
+            Err(ReplaceError::Kept(_)) => Ok(()),
+            Err(ReplaceError::Failed) => Err(DurableError::Device(DeviceError::Failed)),
+        }
+    }
+
+    /// Puts a file that stands for the dictionary in the place of the one that is there.
+    fn put_in_place(&mut self, image: &Image<A>) -> Result<(), ReplaceError>
+        requires consistent { IsConsistent D.seen D.may_leave self.old.journal.device self.old.journal.end (T.state self.old.words) }
+        requires usable { self.old.failed ≡ false }
+        requires made { replayed new_state (payloads_of image.now) ≡ Some (T.state self.old.words) }
+        ensures ready { IsReadyStore D.seen D.may_leave T.state self.new }
+        ensures done { OnOk result ((self.new.failed ≡ false) × (self.new.base ≡ self.new.journal.end)) }
+        ensures bytes { OnOk result (D.seen self.new.journal.device ≡ image_bytes image.now) }
+        ensures kept { IfKept result ((self.new.failed ≡ false) × (self.new.base ≡ self.old.base) × (self.new.journal.end ≡ self.old.journal.end)) }
+        ensures kept_bytes { IfKept result (D.seen self.new.journal.device ≡ D.seen self.old.journal.device) }
+        ensures failed { IsErrOf result ReplaceError.Failed → (self.new.failed ≡ true) × (D.faults self.old.journal.device < D.faults self.new.journal.device) }
+        ensures kept_failed { IsErrOf result (ReplaceError.Kept DeviceError.Failed) → D.faults self.old.journal.device < D.faults self.new.journal.device }
+        ensures words { self.new.words ≡ self.old.words }
+        ensures any_moment { CrashLeavesState D.moment D.left_since T.state self.old self.new }
+    {
+        match self.journal.replace(image) {
+            Ok(()) => {
+                self.base = self.journal.end;
+                Ok(())
+            }
+            Err(ReplaceError::Kept(error)) => Err(ReplaceError::Kept(error)),
+            Err(ReplaceError::Failed) => {
+                self.failed = true;
+                Err(ReplaceError::Failed)
+            }
+        }
+    }
+}
+
+/// The file in which each entry that a walk has left is put, one after another.
+pub(crate) fn image_of<T: Walked, A: Allocator + Copy, B: Allocator + Copy>(
+    mut entries: Entries<'_, T, A>,
+    alloc: B,
+) -> Result<Image<B>, CompactError>
+    requires { AllByRecursion (λ e. fault e.0 e.1 ≡ None) entries }
+    ensures made { IfOk result (λ image. replayed new_state (payloads_of image) ≡ Some (all_stored new_state entries.entry)) }
+    ensures length { IfOk result (λ image. length (image_bytes image) ≡ compacted_length entries.entry) }
+    ensures cause { IfErr result (λ error. IsBeforeReplacing error) }
+{
+    let mut image = Image::new(alloc)?;
+    while let Some(entry) = entries.next() {
+        let Ok((key, value)) = entry else {
+            return Err(CompactError::Memory);
+        };
+        push_entry(&mut image, alloc, &key, value)?;
+    }
+    Ok(image)
+}
+
+/// Puts an entry behind the others of a file.
+fn push_entry<B: Allocator + Copy>(
+    image: &mut Image<B>,
+    alloc: B,
+    key: &[u8],
+    value: i32,
+) -> Result<(), CompactError>
+    requires { fault key.now value ≡ None }
+    ensures pushed { OnOk result (IsPutBehind key.now value (payloads_of image.old) (payloads_of image.new)) }
+    ensures longer { OnOk result (length (image_bytes image.new) ≡ length (image_bytes image.old) + (10 + length key.now)) }
+    ensures cause { IfErr result (λ error. IsBeforeReplacing error) }
+{
+    let payload = put_payload(alloc, key, value)?;
+    let frame = Frame::new(alloc, &payload)?;
+    image.push(&frame)?;
+    Ok(())
+}

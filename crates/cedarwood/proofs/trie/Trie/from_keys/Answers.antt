@@ -1,0 +1,74 @@
+use Rattle.std.proofs.Common.{◌≡◌, ◌∙◌, ap, sym, subst, rules, inl, None, Err, FitsSigned, List, Option, w32}
+use Rattle.std.proofs.lemmas.Int.{to_z-of_z}
+use Rattle.std.proofs.lemmas.Result.{err_from_is_err_and}
+use Rattle.cedar_bulk.specs.Sorted.{entries_by, entries_of, Pair}
+use Rattle.cedar_tree.specs.Queries.{Entry}
+use Rattle.cedarwood.specs.declared.error.CedarError.{CedarError}
+use Rattle.cedarwood.specs.Builds.{first_fault}
+use Rattle.cedarwood.specs.Unsorted.{SortsTo}
+use Rattle.cedarwood.proofs.DictionaryLemmas.{limit_of}
+use Rattle.cedarwood.proofs.FaultLemmas.{no_fault}
+use Rattle.cedarwood.proofs.GrowthLemmas.{capacity_by_blocks}
+use Rattle.cedarwood.proofs.SortedInputLemmas.{fault_handed_on, faultless}
+use Rattle.cedarwood.proofs.UpdateLemmas.{has_fault}
+use Rattle.cedarwood.proofs.UnsortedLemmas.{lacking, lacks_of, stored_as}
+use Rattle.cedarwood.proofs.trie.Trie.from_keys.Goals as goal
+
+pub returns-in_err-check_pairs : goal.returns-in_err-check_pairs
+returns-in_err-check_pairs g c =
+    let p = err_from_is_err_and c.from_residual.result c.from_residual.ensures.1 in
+    let first : Option CedarError = first_fault (entries_by g.K.AsSlice.items c.args.pairs.now) in
+    let test = c.check_pairs in
+    let error = c.in_err-check_pairs in
+    record {
+      built = record {
+        faulty = fault_handed_on first test.result c.from_residual.result error.field-0.0 test.ensures.faulty test.ensures.sound error.was (p.1 ∙ ap Err p.2);
+        stored = search rules;
+        refused = λ fine. absurd (has_fault first test.result error.field-0.0 test.ensures.sound error.was fine);
+      };
+    }
+
+pub returns-in_err-sorted : goal.returns-in_err-sorted
+returns-in_err-sorted g c =
+    let pairs = entries_by g.K.AsSlice.items c.args.pairs.now in
+    let fine : first_fault pairs ≡ None = no_fault (first_fault pairs) c.check_pairs.result tt c.check_pairs.ensures.faulty c.in_ok-check_pairs.was in
+    let refusal = c.from_residual-in_err-sorted in
+    let p = err_from_is_err_and refusal.result refusal.ensures.1 in
+    record { built = lacking g.L.Layout.kind g.row.SLOTS c.args.builder pairs refusal.result p.0 fine p.1 (inl p.2) }
+
+pub sorted_pairs-requires-clause-fine : goal.sorted_pairs-requires-clause-fine
+sorted_pairs-requires-clause-fine g c =
+    no_fault (first_fault (entries_by g.K.AsSlice.items c.args.pairs.now)) c.check_pairs.result tt c.check_pairs.ensures.faulty c.in_ok-check_pairs.was
+
+pub build_sorted-requires : goal.build_sorted-requires
+build_sorted-requires g c =
+    let pairs : List Entry = entries_by g.K.AsSlice.items c.args.pairs.now in
+    let s : SortsTo pairs (entries_of c.deref.result.now) = subst (λ (ps : List Pair). SortsTo pairs (entries_of ps)) (sym c.deref.ensures.value) c.in_ok-sorted.ensures in
+    (search rules, (search rules, (limit_of g.row.SLOTS c.requires.limit, (s.keys, (s.ascending, s.values)))))
+
+pub returns-in_err-build_sorted : goal.returns-in_err-build_sorted
+returns-in_err-build_sorted g c =
+    let pairs : List Entry = entries_by g.K.AsSlice.items c.args.pairs.now in
+    let fine : first_fault pairs ≡ None = no_fault (first_fault pairs) c.check_pairs.result tt c.check_pairs.ensures.faulty c.in_ok-check_pairs.was in
+    let s : SortsTo pairs (entries_of c.deref.result.now) = subst (λ (ps : List Pair). SortsTo pairs (entries_of ps)) (sym c.deref.ensures.value) c.in_ok-sorted.ensures in
+    let refusal = c.from_residual-in_err-build_sorted in
+    let p = err_from_is_err_and refusal.result refusal.ensures.1 in
+    let lacks = lacks_of g.row.SLOTS pairs (entries_of c.deref.result.now) c.in_err-build_sorted.field-0.0 p.0 s.tree p.2 c.in_err-build_sorted.ensures.refused in
+    record { built = lacking g.L.Layout.kind g.row.SLOTS c.args.builder pairs refusal.result p.0 fine p.1 lacks }
+
+pub returns : goal.returns
+returns g c =
+    let pairs : List Entry = entries_by g.K.AsSlice.items c.args.pairs.now in
+    let fine : first_fault pairs ≡ None = no_fault (first_fault pairs) c.check_pairs.result tt c.check_pairs.ensures.faulty c.in_ok-check_pairs.was in
+    let s : SortsTo pairs (entries_of c.deref.result.now) = subst (λ (ps : List Pair). SortsTo pairs (entries_of ps)) (sym c.deref.ensures.value) c.in_ok-sorted.ensures in
+    let e = c.in_ok-build_sorted.ensures in
+    let b = e.blocks in
+    let fits : FitsSigned w32 c.args.builder.max_trial = search rules in
+    record {
+      built = record {
+        faulty = faultless (first_fault pairs) _ fine;
+        stored = stored_as g.L.Layout.kind c.args.builder pairs (entries_of c.deref.result.now) _ s.tree
+            (record { tree = e.tree; marks = e.marks; ordered = e.ordered; max_trial = e.max_trial ∙ to_z-of_z w32 c.args.builder.max_trial fits; size = (b.0, b.1, b.2, b.3 ∙ sym (capacity_by_blocks b.0 1 1)) });
+        refused = search rules;
+      };
+    }

@@ -1,0 +1,166 @@
+//! Stores that are changed: a list's entries stored, or its words taken out, as one change, of which a crash leaves all or none.
+
+ghost use Rattle.roskvidh.specs.Words.{IfOk, IsReady, Only};
+
+use crate::changes::change_words;
+use crate::dictionary::SLOTS;
+use crate::fault::Fault;
+use crate::input::Source;
+use crate::meter::Meter;
+use crate::request::How;
+use cedar_disk::{FileDevice, OpenError};
+use cedar_journal::ReplaceDevice;
+use cedar_store::{CedarStore, Change};
+use cedarwood::{DefaultLayout, Trie, Watched};
+use std::alloc::{AllocError, Global};
+use std::io::{Read, Write};
+use std::rt::Files;
+
+/// The dictionary of a store.
+type Words = Trie<DefaultLayout, SLOTS, Global>;
+
+/// A word whose number a change sets, or None where it is taken out.
+#[derive(Drop)]
+struct Changed {
+    word: Vec<u8>,
+    number: Option<i32>,
+}
+
+/// Makes a change in the store at a path, which is made where it is missing or empty. False where a word to take out wasn't held.
+pub(crate) fn change_store<'m, F: Files + Copy + Drop, R: Read + Drop, M: Meter + Drop, E: Write>(
+    alloc: Global,
+    files: &F,
+    path: &'m str,
+    how: How<'m>,
+    source: Source<R, M>,
+    errors: &mut Watched<E>,
+) -> Result<bool, Fault<'m>> {
+    match FileDevice::open(*files, alloc, path) {
+        Ok(device) => change_on(alloc, files, device, path, how, source, errors),
+        Err(OpenError::Memory) => Err(Fault::Memory),
+        Err(OpenError::Io(error)) => Err(Fault::Read(Some(path), error)),
+    }
+}
+
+/// Makes a change in the store on a device: it is made in a copy of the dictionary, and what differs there is the change of the store.
+fn change_on<'m, D: ReplaceDevice + Drop, F: Files, R: Read + Drop, M: Meter + Drop, E: Write>(
+    alloc: Global,
+    files: &F,
+    device: D,
+    path: &'m str,
+    how: How<'m>,
+    source: Source<R, M>,
+    errors: &mut Watched<E>,
+) -> Result<bool, Fault<'m>>
+    requires restarted { Only (D.seen device) (D.may_leave device) }
+{
+    let mut store = open_store(alloc, device, path)?;
+    let mut words = store.dictionary().clone()?;
+    let all = change_words(alloc, files, &mut words, how, source, errors)?;
+    let changes = changes_between(alloc, store.dictionary(), &words)?;
+    let batch = batch_of(alloc, &changes)?;
+    match store.apply_batch(&batch) {
+        Ok(()) => Ok(all),
+        Err(error) => Err(Fault::Store(path, error)),
+    }
+}
+
+/// Opens the store on a device.
+fn open_store<'m, D: ReplaceDevice + Drop>(
+    alloc: Global,
+    device: D,
+    path: &'m str,
+) -> Result<CedarStore<Global, D>, Fault<'m>>
+    requires restarted { Only (D.seen device) (D.may_leave device) }
+    ensures ready { IfOk result (λ store. IsReady D.seen D.may_leave store.journal.device store.journal.end (store.words.state) store.failed) }
+{
+    match CedarStore::open(alloc, device) {
+        Ok(store) => Ok(store),
+        Err((error, _)) => Err(Fault::Store(path, error)),
+    }
+}
+
+/// What has to be changed in a dictionary so that it holds what another one does. What is taken out stands last.
+fn changes_between<'m>(
+    alloc: Global,
+    before: &Words,
+    after: &Words,
+) -> Result<Vec<Changed>, Fault<'m>> {
+    let mut changes = Vec::new(alloc);
+    note_stored(alloc, before, after, &mut changes)?;
+    note_removed(alloc, before, after, &mut changes)?;
+    Ok(changes)
+}
+
+/// Notes the entries that a dictionary doesn't have and another one has.
+fn note_stored<'m>(
+    alloc: Global,
+    before: &Words,
+    after: &Words,
+    changes: &mut Vec<Changed>,
+) -> Result<(), Fault<'m>> {
+    let mut word = Vec::new(alloc);
+    let mut entries = after.entries_with_prefix_bytes(&[]);
+    for _ in 0..after.len() {
+        match entries.next_into(&mut word) {
+            Ok(Some(number)) => {
+                if before.get_bytes(&word) != Some(number) {
+                    note(changes, &word, Some(number))?;
+                }
+            }
+            Ok(None) => break,
+            Err(_) => return Err(Fault::Memory),
+        }
+    }
+    Ok(())
+}
+
+/// Notes the words that a dictionary has and another one doesn't have.
+fn note_removed<'m>(
+    alloc: Global,
+    before: &Words,
+    after: &Words,
+    changes: &mut Vec<Changed>,
+) -> Result<(), Fault<'m>> {
+    let mut word = Vec::new(alloc);
+    let mut entries = before.entries_with_prefix_bytes(&[]);
+    for _ in 0..before.len() {
+        match entries.next_into(&mut word) {
+            Ok(Some(_)) => {
+                if after.get_bytes(&word).is_none() {
+                    note(changes, &word, None)?;
+                }
+            }
+            Ok(None) => break,
+            Err(_) => return Err(Fault::Memory),
+        }
+    }
+    Ok(())
+}
+
+/// Notes the change of a word.
+fn note(changes: &mut Vec<Changed>, word: &Vec<u8>, number: Option<i32>) -> Result<(), AllocError> {
+    changes.push(Changed {
+        word: word.clone()?,
+        number,
+    })?;
+    Ok(())
+}
+
+/// The changes, as a store takes them.
+fn batch_of(alloc: Global, changes: &[Changed]) -> Result<Vec<Change<'_>>, AllocError> {
+    let mut batch = Vec::new(alloc);
+    for changed in changes {
+        batch.push(change_of(changed))?;
+    }
+    Ok(batch)
+}
+
+/// A change, as a store takes it.
+fn change_of(changed: &Changed) -> Change<'_> {
+    let key = changed.word.as_slice();
+    match changed.number {
+        Some(value) => Change::Update { key, value },
+        None => Change::Erase { key },
+    }
+}

@@ -1,0 +1,39 @@
+use Rattle.std.proofs.Common.{◌≡◌, ◌∙◌, ℤ, false, w32, subst, sym}
+use Rattle.std.proofs.lemmas.Int.{to_z-of_z}
+use Rattle.std.specs.Io.KnownBytes.{Appends}
+use Rattle.cedarwood.specs.WatchedDevice.{device_of}
+use Rattle.word_lists.specs.Devices.{WritesFront}
+use Rattle.word_lists.specs.Lines.{holds_entry, signed_line}
+use Rattle.word_lists.proofs.Bytes.{on_err}
+use Rattle.word_lists.proofs.SignedLines.{one_lacking, some_lacking}
+use Rattle.word_lists.proofs.pairs.write_unless_held.Goals as goal
+
+pub returns-in_err-write_signed-clause-err : goal.returns-in_err-write_signed-clause-err
+returns-in_err-write_signed-clause-err g c =
+    let d0 = g.W.Write.contents (device_of c.args.writer.now) in
+    let d1 = g.W.Write.contents (device_of c.write_signed.new.writer) in
+    let tree = c.args.other.now.state.tree in
+    let key = c.args.key.now in
+    let same = to_z-of_z w32 c.args.value c.ranges.value in
+    let lacks : holds_entry tree (key, c.args.value) ≡ false = subst (λ (v : ℤ). holds_entry tree (key, v) ≡ false) same (sym c.holds.ensures ∙ c.if-holds.false) in
+    on_err c.from_residual.result (subst (WritesFront d0 d1) (one_lacking c.args.sign.now tree (key, c.args.value) lacks)
+    (subst (λ (v : ℤ). WritesFront d0 d1 (signed_line c.args.sign.now (key, v))) same c.in_err-write_signed.ensures.err))
+
+pub returns-clause-ok : goal.returns-clause-ok
+returns-clause-ok g c =
+    let d0 = g.W.Write.contents (device_of c.args.writer.now) in
+    let d1 = g.W.Write.contents (device_of c.write_signed.new.writer) in
+    let tree = c.args.other.now.state.tree in
+    let key = c.args.key.now in
+    let same = to_z-of_z w32 c.args.value c.ranges.value in
+    let lacks : holds_entry tree (key, c.args.value) ≡ false = subst (λ (v : ℤ). holds_entry tree (key, v) ≡ false) same (sym c.holds.ensures ∙ c.if-holds.false) in
+    subst (Appends d0 d1) (one_lacking c.args.sign.now tree (key, c.args.value) lacks)
+    (subst (λ (v : ℤ). Appends d0 d1 (signed_line c.args.sign.now (key, v))) same c.in_ok-write_signed.ensures.ok)
+
+pub returns-clause-any : goal.returns-clause-any
+returns-clause-any g c =
+    let tree = c.args.other.now.state.tree in
+    let key = c.args.key.now in
+    let same = to_z-of_z w32 c.args.value c.ranges.value in
+    let lacks : holds_entry tree (key, c.args.value) ≡ false = subst (λ (v : ℤ). holds_entry tree (key, v) ≡ false) same (sym c.holds.ensures ∙ c.if-holds.false) in
+    some_lacking tree (key, c.args.value) lacks
