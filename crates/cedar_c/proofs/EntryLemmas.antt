@@ -14,7 +14,7 @@ use Rattle.cedar_tree.specs.Tree.{IsAscending, IsSoundBelow, number_at, Tree}
 use Rattle.cedar_tree.proofs.EntryLemmas.Built.{is_path_itself, same_path}
 use Rattle.cedar_tree.proofs.WalkLemmas.{walk_ascends, walk_at}
 use Rattle.cedar_walk.specs.Ranges.{entries_since}
-use Rattle.cedar_c.specs.Entries.{entries_behind, following, page_of, spots_of, WritesPage}
+use Rattle.cedar_c.specs.Entries.{entries_behind_key, following, page_of, spots_of, WritesPage}
 use Rattle.cedar_c.specs.Pairs.{keys_in}
 use Rattle.cedar_c.specs.declared.scans.Found.{Found}
 
@@ -241,38 +241,38 @@ second_gone [] ys none = none
 second_gone (x ∷ xs) ys none = cc
 
 module _ (t : Tree) (q : List ℕ) (sound : IsSoundBelow t.children) (ascends : IsAscending t.children) where
-  parts : entries_since t q ≡ entry_at q (number_at t q) ++ entries_behind t q
-  parts = from_key q (walk t) (walk_ascends t ascends) ∙ ap (λ (xs : List Entry). xs ++ entries_behind t q) (walk_at t q sound)
+  parts : entries_since t q ≡ entry_at q (number_at t q) ++ entries_behind_key t q
+  parts = from_key q (walk t) (walk_ascends t ascends) ∙ ap (λ (xs : List Entry). xs ++ entries_behind_key t q) (walk_at t q sound)
 
-  pub since_held : (v : ℤ) → number_at t q ≡ Some v → entries_since t q ≡ (q, v) ∷ entries_behind t q
-  since_held v held = parts ∙ ap (λ o. entry_at q o ++ entries_behind t q) held
+  pub since_held : (v : ℤ) → number_at t q ≡ Some v → entries_since t q ≡ (q, v) ∷ entries_behind_key t q
+  since_held v held = parts ∙ ap (λ o. entry_at q o ++ entries_behind_key t q) held
 
-  pub since_absent : number_at t q ≡ None → entries_since t q ≡ entries_behind t q
-  since_absent absent = parts ∙ ap (λ o. entry_at q o ++ entries_behind t q) absent
+  pub since_absent : number_at t q ≡ None → entries_since t q ≡ entries_behind_key t q
+  since_absent absent = parts ∙ ap (λ o. entry_at q o ++ entries_behind_key t q) absent
 
-  pub none_behind : entries_since t q ≡ [] → entries_behind t q ≡ []
-  none_behind none = second_gone (entry_at q (number_at t q)) (entries_behind t q) (sym parts ∙ none)
+  pub none_behind : entries_since t q ≡ [] → entries_behind_key t q ≡ []
+  none_behind none = second_gone (entry_at q (number_at t q)) (entries_behind_key t q) (sym parts ∙ none)
 
   -- the same of one that is held or not
   abbrev rest_of : List Entry → List Entry
   rest_of [] = []
   rest_of (e ∷ es) = es
 
-  pub held_first : IsSome (number_at t q) → (e : Entry) (es : List Entry) → entries_since t q ≡ e ∷ es → entries_behind t q ≡ es
+  pub held_first : IsSome (number_at t q) → (e : Entry) (es : List Entry) → entries_since t q ≡ e ∷ es → entries_behind_key t q ≡ es
   held_first some e es is =
-      (elim (number_at t q) as (λ o. number_at t q ≡ o → entries_behind t q ≡ es) [
+      (elim (number_at t q) as (λ o. number_at t q ≡ o → entries_behind_key t q ≡ es) [
         | None ↦ λ none. absurd (true≢false (sym some ∙ ap is_some none))
         | Some v ↦ λ held. ap rest_of (sym (since_held v held) ∙ is)
       ]) refl
 
-  pub lacking_since : (IsSome (number_at t q) → ⊥) → entries_since t q ≡ entries_behind t q
+  pub lacking_since : (IsSome (number_at t q) → ⊥) → entries_since t q ≡ entries_behind_key t q
   lacking_since lacks =
-      (elim (number_at t q) as (λ o. number_at t q ≡ o → entries_since t q ≡ entries_behind t q) [
+      (elim (number_at t q) as (λ o. number_at t q ≡ o → entries_since t q ≡ entries_behind_key t q) [
         | None ↦ λ none. since_absent none
         | Some v ↦ λ held. absurd (lacks (ap is_some held))
       ]) refl
 
 -- behind a key with a byte
-pub following_behind : (t : Tree) (prefix key : List ℕ) → 0 < length key → entries_behind t key ≡ following t prefix key
+pub following_behind : (t : Tree) (prefix key : List ℕ) → 0 < length key → entries_behind_key t key ≡ following t prefix key
 following_behind t prefix [] some = absurd (omega (arith, some))
 following_behind t prefix (b ∷ key) some = refl

@@ -3,7 +3,7 @@ use Rattle.std.specs.Prelude.{ℤ, option_map, Option, Some, None}
 use Rattle.std.proofs.Common.{◌≡◌, ◌⊎◌, inl, inr, ℕ, zero, suc, ◌+◌, ◌≤◌, ◌<◌, Bool, true, false, List, [], ◌∷◌, ◌++◌, length, take, drop, refl, sym, subst, ◌∙◌, ap, append_assoc, arith, slice_set, length-append, length-drop, take-append-drop}
 use Rattle.std.proofs.lemmas.Bool.{cases_Bool, cases_eq}
 use Rattle.std.proofs.lemmas.List.{take-append-le, take_all, take-set, drop-set, set-append_right, length-take-le}
-use Rattle.cedar_journal.specs.Records.{IsFront, behind, framed, has_record, length_bytes, payload, payloads_in}
+use Rattle.cedar_journal.specs.Records.{AreWholeRecords, behind_record, framed, has_record, length_bytes, payload, payloads_in}
 use Rattle.cedar_journal.proofs.Found.{length-payload}
 use Rattle.cedar_journal.proofs.Reading.{behind_and_rest, length-behind, payloads_first, payloads_none, record_is_whole, same_payload, still_there}
 use Rattle.cedar_plan.specs.Plans.{works_of}
@@ -21,10 +21,10 @@ use Rattle.cedar_c.proofs.PlanLemmas.{is_change}
 
 -- ---- records that take all their bytes: what follows them is read as if it stood alone
 
-record_long : (bytes : List ℕ) → has_record bytes ≡ true → records_length (payloads_in bytes) ≡ 5 + length (payload bytes) + records_length (payloads_in (behind bytes))
+record_long : (bytes : List ℕ) → has_record bytes ≡ true → records_length (payloads_in bytes) ≡ 5 + length (payload bytes) + records_length (payloads_in (behind_record bytes))
 record_long bytes has = ap records_length (payloads_first bytes has)
 
-all_front : (n : ℕ) (bytes : List ℕ) → length bytes ≤ n → records_length (payloads_in bytes) ≡ length bytes → IsFront bytes
+all_front : (n : ℕ) (bytes : List ℕ) → length bytes ≤ n → records_length (payloads_in bytes) ≡ length bytes → AreWholeRecords bytes
 all_front n [] low long = front_of_none
 all_front zero (x ∷ bytes) low long = absurd (omega (arith, low))
 all_front (suc n) (x ∷ bytes) low long = elim (cases_Bool (has_record (x ∷ bytes))) [
@@ -32,7 +32,7 @@ all_front (suc n) (x ∷ bytes) low long = elim (cases_Bool (has_record (x ∷ b
       let size = length-payload (x ∷ bytes) has in
       let less = length-behind (x ∷ bytes) in
       let whole = record_is_whole (x ∷ bytes) has in
-      let again = all_front n (behind (x ∷ bytes)) (omega (arith, low, less, whole)) (omega (arith, long, record_long (x ∷ bytes) has, size, less, whole)) in
+      let again = all_front n (behind_record (x ∷ bytes)) (omega (arith, low, less, whole)) (omega (arith, long, record_long (x ∷ bytes) has, size, less, whole)) in
       λ rest.
       payloads_first ((x ∷ bytes) ++ rest) (still_there (x ∷ bytes) rest has)
       ∙ (λ i. same_payload (x ∷ bytes) rest has i ∷ payloads_in (behind_and_rest (x ∷ bytes) rest has i))

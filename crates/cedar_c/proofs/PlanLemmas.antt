@@ -1,7 +1,7 @@
 -- What a plan makes of a file that stands for a dictionary.
 use Rattle.std.specs.Prelude.{ℤ, IfSome, OnOk, option_and_then, option_map, Option, Some, Result, Ok, Err}
 use Rattle.std.proofs.Common.{◌≡◌, ℕ, ◌+◌, ◌<◌, List, [], ◌∷◌, ◌++◌, length, refl, sym, ◌∙◌, ap, subst, arith}
-use Rattle.cedar_journal.specs.declared.extent.Extent.{Extent}
+use Rattle.cedar_journal.specs.declared.records.Extent.{Extent}
 use Rattle.cedar_journal.specs.Files.{HasExtent, recovered}
 use Rattle.cedar_journal.specs.Journal.{IsBeforeOrAfter}
 use Rattle.cedar_journal.specs.Records.{framed}
@@ -19,7 +19,7 @@ use Rattle.cedar_store.proofs.States.{either, state_added}
 use Rattle.cedar_tree.specs.State.{State, new_state, stored}
 use Rattle.cedar_c.specs.Changes.{IsRecord}
 use Rattle.cedar_c.specs.Layouts.{dictionary_in}
-use Rattle.cedar_c.specs.Plans.{IsChange, IsOpening}
+use Rattle.cedar_c.specs.Plans.{IsChangePlan, IsOpening}
 use Rattle.cedar_c.specs.declared.any.AnyCedar.{AnyCedar}
 
 -- what a payload's one change makes of a state
@@ -27,10 +27,10 @@ pub makes : (payload : List ℕ) (change : Change) (s : State) → change_of pay
 makes payload change s has = ap (option_map (all_changed s)) (one_change payload change has)
 
 module _ (end : ℕ) (payload : List ℕ) (s t : State) (short : length payload < 4294967296) (room : end < 1152921504606846976) (told : after s payload ≡ Some t) where
-  pub is_change : (to : ℕ) (works : List Work) → works ≡ append_works end payload → end + 5 + length payload ≡ to → IsChange works end to s t
+  pub is_change : (to : ℕ) (works : List Work) → works ≡ append_works end payload → end + 5 + length payload ≡ to → IsChangePlan works end to s t
   is_change to works is far =
-      subst (λ (l : List Work). IsChange l end to s t) (sym is)
-      (subst (λ n. IsChange (append_works end payload) end n s t) far
+      subst (λ (l : List Work). IsChangePlan l end to s t) (sym is)
+      (subst (λ n. IsChangePlan (append_works end payload) end n s t) far
       (record {
         kept = λ calls kept.
             let safe = append_is_safe calls end payload kept.rest short room in
@@ -56,7 +56,7 @@ is_opening bytes extent works s has is stands =
 -- the plan of a record in a buffer
 pub planned_by : (change : Change) (end n size to : ℕ) (buffer : List ℕ) (plan : Plan) (s : State) → IsRecord change end n size buffer
     → ((payload rest : List ℕ) → size ≡ 6 + length payload → works_of ((1 ∷ framed payload) ++ rest) plan ≡ append_works end payload)
-    → to + 1 ≡ end + size → IsChange (works_of buffer plan) end to s (changed s change)
+    → to + 1 ≡ end + size → IsChangePlan (works_of buffer plan) end to s (changed s change)
 planned_by change end n size to buffer plan s r works far =
     is_change end r.payload s (changed s change) (omega (arith, r.short, r.long)) r.room (makes r.payload change s r.has) to (works_of buffer plan)
     (ap (λ (b : List ℕ). works_of b plan) r.written ∙ works r.payload r.rest (omega (arith, r.size_is, r.long))) (omega (arith, far, r.size_is, r.long))
@@ -68,9 +68,9 @@ opened_has P o a is has = subst (λ (x : Option AnyCedar). IfSome (option_map (�
 -- the plan of a put, whose value a word of the machine held meanwhile
 pub put_planned : (key : List ℕ) (w v : ℤ) (end n size to : ℕ) (buffer : List ℕ) (plan : Plan) (s : State) → IsRecord (put_at key w) end n size buffer → w ≡ v
     → ((payload rest : List ℕ) → size ≡ 6 + length payload → works_of ((1 ∷ framed payload) ++ rest) plan ≡ append_works end payload)
-    → to + 1 ≡ end + size → IsChange (works_of buffer plan) end to s (stored s key v)
+    → to + 1 ≡ end + size → IsChangePlan (works_of buffer plan) end to s (stored s key v)
 put_planned key w v end n size to buffer plan s r same works far =
-    subst (λ x. IsChange (works_of buffer plan) end to s (stored s key x)) same (planned_by (put_at key w) end n size to buffer plan s r works far)
+    subst (λ x. IsChangePlan (works_of buffer plan) end to s (stored s key x)) same (planned_by (put_at key w) end n size to buffer plan s r works far)
 
 -- what a call says of `Ok` that isn't refused
 pub not_refused : {E : Type 0} (r : Result (Unit {0}) E) (P : Type 0) → OnOk r P → ((e : E) → r ≡ Err e → ⊥) → P

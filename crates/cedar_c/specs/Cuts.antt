@@ -2,7 +2,7 @@
 use Rattle.std.specs.Prelude.{◌≡◌, ℕ, ◌<◌, ◌≤◌, ◌^◌, Bool, true, false, List, ◌++◌, length, map, drop}
 use Rattle.cedar_tree.specs.Tree.{Tree}
 use Rattle.cedar_words.specs.Words.{character_price, IsCheapestBy, IsCut, IsLeastCapped, Token}
-use Rattle.cedar_c.specs.Scans.{token_spot}
+use Rattle.cedar_c.specs.Scans.{found_token}
 use Rattle.cedar_c.specs.declared.scans.Found.{Found}
 
 -- what a byte without a number costs at each place of a text: the same at all, or so that a character costs once
@@ -20,9 +20,9 @@ pub record IsLeastCut (tree : Tree) (unknown : ℕ → ℕ) (text : List ℕ) (t
 -- the first places have the tokens of such a cut, the others what they had; `needed` is how many tokens there are
 abbrev pub WritesLeastCut : Tree → (ℕ → ℕ) → List ℕ → List Found → List Found → ℕ → Type 0
 WritesLeastCut tree unknown text before after needed = (tokens : List Token) × IsLeastCut tree unknown text tokens
-    × (needed ≡ length tokens) × (needed ≤ length before) × (after ≡ map token_spot tokens ++ drop needed before)
+    × (needed ≡ length tokens) × (needed ≤ length before) × (after ≡ map found_token tokens ++ drop needed before)
 
 -- `needed` is how many tokens such a cut has, and there are fewer places
-abbrev pub LacksPlaces : Tree → (ℕ → ℕ) → List ℕ → List Found → ℕ → Type 0
-LacksPlaces tree unknown text places needed =
+abbrev pub LacksPlacesForCut : Tree → (ℕ → ℕ) → List ℕ → List Found → ℕ → Type 0
+LacksPlacesForCut tree unknown text places needed =
     (tokens : List Token) × IsLeastCut tree unknown text tokens × (needed ≡ length tokens) × (length places < needed)

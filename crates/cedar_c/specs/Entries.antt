@@ -17,21 +17,21 @@ use Rattle.cedar_c.specs.declared.scans.Found.{Found}
 use Rattle.cedar_c.specs.declared.status.TheConstants.{OK, NO_ROOM, NOT_ASCENDING}
 
 -- the key of a node that a walk below the path `start` has come to
-abbrev pub key_at : Fields → List ℕ → Numbered → List ℕ
-key_at T start at = start ++ path_to T at.depth at.slot
+abbrev pub visited_key : Fields → List ℕ → Numbered → List ℕ
+visited_key T start at = start ++ path_to T at.depth at.slot
 
 -- a page goes no further at this key: it has no room, or another prefix
-abbrev pub Stops : List ℕ → ℕ → List ℕ → Type 0
-Stops prefix room key = (room < length key) ⊎ (starts_with nat_eq key prefix ≡ false)
+abbrev pub EndsPage : List ℕ → ℕ → List ℕ → Type 0
+EndsPage prefix room key = (room < length key) ⊎ (starts_with nat_eq key prefix ≡ false)
 
 -- the entries of a tree behind a key by bytes, in the order of the walk
-abbrev pub entries_behind : Tree → List ℕ → List Entry
-entries_behind t key = filter (λ e. is_gt (slice_cmp nat_cmp e.0 key)) (walk t)
+abbrev pub entries_behind_key : Tree → List ℕ → List Entry
+entries_behind_key t key = filter (λ e. is_gt (slice_cmp nat_cmp e.0 key)) (walk t)
 
 -- the entries that a page is taken from: those behind a key, or, where no key was shown, those whose keys begin with a prefix
 abbrev pub following : Tree → List ℕ → List ℕ → List Entry
 following t prefix [] = entries_with t prefix
-following t prefix (b ∷ behind) = entries_behind t (b ∷ behind)
+following t prefix (b ∷ behind) = entries_behind_key t (b ∷ behind)
 
 -- the first of some entries, as long as their keys begin with a prefix, and there are places and room for bytes
 abbrev pub page_of : List ℕ → ℕ → ℕ → List Entry → List Entry
@@ -47,10 +47,10 @@ spots_of place [] = []
 spots_of place (e ∷ es) = record { place = place; length = length e.0; value = e.1 } ∷ spots_of (place + length e.0) es
 
 -- how many bytes the first of some entries' keys has, if it has more than there is room for
-abbrev pub lacking : ℕ → ℕ → List Entry → Option ℕ
-lacking zero room es = None
-lacking (suc places) room [] = None
-lacking (suc places) room (e ∷ es) = if nat_lt room (length e.0) then Some (length e.0) else None
+abbrev pub bytes_lacking : ℕ → ℕ → List Entry → Option ℕ
+bytes_lacking zero room es = None
+bytes_lacking (suc places) room [] = None
+bytes_lacking (suc places) room (e ∷ es) = if nat_lt room (length e.0) then Some (length e.0) else None
 
 -- a page of these entries is written, of which there are `count`: the first places have where their keys stand, and the others are as they
 -- were; the first bytes are those of the keys, and the others may be anything
@@ -65,19 +65,19 @@ abbrev pub WritesNothing : List Found → List Found → List ℕ → List ℕ �
 WritesNothing found told bytes written count counted = (told ≡ found) × (written ≡ bytes) × (counted ≡ count)
 
 -- a page can go on behind a key: labels ascend, or no key was shown
-abbrev pub GoesOn : State → List ℕ → Type 0
-GoesOn s behind = (behind ≡ []) ⊎ (s.ordered ≡ true)
+abbrev pub CanGoOnBehind : State → List ℕ → Type 0
+CanGoOnBehind s behind = (behind ≡ []) ⊎ (s.ordered ≡ true)
 
 -- a page of these entries is written, or it is told how many bytes the first key needs that finds no room; `count` and `needed` are the
 -- numbers before, `counted` and `wanted` those behind
 pub record TellsPage (prefix : List ℕ) (entries : List Entry) (found told : List Found) (bytes written : List ℕ) (count counted needed wanted status : ℕ) : Type 0 where
-  pub page : lacking (length found) (length bytes) entries ≡ None → (status ≡ OK) × WritesPage prefix entries found told bytes written counted × (wanted ≡ needed)
-  pub lacks : IfSome (lacking (length found) (length bytes) entries) (λ n. (status ≡ NO_ROOM) × (wanted ≡ n) × WritesNothing found told bytes written count counted)
+  pub page : bytes_lacking (length found) (length bytes) entries ≡ None → (status ≡ OK) × WritesPage prefix entries found told bytes written counted × (wanted ≡ needed)
+  pub lacks : IfSome (bytes_lacking (length found) (length bytes) entries) (λ n. (status ≡ NO_ROOM) × (wanted ≡ n) × WritesNothing found told bytes written count counted)
 
 -- the same of the entries of a dictionary behind a key; where its labels don't ascend, only a page from the first entry is written
 pub record TellsEntries (s : State) (prefix behind : List ℕ) (found told : List Found) (bytes written : List ℕ) (count counted needed wanted status : ℕ) : Type 0 where
-  pub page : GoesOn s behind → TellsPage prefix (following s.tree prefix behind) found told bytes written count counted needed wanted status
-  pub unordered : (GoesOn s behind → ⊥) → (status ≡ NOT_ASCENDING) × WritesNothing found told bytes written count counted × (wanted ≡ needed)
+  pub page : CanGoOnBehind s behind → TellsPage prefix (following s.tree prefix behind) found told bytes written count counted needed wanted status
+  pub unordered : (CanGoOnBehind s behind → ⊥) → (status ≡ NOT_ASCENDING) × WritesNothing found told bytes written count counted × (wanted ≡ needed)
 
 -- the same of a dictionary of either layout
 abbrev pub PageOf : List ℕ → List ℕ → List Found → List Found → List ℕ → List ℕ → ℕ → ℕ → ℕ → ℕ → ℕ → AnyCedar → Type 0

@@ -55,8 +55,8 @@ TellsJust r status = status ≡ file_status r
 abbrev pub LacksOrCorrupt : ℕ → List ℕ → ℕ → Type 0
 LacksOrCorrupt slots bytes status = (status ≡ MEMORY) ⊎ ((status ≡ FILE_CORRUPT) × IsOfNoTable slots bytes)
 
-abbrev pub LacksTable : List ℕ → ℕ → Type 0
-LacksTable bytes status = LacksOrCorrupt most_slots bytes status
+abbrev pub TellsNoTable : List ℕ → ℕ → Type 0
+TellsNoTable bytes status = LacksOrCorrupt most_slots bytes status
 
 -- which version's file a save writes: format 1.0, which lists all slots and blocks, or 1.1
 abbrev pub minor_of : Bool → ℕ

@@ -3,7 +3,7 @@ use Rattle.std.specs.Prelude.{◌≡◌, ◌⊎◌, ℕ, ◌+◌, ◌<◌, ◌�
 use Rattle.cedar_plan.specs.Works.{Work}
 use Rattle.cedar_store.specs.Changes.{Change, all_changed, batch_of}
 use Rattle.cedarwood.specs.State.{State}
-use Rattle.cedar_c.specs.Plans.{IsChange}
+use Rattle.cedar_c.specs.Plans.{IsChangePlan}
 use Rattle.cedar_c.specs.declared.status.TheConstants.{NO_ROOM, STORE_FULL, STORE_TOO_LONG}
 
 -- behind the records of some changes, these bytes are the record of one change more
@@ -13,7 +13,7 @@ AddsChange change bytes = (records : List ℕ) (changes : List Change) → batch
 -- Works that make the changes of these records in a file, whatever it stands for, and move where its records end. A crash at any moment
 -- leaves a file that has all of them or none.
 abbrev pub IsGroup : List Work → ℕ → ℕ → List ℕ → Type 0
-IsGroup works from to records = (changes : List Change) (s : State) → batch_of records ≡ Some changes → IsChange works from to s (all_changed s changes)
+IsGroup works from to records = (changes : List Change) (s : State) → batch_of records ≡ Some changes → IsChangePlan works from to s (all_changed s changes)
 
 -- the number says why records of n bytes aren't made one, for a file whose records end here, in so many places
 abbrev pub LacksGroup : ℕ → ℕ → ℕ → ℕ → Type 0

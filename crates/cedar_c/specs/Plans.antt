@@ -1,7 +1,7 @@
 -- The dictionary of a store whose file somebody else keeps: what the plans say that its calls write down.
 use Rattle.std.specs.Prelude.{◌≡◌, ◌⊎◌, ℕ, ◌+◌, ◌<◌, ◌≤◌, ◌^◌, List, [], ◌∷◌, Some}
 use Rattle.cedar_disk.specs.Calls.{Call, opened, seen_after}
-use Rattle.cedar_plan.specs.Safety.{IsAtRest, Leaves}
+use Rattle.cedar_plan.specs.Safety.{CrashLeaves, IsAtRest}
 use Rattle.cedar_plan.specs.Works.{AreCarriedOut, Work, all_done}
 use Rattle.cedar_store.specs.Causes.{LoadCause}
 use Rattle.cedar_store.specs.Files.{IsEither, state_of}
@@ -18,15 +18,15 @@ pub record IsKept (calls : List Call) (end : ℕ) (s : State) : Type 0 where
 
 -- Works that change the state which a file stands for, and where its records end. A crash at any moment, also where one of them fails,
 -- leaves a file that stands for the one state or for the other.
-pub record IsChange (works : List Work) (from to : ℕ) (before after : State) : Type 0 where
+pub record IsChangePlan (works : List Work) (from to : ℕ) (before after : State) : Type 0 where
   pub kept : (calls : List Call) → IsKept calls from before → IsKept (all_done works calls) to after
-  pub any_moment : (calls later : List Call) → IsKept calls from before → AreCarriedOut works calls later → Leaves calls later (IsEither before after)
+  pub any_moment : (calls later : List Call) → IsKept calls from before → AreCarriedOut works calls later → CrashLeaves calls later (IsEither before after)
 
 -- Works that make a file of these bytes ready for changes, which was synced and then read. A crash at any moment, also where one of them
 -- fails, leaves a file that stands for the same state.
 pub record IsOpening (bytes : List ℕ) (works : List Work) (end : ℕ) (s : State) : Type 0 where
   pub kept : IsKept (all_done works (opened bytes ∷ [])) end s
-  pub any_moment : (later : List Call) → AreCarriedOut works (opened bytes ∷ []) later → Leaves (opened bytes ∷ []) later (λ c. state_of c ≡ Some s)
+  pub any_moment : (later : List Call) → AreCarriedOut works (opened bytes ∷ []) later → CrashLeaves (opened bytes ∷ []) later (λ c. state_of c ≡ Some s)
 
 -- the number of why a file wasn't read as a dictionary
 abbrev pub store_status : DurableError → ℕ

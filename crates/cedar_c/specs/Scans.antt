@@ -6,37 +6,37 @@ use Rattle.cedar_words.specs.Words.{Spot, Token, keywords_of, tokens_behind}
 use Rattle.cedar_c.specs.declared.scans.Found.{Found}
 
 -- a key that was found at a place
-abbrev pub spot : ℕ → ℤ × ℕ → Found
-spot place found = record { place = place; length = found.1 + 1; value = found.0 }
+abbrev pub found_spot : ℕ → ℤ × ℕ → Found
+found_spot place found = record { place = place; length = found.1 + 1; value = found.0 }
 
 -- the keys that stand in a text, of which these bytes are left from a place on: place after place, at each the shortest first
-abbrev pub spots_from : Tree → ℕ → List ℕ → List Found
-spots_from tree place [] = []
-spots_from tree place (b ∷ rest) = map (spot place) (front tree (b ∷ rest)) ++ spots_from tree (place + 1) rest
+abbrev pub found_spots : Tree → ℕ → List ℕ → List Found
+found_spots tree place [] = []
+found_spots tree place (b ∷ rest) = map (found_spot place) (front tree (b ∷ rest)) ++ found_spots tree (place + 1) rest
 
 -- the number of a token; -1 stands for none
 abbrev pub number_or_none : Option ℤ → ℤ
 number_or_none None = negsuc 0
 number_or_none (Some v) = v
 
-abbrev pub token_spot : Token → Found
-token_spot t = record { place = t.0; length = t.1; value = number_or_none t.2 }
+abbrev pub found_token : Token → Found
+found_token t = record { place = t.0; length = t.1; value = number_or_none t.2 }
 
 -- the tokens of a text, of which these bytes are left from a place on
-abbrev pub tokens_from : Tree → ℕ → List ℕ → List Found
-tokens_from tree place rest = map token_spot (tokens_behind tree 0 place rest)
+abbrev pub found_tokens : Tree → ℕ → List ℕ → List Found
+found_tokens tree place rest = map found_token (tokens_behind tree 0 place rest)
 
 -- a keyword as it is written
-abbrev pub keyword_spot : Spot → Found
-keyword_spot s = record { place = s.0; length = s.1; value = s.2 }
+abbrev pub found_keyword : Spot → Found
+found_keyword s = record { place = s.0; length = s.1; value = s.2 }
 
 -- the keywords of a text, of which these bytes are left from a place on
-abbrev pub keywords_from : Tree → ℕ → List ℕ → List Found
-keywords_from tree place rest = map keyword_spot (keywords_of (tokens_behind tree 0 place rest))
+abbrev pub found_keywords : Tree → ℕ → List ℕ → List Found
+found_keywords tree place rest = map found_keyword (keywords_of (tokens_behind tree 0 place rest))
 
 -- what stands in a text from one place on is what was written, and then what stands from another place on
-abbrev pub GoesOn : (ℕ → List ℕ → List Found) → List ℕ → ℕ → ℕ → List Found → Type 0
-GoesOn stands text before after written = stands before (drop before text) ≡ written ++ stands after (drop after text)
+abbrev pub WritesPiece : (ℕ → List ℕ → List Found) → List ℕ → ℕ → ℕ → List Found → Type 0
+WritesPiece stands text before after written = stands before (drop before text) ≡ written ++ stands after (drop after text)
 
 -- what was written first, and then what stands from one place on, is what is written now, and then what stands from another place on
 abbrev pub WritesOn : (ℕ → List ℕ → List Found) → List ℕ → ℕ → ℕ → List Found → List Found → Type 0

@@ -2,9 +2,9 @@
 pub use Rattle.cedar_c.specs.Changes.{IsRecord}
 pub use Rattle.cedar_c.specs.Content.{capacity_in, ChangesBy, content, ErasesUnder, layout_in, marks_in, size_in, state_in, tree_in}
 pub use Rattle.cedar_c.specs.Content.{trials_in}
-pub use Rattle.cedar_c.specs.Cuts.{IsLeastCut, LacksPlaces, prices, WritesLeastCut}
-pub use Rattle.cedar_c.specs.Entries.{entries_behind, key_at, lacking, PageOf, Stops, TellsEntries, TellsPage, WritesNothing, WritesPage}
-pub use Rattle.cedar_c.specs.Files.{early_refusal, file_in, file_status, is_reduced_byte, IsFileOf, LacksOrCorrupt, LacksTable}
+pub use Rattle.cedar_c.specs.Cuts.{IsLeastCut, LacksPlacesForCut, prices, WritesLeastCut}
+pub use Rattle.cedar_c.specs.Entries.{bytes_lacking, EndsPage, entries_behind_key, PageOf, TellsEntries, TellsPage, visited_key, WritesNothing, WritesPage}
+pub use Rattle.cedar_c.specs.Files.{early_refusal, file_in, file_status, is_reduced_byte, IsFileOf, LacksOrCorrupt, TellsNoTable}
 pub use Rattle.cedar_c.specs.Files.{layout_named, minor_of, TellsHeader, TellsJust}
 pub use Rattle.cedar_c.specs.Groups.{AddsChange, IsGroup, LacksGroup}
 pub use Rattle.cedar_c.specs.Layouts.{dictionary_in, HasToGrow, layout_if, layout_of, most_slots}
@@ -12,9 +12,9 @@ pub use Rattle.cedar_c.specs.Lending.{as_shown, LendsCedar, LendsSeen}
 pub use Rattle.cedar_c.specs.Matches.{filled_from, filled_matches, Fit, front_keys, lengthened, longer, match_of, predicted_keys}
 pub use Rattle.cedar_c.specs.Opens.{OpensLoaded, OpensNew, OpensSorted}
 pub use Rattle.cedar_c.specs.Pairs.{entries_in, fault_in, keys_in, MayWantSlots, StoresFront, StoresPart, taken_pair}
-pub use Rattle.cedar_c.specs.Plans.{IsChange, IsOpening, LacksChange, LacksRecord, TellsWhy, store_status}
+pub use Rattle.cedar_c.specs.Plans.{IsChangePlan, IsOpening, LacksChange, LacksRecord, TellsWhy, store_status}
 pub use Rattle.cedar_c.specs.Readings.{shown_figure, shown_in, shown_layout, shown_tree}
-pub use Rattle.cedar_c.specs.Scans.{GoesOn, keywords_from, spot, spots_from, token_spot, tokens_from, WritesOn}
+pub use Rattle.cedar_c.specs.Scans.{found_keywords, found_spot, found_spots, found_token, found_tokens, WritesOn, WritesPiece}
 pub use Rattle.cedar_c.specs.Shrinks.{Shrinks}
 pub use Rattle.cedar_c.specs.Status.{LacksOnlyNew, position_of, status_of, status_text, TellsFault, TellsPosition}
 pub use Rattle.cedar_c.specs.Stores.{HoldsFront, HoldsPart, RefusesAll}

@@ -1,7 +1,7 @@
 //! The cut of least cost of a whole text, written into a buffer of the caller's.
 
 ghost use Rattle.std.specs.Prelude.{◌++◌, ◌<◌, ◌↔◌, ◌≡◌, ◌≤◌, ◌⊎◌, drop, IfSome, length, map, None, set};
-ghost use Rattle.cedar_c.specs.Words.{dictionary_in, IsLeastCut, LacksPlaces, prices, shown_in, shown_tree, token_spot, WritesLeastCut};
+ghost use Rattle.cedar_c.specs.Words.{dictionary_in, found_token, IsLeastCut, LacksPlacesForCut, prices, shown_in, shown_tree, WritesLeastCut};
 
 use crate::any::AnyCedar;
 use crate::reading::Reading;
@@ -38,7 +38,7 @@ pub extern "C" fn cedar_cheapest(
     //  buffer, and leaves the others; `needed` is how many they are, and stays where neither `OK` nor `NO_ROOM` is answered. [with room,
     //  stays; by IsLeastCut, prices]
     ensures cut { result ≡ OK → WritesLeastCut (shown_tree handle.old) (prices by_characters unknown text.now) text.now found.old found.new needed.new }
-    ensures room { result ≡ NO_ROOM → LacksPlaces (shown_tree handle.old) (prices by_characters unknown text.now) text.now found.old needed.new }
+    ensures room { result ≡ NO_ROOM → LacksPlacesForCut (shown_tree handle.old) (prices by_characters unknown text.now) text.now found.old needed.new }
     ensures refused { (result ≡ OK) ⊎ (((result ≡ CLOSED) ⊎ (result ≡ MEMORY) ⊎ (result ≡ NO_ROOM)) × (found.new ≡ found.old)) }
     ensures stays { (result ≡ OK) ⊎ (result ≡ NO_ROOM) ⊎ (needed.new ≡ needed.old) }
     ensures kept { handle.new ≡ handle.old }
@@ -65,7 +65,7 @@ impl AnyCedar {
         needed: &mut usize,
     ) -> u32
         ensures cut { result ≡ OK → WritesLeastCut (dictionary_in self.now).state.tree (prices by_characters unknown text.now) text.now found.old found.new needed.new }
-        ensures room { result ≡ NO_ROOM → LacksPlaces (dictionary_in self.now).state.tree (prices by_characters unknown text.now) text.now found.old needed.new }
+        ensures room { result ≡ NO_ROOM → LacksPlacesForCut (dictionary_in self.now).state.tree (prices by_characters unknown text.now) text.now found.old needed.new }
         ensures refused { (result ≡ OK) ⊎ (((result ≡ MEMORY) ⊎ (result ≡ NO_ROOM)) × (found.new ≡ found.old)) }
         ensures stays { (result ≡ OK) ⊎ (result ≡ NO_ROOM) ⊎ (needed.new ≡ needed.old) }
     {
@@ -115,7 +115,7 @@ fn write_whole(
     needed: &mut usize,
 ) -> u32
     ensures needed { needed.new ≡ length tokens.now }
-    ensures written { result ≡ OK → (found.new ≡ map token_spot tokens.now ++ drop (length tokens.now) found.old) × (length tokens.now ≤ length found.old) }
+    ensures written { result ≡ OK → (found.new ≡ map found_token tokens.now ++ drop (length tokens.now) found.old) × (length tokens.now ≤ length found.old) }
     ensures no_room { (result ≡ OK) ⊎ ((result ≡ NO_ROOM) × (length found.old < length tokens.now) × (found.new ≡ found.old)) }
 {
     *needed = tokens.len();
@@ -131,7 +131,7 @@ fn write_whole(
 /// Writes a token at a place.
 fn put_token(found: &mut [Found], at: usize, token: (usize, usize, Option<i32>))
     requires { at < length found.old }
-    ensures { found.new ≡ set found.old at (token_spot token) }
+    ensures { found.new ≡ set found.old at (found_token token) }
 {
     let (place, length, value) = token;
     found[at] = Found {

@@ -1,7 +1,7 @@
 //! Entries with their keys, a page of them a call.
 
 ghost use Rattle.std.specs.Prelude.{◌++◌, ◌+◌, ◌-◌, ◌↔◌, ◌≡◌, ◌≤◌, [], IfSome, IsSome, IsTrue, length, nat_eq, None, take, true};
-ghost use Rattle.cedar_c.specs.Words.{ComesToFirst, entries_behind, IsNumberedBelow, IsRangePlace, IsWellFormed, key_at, lacking, number_at, PageOf, ranged, shown_in, starts_with, Stops, TellsEntries, TellsPage, tree_of, WritesNothing, WritesPage};
+ghost use Rattle.cedar_c.specs.Words.{bytes_lacking, ComesToFirst, EndsPage, entries_behind_key, IsNumberedBelow, IsRangePlace, IsWellFormed, number_at, PageOf, ranged, shown_in, starts_with, TellsEntries, TellsPage, tree_of, visited_key, WritesNothing, WritesPage};
 
 use crate::any::AnyCedar;
 use crate::reading::Reading;
@@ -16,7 +16,7 @@ fn write_key<T: Walked>(trie: &T, start: &[u8], at: Numbered, key: &mut [u8])
     requires well_formed { IsWellFormed T.slots (T.shown trie.now) }
     requires below { IsNumberedBelow (T.shown trie.now) start.now at.depth at.slot }
     requires room { length key.old ≡ length start.now + at.depth }
-    ensures { key.new ≡ key_at (T.shown trie.now) start.now at }
+    ensures { key.new ≡ visited_key (T.shown trie.now) start.now at }
 {
     key[..start.len()].copy_from_slice(start);
     trie.write_path(at.slot, at.depth, key);
@@ -26,7 +26,7 @@ fn write_key<T: Walked>(trie: &T, start: &[u8], at: Numbered, key: &mut [u8])
 fn key_length<T: Walked>(trie: &T, start: &[u8], at: Numbered) -> usize
     requires well_formed { IsWellFormed T.slots (T.shown trie.now) }
     requires below { IsNumberedBelow (T.shown trie.now) start.now at.depth at.slot }
-    ensures whole { result ≡ length (key_at (T.shown trie.now) start.now at) }
+    ensures whole { result ≡ length (visited_key (T.shown trie.now) start.now at) }
     ensures parts { result ≡ length start.now + at.depth }
 {
     let _ = trie;
@@ -47,11 +47,11 @@ fn write_entry<T: Walked>(
     requires below { IsNumberedBelow (T.shown trie.now) start.now at.depth at.slot }
     requires used { used ≤ length bytes.old }
     ensures kept { (take used bytes.new ≡ take used bytes.old) × (length bytes.new ≡ length bytes.old) }
-    ensures left { result ≡ None → Stops prefix.now (length bytes.old - used) (key_at (T.shown trie.now) start.now at) }
-    ensures length { IfSome result (λ len. (len ≡ length (key_at (T.shown trie.now) start.now at)) × (used + len ≤ length bytes.old)) }
-    ensures begins { IfSome result (λ _. starts_with nat_eq (key_at (T.shown trie.now) start.now at) prefix.now ≡ true) }
+    ensures left { result ≡ None → EndsPage prefix.now (length bytes.old - used) (visited_key (T.shown trie.now) start.now at) }
+    ensures length { IfSome result (λ len. (len ≡ length (visited_key (T.shown trie.now) start.now at)) × (used + len ≤ length bytes.old)) }
+    ensures begins { IfSome result (λ _. starts_with nat_eq (visited_key (T.shown trie.now) start.now at) prefix.now ≡ true) }
     ensures written { IfSome result (λ len.
-        take (used + len) bytes.new ≡ take used bytes.old ++ (key_at (T.shown trie.now) start.now at)) }
+        take (used + len) bytes.new ≡ take used bytes.old ++ (visited_key (T.shown trie.now) start.now at)) }
 {
     let len = key_length(trie, start, at);
     if bytes.len() - used < len {
@@ -110,7 +110,7 @@ fn lack<T: Walked>(
 ) -> Option<usize>
     requires well_formed { IsWellFormed T.slots (T.shown trie.now) }
     requires place { IsRangePlace (T.shown trie.now) start.now first }
-    ensures { result ≡ lacking places room (ranged (T.shown trie.now) start.now first) }
+    ensures { result ≡ bytes_lacking places room (ranged (T.shown trie.now) start.now first) }
 {
     let at = first?;
     let len = key_length(trie, start, at);
@@ -153,7 +153,7 @@ fn first_behind<T: Walked>(trie: &T, key: &[u8], is_held: bool) -> Option<Number
     requires well_formed { IsWellFormed T.slots (T.shown trie.now) }
     requires ordered { (T.shown trie.now).ordered ≡ true }
     requires held { IsTrue is_held ↔ IsSome (number_at (tree_of (T.shown trie.now)) key.now) }
-    ensures { ComesToFirst (T.shown trie.now) [] (entries_behind (tree_of (T.shown trie.now)) key.now) result }
+    ensures { ComesToFirst (T.shown trie.now) [] (entries_behind_key (tree_of (T.shown trie.now)) key.now) result }
 {
     let first = trie.first_since(key)?;
     if is_held {

@@ -1,7 +1,7 @@
 //! A dictionary's file, in memory of the caller's.
 
 ghost use Rattle.std.specs.Prelude.{◌≡◌, ◌≢◌, ℕ, IfErr, IfOk, IfSome, IsErrAnd, None, slice_get};
-ghost use Rattle.cedar_c.specs.Words.{default_layout, dictionary_in, early_refusal, file_status, header_answer, is_reduced_byte, IsFileOf, IsOnTable, IsSlotLimit, IsTableFile, LacksOrCorrupt, LacksTable, layout_byte, layout_if, layout_named, layout_of, most_slots, OpensLoaded, reduced_layout, refusal_of, TellsHeader, TellsJust};
+ghost use Rattle.cedar_c.specs.Words.{default_layout, dictionary_in, early_refusal, file_status, header_answer, is_reduced_byte, IsFileOf, IsOnTable, IsSlotLimit, IsTableFile, LacksOrCorrupt, layout_byte, layout_if, layout_named, layout_of, most_slots, OpensLoaded, reduced_layout, refusal_of, TellsHeader, TellsJust, TellsNoTable};
 
 use crate::any::AnyCedar;
 use crate::handle::Handle;
@@ -122,7 +122,7 @@ fn boxed(
     ensures refused { IfErr result (λ status. status ≢ OK) }
     ensures header { IfSome (header_answer (layout_byte (layout_if is_reduced)) most_slots memory_limit bytes.now) (λ r. IsErrAnd result (TellsHeader r)) }
     ensures early { IfSome (early_refusal (layout_byte (layout_if is_reduced)) most_slots memory_limit bytes.now) (λ r. IsErrAnd result (TellsJust r)) }
-    ensures behind { header_answer (layout_byte (layout_if is_reduced)) most_slots memory_limit bytes.now ≡ None → IfErr result (LacksTable bytes.now) }
+    ensures behind { header_answer (layout_byte (layout_if is_reduced)) most_slots memory_limit bytes.now ≡ None → IfErr result (TellsNoTable bytes.now) }
     ensures stands { IfOk result (λ b. IsOnTable most_slots (dictionary_in b.value)) }
     ensures read { IfErr result (λ status. status ≢ FILE_UNREAD) }
 {
@@ -149,7 +149,7 @@ impl AnyCedar {
         ensures refused { IfErr result (λ status. status ≢ OK) }
         ensures header { IfSome (header_answer (layout_byte (layout_if is_reduced)) most_slots memory_limit bytes.now) (λ r. IsErrAnd result (TellsHeader r)) }
         ensures early { IfSome (early_refusal (layout_byte (layout_if is_reduced)) most_slots memory_limit bytes.now) (λ r. IsErrAnd result (TellsJust r)) }
-        ensures behind { header_answer (layout_byte (layout_if is_reduced)) most_slots memory_limit bytes.now ≡ None → IfErr result (LacksTable bytes.now) }
+        ensures behind { header_answer (layout_byte (layout_if is_reduced)) most_slots memory_limit bytes.now ≡ None → IfErr result (TellsNoTable bytes.now) }
         ensures stands { IfOk result (λ a. IsOnTable most_slots (dictionary_in a)) }
         ensures read { IfErr result (λ status. status ≢ FILE_UNREAD) }
     {

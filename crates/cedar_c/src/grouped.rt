@@ -27,7 +27,7 @@ pub extern "C" fn cedar_plan_group(
     plan: &mut Plan,
 ) -> u32
     //= Once the plan of a group is carried out, a file that stood for some dictionary stands for the one with all changes of the group, in their
-    //  order, on the disk. A crash at any moment, also where a step fails, leaves the one or the other. [by IsGroup, IsChange]
+    //  order, on the disk. A crash at any moment, also where a step fails, leaves the one or the other. [by IsGroup, IsChangePlan]
     ensures planned { result ≡ OK → IsGroup (works_of buffer.new plan.new) end.old end.new (take size (drop 6 buffer.old)) }
 
     //= A group is refused just where the records end too far back, its record would be too long, or the buffer has too few places; then

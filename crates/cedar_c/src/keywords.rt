@@ -1,7 +1,7 @@
 //! The keywords of a text, of which a buffer takes as many as it has room for.
 
 ghost use Rattle.std.specs.Prelude.{◌<◌, ◌≡◌, ◌≤◌, ◌⊎◌, IsSome, length, None, take};
-ghost use Rattle.cedar_c.specs.Words.{dictionary_in, GoesOn, keywords_from, shown_in, shown_tree, WritesOn};
+ghost use Rattle.cedar_c.specs.Words.{dictionary_in, found_keywords, shown_in, shown_tree, WritesOn, WritesPiece};
 
 use crate::any::AnyCedar;
 use crate::reading::Reading;
@@ -10,7 +10,7 @@ use cedar_words::LongestPrefix;
 
 /// Writes the keywords of a text from a place on, as far as there is room.
 fn keywords<T: LongestPrefix>(trie: &T, text: &[u8], next: &mut usize, found: &mut [Found]) -> usize
-    ensures told { GoesOn (keywords_from (T.tree trie.now)) text.now next.old next.new (take result found.new) }
+    ensures told { WritesPiece (found_keywords (T.tree trie.now)) text.now next.old next.new (take result found.new) }
     ensures full { (length text.now ≤ next.new) ⊎ (result ≡ length found.new) }
     ensures within { (result ≤ length found.new) × (next.old ≤ next.new) }
     ensures ends { (next.new ≤ length text.now) ⊎ (next.new ≡ next.old) }
@@ -33,7 +33,7 @@ fn pass_token<T: LongestPrefix>(
 ) -> usize
     requires place { next.old < length text.now }
     requires room { count < length found.old }
-    ensures told { WritesOn (keywords_from (T.tree trie.now)) text.now next.old next.new (take count found.old) (take result found.new) }
+    ensures told { WritesOn (found_keywords (T.tree trie.now)) text.now next.old next.new (take count found.old) (take result found.new) }
     ensures within { (next.old < next.new) × (next.new ≤ length text.now) }
     ensures count { result ≤ length found.new }
     ensures room { length found.new ≡ length found.old }
@@ -53,7 +53,7 @@ fn pass_token<T: LongestPrefix>(
 
 impl AnyCedar {
     fn keywords(&self, text: &[u8], next: &mut usize, found: &mut [Found]) -> usize
-        ensures told { GoesOn (keywords_from (dictionary_in self.now).state.tree) text.now next.old next.new (take result found.new) }
+        ensures told { WritesPiece (found_keywords (dictionary_in self.now).state.tree) text.now next.old next.new (take result found.new) }
         ensures full { (length text.now ≤ next.new) ⊎ (result ≡ length found.new) }
         ensures within { (result ≤ length found.new) × (next.old ≤ next.new) }
         ensures ends { (next.new ≤ length text.now) ⊎ (next.new ≡ next.old) }
@@ -76,8 +76,8 @@ pub extern "C" fn cedar_keywords(
     found: &mut [Found],
 ) -> usize
     //= Keywords are written so too, from a place on where a token begins: what stood from the old `next` on is what was written, and then
-    //  what stands from the new one on. [by keywords_from]
-    ensures told { IsSome (shown_in handle.old) → GoesOn (keywords_from (shown_tree handle.old)) text.now next.old next.new (take result found.new) }
+    //  what stands from the new one on. [by found_keywords]
+    ensures told { IsSome (shown_in handle.old) → WritesPiece (found_keywords (shown_tree handle.old)) text.now next.old next.new (take result found.new) }
     ensures full { (length text.now ≤ next.new) ⊎ (result ≡ length found.new) }
     ensures within { (result ≤ length found.new) × (next.old ≤ next.new) }
     ensures ends { (next.new ≤ length text.now) ⊎ (next.new ≡ next.old) }

@@ -2,7 +2,7 @@
 //! change. These exports are the library's own, and no program sees them.
 
 ghost use Rattle.std.specs.Prelude.{◌≡◌, ◌≢◌, ◌⊎◌, ◌↔◌, ◌+◌, ◌<◌, ◌≤◌, ◌^◌, ◌++◌, ◌∷◌, ℕ, List, IfErr, IfOk, IfSome, IsFalse, IsSome, IsTrue, None, Some, length, option_map, take};
-ghost use Rattle.cedar_c.specs.Words.{AddsChange, append_works, content, dictionary_in, end_of, erase_at, erased, fault, framed, HasExtent, IsChange, IsOpening, LacksChange, LacksRecord, layout_if, layout_in, layout_of, LoadCause, number_at, position_of, put_at, state_in, state_of, status_of, store_status, stored, TellsWhy, tree_in, works_of};
+ghost use Rattle.cedar_c.specs.Words.{AddsChange, append_works, content, dictionary_in, end_of, erase_at, erased, fault, framed, HasExtent, IsChangePlan, IsOpening, LacksChange, LacksRecord, layout_if, layout_in, layout_of, LoadCause, number_at, position_of, put_at, state_in, state_of, status_of, store_status, stored, TellsWhy, tree_in, works_of};
 
 use crate::any::AnyCedar;
 use crate::handle::Handle;
@@ -94,8 +94,8 @@ pub extern "C" fn cedar_plan_put(
     ensures layout { layout_in handle.new ≡ layout_in handle.old }
 
     //= Once the plan of a put is carried out, a file that stood for the dictionary from before it stands for the one with it, on the disk. A
-    //  crash at any moment, also where a step fails, leaves the one or the other. [by IsChange]
-    ensures planned { result ≡ OK → IfSome (state_in handle.old) (λ s. IsChange (works_of buffer.new plan.new) end.old end.new s (stored s key.now value)) }
+    //  crash at any moment, also where a step fails, leaves the one or the other. [by IsChangePlan]
+    ensures planned { result ≡ OK → IfSome (state_in handle.old) (λ s. IsChangePlan (works_of buffer.new plan.new) end.old end.new s (stored s key.now value)) }
 
     //= What a put that answers `OK` has written is the record of its change, which may stand behind those of a group without its last byte. So
     //  it is of an erasure of a key that was held. [also cedar_plan_erase]
@@ -140,9 +140,9 @@ pub extern "C" fn cedar_plan_erase(
     ensures layout { layout_in handle.new ≡ layout_in handle.old }
 
     //= Once the plan of an erasure is carried out, a file that stood for the dictionary from before it stands for the one without the key, on
-    //  the disk. A crash at any moment, also where a step fails, leaves the one or the other. [by IsChange]
+    //  the disk. A crash at any moment, also where a step fails, leaves the one or the other. [by IsChangePlan]
     ensures planned { result ≡ OK → IsTrue held.new
-        → IfSome (state_in handle.old) (λ s. IsChange (works_of buffer.new plan.new) end.old end.new s (erased s key.now)) }
+        → IfSome (state_in handle.old) (λ s. IsChangePlan (works_of buffer.new plan.new) end.old end.new s (erased s key.now)) }
 
     ensures recorded { result ≡ OK → IsTrue held.new → AddsChange (erase_at key.now) (take (length key.now + 6) buffer.new) }
 
@@ -249,7 +249,7 @@ impl AnyCedar {
         ensures before { result ≡ OK → IfSome (number_at (dictionary_in self.old).state.tree key.now) (λ v. before.new ≡ v) }
         ensures untold { (result ≡ OK) ⊎ ((held.new ≡ held.old) × (before.new ≡ before.old) × (end.new ≡ end.old) × (plan.new ≡ plan.old)) }
         ensures layout { layout_of self.new ≡ layout_of self.old }
-        ensures planned { result ≡ OK → IsChange (works_of buffer.new plan.new) end.old end.new (dictionary_in self.old).state (stored (dictionary_in self.old).state key.now value) }
+        ensures planned { result ≡ OK → IsChangePlan (works_of buffer.new plan.new) end.old end.new (dictionary_in self.old).state (stored (dictionary_in self.old).state key.now value) }
         ensures recorded { result ≡ OK → AddsChange (put_at key.now value) (take (length key.now + 10) buffer.new) }
         ensures faulty { IfSome (fault key.now value) (λ e. (result ≡ status_of e) × (position.new ≡ position_of position.old e)) }
         ensures refused { fault key.now value ≡ None → LacksChange end.old (length key.now + 5) (length buffer.old) result }
@@ -292,7 +292,7 @@ impl AnyCedar {
         ensures untold { (result ≡ OK) ⊎ ((held.new ≡ held.old) × (end.new ≡ end.old) × (plan.new ≡ plan.old)) }
         ensures layout { layout_of self.new ≡ layout_of self.old }
         ensures planned { result ≡ OK → IsTrue held.new
-            → IsChange (works_of buffer.new plan.new) end.old end.new (dictionary_in self.old).state (erased (dictionary_in self.old).state key.now) }
+            → IsChangePlan (works_of buffer.new plan.new) end.old end.new (dictionary_in self.old).state (erased (dictionary_in self.old).state key.now) }
         ensures recorded { result ≡ OK → IsTrue held.new → AddsChange (erase_at key.now) (take (length key.now + 6) buffer.new) }
         ensures refused { (result ≡ OK) ⊎ LacksRecord end.old (length key.now + 1) (length buffer.old) result }
     {

@@ -1,7 +1,7 @@
 //! Long texts, of which a buffer takes as much as it has room for: a call goes on where the one before it ended.
 
 ghost use Rattle.std.specs.Prelude.{◌++◌, ◌+◌, ◌<◌, ◌^◌, ◌∷◌, ◌≡◌, ◌≤◌, ◌⊎◌, drop, IfSome, IsSome, length, map, None, set, take};
-ghost use Rattle.cedar_c.specs.Words.{dictionary_in, Fit, front, GoesOn, shown_in, shown_tree, spot, spots_from, tokens_from, Tree};
+ghost use Rattle.cedar_c.specs.Words.{dictionary_in, Fit, found_spot, found_spots, found_tokens, front, shown_in, shown_tree, Tree, WritesPiece};
 
 use crate::any::AnyCedar;
 use crate::reading::Reading;
@@ -33,7 +33,7 @@ trait Scanned: LongestPrefix {
         count: usize,
     ) -> Option<usize>
         requires { count ≤ length found.old }
-        ensures told { IfSome result (λ n. take n found.new ≡ take count found.old ++ map (spot place) (front (scanned self.now) text.now)) }
+        ensures told { IfSome result (λ n. take n found.new ≡ take count found.old ++ map (found_spot place) (front (scanned self.now) text.now)) }
         ensures within { IfSome result (λ n. (n ≤ length found.new) × (count ≤ n)) }
         ensures no_room { result ≡ None → (length found.new < count + length (front (scanned self.now) text.now)) × (take count found.new ≡ take count found.old) }
         ensures room { length found.new ≡ length found.old };
@@ -62,7 +62,7 @@ impl<L: Layout, const SLOTS: usize, A: Allocator + Copy> Scanned for Trie<L, SLO
 fn tell<F: Finds>(walk: &mut F, place: usize, found: &mut [Found], count: usize) -> Option<usize>
     requires room { count ≤ length found.old }
     requires fit { Fit 1 (F.left walk.old) }
-    ensures told { IfSome result (λ n. take n found.new ≡ take count found.old ++ map (spot place) (F.left walk.old)) }
+    ensures told { IfSome result (λ n. take n found.new ≡ take count found.old ++ map (found_spot place) (F.left walk.old)) }
     ensures within { IfSome result (λ n. (n ≤ length found.new) × (count ≤ n)) }
     ensures no_room { result ≡ None → (length found.new < count + length (F.left walk.old)) × (take count found.new ≡ take count found.old) }
     ensures room { length found.new ≡ length found.old }
@@ -82,7 +82,7 @@ fn tell<F: Finds>(walk: &mut F, place: usize, found: &mut [Found], count: usize)
 pub(crate) fn put_at(found: &mut [Found], at: usize, place: usize, front: (i32, usize))
     requires place { at < length found.old }
     requires fits { front.1 + 1 < 2 ^ 64 }
-    ensures { found.new ≡ set found.old at (spot place front) }
+    ensures { found.new ≡ set found.old at (found_spot place front) }
 {
     found[at] = Found {
         place,
@@ -93,7 +93,7 @@ pub(crate) fn put_at(found: &mut [Found], at: usize, place: usize, front: (i32, 
 
 /// Writes the keys that stand in a text from a place on, as those of whole places, as far as there is room.
 fn scan<T: Scanned>(trie: &T, text: &[u8], next: &mut usize, found: &mut [Found]) -> usize
-    ensures told { GoesOn (spots_from (T.scanned trie.now)) text.now next.old next.new (take result found.new) }
+    ensures told { WritesPiece (found_spots (T.scanned trie.now)) text.now next.old next.new (take result found.new) }
     ensures full { (length text.now ≤ next.new) ⊎ (length found.new < result + length (front (T.scanned trie.now) (drop next.new text.now))) }
     ensures within { (result ≤ length found.new) × (next.old ≤ next.new) }
     ensures ends { (next.new ≤ length text.now) ⊎ (next.new ≡ next.old) }
@@ -111,7 +111,7 @@ fn scan<T: Scanned>(trie: &T, text: &[u8], next: &mut usize, found: &mut [Found]
 
 /// Writes the tokens of a text from a place on, as far as there is room.
 fn cut<T: LongestPrefix>(trie: &T, text: &[u8], next: &mut usize, found: &mut [Found]) -> usize
-    ensures told { GoesOn (tokens_from (T.tree trie.now)) text.now next.old next.new (take result found.new) }
+    ensures told { WritesPiece (found_tokens (T.tree trie.now)) text.now next.old next.new (take result found.new) }
     ensures full { (length text.now ≤ next.new) ⊎ (result ≡ length found.new) }
     ensures within { (result ≤ length found.new) × (next.old ≤ next.new) }
     ensures ends { (next.new ≤ length text.now) ⊎ (next.new ≡ next.old) }
@@ -129,7 +129,7 @@ fn cut<T: LongestPrefix>(trie: &T, text: &[u8], next: &mut usize, found: &mut [F
 /// The token at a place, where a text begins.
 fn token_at<T: LongestPrefix>(trie: &T, text: &[u8], place: usize) -> Found
     requires { 0 < length text.now }
-    ensures first { tokens_from (T.tree trie.now) place text.now ≡ result ∷ tokens_from (T.tree trie.now) (place + result.length) (drop result.length text.now) }
+    ensures first { found_tokens (T.tree trie.now) place text.now ≡ result ∷ found_tokens (T.tree trie.now) (place + result.length) (drop result.length text.now) }
     ensures within { result.length ≤ length text.now }
 {
     match trie.longest_prefix(text) {
@@ -148,7 +148,7 @@ fn token_at<T: LongestPrefix>(trie: &T, text: &[u8], place: usize) -> Found
 
 impl AnyCedar {
     fn scan(&self, text: &[u8], next: &mut usize, found: &mut [Found]) -> usize
-        ensures told { GoesOn (spots_from (dictionary_in self.now).state.tree) text.now next.old next.new (take result found.new) }
+        ensures told { WritesPiece (found_spots (dictionary_in self.now).state.tree) text.now next.old next.new (take result found.new) }
         ensures full { (length text.now ≤ next.new) ⊎ (length found.new < result + length (front (dictionary_in self.now).state.tree (drop next.new text.now))) }
         ensures within { (result ≤ length found.new) × (next.old ≤ next.new) }
         ensures ends { (next.new ≤ length text.now) ⊎ (next.new ≡ next.old) }
@@ -160,7 +160,7 @@ impl AnyCedar {
     }
 
     fn cut(&self, text: &[u8], next: &mut usize, found: &mut [Found]) -> usize
-        ensures told { GoesOn (tokens_from (dictionary_in self.now).state.tree) text.now next.old next.new (take result found.new) }
+        ensures told { WritesPiece (found_tokens (dictionary_in self.now).state.tree) text.now next.old next.new (take result found.new) }
         ensures full { (length text.now ≤ next.new) ⊎ (result ≡ length found.new) }
         ensures within { (result ≤ length found.new) × (next.old ≤ next.new) }
         ensures ends { (next.new ≤ length text.now) ⊎ (next.new ≡ next.old) }
@@ -184,8 +184,8 @@ pub extern "C" fn cedar_scan(
     found: &mut [Found],
 ) -> usize
     //= A scan writes what keys stand in a text from `next` on, place after place: what stood from the old `next` on is what was written,
-    //  and then what stands from the new one on. [by spots_from]
-    ensures told { IsSome (shown_in handle.old) → GoesOn (spots_from (shown_tree handle.old)) text.now next.old next.new (take result found.new) }
+    //  and then what stands from the new one on. [by found_spots]
+    ensures told { IsSome (shown_in handle.old) → WritesPiece (found_spots (shown_tree handle.old)) text.now next.old next.new (take result found.new) }
 
     //= A scan ends where the text does, or where the keys of a place don't fit in the room left; tokens and keywords end where the text or
     //  the room does. [also cedar_segment, cedar_keywords]
@@ -215,8 +215,8 @@ pub extern "C" fn cedar_segment(
     next: &mut usize,
     found: &mut [Found],
 ) -> usize
-    //= A cut writes the tokens so too, with -1 for no value, from a place on where one begins. [by tokens_from]
-    ensures told { IsSome (shown_in handle.old) → GoesOn (tokens_from (shown_tree handle.old)) text.now next.old next.new (take result found.new) }
+    //= A cut writes the tokens so too, with -1 for no value, from a place on where one begins. [by found_tokens]
+    ensures told { IsSome (shown_in handle.old) → WritesPiece (found_tokens (shown_tree handle.old)) text.now next.old next.new (take result found.new) }
     ensures full { (length text.now ≤ next.new) ⊎ (result ≡ length found.new) }
     ensures within { (result ≤ length found.new) × (next.old ≤ next.new) }
     ensures ends { (next.new ≤ length text.now) ⊎ (next.new ≡ next.old) }

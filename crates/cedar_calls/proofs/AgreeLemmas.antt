@@ -29,7 +29,7 @@ use Rattle.cedarwood.specs.OnTable.{IsOnTable}
 use Rattle.cedarwood.specs.SortedInput.{fault_from}
 use Rattle.cedar_calls.specs.Agreement.{AreSameCalls, IsSameCall, IsSameChange, IsSameQuestion}
 use Rattle.cedar_calls.specs.Making.{IsLoad, Joins}
-use Rattle.cedar_calls.specs.Plain.{Said, all_said, at_state, call_says, change_says, changed_state, counted, done, found, held, listed, IsLoadless, IsMet, kept_at_fault, matched, missing, reply_says, said, said_load, selected, states_after, states_of, unless_fault, unloaded, valued, walked, was}
+use Rattle.cedar_calls.specs.Plain.{Said, all_said, at_state, call_says, change_says, changed_state, counted, done, found, held, listed, IsLoadless, IsMet, kept_at_fault, matched, missing, reply_says, said, said_load, selected, states_after, states_of, unless_fault, unloaded, numbered, walked, was}
 use Rattle.cedar_calls.specs.Replies.{in_order}
 use Rattle.cedar_calls.specs.Runs.{IsRun, IsStep}
 use Rattle.cedar_calls.specs.declared.call.Call.{Call}
@@ -70,7 +70,7 @@ change_alike s c d h = absurd h
 
 reply_alike : (b : Bool) (s : State) (q r : Question) → IsSameQuestion q r → reply_says b s q ≡ reply_says b s r
 reply_alike b s (question.Exact k) (question.Exact l) h = ap (λ x. found (exact s.tree x)) h
-reply_alike b s (question.Get k) (question.Get l) h = ap (λ x. valued (number_at s.tree x)) h
+reply_alike b s (question.Get k) (question.Get l) h = ap (λ x. numbered (number_at s.tree x)) h
 reply_alike b s (question.ContainsKey k) (question.ContainsKey l) h = ap (λ x. held (is_some (number_at s.tree x))) h
 reply_alike b s (question.Longest k) (question.Longest l) h = ap (λ x. found (longest_front s.tree x)) h
 reply_alike b s (question.Batch k) (question.Batch l) h = ap (λ keys. matched (map (exact s.tree) keys)) h

@@ -16,7 +16,7 @@ use Rattle.cedarwood.specs.Shrinking.{LacksPlaces}
 use Rattle.cedarwood.specs.Updates.{IsUpdate}
 use Rattle.cedar_calls.specs.Changes.{IsChange, IsWholeBuild}
 use Rattle.cedar_calls.specs.Replies.{IsReply}
-use Rattle.cedar_calls.specs.Plain.{compared, counted, done, ended, found, held, in_use, listed, matched, measured, selected, valued, walked, was, worded, change_says, changed_state, is_none_left, IsMet, kept_at_fault, reply_says, said_change, said_reply, said_result, unless_fault}
+use Rattle.cedar_calls.specs.Plain.{compared, counted, done, ended, found, held, in_use, listed, matched, measured, selected, numbered, walked, was, worded, change_says, changed_state, is_none_left, IsMet, kept_at_fault, reply_says, said_change, said_reply, said_result, unless_fault}
 use Rattle.cedar_calls.specs.declared.call.Change.{Change}
 use Rattle.cedar_calls.specs.declared.call.Change.TheVariants as change
 use Rattle.cedar_calls.specs.declared.call.Figure.TheVariants.{AllocatedBytes, Capacity, SpareBlocks, UsedSlots}
@@ -117,7 +117,7 @@ same_use false layout n m h same = refl
 pub reply_goes : {A : Type 0} (by_default : Bool) (layout : LayoutKind) (slots : ℕ) (d : Dictionary) (q : Question) (a : Reply A) → (by_default ≡ true → layout ≡ default_layout)
     → IsReply layout slots d q a → IsMet (said_reply by_default q a) → said_reply by_default q a ≡ reply_says by_default d.state q
 reply_goes b layout slots d (question.Exact key) (reply.Exact x) k h met = ap found h
-reply_goes b layout slots d (question.Get key) (reply.Value x) k h met = ap valued h
+reply_goes b layout slots d (question.Get key) (reply.Value x) k h met = ap numbered h
 reply_goes b layout slots d (question.ContainsKey key) (reply.IsHeld x) k h met = ap held h
 reply_goes b layout slots d (question.Longest text) (reply.Longest x) k h met = ap found h
 reply_goes b layout slots d (question.Batch keys) (reply.Batch (Ok v)) k h met = ap matched h

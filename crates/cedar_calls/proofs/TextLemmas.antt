@@ -4,7 +4,7 @@ use Rattle.std.specs.Prelude.{String}
 use Rattle.std.specs.Str.{is_utf8, IsUtf8}
 use Rattle.std.proofs.lemmas.Str.{is_utf8-from_IsUtf8, IsUtf8-from_is_utf8, IsUtf8-string_bytes}
 use Rattle.cedar_tree.specs.Queries.{Entry}
-use Rattle.cedar_calls.specs.Plain.{texts_of}
+use Rattle.cedar_calls.specs.Plain.{text_entries_of}
 use Rattle.cedar_calls.specs.Replies.{AreTexts}
 
 -- a text, or nothing, stands for the first entry that is left, and the next ones are left then
@@ -40,7 +40,7 @@ text_is true e same lacks = absurd (lacks (IsUtf8-from_is_utf8 e.0 same))
 text_is false e same lacks = refl
 
 pub texts_are : {A : Type 0} (items : List (Option (String A × ℤ))) (es : List Entry) → AreTexts (map (option_map (λ e. (string_bytes e.0, e.1))) items) es
-    → map (option_map (λ e. (string_bytes e.0, e.1))) items ≡ texts_of es
+    → map (option_map (λ e. (string_bytes e.0, e.1))) items ≡ text_entries_of es
 texts_are [] [] h = refl
 texts_are [] (e ∷ es) h = absurd h
 texts_are (Some text ∷ items) [] h = absurd h

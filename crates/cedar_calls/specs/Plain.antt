@@ -43,7 +43,7 @@ pub data Said : Type 0 where
   was : Option ℤ → Said
   held : Bool → Said
   found : Option (ℤ × ℕ) → Said
-  valued : Option ℤ → Said
+  numbered : Option ℤ → Said
   matched : List (Option (ℤ × ℕ)) → Said
   listed : List (ℤ × ℕ) → Said
   walked : List Entry → Said
@@ -83,7 +83,7 @@ said_figure by_default q n = unsaid
 -- what a question was answered. The bytes of a file tell of places.
 abbrev pub said_reply : {A : Type 0} → Bool → Question → Reply A → Said
 said_reply by_default q (reply.Exact result) = found result
-said_reply by_default q (reply.Value result) = valued result
+said_reply by_default q (reply.Value result) = numbered result
 said_reply by_default q (reply.IsHeld result) = held result
 said_reply by_default q (reply.Longest result) = found result
 said_reply by_default q (reply.Batch result) = said_result (λ v. matched v.items) result
@@ -170,13 +170,13 @@ changed_state s (change.Build pairs) = kept_at_fault (first_fault (entries_of pa
 changed_state s (change.Reserve n) = s
 
 -- entries as texts, and nothing in the place of each whose key isn't UTF-8
-abbrev pub texts_of : List Entry → List (Option Entry)
-texts_of es = map (λ e. if is_utf8 e.0 then Some e else None) es
+abbrev pub text_entries_of : List Entry → List (Option Entry)
+text_entries_of es = map (λ e. if is_utf8 e.0 then Some e else None) es
 
 -- what a question is answered
 abbrev pub reply_says : Bool → State → Question → Said
 reply_says by_default s (question.Exact key) = found (exact s.tree key.now)
-reply_says by_default s (question.Get key) = valued (number_at s.tree key.now)
+reply_says by_default s (question.Get key) = numbered (number_at s.tree key.now)
 reply_says by_default s (question.ContainsKey key) = held (is_some (number_at s.tree key.now))
 reply_says by_default s (question.Longest text) = found (longest_front s.tree text.now)
 reply_says by_default s (question.Batch keys) = matched (map (exact s.tree) (keys_of keys.now))
@@ -185,7 +185,7 @@ reply_says by_default s (question.Predictions query) = listed (predict s.tree qu
 reply_says by_default s question.First = ended (first_entry s.tree)
 reply_says by_default s question.Last = ended (last_entry s.tree)
 reply_says by_default s question.Entries = walked (walk s.tree)
-reply_says by_default s question.TextEntries = worded (texts_of (walk s.tree))
+reply_says by_default s question.TextEntries = worded (text_entries_of (walk s.tree))
 reply_says by_default s (question.EntriesWith prefix) = walked (entries_with s.tree prefix.now)
 reply_says by_default s (question.EntriesFrom key) = selected (in_order s.ordered (entries_since s.tree key.now))
 reply_says by_default s (question.Range from to) = selected (in_order s.ordered (entries_between s.tree from.now to.now))

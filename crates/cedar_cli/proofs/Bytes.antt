@@ -4,10 +4,12 @@ use Rattle.std.proofs.lemmas.List.{take_all}
 use Rattle.std.proofs.lemmas.Bool.{eqb-true}
 use Rattle.std.specs.Prelude.{Result, Ok, Err, IfErr, OnOk, OnErr}
 use Rattle.cedar_cli.specs.Command.{Order, order_of}
-use Rattle.cedar_cli.specs.Lines.{lines_of, onto_first, HasNoNewline}
+use Rattle.cedar_cli.specs.Lines.{lines_of, HasNoNewline}
+use Rattle.text_lines.specs.Lines.{onto_first}
+use Rattle.text_lines.specs.Written.{WritesFront}
 use Rattle.cedar_cli.specs.View.{View}
 use Rattle.cedarwood.specs.Dictionary.{Dictionary}
-use Rattle.cedar_cli.specs.Script.{LineMayLackMemory, MayStop, WritesFront, reply, answer, answers, view_after_order, view_after, IsCutShort, Stays, Leaves, Obeys, Finishes, Splits, Advances, Stops}
+use Rattle.cedar_cli.specs.Script.{LineMayLackMemory, MayStop, reply, answer, answers, view_after_order, view_after, IsCutShort, Stays, Disobeys, Obeys, Finishes, Splits, Advances, Stops}
 use Rattle.cedar_cli.specs.declared.script.ScriptError.{ScriptError}
 use Rattle.cedar_cli.specs.declared.script.ScriptError.TheVariants.{Read, Write, Memory, SlotLimit}
 use Rattle.std.specs.Io.KnownBytes.{Appends, Keeps}
@@ -144,11 +146,11 @@ Stops-append slots d fault old mid new a b c text left more p q =
     )
 
 -- an answer that wasn't written whole leaves its order
-pub Leaves-on_err : {T : Type 0} (r : Result T ScriptError) (order : Option Order) (old new : View) (held holds : Option (List ℕ)) (bytes : List ℕ)
+pub Disobeys-on_err : {T : Type 0} (r : Result T ScriptError) (order : Option Order) (old new : View) (held holds : Option (List ℕ)) (bytes : List ℕ)
     → new ≡ old → bytes ≡ reply old order ++ 10 ∷ []
-    → OnErr r (WritesFront held holds bytes) → IfErr r (λ fault. Leaves fault order old new held holds)
-Leaves-on_err (Ok x) order old new held holds bytes same e h = tt
-Leaves-on_err (Err fault) order old new held holds bytes same e h = (all_stays fault old new same, subst (WritesFront held holds) e h)
+    → OnErr r (WritesFront held holds bytes) → IfErr r (λ fault. Disobeys fault order old new held holds)
+Disobeys-on_err (Ok x) order old new held holds bytes same e h = tt
+Disobeys-on_err (Err fault) order old new held holds bytes same e h = (all_stays fault old new same, subst (WritesFront held holds) e h)
 
 -- one written whole obeys it
 pub Obeys-on_ok : {T E : Type 0} (r : Result T E) (order : Option Order) (old new : View) (held holds : Option (List ℕ)) (bytes : List ℕ)
@@ -179,7 +181,7 @@ may_stop slots d line lines r SlotLimit is h = tt
 -- in a line whose answer was not written whole the run stops
 pub line_left : (slots : ℕ) (d : Dictionary) (fault : ScriptError) (old new : View) (held holds : Option (List ℕ)) (line : List ℕ)
     → HasNoNewline line → ((lines : List (List ℕ)) → MayStop slots d fault (line ∷ lines))
-    → Leaves fault (order_of line) old new held holds → Stops slots d fault old new held holds (line ++ 10 ∷ [])
+    → Disobeys fault (order_of line) old new held holds → Stops slots d fault old new held holds (line ++ 10 ∷ [])
 line_left slots d fault old new held holds line o may h =
     let front = h.1 in (
       [],

@@ -5,34 +5,35 @@ use Rattle.std.specs.Prelude.{codes, Result, Ok, Err, OnOk, OnErr}
 use Rattle.std.specs.Io.KnownBytes.{Appends}
 use Rattle.hex.specs.Hex.{encode_with, encode_lower, lower_digits}
 use Rattle.cedar_tree.specs.Queries.{Entry}
-use Rattle.cedar_cli.specs.Script.{WritesFront, entry_line, entry_lines}
+use Rattle.cedar_cli.specs.Script.{hex_entry_line, hex_entry_lines}
+use Rattle.text_lines.specs.Written.{WritesFront}
 use Rattle.cedar_cli.proofs.Bytes.{Appends-append, Appends-none, front_after, front_more}
 
-entry_lines-append : (a b : List Entry) → entry_lines (a ++ b) ≡ entry_lines a ++ entry_lines b
-entry_lines-append [] b = refl
-entry_lines-append (e ∷ a) b = ap (λ l. entry_line e ++ l) (entry_lines-append a b) ∙ sym (append_assoc (entry_line e) (entry_lines a) (entry_lines b))
+hex_entry_lines-append : (a b : List Entry) → hex_entry_lines (a ++ b) ≡ hex_entry_lines a ++ hex_entry_lines b
+hex_entry_lines-append [] b = refl
+hex_entry_lines-append (e ∷ a) b = ap (λ l. hex_entry_line e ++ l) (hex_entry_lines-append a b) ∙ sym (append_assoc (hex_entry_line e) (hex_entry_lines a) (hex_entry_lines b))
 
-pub lines_push : (a : List Entry) (e : Entry) → entry_lines (a ++ e ∷ []) ≡ entry_lines a ++ entry_line e
-lines_push a e = entry_lines-append a (e ∷ []) ∙ ap (λ l. entry_lines a ++ l) (append-nil (entry_line e))
+pub lines_push : (a : List Entry) (e : Entry) → hex_entry_lines (a ++ e ∷ []) ≡ hex_entry_lines a ++ hex_entry_line e
+lines_push a e = hex_entry_lines-append a (e ∷ []) ∙ ap (λ l. hex_entry_lines a ++ l) (append-nil (hex_entry_line e))
 
 -- the answer of some entries, the first of them apart
 answer_parts : (entries came later : List Entry) → entries ≡ came ++ later
-    → (entry_lines entries ++ codes "end") ++ 10 ∷ [] ≡ entry_lines came ++ ((entry_lines later ++ codes "end") ++ 10 ∷ [])
+    → (hex_entry_lines entries ++ codes "end") ++ 10 ∷ [] ≡ hex_entry_lines came ++ ((hex_entry_lines later ++ codes "end") ++ 10 ∷ [])
 answer_parts entries came later e =
-    ap (λ es. (entry_lines es ++ codes "end") ++ 10 ∷ []) e
-    ∙ ap (λ l. (l ++ codes "end") ++ 10 ∷ []) (entry_lines-append came later)
-    ∙ ap (λ l. l ++ 10 ∷ []) (append_assoc (entry_lines came) (entry_lines later) (codes "end"))
-    ∙ append_assoc (entry_lines came) (entry_lines later ++ codes "end") (10 ∷ [])
+    ap (λ es. (hex_entry_lines es ++ codes "end") ++ 10 ∷ []) e
+    ∙ ap (λ l. (l ++ codes "end") ++ 10 ∷ []) (hex_entry_lines-append came later)
+    ∙ ap (λ l. l ++ 10 ∷ []) (append_assoc (hex_entry_lines came) (hex_entry_lines later) (codes "end"))
+    ∙ append_assoc (hex_entry_lines came) (hex_entry_lines later ++ codes "end") (10 ∷ [])
 
 -- some lines were written, and a front of the next one
 pub lines_stopped : (a b d : Option (List ℕ)) (entries came later : List Entry) (e : Entry) → entries ≡ came ++ e ∷ later
-    → Appends a b (entry_lines came) → WritesFront b d (entry_line e) → WritesFront a d ((entry_lines entries ++ codes "end") ++ 10 ∷ [])
+    → Appends a b (hex_entry_lines came) → WritesFront b d (hex_entry_line e) → WritesFront a d ((hex_entry_lines entries ++ codes "end") ++ 10 ∷ [])
 lines_stopped a b d entries came later e whole written front =
-    subst (WritesFront a d) (sym (answer_parts entries came (e ∷ later) whole ∙ ap (λ l. entry_lines came ++ l) split))
-    (front_after a b d (entry_lines came) (entry_line e ++ ((entry_lines later ++ codes "end") ++ 10 ∷ [])) written
-    (front_more b d (entry_line e) ((entry_lines later ++ codes "end") ++ 10 ∷ []) front)) where
-      split : (entry_lines (e ∷ later) ++ codes "end") ++ 10 ∷ [] ≡ entry_line e ++ ((entry_lines later ++ codes "end") ++ 10 ∷ [])
-      split = ap (λ l. l ++ 10 ∷ []) (append_assoc (entry_line e) (entry_lines later) (codes "end")) ∙ append_assoc (entry_line e) (entry_lines later ++ codes "end") (10 ∷ [])
+    subst (WritesFront a d) (sym (answer_parts entries came (e ∷ later) whole ∙ ap (λ l. hex_entry_lines came ++ l) split))
+    (front_after a b d (hex_entry_lines came) (hex_entry_line e ++ ((hex_entry_lines later ++ codes "end") ++ 10 ∷ [])) written
+    (front_more b d (hex_entry_line e) ((hex_entry_lines later ++ codes "end") ++ 10 ∷ []) front)) where
+      split : (hex_entry_lines (e ∷ later) ++ codes "end") ++ 10 ∷ [] ≡ hex_entry_line e ++ ((hex_entry_lines later ++ codes "end") ++ 10 ∷ [])
+      split = ap (λ l. l ++ 10 ∷ []) (append_assoc (hex_entry_line e) (hex_entry_lines later) (codes "end")) ∙ append_assoc (hex_entry_line e) (hex_entry_lines later ++ codes "end") (10 ∷ [])
 
 -- digits of bytes in two parts
 pub encode-append : (t a b : List ℕ) → encode_with t (a ++ b) ≡ encode_with t a ++ encode_with t b
@@ -70,23 +71,23 @@ digits_more a b d bytes done rest n e written more = (
   whole = take_all (length rest - n) (drop n rest) (omega (arith, length-drop n rest))
 
 -- some lines were written, and nothing of the others
-pub lines_begun : (a b : Option (List ℕ)) (entries came later : List Entry) → entries ≡ came ++ later → Appends a b (entry_lines came)
-    → WritesFront a b ((entry_lines entries ++ codes "end") ++ 10 ∷ [])
+pub lines_begun : (a b : Option (List ℕ)) (entries came later : List Entry) → entries ≡ came ++ later → Appends a b (hex_entry_lines came)
+    → WritesFront a b ((hex_entry_lines entries ++ codes "end") ++ 10 ∷ [])
 lines_begun a b entries came later whole written = (
-  entry_lines came,
-  (entry_lines later ++ codes "end") ++ 10 ∷ [],
-  omega (arith, length-append (entry_lines later ++ codes "end") (10 ∷ [])),
+  hex_entry_lines came,
+  (hex_entry_lines later ++ codes "end") ++ 10 ∷ [],
+  omega (arith, length-append (hex_entry_lines later ++ codes "end") (10 ∷ [])),
   answer_parts entries came later whole,
   written,
 )
 
 -- all that came is written, and the end
-pub lines_ended : {T E : Type 0} (r : Result T E) (a b d : Option (List ℕ)) (entries came : List Entry) → entries ≡ came ++ [] → Appends a b (entry_lines came)
-    → OnOk r (Appends b d (codes "end" ++ 10 ∷ [])) → OnOk r (Appends a d ((entry_lines entries ++ codes "end") ++ 10 ∷ []))
-lines_ended (Ok x) a b d entries came whole written end = subst (Appends a d) (sym (answer_parts entries came [] whole)) (Appends-append a b d (entry_lines came) (codes "end" ++ 10 ∷ []) written end)
+pub lines_ended : {T E : Type 0} (r : Result T E) (a b d : Option (List ℕ)) (entries came : List Entry) → entries ≡ came ++ [] → Appends a b (hex_entry_lines came)
+    → OnOk r (Appends b d (codes "end" ++ 10 ∷ [])) → OnOk r (Appends a d ((hex_entry_lines entries ++ codes "end") ++ 10 ∷ []))
+lines_ended (Ok x) a b d entries came whole written end = subst (Appends a d) (sym (answer_parts entries came [] whole)) (Appends-append a b d (hex_entry_lines came) (codes "end" ++ 10 ∷ []) written end)
 lines_ended (Err e) a b d entries came whole written end = tt
 
-pub lines_unended : {T E : Type 0} (r : Result T E) (a b d : Option (List ℕ)) (entries came : List Entry) → entries ≡ came ++ [] → Appends a b (entry_lines came)
-    → OnErr r (WritesFront b d (codes "end" ++ 10 ∷ [])) → OnErr r (WritesFront a d ((entry_lines entries ++ codes "end") ++ 10 ∷ []))
+pub lines_unended : {T E : Type 0} (r : Result T E) (a b d : Option (List ℕ)) (entries came : List Entry) → entries ≡ came ++ [] → Appends a b (hex_entry_lines came)
+    → OnErr r (WritesFront b d (codes "end" ++ 10 ∷ [])) → OnErr r (WritesFront a d ((hex_entry_lines entries ++ codes "end") ++ 10 ∷ []))
 lines_unended (Ok x) a b d entries came whole written end = tt
-lines_unended (Err e) a b d entries came whole written end = subst (WritesFront a d) (sym (answer_parts entries came [] whole)) (front_after a b d (entry_lines came) (codes "end" ++ 10 ∷ []) written end)
+lines_unended (Err e) a b d entries came whole written end = subst (WritesFront a d) (sym (answer_parts entries came [] whole)) (front_after a b d (hex_entry_lines came) (codes "end" ++ 10 ∷ []) written end)

@@ -1,7 +1,8 @@
 -- A call that failed, and why.
 use Rattle.std.proofs.Common.{◌≡◌, Ok, Err, Bool, refl, subst}
 use Rattle.std.specs.Prelude.{OnOk, Result}
-use Rattle.cedar_cli.specs.Script.{LineFault, WritesOrFails}
+use Rattle.cedar_cli.specs.Script.{AnswersOrFails}
+use Rattle.text_lines.specs.Written.{WritesOrFails}
 use Rattle.cedar_cli.specs.declared.script.ScriptError.{ScriptError}
 use Rattle.cedar_cli.specs.declared.script.ScriptError.TheVariants.{Read, Write, Memory, SlotLimit}
 
@@ -54,7 +55,7 @@ no_success P (Ok x) e is = absurd (cc)
 no_success P (Err f) e is = tt
 
 -- what fails by its writer alone is a line's fault
-pub writers_fault : (before after : Bool) (r : Result (Unit {0}) ScriptError) → WritesOrFails before after r → LineFault before after r
+pub writers_fault : (before after : Bool) (r : Result (Unit {0}) ScriptError) → WritesOrFails Write before after r → AnswersOrFails before after r
 writers_fault before after (Ok x) h = record {
   unfailed = h.unfailed;
   cause = λ same. ok_no_fault x Write same;
@@ -72,7 +73,7 @@ writers_fault before after (Err fault) h =
     }
 
 -- where memory or slots are wanting the writer is as it was
-pub memory_fault : (b : Bool) → LineFault b b (Err Memory)
+pub memory_fault : (b : Bool) → AnswersOrFails b b (Err Memory)
 memory_fault b = record {
   unfailed = tt;
   cause = λ same. memory_no_write same;
@@ -81,7 +82,7 @@ memory_fault b = record {
   full = λ _. refl;
 }
 
-pub limit_fault : (b : Bool) → LineFault b b (Err SlotLimit)
+pub limit_fault : (b : Bool) → AnswersOrFails b b (Err SlotLimit)
 limit_fault b = record {
   unfailed = tt;
   cause = λ same. limit_no_write same;
@@ -91,9 +92,9 @@ limit_fault b = record {
 }
 
 -- after what left the writer as it was
-pub fault_after : (first before after : Bool) (r : Result (Unit {0}) ScriptError) → before ≡ first → LineFault before after r → LineFault first after r
-fault_after first before after r same h = subst (λ (b : Bool). LineFault b after r) same h
+pub fault_after : (first before after : Bool) (r : Result (Unit {0}) ScriptError) → before ≡ first → AnswersOrFails before after r → AnswersOrFails first after r
+fault_after first before after r same h = subst (λ (b : Bool). AnswersOrFails b after r) same h
 
 -- the same fault, handed on
-pub fault_on : (before after : Bool) (r s : Result (Unit {0}) ScriptError) → r ≡ s → LineFault before after r → LineFault before after s
-fault_on before after r s same h = subst (LineFault before after) same h
+pub fault_on : (before after : Bool) (r s : Result (Unit {0}) ScriptError) → r ≡ s → AnswersOrFails before after r → AnswersOrFails before after s
+fault_on before after r s same h = subst (AnswersOrFails before after) same h

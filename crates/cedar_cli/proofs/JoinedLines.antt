@@ -2,7 +2,8 @@
 use Rattle.std.proofs.Common.{◌≡◌, ℕ, List, [], ◌∷◌, ◌++◌, Option, refl, sym, ap, subst, ◌∙◌, append_assoc, append-nil}
 use Rattle.std.specs.Prelude.{codes}
 use Rattle.std.specs.Io.KnownBytes.{Appends}
-use Rattle.cedar_cli.specs.Script.{WritesFront, spaced_texts, joined_texts}
+use Rattle.cedar_cli.specs.Script.{spaced_texts, joined_texts}
+use Rattle.text_lines.specs.Written.{WritesFront}
 use Rattle.cedar_cli.proofs.Bytes.{front_after, front_more}
 
 spaced-append : {T : Type 0} (text : T → List ℕ) (a b : List T) → spaced_texts text (a ++ b) ≡ spaced_texts text a ++ spaced_texts text b

@@ -11,7 +11,7 @@ use Rattle.std.specs.List.{position, position_or_len, before_first, after_first}
 use Rattle.cedar_cli.specs.Command.{order_of}
 use Rattle.cedar_cli.specs.Lines.{HasNoNewline, is_newline, lines_of}
 use Rattle.cedarwood.specs.Dictionary.{Dictionary}
-use Rattle.cedar_cli.specs.Script.{LineMayLackMemory, MayStop, Obeys, Leaves, Advances, Stops}
+use Rattle.cedar_cli.specs.Script.{LineMayLackMemory, MayStop, Obeys, Disobeys, Advances, Stops}
 use Rattle.cedar_cli.specs.View.{View}
 use Rattle.cedar_cli.specs.declared.script.ScriptError.{ScriptError}
 use Rattle.cedar_cli.specs.declared.script.ScriptError.TheVariants.{Memory}
@@ -71,7 +71,7 @@ taken_on_ok (Err e) old new held holds line o h = tt
 -- and the run stops in it where it was not
 pub stopped_on_err : (slots : ℕ) (d : Dictionary) (r : Result (Unit {0}) ScriptError) (old new : View) (held holds : Option (List ℕ)) (line : List ℕ)
     → HasNoNewline line → (r ≡ Err Memory → LineMayLackMemory slots line d)
-    → IfErr r (λ fault. Leaves fault (order_of line) old new held holds) → IfErr r (λ fault. Stops slots d fault old new held holds (line ++ 10 ∷ []))
+    → IfErr r (λ fault. Disobeys fault (order_of line) old new held holds) → IfErr r (λ fault. Stops slots d fault old new held holds (line ++ 10 ∷ []))
 stopped_on_err slots d (Ok x) old new held holds line o may h = tt
 stopped_on_err slots d (Err fault) old new held holds line o may h =
     line_left slots d fault old new held holds line o (λ lines. may_stop slots d line lines (Err fault) fault refl may) h

@@ -15,12 +15,13 @@ use Rattle.cedarwood.specs.Fault.{fault, key_fault, or_else, value_fault, IsShor
 use Rattle.cedar_model.specs.Table.Layouts.{LayoutKind}
 use Rattle.cedarwood.specs.Dictionary.{Dictionary}
 use Rattle.cedar_cli.specs.View.{View, view_of}
-use Rattle.cedar_cli.specs.Script.{Answers, put_text, view_after_order, IsPairFault, figures_text, found_text, reply, Leaves, WritesFront}
+use Rattle.cedar_cli.specs.Script.{Answers, put_text, view_after_order, IsPairFault, figures_text, found_text, reply, Disobeys}
+use Rattle.text_lines.specs.Written.{WritesFront}
 use Rattle.cedar_cli.specs.declared.command.Verb.TheVariants.{Erase}
 use Rattle.cedar_cli.specs.declared.script.ScriptError.{ScriptError}
 use Rattle.cedar_cli.specs.declared.script.ScriptError.TheVariants.{Read, Write, Memory as NoMemory, SlotLimit as NoSlot}
 use Rattle.std.specs.Io.KnownBytes.{Appends}
-use Rattle.cedar_cli.proofs.Bytes.{Appends-none, Leaves-on_err, Obeys-on_ok, all_stays}
+use Rattle.cedar_cli.proofs.Bytes.{Appends-none, Disobeys-on_err, Obeys-on_ok, all_stays}
 
 -- what an exact search that missed says
 pub exact_missed : (t : Tree) (key : List ℕ) → None ≡ exact t key → number_at t key ≡ None
@@ -117,8 +118,8 @@ taken_back (Some w) old mid new key v answer sound range none done back =
       held = rw (done, number_at-put_same old.tree old.ordered key v) refl
 
 -- nothing of the answer is written, and the order is left
-pub Leaves-unanswered : (fault : ScriptError) (order : Option Order) (old new : View) (held : Option (List ℕ)) → new ≡ old → Leaves fault order old new held held
-Leaves-unanswered fault order old new held same =
+pub Disobeys-unanswered : (fault : ScriptError) (order : Option Order) (old new : View) (held : Option (List ℕ)) → new ≡ old → Disobeys fault order old new held held
+Disobeys-unanswered fault order old new held same =
     (all_stays fault old new same, ([], reply old order ++ 10 ∷ [], omega (arith, length-append (reply old order) (10 ∷ [])), refl, Appends-none held))
 
 -- a value is put back over the one that its key holds
@@ -132,19 +133,19 @@ put_back (Err e) old new key v done refused fine held = absurd (not_held (number
   not_held (Some x) h e = absurd (cc)
 
 -- an answer of which a front alone was written leaves its order
-pub Leaves-front : (fault : ScriptError) (order : Option Order) (s : View) (held holds : Option (List ℕ)) (line : List ℕ)
-    → line ≡ reply s order → WritesFront held holds (line ++ 10 ∷ []) → Leaves fault order s s held holds
-Leaves-front fault order s held holds line e h = (all_stays fault s s refl, subst (λ l. WritesFront held holds (l ++ 10 ∷ [])) e h)
+pub Disobeys-front : (fault : ScriptError) (order : Option Order) (s : View) (held holds : Option (List ℕ)) (line : List ℕ)
+    → line ≡ reply s order → WritesFront held holds (line ++ 10 ∷ []) → Disobeys fault order s s held holds
+Disobeys-front fault order s held holds line e h = (all_stays fault s s refl, subst (λ l. WritesFront held holds (l ++ 10 ∷ [])) e h)
 
 -- an answer that the writer didn't take whole leaves its order, where the state is then the old one
-pub Leaves-if_err : (P : Type 0) (r : Result (Unit {0}) ScriptError) (order : Option Order) (old new : View) (held holds : Option (List ℕ)) (bytes : List ℕ)
+pub Disobeys-if_err : (P : Type 0) (r : Result (Unit {0}) ScriptError) (order : Option Order) (old new : View) (held holds : Option (List ℕ)) (bytes : List ℕ)
     → OnErr r ((r ≡ Err Write) × P) → (is_err r ≡ true → new.state ≡ old.state) → bytes ≡ reply old order ++ 10 ∷ []
-    → OnErr r (WritesFront held holds bytes) → IfErr r (λ fault. Leaves fault order old new held holds)
-Leaves-if_err P (Ok x) order old new held holds bytes cause same e h = tt
-Leaves-if_err P (Err fault) order old new held holds bytes cause same e h =
+    → OnErr r (WritesFront held holds bytes) → IfErr r (λ fault. Disobeys fault order old new held holds)
+Disobeys-if_err P (Ok x) order old new held holds bytes cause same e h = tt
+Disobeys-if_err P (Err fault) order old new held holds bytes cause same e h =
     let is = cause.0 in
     let written : Write ≡ fault = cc in
-    subst (λ (f : ScriptError). Leaves f order old new held holds) written (same refl, subst (WritesFront held holds) e h)
+    subst (λ (f : ScriptError). Disobeys f order old new held holds) written (same refl, subst (WritesFront held holds) e h)
 
 -- neither memory nor slots were wanting
 pub no_shortage : (e : CedarError) → (e ≡ Memory → ⊥) → (e ≡ SlotLimit → ⊥) → IsShortage e → ⊥
@@ -197,5 +198,5 @@ told layout order before after held holds bytes r same done e ok err =
     let old = view_of layout before in
     let new = view_of layout after in record {
       ok = Obeys-on_ok r order old new held holds bytes done e ok;
-      err = Leaves-on_err r order old new held holds bytes same e err;
+      err = Disobeys-on_err r order old new held holds bytes same e err;
     }

@@ -7,7 +7,8 @@ use Rattle.std.specs.Io.KnownBytes.{Consumes, Appends, Keeps, IsAtEnd}
 use Rattle.cedar_cli.specs.Command.{order_of}
 use Rattle.cedar_cli.specs.Lines.{lines_of, HasNoNewline}
 use Rattle.cedarwood.specs.Dictionary.{Dictionary}
-use Rattle.cedar_cli.specs.Script.{MayStop, Obeys, Stays, Leaves, Finishes, Splits, Advances, Stops, EndsEarly, IsCutShort, AppendsFront, answers, view_after_order, view_after}
+use Rattle.cedar_cli.specs.Script.{MayStop, Obeys, Stays, Disobeys, Finishes, Splits, Advances, Stops, EndsEarly, IsCutShort, answers, view_after_order, view_after}
+use Rattle.text_lines.specs.Written.{AppendsFront}
 use Rattle.cedar_cli.specs.View.{View}
 use Rattle.cedar_cli.specs.declared.script.ScriptError.{ScriptError}
 use Rattle.cedar_cli.proofs.Bytes.{all_stays, Appends-append, Appends-kept, Appends-none, answers-append, cut_short_none, lines_of-last, Finishes-append, line_finished}
@@ -106,7 +107,7 @@ last_finished old mid new a b c text line o long h k =
 -- the answer to the last piece was not written whole
 pub last_left : (slots : ℕ) (d : Dictionary) (fault : ScriptError) (old mid new : View) (a b c : Option (List ℕ)) (text line : List ℕ)
     → HasNoNewline line → 0 < length line → ((lines : List (List ℕ)) → MayStop slots d fault (line ∷ lines))
-    → Advances old mid a b text line → Leaves fault (order_of line) mid new b c
+    → Advances old mid a b text line → Disobeys fault (order_of line) mid new b c
     → EndsEarly slots d fault old new a c text
 last_left slots d fault old mid new a b c text line o long may h k =
     let front = k.1 in

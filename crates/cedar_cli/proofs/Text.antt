@@ -14,7 +14,8 @@ use Rattle.std.specs.Result.{result_ok}
 use Rattle.std.specs.Char.{digit_value}
 use Rattle.std.specs.Str.{IsUtf8, IsAscii}
 use Rattle.std.specs.Str.Parse.{AllDigits, IsNumeral, ParsesSigned, ParsesUnsigned, digits_value, without_leading_plus, without_leading_sign, signed_digits_value}
-use Rattle.cedar_cli.specs.Command.{value_of, is_digit, is_filled, fits_value}
+use Rattle.cedar_cli.specs.Command.{value_of, fits_value}
+use Rattle.text_lines.specs.Lines.{is_digit, is_filled}
 use Rattle.cedar_cli.specs.Options.{fits_limit, limit_of}
 
 -- where an element passes first

@@ -4,6 +4,7 @@ use Rattle.std.specs.List.{before_first, after_first, list_all}
 use Rattle.std.specs.Result.{result_ok}
 use Rattle.std.specs.Str.Parse.{without_leading_sign, signed_digits_value}
 use Rattle.hex.specs.Hex.{decode_of}
+use Rattle.text_lines.specs.Lines.{is_digit, is_filled}
 use Rattle.cedar_cli.specs.declared.command.Verb.{Verb}
 use Rattle.cedar_cli.specs.declared.command.Verb.TheVariants.{Put, Erase, Exact, Segment, Prefixes, Predict, Entries, Figures}
 
@@ -11,18 +12,9 @@ use Rattle.cedar_cli.specs.declared.command.Verb.TheVariants.{Put, Erase, Exact,
 abbrev pub Order : Type 0
 Order = Verb × List ℕ
 
--- a byte `0` to `9`
-abbrev pub is_digit : ℕ → Bool
-is_digit c = nat_le 48 c && nat_le c 57
-
 -- whether a value is from -2147483648 to 2147483647
 abbrev pub fits_value : ℤ → Bool
 fits_value v = int_le (negsuc 2147483647) v && int_le v (pos 2147483647)
-
--- whether there is one byte or more
-abbrev pub is_filled : List ℕ → Bool
-is_filled [] = false
-is_filled (b ∷ bs) = true
 
 -- a number: `+`, `-` or neither, and then one or more digits
 abbrev pub value_of : List ℕ → Option ℤ

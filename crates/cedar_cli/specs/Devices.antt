@@ -1,10 +1,9 @@
 -- What is said of a watched reader and a watched writer, each by what its own trait tells of the device inside.
-use Rattle.std.specs.Prelude.{◌≡◌, ℕ, ◌<◌, ◌^◌, List, length, Option, IfSome}
-use Rattle.std.specs.Io.KnownBytes.{Appends, Consumes}
+use Rattle.std.specs.Prelude.{ℕ, ◌<◌, ◌^◌, List, length, Option, IfSome}
+use Rattle.std.specs.Io.KnownBytes.{Consumes}
 use Rattle.cedarwood.specs.Words.{Watched}
 use Rattle.cedarwood.specs.WatchedDevice.{device_of}
 use Rattle.cedar_cli.specs.Lines.{HasNoNewline}
-use Rattle.cedar_cli.specs.Script.{AppendsFront, WritesFront}
 
 -- what a writer holds, or what is left in a reader, where its device tells that
 abbrev pub held_by : {D : Type 0} → (D → Option (List ℕ)) → Watched D → Option (List ℕ)
@@ -13,18 +12,6 @@ held_by contents watched = contents (device_of watched)
 -- something is so of what a writer held before and holds afterwards
 abbrev pub OnWriter : {D : Type 0} → (D → Option (List ℕ)) → Watched D → Watched D → (Option (List ℕ) → Option (List ℕ) → Type 0) → Type 0
 OnWriter contents before after P = P (held_by contents before) (held_by contents after)
-
--- a writer took these bytes
-abbrev pub Writes : {D : Type 0} → (D → Option (List ℕ)) → Watched D → Watched D → List ℕ → Type 0
-Writes contents before after bytes = Appends (held_by contents before) (held_by contents after) bytes
-
--- it took a first part of them, and not all
-abbrev pub BreaksOff : {D : Type 0} → (D → Option (List ℕ)) → Watched D → Watched D → List ℕ → Type 0
-BreaksOff contents before after bytes = WritesFront (held_by contents before) (held_by contents after) bytes
-
--- it took the first ones, or all
-abbrev pub WritesUpTo : {D : Type 0} → (D → Option (List ℕ)) → Watched D → Watched D → List ℕ → Type 0
-WritesUpTo contents before after bytes = AppendsFront (held_by contents before) (held_by contents after) bytes
 
 -- something is so of the input that a reader has, where that is known and shorter than 2^63 bytes
 abbrev pub OnInput : {D : Type 0} → (D → Option (List ℕ)) → Watched D → (List ℕ → Type 0) → Type 0

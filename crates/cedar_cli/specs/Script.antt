@@ -1,6 +1,6 @@
 -- What a script's run writes, and what it leaves: first of one order, then of the lines of a script,
 -- and last of a run that has come to some place in its script.
-use Rattle.std.specs.Prelude.{◌≡◌, ◌⊎◌, ℕ, ◌<◌, Bool, true, false, if◌then◌else◌, ℤ, List, [], ◌∷◌, ◌++◌, length, Option, Some, None, Result, Err, OnOk, OnErr, IfErr, IsSome, MatchOption, codes, decimal, is_some}
+use Rattle.std.specs.Prelude.{◌≡◌, ◌⊎◌, ℕ, ◌<◌, Bool, true, false, if◌then◌else◌, ℤ, List, [], ◌∷◌, ◌++◌, length, Option, Some, None, Result, Err, OnOk, IfErr, IsSome, MatchOption, codes, decimal, is_some}
 use Rattle.std.specs.Fmt.{signed_decimal}
 use Rattle.std.specs.Io.KnownBytes.{Appends}
 use Rattle.cedar_tree.specs.Tree.{number_at}
@@ -19,6 +19,7 @@ use Rattle.cedar_words.specs.Words.{Token, segments}
 use Rattle.cedar_cli.specs.Command.{Order, order_of}
 use Rattle.cedar_cli.specs.Lines.{lines_of}
 use Rattle.cedar_cli.specs.View.{View, cut_in, holds_path, put_in, slots_held, view_of}
+use Rattle.text_lines.specs.Written.{WritesFront}
 
 -- a pair was at fault, and no call wanted memory or slots
 abbrev pub IsPairFault : CedarError → Type 0
@@ -41,8 +42,8 @@ found_text None n = codes "none"
 found_text (Some v) n = signed_decimal v ++ 32 ∷ decimal n
 
 -- a number and a colon
-abbrev pub field : ℕ → List ℕ
-field n = decimal n ++ codes ":"
+abbrev pub colon_field : ℕ → List ℕ
+colon_field n = decimal n ++ codes ":"
 
 -- a token's number, or `-`
 abbrev pub number_text : Option ℤ → List ℕ
@@ -51,7 +52,7 @@ number_text (Some v) = signed_decimal v
 
 -- a token: where it begins, how many bytes it has, and its number
 abbrev pub token_text : Token → List ℕ
-token_text t = field t.0 ++ (field t.1 ++ number_text t.2)
+token_text t = colon_field t.0 ++ (colon_field t.1 ++ number_text t.2)
 
 -- the texts of some things, each after a space
 abbrev pub spaced_texts : {T : Type 0} → (T → List ℕ) → List T → List ℕ
@@ -76,13 +77,13 @@ abbrev pub pairs_text : List (ℤ × ℕ) → List ℕ
 pairs_text pairs = joined_texts pair_text pairs
 
 -- the line of an entry: its key in hexadecimal, its number and byte 10
-abbrev pub entry_line : Entry → List ℕ
-entry_line entry = encode_lower entry.0 ++ (codes " " ++ (signed_decimal entry.1 ++ 10 ∷ []))
+abbrev pub hex_entry_line : Entry → List ℕ
+hex_entry_line entry = encode_lower entry.0 ++ (codes " " ++ (signed_decimal entry.1 ++ 10 ∷ []))
 
 -- the lines of some entries
-abbrev pub entry_lines : List Entry → List ℕ
-entry_lines [] = []
-entry_lines (entry ∷ entries) = entry_line entry ++ entry_lines entries
+abbrev pub hex_entry_lines : List Entry → List ℕ
+hex_entry_lines [] = []
+hex_entry_lines (entry ∷ entries) = hex_entry_line entry ++ hex_entry_lines entries
 
 -- how many keys are held and how many slots, with a space between them
 abbrev pub figures_text : ℕ → ℕ → List ℕ
@@ -97,7 +98,7 @@ reply s (Some (Exact, key)) = found_text (number_at s.state.tree key) (length ke
 reply s (Some (Segment, key)) = tokens_text (segments s.state.tree key)
 reply s (Some (Prefixes, key)) = pairs_text (front s.state.tree key)
 reply s (Some (Predict, key)) = pairs_text (predict s.state.tree key)
-reply s (Some (Entries, key)) = entry_lines (walk s.state.tree) ++ codes "end"
+reply s (Some (Entries, key)) = hex_entry_lines (walk s.state.tree) ++ codes "end"
 reply s (Some (Figures, key)) = figures_text (length (walk s.state.tree)) (slots_held s)
 
 -- what is seen after an order
@@ -109,14 +110,6 @@ view_after_order s (Some (verb, key)) = s
 
 -- What a device holds is known or not: `Some` bytes, or `None` where it doesn't tell. Below, `held` is what the
 -- writer held at first, and `holds` what it holds in the end.
-
--- of some bytes a first part was written, and not all: nothing, or more, but never the last byte
-abbrev pub WritesFront : Option (List ℕ) → Option (List ℕ) → List ℕ → Type 0
-WritesFront held holds bytes = (part : List ℕ) × (rest : List ℕ) × (0 < length rest) × (bytes ≡ part ++ rest) × Appends held holds part
-
--- of some bytes the first ones were written, or all, and nothing else
-abbrev pub AppendsFront : Option (List ℕ) → Option (List ℕ) → List ℕ → Type 0
-AppendsFront held holds bytes = (part : List ℕ) × (rest : List ℕ) × (bytes ≡ part ++ rest) × Appends held holds part
 
 -- what the key held before is put back: it is taken away again, or holds that value
 abbrev pub IsTakenBack : Option ℤ → List ℕ → Dictionary → Dictionary → Type 0
@@ -134,21 +127,17 @@ Stays Write old new = new.state ≡ old.state
 Stays fault old new = new ≡ old
 
 -- an order was not obeyed: its answer was not written whole, and what is seen stays as far as the fault lets it
-abbrev pub Leaves : ScriptError → Option Order → View → View → Option (List ℕ) → Option (List ℕ) → Type 0
-Leaves fault order old new held holds = Stays fault old new × WritesFront held holds (reply old order ++ 10 ∷ [])
+abbrev pub Disobeys : ScriptError → Option Order → View → View → Option (List ℕ) → Option (List ℕ) → Type 0
+Disobeys fault order old new held holds = Stays fault old new × WritesFront held holds (reply old order ++ 10 ∷ [])
 
 -- an order was obeyed, and its answer written whole; or it was not
 pub record Answers (layout : LayoutKind) (order : Option Order) (before after : Dictionary) (held holds : Option (List ℕ)) (result : Result (Unit {0}) ScriptError) : Type 0 where
   pub ok : OnOk result (Obeys order (view_of layout before) (view_of layout after) held holds)
-  pub err : IfErr result (λ fault. Leaves fault order (view_of layout before) (view_of layout after) held holds)
+  pub err : IfErr result (λ fault. Disobeys fault order (view_of layout before) (view_of layout after) held holds)
 
--- Whether a writer has failed is a test before a call and one after it. Some bytes were written without a fault, or the writer failed.
-pub record WritesOrFails (before after : Bool) (result : Result (Unit {0}) ScriptError) : Type 0 where
-  pub unfailed : OnOk result (after ≡ before)
-  pub cause : OnErr result ((result ≡ Err Write) × (after ≡ true))
-
--- the same of lines, which may want memory or slots, and then the writer did not fail; the reader isn't asked
-pub record LineFault (before after : Bool) (result : Result (Unit {0}) ScriptError) : Type 0 where
+-- Lines are answered, or the writer failed, of which the tests before a call and after it tell; or memory or slots are wanting, and then the
+-- writer did not fail. The reader isn't asked.
+pub record AnswersOrFails (before after : Bool) (result : Result (Unit {0}) ScriptError) : Type 0 where
   pub unfailed : OnOk result (after ≡ before)
   pub cause : result ≡ Err Write → after ≡ true
   pub never_read : result ≡ Err Read → ⊥

@@ -1,16 +1,15 @@
 -- The words of clauses, from one place.
 pub use Rattle.cedar_cli.specs.Blocks.{GrowsBefore, GrowsWithin}
 pub use Rattle.cedar_cli.specs.Command.{is_space, key_of, order_of, value_of, with_key}
-pub use Rattle.cedar_cli.specs.Devices.{BreaksOff, held_by, OnWriter, Writes, WritesUpTo}
+pub use Rattle.cedar_cli.specs.Devices.{held_by, OnWriter}
 pub use Rattle.cedar_cli.specs.Lines.{HasLineRoom, HasNoNewline, is_newline, lines_of}
 pub use Rattle.cedar_cli.specs.Loads.{LacksWithin}
 pub use Rattle.cedar_cli.specs.Options.{asked_layout, asked_limit, BeginsWith, is_excluded, limit_of, limit_or_default, request_besides}
 pub use Rattle.cedar_cli.specs.Options.{request_in, request_of, words}
 pub use Rattle.cedar_cli.specs.Runs.{AnswersAll, AnswersUpTo, EndsInput, FinishesAll, FinishesComing, OnAsked, OnBegun, StopsOn}
-pub use Rattle.cedar_cli.specs.Script.{Advances, AdvancesBy, Answers, answers, AppendsFront, EndsEarly, entry_line, entry_lines, field}
-pub use Rattle.cedar_cli.specs.Script.{figures_text, Finishes, found_text, IsPairFault, IsTakenBack, LineFault, LineMayLackMemory}
-pub use Rattle.cedar_cli.specs.Script.{MayLackMemory, number_text, pair_text, pairs_text, put_text, spaced_texts, Stops, token_text}
-pub use Rattle.cedar_cli.specs.Script.{tokens_text, WritesFront, WritesOrFails}
+pub use Rattle.cedar_cli.specs.Script.{Advances, AdvancesBy, Answers, answers, AnswersOrFails, colon_field, EndsEarly, figures_text, Finishes}
+pub use Rattle.cedar_cli.specs.Script.{found_text, hex_entry_line, hex_entry_lines, IsPairFault, IsTakenBack, LineMayLackMemory, MayLackMemory}
+pub use Rattle.cedar_cli.specs.Script.{number_text, pair_text, pairs_text, put_text, spaced_texts, Stops, token_text, tokens_text}
 pub use Rattle.cedar_cli.specs.View.{View, view_of}
 pub use Rattle.cedar_model.specs.Table.Layouts.{layout_byte}
 pub use Rattle.cedar_slots.specs.Places.{IsSlotLimit}
@@ -24,3 +23,4 @@ pub use Rattle.std.specs.Io.KnownBytes.{Appends, Consumes}
 pub use Rattle.std.specs.List.{after_first, before_first}
 pub use Rattle.std.specs.Mem.{FitsInMemory}
 pub use Rattle.std.specs.Prelude.{IsTrue}
+pub use Rattle.text_lines.specs.Written.{AppendsFront, BreaksOff, Writes, WritesFront, WritesOrFails, WritesUpTo}

@@ -1,7 +1,7 @@
 //! What queries answer, as lines: entries, pairs of numbers, and tokens. It takes no memory but that of a walk.
 
 ghost use Rattle.std.specs.Prelude.{[], ℕ, ℤ, ◌*◌, ◌++◌, ◌∷◌, ◌≡◌, codes, length, List, MatchOption, OnErr, OnOk};
-ghost use Rattle.cedar_cli.specs.Words.{BreaksOff, encode_lower, entry_line, entry_lines, field, has_failed, LineFault, number_text, pair_text, pairs_text, spaced_texts, token_text, tokens_text, Writes, WritesOrFails};
+ghost use Rattle.cedar_cli.specs.Words.{AnswersOrFails, BreaksOff, colon_field, encode_lower, has_failed, hex_entry_line, hex_entry_lines, number_text, pair_text, pairs_text, spaced_texts, token_text, tokens_text, Writes, WritesOrFails};
 
 use crate::script::ScriptError;
 use crate::write::{write_both, write_line, write_whole};
@@ -20,9 +20,9 @@ pub(crate) fn write_entries<T: Walked, A: Allocator + Copy, W: Write>(
     writer: &mut Watched<W>,
     mut entries: Entries<'_, T, A>,
 ) -> Result<(), ScriptError>
-    ensures ok { OnOk result (Writes W.contents writer.old writer.new ((entry_lines entries.entry ++ codes "end") ++ 10 ∷ [])) }
-    ensures err { OnErr result (BreaksOff W.contents writer.old writer.new ((entry_lines entries.entry ++ codes "end") ++ 10 ∷ [])) }
-    ensures faults { LineFault (has_failed writer.old) (has_failed writer.new) result }
+    ensures ok { OnOk result (Writes W.contents writer.old writer.new ((hex_entry_lines entries.entry ++ codes "end") ++ 10 ∷ [])) }
+    ensures err { OnErr result (BreaksOff W.contents writer.old writer.new ((hex_entry_lines entries.entry ++ codes "end") ++ 10 ∷ [])) }
+    ensures faults { AnswersOrFails (has_failed writer.old) (has_failed writer.new) result }
     ensures never_full { result ≡ Err ScriptError.SlotLimit → ⊥ }
 {
     while let Some(entry) = entries.next() {
@@ -36,9 +36,9 @@ pub(crate) fn write_entries<T: Walked, A: Allocator + Copy, W: Write>(
 
 /// Writes the line of an entry.
 fn write_entry<W: Write>(writer: &mut Watched<W>, key: &[u8], value: i32) -> Result<(), ScriptError>
-    ensures ok { OnOk result (Writes W.contents writer.old writer.new (entry_line (key.now, value))) }
-    ensures err { OnErr result (BreaksOff W.contents writer.old writer.new (entry_line (key.now, value))) }
-    ensures faults { WritesOrFails (has_failed writer.old) (has_failed writer.new) result }
+    ensures ok { OnOk result (Writes W.contents writer.old writer.new (hex_entry_line (key.now, value))) }
+    ensures err { OnErr result (BreaksOff W.contents writer.old writer.new (hex_entry_line (key.now, value))) }
+    ensures faults { WritesOrFails ScriptError.Write (has_failed writer.old) (has_failed writer.new) result }
 {
     write_digits(writer, key)?;
     let mut figures = Buffer::new();
@@ -49,7 +49,7 @@ fn write_entry<W: Write>(writer: &mut Watched<W>, key: &[u8], value: i32) -> Res
 fn write_digits<W: Write>(writer: &mut Watched<W>, bytes: &[u8]) -> Result<(), ScriptError>
     ensures ok { OnOk result (Writes W.contents writer.old writer.new (encode_lower bytes.now)) }
     ensures err { OnErr result (BreaksOff W.contents writer.old writer.new (encode_lower bytes.now)) }
-    ensures faults { WritesOrFails (has_failed writer.old) (has_failed writer.new) result }
+    ensures faults { WritesOrFails ScriptError.Write (has_failed writer.old) (has_failed writer.new) result }
 {
     let mut digits = [0u8; 2 * PIECE];
     let mut rest = bytes;
@@ -70,7 +70,7 @@ fn write_piece<W: Write>(
     requires room { length digits.old ≡ 2 * length bytes.now }
     ensures ok { OnOk result (Writes W.contents writer.old writer.new (encode_lower bytes.now)) }
     ensures err { OnErr result (BreaksOff W.contents writer.old writer.new (encode_lower bytes.now)) }
-    ensures faults { WritesOrFails (has_failed writer.old) (has_failed writer.new) result }
+    ensures faults { WritesOrFails ScriptError.Write (has_failed writer.old) (has_failed writer.new) result }
 {
     encode_into(bytes, digits);
     write_whole(writer, digits)
@@ -109,7 +109,7 @@ pub(crate) fn write_pairs<P: Pairs, W: Write>(
 ) -> Result<(), ScriptError>
     ensures ok { OnOk result (Writes W.contents writer.old writer.new (pairs_text (P.left pairs.old) ++ 10 ∷ [])) }
     ensures err { OnErr result (BreaksOff W.contents writer.old writer.new (pairs_text (P.left pairs.old) ++ 10 ∷ [])) }
-    ensures faults { WritesOrFails (has_failed writer.old) (has_failed writer.new) result }
+    ensures faults { WritesOrFails ScriptError.Write (has_failed writer.old) (has_failed writer.new) result }
 {
     let Some(first) = pairs.next_pair() else {
         return write_whole(writer, b"none\n");
@@ -125,7 +125,7 @@ fn write_further<P: Pairs, W: Write>(
 ) -> Result<(), ScriptError>
     ensures ok { OnOk result (Writes W.contents writer.old writer.new (spaced_texts pair_text (P.left pairs.old) ++ 10 ∷ [])) }
     ensures err { OnErr result (BreaksOff W.contents writer.old writer.new (spaced_texts pair_text (P.left pairs.old) ++ 10 ∷ [])) }
-    ensures faults { WritesOrFails (has_failed writer.old) (has_failed writer.new) result }
+    ensures faults { WritesOrFails ScriptError.Write (has_failed writer.old) (has_failed writer.new) result }
 {
     while let Some(pair) = pairs.next_pair() {
         write_after_space(writer, pair)?;
@@ -140,7 +140,7 @@ fn write_after_space<W: Write>(
 ) -> Result<(), ScriptError>
     ensures ok { OnOk result (Writes W.contents writer.old writer.new (codes " " ++ pair_text pair)) }
     ensures err { OnErr result (BreaksOff W.contents writer.old writer.new (codes " " ++ pair_text pair)) }
-    ensures faults { WritesOrFails (has_failed writer.old) (has_failed writer.new) result }
+    ensures faults { WritesOrFails ScriptError.Write (has_failed writer.old) (has_failed writer.new) result }
 {
     write_whole(writer, b" ")?;
     write_pair(writer, pair)
@@ -150,7 +150,7 @@ fn write_after_space<W: Write>(
 fn write_pair<W: Write>(writer: &mut Watched<W>, pair: (i32, usize)) -> Result<(), ScriptError>
     ensures ok { OnOk result (Writes W.contents writer.old writer.new (pair_text pair)) }
     ensures err { OnErr result (BreaksOff W.contents writer.old writer.new (pair_text pair)) }
-    ensures faults { WritesOrFails (has_failed writer.old) (has_failed writer.new) result }
+    ensures faults { WritesOrFails ScriptError.Write (has_failed writer.old) (has_failed writer.new) result }
 {
     let (value, count) = pair;
     let mut figures = Buffer::new();
@@ -165,7 +165,7 @@ pub(crate) fn write_tokens<T: LongestPrefix, W: Write>(
 ) -> Result<(), ScriptError>
     ensures ok { OnOk result (Writes W.contents writer.old writer.new (tokens_text tokens.entry ++ 10 ∷ [])) }
     ensures err { OnErr result (BreaksOff W.contents writer.old writer.new (tokens_text tokens.entry ++ 10 ∷ [])) }
-    ensures faults { WritesOrFails (has_failed writer.old) (has_failed writer.new) result }
+    ensures faults { WritesOrFails ScriptError.Write (has_failed writer.old) (has_failed writer.new) result }
 {
     let Some(first) = tokens.next() else {
         return write_whole(writer, b"none\n");
@@ -181,7 +181,7 @@ fn write_spaced<T: LongestPrefix, W: Write>(
 ) -> Result<(), ScriptError>
     ensures ok { OnOk result (Writes W.contents writer.old writer.new (spaced_texts token_text tokens.entry ++ 10 ∷ [])) }
     ensures err { OnErr result (BreaksOff W.contents writer.old writer.new (spaced_texts token_text tokens.entry ++ 10 ∷ [])) }
-    ensures faults { WritesOrFails (has_failed writer.old) (has_failed writer.new) result }
+    ensures faults { WritesOrFails ScriptError.Write (has_failed writer.old) (has_failed writer.new) result }
 {
     while let Some(token) = tokens.next() {
         write_next(writer, token)?;
@@ -196,7 +196,7 @@ fn write_next<W: Write>(
 ) -> Result<(), ScriptError>
     ensures ok { OnOk result (Writes W.contents writer.old writer.new (codes " " ++ token_text token)) }
     ensures err { OnErr result (BreaksOff W.contents writer.old writer.new (codes " " ++ token_text token)) }
-    ensures faults { WritesOrFails (has_failed writer.old) (has_failed writer.new) result }
+    ensures faults { WritesOrFails ScriptError.Write (has_failed writer.old) (has_failed writer.new) result }
 {
     write_whole(writer, b" ")?;
     write_token(writer, token)
@@ -209,7 +209,7 @@ fn write_token<W: Write>(
 ) -> Result<(), ScriptError>
     ensures ok { OnOk result (Writes W.contents writer.old writer.new (token_text token)) }
     ensures err { OnErr result (BreaksOff W.contents writer.old writer.new (token_text token)) }
-    ensures faults { WritesOrFails (has_failed writer.old) (has_failed writer.new) result }
+    ensures faults { WritesOrFails ScriptError.Write (has_failed writer.old) (has_failed writer.new) result }
 {
     let (start, len, value) = token;
     write_field(writer, start)?;
@@ -219,9 +219,9 @@ fn write_token<W: Write>(
 
 /// Writes a number and a colon.
 fn write_field<W: Write>(writer: &mut Watched<W>, number: usize) -> Result<(), ScriptError>
-    ensures ok { OnOk result (Writes W.contents writer.old writer.new (field number)) }
-    ensures err { OnErr result (BreaksOff W.contents writer.old writer.new (field number)) }
-    ensures faults { WritesOrFails (has_failed writer.old) (has_failed writer.new) result }
+    ensures ok { OnOk result (Writes W.contents writer.old writer.new (colon_field number)) }
+    ensures err { OnErr result (BreaksOff W.contents writer.old writer.new (colon_field number)) }
+    ensures faults { WritesOrFails ScriptError.Write (has_failed writer.old) (has_failed writer.new) result }
 {
     let mut figures = Buffer::new();
     write_whole(writer, figures.format(number).as_bytes())?;
@@ -232,7 +232,7 @@ fn write_field<W: Write>(writer: &mut Watched<W>, number: usize) -> Result<(), S
 fn write_value<W: Write>(writer: &mut Watched<W>, value: Option<i32>) -> Result<(), ScriptError>
     ensures ok { OnOk result (Writes W.contents writer.old writer.new (number_text value)) }
     ensures err { OnErr result (BreaksOff W.contents writer.old writer.new (number_text value)) }
-    ensures faults { WritesOrFails (has_failed writer.old) (has_failed writer.new) result }
+    ensures faults { WritesOrFails ScriptError.Write (has_failed writer.old) (has_failed writer.new) result }
 {
     match value {
         Some(value) => {

@@ -1,7 +1,7 @@
 //! A run of a script: lines in, answers out.
 
 ghost use Rattle.std.specs.Prelude.{◌++◌, ◌+◌, ◌<◌, ◌∷◌, ◌≡◌, ◌≤◌, [], IfErr, IfOk, IfSome, length, OnErr, OnOk, position, true, vec_capacity};
-ghost use Rattle.cedar_cli.specs.Words.{AdvancesBy, Answers, EndsInput, FinishesAll, FinishesComing, GrowsBefore, GrowsWithin, has_failed, HasLineRoom, HasNoNewline, held_by, is_newline, LineFault, LineMayLackMemory, OnWriter, order_of, StopsOn};
+ghost use Rattle.cedar_cli.specs.Words.{AdvancesBy, Answers, AnswersOrFails, EndsInput, FinishesAll, FinishesComing, GrowsBefore, GrowsWithin, has_failed, HasLineRoom, HasNoNewline, held_by, is_newline, LineMayLackMemory, OnWriter, order_of, StopsOn};
 
 use crate::verbs::answer_line;
 use cedarwood::{Layout, Trie, Watched};
@@ -140,7 +140,7 @@ fn take_bytes<L: Layout, const SLOTS: usize, A: Allocator + Copy, W: Write>(
     ensures kept { HasLineRoom (vec_capacity line.new) (length key.new.items) }
     ensures ok { OnOk result (OnWriter W.contents writer.old writer.new (AdvancesBy L.kind trie.old trie.new (line.old.items ++ bytes.now) line.new.items)) }
     ensures err { IfErr result (StopsOn W.contents writer.old writer.new SLOTS L.kind trie.old trie.new (line.old.items ++ bytes.now)) }
-    ensures faults { LineFault (has_failed writer.old) (has_failed writer.new) result }
+    ensures faults { AnswersOrFails (has_failed writer.old) (has_failed writer.new) result }
     ensures limit { result ≡ Err ScriptError.SlotLimit → trie.new.size ≡ SLOTS }
     ensures blocks_taken { OnOk result (GrowsBefore (length line.new.items) (length line.old.items + length bytes.now) trie.old trie.new) }
     ensures blocks_left { OnErr result (GrowsWithin (length line.old.items + length bytes.now) trie.old trie.new) }
@@ -180,7 +180,7 @@ fn end_line<L: Layout, const SLOTS: usize, A: Allocator + Copy, W: Write>(
     ensures kept { HasLineRoom (vec_capacity line.new) (length key.new.items) }
     ensures ok { OnOk result (OnWriter W.contents writer.old writer.new (AdvancesBy L.kind trie.old trie.new (line.old.items ++ (piece.now ++ 10 ∷ [])) [])) }
     ensures err { IfErr result (StopsOn W.contents writer.old writer.new SLOTS L.kind trie.old trie.new (line.old.items ++ (piece.now ++ 10 ∷ []))) }
-    ensures faults { LineFault (has_failed writer.old) (has_failed writer.new) result }
+    ensures faults { AnswersOrFails (has_failed writer.old) (has_failed writer.new) result }
     ensures limit { result ≡ Err ScriptError.SlotLimit → trie.new.size ≡ SLOTS }
     ensures blocks { GrowsWithin (length line.old.items + length piece.now) trie.old trie.new }
     ensures max_trial { trie.new.max_trial ≡ trie.old.max_trial }
@@ -206,7 +206,7 @@ fn answer_with_room<L: Layout, const SLOTS: usize, A: Allocator + Copy, W: Write
     requires room { 4096 ≤ length key.old.items }
     ensures kept { 4096 ≤ length key.new.items }
     ensures answer { Answers L.kind (order_of line.now) trie.old trie.new (held_by W.contents writer.old) (held_by W.contents writer.new) result }
-    ensures faults { LineFault (has_failed writer.old) (has_failed writer.new) result }
+    ensures faults { AnswersOrFails (has_failed writer.old) (has_failed writer.new) result }
     ensures memory { result ≡ Err ScriptError.Memory → LineMayLackMemory SLOTS line.now trie.new }
     ensures limit { result ≡ Err ScriptError.SlotLimit → trie.new.size ≡ SLOTS }
     ensures blocks { GrowsWithin (length line.now) trie.old trie.new }

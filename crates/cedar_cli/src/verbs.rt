@@ -1,7 +1,7 @@
 //! The answer to one line. A line whose answer isn't written whole changes no key and no value.
 
 ghost use Rattle.std.specs.Prelude.{◌*◌, ◌++◌, ◌<◌, ◌∷◌, ◌≡◌, ◌≤◌, [], IsSome, length, MatchOption, OnErr, OnOk, Some};
-ghost use Rattle.cedar_cli.specs.Words.{Answers, BreaksOff, figures_text, found_text, Grows, GrowsWithin, has_failed, held_by, IsPairFault, IsTakenBack, LineFault, MayLackMemory, number_at, order_of, put_text, Writes, WritesOrFails};
+ghost use Rattle.cedar_cli.specs.Words.{Answers, AnswersOrFails, BreaksOff, figures_text, found_text, Grows, GrowsWithin, has_failed, held_by, IsPairFault, IsTakenBack, MayLackMemory, number_at, order_of, put_text, Writes, WritesOrFails};
 
 use crate::answers::{write_entries, write_pairs, write_tokens};
 use crate::command::{Verb, parse_line};
@@ -25,7 +25,7 @@ pub(crate) fn answer_line<L: Layout, const SLOTS: usize, A: Allocator + Copy, W:
 
     //= A line's answer and its effect are as DEFINITIONS says.
     ensures answer { Answers L.kind (order_of line.now) trie.old trie.new (held_by W.contents writer.old) (held_by W.contents writer.new) result }
-    ensures faults { LineFault (has_failed writer.old) (has_failed writer.new) result }
+    ensures faults { AnswersOrFails (has_failed writer.old) (has_failed writer.new) result }
 
     //= A line is told `Memory` only where the dictionary has no block spare and fewer slots than it may have, or where the line lists all
     //  keys; `SlotLimit` only where all slots are in use (always). [with limit; also answer_command]
@@ -52,7 +52,7 @@ fn answer_command<L: Layout, const SLOTS: usize, A: Allocator + Copy, W: Write>(
     writer: &mut Watched<W>,
 ) -> Result<(), ScriptError>
     ensures answer { Answers L.kind (Some (verb, key.now)) trie.old trie.new (held_by W.contents writer.old) (held_by W.contents writer.new) result }
-    ensures faults { LineFault (has_failed writer.old) (has_failed writer.new) result }
+    ensures faults { AnswersOrFails (has_failed writer.old) (has_failed writer.new) result }
     ensures memory { result ≡ Err ScriptError.Memory → MayLackMemory SLOTS (Some (verb, key.now)) trie.new }
     ensures limit { result ≡ Err ScriptError.SlotLimit → trie.new.size ≡ SLOTS }
     ensures blocks { GrowsWithin (length key.now) trie.old trie.new }
@@ -79,7 +79,7 @@ fn answer_put<L: Layout, const SLOTS: usize, A: Allocator + Copy, W: Write>(
     writer: &mut Watched<W>,
 ) -> Result<(), ScriptError>
     ensures answer { Answers L.kind (Some (Verb.Put value, key.now)) trie.old trie.new (held_by W.contents writer.old) (held_by W.contents writer.new) result }
-    ensures faults { LineFault (has_failed writer.old) (has_failed writer.new) result }
+    ensures faults { AnswersOrFails (has_failed writer.old) (has_failed writer.new) result }
     ensures memory { result ≡ Err ScriptError.Memory → (trie.new.size ≡ trie.new.capacity) × (trie.new.capacity < SLOTS) }
     ensures limit { result ≡ Err ScriptError.SlotLimit → trie.new.size ≡ SLOTS }
     ensures blocks { GrowsWithin (length key.now) trie.old trie.new }
@@ -108,7 +108,7 @@ fn answer_erase<L: Layout, const SLOTS: usize, A: Allocator + Copy, W: Write>(
     writer: &mut Watched<W>,
 ) -> Result<(), ScriptError>
     ensures answer { Answers L.kind (Some (Verb.Erase, key.now)) trie.old trie.new (held_by W.contents writer.old) (held_by W.contents writer.new) result }
-    ensures faults { WritesOrFails (has_failed writer.old) (has_failed writer.new) result }
+    ensures faults { WritesOrFails ScriptError.Write (has_failed writer.old) (has_failed writer.new) result }
     ensures blocks { Grows 0 trie.old trie.new }
     ensures max_trial { trie.new.max_trial ≡ trie.old.max_trial }
 {
@@ -127,7 +127,7 @@ fn answer_exact<L: Layout, const SLOTS: usize, A: Allocator + Copy, W: Write>(
     writer: &mut Watched<W>,
 ) -> Result<(), ScriptError>
     ensures answer { Answers L.kind (Some (Verb.Exact, key.now)) trie.now trie.now (held_by W.contents writer.old) (held_by W.contents writer.new) result }
-    ensures faults { WritesOrFails (has_failed writer.old) (has_failed writer.new) result }
+    ensures faults { WritesOrFails ScriptError.Write (has_failed writer.old) (has_failed writer.new) result }
 {
     match trie.exact_match_search_bytes(key) {
         Some((value, length)) => write_found(writer, value, length),
@@ -142,7 +142,7 @@ fn answer_prefixes<L: Layout, const SLOTS: usize, A: Allocator + Copy, W: Write>
     writer: &mut Watched<W>,
 ) -> Result<(), ScriptError>
     ensures answer { Answers L.kind (Some (Verb.Prefixes, key.now)) trie.now trie.now (held_by W.contents writer.old) (held_by W.contents writer.new) result }
-    ensures faults { WritesOrFails (has_failed writer.old) (has_failed writer.new) result }
+    ensures faults { WritesOrFails ScriptError.Write (has_failed writer.old) (has_failed writer.new) result }
 {
     write_pairs(writer, &mut trie.common_prefix_iter_bytes(key))
 }
@@ -154,7 +154,7 @@ fn answer_predict<L: Layout, const SLOTS: usize, A: Allocator + Copy, W: Write>(
     writer: &mut Watched<W>,
 ) -> Result<(), ScriptError>
     ensures answer { Answers L.kind (Some (Verb.Predict, key.now)) trie.now trie.now (held_by W.contents writer.old) (held_by W.contents writer.new) result }
-    ensures faults { WritesOrFails (has_failed writer.old) (has_failed writer.new) result }
+    ensures faults { WritesOrFails ScriptError.Write (has_failed writer.old) (has_failed writer.new) result }
 {
     write_pairs(writer, &mut trie.common_prefix_predict_iter_bytes(key))
 }
@@ -166,7 +166,7 @@ fn answer_entries<L: Layout, const SLOTS: usize, A: Allocator + Copy, W: Write>(
     writer: &mut Watched<W>,
 ) -> Result<(), ScriptError>
     ensures answer { Answers L.kind (Some (Verb.Entries, key.now)) trie.now trie.now (held_by W.contents writer.old) (held_by W.contents writer.new) result }
-    ensures faults { LineFault (has_failed writer.old) (has_failed writer.new) result }
+    ensures faults { AnswersOrFails (has_failed writer.old) (has_failed writer.new) result }
     ensures never_full { result ≡ Err ScriptError.SlotLimit → ⊥ }
 {
     let Ok(entries) = trie.entries() else {
@@ -182,7 +182,7 @@ fn answer_figures<L: Layout, const SLOTS: usize, A: Allocator + Copy, W: Write>(
     writer: &mut Watched<W>,
 ) -> Result<(), ScriptError>
     ensures answer { Answers L.kind (Some (Verb.Figures, key.now)) trie.now trie.now (held_by W.contents writer.old) (held_by W.contents writer.new) result }
-    ensures faults { WritesOrFails (has_failed writer.old) (has_failed writer.new) result }
+    ensures faults { WritesOrFails ScriptError.Write (has_failed writer.old) (has_failed writer.new) result }
 {
     write_figures(writer, trie.len(), trie.used_node_slots())
 }
@@ -194,7 +194,7 @@ fn answer_segment<L: Layout, const SLOTS: usize, A: Allocator + Copy, W: Write>(
     writer: &mut Watched<W>,
 ) -> Result<(), ScriptError>
     ensures answer { Answers L.kind (Some (Verb.Segment, text.now)) trie.now trie.now (held_by W.contents writer.old) (held_by W.contents writer.new) result }
-    ensures faults { WritesOrFails (has_failed writer.old) (has_failed writer.new) result }
+    ensures faults { WritesOrFails ScriptError.Write (has_failed writer.old) (has_failed writer.new) result }
 {
     write_tokens(writer, segment(trie, text))
 }
@@ -224,7 +224,7 @@ fn write_refusal<W: Write>(writer: &mut Watched<W>, error: CedarError) -> Result
     requires { IsPairFault error }
     ensures ok { OnOk result (Writes W.contents writer.old writer.new (put_text (Some error) ++ 10 ∷ [])) }
     ensures err { OnErr result (BreaksOff W.contents writer.old writer.new (put_text (Some error) ++ 10 ∷ [])) }
-    ensures faults { WritesOrFails (has_failed writer.old) (has_failed writer.new) result }
+    ensures faults { WritesOrFails ScriptError.Write (has_failed writer.old) (has_failed writer.new) result }
 {
     let mut figures = Buffer::new();
     match error {
@@ -249,7 +249,7 @@ fn write_found<W: Write>(
 ) -> Result<(), ScriptError>
     ensures ok { OnOk result (Writes W.contents writer.old writer.new (found_text (Some value) length ++ 10 ∷ [])) }
     ensures err { OnErr result (BreaksOff W.contents writer.old writer.new (found_text (Some value) length ++ 10 ∷ [])) }
-    ensures faults { WritesOrFails (has_failed writer.old) (has_failed writer.new) result }
+    ensures faults { WritesOrFails ScriptError.Write (has_failed writer.old) (has_failed writer.new) result }
 {
     let mut figures = Buffer::new();
     write_whole(writer, figures.format(value).as_bytes())?;
@@ -264,7 +264,7 @@ fn write_figures<W: Write>(
 ) -> Result<(), ScriptError>
     ensures ok { OnOk result (Writes W.contents writer.old writer.new (figures_text keys slots ++ 10 ∷ [])) }
     ensures err { OnErr result (BreaksOff W.contents writer.old writer.new (figures_text keys slots ++ 10 ∷ [])) }
-    ensures faults { WritesOrFails (has_failed writer.old) (has_failed writer.new) result }
+    ensures faults { WritesOrFails ScriptError.Write (has_failed writer.old) (has_failed writer.new) result }
 {
     let mut figures = Buffer::new();
     write_whole(writer, figures.format(keys).as_bytes())?;

@@ -15,7 +15,7 @@ pub(crate) fn write_both<W: Write>(
 ) -> Result<(), ScriptError>
     ensures ok { OnOk result (Writes W.contents writer.old writer.new (first.now ++ second.now)) }
     ensures err { OnErr result (BreaksOff W.contents writer.old writer.new (first.now ++ second.now)) }
-    ensures faults { WritesOrFails (has_failed writer.old) (has_failed writer.new) result }
+    ensures faults { WritesOrFails ScriptError.Write (has_failed writer.old) (has_failed writer.new) result }
 {
     write_whole(writer, first)?;
     write_whole(writer, second)
@@ -29,7 +29,7 @@ pub(crate) fn write_line<W: Write>(
 ) -> Result<(), ScriptError>
     ensures ok { OnOk result (Writes W.contents writer.old writer.new (first.now ++ (second.now ++ 10 ∷ []))) }
     ensures err { OnErr result (BreaksOff W.contents writer.old writer.new (first.now ++ (second.now ++ 10 ∷ []))) }
-    ensures faults { WritesOrFails (has_failed writer.old) (has_failed writer.new) result }
+    ensures faults { WritesOrFails ScriptError.Write (has_failed writer.old) (has_failed writer.new) result }
 {
     write_whole(writer, first)?;
     write_whole(writer, second)?;
@@ -44,7 +44,7 @@ pub(crate) fn write_whole<W: Write>(
 ) -> Result<(), ScriptError>
     ensures ok { OnOk result (Writes W.contents writer.old writer.new bytes.now) }
     ensures err { OnErr result (BreaksOff W.contents writer.old writer.new bytes.now) }
-    ensures faults { WritesOrFails (has_failed writer.old) (has_failed writer.new) result }
+    ensures faults { WritesOrFails ScriptError.Write (has_failed writer.old) (has_failed writer.new) result }
 {
     let mut rest = bytes;
     while !rest.is_empty() {

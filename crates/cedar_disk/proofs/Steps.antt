@@ -5,7 +5,7 @@ use Rattle.std.proofs.lemmas.Bool.{and_parts, false≢true, leb-true}
 use Rattle.std.proofs.lemmas.List.{take_at, drop_at, take_all}
 use Rattle.cedar_journal.specs.Device.{Cut, Elapses, Follows, LeavesOnly, Torn}
 use Rattle.cedar_journal.proofs.Moments as moments
-use Rattle.cedar_disk.specs.Calls.{Call, LeftSince, MayLeave, NextLeft, NextOnDisk, OnDisk, all_within, extended, is_usable_after, is_within, next_seen, overlaid, refused, replaced, seen_after, shortened, synced, usable_by, written}
+use Rattle.cedar_disk.specs.Calls.{Call, LeftSince, MayLeave, NextLeft, NextOnDisk, OnDisk, all_within, extended, is_usable_after, is_within, next_seen, overlaid, refused_call, replaced, seen_after, shortened, synced, usable_by, written}
 use Rattle.cedar_disk.specs.Laws.{only_now}
 
 -- ---- writes and cuts of one file
@@ -131,13 +131,13 @@ is_left (call ∷ last ∷ earlier) within c left =
 -- ---- The calls of a device, of whose calls old were made before and new are made now.
 
 module _ (old new : List Call) (within : IsTrue (all_within old)) where
-  pub refused_keeps : new ≡ refused ∷ old → (c : List ℕ) → MayLeave new c → MayLeave old c
+  pub refused_keeps : new ≡ refused_call ∷ old → (c : List ℕ) → MayLeave new c → MayLeave old c
   refused_keeps is = subst (λ (l : List Call). (c : List ℕ) → MayLeave l c → MayLeave old c) (sym is) (is_left old within)
 
-  pub refused_write : (at n : ℕ) → new ≡ refused ∷ old → Follows (Torn at n) (MayLeave old) (MayLeave new)
+  pub refused_write : (at n : ℕ) → new ≡ refused_call ∷ old → Follows (Torn at n) (MayLeave old) (MayLeave new)
   refused_write at n is = λ c left. (c, refused_keeps is c left, torn_same at n c)
 
-  pub refused_cut : (len : ℕ) → len ≤ length (seen_after old) → new ≡ refused ∷ old → Follows (Cut len) (MayLeave old) (MayLeave new)
+  pub refused_cut : (len : ℕ) → len ≤ length (seen_after old) → new ≡ refused_call ∷ old → Follows (Cut len) (MayLeave old) (MayLeave new)
   refused_cut len fits is =
       subst (λ (l : List Call). Follows (Cut len) (MayLeave old) (MayLeave l)) (sym is)
       (λ c left. (c, is_left old within c left, cut_same len c (omega (arith, fits, no_shorter old within c left))))

@@ -31,8 +31,8 @@ abbrev pub extended : ℕ → List ℕ → Bool → Call
 extended at bytes ok = (5, at, ok, bytes)
 
 -- a call that failed before it changed anything
-abbrev pub refused : Call
-refused = (6, 0, false, [])
+abbrev pub refused_call : Call
+refused_call = (6, 0, false, [])
 
 -- a call from the numbers that it was noted by
 abbrev pub call_of : List ℕ → List ℕ → Call

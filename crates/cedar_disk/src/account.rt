@@ -1,7 +1,7 @@
 //! What the calls so far make of a file: what a read returns, and what a crash may leave. `specs/Calls.antt` has the model.
 
 ghost use Rattle.std.specs.Prelude.{◌≡◌, ◌<◌, ◌≤◌, ◌+◌, [], ◌∷◌, false, length, IfErr, IsTrue, OnErr, OnOk};
-ghost use Rattle.cedar_disk.specs.Words.{all_within, extended, is_usable_after, OnDisk, Only, opened, refused, replaced, seen_after, shortened, synced, written};
+ghost use Rattle.cedar_disk.specs.Words.{all_within, extended, is_usable_after, OnDisk, Only, opened, refused_call, replaced, seen_after, shortened, synced, written};
 
 use crate::history::History;
 use cedar_journal::DeviceError;
@@ -71,7 +71,7 @@ impl Account {
     pub(crate) fn admit(&mut self) -> Result<(), DeviceError>
         ensures usable { OnOk result (IsTrue (is_usable_after (calls_of self.new))) }
         ensures same { OnOk result (self.new ≡ self.old) }
-        ensures refused { OnErr result (calls_of self.new ≡ refused ∷ calls_of self.old) }
+        ensures refused { OnErr result (calls_of self.new ≡ refused_call ∷ calls_of self.old) }
         ensures failed { IfErr result (λ e. e ≡ DeviceError.Failed) }
     {
         if self.is_usable {
@@ -83,7 +83,7 @@ impl Account {
 
     /// A call failed that changed nothing.
     pub(crate) fn refused(&mut self)
-        ensures calls { calls_of self.new ≡ refused ∷ calls_of self.old }
+        ensures calls { calls_of self.new ≡ refused_call ∷ calls_of self.old }
     {
         self.history.note(&[REFUSED, 0, 0], &[]);
     }

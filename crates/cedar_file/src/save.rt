@@ -1,6 +1,6 @@
 //! How a table is written.
 
-ghost use Rattle.std.specs.Prelude.{◌≡◌, IfErr, OnOk, true};
+ghost use Rattle.std.specs.Prelude.{◌≡◌, IfErr, OnOk, take, true};
 ghost use Rattle.cedar_file.specs.Words.{Appends, device_of, fields, FitsTable, has_failed, header_of, IsIo, table_bytes};
 
 use cedar_format::{
@@ -35,6 +35,13 @@ fn header_of<L: Layout, const SLOTS: usize, A: Allocator>(
     }
 }
 
+/// The first items, `len` of them if there are as many.
+fn front<T>(items: &[T], len: usize) -> &[T]
+    ensures { result.now ≡ take len items.now }
+{
+    &items[..items.len().min(len)]
+}
+
 /// Writes the bytes of a table in a minor version. It takes no memory.
 ///
 /// # Errors
@@ -56,8 +63,9 @@ pub fn write_table<L: Layout, const SLOTS: usize, A: Allocator, W: Write>(
 {
     let header = header_of(table, minor);
     write_header(writer, L::file_byte(), header)?;
-    let nodes = &table.node_records()[..header.array_len];
-    let n_infos = &table.info_records()[..header.n_infos_len];
-    let blocks = &table.block_records()[..header.blocks_len];
-    write_lists(writer, nodes, n_infos, blocks, table.reject_values())
+    let slots = header.array_len;
+    let nodes = front(table.node_records(), slots);
+    let n_infos = front(table.info_records(), slots);
+    let blocks = front(table.block_records(), header.blocks_len);
+    write_lists(writer, slots, nodes, n_infos, blocks, table.reject_values())
 }

@@ -151,6 +151,13 @@ listed_bytes n nodes infos blocks reject = body_bytes (take n nodes) (take n inf
 abbrev pub filled_list : {X : Type 0} → X → ℕ → List X → List X
 filled_list blank len xs = xs ++ replicate (len - length xs) blank
 
+-- what is written of lists that have blanks behind them, up to so many slots
+abbrev pub filled_bytes : ℕ → List NodeRecord → List NInfoRecord → List BlockRecord → List ℤ → List ℕ
+filled_bytes slots nodes infos blocks reject = body_bytes (filled_list blank_node slots nodes) (filled_list blank_info slots infos) (filled_list blank_block (slots / 256) blocks) reject
+
+abbrev pub FitsFilled : ℕ → List NodeRecord → List NInfoRecord → List BlockRecord → List ℤ → Type 0
+FitsFilled slots nodes infos blocks reject = FitsBody (filled_list blank_node slots nodes) (filled_list blank_info slots infos) (filled_list blank_block (slots / 256) blocks) reject
+
 -- the tests of the sizes, and of the need
 abbrev pub size_refusal : ℕ → ℕ → Header → Option Refusal
 size_refusal slots limit h = first_refusal (

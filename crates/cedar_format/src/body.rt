@@ -1,12 +1,12 @@
 //! The tables of a file.
 
 ghost use Rattle.std.specs.Prelude.{◌+◌, ◌/◌, ◌<◌, ◌^◌, ◌≡◌, ◌≤◌, [], false, IfErr, IfOk, length, OnOk, true, vec_capacity};
-ghost use Rattle.cedar_format.specs.Words.{Appends, blank_block, blank_info, blank_node, body_bytes, body_len, Consumes, CountsWithin, DecodesBy, device_of, filled_list, FitsBody, has_failed, IsAtEnd, IsIo, IsSlotLimit, LacksTable, Misses, need, Passes, tables_len, TellsBreaks, Trails};
+ghost use Rattle.cedar_format.specs.Words.{Appends, blank_block, blank_info, blank_node, body_bytes, body_len, Consumes, CountsWithin, DecodesBy, device_of, filled_bytes, filled_list, FitsBody, FitsFilled, has_failed, IsAtEnd, IsIo, IsSlotLimit, LacksTable, Misses, need, Passes, tables_len, TellsBreaks, Trails};
 
 use crate::buffer::BUFFER_LEN;
 use crate::error::CedarPersistenceError;
 use crate::header::{Header, check_sizes, read_header};
-use crate::listing::{fill_up, read_records, write_records};
+use crate::listing::{fill_up, read_records, write_filled, write_records};
 use crate::reserve::reserve_counted;
 use crate::source::Source;
 use crate::watched::Watched;
@@ -245,28 +245,32 @@ pub fn decode_counted<S: Source, A: Allocator + Copy, C: Ledger>(
     Ok(fill_tables(lists))
 }
 
-/// Writes the four lists of a file, one after another, in pieces of some thousand bytes. It takes no memory.
+/// Writes the four lists of a file, one after another, in pieces of some thousand bytes. `slots` is how many slots the file lists:
+/// those that the lists lack, and their blocks, are blank. It takes no memory.
 ///
 /// # Errors
 /// `Io` where the writer failed.
 pub fn write_lists<W: Write>(
     writer: &mut Watched<W>,
+    slots: usize,
     nodes: &[NodeRecord],
     n_infos: &[NInfoRecord],
     blocks: &[BlockRecord],
     reject: &[i16],
 ) -> Result<(), CedarPersistenceError>
-    //= The four lists of a table are written with just their bytes and nothing else. [with fits]
-    ensures bytes { OnOk result (Appends (W.contents (device_of writer.old)) (W.contents (device_of writer.new)) (body_bytes nodes.now n_infos.now blocks.now reject.now)) }
-    ensures fits { OnOk result (FitsBody nodes.now n_infos.now blocks.now reject.now) }
+    //= The four lists of a table are written with just their bytes and nothing else, with blanks behind the first three up to the number
+    //  of slots that the file lists. [with fits]
+    ensures bytes { OnOk result (Appends (W.contents (device_of writer.old)) (W.contents (device_of writer.new)) (filled_bytes slots nodes.now n_infos.now blocks.now reject.now)) }
+    ensures fits { OnOk result (FitsFilled slots nodes.now n_infos.now blocks.now reject.now) }
 
     //= It fails only where its writer does.
     ensures err { IfErr result (λ e. IsIo e × (has_failed writer.new ≡ true)) }
     ensures failed { has_failed writer.old ≡ true → has_failed writer.new ≡ true }
 {
     let mut buffer = [0u8; BUFFER_LEN];
-    write_records(writer, &mut buffer, nodes)?;
-    write_records(writer, &mut buffer, n_infos)?;
-    write_records(writer, &mut buffer, blocks)?;
+    write_filled(writer, &mut buffer, nodes, slots, NodeRecord::BLANK)?;
+    write_filled(writer, &mut buffer, n_infos, slots, NInfoRecord::BLANK)?;
+    let blanks = slots / BLOCK_SIZE;
+    write_filled(writer, &mut buffer, blocks, blanks, BlockRecord::BLANK)?;
     write_records(writer, &mut buffer, reject)
 }

@@ -1,6 +1,6 @@
 //! Lists of records, in large pieces.
 
-ghost use Rattle.std.specs.Prelude.{◌*◌, ◌++◌, ◌+◌, ◌≡◌, ◌≤◌, [], All, flat_map, IfErr, length, List, OnOk, true, vec_capacity, vec_len, ℕ};
+ghost use Rattle.std.specs.Prelude.{◌*◌, ◌++◌, ◌+◌, ◌≡◌, ◌≤◌, [], All, flat_map, IfErr, length, List, OnOk, replicate, true, vec_capacity, vec_len, ℕ};
 ghost use Rattle.cedar_format.specs.Words.{Appends, Consumes, device_of, filled_list, has_failed, IsIo, Misses, TellsBreaks};
 
 use crate::buffer::BUFFER_LEN;
@@ -124,6 +124,76 @@ fn write_piece<W: Write, T: Record>(
     let bytes = &mut buffer[..records.len() * T::LEN];
     put_records(records, bytes);
     write_bytes(writer, bytes)
+}
+
+/// Writes a list of records, and behind it as many blanks as it lacks to `len`. They go out in pieces, too, whatever the buffer held.
+pub(crate) fn write_filled<W: Write, T: Record>(
+    writer: &mut Watched<W>,
+    buffer: &mut [u8; BUFFER_LEN],
+    records: &[T],
+    len: usize,
+    blank: T,
+) -> Result<(), CedarPersistenceError>
+    ensures bytes { OnOk result (Appends (W.contents (device_of writer.old)) (W.contents (device_of writer.new)) (flat_map T.bytes_of (filled_list blank len records.now))) }
+    ensures fits { OnOk result (All T.Fits (filled_list blank len records.now)) }
+    ensures err { IfErr result (λ e. IsIo e × (has_failed writer.new ≡ true)) }
+    ensures failed { has_failed writer.old ≡ true → has_failed writer.new ≡ true }
+{
+    write_records(writer, buffer, records)?;
+    write_blanks(writer, buffer, len.saturating_sub(records.len()), blank)
+}
+
+/// Writes so many blanks, as many at once as fit in the buffer.
+fn write_blanks<W: Write, T: Record>(
+    writer: &mut Watched<W>,
+    buffer: &mut [u8; BUFFER_LEN],
+    count: usize,
+    blank: T,
+) -> Result<(), CedarPersistenceError>
+    ensures bytes { OnOk result (Appends (W.contents (device_of writer.old)) (W.contents (device_of writer.new)) (flat_map T.bytes_of (replicate count blank))) }
+    ensures fits { OnOk result (All T.Fits (replicate count blank)) }
+    ensures err { IfErr result (λ e. IsIo e × (has_failed writer.new ≡ true)) }
+    ensures failed { has_failed writer.old ≡ true → has_failed writer.new ≡ true }
+{
+    let most = BUFFER_LEN / T::LEN;
+    let mut done = 0;
+    while done < count {
+        let piece = (count - done).min(most);
+        write_piece_of(writer, buffer, piece, blank)?;
+        done += piece;
+    }
+    Ok(())
+}
+
+/// Writes so many blanks, which fit in the buffer together.
+fn write_piece_of<W: Write, T: Record>(
+    writer: &mut Watched<W>,
+    buffer: &mut [u8; BUFFER_LEN],
+    count: usize,
+    blank: T,
+) -> Result<(), CedarPersistenceError>
+    requires piece { count * T.LEN ≤ 16384 }
+    ensures bytes { OnOk result (Appends (W.contents (device_of writer.old)) (W.contents (device_of writer.new)) (flat_map T.bytes_of (replicate count blank))) }
+    ensures fits { OnOk result (All T.Fits (replicate count blank)) }
+    ensures err { IfErr result (λ e. IsIo e × (has_failed writer.new ≡ true)) }
+    ensures failed { has_failed writer.old ≡ true → has_failed writer.new ≡ true }
+{
+    let bytes = &mut buffer[..count * T::LEN];
+    put_blanks(blank, count, bytes);
+    write_bytes(writer, bytes)
+}
+
+/// Makes some bytes those of so many blanks.
+fn put_blanks<T: Record>(blank: T, count: usize, bytes: &mut [u8])
+    requires len { length bytes.old ≡ count * T.LEN }
+    ensures bytes { bytes.new ≡ flat_map T.bytes_of (replicate count blank) }
+    ensures fits { All T.Fits (replicate count blank) }
+{
+    let mut at = 0;
+    for _ in 0..count {
+        blank.write_at(bytes, at);
+        at += T::LEN;
+    }
 }
 
 /// Makes some bytes those of records. No room is tested for a single record.

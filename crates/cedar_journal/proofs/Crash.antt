@@ -3,7 +3,7 @@ use Rattle.std.proofs.Common.{◌≡◌, ℕ, ◌+◌, ◌-◌, ◌≤◌, ◌<�
 use Rattle.std.proofs.lemmas.List.{take_at, drop_at, drop_more, take_all, drop_all, append-nil, length-take}
 use Rattle.std.proofs.lemmas.Bool.{false_from_ne_true}
 use Rattle.cedar_journal.specs.Device.{Holds, Torn, Cut, Follows, Only}
-use Rattle.cedar_journal.specs.Records.{payloads_in, has_record, framed, IsFront, EndsAt}
+use Rattle.cedar_journal.specs.Records.{payloads_in, has_record, framed, AreWholeRecords, EndsAt}
 use Rattle.cedar_journal.specs.Files.{HasHeader}
 use Rattle.cedar_journal.specs.Journal.{IsSettled, IsStaged}
 use Rattle.cedar_journal.proofs.Fronts.{record_of, MayHave, front_and, take_both, behind_closed, behind_gate, framed_apart, nothing_behind, written_is_front, written_stands}
@@ -27,7 +27,7 @@ module _ (front : List ℕ) (end : ℕ) (ends : length front ≡ end) where
   through : (gate : ℕ) (rest : List ℕ) → take (end + 1) (front ++ gate ∷ rest) ≡ front ++ gate ∷ []
   through gate rest = ap (λ (l : List ℕ). take (end + 1) l) (sym (append_assoc front (gate ∷ []) rest)) ∙ take_at (front ++ gate ∷ []) rest (end + 1) (long gate)
 
-  pub torn_behind : (n : ℕ) (rest c : List ℕ) → IsFront front → Torn (end + 1) n (front ++ 0 ∷ rest) c → payloads_in c ≡ payloads_in front
+  pub torn_behind : (n : ℕ) (rest c : List ℕ) → AreWholeRecords front → Torn (end + 1) n (front ++ 0 ∷ rest) c → payloads_in c ≡ payloads_in front
   torn_behind n rest c is_front torn =
       let kept : take (end + 1) c ≡ front ++ 0 ∷ [] = torn.before ∙ through 0 rest in
       let all : c ≡ front ++ 0 ∷ drop (end + 1) c =
@@ -59,18 +59,18 @@ module _ (front : List ℕ) (end : ℕ) (ends : length front ≡ end) where
 -- ---- the states of a journal
 
 module _ {D : Type 0} (seen : D → List ℕ) (may_leave : D → List ℕ → Type 0) (device : D) where
-  pub settled_at : (end : ℕ) (front rest : List ℕ) → length front ≡ end → IsFront front → HasHeader front → seen device ≡ front ++ 0 ∷ rest → Only (seen device) (may_leave device) → IsSettled seen may_leave device end
+  pub settled_at : (end : ℕ) (front rest : List ℕ) → length front ≡ end → AreWholeRecords front → HasHeader front → seen device ≡ front ++ 0 ∷ rest → Only (seen device) (may_leave device) → IsSettled seen may_leave device end
   settled_at end front rest ends is_front header is only =
       let first : take end (seen device) ≡ front = ap (λ (l : List ℕ). take end l) is ∙ front_is front end ends 0 rest in
       let last : drop (end + 1) (seen device) ≡ rest = ap (λ (l : List ℕ). drop (end + 1) l) is ∙ rest_is front end ends 0 rest in
       record {
         split = is ∙ sym (λ i. first i ++ 0 ∷ last i);
-        whole = subst IsFront (sym first) is_front;
+        whole = subst AreWholeRecords (sym first) is_front;
         header = (header.0, ap payloads_in is ∙ behind_closed front 0 rest is_front (omega arith) ∙ header.1);
         durable = only;
       }
 
-  pub staged_at : (end : ℕ) (front bytes tail : List ℕ) → length front ≡ end → IsFront front → HasHeader front → length bytes < 4294967296 → end < 1152921504606846976 → seen device ≡ front ++ 0 ∷ (framed bytes ++ tail) → Only (seen device) (may_leave device) → IsStaged seen may_leave device end bytes
+  pub staged_at : (end : ℕ) (front bytes tail : List ℕ) → length front ≡ end → AreWholeRecords front → HasHeader front → length bytes < 4294967296 → end < 1152921504606846976 → seen device ≡ front ++ 0 ∷ (framed bytes ++ tail) → Only (seen device) (may_leave device) → IsStaged seen may_leave device end bytes
   staged_at end front bytes tail ends is_front header short room is only =
       let size : length (front ++ 0 ∷ framed bytes) ≡ end + 6 + length bytes = omega (arith, length-append front (0 ∷ framed bytes), length-framed bytes, ends) in
       let last : drop (end + 1) (seen device) ≡ framed bytes ++ tail = ap (λ (l : List ℕ). drop (end + 1) l) is ∙ rest_is front end ends 0 (framed bytes ++ tail) in
@@ -87,7 +87,7 @@ module _ {D : Type 0} (seen : D → List ℕ) (may_leave : D → List ℕ → Ty
 pub front_ends : (file : List ℕ) (end : ℕ) → file ≡ take end file ++ 0 ∷ drop (end + 1) file → length (take end file) ≡ end
 front_ends file end split = omega (arith, ap length split, length-append (take end file) (0 ∷ drop (end + 1) file), length-take end file)
 
-module _ (file : List ℕ) (end : ℕ) (split : file ≡ take end file ++ 0 ∷ drop (end + 1) file) (whole : IsFront (take end file)) where
+module _ (file : List ℕ) (end : ℕ) (split : file ≡ take end file ++ 0 ∷ drop (end + 1) file) (whole : AreWholeRecords (take end file)) where
   ends : length (take end file) ≡ end
   ends = front_ends file end split
 
@@ -123,7 +123,7 @@ module _ (file : List ℕ) (end : ℕ) (split : file ≡ take end file ++ 0 ∷ 
     pub longer_ends : length (take end file ++ record_of bytes) ≡ end + (5 + length bytes)
     longer_ends = omega (arith, ends, length-append (take end file) (record_of bytes))
 
-    pub longer_whole : IsFront (take end file ++ record_of bytes)
+    pub longer_whole : AreWholeRecords (take end file ++ record_of bytes)
     longer_whole = front_and (take end file) (record_of bytes) whole (written_is_front bytes short)
 
     pub longer_stands : payloads_in ((take end file ++ record_of bytes) ++ 0 ∷ tail) ≡ payloads_in file ++ bytes ∷ []

@@ -1,7 +1,7 @@
 -- What the code finds at the front of some bytes.
 use Rattle.std.proofs.Common.{◌≡◌, ◌≢◌, ℕ, ◌+◌, ◌≤◌, ◌<◌, true, false, List, [], ◌∷◌, ◌++◌, length, sym, take-append-drop, take, drop, get_or, ◌∙◌, ap, arith, length-drop, length-take-le}
 use Rattle.std.proofs.lemmas.Bool.{false_from_ne_true}
-use Rattle.cedar_journal.specs.Records.{payload_length, payload, behind, has_record, payloads_in, IsFront}
+use Rattle.cedar_journal.specs.Records.{payload_length, payload, behind_record, has_record, payloads_in, AreWholeRecords}
 use Rattle.cedar_journal.proofs.Reading.{record_is_whole, gate_is_open, is_record, same_payload}
 use Rattle.cedar_journal.proofs.Fronts.{first_of, longer_front, one_record, take_both}
 
@@ -22,19 +22,19 @@ pub found : (file : List ℕ) (n m : ℕ) → get_or file 0 0 ≡ 1 → n ≡ pa
 unfolding payload
 found file n m gate is same fits = (is_record file gate (omega (arith, is, fits)), ap (λ k. take k (drop 5 file)) (same ∙ is))
 
-pub found_behind : (file : List ℕ) (n m : ℕ) → n ≡ payload_length file → m ≡ n → 5 + n ≤ length file → (5 + length (take m (drop 5 file)) ≤ length file) × (drop (5 + length (take m (drop 5 file))) file ≡ behind file)
-unfolding behind
+pub found_behind : (file : List ℕ) (n m : ℕ) → n ≡ payload_length file → m ≡ n → 5 + n ≤ length file → (5 + length (take m (drop 5 file)) ≤ length file) × (drop (5 + length (take m (drop 5 file))) file ≡ behind_record file)
+unfolding behind_record
 found_behind file n m is same fits =
     let size : length (take m (drop 5 file)) ≡ m = length-take-le m (drop 5 file) (omega (arith, same, fits, length-drop 5 file)) in
     (omega (arith, size, same, fits), ap (λ k. drop (5 + k) file) (size ∙ same ∙ is))
 
-pub one_more : (file bytes : List ℕ) (end : ℕ) → end ≤ length file → IsFront (take end file) → has_record (drop end file) ≡ true → bytes ≡ payload (drop end file) → IsFront (take (end + (5 + length bytes)) file)
+pub one_more : (file bytes : List ℕ) (end : ℕ) → end ≤ length file → AreWholeRecords (take end file) → has_record (drop end file) ≡ true → bytes ≡ payload (drop end file) → AreWholeRecords (take (end + (5 + length bytes)) file)
 one_more file bytes end fits front has is =
     let size : length bytes ≡ payload_length (drop end file) = ap length is ∙ length-payload (drop end file) has in
     longer_front file end (5 + length bytes) fits front has (omega (arith, size))
 
 -- and its payload is read behind the others
-pub one_more_read : (file bytes : List ℕ) (end : ℕ) → end ≤ length file → IsFront (take end file) → has_record (drop end file) ≡ true → bytes ≡ payload (drop end file) → payloads_in (take (end + (5 + length bytes)) file) ≡ payloads_in (take end file) ++ bytes ∷ []
+pub one_more_read : (file bytes : List ℕ) (end : ℕ) → end ≤ length file → AreWholeRecords (take end file) → has_record (drop end file) ≡ true → bytes ≡ payload (drop end file) → payloads_in (take (end + (5 + length bytes)) file) ≡ payloads_in (take end file) ++ bytes ∷ []
 one_more_read file bytes end fits front has is =
     let rest = drop end file in
     let n = 5 + length bytes in

@@ -3,11 +3,11 @@ use Rattle.std.proofs.Common.{◌≡◌, ℕ, List, [], ◌∷◌, length, get_o
 use Rattle.std.specs.Prelude.{Some}
 use Rattle.cedar_journal.specs.Device.{Torn, Cut}
 use Rattle.cedar_journal.specs.Records.{framed}
-use Rattle.cedar_journal.specs.Files.{magic, recovered, IsNew}
+use Rattle.cedar_journal.specs.Files.{journal_magic, recovered, IsNewFile}
 use Rattle.cedar_journal.proofs.Crash.{torn_gate}
 use Rattle.cedar_journal.proofs.Headers.{cut_stands, empty_stands, byte_stands, closed_stands, gate_stands}
 
-pub cut_leaves : (file c : List ℕ) (n : ℕ) → IsNew file → Cut n file c → recovered c ≡ Some []
+pub cut_leaves : (file c : List ℕ) (n : ℕ) → IsNewFile file → Cut n file c → recovered c ≡ Some []
 cut_leaves file c n new cut = ap recovered (sym cut.front) ∙ cut_stands (length c) file new
 
 -- the first byte
@@ -24,5 +24,5 @@ torn_frame (gate ∷ rest) torn =
     ap (λ g. recovered (g ∷ rest)) shut ∙ closed_stands rest (omega (arith, torn.no_longer))
 
 -- the gate
-pub torn_gate_of_header : (c : List ℕ) → Torn 0 1 (0 ∷ framed magic) c → recovered c ≡ Some []
-torn_gate_of_header c torn = ap recovered (torn_gate [] 0 (omega arith) (framed magic) c torn) ∙ gate_stands (get_or c 0 0)
+pub torn_gate_of_header : (c : List ℕ) → Torn 0 1 (0 ∷ framed journal_magic) c → recovered c ≡ Some []
+torn_gate_of_header c torn = ap recovered (torn_gate [] 0 (omega arith) (framed journal_magic) c torn) ∙ gate_stands (get_or c 0 0)

@@ -4,8 +4,8 @@ use Rattle.std.proofs.Common.{◌≡◌, ◌≢◌, ◌⊎◌, inl, inr, ⊎_eli
 use Rattle.std.specs.List.{starts_with}
 use Rattle.std.specs.Cmp.Lexicographic.{pointwise, same_text}
 use Rattle.std.proofs.lemmas.Bool.{cases_eq, le-leb, leb-true, false≢true, and_parts, eq-eqb, ne_eqb, false_from_ne_true}
-use Rattle.cedar_journal.specs.Records.{payload_length, payload, behind, has_record, payloads_in, framed, EndsAt}
-use Rattle.cedar_journal.specs.Files.{magic, is_begun, behind_header, recovered, added, HasHeader, HasRecords, IsNew}
+use Rattle.cedar_journal.specs.Records.{payload_length, payload, behind_record, has_record, payloads_in, framed, EndsAt}
+use Rattle.cedar_journal.specs.Files.{journal_magic, is_begun, behind_header, recovered, added, HasHeader, HasRecords, IsNewFile}
 use Rattle.cedar_journal.specs.Journal.{IsBeforeOrAfter}
 use Rattle.cedar_journal.proofs.Reading.{closed, cut_lacks, nothing_there, payloads_first, payloads_none, record_is_whole}
 use Rattle.cedar_journal.proofs.Fronts.{MayHave, record_of, behind_closed, written_is_front, written_stands}
@@ -13,7 +13,7 @@ use Rattle.cedar_journal.proofs.Found.{lacks_short, length-payload}
 
 -- ---- by the payloads of all records, the header's too
 
-pub with_header : (file : List ℕ) (payloads : List (List ℕ)) → payloads_in file ≡ magic ∷ payloads → recovered file ≡ Some payloads
+pub with_header : (file : List ℕ) (payloads : List (List ℕ)) → payloads_in file ≡ journal_magic ∷ payloads → recovered file ≡ Some payloads
 unfolding recovered
 with_header file payloads is = ap (λ (l : List (List ℕ)). behind_header (is_begun file) l) is
 
@@ -21,7 +21,7 @@ pub without_record : (file : List ℕ) → is_begun file ≡ true → payloads_i
 unfolding recovered
 without_record file begun is = ap (λ (l : List (List ℕ)). behind_header (is_begun file) l) is ∙ ap (λ b. behind_header b []) begun
 
-pub another_name : (file first : List ℕ) (payloads : List (List ℕ)) → payloads_in file ≡ first ∷ payloads → pointwise nat_eq first magic ≡ false → recovered file ≡ None
+pub another_name : (file first : List ℕ) (payloads : List (List ℕ)) → payloads_in file ≡ first ∷ payloads → pointwise nat_eq first journal_magic ≡ false → recovered file ≡ None
 unfolding recovered
 another_name file first payloads is other = ap (λ (l : List (List ℕ)). behind_header (is_begun file) l) is ∙ ap (λ b. cond b (Some payloads) None) other
 
@@ -69,7 +69,7 @@ pub byte_begun : (gate : ℕ) → is_begun (gate ∷ []) ≡ true
 unfolding is_begun
 byte_begun gate = refl
 
-pub framed_begun : (gate : ℕ) → is_begun (gate ∷ framed magic) ≡ true
+pub framed_begun : (gate : ℕ) → is_begun (gate ∷ framed journal_magic) ≡ true
 unfolding is_begun
 framed_begun gate = refl
 
@@ -90,7 +90,7 @@ unfolding is_begun
 cut_begun zero file begun = refl
 cut_begun (suc n) [] begun = refl
 cut_begun (suc n) (x ∷ file) begun = elim (or_parts _ _ begun) [
-  | inl starts ↦ either _ _ (cut_starts n file (framed magic) starts)
+  | inl starts ↦ either _ _ (cut_starts n file (framed journal_magic) starts)
   | inr few ↦
       let parts = and_parts (x == 0) (nat_le (length (x ∷ file)) 14) few in
       let size = length-take n file in
@@ -99,7 +99,7 @@ cut_begun (suc n) (x ∷ file) begun = elim (or_parts _ _ begun) [
 ]
 
 -- what the code finds
-module _ (file rest : List ℕ) (gate : ℕ) (same : file ≡ gate ∷ rest) (starts : Bool) (value : starts ≡ starts_with nat_eq (framed magic) rest) where
+module _ (file rest : List ℕ) (gate : ℕ) (same : file ≡ gate ∷ rest) (starts : Bool) (value : starts ≡ starts_with nat_eq (framed journal_magic) rest) where
   pub starts_begun : starts ≡ true → starts ≡ is_begun file
   unfolding is_begun
   starts_begun is = is ∙ sym (ap is_begun same ∙ either _ _ (sym value ∙ is))
@@ -126,7 +126,7 @@ no_record file is = false_from_ne_true _ (λ has. nothing_first (sym (payloads_f
     nothing_first : {first : List ℕ} {payloads : List (List ℕ)} → first ∷ payloads ≡ [] → ⊥
     nothing_first same = absurd (omega (arith, ap length same))
 
-pub cut_stands : (n : ℕ) (file : List ℕ) → IsNew file → recovered (take n file) ≡ Some []
+pub cut_stands : (n : ℕ) (file : List ℕ) → IsNewFile file → recovered (take n file) ≡ Some []
 cut_stands n file new = without_record (take n file) (cut_begun n file new.begun) (payloads_none (take n file) (cut_lacks n file (no_record file new.no_record)))
 
 pub empty_stands : recovered [] ≡ Some []
@@ -138,33 +138,33 @@ byte_stands gate = without_record (gate ∷ []) (byte_begun gate) (payloads_none
 pub closed_stands : (rest : List ℕ) → length rest ≤ 13 → recovered (0 ∷ rest) ≡ Some []
 closed_stands rest few = without_record (0 ∷ rest) (closed_begun rest few) (payloads_none (0 ∷ rest) (closed 0 rest (omega arith)))
 
-magic_short : length magic < 4294967296
+magic_short : length journal_magic < 4294967296
 magic_short = omega arith
 
 -- the whole header, and the closed gate behind it
-pub header_is_front : (rest : List ℕ) → payloads_in (record_of magic ++ rest) ≡ payloads_in (record_of magic) ++ payloads_in rest
-header_is_front = written_is_front magic magic_short
+pub header_is_front : (rest : List ℕ) → payloads_in (record_of journal_magic ++ rest) ≡ payloads_in (record_of journal_magic) ++ payloads_in rest
+header_is_front = written_is_front journal_magic magic_short
 
-pub header_is_there : HasHeader (record_of magic)
-header_is_there = ([], written_stands magic magic_short)
+pub header_is_there : HasHeader (record_of journal_magic)
+header_is_there = ([], written_stands journal_magic magic_short)
 
-pub header_stands : recovered (1 ∷ framed magic) ≡ Some []
-header_stands = with_header (1 ∷ framed magic) [] (behind_closed (record_of magic) 0 [] header_is_front (omega arith) ∙ written_stands magic magic_short)
+pub header_stands : recovered (1 ∷ framed journal_magic) ≡ Some []
+header_stands = with_header (1 ∷ framed journal_magic) [] (behind_closed (record_of journal_magic) 0 [] header_is_front (omega arith) ∙ written_stands journal_magic magic_short)
 
-pub gate_stands : (gate : ℕ) → recovered (gate ∷ framed magic) ≡ Some []
+pub gate_stands : (gate : ℕ) → recovered (gate ∷ framed journal_magic) ≡ Some []
 gate_stands gate = elim (cases_eq gate 1) [
-  | inl is_open ↦ ap (λ g. recovered (g ∷ framed magic)) is_open ∙ header_stands
-  | inr shut ↦ without_record (gate ∷ framed magic) (framed_begun gate) (payloads_none (gate ∷ framed magic) (closed gate (framed magic) shut))
+  | inl is_open ↦ ap (λ g. recovered (g ∷ framed journal_magic)) is_open ∙ header_stands
+  | inr shut ↦ without_record (gate ∷ framed journal_magic) (framed_begun gate) (payloads_none (gate ∷ framed journal_magic) (closed gate (framed journal_magic) shut))
 ]
 
 -- ---- the extent of a file
 
-pub has_records : (file : List ℕ) (end : ℕ) → EndsAt file end → has_record file ≡ true → pointwise nat_eq (payload file) magic ≡ true → HasRecords file end
-unfolding behind
+pub has_records : (file : List ℕ) (end : ℕ) → EndsAt file end → has_record file ≡ true → pointwise nat_eq (payload file) journal_magic ≡ true → HasRecords file end
+unfolding behind_record
 has_records file end ends has named =
-    let is : payload file ≡ magic = same_text (payload file) magic (sym named) in
+    let is : payload file ≡ journal_magic = same_text (payload file) journal_magic (sym named) in
     let size : payload_length file ≡ 8 = sym (length-payload file has) ∙ ap length is in
-    let header : payloads_in file ≡ magic ∷ payloads_in (drop 13 file) =
+    let header : payloads_in file ≡ journal_magic ∷ payloads_in (drop 13 file) =
     payloads_first file has ∙ (λ i. is i ∷ payloads_in (drop (5 + size i) file)) in
     record {
       ends = ends;
@@ -176,7 +176,7 @@ has_records file end ends has named =
 pub header_of : (file : List ℕ) (end : ℕ) → HasRecords file end → HasHeader file
 header_of file end r = (payloads_in (drop 13 file), r.header)
 
-pub is_new : (file : List ℕ) → has_record file ≡ false → is_begun file ≡ true → IsNew file
+pub is_new : (file : List ℕ) → has_record file ≡ false → is_begun file ≡ true → IsNewFile file
 is_new file lacks begun =
     let none = payloads_none file lacks in
     record { begun = begun; no_record = none; stands = without_record file begun none }

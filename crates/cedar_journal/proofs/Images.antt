@@ -3,10 +3,10 @@ use Rattle.std.specs.Prelude.{Some}
 use Rattle.std.proofs.Common.{◌≡◌, ◌⊎◌, inl, inr, ⊎_elim, ℕ, ◌+◌, ◌-◌, ◌<◌, ◌≤◌, List, [], ◌∷◌, ◌++◌, length, set, refl, sym, ◌∙◌, ap, subst, arith, append_assoc, length-append}
 use Rattle.std.proofs.lemmas.List.{set-append_right, take_at}
 use Rattle.cedar_journal.specs.Device.{Only}
-use Rattle.cedar_journal.specs.Files.{magic, recovered}
+use Rattle.cedar_journal.specs.Files.{journal_magic, recovered}
 use Rattle.cedar_journal.specs.Images.{header_record, image_of, records_of}
 use Rattle.cedar_journal.specs.Journal.{IsSettled, StandsForEither}
-use Rattle.cedar_journal.specs.Records.{payloads_in, framed, IsFront}
+use Rattle.cedar_journal.specs.Records.{payloads_in, framed, AreWholeRecords}
 use Rattle.cedar_journal.proofs.Crash.{settled_at}
 use Rattle.cedar_journal.proofs.Fronts.{record_of, behind_closed, front_and, front_of_none, written_is_front, written_stands}
 use Rattle.cedar_journal.proofs.Headers.{header_is_front, with_header}
@@ -14,14 +14,14 @@ use Rattle.cedar_journal.proofs.Reading.{nothing_there, payloads_none}
 
 -- ---- what it stands for
 
-module _ (records : List ℕ) (whole : IsFront records) where
-  pub front_whole : IsFront (header_record ++ records)
+module _ (records : List ℕ) (whole : AreWholeRecords records) where
+  pub front_whole : AreWholeRecords (header_record ++ records)
   front_whole = front_and header_record records header_is_front whole
 
-  pub front_payloads : payloads_in (header_record ++ records) ≡ magic ∷ payloads_in records
-  front_payloads = header_is_front records ∙ ap (λ (l : List (List ℕ)). l ++ payloads_in records) (written_stands magic (omega arith))
+  pub front_payloads : payloads_in (header_record ++ records) ≡ journal_magic ∷ payloads_in records
+  front_payloads = header_is_front records ∙ ap (λ (l : List (List ℕ)). l ++ payloads_in records) (written_stands journal_magic (omega arith))
 
-  pub image_payloads : payloads_in (image_of records) ≡ magic ∷ payloads_in records
+  pub image_payloads : payloads_in (image_of records) ≡ journal_magic ∷ payloads_in records
   image_payloads = behind_closed (header_record ++ records) 0 [] front_whole (omega arith) ∙ front_payloads
 
   pub image_stands : recovered (image_of records) ≡ Some (payloads_in records)
@@ -36,7 +36,7 @@ pub same_records : (records : List ℕ) → records_of (image_of records) ≡ re
 same_records records = take_at records (0 ∷ []) (length (image_of records) - 14) (omega (arith, length-image records))
 
 -- a record more
-module _ (bytes bytes_of_frame next payload : List ℕ) (shape : bytes ≡ image_of (records_of bytes)) (whole : IsFront (records_of bytes)) (short : length payload < 4294967296) (frame : bytes_of_frame ≡ framed payload) (is : next ≡ set (bytes ++ bytes_of_frame) (length bytes - 1) 1) where
+module _ (bytes bytes_of_frame next payload : List ℕ) (shape : bytes ≡ image_of (records_of bytes)) (whole : AreWholeRecords (records_of bytes)) (short : length payload < 4294967296) (frame : bytes_of_frame ≡ framed payload) (is : next ≡ set (bytes ++ bytes_of_frame) (length bytes - 1) 1) where
   abbrev records : List ℕ
   records = records_of bytes
 
@@ -62,8 +62,8 @@ module _ (bytes bytes_of_frame next payload : List ℕ) (shape : bytes ≡ image
   pub next_shape : next ≡ image_of (records_of next)
   next_shape = longer ∙ ap image_of (sym next_records)
 
-  pub next_whole : IsFront (records_of next)
-  next_whole = subst IsFront (sym next_records) (front_and records (record_of payload) whole (written_is_front payload short))
+  pub next_whole : AreWholeRecords (records_of next)
+  next_whole = subst AreWholeRecords (sym next_records) (front_and records (record_of payload) whole (written_is_front payload short))
 
   pub next_payloads : payloads_in (records_of next) ≡ payloads_in (records_of bytes) ++ payload ∷ []
   next_payloads = ap payloads_in next_records ∙ whole (record_of payload) ∙ ap (λ (l : List (List ℕ)). payloads_in (records_of bytes) ++ l) (written_stands payload short)
@@ -79,21 +79,21 @@ module _ (bytes : List ℕ) (is : bytes ≡ image_of []) where
   pub new_shape : bytes ≡ image_of (records_of bytes)
   new_shape = is ∙ ap image_of (sym none)
 
-  pub new_whole : IsFront (records_of bytes)
-  new_whole = subst IsFront (sym none) front_of_none
+  pub new_whole : AreWholeRecords (records_of bytes)
+  new_whole = subst AreWholeRecords (sym none) front_of_none
 
   pub new_payloads : payloads_in (records_of bytes) ≡ []
   new_payloads = ap payloads_in none ∙ payloads_none [] nothing_there
 
 -- ---- put in the place of a file
 
-pub either_stands : (file bytes c : List ℕ) (may_leave : List ℕ → Type 0) → Only file may_leave → bytes ≡ image_of (records_of bytes) → IsFront (records_of bytes) → may_leave c ⊎ (c ≡ bytes)
+pub either_stands : (file bytes c : List ℕ) (may_leave : List ℕ → Type 0) → Only file may_leave → bytes ≡ image_of (records_of bytes) → AreWholeRecords (records_of bytes) → may_leave c ⊎ (c ≡ bytes)
     → StandsForEither (recovered file) (payloads_in (records_of bytes)) c
 either_stands file bytes c may_leave only shape whole = ⊎_elim
     (λ left. inl (ap recovered (only c left)))
     (λ now. inr (ap recovered (now ∙ shape) ∙ image_stands (records_of bytes) whole))
 
-module _ {D : Type 0} (seen : D → List ℕ) (may_leave : D → List ℕ → Type 0) (device : D) (bytes : List ℕ) (shape : bytes ≡ image_of (records_of bytes)) (whole : IsFront (records_of bytes)) (is : seen device ≡ bytes) where
+module _ {D : Type 0} (seen : D → List ℕ) (may_leave : D → List ℕ → Type 0) (device : D) (bytes : List ℕ) (shape : bytes ≡ image_of (records_of bytes)) (whole : AreWholeRecords (records_of bytes)) (is : seen device ≡ bytes) where
   pub replaced_stands : recovered (seen device) ≡ Some (payloads_in (records_of bytes))
   replaced_stands = ap recovered (is ∙ shape) ∙ image_stands (records_of bytes) whole
 

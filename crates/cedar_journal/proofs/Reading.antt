@@ -3,7 +3,7 @@ use Rattle.std.specs.Prelude.{◌&&◌}
 use Rattle.std.proofs.Common.{◌≡◌, ◌≢◌, inl, inr, ℕ, zero, suc, ◌+◌, ◌-◌, ◌≤◌, ◌<◌, Bool, true, false, List, [], ◌∷◌, ◌++◌, length, take, drop, get_or, refl, sym, ◌∙◌, ap, arith, length-drop, length-append, take-append-drop}
 use Rattle.std.proofs.lemmas.Bool.{cases_Bool, cond-true, cond-false, le-leb, leb-true, false≢true, and_parts, eqb-true, eq-eqb, false_from_ne_true}
 use Rattle.std.proofs.lemmas.List.{take-append-le, drop-append-le, get_or_append_left}
-use Rattle.cedar_journal.specs.Records.{payload_length, payload, behind, has_record, first_payloads, payloads_in}
+use Rattle.cedar_journal.specs.Records.{payload_length, payload, behind_record, has_record, first_payloads, payloads_in}
 
 pub record_is_whole : (file : List ℕ) → has_record file ≡ true → 5 + payload_length file ≤ length file
 unfolding has_record
@@ -26,13 +26,13 @@ closed gate rest shut = false_from_ne_true _ (λ has. shut (gate_is_open (gate �
 pub nothing_there : has_record [] ≡ false
 nothing_there = false_from_ne_true _ (λ has. let long = record_is_whole [] has in absurd (omega (arith, long)))
 
-pub length-behind : (file : List ℕ) → length (behind file) ≡ length file - (5 + payload_length file)
-unfolding behind
+pub length-behind : (file : List ℕ) → length (behind_record file) ≡ length file - (5 + payload_length file)
+unfolding behind_record
 length-behind file = length-drop (5 + payload_length file) file
 
 -- ---- reads take no more turns than there are bytes
 
-turn_taken : (n : ℕ) (file : List ℕ) → has_record file ≡ true → first_payloads (suc n) file ≡ payload file ∷ first_payloads n (behind file)
+turn_taken : (n : ℕ) (file : List ℕ) → has_record file ≡ true → first_payloads (suc n) file ≡ payload file ∷ first_payloads n (behind_record file)
 unfolding first_payloads
 turn_taken n file has = cond-true (has_record file) _ _ has
 
@@ -49,18 +49,18 @@ same_payloads (suc n) (suc m) (x ∷ file) low high = elim (cases_Bool (has_reco
   | inl has ↦
       let size = length-behind (x ∷ file) in
       turn_taken n (x ∷ file) has
-      ∙ ap (λ (l : List (List ℕ)). payload (x ∷ file) ∷ l) (same_payloads n m (behind (x ∷ file)) (omega (arith, size, low)) (omega (arith, size, high)))
+      ∙ ap (λ (l : List (List ℕ)). payload (x ∷ file) ∷ l) (same_payloads n m (behind_record (x ∷ file)) (omega (arith, size, low)) (omega (arith, size, high)))
       ∙ sym (turn_taken m (x ∷ file) has)
   | inr lacks ↦ turn_ends (suc n) (x ∷ file) lacks ∙ sym (turn_ends (suc m) (x ∷ file) lacks)
 ]
 
-pub payloads_first : (file : List ℕ) → has_record file ≡ true → payloads_in file ≡ payload file ∷ payloads_in (behind file)
+pub payloads_first : (file : List ℕ) → has_record file ≡ true → payloads_in file ≡ payload file ∷ payloads_in (behind_record file)
 unfolding payloads_in
 payloads_first [] has = absurd (false≢true (sym nothing_there ∙ has))
 payloads_first (x ∷ file) has =
     let size = length-behind (x ∷ file) in
     turn_taken (length file) (x ∷ file) has
-    ∙ ap (λ (l : List (List ℕ)). payload (x ∷ file) ∷ l) (same_payloads (length file) (length (behind (x ∷ file))) (behind (x ∷ file)) (omega (arith, size)) (omega arith))
+    ∙ ap (λ (l : List (List ℕ)). payload (x ∷ file) ∷ l) (same_payloads (length file) (length (behind_record (x ∷ file))) (behind_record (x ∷ file)) (omega (arith, size)) (omega arith))
 
 pub payloads_none : (file : List ℕ) → has_record file ≡ false → payloads_in file ≡ []
 unfolding payloads_in
@@ -88,8 +88,8 @@ module _ (front rest : List ℕ) (has : has_record front ≡ true) where
       ∙ ap (λ (l : List ℕ). take (payload_length front) l) (drop-append-le 5 front rest (omega (arith, whole)))
       ∙ take-append-le (payload_length front) (drop 5 front) rest (omega (arith, whole, length-drop 5 front))
 
-  pub behind_and_rest : behind (front ++ rest) ≡ behind front ++ rest
-  unfolding behind
+  pub behind_and_rest : behind_record (front ++ rest) ≡ behind_record front ++ rest
+  unfolding behind_record
   behind_and_rest = ap (λ n. drop (5 + n) (front ++ rest)) same_length ∙ drop-append-le (5 + payload_length front) front rest whole
 
 -- nor does a cut make a record

@@ -1,14 +1,14 @@
 -- What a journal's file is between two calls, and what a crash makes of it.
 use Rattle.std.specs.Prelude.{◌≡◌, ◌⊎◌, ℕ, ◌+◌, ◌<◌, List, ◌∷◌, ◌++◌, length, take, drop, Option, Some}
 use Rattle.cedar_journal.specs.Device.{Only}
-use Rattle.cedar_journal.specs.Records.{framed, IsFront}
+use Rattle.cedar_journal.specs.Records.{AreWholeRecords, framed}
 use Rattle.cedar_journal.specs.Files.{recovered, added, HasHeader}
 
 -- The file is whole records, of which the first is the header, a closed gate and whatever is behind that, all of it on the disk. The records
 -- end here.
 pub record IsSettled {D : Type 0} (seen : D → List ℕ) (may_leave : D → List ℕ → Type 0) (device : D) (end : ℕ) : Type 0 where
   pub split : seen device ≡ take end (seen device) ++ 0 ∷ drop (end + 1) (seen device)
-  pub whole : IsFront (take end (seen device))
+  pub whole : AreWholeRecords (take end (seen device))
   pub header : HasHeader (seen device)
   pub durable : Only (seen device) (may_leave device)
 

@@ -15,26 +15,26 @@ unfoldable pub payload : List ℕ → List ℕ
 payload bytes = take (payload_length bytes) (drop 5 bytes)
 
 -- what stands behind the first record
-unfoldable pub behind : List ℕ → List ℕ
-behind bytes = drop (5 + payload_length bytes) bytes
+unfoldable pub behind_record : List ℕ → List ℕ
+behind_record bytes = drop (5 + payload_length bytes) bytes
 
 -- the payloads of n records at most, up to the first that doesn't count
 unfoldable pub first_payloads : ℕ → List ℕ → List (List ℕ)
 first_payloads zero bytes = []
-first_payloads (suc n) bytes = cond (has_record bytes) (payload bytes ∷ first_payloads n (behind bytes)) []
+first_payloads (suc n) bytes = cond (has_record bytes) (payload bytes ∷ first_payloads n (behind_record bytes)) []
 
 -- the payloads of the records up to the first that doesn't count: there are no more of them than bytes
 unfoldable pub payloads_in : List ℕ → List (List ℕ)
 payloads_in bytes = first_payloads (length bytes) bytes
 
 -- whole records and no more: what follows them is read as if it stood alone
-abbrev pub IsFront : List ℕ → Type 0
-IsFront front = (rest : List ℕ) → payloads_in (front ++ rest) ≡ payloads_in front ++ payloads_in rest
+abbrev pub AreWholeRecords : List ℕ → Type 0
+AreWholeRecords front = (rest : List ℕ) → payloads_in (front ++ rest) ≡ payloads_in front ++ payloads_in rest
 
 -- the whole records, up to the first that doesn't count, end here
 pub record EndsAt (bytes : List ℕ) (end : ℕ) : Type 0 where
   pub within : end ≤ length bytes
-  pub whole : IsFront (take end bytes)
+  pub whole : AreWholeRecords (take end bytes)
   pub no_more : has_record (drop end bytes) ≡ false
 
 -- a length in four bytes, the lowest first

@@ -1,10 +1,10 @@
 //! A journal's file made in memory, to be put in the place of another one at one stroke.
 
 ghost use Rattle.std.specs.Prelude.{◌+◌, ◌++◌, ◌≡◌, ◌∷◌, [], IfOk, length, OnErr, OnOk};
-ghost use Rattle.cedar_journal.specs.Fields.{image_of, IsFront, records_of};
+ghost use Rattle.cedar_journal.specs.Fields.{AreWholeRecords, image_of, records_of};
 
 use crate::Frame;
-use crate::extent::HEADER_FRAME;
+use crate::records::HEADER_FRAME;
 use std::alloc::{AllocError, Allocator};
 
 /// The bytes of a journal's file that is at rest: the header, whole records, and a closed gate behind them.
@@ -12,7 +12,7 @@ use std::alloc::{AllocError, Allocator};
 pub struct Image<A: Allocator> {
     bytes: Vec<u8, A>,
     ghost shape: { bytes.items ≡ image_of (records_of bytes.items) },
-    ghost whole: { IsFront (records_of bytes.items) },
+    ghost whole: { AreWholeRecords (records_of bytes.items) },
 }
 
 impl<A: Allocator> Image<A> {

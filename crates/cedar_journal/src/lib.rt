@@ -3,7 +3,6 @@
 #![tactic(auto)]
 
 mod device;
-mod extent;
 mod frame;
 mod image;
 mod journal;
@@ -13,10 +12,9 @@ mod repair;
 mod replace;
 
 pub use device::{Device, DeviceError};
-pub use extent::{Extent, ForeignFile, HEADER_LEN, MAGIC, extent_of};
 pub use frame::{Frame, FrameError, MAX_PAYLOAD};
 pub use image::Image;
 pub use journal::{Journal, JournalError, MAX_END};
 pub use memory::Memory;
-pub use records::first_payload;
+pub use records::{Extent, ForeignFile, HEADER_LEN, MAGIC, extent_of, first_payload};
 pub use replace::{ReplaceDevice, ReplaceError};

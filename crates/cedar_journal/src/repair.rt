@@ -1,9 +1,9 @@
 //! A file that a crash may have left is made ready for the next record. Each of these calls may itself be cut off by a crash.
 
 ghost use Rattle.std.specs.Prelude.{◌<◌, ◌∷◌, ◌≡◌, ◌≤◌, [], IfOk, IsErrOf, OnOk, Some};
-ghost use Rattle.cedar_journal.specs.Words.{HasExtent, HasRecords, IsNew, IsSettled, LeavesOnly, Only, recovered};
+ghost use Rattle.cedar_journal.specs.Words.{HasExtent, HasRecords, IsNewFile, IsSettled, LeavesOnly, Only, recovered};
 
-use crate::extent::{HEADER_FRAME, HEADER_LEN};
+use crate::records::{HEADER_FRAME, HEADER_LEN};
 use crate::{Device, DeviceError, Extent};
 
 /// Returns where the records end, behind which a closed gate stands now.
@@ -50,7 +50,7 @@ fn close_behind<D: Device>(device: &mut D, end: usize) -> Result<(), DeviceError
 /// Leaves nothing but a closed gate of a file that has no whole header.
 fn clear<D: Device>(device: &mut D) -> Result<(), DeviceError>
     requires restarted { Only (D.seen device.old) (D.may_leave device.old) }
-    requires begun { IsNew (D.seen device.old) }
+    requires begun { IsNewFile (D.seen device.old) }
     ensures cleared { OnOk result (D.seen device.new ≡ 0 ∷ []) }
     ensures durable { OnOk result (Only (D.seen device.new) (D.may_leave device.new)) }
     ensures any_moment { LeavesOnly D.moment D.left_since device.old device.new (λ c. recovered c ≡ Some []) }

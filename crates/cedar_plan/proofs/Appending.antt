@@ -4,7 +4,7 @@ use Rattle.std.proofs.lemmas.List.{append-nil}
 use Rattle.cedar_journal.specs.Device.{Torn}
 use Rattle.cedar_journal.specs.Files.{HasHeader, added, recovered}
 use Rattle.cedar_journal.specs.Journal.{IsBeforeOrAfter, IsSettled, IsStaged}
-use Rattle.cedar_journal.specs.Records.{IsFront, framed, length_bytes, payloads_in}
+use Rattle.cedar_journal.specs.Records.{AreWholeRecords, framed, length_bytes, payloads_in}
 use Rattle.cedar_journal.proofs.Crash.{front_ends, gate_crash, longer_ends, longer_stands, longer_whole, opened_file, settled_at, stage_crash, staged_at, staged_file, stands_for}
 use Rattle.cedar_journal.proofs.Headers.{either_stands, one_more_stands, same_stands}
 use Rattle.cedar_journal.proofs.Reading.{closed, payloads_none}
@@ -14,7 +14,7 @@ use Rattle.cedar_plan.specs.Works.{append_works}
 use Rattle.cedar_plan.proofs.Working.{Has, Keep, all_have, all_leave}
 
 -- a gate that isn't open ends the records
-pub behind_shut : (front : List ℕ) (gate : ℕ) (rest : List ℕ) → IsFront front → gate ≢ 1 → payloads_in (front ++ gate ∷ rest) ≡ payloads_in front
+pub behind_shut : (front : List ℕ) (gate : ℕ) (rest : List ℕ) → AreWholeRecords front → gate ≢ 1 → payloads_in (front ++ gate ∷ rest) ≡ payloads_in front
 behind_shut front gate rest is_front shut =
     is_front (gate ∷ rest) ∙ ap (λ (l : List (List ℕ)). payloads_in front ++ l) (payloads_none (gate ∷ rest) (closed gate rest shut)) ∙ append-nil (payloads_in front)
 

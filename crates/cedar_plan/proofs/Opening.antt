@@ -1,10 +1,10 @@
 -- A file is opened by its plan.
 use Rattle.std.specs.Prelude.{Some}
 use Rattle.std.proofs.Common.{◌≡◌, ℕ, ◌+◌, ◌≤◌, List, [], ◌∷◌, ◌++◌, length, take, drop, refl, sym, ◌∙◌, ap, arith}
-use Rattle.cedar_journal.specs.declared.extent.Extent.{Extent}
-use Rattle.cedar_journal.specs.declared.extent.Extent.TheVariants.{New, Until}
+use Rattle.cedar_journal.specs.declared.records.Extent.{Extent}
+use Rattle.cedar_journal.specs.declared.records.Extent.TheVariants.{New, Until}
 use Rattle.cedar_journal.specs.Device.{Cut}
-use Rattle.cedar_journal.specs.Files.{HasExtent, HasRecords, IsNew, magic, recovered}
+use Rattle.cedar_journal.specs.Files.{HasExtent, HasRecords, IsNewFile, journal_magic, recovered}
 use Rattle.cedar_journal.specs.Journal.{IsSettled}
 use Rattle.cedar_journal.specs.Records.{framed, length_bytes, payloads_in}
 use Rattle.cedar_journal.proofs.Crash.{cut_keeps, file_size, settled_at, torn_end, written_end}
@@ -60,7 +60,7 @@ module _ (file : List ℕ) (end : ℕ) (records : HasRecords file end) where
 
 -- ---- a new file
 
-module _ (file : List ℕ) (new : IsNew file) where
+module _ (file : List ℕ) (new : IsNewFile file) where
   abbrev Empty : List ℕ → Type 0
   Empty c = recovered c ≡ recovered file
 
@@ -84,17 +84,17 @@ module _ (file : List ℕ) (new : IsNew file) where
             is_empty (0 ∷ []) (byte_stands 0),
             one,
             λ c torn. is_empty c (torn_frame c torn),
-            (is_empty (0 ∷ framed magic) (gate_stands 0), some, λ c torn. is_empty c (torn_gate_of_header c torn), is_empty (1 ∷ framed magic) header_stands),
+            (is_empty (0 ∷ framed journal_magic) (gate_stands 0), some, λ c torn. is_empty c (torn_gate_of_header c torn), is_empty (1 ∷ framed journal_magic) header_stands),
           ),
         ),
       )
 
-  pub new_same : recovered (1 ∷ framed magic) ≡ recovered file
-  new_same = is_empty (1 ∷ framed magic) header_stands
+  pub new_same : recovered (1 ∷ framed journal_magic) ≡ recovered file
+  new_same = is_empty (1 ∷ framed journal_magic) header_stands
 
-  pub new_settled : (calls : List Call) → Has calls (1 ∷ framed magic) → IsSettled seen_after MayLeave calls 13
+  pub new_settled : (calls : List Call) → Has calls (1 ∷ framed journal_magic) → IsSettled seen_after MayLeave calls 13
   new_settled calls has =
-      settled_at seen_after MayLeave calls 13 (1 ∷ length_bytes (length magic) ++ magic) [] (omega arith) header_is_front header_is_there has.seen
+      settled_at seen_after MayLeave calls 13 (1 ∷ length_bytes (length journal_magic) ++ journal_magic) [] (omega arith) header_is_front header_is_there has.seen
       (λ c left. has.only c left ∙ sym has.seen)
 
 pub opening_is_safe : (file : List ℕ) (extent : Extent) → HasExtent file extent → IsOpened file extent

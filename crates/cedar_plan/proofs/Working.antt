@@ -7,8 +7,8 @@ use Rattle.cedar_journal.proofs.Moments as moments
 use Rattle.cedar_disk.specs.Calls.{Call, LeftSince, MayLeave, NextLeft, OnDisk, all_within, extended, is_usable_after, is_within, opened, overlaid, seen_after, shortened, synced}
 use Rattle.cedar_disk.specs.Laws.{only_now}
 use Rattle.cedar_disk.proofs.Steps.{cut_follows, extend_follows, leaves, sync_keeps}
-use Rattle.cedar_plan.specs.Safety.{Leaves}
-use Rattle.cedar_plan.specs.Works.{AreCarriedOut, FailsIn, Work, all_done, cut_to, done, write_to}
+use Rattle.cedar_plan.specs.Safety.{CrashLeaves}
+use Rattle.cedar_plan.specs.Works.{AreCarriedOut, FailsIn, Work, all_done, cut_to, after_work, write_to}
 
 pub both : (a b : Bool) → a ≡ true → b ≡ true → (a && b) ≡ true
 both a b x y = ap (λ t. t && b) x ∙ y
@@ -28,7 +28,7 @@ synced_only calls usable c left =
 
 -- one call more, before and after which a crash leaves what has P
 leaves_one : (call : Call) (old : List Call) (P : List ℕ → Type 0) → ((c : List ℕ) → MayLeave old c → P c) → ((c : List ℕ) → MayLeave (call ∷ old) c → P c)
-    → Leaves old (call ∷ old) P
+    → CrashLeaves old (call ∷ old) P
 leaves_one call old P here there =
     moments.weakens length LeftSince old (call ∷ old) (λ c. MayLeave old c ⊎ P c) P (λ c. ⊎_elim (here c) (λ (p : P c). p))
     (leaves call old (call ∷ old) P refl (λ c now. inr (there c now)))
@@ -77,7 +77,7 @@ module _ (calls : List Call) (file : List ℕ) (has : Has calls file) where
   usable_on : IsTrue (is_usable_after calls && true)
   usable_on = both _ _ has.usable refl
 
-  pub work_done : (work : Work) → Fits work file → Has (done work calls) (made work file)
+  pub work_done : (work : Work) → Fits work file → Has (after_work work calls) (made work file)
   work_done (cut_to n) fits =
       let old = shortened n true ∷ calls in
       let seen : seen_after (synced true ∷ old) ≡ take n file = ap (take n) has.seen in
@@ -107,10 +107,10 @@ module _ (calls : List Call) (file : List ℕ) (has : Has calls file) where
           let from = cut_follows calls (shortened n ok ∷ calls) has.within n ok refl c left in
           spoiled c (subst (λ d. Cut n d c) (has.only from.0 from.1) from.2)
 
-      cut_leaves : (ok : Bool) → Leaves calls (shortened n ok ∷ calls) P
+      cut_leaves : (ok : Bool) → CrashLeaves calls (shortened n ok ∷ calls) P
       cut_leaves ok = leaves_one (shortened n ok) calls P before (cut_short ok)
 
-      cut_synced : (ok : Bool) → Leaves calls (synced ok ∷ shortened n true ∷ calls) P
+      cut_synced : (ok : Bool) → CrashLeaves calls (synced ok ∷ shortened n true ∷ calls) P
       cut_synced ok =
           let old = shortened n true ∷ calls in
           moments.joins length LeftSince calls old (synced ok ∷ old) P (cut_leaves true)
@@ -122,23 +122,23 @@ module _ (calls : List Call) (file : List ℕ) (has : Has calls file) where
           let from = extend_follows calls (extended at bytes ok ∷ calls) has.within at bytes ok refl c left in
           spoiled c (subst (λ d. Torn at (length bytes) d c) (has.only from.0 from.1) from.2)
 
-      write_leaves : (ok : Bool) → Leaves calls (extended at bytes ok ∷ calls) P
+      write_leaves : (ok : Bool) → CrashLeaves calls (extended at bytes ok ∷ calls) P
       write_leaves ok = leaves_one (extended at bytes ok) calls P before (torn ok)
 
-      write_synced : Leaves calls (synced true ∷ extended at bytes true ∷ calls) P
+      write_synced : CrashLeaves calls (synced true ∷ extended at bytes true ∷ calls) P
       write_synced =
           let old = extended at bytes true ∷ calls in
           moments.joins length LeftSince calls old (synced true ∷ old) P (write_leaves true)
           (leaves_one (synced true) old P (torn true) (λ c left. torn true c (sync_keeps old (synced true ∷ old) (extended_within at bytes true fits) true usable_on refl c left)))
 
-    pub work_leaves : (work : Work) → Fits work file → ((c : List ℕ) → Spoiled work file c → P c) → Leaves calls (done work calls) P
+    pub work_leaves : (work : Work) → Fits work file → ((c : List ℕ) → Spoiled work file c → P c) → CrashLeaves calls (after_work work calls) P
     work_leaves (cut_to n) fits spoiled = cut_synced n fits spoiled true
     work_leaves (write_to at bytes) fits spoiled = write_synced at bytes fits spoiled
 
-    pub work_fails : (work : Work) (after : List Call) → Fits work file → ((c : List ℕ) → Spoiled work file c → P c) → FailsIn work calls after → Leaves calls after P
-    work_fails (cut_to n) after fits spoiled (inl cut) = subst (λ (l : List Call). Leaves calls l P) (sym cut) (cut_leaves n fits spoiled false)
-    work_fails (cut_to n) after fits spoiled (inr sync) = subst (λ (l : List Call). Leaves calls l P) (sym sync) (cut_synced n fits spoiled false)
-    work_fails (write_to at bytes) after fits spoiled write = subst (λ (l : List Call). Leaves calls l P) (sym write) (write_leaves at bytes fits spoiled false)
+    pub work_fails : (work : Work) (after : List Call) → Fits work file → ((c : List ℕ) → Spoiled work file c → P c) → FailsIn work calls after → CrashLeaves calls after P
+    work_fails (cut_to n) after fits spoiled (inl cut) = subst (λ (l : List Call). CrashLeaves calls l P) (sym cut) (cut_leaves n fits spoiled false)
+    work_fails (cut_to n) after fits spoiled (inr sync) = subst (λ (l : List Call). CrashLeaves calls l P) (sym sync) (cut_synced n fits spoiled false)
+    work_fails (write_to at bytes) after fits spoiled write = subst (λ (l : List Call). CrashLeaves calls l P) (sym write) (write_leaves at bytes fits spoiled false)
 
 -- each of these works begins within the file as it is then, and a crash before, during and behind it leaves what has P
 abbrev pub Keep : List Work → List ℕ → (List ℕ → Type 0) → Type 0
@@ -147,13 +147,13 @@ Keep (work ∷ works) file P = P file × Fits work file × ((c : List ℕ) → S
 
 pub all_have : (works : List Work) (calls : List Call) (file : List ℕ) (P : List ℕ → Type 0) → Has calls file → Keep works file P → Has (all_done works calls) (all_made works file)
 all_have [] calls file P has keep = has
-all_have (work ∷ works) calls file P has keep = all_have works (done work calls) (made work file) P (work_done calls file has work keep.1) keep.3
+all_have (work ∷ works) calls file P has keep = all_have works (after_work work calls) (made work file) P (work_done calls file has work keep.1) keep.3
 
-pub all_leave : (works : List Work) (calls after : List Call) (file : List ℕ) (P : List ℕ → Type 0) → Has calls file → Keep works file P → AreCarriedOut works calls after → Leaves calls after P
+pub all_leave : (works : List Work) (calls after : List Call) (file : List ℕ) (P : List ℕ → Type 0) → Has calls file → Keep works file P → AreCarriedOut works calls after → CrashLeaves calls after P
 all_leave [] calls after file P has keep is =
-    subst (λ (l : List Call). Leaves calls l P) (sym is)
+    subst (λ (l : List Call). CrashLeaves calls l P) (sym is)
     (moments.started length LeftSince calls P (λ c left. subst P (sym (has.only c (only_now calls c left))) keep))
 all_leave (work ∷ works) calls after file P has keep (inl fails) = work_fails calls file has P keep.0 work after keep.1 keep.2 fails
 all_leave (work ∷ works) calls after file P has keep (inr more) =
-    moments.joins length LeftSince calls (done work calls) after P (work_leaves calls file has P keep.0 work keep.1 keep.2)
-    (all_leave works (done work calls) after (made work file) P (work_done calls file has work keep.1) keep.3 more)
+    moments.joins length LeftSince calls (after_work work calls) after P (work_leaves calls file has P keep.0 work keep.1 keep.2)
+    (all_leave works (after_work work calls) after (made work file) P (work_done calls file has work keep.1) keep.3 more)

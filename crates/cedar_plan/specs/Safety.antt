@@ -1,6 +1,6 @@
 -- What becomes of a file whose plans are carried out.
 use Rattle.std.specs.Prelude.{◌≡◌, ℕ, ◌+◌, ◌<◌, List, [], ◌∷◌, length, IsTrue}
-use Rattle.cedar_journal.specs.declared.extent.Extent.{Extent}
+use Rattle.cedar_journal.specs.declared.records.Extent.{Extent}
 use Rattle.cedar_journal.specs.Device.{LeavesOnly}
 use Rattle.cedar_journal.specs.Files.{HasExtent, added, recovered}
 use Rattle.cedar_journal.specs.Journal.{IsBeforeOrAfter, IsSettled}
@@ -15,15 +15,15 @@ pub record IsAtRest (calls : List Call) (end : ℕ) : Type 0 where
   pub usable : IsTrue (is_usable_after calls)
 
 -- a crash at any moment between these calls leaves a file that has P
-abbrev pub Leaves : List Call → List Call → (List ℕ → Type 0) → Type 0
-Leaves = LeavesOnly length LeftSince
+abbrev pub CrashLeaves : List Call → List Call → (List ℕ → Type 0) → Type 0
+CrashLeaves = LeavesOnly length LeftSince
 
 -- a record of this payload is appended to a file at rest
 pub record IsAppended (calls : List Call) (end : ℕ) (payload : List ℕ) : Type 0 where
   pub rest : IsAtRest (all_done (append_works end payload) calls) (end + 5 + length payload)
   pub more : recovered (seen_after (all_done (append_works end payload) calls)) ≡ added payload (recovered (seen_after calls))
   pub any_moment : (after : List Call) → AreCarriedOut (append_works end payload) calls after
-      → Leaves calls after (IsBeforeOrAfter (recovered (seen_after calls)) payload)
+      → CrashLeaves calls after (IsBeforeOrAfter (recovered (seen_after calls)) payload)
 
 abbrev pub AppendsAreSafe : Type 0
 AppendsAreSafe = (calls : List Call) (end : ℕ) (payload : List ℕ) → IsAtRest calls end → length payload < 4294967296
@@ -34,7 +34,7 @@ pub record IsOpened (file : List ℕ) (extent : Extent) : Type 0 where
   pub rest : IsAtRest (all_done (opening_works extent) (opened file ∷ [])) (end_of extent)
   pub same : recovered (seen_after (all_done (opening_works extent) (opened file ∷ []))) ≡ recovered file
   pub any_moment : (after : List Call) → AreCarriedOut (opening_works extent) (opened file ∷ []) after
-      → Leaves (opened file ∷ []) after (λ c. recovered c ≡ recovered file)
+      → CrashLeaves (opened file ∷ []) after (λ c. recovered c ≡ recovered file)
 
 abbrev pub OpeningsAreSafe : Type 0
 OpeningsAreSafe = (file : List ℕ) (extent : Extent) → HasExtent file extent → IsOpened file extent

@@ -1,8 +1,8 @@
 -- What is done to a file: cuts and writes, each of which is on the disk once it is done.
 use Rattle.std.specs.Prelude.{◌≡◌, ◌⊎◌, ℕ, ◌+◌, true, false, List, [], ◌∷◌}
-use Rattle.cedar_journal.specs.declared.extent.Extent.{Extent}
-use Rattle.cedar_journal.specs.declared.extent.Extent.TheVariants.{New, Until}
-use Rattle.cedar_journal.specs.Files.{magic}
+use Rattle.cedar_journal.specs.declared.records.Extent.{Extent}
+use Rattle.cedar_journal.specs.declared.records.Extent.TheVariants.{New, Until}
+use Rattle.cedar_journal.specs.Files.{journal_magic}
 use Rattle.cedar_journal.specs.Records.{framed}
 use Rattle.cedar_disk.specs.Calls.{Call, extended, shortened, synced}
 
@@ -13,13 +13,13 @@ pub data Work : Type 0 where
 
 -- the calls on a file, of which the newest comes first, once a work more is done. Behind a write that waited for the disk a sync has nothing
 -- to do
-abbrev pub done : Work → List Call → List Call
-done (cut_to n) calls = synced true ∷ shortened n true ∷ calls
-done (write_to at bytes) calls = synced true ∷ extended at bytes true ∷ calls
+abbrev pub after_work : Work → List Call → List Call
+after_work (cut_to n) calls = synced true ∷ shortened n true ∷ calls
+after_work (write_to at bytes) calls = synced true ∷ extended at bytes true ∷ calls
 
 abbrev pub all_done : List Work → List Call → List Call
 all_done [] calls = calls
-all_done (work ∷ works) calls = all_done works (done work calls)
+all_done (work ∷ works) calls = all_done works (after_work work calls)
 
 -- the calls once a work has failed
 abbrev pub FailsIn : Work → List Call → List Call → Type 0
@@ -29,7 +29,7 @@ FailsIn (write_to at bytes) before after = after ≡ extended at bytes false ∷
 -- some works were done one after another, as far as none failed
 abbrev pub AreCarriedOut : List Work → List Call → List Call → Type 0
 AreCarriedOut [] before after = after ≡ before
-AreCarriedOut (work ∷ works) before after = FailsIn work before after ⊎ AreCarriedOut works (done work before) after
+AreCarriedOut (work ∷ works) before after = FailsIn work before after ⊎ AreCarriedOut works (after_work work before) after
 
 -- a record of a payload is written behind the closed gate at `end`, and then that is opened
 abbrev pub append_works : ℕ → List ℕ → List Work
@@ -38,7 +38,7 @@ append_works end payload = write_to (end + 1) (framed payload) ∷ write_to end 
 -- The file is cut behind its whole records, and a closed gate is written there. Of a new one nothing is left, and it gets a closed gate, the
 -- header behind that, and an open gate in the place of the closed one.
 abbrev pub opening_works : Extent → List Work
-opening_works New = cut_to 0 ∷ write_to 0 (0 ∷ []) ∷ write_to 1 (framed magic) ∷ write_to 0 (1 ∷ []) ∷ []
+opening_works New = cut_to 0 ∷ write_to 0 (0 ∷ []) ∷ write_to 1 (framed journal_magic) ∷ write_to 0 (1 ∷ []) ∷ []
 opening_works (Until end) = cut_to end ∷ write_to end (0 ∷ []) ∷ []
 
 -- where the records of an opened file end

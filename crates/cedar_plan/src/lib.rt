@@ -6,8 +6,6 @@
 
 mod laws;
 mod plan;
-mod written;
 
 pub use laws::{appends_are_safe, openings_are_safe};
-pub use plan::{CUT, HEADER, Plan, Step, WRITE, plan_append, plan_opening};
-pub use written::record_of;
+pub use plan::{CUT, HEADER, Plan, Step, WRITE, plan_append, plan_opening, record_of};

@@ -1,3 +1,4 @@
+pub mod Blanks
 pub mod ListsLemmas
 pub mod PlacementLemmas
 pub mod RingsLemmas

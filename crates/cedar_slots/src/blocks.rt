@@ -1,8 +1,8 @@
 //! The blocks, and the lists that they are in.
 
 ghost use Rattle.std.specs.Prelude.{◌+ℤ◌, ◌+◌, ◌<ℤ◌, ◌<◌, ◌^◌, ◌∷◌, ◌≡◌, ◌≤ℤ◌, ◌≤◌, IsTrue, length, List, pos, unsigned_abs, ℕ, ℤ};
-ghost use Rattle.cedar_slots.specs.Words.{block_at, blocks_of, BlockType, counts_at, fresh_counts, HasLists, head_of, int_max, KeepsCounts, KeepsLinks, kind_of, linked_blocks, ListRings, lists_with, next_at, occurs, Popped, prev_at, SameFrom, Sized, total};
 
+use crate::padded::Padded;
 use crate::records::BlockRecord;
 use std::alloc::Allocator;
 
@@ -20,6 +20,8 @@ pub struct Counts {
 }
 
 impl Counts {
+    ghost use Rattle.cedar_slots.specs.Words.{fresh_counts, int_max, kind_of};
+
     /// What the block of this number counts while all of its slots are free.
     fn fresh(block: usize) -> Counts
         requires { block < 2 ^ 22 }
@@ -150,16 +152,20 @@ pub enum BlockType {
 /// All blocks, those that are not in use among them, and the heads of their three lists.
 #[derive(Drop)]
 pub struct Blocks<A: Allocator> {
-    pub records: Vec<BlockRecord, A>,
+    pub records: Padded<BlockRecord, A>,
     pub full_head: i32,
     pub closed_head: i32,
     pub open_head: i32,
     /// How many blocks are in use, block 0 among them.
     pub active: usize,
     pub max_trial: i32,
+    pub ghost ready: { active ≤ records.used },
+    pub ghost within: { records.used ≤ length records.items },
 }
 
 impl<A: Allocator> Blocks<A> {
+    ghost use Rattle.cedar_slots.specs.Words.{block_at, blocks_of, BlockType, counts_at, fresh_counts, HasLists, head_of, KeepsCounts, KeepsLinks, kind_of, linked_blocks, ListRings, lists_with, next_at, occurs, Popped, prev_at, SameFrom, Sized, total};
+
     /// The first block of a list, or 0.
     pub fn head(&self, list: BlockType) -> i32
         ensures { result ≡ head_of (blocks_of self.now) list }
@@ -180,24 +186,24 @@ impl<A: Allocator> Blocks<A> {
 
     /// The block after `block` in its list.
     pub(crate) fn next(&self, block: usize) -> usize
-        requires { block < length self.now.records.items }
+        requires { block < self.now.records.used }
         ensures { result ≡ unsigned_abs (next_at self.now.records.items block) }
     {
-        self.records[block].next.unsigned_abs() as usize
+        self.records.at(block).next.unsigned_abs() as usize
     }
 
     /// The block before `block` in its list.
     pub(crate) fn previous(&self, block: usize) -> usize
-        requires { block < length self.now.records.items }
+        requires { block < self.now.records.used }
         ensures { result ≡ unsigned_abs (prev_at self.now.records.items block) }
     {
-        self.records[block].prev.unsigned_abs() as usize
+        self.records.at(block).prev.unsigned_abs() as usize
     }
 
     /// Makes `to` the block after `from`.
     fn link(&mut self, from: usize, to: usize)
-        requires from_in { from < length self.old.records.items }
-        requires to_in { to < length self.old.records.items }
+        requires from_in { from < self.old.records.used }
+        requires to_in { to < self.old.records.used }
         requires from_fits { from < 2 ^ 31 }
         requires to_fits { to < 2 ^ 31 }
         ensures records { self.new.records.items ≡ linked_blocks self.old.records.items from to }
@@ -207,9 +213,14 @@ impl<A: Allocator> Blocks<A> {
         ensures active { self.new.active ≡ self.old.active }
         ensures max_trial { self.new.max_trial ≡ self.old.max_trial }
         ensures len { length self.new.records.items ≡ length self.old.records.items }
+        ensures used { self.new.records.used ≡ self.old.records.used }
     {
-        self.records[from].next = to as i32;
-        self.records[to].prev = from as i32;
+        let record = self.records.at(from);
+        let next = to as i32;
+        self.records.set(from, BlockRecord { next, ..record });
+        let record = self.records.at(to);
+        let prev = from as i32;
+        self.records.set(to, BlockRecord { prev, ..record });
     }
 
     /// The list that a block's counts name.
@@ -252,6 +263,7 @@ impl<A: Allocator> Blocks<A> {
         ensures popped { (lists : BlockType → List ℕ) → ListRings (blocks_of self.old) lists → 0 < occurs block (lists list) → Popped (blocks_of self.new) lists list block }
         ensures counts { KeepsCounts self.old.records.items self.new.records.items }
         ensures len { length self.new.records.items ≡ length self.old.records.items }
+        ensures used { self.new.records.used ≡ self.old.records.used }
         ensures active { self.new.active ≡ self.old.active }
         ensures max_trial { self.new.max_trial ≡ self.old.max_trial }
     {
@@ -279,6 +291,7 @@ impl<A: Allocator> Blocks<A> {
         ensures pushed { (lists : BlockType → List ℕ) → ListRings (blocks_of self.old) lists → total lists block ≡ 0 → ListRings (blocks_of self.new) (lists_with lists list (block ∷ lists list)) }
         ensures counts { KeepsCounts self.old.records.items self.new.records.items }
         ensures len { length self.new.records.items ≡ length self.old.records.items }
+        ensures used { self.new.records.used ≡ self.old.records.used }
         ensures active { self.new.active ≡ self.old.active }
         ensures max_trial { self.new.max_trial ≡ self.old.max_trial }
     {
@@ -294,30 +307,33 @@ impl<A: Allocator> Blocks<A> {
     }
 
     fn write_counts(&mut self, block: usize, counts: Counts)
-        requires { block < length self.old.records.items }
+        requires { block < self.old.records.used }
         ensures made { counts_at self.new.records.items block ≡ counts }
         ensures others { (b : ℕ) → (b ≡ block → ⊥) → block_at self.new.records.items b ≡ block_at self.old.records.items b }
         ensures links { KeepsLinks self.old.records.items self.new.records.items }
         ensures heads { (list : BlockType) → head_of (blocks_of self.new) list ≡ head_of (blocks_of self.old) list }
         ensures len { length self.new.records.items ≡ length self.old.records.items }
+        ensures used { self.new.records.used ≡ self.old.records.used }
         ensures active { self.new.active ≡ self.old.active }
         ensures max_trial { self.new.max_trial ≡ self.old.max_trial }
     {
-        self.records[block] = BlockRecord {
+        let record = self.records.at(block);
+        let changed = BlockRecord {
             num: counts.num,
             reject: counts.reject,
             trial: counts.trial,
             e_head: counts.e_head,
-            ..self.records[block]
+            ..record
         };
+        self.records.set(block, changed);
     }
 
     /// What `block` counts.
     pub fn counts(&self, block: usize) -> Counts
-        requires { block < length self.now.records.items }
+        requires { block < self.now.records.used }
         ensures { result ≡ counts_at self.now.records.items block }
     {
-        let record = self.records[block];
+        let record = self.records.at(block);
         Counts {
             num: record.num,
             reject: record.reject,
@@ -336,6 +352,7 @@ impl<A: Allocator> Blocks<A> {
         ensures others { (b : ℕ) → (b ≡ block → ⊥) → counts_at self.new.records.items b ≡ counts_at self.old.records.items b }
         ensures idle { SameFrom self.old.active self.old.records.items self.new.records.items }
         ensures len { length self.new.records.items ≡ length self.old.records.items }
+        ensures used { self.new.records.used ≡ self.old.records.used }
         ensures active { self.new.active ≡ self.old.active }
         ensures max_trial { self.new.max_trial ≡ self.old.max_trial }
     {
@@ -359,6 +376,7 @@ impl<A: Allocator> Blocks<A> {
         ensures others { (b : ℕ) → (b ≡ block → ⊥) → counts_at self.new.records.items b ≡ counts_at self.old.records.items b }
         ensures idle { SameFrom self.old.active self.old.records.items self.new.records.items }
         ensures len { length self.new.records.items ≡ length self.old.records.items }
+        ensures used { self.new.records.used ≡ self.old.records.used }
         ensures active { self.new.active ≡ self.old.active }
         ensures max_trial { self.new.max_trial ≡ self.old.max_trial }
     {
@@ -384,6 +402,7 @@ impl<A: Allocator> Blocks<A> {
         ensures others { (b : ℕ) → (b ≡ block → ⊥) → counts_at self.new.records.items b ≡ counts_at self.old.records.items b }
         ensures idle { SameFrom self.old.active self.old.records.items self.new.records.items }
         ensures len { length self.new.records.items ≡ length self.old.records.items }
+        ensures used { self.new.records.used ≡ self.old.records.used }
         ensures active { self.new.active ≡ self.old.active }
         ensures max_trial { self.new.max_trial ≡ self.old.max_trial }
     {
@@ -405,6 +424,7 @@ impl<A: Allocator> Blocks<A> {
         ensures others { (b : ℕ) → (b ≡ block → ⊥) → counts_at self.new.records.items b ≡ counts_at self.old.records.items b }
         ensures idle { SameFrom self.old.active self.old.records.items self.new.records.items }
         ensures len { length self.new.records.items ≡ length self.old.records.items }
+        ensures used { self.new.records.used ≡ self.old.records.used }
         ensures active { self.new.active ≡ self.old.active }
         ensures max_trial { self.new.max_trial ≡ self.old.max_trial }
     {
@@ -426,7 +446,7 @@ impl<A: Allocator> Blocks<A> {
     pub(crate) fn activate(&mut self)
         requires lists { HasLists (blocks_of self.old) }
         requires sized { Sized (blocks_of self.old) }
-        requires room { self.old.active < length self.old.records.items }
+        requires room { self.old.active < self.old.records.used }
         requires tried { pos 1 ≤ℤ self.old.max_trial }
 
         //= `activate` puts the first idle block into use with fresh counts, and the lists stay right. [with active, made, others]
@@ -436,6 +456,7 @@ impl<A: Allocator> Blocks<A> {
         ensures others { (b : ℕ) → (b ≡ self.old.active → ⊥) → counts_at self.new.records.items b ≡ counts_at self.old.records.items b }
         ensures idle { SameFrom (self.old.active + 1) self.old.records.items self.new.records.items }
         ensures len { length self.new.records.items ≡ length self.old.records.items }
+        ensures used { self.new.records.used ≡ self.old.records.used }
         ensures max_trial { self.new.max_trial ≡ self.old.max_trial }
     {
         let block = self.active;

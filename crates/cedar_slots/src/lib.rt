@@ -4,6 +4,7 @@
 
 mod blocks;
 mod corrupt;
+mod padded;
 mod places;
 mod records;
 mod shortage;
@@ -12,6 +13,7 @@ mod ticks;
 
 pub use blocks::{BlockType, Blocks, Counts};
 pub use corrupt::Corrupt;
+pub use padded::{Blank, Padded};
 pub use places::{Places, reserved};
 pub use records::{BlockRecord, NInfoRecord, NodeRecord};
 pub use shortage::Shortage;

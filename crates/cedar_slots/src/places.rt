@@ -1,9 +1,10 @@
 //! The slots and their blocks together: which slots are free, and where free ones are found.
 
 ghost use Rattle.std.specs.Prelude.{if◌then◌else◌, ◌*◌, ◌+◌, ◌/◌, ◌<◌, ◌==◌, ◌^◌, ◌≡◌, ◌≤ℤ◌, ◌≤◌, ◌⊎◌, count_by, false, IfErr, IfNone, IfOk, IfSome, int_lt, length, not, OnErr, OnOk, pos, slice_set, true, ℕ};
-ghost use Rattle.cedar_slots.specs.Words.{AddsBlock, blocks_of, counts_at, FreesSlot, Grown, is_free, IsBase, IsFreePlace, IsNewPlaces, IsOpenBlock, IsPowerOfTwo, IsSlotLimit, IsStart, MayRefuse, node_record_at, NoneFree, places_of, range_with_len, reject_at, Rejects, room_for_one, SameSlots, Shaped, slots_of, Sound, TakesSlot, Within};
+ghost use Rattle.cedar_slots.specs.Places.{reject_at};
 
 use crate::blocks::{BlockType, Blocks};
+use crate::padded::Padded;
 use crate::records::{BlockRecord, NInfoRecord, NodeRecord};
 use crate::shortage::Shortage;
 use crate::slots::{BLOCK_SIZE, Slots};
@@ -15,6 +16,8 @@ pub struct Places<A: Allocator> {
     pub blocks: Blocks<A>,
     /// For each number of free slots, how many labels at least find no place in a block with as many.
     pub reject: Vec<i16, A>,
+    pub ghost nodes_ready: { slots.nodes.used ≡ 256 * blocks.records.used },
+    pub ghost infos_ready: { slots.infos.used ≡ 256 * blocks.records.used },
 }
 
 /// How many slots of `block` are counted as free and are in no ring: the root alone.
@@ -37,6 +40,8 @@ fn first_rejects<A: Allocator>(alloc: A) -> Result<Vec<i16, A>, AllocError>
 }
 
 impl<A: Allocator> Places<A> {
+    ghost use Rattle.cedar_slots.specs.Words.{AddsBlock, blocks_of, counts_at, FreesSlot, Grown, is_free, IsBase, IsFreePlace, IsNewPlaces, IsOpenBlock, IsPowerOfTwo, IsSlotLimit, IsStart, MayRefuse, node_record_at, NoneFree, places_of, range_with_len, reject_at, Rejects, room_for_one, SameSlots, Shaped, slots_of, Sound, TakesSlot, Within};
+
     /// One block, in which the root alone is in use.
     pub fn new(alloc: A, root: NodeRecord, max_trial: i32) -> Result<Places<A>, AllocError>
     where
@@ -50,9 +55,11 @@ impl<A: Allocator> Places<A> {
         ensures made { IfOk result (λ places. IsNewPlaces (places_of places) max_trial) }
         ensures root { IfOk result (λ places. node_record_at places.slots.nodes.items 0 ≡ root) }
     {
+        let nodes = vec![in alloc; NodeRecord::BLANK; BLOCK_SIZE]?;
+        let infos = vec![in alloc; NInfoRecord::BLANK; BLOCK_SIZE]?;
         let mut slots = Slots {
-            nodes: vec![in alloc; NodeRecord::BLANK; BLOCK_SIZE]?,
-            infos: vec![in alloc; NInfoRecord::BLANK; BLOCK_SIZE]?,
+            nodes: Padded::of(nodes),
+            infos: Padded::of(infos),
         };
         slots.free_root_block(root);
         let records = vec![in alloc; BlockRecord::ROOT; 1]?;
@@ -60,7 +67,7 @@ impl<A: Allocator> Places<A> {
         Ok(Places {
             slots,
             blocks: Blocks {
-                records,
+                records: Padded::of(records),
                 full_head: 0,
                 closed_head: 0,
                 open_head: 0,
@@ -169,7 +176,7 @@ impl<A: Allocator> Places<A> {
         ensures blocks { blocks_of self.new.blocks ≡ blocks_of self.old.blocks }
         ensures capacity { length self.new.blocks.records.items ≡ length self.old.blocks.records.items }
     {
-        self.slots.nodes[slot] = node;
+        self.slots.nodes.set(slot, node);
     }
 
     /// Stores `info` in a slot in use that isn't free.
@@ -183,7 +190,7 @@ impl<A: Allocator> Places<A> {
         ensures blocks { blocks_of self.new.blocks ≡ blocks_of self.old.blocks }
         ensures capacity { length self.new.blocks.records.items ≡ length self.old.blocks.records.items }
     {
-        self.slots.infos[slot] = info;
+        self.slots.infos.set(slot, info);
     }
 
     /// A free slot outside block 0, if there is one.
@@ -220,13 +227,9 @@ impl<A: Allocator> Places<A> {
         self.slots.nodes.reserve(BLOCK_SIZE * more)?;
         self.slots.infos.reserve(BLOCK_SIZE * more)?;
         self.blocks.records.reserve(more)?;
-        self.slots
-            .nodes
-            .resize(BLOCK_SIZE * room, NodeRecord::BLANK)?;
-        self.slots
-            .infos
-            .resize(BLOCK_SIZE * room, NInfoRecord::BLANK)?;
-        self.blocks.records.resize(room, BlockRecord::BLANK)?;
+        self.slots.nodes.extend(BLOCK_SIZE * more);
+        self.slots.infos.extend(BLOCK_SIZE * more);
+        self.blocks.records.extend(more);
         Ok(())
     }
 
@@ -250,6 +253,22 @@ impl<A: Allocator> Places<A> {
             return Ok(());
         }
         self.grow(2 * blocks)
+    }
+
+    /// Writes the records of the block that comes next into use, and of its slots, if they don't stand in memory yet.
+    fn bring_in(&mut self)
+        requires shaped { Shaped (places_of self.old) }
+        requires room { self.old.blocks.active < length self.old.blocks.records.items }
+        ensures places { places_of self.new ≡ places_of self.old }
+        ensures used { self.new.blocks.active < self.new.blocks.records.used }
+    {
+        let block = self.blocks.active;
+        if self.blocks.records.used() == block {
+            let slots = BLOCK_SIZE * (block + 1);
+            self.slots.nodes.bring_in(slots);
+            self.slots.infos.bring_in(slots);
+            self.blocks.records.bring_in(block + 1);
+        }
     }
 
     /// Puts one more block into use, and returns its number. The tables double if all of their
@@ -279,6 +298,7 @@ impl<A: Allocator> Places<A> {
             return Err(Shortage::SlotLimit);
         }
         self.make_room(slots)?;
+        self.bring_in();
         let block = self.blocks.active;
         self.slots.free_block(BLOCK_SIZE * block);
         self.blocks.activate();

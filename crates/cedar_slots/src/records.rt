@@ -1,5 +1,10 @@
 //! The records of slots and blocks, as a file has them too.
 
+ghost use Rattle.cedar_slots.specs.Blocks.{blank_block};
+ghost use Rattle.cedar_slots.specs.Slots.{blank_info, blank_node};
+
+use crate::padded::Blank;
+
 /// A slot's numbers. Of a free slot `check` names the next one of its ring, and `base` the one before.
 #[derive(Clone, Copy, Debug, PartialEq, Eq)]
 pub struct NodeRecord {
@@ -51,6 +56,34 @@ impl BlockRecord {
 
     /// A block that is not in use.
     pub const BLANK: BlockRecord = BlockRecord {
+        prev: 0,
+        next: 0,
+        num: 256,
+        reject: 257,
+        trial: 0,
+        e_head: 0,
+    };
+}
+
+impl Blank for NodeRecord {
+    ghost BLANK = { blank_node };
+
+    const BLANK: NodeRecord = NodeRecord { base: 0, check: 0 };
+}
+
+impl Blank for NInfoRecord {
+    ghost BLANK = { blank_info };
+
+    const BLANK: NInfoRecord = NInfoRecord {
+        sibling: 0,
+        child: 0,
+    };
+}
+
+impl Blank for BlockRecord {
+    ghost BLANK = { blank_block };
+
+    const BLANK: BlockRecord = BlockRecord {
         prev: 0,
         next: 0,
         num: 256,

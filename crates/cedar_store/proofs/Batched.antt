@@ -3,7 +3,7 @@ use Rattle.std.specs.Prelude.{option_map, option_and_then, Option, Some, None, B
 use Rattle.std.proofs.Common.{◌≡◌, ◌≢◌, ℕ, ◌+◌, true, false, List, [], ◌∷◌, length, drop, refl, sym, ◌∙◌, ap}
 use Rattle.std.proofs.lemmas.Bool.{cond-true, cond-false, eq-eqb, ne_eqb}
 use Rattle.std.proofs.lemmas.List.{drop-drop}
-use Rattle.cedar_journal.specs.Records.{has_record, payload, behind, payloads_in}
+use Rattle.cedar_journal.specs.Records.{has_record, payload, behind_record, payloads_in}
 use Rattle.cedar_journal.proofs.Reading.{payloads_first, payloads_none}
 use Rattle.cedar_tree.specs.State.{State}
 use Rattle.cedar_store.specs.declared.error.DurableError.{DurableError}
@@ -39,8 +39,8 @@ no_batch s bytes stops = unless s _ (each_change (payloads_in bytes)) stops
 
 -- ---- a record at a place of some bytes, and its payload p
 
-module _ (bytes b p : List ℕ) (at : ℕ) (here : b ≡ drop at bytes) (there : has_record b ≡ true) (is : p ≡ payload b) (next : drop (5 + length p) b ≡ behind b) where
-  further : drop (at + (5 + length p)) bytes ≡ behind b
+module _ (bytes b p : List ℕ) (at : ℕ) (here : b ≡ drop at bytes) (there : has_record b ≡ true) (is : p ≡ payload b) (next : drop (5 + length p) b ≡ behind_record b) where
+  further : drop (at + (5 + length p)) bytes ≡ behind_record b
   further = sym (drop-drop (5 + length p) at bytes) ∙ ap (drop (5 + length p)) (sym here) ∙ next
 
   split : payloads_in (drop at bytes) ≡ p ∷ payloads_in (drop (at + (5 + length p)) bytes)

@@ -13,7 +13,7 @@ use Rattle.cedarwood.proofs.UpdateLemmas.{fault_no_shortage}
 use Rattle.cedar_store.specs.declared.error.DurableError.{DurableError}
 use Rattle.cedar_store.specs.declared.error.DurableError.TheVariants as error
 use Rattle.cedar_store.specs.Causes.{ReplayCause}
-use Rattle.cedar_store.specs.Changes.{Change, change_of, changed, all_changed, batch_of, changes_of, after, put_of, put_unless, number_of, put_at, erase_at}
+use Rattle.cedar_store.specs.Changes.{Change, change_of, changed, all_changed, batch_of, changes_of, after, put_of, put_unless, number_of_bytes, put_at, erase_at}
 
 -- all behind some first bytes
 pub rest_is : (n : ℕ) (bytes : List ℕ) → take (length bytes - n) (drop n bytes) ≡ drop n bytes
@@ -85,7 +85,7 @@ pub short_put : (bytes : List ℕ) → length bytes < 4 → put_of bytes ≡ Non
 unfolding put_of
 short_put bytes short = cond-false _ _ _ (lt-leb 4 (length bytes) short)
 
-pub put_is : (bytes key : List ℕ) (v : ℤ) → 4 ≤ length bytes → key ≡ drop 4 bytes → v ≡ pos (number_of bytes) → put_of bytes ≡ put_unless (fault key v) key v
+pub put_is : (bytes key : List ℕ) (v : ℤ) → 4 ≤ length bytes → key ≡ drop 4 bytes → v ≡ pos (number_of_bytes bytes) → put_of bytes ≡ put_unless (fault key v) key v
 unfolding put_of
 put_is bytes key v long same value = cond-true _ _ _ (le-leb 4 (length bytes) long) ∙ (λ i. put_unless (fault (sym same i) (sym value i)) (sym same i) (sym value i))
 
@@ -100,10 +100,10 @@ refused_by_value : (k w : Option CedarError) (e : CedarError) (key : List ℕ) (
 refused_by_value None w e key v is = ap (λ f. put_unless f key v) is
 refused_by_value (Some x) w e key v is = refl
 
-pub high_put : (bytes : List ℕ) → 4 ≤ length bytes → 2147483645 < number_of bytes → put_of bytes ≡ None
+pub high_put : (bytes : List ℕ) → 4 ≤ length bytes → 2147483645 < number_of_bytes bytes → put_of bytes ≡ None
 high_put bytes long high =
-    put_is bytes (drop 4 bytes) (pos (number_of bytes)) long refl refl
-    ∙ refused_by_value (key_fault (drop 4 bytes)) (value_fault (pos (number_of bytes))) (InvalidValue (pos (number_of bytes))) (drop 4 bytes) (pos (number_of bytes)) (value_too_high (number_of bytes) high)
+    put_is bytes (drop 4 bytes) (pos (number_of_bytes bytes)) long refl refl
+    ∙ refused_by_value (key_fault (drop 4 bytes)) (value_fault (pos (number_of_bytes bytes))) (InvalidValue (pos (number_of_bytes bytes))) (drop 4 bytes) (pos (number_of_bytes bytes)) (value_too_high (number_of_bytes bytes) high)
 
 -- a number that can be stored is one of 32 bits without a sign
 pub stored_is : (v : ℤ) → value_fault v ≡ None → v ≡ pos (of_z w32 v)

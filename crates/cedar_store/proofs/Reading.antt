@@ -2,10 +2,10 @@
 use Rattle.std.specs.Prelude.{option_and_then, Option, Some, IsSome, IfErr, Result, Ok, Err}
 use Rattle.std.proofs.Common.{◌≡◌, ℕ, ◌+◌, true, false, List, length, drop, refl, sym, ◌∙◌, ap, subst}
 use Rattle.std.proofs.lemmas.List.{drop-drop}
-use Rattle.cedar_journal.specs.declared.extent.Extent.{Extent}
-use Rattle.cedar_journal.specs.declared.extent.Extent.TheVariants.{New, Until}
-use Rattle.cedar_journal.specs.Records.{has_record, payload, behind, payloads_in}
-use Rattle.cedar_journal.specs.Files.{recovered, HasExtent, HasRecords, IsNew}
+use Rattle.cedar_journal.specs.declared.records.Extent.{Extent}
+use Rattle.cedar_journal.specs.declared.records.Extent.TheVariants.{New, Until}
+use Rattle.cedar_journal.specs.Records.{has_record, payload, behind_record, payloads_in}
+use Rattle.cedar_journal.specs.Files.{recovered, HasExtent, HasRecords, IsNewFile}
 use Rattle.cedar_journal.proofs.Reading.{payloads_first, payloads_none}
 use Rattle.cedar_tree.specs.State.{State, new_state}
 use Rattle.cedar_store.specs.declared.error.DurableError.{DurableError}
@@ -16,23 +16,23 @@ use Rattle.cedar_store.specs.Files.{state_of}
 use Rattle.cedar_store.proofs.States.{lacks_change}
 
 -- a record at a place of some bytes, and its payload p
-module _ (bytes b p : List ℕ) (at : ℕ) (here : b ≡ drop at bytes) (there : has_record b ≡ true) (is : p ≡ payload b) (next : drop (5 + length p) b ≡ behind b) where
-  first : (s : State) → replayed s (payloads_in (drop at bytes)) ≡ option_and_then (λ t. replayed t (payloads_in (behind b))) (after s p)
+module _ (bytes b p : List ℕ) (at : ℕ) (here : b ≡ drop at bytes) (there : has_record b ≡ true) (is : p ≡ payload b) (next : drop (5 + length p) b ≡ behind_record b) where
+  first : (s : State) → replayed s (payloads_in (drop at bytes)) ≡ option_and_then (λ t. replayed t (payloads_in (behind_record b))) (after s p)
   first s =
       ap (λ l. replayed s (payloads_in l)) (sym here)
       ∙ ap (replayed s) (payloads_first b there)
-      ∙ ap (λ q. option_and_then (λ t. replayed t (payloads_in (behind b))) (after s q)) (sym is)
+      ∙ ap (λ q. option_and_then (λ t. replayed t (payloads_in (behind_record b))) (after s q)) (sym is)
 
-  further : drop (at + (5 + length p)) bytes ≡ behind b
+  further : drop (at + (5 + length p)) bytes ≡ behind_record b
   further = sym (drop-drop (5 + length p) at bytes) ∙ ap (drop (5 + length p)) (sym here) ∙ next
 
   pub one_turn : (s t : State) → after s p ≡ Some t → replayed t (payloads_in (drop (at + (5 + length p)) bytes)) ≡ replayed s (payloads_in (drop at bytes))
   one_turn s t told =
       ap (λ l. replayed t (payloads_in l)) further
-      ∙ sym (first s ∙ ap (option_and_then (λ t. replayed t (payloads_in (behind b)))) told)
+      ∙ sym (first s ∙ ap (option_and_then (λ t. replayed t (payloads_in (behind_record b)))) told)
 
   pub stopped : (s : State) (outcome : Option State) (e : DurableError) → replayed s (payloads_in (drop at bytes)) ≡ outcome → ReplayCause (after s p) e → ReplayCause outcome e
-  stopped s outcome error.Corrupt same none = sym same ∙ first s ∙ ap (option_and_then (λ t. replayed t (payloads_in (behind b)))) none
+  stopped s outcome error.Corrupt same none = sym same ∙ first s ∙ ap (option_and_then (λ t. replayed t (payloads_in (behind_record b)))) none
   stopped s outcome (error.Refused e) same wants = wants
   stopped s outcome error.Foreign same none = none
   stopped s outcome (error.RefusedAt index e) same none = none
@@ -50,7 +50,7 @@ pub has_stands : (file : List ℕ) (extent : Extent) → HasExtent file extent �
 has_stands file New new = subst IsSome (sym new.stands) refl
 has_stands file (Until end) records = subst IsSome (sym records.stands) refl
 
-pub new_stands : (file : List ℕ) → IsNew file → state_of file ≡ Some new_state
+pub new_stands : (file : List ℕ) → IsNewFile file → state_of file ≡ Some new_state
 new_stands file new = ap (option_and_then (replayed new_state)) new.stands
 
 pub records_stand : (file : List ℕ) (end : ℕ) → HasRecords file end → state_of file ≡ replayed new_state (payloads_in (drop 13 file))

@@ -3,7 +3,7 @@ use Rattle.std.specs.Prelude.{option_map, option_and_then, Option, Some, None}
 use Rattle.std.proofs.Common.{◌≡◌, ℕ, zero, suc, ◌+◌, ◌≤◌, ◌<◌, true, List, [], ◌∷◌, ◌++◌, length, get_or, refl, sym, ◌∙◌, ap, append_assoc, arith, length-append}
 use Rattle.std.proofs.lemmas.List.{drop_all, take_all}
 use Rattle.std.specs.List.{AllByRecursion}
-use Rattle.cedar_journal.specs.Records.{payload_length, payload, behind, has_record, payloads_in, IsFront}
+use Rattle.cedar_journal.specs.Records.{payload_length, payload, behind_record, has_record, payloads_in, AreWholeRecords}
 use Rattle.cedar_journal.proofs.Numbers.{told_length}
 use Rattle.cedar_journal.proofs.Reading.{behind_and_rest, is_record, nothing_there, payloads_first, payloads_none, same_payload, still_there}
 use Rattle.cedar_store.specs.declared.error.DurableError.{DurableError}
@@ -16,25 +16,25 @@ use Rattle.cedar_store.proofs.Payloads.{of_batch}
 
 -- ---- records one behind another, each of which is read as if it stood alone
 
-pub front_of_none : IsFront []
+pub front_of_none : AreWholeRecords []
 front_of_none rest = ap (λ (l : List (List ℕ)). l ++ payloads_in rest) (sym (payloads_none [] nothing_there))
 
-front_and : (a b : List ℕ) → IsFront a → IsFront b → IsFront (a ++ b)
+front_and : (a b : List ℕ) → AreWholeRecords a → AreWholeRecords b → AreWholeRecords (a ++ b)
 front_and a b first second rest =
     ap payloads_in (append_assoc a b rest) ∙ first (b ++ rest) ∙ ap (λ (l : List (List ℕ)). payloads_in a ++ l) (second rest)
     ∙ sym (append_assoc (payloads_in a) (payloads_in b) (payloads_in rest)) ∙ ap (λ (l : List (List ℕ)). l ++ payloads_in rest) (sym (first b))
 
-module _ (r : List ℕ) (has : has_record r ≡ true) (alone : behind r ≡ []) where
+module _ (r : List ℕ) (has : has_record r ≡ true) (alone : behind_record r ≡ []) where
   one_record : payloads_in r ≡ payload r ∷ []
   one_record = payloads_first r has ∙ ap (λ (l : List ℕ). payload r ∷ payloads_in l) alone ∙ ap (λ (l : List (List ℕ)). payload r ∷ l) (payloads_none [] nothing_there)
 
-  record_is_front : IsFront r
+  record_is_front : AreWholeRecords r
   record_is_front rest =
       payloads_first (r ++ rest) (still_there r rest has)
       ∙ both_parts (same_payload r rest has) (behind_and_rest r rest has ∙ ap (λ (l : List ℕ). l ++ rest) alone)
       ∙ ap (λ (l : List (List ℕ)). l ++ payloads_in rest) (sym one_record)
     where
-      both_parts : payload (r ++ rest) ≡ payload r → behind (r ++ rest) ≡ rest → payload (r ++ rest) ∷ payloads_in (behind (r ++ rest)) ≡ payload r ∷ payloads_in rest
+      both_parts : payload (r ++ rest) ≡ payload r → behind_record (r ++ rest) ≡ rest → payload (r ++ rest) ∷ payloads_in (behind_record (r ++ rest)) ≡ payload r ∷ payloads_in rest
       both_parts p b = λ i. p i ∷ payloads_in (b i)
 
 -- ---- the record of one payload
@@ -47,11 +47,11 @@ module _ (p : List ℕ) (short : length p < 4294967296) where
   unfolding payload
   itself = take_all (payload_length (record_of p)) p (omega (arith, told_length (length p) short))
 
-  alone : behind (record_of p) ≡ []
-  unfolding behind
+  alone : behind_record (record_of p) ≡ []
+  unfolding behind_record
   alone = drop_all (5 + payload_length (record_of p)) (record_of p) (omega (arith, told_length (length p) short))
 
-  its_front : IsFront (record_of p)
+  its_front : AreWholeRecords (record_of p)
   its_front = record_is_front (record_of p) there alone
 
   pub its_payloads : payloads_in (record_of p) ≡ p ∷ []
@@ -81,7 +81,7 @@ longer_batch (d ∷ changes) c = let more = longer_batch changes c in omega (ari
 
 -- some bytes are the records of some changes, one behind another
 pub record AreRecorded (changes : List Change) (bytes : List ℕ) : Type 0 where
-  pub front : IsFront bytes
+  pub front : AreWholeRecords bytes
   pub each : each_change (payloads_in bytes) ≡ Some changes
   pub long : records_length (payloads_in bytes) ≡ length bytes
   pub size : 1 + length bytes ≡ batch_length changes

@@ -20,8 +20,8 @@ abbrev pub all_changed : State → List Change → State
 all_changed s changes = fold changed s changes
 
 -- four bytes as a number, the lowest first
-abbrev pub number_of : List ℕ → ℕ
-number_of bytes = get_or bytes 0 0 + 256 * get_or bytes 1 0 + 65536 * get_or bytes 2 0 + 16777216 * get_or bytes 3 0
+abbrev pub number_of_bytes : List ℕ → ℕ
+number_of_bytes bytes = get_or bytes 0 0 + 256 * get_or bytes 1 0 + 65536 * get_or bytes 2 0 + 16777216 * get_or bytes 3 0
 
 -- a put of a pair that has no fault
 abbrev pub put_unless : Option CedarError → List ℕ → ℤ → Option Change
@@ -30,7 +30,7 @@ put_unless (Some e) key v = None
 
 -- four bytes of a value, and the key
 unfoldable pub put_of : List ℕ → Option Change
-put_of bytes = cond (nat_le 4 (length bytes)) (put_unless (fault (drop 4 bytes) (pos (number_of bytes))) (drop 4 bytes) (pos (number_of bytes))) None
+put_of bytes = cond (nat_le 4 (length bytes)) (put_unless (fault (drop 4 bytes) (pos (number_of_bytes bytes))) (drop 4 bytes) (pos (number_of_bytes bytes))) None
 
 -- The change of a payload: 0 and a key, the key is erased; 1, four bytes of a value and a key, the value is put there. None: it has none.
 unfoldable pub change_of : List ℕ → Option Change

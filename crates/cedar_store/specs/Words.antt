@@ -8,7 +8,7 @@ pub use Rattle.cedar_journal.specs.Records.{payloads_in}
 pub use Rattle.cedar_journal.specs.Replacing.{IfKept}
 pub use Rattle.cedar_store.specs.Batches.{AreHeld, HasKey, IsFaultless, IsHeld, IsRecorded, all_erased_late, all_updated, batch_length, change_at, change_fault, change_length, is_put_by, late_erased, only_updated, puts, record_of}
 pub use Rattle.cedar_store.specs.Causes.{BatchCause, ChangeCause, EraseCause, FrameCause, IsBeforeWrites, IsOfDevice, IsRefusedAt, Leaves, LoadCause, OpenCause, PayloadCause, PrepareCause, ReplayCause}
-pub use Rattle.cedar_store.specs.Changes.{after, all_changed, batch_of, change_of, changed, changes_of, erase_at, number_of, put_at, put_of, replayed}
+pub use Rattle.cedar_store.specs.Changes.{after, all_changed, batch_of, change_of, changed, changes_of, erase_at, number_of_bytes, put_at, put_of, replayed}
 pub use Rattle.cedar_store.specs.Compactions.{compact_error, CompactCause, compacted_length, CompactMemory, is_beyond, IsBeforeReplacing, IsPutBehind, LeavesFile, replace_error}
 pub use Rattle.cedar_store.specs.Files.{IsCorrupt, IsEither, StandsFor, state_of}
 pub use Rattle.cedar_store.specs.Promises.{CrashLeavesEither, CrashLeavesState, FailsByDevice, HasState, IsBatchCause, IsChangeCause, IsEraseCause, IsReadyStore, LeavesStore}

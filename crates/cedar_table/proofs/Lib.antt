@@ -1,1 +1,3 @@
 pub mod RoomLemmas
+mod SamePlaces
+mod SearchLemmas

@@ -29,11 +29,11 @@ fn copied_places<A: Allocator + Copy>(places: &Places<A>) -> Result<Places<A>, A
 {
     Ok(Places {
         slots: Slots {
-            nodes: copied(&places.slots.nodes)?,
-            infos: copied(&places.slots.infos)?,
+            nodes: places.slots.nodes.copied()?,
+            infos: places.slots.infos.copied()?,
         },
         blocks: Blocks {
-            records: copied(&places.blocks.records)?,
+            records: places.blocks.records.copied()?,
             full_head: places.blocks.full_head,
             closed_head: places.blocks.closed_head,
             open_head: places.blocks.open_head,

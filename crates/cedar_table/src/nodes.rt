@@ -69,7 +69,7 @@ impl<L: Layout, const SLOTS: usize, A: Allocator> Table<L, SLOTS, A> {
         requires owned { (c : ℕ) × ((cells self.now).check slot ≡ pos c) }
         ensures { (cells self.now).check slot ≡ pos result }
     {
-        self.places.slots.nodes[slot].check as usize
+        self.places.slots.nodes.at(slot).check as usize
     }
 
     /// Whether a slot belongs to an owner. The read isn't counted.
@@ -78,7 +78,7 @@ impl<L: Layout, const SLOTS: usize, A: Allocator> Table<L, SLOTS, A> {
         requires owner_in { owner < size_of (fields self.now) }
         ensures { IsTrue result ↔ ((cells self.now).check slot ≡ pos owner) }
     {
-        self.places.slots.nodes[slot].check == owner as i32
+        self.places.slots.nodes.at(slot).check == owner as i32
     }
 
     /// Whether a slot other than the root's is free.
@@ -87,7 +87,7 @@ impl<L: Layout, const SLOTS: usize, A: Allocator> Table<L, SLOTS, A> {
         requires not_root { slot ≢ 0 }
         ensures { IsTrue result ↔ (Held (cells self.now) slot → ⊥) }
     {
-        self.places.slots.nodes[slot].check < 0
+        self.places.slots.nodes.at(slot).check < 0
     }
 
     /// Whether a node has a slot for its number. Only a node that names no first label can have one, so the check of that
@@ -197,7 +197,7 @@ impl<L: Layout, const SLOTS: usize, A: Allocator> Table<L, SLOTS, A> {
     {
         let record = NodeRecord {
             base: L::base_field(base),
-            check: self.places.slots.nodes[node].check,
+            check: self.places.slots.nodes.at(node).check,
         };
         self.write_node(node, record);
     }
@@ -219,7 +219,7 @@ impl<L: Layout, const SLOTS: usize, A: Allocator> Table<L, SLOTS, A> {
     {
         let record = NodeRecord {
             base: value,
-            check: self.places.slots.nodes[node].check,
+            check: self.places.slots.nodes.at(node).check,
         };
         self.write_node(node, record);
     }

@@ -1,11 +1,13 @@
 //! A table as its parts: it is made of them when it is loaded, and gives them when it is saved.
 
-ghost use Rattle.std.specs.Prelude.{◌≡◌, length};
-ghost use Rattle.cedar_table.specs.Words.{fields, parts_fields, places_of, Shaped};
+ghost use Rattle.std.specs.Prelude.{◌*◌, ◌≡◌, ◌≤◌, length};
+ghost use Rattle.cedar_table.specs.Words.{blank_block, blank_info, blank_node, fields, padded, parts_fields, places_of, Shaped, size_of};
 
 use crate::table::Table;
 use cedar_model::Layout;
-use cedar_slots::{BLOCK_SIZE, BlockRecord, Blocks, NInfoRecord, NodeRecord, Places, Slots};
+use cedar_slots::{
+    BLOCK_SIZE, BlockRecord, Blocks, NInfoRecord, NodeRecord, Padded, Places, Slots,
+};
 use std::alloc::Allocator;
 use std::marker::PhantomData;
 
@@ -31,8 +33,8 @@ impl<L: Layout, const SLOTS: usize, A: Allocator> Table<L, SLOTS, A> {
         requires shaped { Shaped (parts_fields L.kind parts).places }
         requires rejects { length parts.reject.items ≡ 257 }
 
-        //= `from_records` makes the table of some parts, field by field; `node_records` and its kin give them back. [also node_records,
-        //  info_records, block_records, reject_values]
+        //= `from_records` makes the table of some parts, field by field; `node_records` and its kin give what stands in memory, and all else
+        //  is blank. [also node_records.all.some, info_records.all.some, block_records.all.some, reject_values]
         ensures { fields result ≡ parts_fields L.kind parts }
     {
         Table {
@@ -41,11 +43,11 @@ impl<L: Layout, const SLOTS: usize, A: Allocator> Table<L, SLOTS, A> {
             entries: parts.entries,
             places: Places {
                 slots: Slots {
-                    nodes: parts.nodes,
-                    infos: parts.n_infos,
+                    nodes: Padded::of(parts.nodes),
+                    infos: Padded::of(parts.n_infos),
                 },
                 blocks: Blocks {
-                    records: parts.blocks,
+                    records: Padded::of(parts.blocks),
                     full_head: parts.full_head,
                     closed_head: parts.closed_head,
                     open_head: parts.open_head,
@@ -67,25 +69,28 @@ impl<L: Layout, const SLOTS: usize, A: Allocator> Table<L, SLOTS, A> {
         &self.places
     }
 
-    /// All slots, to be written out or tested. (A comparison of a check field goes by `check`, which counts it.)
+    /// The slots that stand in memory, to be written out: those in use, and maybe more. All others are blank.
     pub fn node_records(&self) -> &[NodeRecord]
-        ensures { result.now ≡ (fields self.now).places.slots.nodes }
+        ensures all { (fields self.now).places.slots.nodes ≡ padded blank_node (length (fields self.now).places.slots.nodes) result.now }
+        ensures some { size_of (fields self.now) ≤ length result.now }
     {
-        self.places.slots.nodes.as_slice()
+        self.places.slots.nodes.front()
     }
 
-    /// The labels of all slots, to be written out or tested.
+    /// The labels of the slots that stand in memory, to be written out. All others are blank.
     pub fn info_records(&self) -> &[NInfoRecord]
-        ensures { result.now ≡ (fields self.now).places.slots.infos }
+        ensures all { (fields self.now).places.slots.infos ≡ padded blank_info (length (fields self.now).places.slots.infos) result.now }
+        ensures some { size_of (fields self.now) ≤ length result.now }
     {
-        self.places.slots.infos.as_slice()
+        self.places.slots.infos.front()
     }
 
-    /// All blocks, to be written out.
+    /// The blocks that stand in memory, to be written out. All others are blank.
     pub fn block_records(&self) -> &[BlockRecord]
-        ensures { result.now ≡ (fields self.now).places.blocks.records }
+        ensures all { (fields self.now).places.blocks.records ≡ padded blank_block (length (fields self.now).places.blocks.records) result.now }
+        ensures some { size_of (fields self.now) ≤ 256 * length result.now }
     {
-        self.places.blocks.records.as_slice()
+        self.places.blocks.records.front()
     }
 
     /// All reject values, to be written out.

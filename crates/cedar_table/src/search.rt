@@ -108,7 +108,16 @@ impl<L: Layout, const SLOTS: usize, A: Allocator> Table<L, SLOTS, A> {
         ensures least { OnSome result (ticks.old + length key.now ≤ ticks.new) }
     {
         let mut node = 0;
-        for label in key {
+        let mut rest = key;
+        // Four labels a turn: the turn's own instructions are a third of a step.
+        while let [first, second, third, fourth, after @ ..] = rest {
+            node = self.follow(node, *first, ticks)?;
+            node = self.follow(node, *second, ticks)?;
+            node = self.follow(node, *third, ticks)?;
+            node = self.follow(node, *fourth, ticks)?;
+            rest = after;
+        }
+        for label in rest {
             node = self.follow(node, *label, ticks)?;
         }
         let value = self.number(node, ticks)?;

@@ -317,7 +317,7 @@ impl<L: Layout, const SLOTS: usize, A: Allocator> Table<L, SLOTS, A> {
         requires { 256 * block < capacity_of (fields self.now) }
         ensures { result ≡ block_at (fields self.now).places.blocks.records block }
     {
-        self.places.blocks.records[block]
+        self.places.blocks.records.read(block)
     }
 
     /// How many labels at least find no place in a block with `free` free slots.
@@ -328,31 +328,31 @@ impl<L: Layout, const SLOTS: usize, A: Allocator> Table<L, SLOTS, A> {
         self.places.reject[free]
     }
 
-    /// The base field of a slot, in use or not.
+    /// The base field of a slot in use.
     pub fn base(&self, slot: usize) -> i32
-        requires { slot < capacity_of (fields self.now) }
+        requires { slot < size_of (fields self.now) }
         ensures { result ≡ (cells self.now).base slot }
     {
-        self.places.slots.nodes[slot].base
+        self.places.slots.nodes.at(slot).base
     }
 
     /// What the base field of a node says.
     pub fn stored(&self, node: usize) -> Stored
-        requires { node < capacity_of (fields self.now) }
+        requires { node < size_of (fields self.now) }
         ensures { result ≡ (cells self.now).stored node }
     {
         L::read_base(self.base(node))
     }
 
-    /// The check field of a slot, in use or not. The read is counted.
+    /// The check field of a slot in use. The read is counted.
     pub fn check<C: Ledger>(&self, slot: usize, ticks: &mut Ticks<C>) -> i32
-        requires { slot < capacity_of (fields self.now) }
+        requires { slot < size_of (fields self.now) }
         ensures field { result ≡ check_at (fields self.now).places.slots.nodes slot }
         ensures cell { slot < size_of (fields self.now) → result ≡ (cells self.now).check slot }
         ensures counted { ticks.new ≡ ticks.old + 1 }
     {
         ticks.tick();
-        self.places.slots.nodes[slot].check
+        self.places.slots.nodes.at(slot).check
     }
 
     /// Whether a slot in use is held: it is the root, or its check field names an owner. The read is counted.
@@ -367,17 +367,17 @@ impl<L: Layout, const SLOTS: usize, A: Allocator> Table<L, SLOTS, A> {
 
     /// The label after a slot's in its chain, or 0.
     pub fn sibling(&self, slot: usize) -> u8
-        requires { slot < capacity_of (fields self.now) }
+        requires { slot < size_of (fields self.now) }
         ensures { result ≡ (cells self.now).sibling slot }
     {
-        self.places.slots.infos[slot].sibling
+        self.places.slots.infos.at(slot).sibling
     }
 
     /// The label that begins a node's chain, or 0.
     pub fn child(&self, slot: usize) -> u8
-        requires { slot < capacity_of (fields self.now) }
+        requires { slot < size_of (fields self.now) }
         ensures { result ≡ (cells self.now).child slot }
     {
-        self.places.slots.infos[slot].child
+        self.places.slots.infos.at(slot).child
     }
 }

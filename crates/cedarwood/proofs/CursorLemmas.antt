@@ -10,7 +10,7 @@ use Rattle.cedar_walk.specs.Keys.{KeyGoesOn}
 use Rattle.cedar_walk.specs.Visits.{ComesToNumber, left_at, path_to}
 use Rattle.cedarwood.specs.declared.queries.cursor.CursorPlace.{CursorPlace}
 use Rattle.cedarwood.specs.declared.queries.cursor.CursorPlace.TheVariants.{At, Before}
-use Rattle.cedarwood.specs.Cursors.{cursor_entries, cursor_left, FindsNext, IsAtEnd, IsCursorEnd, IsCursorPlace, IsShortOf, LeadsTo, place_before}
+use Rattle.cedarwood.specs.Cursors.{cursor_entries, cursor_left, FindsNext, IsAtEnd, IsCursorEnd, IsCursorPlace, IsShortOf, place_before, WritesNextKey}
 use Rattle.cedarwood.specs.RangeWalks.{follows_end, IsEnd, IsRangePlace, precedes_end, ranged}
 use Rattle.cedarwood.proofs.BoundedLemmas.{ended, goes_on, some_left}
 use Rattle.cedarwood.proofs.RangeLemmas.{range_place, ranged_is}
@@ -37,7 +37,7 @@ finds_on T start depth slot found comes =
 -- with its key
 pub leads_on : (T : Fields) (start : List ℕ) (depth slot : ℕ) (old new : List ℕ) (found : Option Numbered) → old ≡ start ++ path_to T depth slot
     → MatchOption found (visited_entries (left_at T start depth slot) ≡ []) (ComesToNumber T start (visited_entries (left_at T start depth slot)))
-    → MatchOption found (new ≡ old) (KeyGoesOn T depth slot old new) → LeadsTo T start (At slot depth) new found
+    → MatchOption found (new ≡ old) (KeyGoesOn T depth slot old new) → WritesNextKey T start (At slot depth) new found
 leads_on T start depth slot old new None here comes goes = record { finds = finds_on T start depth slot None comes; stands = tt }
 leads_on T start depth slot old new (Some next) here comes goes =
     let finds = finds_on T start depth slot (Some next) comes in

@@ -60,7 +60,7 @@ abbrev pub FindsNext : Fields → List ℕ → CursorPlace → Option Numbered �
 FindsNext T start place found = (cursor_entries T start place ≡ ranged T start found) × IsRangePlace T start found
 
 -- and its key is written
-pub record LeadsTo (T : Fields) (start : List ℕ) (place : CursorPlace) (key : List ℕ) (found : Option Numbered) : Type 0 where
+pub record WritesNextKey (T : Fields) (start : List ℕ) (place : CursorPlace) (key : List ℕ) (found : Option Numbered) : Type 0 where
   pub finds : FindsNext T start place found
   pub stands : IsCursorPlace T start key (place_at found)
 

@@ -28,8 +28,8 @@ error_text cedar.Memory = codes "out of memory"
 error_text cedar.SlotLimit = codes "cedar trie has no slot left"
 
 -- the place of a refused pair, and why it was refused
-abbrev pub refusal_text : RefusedPair → List ℕ
-refusal_text refusal = codes "pair at input index " ++ (decimal refusal.index ++ (codes ": " ++ error_text refusal.error))
+abbrev pub refused_pair_text : RefusedPair → List ℕ
+refused_pair_text refusal = codes "pair at input index " ++ (decimal refusal.index ++ (codes ": " ++ error_text refusal.error))
 
 abbrev pub entry_error_text : EntryError → List ℕ
 entry_error_text entry.Utf8 = codes "entry key is not UTF-8"

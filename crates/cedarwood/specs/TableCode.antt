@@ -11,8 +11,8 @@ use Rattle.cedar_slots.specs.Places.{PlaceFields}
 use Rattle.cedar_slots.specs.Slots.{SlotFields}
 use Rattle.cedar_model.specs.Table.TableFields.{Fields}
 
-abbrev pub node_code : Coded NodeRecord
-node_code = code_by (ℤ × ℤ) (coded× coded_ℤ coded_ℤ) (λ n. (n.base, n.check)) (λ p. record { base = p.0; check = p.1 }) (λ _. refl)
+abbrev pub node_record_code : Coded NodeRecord
+node_record_code = code_by (ℤ × ℤ) (coded× coded_ℤ coded_ℤ) (λ n. (n.base, n.check)) (λ p. record { base = p.0; check = p.1 }) (λ _. refl)
 
 abbrev pub info_code : Coded NInfoRecord
 info_code = code_by (ℕ × ℕ) (coded× coded_ℕ coded_ℕ) (λ i. (i.sibling, i.child)) (λ p. record { sibling = p.0; child = p.1 }) (λ _. refl)
@@ -26,7 +26,7 @@ block_code =
 
 abbrev pub slots_code : Coded SlotFields
 slots_code =
-    code_by (List NodeRecord × List NInfoRecord) (coded× (coded_list node_code) (coded_list info_code))
+    code_by (List NodeRecord × List NInfoRecord) (coded× (coded_list node_record_code) (coded_list info_code))
     (λ s. (s.nodes, s.infos)) (λ p. record { nodes = p.0; infos = p.1 }) (λ _. refl)
 
 abbrev pub blocks_code : Coded BlockFields

@@ -28,7 +28,7 @@ pub use Rattle.cedarwood.specs.Batches.{held_in_turn, IsErasure, IsErasures, IsU
 pub use Rattle.cedarwood.specs.Blanks.{IsBlankOf}
 pub use Rattle.cedarwood.specs.Builds.{all_stored, first_fault, IsBuild, IsRefusedBuild, outcome}
 pub use Rattle.cedarwood.specs.Cursors.{Cursor, cursor_code, cursor_left, FindsNext, IsAtEnd, IsCursorEnd, IsCursorPlace, IsShortOf}
-pub use Rattle.cedarwood.specs.Cursors.{LeadsTo, place_before}
+pub use Rattle.cedarwood.specs.Cursors.{place_before, WritesNextKey}
 pub use Rattle.cedarwood.specs.Dictionary.{AreSameFigures, capacity_after, Dictionary, dictionary_code, first_bytes, Grows, IsMarked, IsValid}
 pub use Rattle.cedarwood.specs.Ends.{first_entry, last_entry}
 pub use Rattle.cedarwood.specs.Erasures.{all_erased, entries_without, erased_under, IsCleared, IsErasedUnder, MarksCutUnder}
@@ -41,12 +41,12 @@ pub use Rattle.cedarwood.specs.OnTable.{dictionary_of, IsOnTable}
 pub use Rattle.cedarwood.specs.RangeWalks.{bounded, entries_between, GivesBetween, IsEnd, IsRangePlace}
 pub use Rattle.cedarwood.specs.Room.{LacksRoom}
 pub use Rattle.cedarwood.specs.Saving.{FailsToSave, FailsToWrite, PassesAgain}
-pub use Rattle.cedarwood.specs.Shown.{entry_error_text, error_text, refusal_text, shown_text}
+pub use Rattle.cedarwood.specs.Shown.{entry_error_text, error_text, refused_pair_text, shown_text}
 pub use Rattle.cedarwood.specs.Shrinking.{ArePlaces, entry_of, IsEntryPlace, IsMadeOf, IsPutBack, IsRebuilt, IsShrunk, LacksPlaces, PutsBack, PutsEntry}
 pub use Rattle.cedarwood.specs.SortedInput.{AreBytes, fault_behind, fault_from, fault_of_order, HasNoNul, IsSharedFront, key_at}
 pub use Rattle.cedarwood.specs.SortedInput.{sorted_fault}
 pub use Rattle.cedarwood.specs.Told.{told}
-pub use Rattle.cedarwood.specs.Unsorted.{goes_on, IsNotFalling, IsUnsortedBuild, last_of_each, SortsTo}
+pub use Rattle.cedarwood.specs.Unsorted.{four_bytes, goes_on, headed_entries, IsHeaded, IsNotFalling, IsUnsortedBuild, last_of_each, leading_bytes, SortsTo}
 pub use Rattle.cedarwood.specs.Updates.{IsUpdate}
 pub use Rattle.cedarwood.specs.WalkPlaces.{ComesToEntry, entries_from, GoesOnTo, GoesToCopied, GoesToEntry, IsEntriesPlace, IsPredictPlace, IsPrefixPlace}
 pub use Rattle.cedarwood.specs.WalkPlaces.{predicted_from}
@@ -56,9 +56,9 @@ pub use Rattle.std.specs.Cmp.Lexicographic.{slice_cmp}
 pub use Rattle.std.specs.Io.KnownBytes.{Appends, Consumes}
 pub use Rattle.std.specs.Iterator.{item_count, MakesProgress, UpTo, YieldsFirst}
 pub use Rattle.std.specs.Iterator.SizeHint.{IsWithinCount}
-pub use Rattle.std.specs.List.{starts_with}
+pub use Rattle.std.specs.List.{All, starts_with}
 pub use Rattle.std.specs.List.Sorted.{IsPermutation}
 pub use Rattle.std.specs.Mem.{FitsInMemory}
-pub use Rattle.std.specs.Ordering.{is_lt, nat_cmp}
+pub use Rattle.std.specs.Ordering.{is_lt, nat_cmp, ordering_then}
 pub use Rattle.std.specs.Prelude.{[], IfErr, IfOk, IsTrue, length, map, MatchResult, OnOk, Some}
 pub use Rattle.std.specs.declared.cmp.Ordering.TheVariants.{Less}

@@ -25,6 +25,7 @@ mod erasing;
 mod error;
 mod figures;
 mod fits;
+mod heads;
 mod insert;
 mod laws;
 mod pair;

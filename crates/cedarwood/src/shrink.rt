@@ -27,6 +27,21 @@ fn entry_places<T: Walked, A: Allocator>(
     Ok(places)
 }
 
+/// Puts the entry at a place of another dictionary into one. Its key is written into a buffer.
+fn put_entry<T: Walked, L: Layout, const SLOTS: usize, A: Allocator + Copy>(
+    trie: &mut Trie<L, SLOTS, A>,
+    from: &T,
+    place: Numbered,
+    key: &mut Vec<u8, A>,
+) -> Result<(), CedarError>
+    requires well_formed { IsWellFormed T.slots (T.shown from.now) }
+    requires place { IsEntryPlace (T.shown from.now) place }
+    ensures { PutsEntry L.kind SLOTS trie.old trie.new (entry_of (T.shown from.now) place) result }
+{
+    write_key(from, &[], place.slot, place.depth, key)?;
+    trie.update_bytes(key.as_slice(), place.number)
+}
+
 impl<L: Layout, const SLOTS: usize, A: Allocator + Copy> Trie<L, SLOTS, A> {
     /// Gives back the memory that growth and erasures have left: all entries are put into a new table, which takes the place of the
     /// present one unless it has more slots. Keys, values, their order and the settings stay. While it runs there are both tables, a
@@ -70,25 +85,7 @@ impl<L: Layout, const SLOTS: usize, A: Allocator + Copy> Trie<L, SLOTS, A> {
             ordered: self.table.ordered(),
             max_trial: self.table.max_trial(),
         };
-        Self::with_entries(alloc, builder, self, &places)
-    }
-
-    /// A dictionary of the entries at some places of another one.
-    fn with_entries<T: Walked>(
-        alloc: A,
-        builder: CedarBuilder,
-        from: &T,
-        places: &[Numbered],
-    ) -> Result<Self, CedarError>
-        requires limit { IsSlotLimit SLOTS }
-        requires well_formed { IsWellFormed T.slots (T.shown from.now) }
-        requires places { ArePlaces (T.shown from.now) (walk (tree_of (T.shown from.now))) places.now }
-        ensures { IsMadeOf L.kind SLOTS builder.ordered builder.max_trial (walk (tree_of (T.shown from.now))) result }
-    {
-        let mut made = Trie::with(alloc, builder)?;
-        let mut key = Vec::new(alloc);
-        made.put_entries(from, places, &mut key)?;
-        Ok(made)
+        with_entries(alloc, builder, self, &places)
     }
 
     /// Puts the entries at some places of another dictionary into this one, from the last one to the first: so each node gets its labels
@@ -107,23 +104,26 @@ impl<L: Layout, const SLOTS: usize, A: Allocator + Copy> Trie<L, SLOTS, A> {
         let mut left = places.len();
         while left != 0 {
             left -= 1;
-            self.put_entry(from, places[left], key)?;
+            put_entry(self, from, places[left], key)?;
         }
         Ok(())
     }
+}
 
-    /// Puts the entry at a place of another dictionary into this one.
-    fn put_entry<T: Walked>(
-        &mut self,
-        from: &T,
-        place: Numbered,
-        key: &mut Vec<u8, A>,
-    ) -> Result<(), CedarError>
-        requires well_formed { IsWellFormed T.slots (T.shown from.now) }
-        requires place { IsEntryPlace (T.shown from.now) place }
-        ensures { PutsEntry L.kind SLOTS self.old self.new (entry_of (T.shown from.now) place) result }
-    {
-        write_key(from, &[], place.slot, place.depth, key)?;
-        self.update_bytes(key.as_slice(), place.number)
-    }
+/// A dictionary of the entries at some places of another one.
+fn with_entries<T: Walked, L: Layout, const SLOTS: usize, A: Allocator + Copy>(
+    alloc: A,
+    builder: CedarBuilder,
+    from: &T,
+    places: &[Numbered],
+) -> Result<Trie<L, SLOTS, A>, CedarError>
+    requires limit { IsSlotLimit SLOTS }
+    requires well_formed { IsWellFormed T.slots (T.shown from.now) }
+    requires places { ArePlaces (T.shown from.now) (walk (tree_of (T.shown from.now))) places.now }
+    ensures { IsMadeOf L.kind SLOTS builder.ordered builder.max_trial (walk (tree_of (T.shown from.now))) result }
+{
+    let mut made = Trie::with(alloc, builder)?;
+    let mut key = Vec::new(alloc);
+    made.put_entries(from, places, &mut key)?;
+    Ok(made)
 }

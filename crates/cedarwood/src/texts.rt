@@ -1,6 +1,6 @@
 //! The texts of errors, each of which a contract knows byte by byte.
 
-ghost use Rattle.cedarwood.specs.Words.{entry_error_text, error_text, refusal_text, Some};
+ghost use Rattle.cedarwood.specs.Words.{entry_error_text, error_text, refused_pair_text, Some};
 
 use crate::{CedarError, EntryError, RefusedPair};
 use std::error::Error;
@@ -8,7 +8,7 @@ use std::fmt;
 
 impl fmt::Display for CedarError {
     //= The text of each error is known byte by byte, with its numbers in decimal digits. [also EntryError,
-    //  RefusedPair; by error_text, entry_error_text, refusal_text]
+    //  RefusedPair; by error_text, entry_error_text, refused_pair_text]
     ghost output = { λ error. Some (error_text error) };
 
     fn fmt<W: fmt::Write>(&self, f: &mut fmt::Formatter<W>) -> fmt::Result {
@@ -43,7 +43,7 @@ impl fmt::Display for CedarError {
 impl Error for CedarError {}
 
 impl fmt::Display for RefusedPair {
-    ghost output = { λ refusal. Some (refusal_text refusal) };
+    ghost output = { λ refusal. Some (refused_pair_text refusal) };
 
     fn fmt<W: fmt::Write>(&self, f: &mut fmt::Formatter<W>) -> fmt::Result {
         write!(f, "pair at input index {}: {}", self.index, self.error)

@@ -5,7 +5,9 @@ ghost use Rattle.table_tests.specs.Words.{default_layout, IsFitting, parts_field
 
 use crate::steps::{gives, take_some, takes};
 use cedar_file::check_places;
-use cedar_table::{Corrupt, DefaultLayout, Parts, Table, Ticks};
+use cedar_table::{
+    BlockRecord, Corrupt, DefaultLayout, NInfoRecord, NodeRecord, Parts, Table, Ticks,
+};
 use std::alloc::{AllocError, Global};
 use std::marker::Brand;
 use std::process::Abort;
@@ -29,9 +31,13 @@ fn parts_of(table: &Small, alloc: Global) -> Result<Parts<Global>, AllocError> {
         blocks: Vec::new(alloc),
         reject: Vec::new(alloc),
     };
+    let slots = table.capacity();
     parts.nodes.extend_from_slice(table.node_records())?;
+    parts.nodes.resize(slots, NodeRecord::BLANK)?;
     parts.n_infos.extend_from_slice(table.info_records())?;
+    parts.n_infos.resize(slots, NInfoRecord::BLANK)?;
     parts.blocks.extend_from_slice(table.block_records())?;
+    parts.blocks.resize(slots / 256, BlockRecord::BLANK)?;
     parts.reject.extend_from_slice(table.reject_values())?;
     Ok(parts)
 }

@@ -2,6 +2,8 @@
 #![tactic(auto, using(crate::proofs::Limits::limit_1024, crate::proofs::Limits::limit_4096))]
 
 #[cfg(test)]
+mod blanks;
+#[cfg(test)]
 mod checked;
 #[cfg(test)]
 mod checks;

@@ -2,7 +2,7 @@
 
 ghost use Rattle.table_tests.specs.Words.{fields, IsTable};
 
-use cedar_table::{DefaultLayout, Shortage, Table, Ticks};
+use cedar_table::{DefaultLayout, NInfoRecord, NodeRecord, Shortage, Table, Ticks};
 use std::alloc::{AllocError, Allocator, Global};
 use std::process::Abort;
 use std::sync::ledger::Ledger;
@@ -112,7 +112,9 @@ pub fn node<const SLOTS: usize, A: Allocator, C: Ledger>(
     if slot >= table.capacity() {
         return None;
     }
-    Some((table.base(slot), table.check(slot, ticks)))
+    ticks.tick();
+    let node = table.places().slots.nodes.read(slot);
+    Some((node.base, node.check))
 }
 
 /// The fields of a block's record.
@@ -149,8 +151,9 @@ fn push_slot<const SLOTS: usize, A: Allocator, C: Ledger>(
     ticks: &mut Ticks<C>,
 ) -> Result<(), AllocError> {
     if slot < table.capacity() {
-        let (base, check) = (table.base(slot), table.check(slot, ticks));
-        let (sibling, child) = (table.sibling(slot), table.child(slot));
+        ticks.tick();
+        let NodeRecord { base, check } = table.places().slots.nodes.read(slot);
+        let NInfoRecord { sibling, child } = table.places().slots.infos.read(slot);
         all.extend_from_slice(&[base as i64, check as i64, sibling as i64, child as i64])?;
     }
     Ok(())

@@ -1,6 +1,8 @@
 -- Numbers in figures, and what stands before and behind a line's first tab.
-use Rattle.std.proofs.Common.{◌≡◌, ℕ, ℤ, pos, negsuc, w32, List, [], ◌∷◌, Option, Some, None, Bool, true, false, cond, ◌&&◌, Bor, refl, sym, ap, ◌∙◌, arith, zero, suc, take, drop, length, ◌≤◌, ◌<◌, ◌+◌, ◌-◌}
+use Rattle.std.proofs.Common.{◌≡◌, ℕ, ℤ, pos, negsuc, w32, List, [], ◌∷◌, Option, Some, None, Bool, true, false, cond, ◌&&◌, Bor, refl, sym, ap, ◌∙◌, arith, zero, suc, take, drop, length, ◌≤◌, ◌<◌, ◌+◌, ◌-◌, nat_eq, of_z, to_z}
 use Rattle.std.proofs.lemmas.Bool.{eqb-true, false≢true, leb-true, le-leb}
+use Rattle.std.proofs.lemmas.Int.{ints, to_z-of_z}
+use Rattle.std.specs.Ordering.{int_eq}
 use Rattle.std.proofs.lemmas.Grind.{common_steps}
 use Rattle.std.proofs.lemmas.List.{take_all, drop_all, length-drop}
 use Rattle.std.proofs.lemmas.List.Sums.{position_or_len_is}
@@ -17,7 +19,8 @@ use Rattle.std.specs.Char.{digit_value}
 use Rattle.std.specs.Str.{IsUtf8, IsAscii}
 use Rattle.std.specs.Str.Parse.{AllDigits, IsNumeral, ParsesSigned, without_leading_sign, signed_digits_value}
 use Rattle.memchr.specs.Find.{IsFirstByte, is_byte}
-use Rattle.word_lists.specs.Stored.{figures_number, fits_number, is_digit, is_filled, is_tab}
+use Rattle.word_lists.specs.Stored.{figures_number, fits_number, is_tab}
+use Rattle.text_lines.specs.Lines.{is_digit, is_filled}
 
 -- where an element passes first
 pub at_first : (p : ℕ → Bool) (xs : List ℕ) (i : ℕ) → position p xs ≡ Some i → position_or_len p xs ≡ i
@@ -62,6 +65,10 @@ filled_tested (c ∷ ds) h = omega arith
 pub filled_unless : (text : List ℕ) → false ≡ (length text == 0) → is_filled text ≡ true
 filled_unless [] h = absurd (false≢true h)
 filled_unless (b ∷ text) h = refl
+
+pub unfilled_if : (text : List ℕ) → true ≡ (length text == 0) → is_filled text ≡ false
+unfilled_if [] h = refl
+unfilled_if (b ∷ text) h = absurd (let same : length (b ∷ text) ≡ 0 = eqb-true (length (b ∷ text)) 0 (sym h) in omega arith)
 
 pub fits_test : (v : ℤ) → FitsSigned w32 v → fits_number v ≡ true
 fits_test (pos n) h = let b : n < 2147483648 = h.sfits in le-leb n 2147483647 (omega arith)
@@ -152,3 +159,14 @@ first_byte b text (Some at) first = sym (rw at_first (grind (arith, common_steps
 pub tab_within : (line : List ℕ) (found : Option ℕ) → found ≡ position is_tab line → IfSome found (λ at. at < length line)
 tab_within line None e = tt
 tab_within line (Some at) e = (position-Some is_tab line at 0 (sym e)).0
+
+-- ---- `==` of two numbers compares their bits, which are equal just for equal numbers
+
+same_test : (m n : ℕ) (a b : ℤ) → (m ≡ n → a ≡ b) → (a ≡ b → m ≡ n) → nat_eq m n ≡ int_eq a b
+same_test m n a b back forth = grind (arith, ints)
+
+pub same_bits : (a b : ℤ) → FitsSigned w32 a → FitsSigned w32 b → nat_eq (of_z w32 a) (of_z w32 b) ≡ int_eq a b
+same_bits a b f g =
+    let back : of_z w32 a ≡ of_z w32 b → a ≡ b = λ e. sym (to_z-of_z w32 a f) ∙ ap (to_z w32) e ∙ to_z-of_z w32 b g in
+    let forth : a ≡ b → of_z w32 a ≡ of_z w32 b = ap (of_z w32) in
+    same_test (of_z w32 a) (of_z w32 b) a b back forth

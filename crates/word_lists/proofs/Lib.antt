@@ -6,6 +6,7 @@ pub mod NextEntries
 pub mod OneLine
 pub mod PlainLines
 pub mod Refusals
+pub mod Rooms
 pub mod SignedLines
 pub mod Texts
 pub mod WordLines

@@ -17,15 +17,15 @@ use Rattle.cedarwood.specs.declared.builder.CedarBuilder.{CedarBuilder}
 use Rattle.cedarwood.specs.declared.error.CedarError.{CedarError}
 use Rattle.std.specs.Cmp.Lexicographic.{slice_cmp}
 use Rattle.std.specs.Ordering.{nat_cmp}
-use Rattle.word_lists.specs.Reading.{bytes_behind, first_of, named_of, read_as}
-use Rattle.word_lists.specs.Stored.{is_tab, line_stored, lines_stored, number_of, pairs_stored, stored_by, stored_with, word_of}
+use Rattle.word_lists.specs.Reading.{bytes_behind, first_read, named_of, read_as}
+use Rattle.word_lists.specs.Stored.{is_tab, line_stored, lines_stored, number_of_line, pairs_stored, stored_by, stored_with, word_of}
 use Rattle.word_lists.specs.Texts.{body_of}
 use Rattle.word_lists.proofs.Figures.{filled_test}
 use Rattle.word_lists.proofs.ListedLines.{stored_push}
 
 -- ---- a word without a backslash
 
-first_plain : (b : ℕ) (text : List ℕ) → (b == 92) ≡ false → first_of (b ∷ text) ≡ (b, 1)
+first_plain : (b : ℕ) (text : List ℕ) → (b == 92) ≡ false → first_read (b ∷ text) ≡ (b, 1)
 first_plain b [] h = refl
 first_plain b (x ∷ []) h = refl
 first_plain b (x ∷ (high ∷ [])) h = refl
@@ -41,10 +41,10 @@ read_plain (b ∷ text) h =
 -- ---- a line
 
 -- a line whose word stands for itself stores it with its number
-pub plain_stored : (s : State) (number : ℕ) (line word : List ℕ) (v : ℤ) → 0 < length line → word ≡ before_first is_tab line → number_of number line ≡ Some v → read_as word ≡ word
+pub plain_stored : (s : State) (number : ℕ) (line word : List ℕ) (v : ℤ) → 0 < length line → word ≡ before_first is_tab line → number_of_line number line ≡ Some v → read_as word ≡ word
     → line_stored s number line ≡ stored_by (fault word v) s word v
 plain_stored s number line word v some is numbered plain =
-    ap (λ f. cond f (stored_with (number_of number line) s (word_of line)) s) (filled_test line some)
+    ap (λ f. cond f (stored_with (number_of_line number line) s (word_of line)) s) (filled_test line some)
     ∙ ap (λ o. stored_with o s (word_of line)) numbered ∙ ap (λ x. stored_by (fault x v) s x v) (ap read_as (sym is) ∙ plain)
 
 -- ---- pairs

@@ -2,7 +2,7 @@
 use Rattle.std.proofs.Common.{◌≡◌, ℤ, List, ℕ, Bool, true, false, cond, is_some, Option, Some, None, IfSome, refl, sym, ap, subst}
 use Rattle.std.proofs.lemmas.Bool.{false≢true}
 use Rattle.std.specs.Prelude.{IsSome, IsTrue, ◌↔◌, Result, Ok, Err, IfOk, OnOk}
-use Rattle.cedar_tree.specs.State.{State, stored}
+use Rattle.cedar_tree.specs.State.{State, erased, stored}
 use Rattle.cedar_tree.specs.Tree.{number_at}
 use Rattle.cedarwood.specs.Fault.{IsShortage}
 use Rattle.cedarwood.specs.declared.error.CedarError.{CedarError}
@@ -10,7 +10,8 @@ use Rattle.cedarwood.specs.declared.error.CedarError.TheVariants as errors
 use Rattle.word_lists.specs.declared.lines.LineFault.{LineFault as Fault}
 use Rattle.word_lists.specs.declared.lines.StoreError.{StoreError}
 use Rattle.word_lists.specs.declared.lines.StoreError.TheVariants.{SlotLimit}
-use Rattle.word_lists.specs.Stored.{IsWant, is_filled, line_held, refusal_of, stored_by, told_by, want_of, word_of}
+use Rattle.word_lists.specs.Stored.{absent_of, IsWant, line_absent, line_erased, line_held, line_refusal, stored_by, told_by, want_of, word_of}
+use Rattle.text_lines.specs.Lines.{is_filled}
 
 -- a want of slots is that of the dictionary
 pub slots_wanted : (e : CedarError) → ◌≡◌ {A = StoreError} (want_of e) SlotLimit → e ≡ errors.SlotLimit
@@ -43,7 +44,7 @@ no_want : (t : Option Fault) (f : StoreError) → ◌≡◌ {A = Result (Option 
 no_want t f h = cc
 
 -- a refused entry that wants slots
-pub refused_slots : (e : CedarError) → refusal_of e ≡ Err SlotLimit → e ≡ errors.SlotLimit
+pub refused_slots : (e : CedarError) → line_refusal e ≡ Err SlotLimit → e ≡ errors.SlotLimit
 refused_slots errors.SlotLimit h = refl
 refused_slots errors.EmptyKey h = absurd (no_want _ SlotLimit h)
 refused_slots (errors.NulByte at) h = absurd (no_want _ SlotLimit h)
@@ -54,7 +55,7 @@ refused_slots (errors.KeysNotSorted i) h = slots_wanted (errors.KeysNotSorted i)
 refused_slots errors.Memory h = slots_wanted errors.Memory (same_want _ SlotLimit h)
 
 -- a shortage is no fault of a line
-short_refused : (P : Type 0) (e : CedarError) → IsShortage e → OnOk (refusal_of e) P
+short_refused : (P : Type 0) (e : CedarError) → IsShortage e → OnOk (line_refusal e) P
 short_refused P errors.SlotLimit s = tt
 short_refused P errors.Memory s = tt
 short_refused P errors.EmptyKey s = absurd s
@@ -64,7 +65,7 @@ short_refused P (errors.InvalidMaxTrial v) s = absurd s
 short_refused P (errors.DuplicateKey i) s = absurd s
 short_refused P (errors.KeysNotSorted i) s = absurd s
 
-short_told : (P : Option Fault → Type 0) (e : CedarError) → IsShortage e → IfOk (refusal_of e) P
+short_told : (P : Option Fault → Type 0) (e : CedarError) → IsShortage e → IfOk (line_refusal e) P
 short_told P errors.SlotLimit s = tt
 short_told P errors.Memory s = tt
 short_told P errors.EmptyKey s = absurd s
@@ -78,7 +79,7 @@ on_ok : {X E P : Type 0} (r : Result X E) → P → OnOk r P
 on_ok (Ok x) p = p
 on_ok (Err e) p = tt
 
-fault_told : (held : Bool) (f : CedarError) → IfOk (refusal_of f) (λ told. told ≡ told_by (Some f) held)
+fault_told : (held : Bool) (f : CedarError) → IfOk (line_refusal f) (λ told. told ≡ told_by (Some f) held)
 fault_told held errors.SlotLimit = tt
 fault_told held errors.Memory = tt
 fault_told held errors.EmptyKey = refl
@@ -90,16 +91,16 @@ fault_told held (errors.KeysNotSorted i) = tt
 
 -- what a refused entry leaves, where it is told of
 pub refused_state : (X : Type 0) (o : Option CedarError) (word : List ℕ) (v : ℤ) (s t : State) (e : CedarError)
-    → IfSome o (λ f. ◌≡◌ {A = Result X CedarError} (Err e) (Err f)) → (o ≡ None → IsShortage e) → t ≡ s → OnOk (refusal_of e) (t ≡ stored_by o s word v)
+    → IfSome o (λ f. ◌≡◌ {A = Result X CedarError} (Err e) (Err f)) → (o ≡ None → IsShortage e) → t ≡ s → OnOk (line_refusal e) (t ≡ stored_by o s word v)
 refused_state X None word v s t e fine short same = short_refused (t ≡ stored s word v) e (short refl)
-refused_state X (Some f) word v s t e fine short same = on_ok (refusal_of e) same
+refused_state X (Some f) word v s t e fine short same = on_ok (line_refusal e) same
 
 -- and what is told
 pub refused_told : (X : Type 0) (o : Option CedarError) (held : Bool) (e : CedarError)
-    → IfSome o (λ f. ◌≡◌ {A = Result X CedarError} (Err e) (Err f)) → (o ≡ None → IsShortage e) → IfOk (refusal_of e) (λ told. told ≡ told_by o held)
+    → IfSome o (λ f. ◌≡◌ {A = Result X CedarError} (Err e) (Err f)) → (o ≡ None → IsShortage e) → IfOk (line_refusal e) (λ told. told ≡ told_by o held)
 refused_told X None held e fine short = short_told (λ told. told ≡ told_by None held) e (short refl)
 refused_told X (Some f) held e fine short =
-    subst (λ (x : CedarError). IfOk (refusal_of x) (λ told. told ≡ told_by (Some f) held)) (sym (same_error e f fine)) (fault_told held f)
+    subst (λ (x : CedarError). IfOk (line_refusal x) (λ told. told ≡ told_by (Some f) held)) (sym (same_error e f fine)) (fault_told held f)
 
 -- what an entry that is stored leaves, and what is told of it
 pub stored_state : (o : Option CedarError) (word : List ℕ) (v : ℤ) (s t : State) → IfSome o (λ f. ◌≡◌ {A = Result (Unit {0}) CedarError} (Ok tt) (Err f)) → t ≡ stored s word v
@@ -124,6 +125,16 @@ held_is true (Some v) h = refl
 held_is false None h = refl
 held_is true None h = absurd (false≢true (h.0 refl))
 held_is false (Some v) h = absurd (false≢true (h.1 refl))
+
+-- an empty line takes nothing out, and a filled one its word
+pub erased_none : (s : State) (line : List ℕ) → is_filled line ≡ false → s ≡ line_erased s line
+erased_none s line unfilled = ap (λ f. cond f (erased s (word_of line)) s) (sym unfilled)
+
+pub erased_word : (s : State) (line : List ℕ) → is_filled line ≡ true → erased s (word_of line) ≡ line_erased s line
+erased_word s line filled = ap (λ f. cond f (erased s (word_of line)) s) (sym filled)
+
+pub absent_none : (s : State) (line : List ℕ) → is_filled line ≡ false → 0 ≡ line_absent s line
+absent_none s line unfilled = ap (λ f. absent_of (cond f (is_some (number_at s.tree (word_of line))) true)) (sym unfilled)
 
 pub word_held : (s : State) (line : List ℕ) → is_filled line ≡ true → is_some (number_at s.tree (word_of line)) ≡ line_held s line
 word_held s line filled = ap (λ f. cond f (is_some (number_at s.tree (word_of line))) true) (sym filled)

@@ -7,7 +7,7 @@ use Rattle.cedar_tree.specs.Queries.{Entry}
 use Rattle.cedar_tree.specs.State.{State, stored}
 use Rattle.cedar_tree.specs.Tree.{Tree}
 use Rattle.cedarwood.specs.Builds.{all_stored}
-use Rattle.word_lists.specs.Devices.{WritesFront, WritesFrontOrAll}
+use Rattle.text_lines.specs.Written.{AppendsFront, WritesFront}
 use Rattle.word_lists.specs.Lines.{holds_entry, lacking, signed_line, signed_lines}
 use Rattle.word_lists.proofs.Bytes.{front_after, front_more}
 
@@ -46,6 +46,13 @@ pub one_lacking : (sign : List ℕ) (tree : Tree) (e : Entry) → holds_entry tr
 one_lacking sign tree e lacks =
     sym (append-nil (signed_line sign e)) ∙ ap (λ (held : Bool). signed_lines sign (cond held [] (e ∷ []))) (sym lacks)
 
+-- and one that is held has none
+pub none_lacking : (sign : List ℕ) (tree : Tree) (e : Entry) → holds_entry tree e ≡ true → [] ≡ signed_lines sign (lacking tree (e ∷ []))
+none_lacking sign tree e held = ap (λ (held : Bool). signed_lines sign (cond held [] (e ∷ []))) (sym held)
+
+pub nothing_lacking : (tree : Tree) (e : Entry) → holds_entry tree e ≡ true → false ≡ ltb 0 (length (lacking tree (e ∷ [])))
+nothing_lacking tree e held = ap (λ (held : Bool). ltb 0 (length (cond held [] (e ∷ [])))) (sym held)
+
 pub some_lacking : (tree : Tree) (e : Entry) → holds_entry tree e ≡ false → true ≡ ltb 0 (length (lacking tree (e ∷ [])))
 some_lacking tree e lacks =
     sym (lt-ltb 0 1 (omega arith)) ∙ ap (λ (held : Bool). ltb 0 (length (cond held [] (e ∷ [])))) (sym lacks)
@@ -62,7 +69,7 @@ lacking_stopped sign tree a b d entries came later e whole written front =
 
 -- the lines of some entries were written, and nothing of the others
 pub lacking_begun : (sign : List ℕ) (tree : Tree) (a b : Option (List ℕ)) (entries came later : List Entry) → entries ≡ came ++ later
-    → Appends a b (signed_lines sign (lacking tree came)) → WritesFrontOrAll a b (signed_lines sign (lacking tree entries))
+    → Appends a b (signed_lines sign (lacking tree came)) → AppendsFront a b (signed_lines sign (lacking tree entries))
 lacking_begun sign tree a b entries came later whole written = (
   signed_lines sign (lacking tree came),
   signed_lines sign (lacking tree later),
@@ -71,5 +78,5 @@ lacking_begun sign tree a b entries came later whole written = (
 )
 
 -- a front that isn't all is one that may be
-pub or_all : (a b : Option (List ℕ)) (bytes : List ℕ) → WritesFront a b bytes → WritesFrontOrAll a b bytes
+pub or_all : (a b : Option (List ℕ)) (bytes : List ℕ) → WritesFront a b bytes → AppendsFront a b bytes
 or_all a b bytes h = (h.0, h.1, h.3, h.4)

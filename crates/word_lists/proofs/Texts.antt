@@ -7,8 +7,8 @@ use Rattle.std.specs.Prelude.{ltb}
 use Rattle.std.specs.Io.KnownBytes.{Appends}
 use Rattle.cedar_tree.specs.Tree.{Tree}
 use Rattle.cedar_words.specs.Words.{IsCheapestBy, IsCut, IsLeastCapped, Spot, Token, character_price, keywords_in, segments}
-use Rattle.word_lists.specs.Devices.{WritesFront}
-use Rattle.word_lists.specs.Texts.{IsCheapestCut, body_of, ending_of, marked_line, marked_token, characters, characters_begun, goes_on, spot_line, spot_lines, texts_of}
+use Rattle.text_lines.specs.Written.{WritesFront}
+use Rattle.word_lists.specs.Texts.{IsCheapestCut, body_of, ending_of, marked_line, marked_token, characters, characters_begun, continues_character, spot_line, spot_lines, texts_of}
 use Rattle.word_lists.proofs.Bytes.{front_after, front_more}
 
 texts-append : (text_of : Token → List ℕ) (a b : List Token) → texts_of text_of (a ++ b) ≡ texts_of text_of a ++ texts_of text_of b
@@ -47,7 +47,7 @@ characters-append (x ∷ a) b = let below = characters-append a b in omega (arit
 -- there are no more of them than bytes
 pub characters_within : (a : List ℕ) → characters a ≤ length a
 characters_within [] = omega arith
-characters_within (x ∷ a) = let below = characters_within a in let one = at_most_one (goes_on x) in omega (arith, below, one) where
+characters_within (x ∷ a) = let below = characters_within a in let one = at_most_one (continues_character x) in omega (arith, below, one) where
   at_most_one : (b : Bool) → (if b then 0 else 1) ≤ 1
   at_most_one true = omega arith
   at_most_one false = omega arith

@@ -3,7 +3,7 @@ use Rattle.std.proofs.Common.{◌≡◌, ◌<◌, suc, ℕ, List, [], ◌∷◌,
 use Rattle.std.proofs.lemmas.List.{take_all}
 use Rattle.std.specs.Io.KnownBytes.{Appends}
 use Rattle.cedar_tree.specs.Queries.{Entry}
-use Rattle.word_lists.specs.Devices.{WritesFront}
+use Rattle.text_lines.specs.Written.{WritesFront}
 use Rattle.hex.specs.Hex.{encode_lower}
 use Rattle.word_lists.specs.Lines.{byte_text, entry_line, entry_lines, escaped, is_plain, word_text}
 use Rattle.std.specs.Fmt.{signed_decimal}

@@ -9,14 +9,14 @@ named_of (Ok bytes) = (get_or bytes 0 0, 4)
 named_of (Err e) = (92, 1)
 
 -- the first byte that a text stands for, and how many of its bytes do
-abbrev pub first_of : List ℕ → ℕ × ℕ
-first_of (b ∷ x ∷ high ∷ low ∷ rest) = if (b == 92) && (x == 120) then named_of (decode_sized (high ∷ low ∷ []) 1) else (b, 1)
-first_of rest = (get_or rest 0 0, 1)
+abbrev pub first_read : List ℕ → ℕ × ℕ
+first_read (b ∷ x ∷ high ∷ low ∷ rest) = if (b == 92) && (x == 120) then named_of (decode_sized (high ∷ low ∷ []) 1) else (b, 1)
+first_read rest = (get_or rest 0 0, 1)
 
 -- the bytes that a text stands for behind its first bytes, so many of which are done with
 abbrev pub bytes_behind : ℕ → List ℕ → List ℕ
 bytes_behind done [] = []
-bytes_behind zero (b ∷ rest) = (first_of (b ∷ rest)).0 ∷ bytes_behind ((first_of (b ∷ rest)).1 - 1) rest
+bytes_behind zero (b ∷ rest) = (first_read (b ∷ rest)).0 ∷ bytes_behind ((first_read (b ∷ rest)).1 - 1) rest
 bytes_behind (suc done) (b ∷ rest) = bytes_behind done rest
 
 -- the word that a text stands for: `\x` and two digits are a byte, and any other byte stands for itself

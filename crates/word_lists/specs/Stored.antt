@@ -9,6 +9,7 @@ use Rattle.cedarwood.specs.Fault.{fault}
 use Rattle.cedarwood.specs.Builds.{all_stored}
 use Rattle.cedarwood.specs.declared.error.CedarError.{CedarError}
 use Rattle.cedarwood.specs.declared.error.CedarError.TheVariants.{EmptyKey, NulByte, InvalidValue, SlotLimit as OfSlots}
+use Rattle.text_lines.specs.Lines.{is_digit, is_filled, onto_first}
 use Rattle.word_lists.specs.Reading.{read_as}
 use Rattle.word_lists.specs.Texts.{body_of}
 use Rattle.word_lists.specs.declared.lines.StoreError.{StoreError}
@@ -18,18 +19,9 @@ use Rattle.word_lists.specs.declared.lines.LineFault.TheVariants as faults
 
 -- ---- a line
 
--- a byte `0` to `9`
-abbrev pub is_digit : ℕ → Bool
-is_digit c = nat_le 48 c && nat_le c 57
-
 -- whether a number is from -2147483648 to 2147483647
 abbrev pub fits_number : ℤ → Bool
 fits_number v = int_le (negsuc 2147483647) v && int_le v (pos 2147483647)
-
--- whether there is one byte or more
-abbrev pub is_filled : List ℕ → Bool
-is_filled [] = false
-is_filled (b ∷ bs) = true
 
 -- a number in figures: `+`, `-` or neither, and then one or more digits
 abbrev pub figures_number : List ℕ → Option ℤ
@@ -38,8 +30,8 @@ figures_number text =
     then Some (signed_digits_value 10 text) else None
 
 -- the number of a line that has none: its own
-abbrev pub own_number : ℕ → Option ℤ
-own_number number = if nat_le number 2147483647 then Some (pos number) else None
+abbrev pub own_line_number : ℕ → Option ℤ
+own_line_number number = if nat_le number 2147483647 then Some (pos number) else None
 
 abbrev pub is_tab : ℕ → Bool
 is_tab b = b == 9
@@ -53,12 +45,12 @@ abbrev pub figures_of : List ℕ → Option (List ℕ)
 figures_of line = if is_some (position is_tab line) then Some (after_first is_tab line) else None
 
 abbrev pub number_with : ℕ → Option (List ℕ) → Option ℤ
-number_with number None = own_number number
+number_with number None = own_line_number number
 number_with number (Some figures) = figures_number figures
 
 -- its number: that in figures behind the first tab, and without a tab the line's own
-abbrev pub number_of : ℕ → List ℕ → Option ℤ
-number_of number line = number_with number (figures_of line)
+abbrev pub number_of_line : ℕ → List ℕ → Option ℤ
+number_of_line number line = number_with number (figures_of line)
 
 -- ---- wants
 
@@ -85,7 +77,7 @@ stored_with (Some v) s word = stored_by (fault word v) s word v
 
 -- the state with a line, which has this number: its word has its number, unless that is none or the two have a fault
 abbrev pub line_stored : State → ℕ → List ℕ → State
-line_stored s number line = if is_filled line then stored_with (number_of number line) s (word_of line) else s
+line_stored s number line = if is_filled line then stored_with (number_of_line number line) s (word_of line) else s
 
 abbrev pub told_by : Option CedarError → Bool → Option Fault
 told_by None true = Some faults.Repeated
@@ -100,7 +92,7 @@ told_with (Some v) s word = told_by (fault word v) (is_some (number_at s.tree wo
 
 -- what is told of a line: that it has no number, the fault of its word and number, or that its word is held
 abbrev pub line_told : State → ℕ → List ℕ → Option Fault
-line_told s number line = if is_filled line then told_with (number_of number line) s (word_of line) else None
+line_told s number line = if is_filled line then told_with (number_of_line number line) s (word_of line) else None
 
 -- a line that is told: its number, its bytes, and what is wrong with it
 abbrev pub Told : Type 0
@@ -111,11 +103,11 @@ told_one number line None = []
 told_one number line (Some f) = (number, line, f) ∷ []
 
 -- what a refused entry says of its line, or of the dictionary
-abbrev pub refusal_of : CedarError → Result (Option Fault) StoreError
-refusal_of EmptyKey = Ok (Some faults.EmptyWord)
-refusal_of (NulByte at) = Ok (Some faults.NulByte)
-refusal_of (InvalidValue v) = Ok (Some faults.Number)
-refusal_of e = Err (want_of e)
+abbrev pub line_refusal : CedarError → Result (Option Fault) StoreError
+line_refusal EmptyKey = Ok (Some faults.EmptyWord)
+line_refusal (NulByte at) = Ok (Some faults.NulByte)
+line_refusal (InvalidValue v) = Ok (Some faults.Number)
+line_refusal e = Err (want_of e)
 
 -- the state with some pairs, one after another; one that has a fault stores nothing
 abbrev pub pairs_stored : State → List Entry → State
@@ -127,11 +119,6 @@ abbrev pub AddsLine : List Entry → List Entry → ℕ → List ℕ → Type 0
 AddsLine before after number line = (s : State) → line_stored (pairs_stored s before) number line ≡ pairs_stored s after
 
 -- ---- the lines of a list
-
--- the lines with a byte at the front of the first
-abbrev pub onto_first : ℕ → List (List ℕ) → List (List ℕ)
-onto_first b [] = (b ∷ []) ∷ []
-onto_first b (line ∷ lines) = (b ∷ line) ∷ lines
 
 -- the bytes up to each byte 10, with it, and what follows the last one, unless that is empty
 abbrev pub lines_in : List ℕ → List (List ℕ)

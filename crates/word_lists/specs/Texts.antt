@@ -17,8 +17,8 @@ abbrev pub fronts_of : Tree → List ℕ → List Entry
 fronts_of tree text = map (front_entry text) (front tree text)
 
 -- so many bytes of a text from a place on, or as many as there are
-abbrev pub part_of : List ℕ → ℕ → ℕ → List ℕ
-part_of text start len = take len (drop start text)
+abbrev pub text_part : List ℕ → ℕ → ℕ → List ℕ
+text_part text start len = take len (drop start text)
 
 -- whether a line ends with a byte
 abbrev pub ends_with : ℕ → List ℕ → Bool
@@ -37,12 +37,12 @@ abbrev pub ending_of : List ℕ → List ℕ
 ending_of line = drop (length (body_of line)) line
 
 -- whether a byte goes on with a character of UTF-8
-abbrev pub goes_on : ℕ → Bool
-goes_on b = nat_le 128 b && ltb b 192
+abbrev pub continues_character : ℕ → Bool
+continues_character b = nat_le 128 b && ltb b 192
 
 -- how many characters begin with a byte: one, or none
 abbrev pub characters_begun : ℕ → ℕ
-characters_begun b = if goes_on b then 0 else 1
+characters_begun b = if continues_character b then 0 else 1
 
 -- how many characters begin in some bytes
 abbrev pub characters : List ℕ → ℕ
@@ -52,15 +52,15 @@ characters (b ∷ bytes) = characters_begun b + characters bytes
 -- whether a sign stands before a token: none before the first one, and none before a byte without a number that goes on with a
 -- character
 abbrev pub is_parted : List ℕ → Token → Bool
-is_parted text t = ltb 0 t.0 && (is_some t.2 || not (goes_on (get_or text t.0 0)))
+is_parted text t = ltb 0 t.0 && (is_some t.2 || not (continues_character (get_or text t.0 0)))
 
 -- what stands before a token: the sign, or nothing
 abbrev pub parting : List ℕ → List ℕ → Token → List ℕ
 parting sign text t = if is_parted text t then sign else []
 
 -- a token, and what stands before it
-abbrev pub token_text : List ℕ → List ℕ → Token → List ℕ
-token_text sign text t = parting sign text t ++ part_of text t.0 t.1
+abbrev pub parted_token : List ℕ → List ℕ → Token → List ℕ
+parted_token sign text t = parting sign text t ++ text_part text t.0 t.1
 
 -- the texts of some tokens, one behind another
 abbrev pub texts_of : (Token → List ℕ) → List Token → List ℕ
@@ -69,7 +69,7 @@ texts_of text_of (t ∷ tokens) = text_of t ++ texts_of text_of tokens
 
 -- the tokens of a text with a sign between them
 abbrev pub cut_text : List ℕ → List ℕ → List Token → List ℕ
-cut_text sign text tokens = texts_of (token_text sign text) tokens
+cut_text sign text tokens = texts_of (parted_token sign text) tokens
 
 -- a line cut into these tokens, with a sign between them and the bytes that end it behind them
 abbrev pub line_cut : List ℕ → List ℕ → List Token → List ℕ
@@ -92,7 +92,7 @@ mark_text word = mark_on ++ (word ++ mark_off)
 
 -- a token of a text; a key in the colour of a match
 abbrev pub marked_token : List ℕ → Token → List ℕ
-marked_token text t = if is_some t.2 then mark_text (part_of text t.0 t.1) else part_of text t.0 t.1
+marked_token text t = if is_some t.2 then mark_text (text_part text t.0 t.1) else text_part text t.0 t.1
 
 -- a line with each of its keywords in that colour; nothing where it has none
 abbrev pub marked_line : Tree → List ℕ → List ℕ
@@ -113,7 +113,7 @@ replaced_by lines (Some number) own = replacement lines number own
 
 -- a token of a text; a key as the line of its number, if there is one
 abbrev pub replaced_token : List (Bor (List ℕ)) → List ℕ → Token → List ℕ
-replaced_token lines text t = replaced_by lines t.2 (part_of text t.0 t.1)
+replaced_token lines text t = replaced_by lines t.2 (text_part text t.0 t.1)
 
 -- the tokens of a text, each key as the line of its number
 abbrev pub replaced_text : List (Bor (List ℕ)) → List ℕ → List Token → List ℕ
@@ -125,7 +125,7 @@ replaced_line tree lines line = replaced_text lines (body_of line) (segments tre
 
 -- a token in a style
 abbrev pub style_text : Style → List ℕ → Token → List ℕ
-style_text (Parted sign) text t = token_text sign.now text t
+style_text (Parted sign) text t = parted_token sign.now text t
 style_text Marked text t = marked_token text t
 style_text (Replaced lines) text t = replaced_token lines.now text t
 
@@ -145,13 +145,13 @@ abbrev pub OnCheapestLine : Tree → ℕ → List ℕ → List ℕ → (List ℕ
 OnCheapestLine tree unknown sign line P = (tokens : List Token) × IsCheapestCut tree unknown (body_of line) tokens × P (line_cut sign line tokens)
 
 -- a number and a tab
-abbrev pub field : ℕ → List ℕ
-field number = decimal number ++ 9 ∷ []
+abbrev pub tab_field : ℕ → List ℕ
+tab_field number = decimal number ++ 9 ∷ []
 
 -- the line of a word that stands in a text: the number of the text's line, the column, the word and its number, with tabs between them.
 -- A column is one more than how many characters begin before the word
 abbrev pub spot_line : ℕ → List ℕ → Spot → List ℕ
-spot_line number text s = field number ++ (field (1 + characters (take s.0 text)) ++ entry_line (part_of text s.0 s.1, s.2))
+spot_line number text s = tab_field number ++ (tab_field (1 + characters (take s.0 text)) ++ entry_line (text_part text s.0 s.1, s.2))
 
 -- the lines of some words
 abbrev pub spot_lines : ℕ → List ℕ → List Spot → List ℕ

@@ -1,7 +1,7 @@
 //! A text cut into tokens, with a sign between them.
 
 ghost use Rattle.std.specs.Prelude.{◌++◌, ◌∷◌, ◌≡◌, [], Err, get_or, List, MatchOption, OnErr, OnOk};
-ghost use Rattle.word_lists.specs.Words.{body_of, BreaksOff, ending_of, greedy_line, has_failed, is_parted, LineFault, OnCheapestLine, parting, style_text, styled_text, Token, token_text, Writes, WritesOrFails};
+ghost use Rattle.word_lists.specs.Words.{body_of, BreaksOff, ending_of, greedy_line, has_failed, is_parted, LinesOrFails, OnCheapestLine, parted_token, parting, style_text, styled_text, Token, Writes, WritesOrFails};
 
 use crate::marked::{write_marked_token, write_replaced_token};
 use crate::parts::{body, byte_at, ending, goes_on, part};
@@ -35,7 +35,7 @@ pub fn write_cut<L: Layout, const SLOTS: usize, A: Allocator + Copy, W: Write>(
 
     //= One that fails wrote a beginning of that, and not all; a call of the writer failed. [with faults]
     ensures err { OnErr result (BreaksOff W.contents writer.old writer.new (greedy_line trie.now.state.tree sign.now line.now)) }
-    ensures faults { WritesOrFails (has_failed writer.old) (has_failed writer.new) result }
+    ensures faults { WritesOrFails ListError.Write (has_failed writer.old) (has_failed writer.new) result }
 {
     write_line_tokens(
         writer,
@@ -65,7 +65,7 @@ pub(crate) fn write_line_tokens<T: Tokens, W: Write>(
 ) -> Result<(), ListError>
     ensures ok { OnOk result (Writes W.contents writer.old writer.new (styled_text style.entry (body_of line.now) (T.left tokens.old) ++ ending_of line.now)) }
     ensures err { OnErr result (BreaksOff W.contents writer.old writer.new (styled_text style.entry (body_of line.now) (T.left tokens.old) ++ ending_of line.now)) }
-    ensures faults { WritesOrFails (has_failed writer.old) (has_failed writer.new) result }
+    ensures faults { WritesOrFails ListError.Write (has_failed writer.old) (has_failed writer.new) result }
 {
     write_tokens(writer, body(line), style, tokens)?;
     write_whole(writer, ending(line))
@@ -114,7 +114,7 @@ fn write_tokens<T: Tokens, W: Write>(
 ) -> Result<(), ListError>
     ensures ok { OnOk result (Writes W.contents writer.old writer.new (styled_text style.entry text.now (T.left tokens.old))) }
     ensures err { OnErr result (BreaksOff W.contents writer.old writer.new (styled_text style.entry text.now (T.left tokens.old))) }
-    ensures faults { WritesOrFails (has_failed writer.old) (has_failed writer.new) result }
+    ensures faults { WritesOrFails ListError.Write (has_failed writer.old) (has_failed writer.new) result }
 {
     while let Some(token) = tokens.next_token() {
         write_token(writer, text, style, token)?;
@@ -131,7 +131,7 @@ fn write_token<W: Write>(
 ) -> Result<(), ListError>
     ensures ok { OnOk result (Writes W.contents writer.old writer.new (style_text style.entry text.now token)) }
     ensures err { OnErr result (BreaksOff W.contents writer.old writer.new (style_text style.entry text.now token)) }
-    ensures faults { WritesOrFails (has_failed writer.old) (has_failed writer.new) result }
+    ensures faults { WritesOrFails ListError.Write (has_failed writer.old) (has_failed writer.new) result }
 {
     match style {
         Style::Parted(sign) => write_parted(writer, text, sign, token),
@@ -169,7 +169,7 @@ pub fn write_cheapest_cut<L: Layout, const SLOTS: usize, A: Allocator + Copy, W:
     ensures memory { result ≡ Err ListError.Memory → writer.new ≡ writer.old }
 
     //= It fails with `Write` only where a call of the writer failed; with `Memory`, and where it is `Ok`, none did.
-    ensures faults { LineFault (has_failed writer.old) (has_failed writer.new) result }
+    ensures faults { LinesOrFails (has_failed writer.old) (has_failed writer.new) result }
 {
     let Ok(tokens) = cheapest_by_characters(alloc, trie, body(line), unknown) else {
         return Err(ListError::Memory);
@@ -185,9 +185,9 @@ fn write_parted<W: Write>(
     sign: &[u8],
     token: (usize, usize, Option<i32>),
 ) -> Result<(), ListError>
-    ensures ok { OnOk result (Writes W.contents writer.old writer.new (token_text sign.now text.now token)) }
-    ensures err { OnErr result (BreaksOff W.contents writer.old writer.new (token_text sign.now text.now token)) }
-    ensures faults { WritesOrFails (has_failed writer.old) (has_failed writer.new) result }
+    ensures ok { OnOk result (Writes W.contents writer.old writer.new (parted_token sign.now text.now token)) }
+    ensures err { OnErr result (BreaksOff W.contents writer.old writer.new (parted_token sign.now text.now token)) }
+    ensures faults { WritesOrFails ListError.Write (has_failed writer.old) (has_failed writer.new) result }
 {
     write_whole(writer, parting(text, sign, token))?;
     write_whole(writer, part(text, token.0, token.1))

@@ -52,7 +52,7 @@ pub fn write_fronts<L: Layout, const SLOTS: usize, A: Allocator + Copy, W: Write
 
     //= One that fails wrote a beginning of these lines, and not all; a call of the writer failed. [with faults]
     ensures err { OnErr result (BreaksOff W.contents writer.old writer.new (entry_lines (fronts_of trie.now.state.tree text.now))) }
-    ensures faults { WritesOrFails (has_failed writer.old) (has_failed writer.new) result }
+    ensures faults { WritesOrFails ListError.Write (has_failed writer.old) (has_failed writer.new) result }
 {
     write_all_fronts(writer, text, &mut trie.common_prefix_iter_bytes(text))
 }
@@ -66,7 +66,7 @@ fn write_all_fronts<F: NextFront, W: Write>(
     ensures ok { OnOk result (Writes W.contents writer.old writer.new (entry_lines (map (front_entry text.now) (F.left fronts.old)))) }
     ensures any { IfOk result (λ any. any ≡ ltb 0 (length (map (front_entry text.now) (F.left fronts.old)))) }
     ensures err { OnErr result (BreaksOff W.contents writer.old writer.new (entry_lines (map (front_entry text.now) (F.left fronts.old)))) }
-    ensures faults { WritesOrFails (has_failed writer.old) (has_failed writer.new) result }
+    ensures faults { WritesOrFails ListError.Write (has_failed writer.old) (has_failed writer.new) result }
 {
     let mut any = false;
     while let Some(front) = fronts.next_front() {
@@ -84,7 +84,7 @@ fn write_front<W: Write>(
 ) -> Result<(), ListError>
     ensures ok { OnOk result (Writes W.contents writer.old writer.new (entry_line (front_entry text.now front))) }
     ensures err { OnErr result (BreaksOff W.contents writer.old writer.new (entry_line (front_entry text.now front))) }
-    ensures faults { WritesOrFails (has_failed writer.old) (has_failed writer.new) result }
+    ensures faults { WritesOrFails ListError.Write (has_failed writer.old) (has_failed writer.new) result }
 {
     let (value, others) = front;
     write_entry(writer, through(text, others), value)

@@ -1,7 +1,7 @@
 //! The lines of a word list, stored in a dictionary.
 
 ghost use Rattle.std.specs.Prelude.{◌<◌, ◌∷◌, ◌≡◌, ◌≤◌, [], Err, IfErr, IfOk, IfSome, is_some, length, List, ltb, None, OnErr, OnOk, Option, option_map};
-ghost use Rattle.word_lists.specs.Words.{absent_of, Adds, before_first, ErasesFirstLines, fault, figures_number, figures_of, is_tab, line_absent, line_erased, line_stored, line_told, lines_absent, lines_erased, lines_in, lines_stored, lines_told, Memory, number_at, number_with, OnKnown, own_number, position, refusal_of, stored_by, StoresFirstLines, TakesNext, Told, told_by, told_one, want_of};
+ghost use Rattle.word_lists.specs.Words.{absent_of, Adds, before_first, ErasesFirstLines, fault, figures_number, figures_of, is_tab, line_absent, line_erased, line_refusal, line_stored, line_told, lines_absent, lines_erased, lines_in, lines_stored, lines_told, Memory, number_at, number_with, OnKnown, own_line_number, position, stored_by, StoresFirstLines, TakesNext, Told, told_by, told_one, want_of};
 
 use crate::parts::body;
 use crate::read::read_word;
@@ -197,7 +197,7 @@ fn repeated(held: Option<i32>) -> Option<LineFault>
 
 /// What a refused entry says of its line, or of the dictionary.
 fn refusal(error: CedarError) -> Result<Option<LineFault>, StoreError>
-    ensures { result ≡ refusal_of error }
+    ensures { result ≡ line_refusal error }
 {
     match error {
         CedarError::EmptyKey => Ok(Some(LineFault::EmptyWord)),
@@ -310,7 +310,7 @@ pub(crate) fn value_of(figures: Option<&[u8]>, number: u64) -> Option<i32>
 
 /// The number of a line that has none, if it is one of 32 bits.
 fn own_number(number: u64) -> Option<i32>
-    ensures { result ≡ own_number number }
+    ensures { result ≡ own_line_number number }
 {
     i32::try_from(number).ok()
 }

@@ -1,7 +1,7 @@
 //! The lines of a dictionary's entries. They take no memory but the walk's own.
 
 ghost use Rattle.std.specs.Prelude.{◌<◌, ◌∷◌, ◌≡◌, [], drop, IfErr, IfOk, length, MatchOption, min, OnErr, OnOk, take};
-ghost use Rattle.word_lists.specs.Words.{BreaksOff, entry_lines, has_failed, LineFault, Writes};
+ghost use Rattle.word_lists.specs.Words.{BreaksOff, entry_lines, has_failed, LinesOrFails, Writes};
 
 use crate::word::write_entry;
 use crate::write::ListError;
@@ -25,7 +25,7 @@ pub fn write_entries<T: Walked, A: Allocator + Copy, W: Write>(
     ensures err { OnErr result (BreaksOff W.contents writer.old writer.new (entry_lines entries.entry)) }
 
     //= It fails with `Write` only where a call of the writer failed; with `Memory`, and where it is `Ok`, none did.
-    ensures faults { LineFault (has_failed writer.old) (has_failed writer.new) result }
+    ensures faults { LinesOrFails (has_failed writer.old) (has_failed writer.new) result }
 {
     while let Some(entry) = entries.next() {
         match entry {
@@ -67,7 +67,7 @@ pub fn write_next_entries<T: Walked, A: Allocator + Copy, B: Allocator, W: Write
     ensures err { OnErr result (BreaksOff W.contents writer.old writer.new (entry_lines (take most entries.old))) }
 
     //= It fails with `Write` only where a call of the writer failed; with `Memory`, and where it is `Ok`, none did.
-    ensures faults { LineFault (has_failed writer.old) (has_failed writer.new) result }
+    ensures faults { LinesOrFails (has_failed writer.old) (has_failed writer.new) result }
 {
     let mut left = most;
     while 0 < left {

@@ -26,7 +26,7 @@ pub fn write_number<L: Layout, const SLOTS: usize, A: Allocator + Copy, W: Write
 
     //= One that fails wrote a beginning of that line, and not all; a call of the writer failed. [with faults]
     ensures err { OnErr result (BreaksOff W.contents writer.old writer.new (found_line word.now (number_at trie.now.state.tree word.now))) }
-    ensures faults { WritesOrFails (has_failed writer.old) (has_failed writer.new) result }
+    ensures faults { WritesOrFails ListError.Write (has_failed writer.old) (has_failed writer.new) result }
 {
     let number = trie.get_bytes(word);
     write_found(writer, word, number)?;
@@ -41,7 +41,7 @@ fn write_found<W: Write>(
 ) -> Result<(), ListError>
     ensures ok { OnOk result (Writes W.contents writer.old writer.new (found_line word.now number)) }
     ensures err { OnErr result (BreaksOff W.contents writer.old writer.new (found_line word.now number)) }
-    ensures faults { WritesOrFails (has_failed writer.old) (has_failed writer.new) result }
+    ensures faults { WritesOrFails ListError.Write (has_failed writer.old) (has_failed writer.new) result }
 {
     match number {
         Some(number) => write_entry(writer, word, number),

@@ -37,7 +37,7 @@ pub fn write_marked<L: Layout, const SLOTS: usize, A: Allocator + Copy, W: Write
 
     //= One that fails wrote a beginning of that, and not all; a call of the writer failed. [with faults]
     ensures err { OnErr result (BreaksOff W.contents writer.old writer.new (marked_line trie.now.state.tree line.now)) }
-    ensures faults { WritesOrFails (has_failed writer.old) (has_failed writer.new) result }
+    ensures faults { WritesOrFails ListError.Write (has_failed writer.old) (has_failed writer.new) result }
 {
     if !has_keyword(trie, body(line)) {
         return Ok(false);
@@ -67,7 +67,7 @@ pub(crate) fn write_marked_token<W: Write>(
 ) -> Result<(), ListError>
     ensures ok { OnOk result (Writes W.contents writer.old writer.new (marked_token text.now token)) }
     ensures err { OnErr result (BreaksOff W.contents writer.old writer.new (marked_token text.now token)) }
-    ensures faults { WritesOrFails (has_failed writer.old) (has_failed writer.new) result }
+    ensures faults { WritesOrFails ListError.Write (has_failed writer.old) (has_failed writer.new) result }
 {
     let (start, len, value) = token;
     match value {
@@ -80,7 +80,7 @@ pub(crate) fn write_marked_token<W: Write>(
 fn write_mark<W: Write>(writer: &mut Watched<W>, word: &[u8]) -> Result<(), ListError>
     ensures ok { OnOk result (Writes W.contents writer.old writer.new (mark_text word.now)) }
     ensures err { OnErr result (BreaksOff W.contents writer.old writer.new (mark_text word.now)) }
-    ensures faults { WritesOrFails (has_failed writer.old) (has_failed writer.new) result }
+    ensures faults { WritesOrFails ListError.Write (has_failed writer.old) (has_failed writer.new) result }
 {
     write_whole(writer, b"\x1b[01;31m\x1b[K")?;
     write_whole(writer, word)?;
@@ -111,7 +111,7 @@ pub fn write_replaced<L: Layout, const SLOTS: usize, A: Allocator + Copy, W: Wri
 
     //= One that fails wrote a beginning of that, and not all; a call of the writer failed. [with faults]
     ensures err { OnErr result (BreaksOff W.contents writer.old writer.new (replaced_line trie.now.state.tree lines.now line.now)) }
-    ensures faults { WritesOrFails (has_failed writer.old) (has_failed writer.new) result }
+    ensures faults { WritesOrFails ListError.Write (has_failed writer.old) (has_failed writer.new) result }
 {
     write_line_tokens(
         writer,
@@ -130,7 +130,7 @@ pub(crate) fn write_replaced_token<W: Write>(
 ) -> Result<(), ListError>
     ensures ok { OnOk result (Writes W.contents writer.old writer.new (replaced_token lines.now text.now token)) }
     ensures err { OnErr result (BreaksOff W.contents writer.old writer.new (replaced_token lines.now text.now token)) }
-    ensures faults { WritesOrFails (has_failed writer.old) (has_failed writer.new) result }
+    ensures faults { WritesOrFails ListError.Write (has_failed writer.old) (has_failed writer.new) result }
 {
     let (start, len, value) = token;
     match value {

@@ -1,7 +1,7 @@
 //! Two dictionaries: the entries of one stored in another, and those that another one lacks.
 
 ghost use Rattle.std.specs.Prelude.{◌<◌, ◌∷◌, ◌≡◌, [], Err, IfErr, IfOk, length, ltb, MatchOption, OnErr, OnOk};
-ghost use Rattle.word_lists.specs.Words.{all_stored, BreaksOff, has_failed, holds_entry, IsWant, lacking, LineFault, signed_line, signed_lines, stored, StoresFirst, Writes, WritesOrFails, WritesUpTo};
+ghost use Rattle.word_lists.specs.Words.{all_stored, BreaksOff, has_failed, holds_entry, IsWant, lacking, LinesOrFails, signed_line, signed_lines, stored, StoresFirst, Writes, WritesOrFails, WritesUpTo};
 
 use crate::lines::{StoreError, store_error};
 use crate::lists::next_entry;
@@ -128,7 +128,7 @@ pub fn write_lacking<
     ensures broken { result ≡ Err ListError.Write → BreaksOff W.contents writer.old writer.new (signed_lines sign.now (lacking other.now.state.tree entries.entry)) }
 
     //= It fails with `Write` only where a call of the writer failed; with `Memory`, and where it is `Ok`, none did.
-    ensures faults { LineFault (has_failed writer.old) (has_failed writer.new) result }
+    ensures faults { LinesOrFails (has_failed writer.old) (has_failed writer.new) result }
 {
     let mut any = false;
     while let Some(value) = next_entry(&mut entries, key)? {
@@ -148,7 +148,7 @@ fn write_unless_held<L: Layout, const SLOTS: usize, A: Allocator + Copy, W: Writ
     ensures ok { OnOk result (Writes W.contents writer.old writer.new (signed_lines sign.now (lacking other.now.state.tree ((key.now, value) ∷ [])))) }
     ensures any { IfOk result (λ any. any ≡ ltb 0 (length (lacking other.now.state.tree ((key.now, value) ∷ [])))) }
     ensures err { OnErr result (BreaksOff W.contents writer.old writer.new (signed_lines sign.now (lacking other.now.state.tree ((key.now, value) ∷ [])))) }
-    ensures faults { WritesOrFails (has_failed writer.old) (has_failed writer.new) result }
+    ensures faults { WritesOrFails ListError.Write (has_failed writer.old) (has_failed writer.new) result }
 {
     if holds(other, key, value) {
         return Ok(false);
@@ -180,7 +180,7 @@ fn write_signed<W: Write>(
 ) -> Result<(), ListError>
     ensures ok { OnOk result (Writes W.contents writer.old writer.new (signed_line sign.now (key.now, value))) }
     ensures err { OnErr result (BreaksOff W.contents writer.old writer.new (signed_line sign.now (key.now, value))) }
-    ensures faults { WritesOrFails (has_failed writer.old) (has_failed writer.new) result }
+    ensures faults { WritesOrFails ListError.Write (has_failed writer.old) (has_failed writer.new) result }
 {
     write_whole(writer, sign)?;
     write_entry(writer, key, value)

@@ -1,11 +1,14 @@
-//! Parts of a text.
+//! Parts of a text, and its lines.
 
-ghost use Rattle.std.specs.Prelude.{◌+◌, ◌≡◌, ◌≤◌, get_or, length, take};
-ghost use Rattle.word_lists.specs.Words.{body_of, characters, characters_begun, ending_of, ends_with, goes_on, part_of, without_last};
+ghost use Rattle.std.specs.Prelude.{◌+◌, ◌≡◌, ◌≤◌, ◌<◌, drop, get_or, IfOk, length, map, take};
+ghost use Rattle.word_lists.specs.Words.{body_of, characters, characters_begun, continues_character, drop_through, ending_of, ends_with, lines_in, take_through, text_part, without_last};
+
+use memchr::memchr;
+use std::alloc::{AllocError, Allocator};
 
 /// So many bytes of a text from a place on, or as many as there are.
 pub(crate) fn part(text: &[u8], start: usize, len: usize) -> &[u8]
-    ensures { result.now ≡ part_of text.now start len }
+    ensures { result.now ≡ text_part text.now start len }
 {
     let rest = &text[start.min(text.len())..];
     &rest[..len.min(rest.len())]
@@ -62,7 +65,7 @@ fn ends_with(line: &[u8], byte: u8) -> bool
 
 /// Whether a byte goes on with a character of UTF-8.
 pub(crate) fn goes_on(byte: u8) -> bool
-    ensures { result ≡ goes_on byte }
+    ensures { result ≡ continues_character byte }
 {
     128 <= byte && byte < 192
 }
@@ -104,4 +107,44 @@ pub(crate) fn byte_at(text: &[u8], place: usize) -> u8
     ensures { result ≡ get_or text.now place 0 }
 {
     if place < text.len() { text[place] } else { 0 }
+}
+
+/// The lines of a text, each without the bytes that end it: byte 10, and a byte 13 before that.
+///
+/// ```
+/// let lines = list_lines(rt.alloc(), b"net\r\nten")?;
+/// assert_eq!(rt; lines.as_slice(), [b"net".as_slice(), b"ten".as_slice()].as_slice());
+/// ```
+///
+/// # Errors
+/// Where a request for memory was refused.
+pub fn list_lines<'a, A: Allocator>(
+    alloc: A,
+    text: &'a [u8],
+) -> Result<Vec<&'a [u8], A>, AllocError>
+    //= The lines of a text are listed in order, each without the bytes that end it.
+    ensures { IfOk result (λ lines. map (λ line. line.now) lines.items ≡ map body_of (lines_in text.now)) }
+{
+    let mut lines = Vec::new(alloc);
+    let mut rest = text;
+    while !rest.is_empty() {
+        let len = first_len(rest);
+        lines.push(body(&rest[..len]))?;
+        rest = &rest[len..];
+    }
+    Ok(lines)
+}
+
+/// How many bytes the first line of a text has, with its byte 10.
+pub(crate) fn first_len(text: &[u8]) -> usize
+    requires { 0 < length text.now }
+    ensures first { take result text.now ≡ take_through 10 text.now }
+    ensures rest { drop result text.now ≡ drop_through 10 text.now }
+    ensures some { 0 < result }
+    ensures within { result ≤ length text.now }
+{
+    match memchr(b'\n', text) {
+        Some(at) => at + 1,
+        None => text.len(),
+    }
 }

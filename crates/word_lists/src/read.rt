@@ -1,7 +1,7 @@
 //! A word as a person writes it.
 
 ghost use Rattle.std.specs.Prelude.{◌<◌, ◌∷◌, ◌≡◌, ◌≤◌, [], IfOk, length};
-ghost use Rattle.word_lists.specs.Words.{decode_sized, first_of, named_of, read_as};
+ghost use Rattle.word_lists.specs.Words.{decode_sized, first_read, named_of, read_as};
 
 use std::alloc::{AllocError, Allocator};
 
@@ -33,7 +33,7 @@ pub fn read_word<A: Allocator>(text: &[u8], word: &mut Vec<u8, A>) -> Result<(),
 /// The first byte that some text stands for, and how many bytes of the text do.
 fn first_byte(text: &[u8]) -> (u8, usize)
     requires some { 0 < length text.now }
-    ensures first { result ≡ first_of text.now }
+    ensures first { result ≡ first_read text.now }
     ensures some { 0 < result.1 }
     ensures within { result.1 ≤ length text.now }
 {

@@ -1,10 +1,10 @@
 //! The words that stand in a text, a line each.
 
-ghost use Rattle.std.specs.Prelude.{◌+◌, ◌∷◌, ◌≡◌, ◌≤◌, [], IfOk, length, List, ltb, MatchOption, OnErr, OnOk, take};
-ghost use Rattle.word_lists.specs.Words.{body_of, BreaksOff, characters, field, has_failed, keywords_in, Spot, spot_line, spot_lines, spots_from, Writes, WritesOrFails};
+ghost use Rattle.std.specs.Prelude.{◌++◌, ◌+◌, ◌∷◌, ◌≡◌, ◌≤◌, [], IfOk, length, List, ltb, MatchOption, OnErr, OnOk, take};
+ghost use Rattle.word_lists.specs.Words.{body_of, BreaksOff, characters, entry_line, has_failed, keywords_in, Spot, spot_line, spot_lines, spots_from, tab_field, word_text, Writes, WritesOrFails};
 
 use crate::parts::{body, characters_before, part};
-use crate::word::write_entry;
+use crate::word::{ROOM, finds_room, put_entry, put_field, write_entry};
 use crate::write::{ListError, write_whole};
 use cedar_words::{AllMatches, Fronts, Keywords, LongestPrefix, leftmost_longest, matches};
 use cedarwood::{Layout, Trie, Watched};
@@ -66,7 +66,7 @@ pub fn write_matches<L: Layout, const SLOTS: usize, A: Allocator + Copy, W: Writ
 
     //= One that fails wrote a beginning of these lines, and not all; a call of the writer failed. [with faults; also write_keywords]
     ensures err { OnErr result (BreaksOff W.contents writer.old writer.new (spot_lines number (body_of line.now) (spots_from trie.now.state.tree 0 (body_of line.now)))) }
-    ensures faults { WritesOrFails (has_failed writer.old) (has_failed writer.new) result }
+    ensures faults { WritesOrFails ListError.Write (has_failed writer.old) (has_failed writer.new) result }
 {
     let text = body(line);
     write_spots(writer, text, number, &mut matches(trie, text))
@@ -94,7 +94,7 @@ pub fn write_keywords<L: Layout, const SLOTS: usize, A: Allocator + Copy, W: Wri
     ensures ok { OnOk result (Writes W.contents writer.old writer.new (spot_lines number (body_of line.now) (keywords_in trie.now.state.tree (body_of line.now)))) }
     ensures any { IfOk result (λ any. any ≡ ltb 0 (length (keywords_in trie.now.state.tree (body_of line.now)))) }
     ensures err { OnErr result (BreaksOff W.contents writer.old writer.new (spot_lines number (body_of line.now) (keywords_in trie.now.state.tree (body_of line.now)))) }
-    ensures faults { WritesOrFails (has_failed writer.old) (has_failed writer.new) result }
+    ensures faults { WritesOrFails ListError.Write (has_failed writer.old) (has_failed writer.new) result }
 {
     let text = body(line);
     write_spots(writer, text, number, &mut leftmost_longest(trie, text))
@@ -110,7 +110,7 @@ fn write_spots<S: Spots, W: Write>(
     ensures ok { OnOk result (Writes W.contents writer.old writer.new (spot_lines line text.now (S.left spots.old))) }
     ensures any { IfOk result (λ any. any ≡ ltb 0 (length (S.left spots.old))) }
     ensures err { OnErr result (BreaksOff W.contents writer.old writer.new (spot_lines line text.now (S.left spots.old))) }
-    ensures faults { WritesOrFails (has_failed writer.old) (has_failed writer.new) result }
+    ensures faults { WritesOrFails ListError.Write (has_failed writer.old) (has_failed writer.new) result }
 {
     let mut any = false;
     let mut known = (0, 0);
@@ -135,12 +135,38 @@ fn write_spot<W: Write>(
     requires within { before ≤ length text.now }
     ensures ok { OnOk result (Writes W.contents writer.old writer.new (spot_line line text.now spot)) }
     ensures err { OnErr result (BreaksOff W.contents writer.old writer.new (spot_line line text.now spot)) }
-    ensures faults { WritesOrFails (has_failed writer.old) (has_failed writer.new) result }
+    ensures faults { WritesOrFails ListError.Write (has_failed writer.old) (has_failed writer.new) result }
 {
     let (start, len, value) = spot;
+    let column = column_of(text, before);
+    let word = part(text, start, len);
+    if finds_room(word) {
+        return write_short(writer, line, column, word, value);
+    }
     write_field(writer, line)?;
-    write_field(writer, column_of(text, before))?;
-    write_entry(writer, part(text, start, len), value)
+    write_field(writer, column)?;
+    write_entry(writer, word, value)
+}
+
+/// Writes the line of a short word, whose bytes stand as they are, at once.
+fn write_short<W: Write>(
+    writer: &mut Watched<W>,
+    line: u64,
+    column: u64,
+    word: &[u8],
+    number: i32,
+) -> Result<(), ListError>
+    requires plain { word_text word.now ≡ word.now }
+    requires short { length word.now ≤ 64 }
+    ensures ok { OnOk result (Writes W.contents writer.old writer.new (tab_field line ++ (tab_field column ++ entry_line (word.now, number)))) }
+    ensures err { OnErr result (BreaksOff W.contents writer.old writer.new (tab_field line ++ (tab_field column ++ entry_line (word.now, number)))) }
+    ensures faults { WritesOrFails ListError.Write (has_failed writer.old) (has_failed writer.new) result }
+{
+    let mut room = [0; ROOM];
+    let entry = put_entry(&mut room, word, number);
+    let place = put_field(&mut room, entry, column);
+    let start = put_field(&mut room, place, line);
+    write_whole(writer, &room[start..])
 }
 
 /// The column of a word, before which so many of a text's characters begin.
@@ -154,9 +180,9 @@ fn column_of(text: &[u8], before: usize) -> u64
 
 /// Writes a number and a tab.
 fn write_field<W: Write>(writer: &mut Watched<W>, number: u64) -> Result<(), ListError>
-    ensures ok { OnOk result (Writes W.contents writer.old writer.new (field number)) }
-    ensures err { OnErr result (BreaksOff W.contents writer.old writer.new (field number)) }
-    ensures faults { WritesOrFails (has_failed writer.old) (has_failed writer.new) result }
+    ensures ok { OnOk result (Writes W.contents writer.old writer.new (tab_field number)) }
+    ensures err { OnErr result (BreaksOff W.contents writer.old writer.new (tab_field number)) }
+    ensures faults { WritesOrFails ListError.Write (has_failed writer.old) (has_failed writer.new) result }
 {
     let mut figures = Buffer::new();
     write_whole(writer, figures.format(number).as_bytes())?;

@@ -4,8 +4,7 @@ ghost use Rattle.std.specs.Prelude.{◌<◌, ◌≡◌, IfOk, IfSome, IsTrue, le
 ghost use Rattle.word_lists.specs.Words.{AddsLine, entries_of, fault, IsLimit, line_stored, lines_in, lines_stored, new_state, pairs_stored, read_as, State, stored_by};
 
 use crate::lines::{StoreError, split_line, value_of};
-use crate::listed::first_len;
-use crate::parts::body;
+use crate::parts::{body, first_len};
 use cedarwood::{CedarBuilder, CedarError, Layout, Trie, sorted_is_stored_in_turn};
 use memchr::memchr;
 use std::alloc::{AllocError, Allocator};

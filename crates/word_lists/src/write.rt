@@ -23,7 +23,7 @@ pub(crate) fn write_line<W: Write>(
 ) -> Result<(), ListError>
     ensures ok { OnOk result (Writes W.contents writer.old writer.new (first.now ++ (second.now ++ 10 ∷ []))) }
     ensures err { OnErr result (BreaksOff W.contents writer.old writer.new (first.now ++ (second.now ++ 10 ∷ []))) }
-    ensures faults { WritesOrFails (has_failed writer.old) (has_failed writer.new) result }
+    ensures faults { WritesOrFails ListError.Write (has_failed writer.old) (has_failed writer.new) result }
 {
     write_whole(writer, first)?;
     write_whole(writer, second)?;
@@ -35,7 +35,7 @@ pub(crate) fn write_line<W: Write>(
 pub(crate) fn write_whole<W: Write>(writer: &mut Watched<W>, bytes: &[u8]) -> Result<(), ListError>
     ensures ok { OnOk result (Writes W.contents writer.old writer.new bytes.now) }
     ensures err { OnErr result (BreaksOff W.contents writer.old writer.new bytes.now) }
-    ensures faults { WritesOrFails (has_failed writer.old) (has_failed writer.new) result }
+    ensures faults { WritesOrFails ListError.Write (has_failed writer.old) (has_failed writer.new) result }
 {
     let mut rest = bytes;
     while !rest.is_empty() {

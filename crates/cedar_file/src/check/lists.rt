@@ -21,7 +21,7 @@ pub(crate) fn read_block<A: Allocator, C: Ledger>(
     ensures cost { reads.new ≡ reads.old + 1 }
 {
     reads.tick();
-    blocks.records[block]
+    blocks.records.read(block)
 }
 
 /// What a block counts. The read is counted.
@@ -34,8 +34,13 @@ fn read_counts<A: Allocator, C: Ledger>(
     ensures value { result ≡ counts_at blocks.now.records.items block }
     ensures cost { reads.new ≡ reads.old + 1 }
 {
-    reads.tick();
-    blocks.counts(block)
+    let record = read_block(blocks, block, reads);
+    Counts {
+        num: record.num,
+        reject: record.reject,
+        trial: record.trial,
+        e_head: record.e_head,
+    }
 }
 
 /// Whether what a search for places may read in `block` is in range.

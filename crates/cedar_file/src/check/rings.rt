@@ -22,7 +22,7 @@ pub(crate) fn read_node<A: Allocator, C: Ledger>(
     ensures cost { reads.new ≡ reads.old + 1 }
 {
     reads.tick();
-    slots.nodes[slot]
+    slots.nodes.read(slot)
 }
 
 /// The labels of a slot. The read is counted.
@@ -36,7 +36,7 @@ pub(crate) fn read_info<A: Allocator, C: Ledger>(
     ensures cost { reads.new ≡ reads.old + 1 }
 {
     reads.tick();
-    slots.infos[slot]
+    slots.infos.read(slot)
 }
 
 /// Whether a slot is free.

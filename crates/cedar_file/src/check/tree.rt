@@ -49,8 +49,9 @@ fn read_node<L: Layout, const SLOTS: usize, A: Allocator, C: Ledger>(
     ensures check { result.check ≡ (cells table.now).check slot }
     ensures counted { reads.new ≡ reads.old + 1 }
 {
-    reads.tick();
-    table.node_records()[slot]
+    let base = table.base(slot);
+    let check = table.check(slot, reads);
+    NodeRecord { base, check }
 }
 
 /// The labels of a slot in use. The read is counted.
@@ -65,7 +66,9 @@ fn read_info<L: Layout, const SLOTS: usize, A: Allocator, C: Ledger>(
     ensures counted { reads.new ≡ reads.old + 1 }
 {
     reads.tick();
-    table.info_records()[slot]
+    let sibling = table.sibling(slot);
+    let child = table.child(slot);
+    NInfoRecord { sibling, child }
 }
 
 /// The owner that a check field names, if that is a slot in use.

@@ -11,11 +11,27 @@ use Rattle.cedar_slots.specs.Blocks.{blank_block, counts_at, counts_of, block_at
 use Rattle.cedar_slots.specs.Ring.{Relinked}
 use Rattle.cedar_slots.proofs.RingsLemmas.Ring.{OneToOne}
 
-pub linked_blocks_is : (blocks : List BlockRecord) (a b : ℕ) (x y : BlockRecord) (to from : ℤ) → a < length blocks → b < length blocks → x ≡ get_or blocks a x → y ≡ get_or (set blocks a (record x { next = to })) b y → to ≡ pos b → from ≡ pos a → set (set blocks a (record x { next = to })) b (record y { prev = from }) ≡ linked_blocks blocks a b
+next_set : (x m : BlockRecord) (next : ℤ) → m.prev ≡ x.prev → m.next ≡ next → m.num ≡ x.num → m.reject ≡ x.reject → m.trial ≡ x.trial → m.e_head ≡ x.e_head → m ≡ record x { next = next }
+next_set x m next prev' next' num reject trial e_head = rw (← prev', ← next', ← num, ← reject, ← trial, ← e_head) refl
+
+prev_set : (x m : BlockRecord) (prev : ℤ) → m.prev ≡ prev → m.next ≡ x.next → m.num ≡ x.num → m.reject ≡ x.reject → m.trial ≡ x.trial → m.e_head ≡ x.e_head → m ≡ record x { prev = prev }
+prev_set x m prev prev' next' num reject trial e_head = rw (← prev', ← next', ← num, ← reject, ← trial, ← e_head) refl
+
+-- m is x but for its neighbours
+pub record SameCounts (x m : BlockRecord) : Type 0 where
+  pub num : m.num ≡ x.num
+  pub reject : m.reject ≡ x.reject
+  pub trial : m.trial ≡ x.trial
+  pub e_head : m.e_head ≡ x.e_head
+
+-- the blocks once m was written at a, and then n at b
+pub linked_blocks_is : (blocks first after : List BlockRecord) (a b : ℕ) (x y m n : BlockRecord) → first ≡ set blocks a m → after ≡ set first b n → a < length blocks → b < length blocks → x ≡ get_or blocks a x → m.prev ≡ x.prev → m.next ≡ pos b → SameCounts x m → y ≡ get_or first b y → n.prev ≡ pos a → n.next ≡ y.next → SameCounts y n → after ≡ linked_blocks blocks a b
 unfolding linked_blocks
-linked_blocks_is blocks a b x y to from a_in b_in p q r s =
+linked_blocks_is blocks first after a b x y m n first_is after_is a_in b_in p m_prev m_next m_counts q n_prev n_next n_counts =
     let p' = get_or_read blocks a x a_in p blank_block in
-    let q' = get_or_read (set blocks a (record x { next = to })) b y (omega (arith, b_in, length-set blocks a (record x { next = to }))) q blank_block in
+    let q' = get_or_read first b y (omega (arith, b_in, length-set blocks a m, ap length first_is)) q blank_block in
+    let m_is = next_set x m (pos b) m_prev m_next m_counts.num m_counts.reject m_counts.trial m_counts.e_head in
+    let n_is = prev_set y n (pos a) n_prev n_next n_counts.num n_counts.reject n_counts.trial n_counts.e_head in
     cc
 
 int_eq_true : (x y : ℤ) → x ≡ y → int_eq x y ≡ true
@@ -108,9 +124,6 @@ module _ (blocks : List BlockRecord) (a b : ℕ) (a_in : a < length blocks) (b_i
   pub KeepsCounts-linked_blocks : KeepsCounts blocks (linked_blocks blocks a b)
   unfolding linked_blocks
   KeepsCounts-linked_blocks s = counts-set _ b _ s b_in' refl ∙ counts-set blocks a _ s a_in refl
-
-pub KeepsCounts-link : (blocks : List BlockRecord) (a b : ℕ) (x y : BlockRecord) (to from : ℤ) → a < length blocks → b < length blocks → x ≡ get_or blocks a x → y ≡ get_or (set blocks a (record x { next = to })) b y → to ≡ pos b → from ≡ pos a → KeepsCounts blocks (set (set blocks a (record x { next = to })) b (record y { prev = from }))
-KeepsCounts-link blocks a b x y to from a_in b_in p q r s = subst (KeepsCounts blocks) (sym (linked_blocks_is blocks a b x y to from a_in b_in p q r s)) (KeepsCounts-linked_blocks blocks a b a_in b_in)
 
 pub full_num : (z : ℤ) (b : Counts) → kind_of z b ≡ Full → b.num ≡ pos 0
 full_num z b h = elim (cases_Bool (int_eq b.num (pos 0))) [

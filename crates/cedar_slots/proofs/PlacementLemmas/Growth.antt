@@ -1,8 +1,8 @@
 -- A table that has grown, and one with a further block in use.
-use Rattle.std.proofs.Common.{◌≡◌, ℕ, suc, ◌+◌, ◌-◌, ◌*◌, ◌/◌, ◌^◌, ◌<◌, ◌≤◌, ◌≤ℤ◌, ◌⊎◌, ◌++◌, List, length, get_or, take, replicate, cond, eqb, refl, sym, ap, subst, inl, inr, ◌∙◌, arith, ℤ, pos, true}
+use Rattle.std.proofs.Common.{◌≡◌, ℕ, suc, ◌+◌, ◌-◌, ◌*◌, ◌/◌, ◌^◌, ◌<◌, ◌≤◌, ◌≤ℤ◌, ◌⊎◌, ◌++◌, List, length, length-append, get_or, replicate, cond, eqb, refl, sym, ap, subst, inl, inr, ◌∙◌, arith, ℤ, pos, true}
 use Rattle.std.proofs.lemmas.Int.{ints}
 use Rattle.std.proofs.lemmas.Bool.{cases_eq, cases_lt, cond-false, ne_eqb}
-use Rattle.std.proofs.lemmas.List.{get_or_append_left, get_or-append_right, get_or-replicate, get_or_past, length-replicate, take_all}
+use Rattle.std.proofs.lemmas.List.{get_or_append_left, get_or-append_right, get_or-replicate, get_or_past, length-replicate}
 use Rattle.std.proofs.Math.Nat.{pow-suc}
 use Rattle.std.proofs.Math.Pow.{pow_mono}
 use Rattle.cedar_slots.specs.declared.records.BlockRecord.{BlockRecord}
@@ -17,9 +17,9 @@ use Rattle.cedar_slots.proofs.RingsLemmas.FreshBlock.{beside, block_range, count
 
 -- ---- lists that grow by their default
 
-pub grown_same : {X : Type 0} (xs ys : List X) (n m : ℕ) (d : X) → length xs ≤ n → ys ≡ take n xs ++ replicate m d → (i : ℕ) → get_or ys i d ≡ get_or xs i d
-grown_same xs ys n m d short is i =
-    ap (λ zs. get_or zs i d) (is ∙ ap (λ zs. zs ++ replicate m d) (take_all n xs short)) ∙ elim (cases_lt i (length xs)) [
+pub grown_same : {X : Type 0} (xs ys : List X) (m : ℕ) (d : X) → ys ≡ xs ++ replicate m d → (i : ℕ) → get_or ys i d ≡ get_or xs i d
+grown_same xs ys m d is i =
+    ap (λ zs. get_or zs i d) is ∙ elim (cases_lt i (length xs)) [
       | inl inside ↦ get_or_append_left xs (replicate m d) d i inside
       | inr past ↦ get_or-append_right xs (replicate m d) (length xs) i d refl past ∙ all_blank m ∙ sym (get_or_past xs i d past)
     ]
@@ -29,6 +29,9 @@ grown_same xs ys n m d short is i =
       | inl inside ↦ get_or-replicate m (i - length xs) d d inside
       | inr past ↦ get_or_past (replicate m d) (i - length xs) d (omega (arith, past, length-replicate m d))
     ]
+
+pub length-grown : {X : Type 0} (xs ys : List X) (m : ℕ) (d : X) → ys ≡ xs ++ replicate m d → length ys ≡ length xs + m
+length-grown xs ys m d is = ap length is ∙ length-append xs (replicate m d) ∙ ap (λ n. length xs + n) (length-replicate m d)
 
 -- a power of two below another one can be doubled
 pub double_within : (k m : ℕ) → 2 ^ k < 2 ^ m → 2 * 2 ^ k ≤ 2 ^ m

@@ -18,7 +18,7 @@ use Rattle.cedar_slots.specs.Places.{AddsBlock, Bounded, Counted, IsBase, IsFree
 use Rattle.cedar_slots.specs.Ring.{first_of, occurs}
 use Rattle.cedar_slots.specs.Slots.{AllFree, check_at, node_record_at, info_at, is_free, FreeRing, SlotLink}
 use Rattle.cedar_slots.proofs.RingsLemmas.Ring.{around, length-le-range, occurs-append, occurs-le-length, occurs_same, occurs_other, place_of, Ring-turn}
-use Rattle.cedar_slots.proofs.RingsLemmas.LinkedSlots.{free_in, free_member, FreeRing-apart, member_free, neighbours_of, next_is}
+use Rattle.cedar_slots.proofs.RingsLemmas.LinkedSlots.{free_member, FreeRing-apart, member_free, neighbours_of, next_is}
 use Rattle.cedar_slots.proofs.ListsLemmas.LinkedBlocks.{kind_of_closed, kind_of_full}
 use Rattle.cedar_slots.proofs.ListsLemmas.ThreeLists.{near, next_in_ring, last_in_ring, block_next, block_last}
 use Rattle.cedar_slots.proofs.ListsLemmas.BlockMoved.{list-total}
@@ -188,9 +188,6 @@ next_start table sound b slot next b_in is next_eq =
     let at : next ≡ ring.next = next_eq ∙ next_is nodes b slot ring.last ring.next near_slot in
     rw at (record { free = near_slot.next_free; here = near_slot.next_here })
 
-pub free_slot_in : (table : PlaceFields) (b slot : ℕ) → IsFreeIn table b slot → slot < length table.slots.nodes
-free_slot_in table b slot is = free_in table.slots.nodes slot is.free
-
 -- each label's slot is free if the first one stands on a free slot, and those of the other labels are free
 pub first_fits : (nodes : List NodeRecord) (slot first : ℕ) (labels others : List ℕ) → first ≡ get_or labels 0 0 → others ≡ drop 1 labels → is_free nodes slot ≡ true → AllFree nodes (bit_xor slot first) others → AllFree nodes (bit_xor slot (get_or labels 0 0)) labels
 first_fits nodes slot first [] others is rest free fits k d h = absurd (omega arith)
@@ -202,10 +199,8 @@ first_fits nodes slot first (x ∷ xs) others is rest free fits (suc k) d h =
     subst (λ l. is_free nodes (bit_xor (bit_xor slot l) (get_or xs k d)) ≡ true) is (subst (λ ys. is_free nodes (bit_xor (bit_xor slot first) (get_or ys k d)) ≡ true) rest (fits k d inside))
 
 -- a step by a label from a slot of an active block stays in the table
-pub start_fits : (table : PlaceFields) (sound : Sound table) (b slot label : ℕ) → b < table.blocks.active → slot / 256 ≡ b → label < 256 → 256 * (bit_xor slot label / 256) + 256 ≤ length table.slots.nodes
-start_fits table sound b slot label b_in here small =
-    let block : bit_xor slot label / 256 ≡ b = xor_block slot label small ∙ here in
-    omega (arith, block, sound.shaped.nodes, sound.shaped.blocks.active_in)
+pub start_block : (b slot label : ℕ) → slot / 256 ≡ b → label < 256 → bit_xor slot label / 256 ≡ b
+start_block b slot label here small = xor_block slot label small ∙ here
 
 pub start_positive : (b slot label : ℕ) → 0 < b → slot / 256 ≡ b → label < 256 → 0 < bit_xor slot label / 256
 start_positive b slot label positive here small = let block : bit_xor slot label / 256 ≡ b = xor_block slot label small ∙ here in omega arith

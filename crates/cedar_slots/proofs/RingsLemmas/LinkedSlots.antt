@@ -9,11 +9,17 @@ use Rattle.cedar_slots.specs.Ring.{first_of, occurs, Ring, Relinked}
 use Rattle.cedar_slots.specs.Slots.{blank_node, node_record_at, base_at, check_at, set_check, set_base, SlotLink, nodes_after_link, nodes_after_take, taken_between, given_alone, given_between, given_after, SameOutside, is_free, FreeRing, info_at, blank_info}
 use Rattle.cedar_slots.proofs.RingsLemmas.Ring.{OneToOne, place_of, Around, around, around_first, Ring-frame, Ring-remove, Ring-insert, Apart, occurs-append, occurs_same, occurs_other}
 
-pub linked_is : (nodes : List NodeRecord) (a b : ℕ) (x y : NodeRecord) (to from : ℤ) → a < length nodes → b < length nodes → x ≡ get_or nodes a x → y ≡ get_or (set nodes a (record x { check = to })) b y → to ≡ neg_ℤ (pos b) → from ≡ neg_ℤ (pos a) → set (set nodes a (record x { check = to })) b (record y { base = from }) ≡ nodes_after_link nodes a b
+node_is : (node : NodeRecord) (base check : ℤ) → node.base ≡ base → node.check ≡ check → node ≡ record { base = base; check = check }
+node_is node base check p q = rw (← p, ← q) refl
+
+-- the nodes once m was written at a, and then n at b
+pub linked_is : (nodes first after : List NodeRecord) (a b : ℕ) (x y m n : NodeRecord) → first ≡ set nodes a m → after ≡ set first b n → a < length nodes → b < length nodes → x ≡ get_or nodes a x → m.base ≡ x.base → m.check ≡ neg_ℤ (pos b) → y ≡ get_or first b y → n.base ≡ neg_ℤ (pos a) → n.check ≡ y.check → after ≡ nodes_after_link nodes a b
 unfolding nodes_after_link
-linked_is nodes a b x y to from a_in b_in p q r s =
+linked_is nodes first after a b x y m n first_is after_is a_in b_in p m_base m_check q n_base n_check =
     let p' = get_or_read nodes a x a_in p blank_node in
-    let q' = get_or_read (set nodes a (record x { check = to })) b y (omega (arith, b_in, length-set nodes a (record x { check = to }))) q blank_node in
+    let q' = get_or_read first b y (omega (arith, b_in, length-set nodes a m, ap length first_is)) q blank_node in
+    let m_is = node_is m x.base (neg_ℤ (pos b)) m_base m_check in
+    let n_is = node_is n (neg_ℤ (pos a)) y.check n_base n_check in
     cc
 
 -- ---- numbers behind links
@@ -234,8 +240,8 @@ pub record RingAfterTake (nodes : List NodeRecord) (infos : List NInfoRecord) (b
   pub rest : List ℕ
   pub ring : FreeRing (nodes_after_take nodes e node) infos b rest
   pub less : Less e (unsigned_abs (check_at nodes e)) xs rest
-  pub last_in : unsigned_abs (base_at nodes e) < length nodes
-  pub next_in : unsigned_abs (check_at nodes e) < length nodes
+  pub last_here : unsigned_abs (base_at nodes e) / 256 ≡ b
+  pub next_here : unsigned_abs (check_at nodes e) / 256 ≡ b
   pub outside : SameOutside b nodes (nodes_after_take nodes e node)
   pub holds : node_record_at (nodes_after_take nodes e node) e ≡ node
   pub now_used : is_free (nodes_after_take nodes e node) e ≡ false
@@ -289,8 +295,8 @@ take_from nodes infos b node e before after ring used =
       rest = before ++ after;
       ring = subst (λ ns. FreeRing ns infos b (before ++ after)) (sym is) new_ring;
       less = subst (λ n. Less e n (before ++ e ∷ after) (before ++ after)) (sym (next_is nodes b e last next near)) (less_of e next before after apart near_ring.first);
-      last_in = subst (λ n. n < length nodes) (sym (last_is nodes b e last next near)) last_in;
-      next_in = subst (λ n. n < length nodes) (sym (next_is nodes b e last next near)) next_in;
+      last_here = subst (λ n. n / 256 ≡ b) (sym (last_is nodes b e last next near)) near.last_here;
+      next_here = subst (λ n. n / 256 ≡ b) (sym (next_is nodes b e last next near)) near.next_here;
       outside = subst (λ ns. SameOutside b nodes ns) (sym is) outside;
       holds = subst (λ ns. node_record_at ns e ≡ node) (sym is) (node-taken_same nodes last next e node last_in next_in e_in);
       now_used = subst (λ ns. is_free ns e ≡ false) (sym is) now_used;
@@ -354,8 +360,11 @@ module _ (nodes : List NodeRecord) (infos : List NInfoRecord) (b e : ℕ) (e_pos
     head_free : (is_free nodes h ≡ true) × (h / 256 ≡ b)
     head_free = member_free nodes infos b (h ∷ ys) ring h (omega (arith, occurs_same h ys))
 
-    pub given_after_in : (h < length nodes) × (unsigned_abs (check_at nodes h) < length nodes)
+    given_after_in : (h < length nodes) × (unsigned_abs (check_at nodes h) < length nodes)
     given_after_in = (free_in nodes h head_free.0, subst (λ n. n < length nodes) (sym (next_is nodes b h _ _ near)) (free_in nodes _ near.next_free))
+
+    pub given_after_here : (h / 256 ≡ b) × (unsigned_abs (check_at nodes h) / 256 ≡ b)
+    given_after_here = (head_free.1, subst (λ n. n / 256 ≡ b) (sym (next_is nodes b h _ _ near)) near.next_here)
 
     given_is : given_after nodes h e ≡ given_between nodes h near_ring.next e
     unfolding given_after

@@ -1,7 +1,7 @@
 //! A cursor over the entries of a range, which lends their keys.
 
 ghost use Rattle.std.specs.Prelude.{◌<◌, ◌∷◌, ◌≡◌, [], IfErr, IfOk, length, List, MatchOption, option_map, Some, ℕ};
-ghost use Rattle.cedarwood.specs.Words.{Cursor, cursor_code, cursor_left, FindsNext, IsAtEnd, IsCursorEnd, IsCursorPlace, IsRangePlace, IsShortOf, IsWellFormed, LeadsTo, place_before};
+ghost use Rattle.cedarwood.specs.Words.{Cursor, cursor_code, cursor_left, FindsNext, IsAtEnd, IsCursorEnd, IsCursorPlace, IsRangePlace, IsShortOf, IsWellFormed, place_before, WritesNextKey};
 
 use crate::CedarError;
 use crate::queries::ranged::{RangeEntries, ends_at, write_key};
@@ -71,7 +71,7 @@ fn next_written<T: Walked, A: Allocator>(
 ) -> Result<Option<Numbered>, AllocError>
     requires well_formed { IsWellFormed T.slots (T.shown trie.now) }
     requires place { IsCursorPlace (T.shown trie.now) start.now key.old.items place }
-    ensures { IfOk result (LeadsTo (T.shown trie.now) start.now place key.new.items) }
+    ensures { IfOk result (WritesNextKey (T.shown trie.now) start.now place key.new.items) }
 {
     match place {
         CursorPlace::At { slot, depth } => trie.next_with_key(slot, depth, key),

@@ -57,6 +57,14 @@ returns-in-Some-clause-blocks g c = (0, omega arith, tt, λ _. refl, framed_none
 pub returns-in-Some-clause-root_check : goal.returns-in-Some-clause-root_check
 returns-in-Some-clause-root_check g c = c.set_own_number.ensures.set.check 0
 
+pub returns-in-Some-clause-own : goal.returns-in-Some-clause-own
+returns-in-Some-clause-own g c = λ _ w is _.
+    let v = c.in-Some.value in
+    let fits : FitsSigned w32 v = search rules in
+    let both : Some v ≡ Some w = sym c.in-Some.ensures.0 ∙ is in
+    let one : v ≡ w = cc in
+    c.set_own_number.ensures.set.set ∙ ap OwnNumber (to_z-of_z w32 v fits ∙ one)
+
 pub returns-clause-own : goal.returns-clause-own
 returns-clause-own g c = always_on_ok c.place_node.result (placed_own g.L.Layout.kind (cells c.place_node.new.table) c.args.node c.args.number c.args.labels.now c.in_default.ensures)
 

@@ -72,6 +72,11 @@ returns-then-key-span-clause-spans g c = λ t h.
     let one = ends_alone items d c.args.span.pairs.now c.index-span-0.result c.requires.alike (omega (arith, ap length (sym c.as_slice-key.ensures), c.if-key-span.true)) in
     (ends_here d e t (subst (λ xs. IsTreeOfSpan d xs t) (ap (entries_by items) one) h) (omega (arith, ap length (sym c.as_slice-key.ensures), c.if-key-span.true))).alone
 
+pub returns-in_err-fill_node-clause-blocks : goal.returns-in_err-fill_node-clause-blocks
+returns-in_err-fill_node-clause-blocks g c =
+    let b = c.in_err-fill_node.ensures.blocks in
+    (b.0, b.1, on_err_always c.from_residual.result b.2, b.4)
+
 pub fill_node-requires-2 : goal.fill_node-requires-2
 fill_node-requires-2 g c =
     let items = g.K.AsSlice.items in
@@ -107,6 +112,20 @@ returns-clause-fills g c = λ t h.
     let size' = size_of (fields c.fill_node-2.new.table) in
     subst (λ o. Fills size size' T T' c.args.span.node o (labels t.children)) (sym k.number)
     (subst (Fills size size' T T' c.args.span.node None) (sym label) c.in_ok-base.ensures.fills)
+
+pub returns-clause-own : goal.returns-clause-own
+returns-clause-own g c = λ t h.
+    let items = g.K.AsSlice.items in
+    let d = c.args.span.depth in
+    let p = get_or c.args.span.pairs.now 0 c.index-span-0.result in
+    let e : Entry = (items p.0, p.1) in
+    let one = first_then items c.args.span.pairs.now c.index-span-0.result c.requires.some in
+    let es : List Entry = entries_by items (drop 1 c.args.span.pairs.now) in
+    let k = goes_on d e es t (subst (λ xs. IsTreeOfSpan d xs t) one h) (omega (arith, ap length (sym c.as_slice-key.ensures), c.if-key-span.false)) (subst (IsAlike d) one c.requires.alike) in
+    let label : labels t.children ≡ get_or c.as_slice-key.result.now d 0 ∷ [] = k.label ∙ ap (λ xs. get_or xs d 0 ∷ []) (sym c.as_slice-key.ensures) in
+    let T' = cells c.fill_node-2.new.table in
+    subst (λ o. KeepsOwn g.L.Layout.kind T' c.args.span.node o (labels t.children)) (sym k.number)
+    (subst (KeepsOwn g.L.Layout.kind T' c.args.span.node None) (sym label) c.in_ok-base.ensures.own)
 
 pub returns-clause-spans : goal.returns-clause-spans
 returns-clause-spans g c = λ t h.

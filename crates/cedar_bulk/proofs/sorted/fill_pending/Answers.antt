@@ -41,7 +41,7 @@ fill_next-requires g c =
     let begun = subst (λ xs. Filling g.row.SLOTS (fields c.args.table.now) xs r.0 r.1) (ap (parts_of items) c.pop-next.ensures.items) r.2 in
     let k = subst (λ xs. Filling g.row.SLOTS (fields c.loop-next.table) xs r.0 r.1) waits (c.loop-next.invariant.filling r.0 r.1 begun) in
     let next = next_span g.row.SLOTS (fields c.loop-next.table) (parts_of items c.loop-next.pending.items) (part_of items c.in-Some.span) r.0 r.1 k in
-    (search rules, (record { sound = k.table; node_in = next.inside; node = next.node; leaf = next.leaf }, (next.not_root, (next.tree.0, next.tree.1))))
+    (search (rules, c.requires-raw), (record { sound = k.table; node_in = next.inside; node = next.node; leaf = next.leaf }, (next.not_root, (next.tree.0, next.tree.1))))
 
 pub loop-next-smaller : goal.loop-next-smaller
 loop-next-smaller g c =

@@ -1,6 +1,6 @@
 use Rattle.std.proofs.Common.{◌≡◌, ◌+◌, ◌∙◌, ◌++◌, ℕ, List, None, ap, arith, drop, map, set, slice_index_or, suc, take}
 use Rattle.cedar_words.specs.Words.{Token}
-use Rattle.cedar_c.specs.Scans.{token_spot}
+use Rattle.cedar_c.specs.Scans.{found_token}
 use Rattle.cedar_c.specs.declared.scans.Found.{Found}
 use Rattle.cedar_c.proofs.CutLemmas.{token_written}
 use Rattle.cedar_c.proofs.cuts.write_whole.Goals as goal
@@ -17,8 +17,8 @@ loop-at-preserved c =
     let one : suc at ≡ at + 1 = omega arith in
     let room = c.if-found-tokens.false in (
       c.put_token.ensures
-          ∙ ap (λ (l : List Found). set l at (token_spot (slice_index_or tokens at nothing))) c.loop-at.invariant.0
+          ∙ ap (λ (l : List Found). set l at (found_token (slice_index_or tokens at nothing))) c.loop-at.invariant.0
           ∙ token_written tokens xs at nothing c.loop-at-test.true room
-          ∙ ap (λ (n : ℕ). map token_spot (take n tokens) ++ drop n xs) one,
+          ∙ ap (λ (n : ℕ). map found_token (take n tokens) ++ drop n xs) one,
       room,
     )

@@ -7,7 +7,7 @@ use Rattle.cedar_walk.proofs.WalkLemmas.Ranges.{empty_key, some_key}
 use Rattle.cedar_walk.proofs.WalkLemmas.Since.{behind_none}
 use Rattle.cedarwood.specs.RangeWalks.{ranged}
 use Rattle.cedarwood.proofs.RangeLemmas.{ranged_is}
-use Rattle.cedar_c.specs.Entries.{entries_behind, following, TellsPage}
+use Rattle.cedar_c.specs.Entries.{entries_behind_key, following, TellsPage}
 use Rattle.cedar_c.proofs.EntryLemmas.{following_behind}
 use Rattle.cedar_c.proofs.entries.entries_of.Goals as goal
 
@@ -41,9 +41,9 @@ returns g c =
     let ordered : s.ordered ≡ true = sym c.is_ordered.ensures ∙ c.if-not-is_ordered.false in
     let some : 0 < length key = some_key key (sym c.is_empty.ensures ∙ c.if-is_empty.false) in
     let left : ranged T [] first ≡ following s.tree prefix key =
-    ranged_is T [] (entries_behind (tree_of T) key) first c.first_behind-first.ensures
-    ∙ sym (behind_none (entries_behind (tree_of T) key))
-    ∙ ap (λ x. entries_behind x.tree key) (sym on.state)
+    ranged_is T [] (entries_behind_key (tree_of T) key) first c.first_behind-first.ensures
+    ∙ sym (behind_none (entries_behind_key (tree_of T) key))
+    ∙ ap (λ x. entries_behind_key x.tree key) (sym on.state)
     ∙ following_behind s.tree prefix key some in
     let told = c.tell_page-2.new in
     record {

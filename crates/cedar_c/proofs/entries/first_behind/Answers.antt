@@ -3,7 +3,7 @@ use Rattle.std.proofs.lemmas.Bool.{true≢false}
 use Rattle.cedar_tree.specs.Walks.{visited_entries}
 use Rattle.cedar_model.specs.Meaning.WellFormed.{tree_of}
 use Rattle.cedar_walk.specs.Visits.{ComesToFirst, ComesToNumber, left_at, path_to}
-use Rattle.cedar_c.specs.Entries.{entries_behind}
+use Rattle.cedar_c.specs.Entries.{entries_behind_key}
 use Rattle.cedar_c.proofs.EntryLemmas.{held_first, lacking_since, none_behind}
 use Rattle.cedar_c.proofs.entries.first_behind.Goals as goal
 
@@ -12,7 +12,7 @@ returns-in_err-first g c =
     let T = g.T.Walked.shown c.args.trie.now in
     let key = c.args.key.now in
     let k = c.requires.well_formed in
-    subst (ComesToFirst T [] (entries_behind (tree_of T) key)) (sym c.from_residual.ensures) (none_behind (tree_of T) key k.sound (k.ascending c.requires.ordered) c.in_err-first.ensures)
+    subst (ComesToFirst T [] (entries_behind_key (tree_of T) key)) (sym c.from_residual.ensures) (none_behind (tree_of T) key k.sound (k.ascending c.requires.ordered) c.in_err-first.ensures)
 
 pub returns-then-is_held : goal.returns-then-is_held
 returns-then-is_held g c =

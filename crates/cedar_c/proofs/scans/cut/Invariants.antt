@@ -1,11 +1,11 @@
 use Rattle.std.proofs.Common.{◌≡◌, ◌≤◌, ◌-◌, ◌⊎◌, ◌++◌, drop, length, take}
-use Rattle.cedar_c.specs.Scans.{tokens_from}
+use Rattle.cedar_c.specs.Scans.{found_tokens}
 use Rattle.cedar_c.proofs.scans.cut.Given as goal
 
 -- what is told, and then the tokens of the rest, is all
 abbrev pub invariant-loop-next : goal.invariant-loop-next
 invariant-loop-next g l =
-    (tokens_from (g.T.LongestPrefix.tree l.fn.trie) l.fn.next (drop l.fn.next l.text) ≡ take l.count l.found ++ tokens_from (g.T.LongestPrefix.tree l.fn.trie) l.next (drop l.next l.text))
+    (found_tokens (g.T.LongestPrefix.tree l.fn.trie) l.fn.next (drop l.fn.next l.text) ≡ take l.count l.found ++ found_tokens (g.T.LongestPrefix.tree l.fn.trie) l.next (drop l.next l.text))
     × (l.count ≤ length l.found) × (l.fn.next ≤ l.next) × (length l.found ≡ length l.fn.found) × ((l.next ≤ length l.text) ⊎ (l.next ≡ l.fn.next))
 
 abbrev pub decreases-loop-next : goal.decreases-loop-next

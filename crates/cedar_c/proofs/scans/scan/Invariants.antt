@@ -1,11 +1,11 @@
 use Rattle.std.proofs.Common.{◌≡◌, ◌≤◌, ◌-◌, ◌⊎◌, ◌++◌, drop, length, take}
-use Rattle.cedar_c.specs.Scans.{spots_from}
+use Rattle.cedar_c.specs.Scans.{found_spots}
 use Rattle.cedar_c.proofs.scans.scan.Given as goal
 
 -- what is told, and then what stands in the rest, is all
 abbrev pub invariant-loop-next : goal.invariant-loop-next
 invariant-loop-next g l =
-    (spots_from (g.T.Scanned.scanned l.fn.trie) l.fn.next (drop l.fn.next l.text) ≡ take l.count l.found ++ spots_from (g.T.Scanned.scanned l.fn.trie) l.next (drop l.next l.text))
+    (found_spots (g.T.Scanned.scanned l.fn.trie) l.fn.next (drop l.fn.next l.text) ≡ take l.count l.found ++ found_spots (g.T.Scanned.scanned l.fn.trie) l.next (drop l.next l.text))
     × (l.count ≤ length l.found) × (l.fn.next ≤ l.next) × (length l.found ≡ length l.fn.found) × ((l.next ≤ length l.text) ⊎ (l.next ≡ l.fn.next))
 
 abbrev pub decreases-loop-next : goal.decreases-loop-next

@@ -3,7 +3,8 @@ use Rattle.std.proofs.lemmas.Int.{to_z-of_z}
 use Rattle.std.specs.Io.KnownBytes.{Appends}
 use Rattle.cedar_tree.specs.Queries.{Entry}
 use Rattle.cedarwood.specs.WatchedDevice.{device_of}
-use Rattle.cedar_cli.specs.Script.{WritesFront, entry_line, entry_lines}
+use Rattle.cedar_cli.specs.Script.{hex_entry_line, hex_entry_lines}
+use Rattle.text_lines.specs.Written.{WritesFront}
 use Rattle.cedar_cli.proofs.Bytes.{Appends-append, on_err}
 use Rattle.cedar_cli.proofs.EntryLines.{lines_push, lines_begun, lines_stopped, lines_ended, lines_unended}
 use Rattle.cedar_cli.proofs.answers.write_entries.Goals as goal
@@ -24,7 +25,7 @@ returns-in_err-write_entry-clause-err g c =
     let holds = g.W.Write.contents (device_of c.write_entry.new.writer) in
     on_err c.from_residual.result
     (lines_stopped (g.W.Write.contents (device_of c.args.writer.now)) begun holds c.args.entries i.0 c.next.new.self e (i.1 ∙ ap (λ l. i.0 ++ l) step) i.2
-    (subst (λ (x : Entry). WritesFront begun holds (entry_line x)) same c.in_err-write_entry.ensures.err))
+    (subst (λ (x : Entry). WritesFront begun holds (hex_entry_line x)) same c.in_err-write_entry.ensures.err))
 
 pub loop-entry-preserved : goal.loop-entry-preserved
 loop-entry-preserved g c =
@@ -39,8 +40,8 @@ loop-entry-preserved g c =
     let holds = g.W.Write.contents (device_of c.write_entry.new.writer) in (
       came ++ e ∷ [],
       i.1 ∙ ap (λ l. came ++ l) step ∙ sym (append_assoc came (e ∷ []) c.next.new.self),
-      subst (Appends held holds) (sym (lines_push came e)) (Appends-append held begun holds (entry_lines came) (entry_line e) i.2
-          (subst (λ (x : Entry). Appends begun holds (entry_line x)) same c.in_ok-write_entry.ensures.ok)),
+      subst (Appends held holds) (sym (lines_push came e)) (Appends-append held begun holds (hex_entry_lines came) (hex_entry_line e) i.2
+          (subst (λ (x : Entry). Appends begun holds (hex_entry_line x)) same c.in_ok-write_entry.ensures.ok)),
       c.in_ok-write_entry.ensures.faults.unfailed ∙ i.3,
     )
 

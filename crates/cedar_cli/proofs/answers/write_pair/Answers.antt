@@ -3,7 +3,7 @@ use Rattle.std.proofs.lemmas.Int.{to_z-of_z}
 use Rattle.std.specs.Prelude.{OnErr, codes, decimal}
 use Rattle.std.specs.Fmt.{signed_decimal}
 use Rattle.cedarwood.specs.WatchedDevice.{device_of}
-use Rattle.cedar_cli.specs.Script.{WritesFront}
+use Rattle.text_lines.specs.Written.{WritesFront}
 use Rattle.cedar_cli.proofs.Bytes.{front_more, then_err, on_err}
 use Rattle.cedar_cli.proofs.answers.write_pair.Goals as goal
 

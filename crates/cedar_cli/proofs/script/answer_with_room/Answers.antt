@@ -5,14 +5,14 @@ use Rattle.cedar_cli.specs.View.{view_of}
 use Rattle.cedar_cli.specs.declared.script.ScriptError.TheVariants.{Memory}
 use Rattle.cedar_cli.proofs.BlockCounts.{no_blocks}
 use Rattle.cedar_cli.proofs.Faults.{memory_fault}
-use Rattle.cedar_cli.proofs.Orders.{Leaves-unanswered}
+use Rattle.cedar_cli.proofs.Orders.{Disobeys-unanswered}
 use Rattle.cedar_cli.proofs.script.answer_with_room.Goals as goal
 
 pub returns-in_default-clause-answer : goal.returns-in_default-clause-answer
 returns-in_default-clause-answer g c =
     let s = view_of g.L.Layout.kind c.args.trie.now in record {
       ok = tt;
-      err = Leaves-unanswered Memory (order_of c.args.line.now) s s (g.W.Write.contents (device_of c.args.writer.now)) refl;
+      err = Disobeys-unanswered Memory (order_of c.args.line.now) s s (g.W.Write.contents (device_of c.args.writer.now)) refl;
     }
 
 pub returns-in_default-clause-faults : goal.returns-in_default-clause-faults

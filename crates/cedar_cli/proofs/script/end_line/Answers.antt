@@ -2,7 +2,7 @@ use Rattle.std.proofs.lemmas.Result.{err_from_is_err_and}
 use Rattle.std.proofs.Common.{Err, refl, ap, length-append, ◌+◌, ◌≡◌, ◌<◌, arith, length, sym, subst, ◌∙◌, ◌++◌, ◌∷◌, [], List, ℕ, append_assoc}
 use Rattle.cedarwood.specs.WatchedDevice.{device_of, has_failed}
 use Rattle.cedar_cli.specs.Command.{order_of}
-use Rattle.cedar_cli.specs.Script.{LineMayLackMemory, Obeys, Leaves, Advances, Stops}
+use Rattle.cedar_cli.specs.Script.{LineMayLackMemory, Obeys, Disobeys, Advances, Stops}
 use Rattle.cedar_cli.specs.View.{view_of}
 use Rattle.cedar_cli.specs.declared.script.ScriptError.TheVariants.{Memory}
 use Rattle.cedar_cli.proofs.Begun.{on_ok}
@@ -71,7 +71,7 @@ returns-in_err-answer_with_room g c =
     let line = c.args.line.now.items in
     let piece = c.args.piece.now in
     let whole : c.as_slice.result.now ≡ line ++ piece = c.as_slice.ensures.value ∙ c.in-Ok.ensures.items in
-    let left : Leaves fault (order_of (line ++ piece)) old new held holds = subst (λ (l : List ℕ). Leaves fault (order_of l) old new held holds) whole c.in_err-answer_with_room.ensures.answer.err in
+    let left : Disobeys fault (order_of (line ++ piece)) old new held holds = subst (λ (l : List ℕ). Disobeys fault (order_of l) old new held holds) whole c.in_err-answer_with_room.ensures.answer.err in
     let p = err_from_is_err_and c.from_residual.result c.from_residual.ensures.1 in
     let is : c.from_residual.result ≡ Err fault = cc (p.1, p.2) in
     let was : c.answer_with_room-2.result ≡ Err fault = cc (c.in_err-answer_with_room.was) in

@@ -7,7 +7,7 @@ use Rattle.cedarwood.specs.WatchedDevice.{device_of, has_failed}
 use Rattle.cedar_cli.specs.Blocks.{GrowsWithin}
 use Rattle.cedar_cli.specs.Command.{order_of}
 use Rattle.cedar_cli.specs.Lines.{lines_of, HasNoNewline}
-use Rattle.cedar_cli.specs.Script.{LineMayLackMemory, Obeys, Leaves, Finishes, Advances, Stops, EndsEarly}
+use Rattle.cedar_cli.specs.Script.{LineMayLackMemory, Obeys, Disobeys, Finishes, Advances, Stops, EndsEarly}
 use Rattle.cedarwood.proofs.GrowthLemmas.{grows_none}
 use Rattle.cedar_cli.specs.View.{view_of}
 use Rattle.cedar_cli.proofs.BlockCounts.{no_blocks, chunk_taken, chunk_left, last_blocks, so_far_blocks, came_blocks}
@@ -150,7 +150,7 @@ returns-in_err-answer_with_room-clause-err g c =
       | then-loop-turn-test+in-Ok-flush+in-Ok-read+then-count-eq0 w ↦ rw w.writer-is (Advances-kept old mid first (g.W.Write.contents (device_of c.loop-turn.writer)) (g.W.Write.contents (device_of w.flush.new.self)) before.0 line before.4 w.flush.ensures.bytes)
     ] in
     let long : 0 < length line = long_line line c.loop-turn.line.len len (sym c.is_empty.ensures ∙ c.if-not-is_empty.true) in
-    let left : Leaves fault (order_of line) mid new held holds = subst (λ (l : List ℕ). Leaves fault (order_of l) mid new held holds) c.as_slice.ensures.value c.in_err-answer_with_room.ensures.answer.err in
+    let left : Disobeys fault (order_of line) mid new held holds = subst (λ (l : List ℕ). Disobeys fault (order_of l) mid new held holds) c.as_slice.ensures.value c.in_err-answer_with_room.ensures.answer.err in
     let p = err_from_is_err_and c.from_residual-in_err-answer_with_room.result c.from_residual-in_err-answer_with_room.ensures.1 in
     let is : c.from_residual-in_err-answer_with_room.result ≡ Err fault = cc (p.1, p.2) in
     let was : c.answer_with_room.result ≡ Err fault = cc (c.in_err-answer_with_room.was) in

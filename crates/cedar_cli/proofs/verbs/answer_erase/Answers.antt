@@ -8,7 +8,7 @@ use Rattle.cedar_cli.specs.View.{view_of}
 use Rattle.cedar_cli.proofs.BlockCounts.{same_blocks}
 use Rattle.cedar_cli.proofs.Bytes.{each_fault}
 use Rattle.cedar_cli.proofs.Faults.{no_success}
-use Rattle.cedar_cli.proofs.Orders.{erased_reply, absent_reply, Leaves-front, erased_written, absent_written}
+use Rattle.cedar_cli.proofs.Orders.{erased_reply, absent_reply, Disobeys-front, erased_written, absent_written}
 use Rattle.cedar_cli.proofs.SlotsInView.{cut_obeyed}
 use Rattle.cedar_cli.proofs.verbs.answer_erase.Goals as goal
 use Rattle.cedar_cli.proofs.verbs.answer_erase.Goals.{in-Some+in_ok-write_whole-in-Some, in-None+in_ok-write_whole-in-None}
@@ -20,7 +20,7 @@ returns-in_err-write_whole-in-Some-clause-answer g c =
     let p = err_from_is_err_and c.from_residual.result c.from_residual.ensures.1 in record {
       ok = no_success _ c.from_residual.result p.0 p.1;
       err = each_fault _ c.from_residual.result
-          (λ fault. Leaves-front fault (Some (Erase, key)) s (g.W.Write.contents (device_of c.args.writer.now)) (g.W.Write.contents (device_of c.write_whole.new.writer)) (codes "erased")
+          (λ fault. Disobeys-front fault (Some (Erase, key)) s (g.W.Write.contents (device_of c.args.writer.now)) (g.W.Write.contents (device_of c.write_whole.new.writer)) (codes "erased")
           (erased_reply s key c.in-Some.field-0 c.in-Some.ensures.answer) c.in_err-write_whole-in-Some.ensures.err);
     }
 
@@ -31,7 +31,7 @@ returns-in_err-write_whole-in-None-clause-answer g c =
     let p = err_from_is_err_and c.from_residual-in_err-write_whole-in-None.result c.from_residual-in_err-write_whole-in-None.ensures.1 in record {
       ok = no_success _ c.from_residual-in_err-write_whole-in-None.result p.0 p.1;
       err = each_fault _ c.from_residual-in_err-write_whole-in-None.result
-          (λ fault. Leaves-front fault (Some (Erase, key)) s (g.W.Write.contents (device_of c.args.writer.now)) (g.W.Write.contents (device_of c.write_whole-in-None.new.writer)) (codes "absent")
+          (λ fault. Disobeys-front fault (Some (Erase, key)) s (g.W.Write.contents (device_of c.args.writer.now)) (g.W.Write.contents (device_of c.write_whole-in-None.new.writer)) (codes "absent")
           (absent_reply s key c.in-None.ensures.answer) c.in_err-write_whole-in-None.ensures.err);
     }
 

@@ -1,7 +1,8 @@
-use Rattle.std.proofs.Common.{length, refl, take, ◌≡◌, Option, Some, None}
+use Rattle.std.proofs.Common.{length, refl, subst, take, ◌≡◌, Option, Some, None}
 use Rattle.std.specs.Prelude.{codes}
 use Rattle.cedarwood.specs.WatchedDevice.{device_of, has_failed}
 use Rattle.cedar_cli.specs.Command.{Order, order_of}
+use Rattle.cedar_cli.specs.Words.{Answers, MayLackMemory}
 use Rattle.cedar_cli.proofs.BlockCounts.{no_blocks, key_blocks}
 use Rattle.cedar_cli.proofs.Orders.{never_memory, told, write_alone}
 use Rattle.cedar_cli.proofs.Faults.{writers_fault}
@@ -25,6 +26,20 @@ returns-in-None-clause-limit g c = λ full. let alone = write_alone _ c.write_wh
 
 pub returns-in-None-clause-blocks : goal.returns-in-None-clause-blocks
 returns-in-None-clause-blocks g c = no_blocks (length c.args.line.now) c.args.trie.now
+
+pub returns-in-Some-clause-answer : goal.returns-in-Some-clause-answer
+returns-in-Some-clause-answer g c =
+    let key = take c.in-Some.command.key_len c.parse_line.new.room in
+    let e : ◌≡◌ {A = Option Order} (Some (c.in-Some.command.verb, key)) (order_of c.args.line.now) = rw c.in-Some.is at c.parse_line.ensures.order in
+    let held = g.W.Write.contents (device_of c.args.writer.now) in
+    let holds = g.W.Write.contents (device_of c.answer_command.new.writer) in
+    subst (λ (o : Option Order). Answers g.L.Layout.kind o c.args.trie.now c.answer_command.new.trie held holds c.answer_command.result) e c.answer_command.ensures.answer
+
+pub returns-in-Some-clause-memory : goal.returns-in-Some-clause-memory
+returns-in-Some-clause-memory g c = λ starved.
+    let key = take c.in-Some.command.key_len c.parse_line.new.room in
+    let e : ◌≡◌ {A = Option Order} (Some (c.in-Some.command.verb, key)) (order_of c.args.line.now) = rw c.in-Some.is at c.parse_line.ensures.order in
+    subst (λ (o : Option Order). MayLackMemory g.row.SLOTS o c.answer_command.new.trie) e (c.answer_command.ensures.memory starved)
 
 pub returns-in-Some-clause-blocks : goal.returns-in-Some-clause-blocks
 returns-in-Some-clause-blocks g c =

@@ -13,7 +13,7 @@ use Rattle.cedar_cli.specs.declared.script.ScriptError.TheVariants.{Memory as No
 use Rattle.cedar_cli.proofs.BlockCounts.{within_further, back_blocks, held_after}
 use Rattle.cedar_cli.proofs.Bytes.{Obeys-on_ok}
 use Rattle.cedar_cli.proofs.Faults.{memory_no_limit, limit_no_memory, writers_fault, memory_fault, limit_fault}
-use Rattle.cedar_cli.proofs.Orders.{no_fault, pair_kind, refused_by, taken_back, Leaves-if_err, Leaves-unanswered, no_shortage, on_not_ok, if_not_err, write_alone, never_memory, told}
+use Rattle.cedar_cli.proofs.Orders.{no_fault, pair_kind, refused_by, taken_back, Disobeys-if_err, Disobeys-unanswered, no_shortage, on_not_ok, if_not_err, write_alone, never_memory, told}
 use Rattle.cedar_cli.proofs.SlotsInView.{put_obeyed, put_refused, seen_same}
 use Rattle.cedar_cli.proofs.verbs.answer_put.Goals as goal
 
@@ -34,7 +34,7 @@ returns-then-is_err g c =
     record {
       answer = record {
         ok = on_not_ok _ written (sym c.is_err.ensures.value ∙ c.if-is_err.true);
-        err = Leaves-if_err _ written (Some (Put c.args.value, key)) (view_of g.L.Layout.kind before) (view_of g.L.Layout.kind c.take_back.new.trie) (g.W.Write.contents (device_of c.args.writer.now)) (g.W.Write.contents (device_of c.write_whole-written.new.writer)) (111 ∷ 107 ∷ 10 ∷ [])
+        err = Disobeys-if_err _ written (Some (Put c.args.value, key)) (view_of g.L.Layout.kind before) (view_of g.L.Layout.kind c.take_back.new.trie) (g.W.Write.contents (device_of c.args.writer.now)) (g.W.Write.contents (device_of c.write_whole-written.new.writer)) (111 ∷ 107 ∷ 10 ∷ [])
             writer.cause
             (λ _. taken_back c.in-Ok.before old c.insert_bytes.new.self.state c.take_back.new.trie.state key c.args.value
             c.in-Ok.ensures.held c.in-Ok.ensures.sound c.in-Ok.ensures.in_range clean
@@ -118,7 +118,7 @@ returns-in-Memory g c =
     record {
       answer = record {
         ok = tt;
-        err = Leaves-unanswered NoMemory (Some (Put c.args.value, c.args.key.now)) (view_of layout before) (view_of layout after) (g.W.Write.contents (device_of c.args.writer.now))
+        err = Disobeys-unanswered NoMemory (Some (Put c.args.value, c.args.key.now)) (view_of layout before) (view_of layout after) (g.W.Write.contents (device_of c.args.writer.now))
             (seen_same layout before after u.err u.marks_stay);
       };
       faults = memory_fault (has_failed c.args.writer.now);
@@ -139,7 +139,7 @@ returns-in-SlotLimit g c =
     record {
       answer = record {
         ok = tt;
-        err = Leaves-unanswered NoSlot (Some (Put c.args.value, c.args.key.now)) (view_of layout before) (view_of layout after) (g.W.Write.contents (device_of c.args.writer.now))
+        err = Disobeys-unanswered NoSlot (Some (Put c.args.value, c.args.key.now)) (view_of layout before) (view_of layout after) (g.W.Write.contents (device_of c.args.writer.now))
             (seen_same layout before after u.err u.marks_stay);
       };
       faults = limit_fault (has_failed c.args.writer.now);

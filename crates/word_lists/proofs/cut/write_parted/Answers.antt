@@ -1,5 +1,5 @@
 use Rattle.cedarwood.specs.WatchedDevice.{device_of}
-use Rattle.word_lists.specs.Texts.{part_of, parting}
+use Rattle.word_lists.specs.Texts.{parting, text_part}
 use Rattle.word_lists.proofs.Bytes.{front_as, on_err, then_err_as}
 use Rattle.word_lists.proofs.cut.write_parted.Goals as goal
 
@@ -7,10 +7,10 @@ pub returns-in_err-write_whole-clause-err : goal.returns-in_err-write_whole-clau
 returns-in_err-write_whole-clause-err g c =
     on_err c.from_residual.result
     (front_as (g.W.Write.contents (device_of c.args.writer.now)) (g.W.Write.contents (device_of c.write_whole.new.writer)) c.parting.result.now (parting c.args.sign.now c.args.text.now c.args.token)
-    (part_of c.args.text.now c.args.token.0 c.args.token.1) c.parting.ensures c.in_err-write_whole.ensures.err)
+    (text_part c.args.text.now c.args.token.0 c.args.token.1) c.parting.ensures c.in_err-write_whole.ensures.err)
 
 pub returns-clause-err : goal.returns-clause-err
 returns-clause-err g c =
     then_err_as c.write_whole-2.result (g.W.Write.contents (device_of c.args.writer.now)) (g.W.Write.contents (device_of c.write_whole.new.writer)) (g.W.Write.contents (device_of c.write_whole-2.new.writer))
-    c.parting.result.now (parting c.args.sign.now c.args.text.now c.args.token) c.part.result.now (part_of c.args.text.now c.args.token.0 c.args.token.1)
+    c.parting.result.now (parting c.args.sign.now c.args.text.now c.args.token) c.part.result.now (text_part c.args.text.now c.args.token.0 c.args.token.1)
     c.parting.ensures c.part.ensures c.in_ok-write_whole.ensures.ok c.write_whole-2.ensures.err

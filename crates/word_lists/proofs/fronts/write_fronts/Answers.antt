@@ -2,7 +2,7 @@ use Rattle.std.proofs.Common.{rules, ◌≡◌, ℕ, ℤ, List, length, map, sub
 use Rattle.std.specs.Prelude.{IfOk, OnErr, ltb}
 use Rattle.cedar_tree.specs.Queries.{front}
 use Rattle.cedarwood.specs.WatchedDevice.{device_of}
-use Rattle.word_lists.specs.Devices.{WritesFront}
+use Rattle.text_lines.specs.Written.{WritesFront}
 use Rattle.word_lists.specs.Lines.{entry_lines}
 use Rattle.word_lists.specs.Texts.{front_entry}
 use Rattle.word_lists.proofs.fronts.write_fronts.Goals as goal

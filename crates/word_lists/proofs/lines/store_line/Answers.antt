@@ -4,7 +4,7 @@ use Rattle.std.specs.Prelude.{IfOk, OnOk}
 use Rattle.cedar_tree.specs.State.{State}
 use Rattle.cedar_tree.specs.Tree.{number_at}
 use Rattle.cedarwood.specs.Fault.{fault}
-use Rattle.word_lists.specs.Stored.{line_stored, line_told, number_of, number_with, stored_by, told_by}
+use Rattle.word_lists.specs.Stored.{line_stored, line_told, number_of_line, number_with, stored_by, told_by}
 use Rattle.word_lists.specs.declared.lines.LineFault.{LineFault as Fault}
 use Rattle.word_lists.proofs.Figures.{filled_unless}
 use Rattle.word_lists.proofs.ListedLines.{none_left}
@@ -31,7 +31,7 @@ returns-in_default-clause-ok g c =
     let number = c.args.number in
     let line = c.args.line.now in
     let filled = filled_unless line (sym c.if-is_empty.false ∙ c.is_empty.ensures) in
-    let found : number_of number line ≡ c.value_of.result = ap (number_with number) (sym c.split_line.ensures.figures) ∙ sym c.value_of.ensures in
+    let found : number_of_line number line ≡ c.value_of.result = ap (number_with number) (sym c.split_line.ensures.figures) ∙ sym c.value_of.ensures in
     unnumbered_stored s number line filled (found ∙ lacks_number c.value_of.result (λ v e. c.in_default.not-Some v e))
 
 pub returns-in_default-clause-told : goal.returns-in_default-clause-told
@@ -40,7 +40,7 @@ returns-in_default-clause-told g c =
     let number = c.args.number in
     let line = c.args.line.now in
     let filled = filled_unless line (sym c.if-is_empty.false ∙ c.is_empty.ensures) in
-    let found : number_of number line ≡ c.value_of.result = ap (number_with number) (sym c.split_line.ensures.figures) ∙ sym c.value_of.ensures in
+    let found : number_of_line number line ≡ c.value_of.result = ap (number_with number) (sym c.split_line.ensures.figures) ∙ sym c.value_of.ensures in
     unnumbered_told s number line filled (found ∙ lacks_number c.value_of.result (λ v e. c.in_default.not-Some v e))
 
 pub returns-clause-ok : goal.returns-clause-ok
@@ -49,7 +49,7 @@ returns-clause-ok g c =
     let number = c.args.number in
     let line = c.args.line.now in
     let filled = filled_unless line (sym c.if-is_empty.false ∙ c.is_empty.ensures) in
-    let found : number_of number line ≡ c.value_of.result = ap (number_with number) (sym c.split_line.ensures.figures) ∙ sym c.value_of.ensures in
+    let found : number_of_line number line ≡ c.value_of.result = ap (number_with number) (sym c.split_line.ensures.figures) ∙ sym c.value_of.ensures in
     let word = c.deref.result.now in
     let v = c.in-Some.value in
     let fits : FitsSigned w32 v = search rules in
@@ -64,7 +64,7 @@ returns-clause-told g c =
     let number = c.args.number in
     let line = c.args.line.now in
     let filled = filled_unless line (sym c.if-is_empty.false ∙ c.is_empty.ensures) in
-    let found : number_of number line ≡ c.value_of.result = ap (number_with number) (sym c.split_line.ensures.figures) ∙ sym c.value_of.ensures in
+    let found : number_of_line number line ≡ c.value_of.result = ap (number_with number) (sym c.split_line.ensures.figures) ∙ sym c.value_of.ensures in
     let word = c.deref.result.now in
     let v = c.in-Some.value in
     let fits : FitsSigned w32 v = search rules in

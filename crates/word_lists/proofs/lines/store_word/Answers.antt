@@ -3,7 +3,7 @@ use Rattle.std.proofs.lemmas.Int.{to_z-of_z}
 use Rattle.std.specs.Prelude.{IfOk, OnOk}
 use Rattle.cedar_tree.specs.Tree.{number_at}
 use Rattle.cedarwood.specs.Fault.{fault}
-use Rattle.word_lists.specs.Stored.{refusal_of, stored_by, told_by}
+use Rattle.word_lists.specs.Stored.{line_refusal, stored_by, told_by}
 use Rattle.word_lists.proofs.Bytes.{on_err}
 use Rattle.word_lists.proofs.Refusals.{refused_slots, refused_state, refused_told, stored_state, stored_told, update_err}
 use Rattle.word_lists.proofs.lines.store_word.Goals as goal
@@ -34,7 +34,7 @@ returns-in-Err-clause-ok g c =
     let after = c.insert_bytes.new.self.state in
     let v = to_z w32 (of_z w32 c.args.value) in
     subst (λ r. OnOk r (after ≡ stored_by (fault word c.args.value) before word c.args.value)) (sym c.refusal.ensures)
-    (subst (λ (x : ℤ). OnOk (refusal_of c.in-Err.error) (after ≡ stored_by (fault word x) before word x)) (to_z-of_z w32 c.args.value c.ranges.value)
+    (subst (λ (x : ℤ). OnOk (line_refusal c.in-Err.error) (after ≡ stored_by (fault word x) before word x)) (to_z-of_z w32 c.args.value c.ranges.value)
     (refused_state (Unit {0}) (fault word v) word v before after c.in-Err.error u.faulty (λ fine. (u.refused fine).0) u.err))
 
 pub returns-in-Err-clause-told : goal.returns-in-Err-clause-told
@@ -44,7 +44,7 @@ returns-in-Err-clause-told g c =
     let held = is_some (number_at c.args.trie.now.state.tree word) in
     let v = to_z w32 (of_z w32 c.args.value) in
     subst (λ r. IfOk r (λ told. told ≡ told_by (fault word c.args.value) held)) (sym c.refusal.ensures)
-    (subst (λ (x : ℤ). IfOk (refusal_of c.in-Err.error) (λ told. told ≡ told_by (fault word x) held)) (to_z-of_z w32 c.args.value c.ranges.value)
+    (subst (λ (x : ℤ). IfOk (line_refusal c.in-Err.error) (λ told. told ≡ told_by (fault word x) held)) (to_z-of_z w32 c.args.value c.ranges.value)
     (refused_told (Unit {0}) (fault word v) held c.in-Err.error u.faulty (λ fine. (u.refused fine).0)))
 
 pub returns-in-Err-clause-limit : goal.returns-in-Err-clause-limit

@@ -3,7 +3,7 @@ use Rattle.std.proofs.lemmas.Int.{to_z-of_z}
 use Rattle.std.specs.Io.KnownBytes.{Appends}
 use Rattle.cedar_tree.specs.Queries.{Entry}
 use Rattle.cedarwood.specs.WatchedDevice.{device_of}
-use Rattle.word_lists.specs.Devices.{WritesFront}
+use Rattle.text_lines.specs.Written.{WritesFront}
 use Rattle.word_lists.specs.Lines.{entry_line, entry_lines}
 use Rattle.word_lists.proofs.Bytes.{Appends-append, on_err}
 use Rattle.word_lists.proofs.NextEntries.{begun_next, stopped_next}

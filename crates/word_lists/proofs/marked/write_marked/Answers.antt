@@ -3,7 +3,7 @@ use Rattle.std.specs.Prelude.{ltb}
 use Rattle.std.specs.Io.KnownBytes.{Appends}
 use Rattle.cedarwood.specs.WatchedDevice.{device_of}
 use Rattle.cedar_words.specs.Words.{Token, keywords_in, segments}
-use Rattle.word_lists.specs.Devices.{WritesFront}
+use Rattle.text_lines.specs.Written.{WritesFront}
 use Rattle.word_lists.specs.Texts.{body_of, ending_of, marked_token, texts_of}
 use Rattle.word_lists.proofs.Bytes.{Appends-none, on_err}
 use Rattle.word_lists.proofs.Texts.{marked_none, marked_some}

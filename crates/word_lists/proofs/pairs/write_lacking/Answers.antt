@@ -4,7 +4,7 @@ use Rattle.std.proofs.lemmas.Int.{to_z-of_z}
 use Rattle.std.specs.Io.KnownBytes.{Appends}
 use Rattle.cedar_tree.specs.Queries.{Entry}
 use Rattle.cedarwood.specs.WatchedDevice.{device_of, has_failed}
-use Rattle.word_lists.specs.Devices.{WritesFront}
+use Rattle.text_lines.specs.Written.{WritesFront}
 use Rattle.word_lists.specs.Lines.{lacking, signed_lines}
 use Rattle.word_lists.specs.declared.write.ListError.TheVariants.{Write}
 use Rattle.word_lists.proofs.Answered.{broken_lines, memory_told, starved_lines, whole_lines}

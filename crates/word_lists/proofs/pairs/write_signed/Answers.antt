@@ -3,7 +3,7 @@ use Rattle.std.proofs.lemmas.Int.{to_z-of_z}
 use Rattle.std.specs.Prelude.{OnErr, OnOk}
 use Rattle.std.specs.Io.KnownBytes.{Appends}
 use Rattle.cedarwood.specs.WatchedDevice.{device_of}
-use Rattle.word_lists.specs.Devices.{WritesFront}
+use Rattle.text_lines.specs.Written.{WritesFront}
 use Rattle.word_lists.specs.Lines.{entry_line}
 use Rattle.word_lists.proofs.Bytes.{front_more, on_err, then_err, then_ok}
 use Rattle.word_lists.proofs.pairs.write_signed.Goals as goal

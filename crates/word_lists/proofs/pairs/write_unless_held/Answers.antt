@@ -1,12 +1,29 @@
-use Rattle.std.proofs.Common.{◌≡◌, ◌∙◌, ℤ, false, w32, subst, sym}
+use Rattle.std.proofs.Common.{◌≡◌, ◌∙◌, ℤ, true, false, w32, subst, sym}
 use Rattle.std.proofs.lemmas.Int.{to_z-of_z}
 use Rattle.std.specs.Io.KnownBytes.{Appends}
 use Rattle.cedarwood.specs.WatchedDevice.{device_of}
-use Rattle.word_lists.specs.Devices.{WritesFront}
+use Rattle.text_lines.specs.Written.{WritesFront}
 use Rattle.word_lists.specs.Lines.{holds_entry, signed_line}
-use Rattle.word_lists.proofs.Bytes.{on_err}
-use Rattle.word_lists.proofs.SignedLines.{one_lacking, some_lacking}
+use Rattle.word_lists.proofs.Bytes.{Appends-none, on_err}
+use Rattle.word_lists.proofs.SignedLines.{none_lacking, nothing_lacking, one_lacking, some_lacking}
 use Rattle.word_lists.proofs.pairs.write_unless_held.Goals as goal
+
+pub returns-then-holds-clause-ok : goal.returns-then-holds-clause-ok
+returns-then-holds-clause-ok g c =
+    let d0 = g.W.Write.contents (device_of c.args.writer.now) in
+    let tree = c.args.other.now.state.tree in
+    let key = c.args.key.now in
+    let same = to_z-of_z w32 c.args.value c.ranges.value in
+    let held : holds_entry tree (key, c.args.value) ≡ true = subst (λ (v : ℤ). holds_entry tree (key, v) ≡ true) same (sym c.holds.ensures ∙ c.if-holds.true) in
+    subst (Appends d0 d0) (none_lacking c.args.sign.now tree (key, c.args.value) held) (Appends-none d0)
+
+pub returns-then-holds-clause-any : goal.returns-then-holds-clause-any
+returns-then-holds-clause-any g c =
+    let tree = c.args.other.now.state.tree in
+    let key = c.args.key.now in
+    let same = to_z-of_z w32 c.args.value c.ranges.value in
+    let held : holds_entry tree (key, c.args.value) ≡ true = subst (λ (v : ℤ). holds_entry tree (key, v) ≡ true) same (sym c.holds.ensures ∙ c.if-holds.true) in
+    nothing_lacking tree (key, c.args.value) held
 
 pub returns-in_err-write_signed-clause-err : goal.returns-in_err-write_signed-clause-err
 returns-in_err-write_signed-clause-err g c =

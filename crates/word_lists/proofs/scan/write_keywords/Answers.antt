@@ -2,7 +2,7 @@ use Rattle.std.proofs.Common.{◌≡◌, ◌∙◌, ℕ, List, ap, length, subst
 use Rattle.std.specs.Prelude.{IfOk, OnErr, ltb}
 use Rattle.cedarwood.specs.WatchedDevice.{device_of}
 use Rattle.cedar_words.specs.Words.{Spot, keywords_in}
-use Rattle.word_lists.specs.Devices.{WritesFront}
+use Rattle.text_lines.specs.Written.{WritesFront}
 use Rattle.word_lists.specs.Texts.{body_of, spot_lines}
 use Rattle.word_lists.proofs.scan.write_keywords.Goals as goal
 

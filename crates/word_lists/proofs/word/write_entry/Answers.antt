@@ -1,11 +1,12 @@
-use Rattle.std.proofs.Common.{w32, ap, ◌∙◌, ◌≡◌, ◌++◌, ◌∷◌, [], List, ℕ, subst}
+use Rattle.std.proofs.Common.{w32, arith, ap, ◌∙◌, ◌≡◌, ◌++◌, ◌∷◌, [], List, ℕ, subst}
 use Rattle.std.proofs.lemmas.Int.{to_z-of_z}
 use Rattle.std.specs.Prelude.{OnErr}
 use Rattle.std.specs.Fmt.{signed_decimal}
 use Rattle.cedarwood.specs.WatchedDevice.{device_of}
-use Rattle.word_lists.specs.Devices.{WritesFront}
-use Rattle.word_lists.specs.Lines.{word_text}
+use Rattle.text_lines.specs.Written.{WritesFront}
+use Rattle.word_lists.specs.Lines.{entry_line, word_text}
 use Rattle.word_lists.proofs.Bytes.{front_more, then_err, on_err}
+use Rattle.word_lists.proofs.Rooms.{all_from}
 use Rattle.word_lists.proofs.word.write_entry.Goals as goal
 
 pub returns-in_err-write_word-clause-err : goal.returns-in_err-write_word-clause-err
@@ -24,3 +25,13 @@ returns-clause-err g c =
     let figures : text ≡ signed_decimal c.args.number = c.as_bytes.ensures.value ∙ c.format.ensures.text ∙ ap signed_decimal (to_z-of_z w32 c.args.number c.ranges.number) in
     subst (λ (t : List ℕ). OnErr c.write_line.result (WritesFront held holds (digits ++ (9 ∷ [] ++ (t ++ 10 ∷ []))))) figures
     (then_err c.write_line.result held begun holds digits (9 ∷ [] ++ (text ++ 10 ∷ [])) c.in_ok-write_word.ensures.ok c.write_line.ensures.err)
+
+pub returns-then-finds_room-clause-err : goal.returns-then-finds_room-clause-err
+returns-then-finds_room-clause-err g c =
+    let held = g.W.Write.contents (device_of c.args.writer.now) in
+    let holds = g.W.Write.contents (device_of c.write_whole.new.writer) in
+    let word = c.args.word.now in
+    let told = entry_line (word, c.args.number) in
+    let put = c.put_entry-start in
+    let line = all_from 128 put.new.room told put.result (omega arith) (put.ensures.written ∙ ap (λ n. entry_line (word, n)) (to_z-of_z w32 c.args.number c.ranges.number)) in
+    subst (λ (l : List ℕ). OnErr c.write_whole.result (WritesFront held holds l)) line c.write_whole.ensures.err

@@ -1,6 +1,6 @@
 use Rattle.std.proofs.Common.{rules, ◌≡◌, ◌<◌, ◌+◌, ◌^◌, ◌++◌, IfSome, List, ℕ, ℤ, None, length, map, subst, sym, take}
 use Rattle.cedar_c.specs.Matches.{Fit}
-use Rattle.cedar_c.specs.Scans.{spot}
+use Rattle.cedar_c.specs.Scans.{found_spot}
 use Rattle.cedar_c.proofs.ScanLemmas.{fronts_are_short}
 use Rattle.cedar_c.proofs.scans.TrieScanned.tell_fronts.Goals as goal
 
@@ -11,7 +11,7 @@ tell-requires-clause-fit g c =
 
 pub returns-clause-told : goal.returns-clause-told
 returns-clause-told g c =
-    subst (λ (xs : List (ℤ × ℕ)). IfSome c.tell.result (λ n. take n c.tell.new.found ≡ take c.args.count c.args.found.now ++ map (spot c.args.place) xs))
+    subst (λ (xs : List (ℤ × ℕ)). IfSome c.tell.result (λ n. take n c.tell.new.found ≡ take c.args.count c.args.found.now ++ map (found_spot c.args.place) xs))
     c.common_prefix_iter_bytes.ensures.rest c.tell.ensures.told
 
 pub returns-clause-no_room : goal.returns-clause-no_room

@@ -1,6 +1,6 @@
 use Rattle.std.proofs.Common.{◌≡◌, ◌∷◌, length, rules}
 use Rattle.cedar_disk.specs.Accounts.{calls_of}
-use Rattle.cedar_disk.specs.Calls.{extended, refused, written}
+use Rattle.cedar_disk.specs.Calls.{extended, refused_call, written}
 use Rattle.cedar_disk.proofs.Steps.{extend_follows, refused_write, write_follows}
 use Rattle.cedar_disk.proofs.file.FileDeviceDevice.write_at.Goals as goal
 
@@ -10,7 +10,7 @@ returns-in_err-admit-clause-crash g c =
 
 pub returns-in_default-clause-crash : goal.returns-in_default-clause-crash
 returns-in_default-clause-crash g c =
-    let is : calls_of c.refused.new.self ≡ refused ∷ calls_of c.args.self.now.account = search rules in
+    let is : calls_of c.refused.new.self ≡ refused_call ∷ calls_of c.args.self.now.account = search rules in
     refused_write (calls_of c.args.self.now.account) (calls_of c.refused.new.self) c.args.self.now.account.within c.args.at (length c.args.bytes.now) is
 
 pub returns-then-end-len-clause-crash : goal.returns-then-end-len-clause-crash

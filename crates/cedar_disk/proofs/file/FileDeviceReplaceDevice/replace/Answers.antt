@@ -1,38 +1,38 @@
 use Rattle.std.proofs.Common.{◌≡◌, ◌∷◌, inl, rules}
 use Rattle.cedar_disk.specs.Accounts.{calls_of}
-use Rattle.cedar_disk.specs.Calls.{refused, replaced}
+use Rattle.cedar_disk.specs.Calls.{refused_call, replaced}
 use Rattle.cedar_disk.proofs.Steps.{leaves, refused_keeps, replace_leaves}
 use Rattle.cedar_disk.proofs.file.FileDeviceReplaceDevice.replace.Goals as goal
 
 pub returns-then-is_err-clause-crash : goal.returns-then-is_err-clause-crash
 returns-then-is_err-clause-crash g c =
-    let is : calls_of c.admit.new.self ≡ refused ∷ calls_of c.args.self.now.account = search rules in
+    let is : calls_of c.admit.new.self ≡ refused_call ∷ calls_of c.args.self.now.account = search rules in
     λ d left. inl (refused_keeps (calls_of c.args.self.now.account) (calls_of c.admit.new.self) c.args.self.now.account.within is d left)
 
 pub returns-then-is_err-clause-any_moment : goal.returns-then-is_err-clause-any_moment
 returns-then-is_err-clause-any_moment g c =
     let old = calls_of c.args.self.now.account in
     let new = calls_of c.admit.new.self in
-    let is : new ≡ refused ∷ old = search rules in
-    let all = leaves refused old new (λ d. d ≡ c.args.bytes.now) is (λ d left. inl (refused_keeps old new c.args.self.now.account.within is d left)) in
+    let is : new ≡ refused_call ∷ old = search rules in
+    let all = leaves refused_call old new (λ d. d ≡ c.args.bytes.now) is (λ d left. inl (refused_keeps old new c.args.self.now.account.within is d left)) in
     record { later = all.later; each = all.each; before = all.before }
 
 pub returns-in_default-clause-crash : goal.returns-in_default-clause-crash
 returns-in_default-clause-crash g c =
-    let is : calls_of c.refused.new.self ≡ refused ∷ calls_of c.args.self.now.account = search rules in
+    let is : calls_of c.refused.new.self ≡ refused_call ∷ calls_of c.args.self.now.account = search rules in
     λ d left. inl (refused_keeps (calls_of c.args.self.now.account) (calls_of c.refused.new.self) c.args.self.now.account.within is d left)
 
 pub returns-in_default-clause-kept_crash : goal.returns-in_default-clause-kept_crash
 returns-in_default-clause-kept_crash g c =
-    let is : calls_of c.refused.new.self ≡ refused ∷ calls_of c.args.self.now.account = search rules in
+    let is : calls_of c.refused.new.self ≡ refused_call ∷ calls_of c.args.self.now.account = search rules in
     refused_keeps (calls_of c.args.self.now.account) (calls_of c.refused.new.self) c.args.self.now.account.within is
 
 pub returns-in_default-clause-any_moment : goal.returns-in_default-clause-any_moment
 returns-in_default-clause-any_moment g c =
     let old = calls_of c.args.self.now.account in
     let new = calls_of c.refused.new.self in
-    let is : new ≡ refused ∷ old = search rules in
-    let all = leaves refused old new (λ d. d ≡ c.args.bytes.now) is (λ d left. inl (refused_keeps old new c.args.self.now.account.within is d left)) in
+    let is : new ≡ refused_call ∷ old = search rules in
+    let all = leaves refused_call old new (λ d. d ≡ c.args.bytes.now) is (λ d left. inl (refused_keeps old new c.args.self.now.account.within is d left)) in
     record { later = all.later; each = all.each; before = all.before }
 
 pub returns-clause-crash : goal.returns-clause-crash

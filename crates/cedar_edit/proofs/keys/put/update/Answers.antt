@@ -28,6 +28,9 @@ returns-in_err-moved-clause-blocks g c =
     let few : made.0 < 1 = made.2 in
     (made.0, omega (arith, few, some), on_refusal c.from_residual.result _ (omega (arith, few, some)), made.3)
 
+pub returns-in_err-moved-clause-one_byte : goal.returns-in_err-moved-clause-one_byte
+returns-in_err-moved-clause-one_byte g c = λ b is new. absurd (c.in_err-moved.ensures.one_byte (ap length is)).1
+
 pub put_along-requires : goal.put_along-requires
 put_along-requires g c =
     let fits : FitsSigned w32 c.args.value = search rules in

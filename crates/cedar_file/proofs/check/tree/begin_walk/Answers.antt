@@ -8,6 +8,11 @@ use Rattle.cedar_file.proofs.TreeLemmas.WhatIsRead.{same_walk}
 use Rattle.cedar_file.proofs.check.tree.begin_walk.Goals.{then-base-ne0-via-then-base-ne0, then-base-ne0-via-else-base-ne0+then-root}
 use Rattle.cedar_file.proofs.check.tree.begin_walk.Goals as goal
 
+pub returns-in_default-clause-faulty : goal.returns-in_default-clause-faulty
+returns-in_default-clause-faulty g c = λ root.
+    let fits : FitsSigned w32 c.read_node-root.result.base = search rules in
+    c.in_default.not-AtBase 0 (c.read_base.ensures ∙ ap (reading g.L.Layout.kind) (to_z-of_z w32 c.read_node-root.result.base fits) ∙ c.read_node-root.ensures.stored ∙ root.stored)
+
 pub returns-then-base-ne0-clause-faulty : goal.returns-then-base-ne0-clause-faulty
 returns-then-base-ne0-clause-faulty g c = λ root.
     let fits : FitsSigned w32 c.read_node-root.result.base = search rules in

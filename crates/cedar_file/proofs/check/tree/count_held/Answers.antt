@@ -1,5 +1,5 @@
-use Rattle.std.proofs.Common.{◌≡◌, ◌+◌, ◌<◌, ◌∙◌, ap, arith, of_z, refl, sym, to_z, w16}
-use Rattle.std.proofs.lemmas.Int.{ints}
+use Rattle.std.proofs.Common.{◌≡◌, ◌+◌, ◌<◌, ◌∙◌, ap, arith, FitsSigned, refl, rules, sym, w16}
+use Rattle.std.proofs.lemmas.Int.{to_z-of_z}
 use Rattle.cedar_slots.specs.Blocks.{counts_at}
 use Rattle.cedar_slots.proofs.ListsLemmas.FreeCounts.{block_total, block_total-le, num_total, sum_below, sum_below-le, sum_below-more, sum_below-none, used-sum}
 use Rattle.cedar_model.proofs.CellsLemmas.PlacesFound.{held-count}
@@ -15,7 +15,8 @@ overflow_cast-free g c =
     let active : c.loop-block.block < P.blocks.active = omega (arith, c.loop-block-test.true, c.size-block-end.ensures) in
     let is = ap (λ r. r.num) c.read_block.ensures.value ∙ num_total P c.loop-block.block c.requires.sound active (counts_at P.blocks.records c.loop-block.block) refl in
     let le = block_total-le P.slots.nodes c.loop-block.block in
-    let same : to_z w16 (of_z w16 c.read_block.result.num) ≡ c.read_block.result.num = omega (arith, ints) in
+    let fits : FitsSigned w16 c.read_block.result.num = search rules in
+    let same = to_z-of_z w16 c.read_block.result.num fits in
     rw (same ∙ is) (tt, omega (arith, le))
 
 pub overflow_add-free : goal.overflow_add-free
@@ -25,7 +26,8 @@ overflow_add-free g c =
     let is = ap (λ r. r.num) c.read_block.ensures.value ∙ num_total P c.loop-block.block c.requires.sound active (counts_at P.blocks.records c.loop-block.block) refl in
     let le = block_total-le P.slots.nodes c.loop-block.block in
     let below = sum_below-le P.slots.nodes c.loop-block.block in
-    let same : to_z w16 (of_z w16 c.read_block.result.num) ≡ c.read_block.result.num = omega (arith, ints) in
+    let fits : FitsSigned w16 c.read_block.result.num = search rules in
+    let same = to_z-of_z w16 c.read_block.result.num fits in
     rw (same ∙ is) (omega (arith, le, below, c.loop-block.invariant.0, active, c.requires.sound.shaped.blocks.active_in, c.requires.sound.shaped.blocks.fits))
 
 pub loop-block-preserved : goal.loop-block-preserved
@@ -33,7 +35,8 @@ loop-block-preserved g c =
     let P = (fields c.args.table.now).places in
     let active : c.loop-block.block < P.blocks.active = omega (arith, c.loop-block-test.true, c.size-block-end.ensures) in
     let is = ap (λ r. r.num) c.read_block.ensures.value ∙ num_total P c.loop-block.block c.requires.sound active (counts_at P.blocks.records c.loop-block.block) refl in
-    let same : to_z w16 (of_z w16 c.read_block.result.num) ≡ c.read_block.result.num = omega (arith, ints) in
+    let fits : FitsSigned w16 c.read_block.result.num = search rules in
+    let same = to_z-of_z w16 c.read_block.result.num fits in
     (rw (same ∙ is) (ap (λ n. n + block_total P.slots.nodes c.loop-block.block) c.loop-block.invariant.0 ∙ sym (sum_below-more P.slots.nodes c.loop-block.block)), omega (arith, c.loop-block.invariant.1, c.read_block.ensures.counted))
 
 pub overflow_sub-result : goal.overflow_sub-result

@@ -1,4 +1,4 @@
-use Rattle.std.proofs.Common.{◌≡◌, ◌∙◌, ap, inr}
+use Rattle.std.proofs.Common.{◌≡◌, ◌∙◌, ap, arith, inr}
 use Rattle.cedar_slots.specs.Blocks.{counts_at, counts_of, kind_of}
 use Rattle.cedar_slots.specs.Views.{blocks_of}
 use Rattle.cedar_slots.proofs.ListsLemmas.BlockMoved.{BlockLists-stay, ListRings-kept}
@@ -14,3 +14,6 @@ returns-then-keeps_list-clause-lists g c =
     let same : kind_of new.max_trial (counts_at new.records e) ≡ kind_of old.max_trial (counts_at old.records e) =
     ap (λ z. kind_of z (counts_at new.records e)) w.max_trial ∙ ap (kind_of old.max_trial) w.made ∙ c.keeps_list.ensures c.if-keeps_list.true old.max_trial ∙ ap (kind_of old.max_trial) c.requires.was in
     (lists, BlockLists-stay old new e lists c.requires.lists.1 w.active w.max_trial (λ b other. ap counts_of (w.others b other)) (ListRings-kept old new lists w.links w.heads c.requires.lists.1.rings) (inr same))
+
+pub write_counts-requires : goal.write_counts-requires
+write_counts-requires g c = omega (arith, c.requires.block_in, c.args.self.now.ready)

@@ -26,3 +26,15 @@ returns-else-head-block-clause-idle g c b above = c.link.ensures.others b (λ sa
 
 pub returns-then-next-block-clause-idle : goal.returns-then-next-block-clause-idle
 returns-then-next-block-clause-idle g c b above = ap (λ v. block_at v.items b) c.set_head.ensures.records
+
+pub previous-previous-requires : goal.previous-previous-requires
+previous-previous-requires g c = omega (arith, c.requires.block_in, c.args.self.now.ready)
+
+pub next-next-requires : goal.next-next-requires
+next-next-requires g c = omega (arith, c.requires.block_in, c.args.self.now.ready)
+
+pub link-requires-clause-from_in : goal.link-requires-clause-from_in
+link-requires-clause-from_in g c = omega (arith, c.previous-previous.ensures, c.requires.previous_in, c.args.self.now.ready)
+
+pub link-requires-clause-to_in : goal.link-requires-clause-to_in
+link-requires-clause-to_in g c = omega (arith, c.next-next.ensures, c.requires.next_in, c.args.self.now.ready)

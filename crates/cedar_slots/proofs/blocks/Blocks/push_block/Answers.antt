@@ -50,3 +50,12 @@ returns-else-head-eq0-clause-idle g c b above =
     let same : c.set_head.new.self.records.items ≡ c.args.self.now.records.items = ap (λ v. v.items) c.set_head.ensures.records in
     let last_is : c.previous-last.result ≡ unsigned_abs (prev_at c.args.self.now.records.items (unsigned_abs (head_of (blocks_of c.args.self.now) c.args.list))) = c.previous-last.ensures ∙ ap (λ rs. unsigned_abs (prev_at rs c.first-head.result)) same ∙ ap (λ n. unsigned_abs (prev_at c.args.self.now.records.items n)) c.first-head.ensures in
     c.link-else-head-eq0-2.ensures.others b (λ is. absurd (omega arith)) (λ is. absurd (omega arith)) ∙ c.link-else-head-eq0.ensures.others b (λ is. absurd (omega arith)) (λ is. absurd (omega arith)) ∙ ap (λ v. block_at v.items b) c.set_head.ensures.records
+
+pub link-requires-clause-from_in : goal.link-requires-clause-from_in
+link-requires-clause-from_in g c = omega (arith, c.requires.block_in, c.set_head.ensures.active, c.set_head.new.self.ready)
+
+pub link-requires-clause-to_in : goal.link-requires-clause-to_in
+link-requires-clause-to_in g c = omega (arith, c.requires.block_in, c.set_head.ensures.active, c.set_head.new.self.ready)
+
+pub previous-last-requires : goal.previous-last-requires
+previous-last-requires g c = omega (arith, c.first-head.ensures, c.requires.head_in, c.set_head.ensures.active, c.set_head.new.self.ready)

@@ -66,3 +66,9 @@ returns-else-block-ne0-clause-lists g c =
             | else-block-ne0-via-else-block-ne0 w ↦ inl (omega arith)
           ]),
     )
+
+pub counts-requires : goal.counts-requires
+counts-requires g c = omega (arith, c.requires.block_in, c.args.self.now.ready)
+
+pub write_counts-requires : goal.write_counts-requires
+write_counts-requires g c = omega (arith, c.requires.block_in, c.args.self.now.ready)

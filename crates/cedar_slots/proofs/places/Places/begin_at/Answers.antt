@@ -1,4 +1,4 @@
-use Rattle.std.proofs.Common.{◌/◌, ◌∙◌, refl}
+use Rattle.std.proofs.Common.{◌/◌, ◌∙◌, arith, refl}
 use Rattle.cedar_slots.specs.Places.{PlaceFields}
 use Rattle.cedar_slots.proofs.RingsLemmas.SlotTaken.{Bounded-same, recounted}
 use Rattle.cedar_slots.proofs.PlacementLemmas.PlaceSearch.{Sound-recounted, Turned-at}
@@ -19,3 +19,6 @@ returns-clause-sound g c =
     (λ _ zero. c.beginning_at.ensures.trial ∙ zero)
     e.lists e.active e.len e.max_trial e.others e.idle c.requires.sound.rejects)
     refl turned.members turned.ring turned.counted
+
+pub counts-counts-requires : goal.counts-counts-requires
+counts-counts-requires g c = omega (arith, c.requires.place.is_active, c.args.self.now.blocks.ready)

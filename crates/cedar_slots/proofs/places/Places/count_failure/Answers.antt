@@ -42,3 +42,6 @@ returns-clause-sound g c =
     e.made e.lists e.active e.len e.max_trial e.others e.idle
     (Bounded-failed old.blocks.max_trial old.blocks.max_trial c.counts-counts.result c.failed.result c.args.wanted _ refl bounds.0 bounds.1 c.failed.ensures.reject (omega (arith, ints)) c.requires.some c.requires.few c.failed.ensures.trial)
     c.failed.ensures.num c.failed.ensures.e_head refl refl
+
+pub counts-counts-requires : goal.counts-counts-requires
+counts-counts-requires g c = omega (arith, c.requires.«open».is_active, c.args.self.now.blocks.ready)

@@ -1,4 +1,4 @@
-use Rattle.std.proofs.Common.{◌∙◌, arith, refl}
+use Rattle.std.proofs.Common.{◌∙◌, ap, arith, length, refl}
 use Rattle.std.proofs.lemmas.Int.{ints}
 use Rattle.cedar_slots.proofs.ListsLemmas.ThreeLists.{cases_list}
 use Rattle.cedar_slots.proofs.PlacementLemmas.FirstBlock.{Sound-fresh}
@@ -8,11 +8,11 @@ pub returns-clause-made : goal.returns-clause-made
 returns-clause-made g c =
     let slots = c.free_root_block.ensures in
     record {
-      nodes_len = omega (arith, slots.len, c.in_ok-vec.ensures.len);
+      nodes_len = omega (arith, slots.len, ap length c.of.ensures.items, c.in_ok-nodes.ensures.len);
       steps = slots.steps;
       last = slots.last;
-      infos = slots.infos ∙ c.in_ok-vec-2.ensures.items_if_clones_equal (λ b same. same);
-      records = c.in_ok-records.ensures.items_if_clones_equal (λ b same. same);
+      infos = slots.infos ∙ c.of-2.ensures.items ∙ c.in_ok-infos.ensures.items_if_clones_equal (λ b same. same);
+      records = c.of-3.ensures.items ∙ c.in_ok-records.ensures.items_if_clones_equal (λ b same. same);
       heads = cases_list _ refl refl refl;
       active = refl;
       max_trial = omega (arith, ints);

@@ -7,12 +7,12 @@ use Rattle.cedar_slots.specs.Views.{blocks_of, places_of, slots_of}
 pub take-requires-clause-previous_in : goal.take-requires-clause-previous_in
 take-requires-clause-previous_in g c =
     let t = taking (places_of c.args.self.now) c.args.slot c.args.node c.requires.sound c.requires.slot_in c.requires.slot_free c.requires.node_used in
-    omega (arith, t.last_in)
+    omega (arith, t.last_here, c.args.self.now.blocks.ready, c.args.self.now.nodes_ready)
 
 pub take-requires-clause-next_in : goal.take-requires-clause-next_in
 take-requires-clause-next_in g c =
     let t = taking (places_of c.args.self.now) c.args.slot c.args.node c.requires.sound c.requires.slot_in c.requires.slot_free c.requires.node_used in
-    omega (arith, t.next_in)
+    omega (arith, t.next_here, c.args.self.now.blocks.ready, c.args.self.now.nodes_ready)
 
 pub less-requires-clause-some : goal.less-requires-clause-some
 less-requires-clause-some g c = num_positive (places_of c.args.self.now) c.args.slot c.requires.sound c.requires.slot_in c.requires.slot_free c.counts-counts.result c.counts-counts.ensures
@@ -20,7 +20,7 @@ less-requires-clause-some g c = num_positive (places_of c.args.self.now) c.args.
 pub less-requires-clause-next_fits : goal.less-requires-clause-next_fits
 less-requires-clause-next_fits g c =
     let t = taking (places_of c.args.self.now) c.args.slot c.args.node c.requires.sound c.requires.slot_in c.requires.slot_free c.requires.node_used in
-    omega (arith, t.next_in)
+    omega (arith, t.next_here, c.requires.sound.shaped.blocks.active_in, c.requires.sound.shaped.blocks.fits)
 
 pub returns-clause-sound : goal.returns-clause-sound
 returns-clause-sound g c =
@@ -38,3 +38,12 @@ pub returns-clause-takes_slot : goal.returns-clause-takes_slot
 returns-clause-takes_slot g c =
     let new : PlaceFields = record (places_of c.args.self.now) { slots = (slots_of c.take.new.self); blocks = (blocks_of c.change_counts.new.self) } in
     TakesSlot-taken (places_of c.args.self.now) new c.args.slot c.args.node c.requires.sound c.requires.slot_in c.requires.slot_free c.requires.node_used c.take.ensures.nodes c.take.ensures.infos
+
+pub take-requires-clause-fits : goal.take-requires-clause-fits
+take-requires-clause-fits g c = omega (arith, c.args.self.now.nodes_ready, c.args.self.now.blocks.within, c.requires.sound.shaped.blocks.fits)
+
+pub take-requires-clause-slot_in : goal.take-requires-clause-slot_in
+take-requires-clause-slot_in g c = omega (arith, c.args.self.now.blocks.ready, c.args.self.now.nodes_ready)
+
+pub counts-counts-requires : goal.counts-counts-requires
+counts-counts-requires g c = omega (arith, c.requires.slot_in, c.args.self.now.blocks.ready)

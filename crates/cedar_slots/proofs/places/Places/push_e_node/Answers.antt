@@ -1,7 +1,7 @@
 use Rattle.std.proofs.Common.{◌≡◌, ◌/◌, ◌≤ℤ◌, ◌<ℤ◌, ◌∙◌, arith, pos, sym}
 use Rattle.std.proofs.lemmas.Int.{ints}
 use Rattle.cedar_slots.specs.Places.{PlaceFields}
-use Rattle.cedar_slots.proofs.RingsLemmas.SlotTaken.{Bounded-more, Bounded-one, num_natural, num_room, recounted, Sound-given_alone, FreesSlot-given_alone, headed, head_in, Sound-given_after, FreesSlot-given_after}
+use Rattle.cedar_slots.proofs.RingsLemmas.SlotTaken.{Bounded-more, Bounded-one, num_natural, num_room, recounted, Sound-given_alone, FreesSlot-given_alone, headed, head_here, Sound-given_after, FreesSlot-given_after}
 use Rattle.cedar_slots.proofs.places.Places.push_e_node.Goals as goal
 use Rattle.cedar_slots.specs.Views.{blocks_of, places_of, slots_of}
 
@@ -9,13 +9,13 @@ pub give_after-requires-clause-head_in : goal.give_after-requires-clause-head_in
 give_after-requires-clause-head_in g c =
     let some = λ (none : c.counts-counts.result.num ≡ _). let same : c.counts-counts.result.num ≡ c.reserved.result = none ∙ sym c.reserved.ensures in c.if-counts-reserved.false (omega (arith, ints)) in
     let at_head = headed (places_of c.args.self.now) c.args.slot c.requires.sound c.requires.slot_in c.requires.not_root c.requires.slot_used c.counts-counts.result c.counts-counts.ensures some c.head-head.result c.head-head.ensures in
-    omega (arith, (head_in (places_of c.args.self.now) c.args.slot c.requires.sound c.requires.slot_in c.requires.not_root c.requires.slot_used c.counts-counts.result c.counts-counts.ensures some c.head-head.result at_head).0)
+    omega (arith, (head_here (places_of c.args.self.now) c.args.slot c.requires.sound c.requires.slot_in c.requires.not_root c.requires.slot_used c.counts-counts.result c.counts-counts.ensures some c.head-head.result at_head).0, c.args.self.now.blocks.ready, c.args.self.now.nodes_ready)
 
 pub give_after-requires-clause-next_in : goal.give_after-requires-clause-next_in
 give_after-requires-clause-next_in g c =
     let some = λ (none : c.counts-counts.result.num ≡ _). let same : c.counts-counts.result.num ≡ c.reserved.result = none ∙ sym c.reserved.ensures in c.if-counts-reserved.false (omega (arith, ints)) in
     let at_head = headed (places_of c.args.self.now) c.args.slot c.requires.sound c.requires.slot_in c.requires.not_root c.requires.slot_used c.counts-counts.result c.counts-counts.ensures some c.head-head.result c.head-head.ensures in
-    omega (arith, (head_in (places_of c.args.self.now) c.args.slot c.requires.sound c.requires.slot_in c.requires.not_root c.requires.slot_used c.counts-counts.result c.counts-counts.ensures some c.head-head.result at_head).1)
+    omega (arith, (head_here (places_of c.args.self.now) c.args.slot c.requires.sound c.requires.slot_in c.requires.not_root c.requires.slot_used c.counts-counts.result c.counts-counts.ensures some c.head-head.result at_head).1, c.args.self.now.blocks.ready, c.args.self.now.nodes_ready)
 
 pub more-requires : goal.more-requires
 more-requires g c = num_room (places_of c.args.self.now) c.args.slot c.requires.sound c.requires.slot_in c.requires.not_root c.requires.slot_used c.counts-counts.result c.counts-counts.ensures
@@ -72,3 +72,24 @@ overflow_add-counts g c =
     let low : pos 0 ≤ℤ c.counts-counts.result.num = num_natural (places_of c.args.self.now) c.args.slot c.requires.sound c.requires.slot_in c.requires.not_root c.requires.slot_used c.counts-counts.result c.counts-counts.ensures in
     let room : c.counts-counts.result.num <ℤ pos 256 = num_room (places_of c.args.self.now) c.args.slot c.requires.sound c.requires.slot_in c.requires.not_root c.requires.slot_used c.counts-counts.result c.counts-counts.ensures in
     omega (arith, ints)
+
+pub give_alone-requires-clause-fits : goal.give_alone-requires-clause-fits
+give_alone-requires-clause-fits g c = omega (arith, c.args.self.now.nodes_ready, c.args.self.now.blocks.within, c.requires.sound.shaped.blocks.fits)
+
+pub give_alone-requires-clause-slot_in : goal.give_alone-requires-clause-slot_in
+give_alone-requires-clause-slot_in g c = omega (arith, c.args.self.now.blocks.ready, c.args.self.now.nodes_ready)
+
+pub give_alone-requires-clause-slot_in_infos : goal.give_alone-requires-clause-slot_in_infos
+give_alone-requires-clause-slot_in_infos g c = omega (arith, c.args.self.now.blocks.ready, c.args.self.now.infos_ready)
+
+pub give_after-requires-clause-fits : goal.give_after-requires-clause-fits
+give_after-requires-clause-fits g c = omega (arith, c.args.self.now.nodes_ready, c.args.self.now.blocks.within, c.requires.sound.shaped.blocks.fits)
+
+pub give_after-requires-clause-slot_in : goal.give_after-requires-clause-slot_in
+give_after-requires-clause-slot_in g c = omega (arith, c.args.self.now.blocks.ready, c.args.self.now.nodes_ready)
+
+pub give_after-requires-clause-slot_in_infos : goal.give_after-requires-clause-slot_in_infos
+give_after-requires-clause-slot_in_infos g c = omega (arith, c.args.self.now.blocks.ready, c.args.self.now.infos_ready)
+
+pub counts-counts-requires : goal.counts-counts-requires
+counts-counts-requires g c = omega (arith, c.requires.slot_in, c.args.self.now.blocks.ready)

@@ -6,7 +6,7 @@ use Rattle.cedar_slots.specs.Views.{blocks_of, places_of}
 pub previous-last-requires : goal.previous-last-requires
 previous-last-requires g c =
     let is = head_open (places_of c.args.self.now) c.requires.sound c.first-head.result c.first-head.ensures c.if-head-eq0.false in
-    omega (arith, is.is_active, c.requires.sound.shaped.blocks.active_in)
+    omega (arith, is.is_active, c.args.self.now.blocks.ready)
 
 pub loop-init : goal.loop-init
 loop-init g c =
@@ -47,7 +47,7 @@ returns-in-Some-clause-found g c =
     (IsBase-start (places_of c.loop.self) c.loop.block c.in-Some.slot c.from.result c.args.labels.now c.loop.invariant.block_open.not_root c.loop.invariant.block_open.is_active c.in-Some.ensures c.from.ensures small)
 
 pub next-next-requires : goal.next-next-requires
-next-next-requires g c = omega (arith, c.loop.invariant.block_open.is_active, c.loop.invariant.sound.shaped.blocks.active_in)
+next-next-requires g c = omega (arith, c.loop.invariant.block_open.is_active, c.loop.self.blocks.ready)
 
 pub count_failure-requires-clause-sound : goal.count_failure-requires-clause-sound
 count_failure-requires-clause-sound g c = c.loop.invariant.sound

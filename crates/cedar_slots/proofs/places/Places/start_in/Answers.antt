@@ -1,6 +1,6 @@
 use Rattle.std.proofs.Common.{◌<◌, ◌≤ℤ◌, arith, pos}
 use Rattle.std.proofs.lemmas.Int.{ints}
-use Rattle.cedar_slots.proofs.PlacementLemmas.PlaceSearch.{first_fits, free_slot_in, head_start, next_start, start_fits, start_positive}
+use Rattle.cedar_slots.proofs.PlacementLemmas.PlaceSearch.{first_fits, head_start, next_start, start_block, start_positive}
 use Rattle.cedar_slots.proofs.places.Places.start_in.Goals as goal
 use Rattle.cedar_slots.specs.Views.{places_of}
 
@@ -12,7 +12,7 @@ loop-init g c =
 pub fits-requires-clause-base_in : goal.fits-requires-clause-base_in
 fits-requires-clause-base_in g c =
     let small : c.from-first.result < 256 = omega (arith, c.type_inv.labels 0) in
-    omega (arith, start_fits (places_of c.args.self.now) c.requires.sound c.args.block c.loop.slot c.from-first.result c.requires.block_in c.loop.invariant.here small)
+    omega (arith, start_block c.args.block c.loop.slot c.from-first.result c.loop.invariant.here small, c.requires.block_in, c.args.self.now.blocks.ready, c.args.self.now.nodes_ready)
 
 pub fits-requires-clause-not_root : goal.fits-requires-clause-not_root
 fits-requires-clause-not_root g c =
@@ -27,7 +27,13 @@ returns-then-fits g c = record {
 }
 
 pub next_free-slot-requires : goal.next_free-slot-requires
-next_free-slot-requires g c = omega (arith, free_slot_in (places_of c.args.self.now) c.args.block c.loop.slot c.loop.invariant)
+next_free-slot-requires g c = omega (arith, c.loop.invariant.here, c.requires.block_in, c.args.self.now.blocks.ready, c.args.self.now.nodes_ready)
 
 pub loop-preserved : goal.loop-preserved
 loop-preserved g c = next_start (places_of c.args.self.now) c.requires.sound c.args.block c.loop.slot c.next_free-slot.result c.requires.block_in c.loop.invariant c.next_free-slot.ensures
+
+pub counts-counts-requires : goal.counts-counts-requires
+counts-counts-requires g c = omega (arith, c.requires.block_in, c.args.self.now.blocks.ready)
+
+pub fits-requires-clause-fits : goal.fits-requires-clause-fits
+fits-requires-clause-fits g c = omega (arith, c.args.self.now.nodes_ready, c.args.self.now.blocks.within, c.requires.sound.shaped.blocks.fits)

@@ -36,3 +36,6 @@ returns g c =
     let sum = used-sum c.args.self.now.slots.nodes.items c.args.self.now.blocks.active c.requires.shaped.blocks.some in
     let is : c.loop-block.free ≡ sum_below c.args.self.now.slots.nodes.items c.args.self.now.blocks.active = c.loop-block.invariant ∙ ap (sum_below c.args.self.now.slots.nodes.items) (omega arith) in
     omega (arith, sum, is)
+
+pub counts-requires : goal.counts-requires
+counts-requires g c = omega (arith, c.loop-block-test.true, c.args.self.now.blocks.ready)

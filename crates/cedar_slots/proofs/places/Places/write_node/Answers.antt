@@ -1,6 +1,14 @@
+use Rattle.std.proofs.Common.{arith, subst, sym}
+use Rattle.cedar_slots.specs.Places.{Sound}
 use Rattle.cedar_slots.specs.Views.{places_of}
 use Rattle.cedar_slots.proofs.RingsLemmas.SlotWritten.{Sound-node}
 use Rattle.cedar_slots.proofs.places.Places.write_node.Goals as goal
 
 pub returns-clause-sound : goal.returns-clause-sound
-returns-clause-sound g c = Sound-node (places_of c.args.self.now) c.requires.sound c.args.slot c.requires.slot_in c.requires.slot_used c.args.node c.requires.node_used
+returns-clause-sound g c =
+    let old = places_of c.args.self.now in
+    let written = Sound-node old c.requires.sound c.args.slot c.requires.slot_in c.requires.slot_used c.args.node c.requires.node_used in
+    subst (λ nodes. Sound (record old { slots = record old.slots { nodes = nodes } })) (sym c.set.ensures.items) written
+
+pub set-requires : goal.set-requires
+set-requires g c = omega (arith, c.requires.slot_in, c.args.self.now.blocks.ready, c.args.self.now.nodes_ready)

@@ -5,6 +5,8 @@ use Rattle.cedar_slots.proofs.slots.Slots.free_root_block.Given as goal
 abbrev pub invariant-loop-slot : goal.invariant-loop-slot
 invariant-loop-slot g l = record {
   len : length l.self.nodes.items ≡ length l.initial.self.nodes.items;
+  used : l.self.nodes.used ≡ l.initial.self.nodes.used;
+  infos_used : l.self.infos.used ≡ l.initial.self.infos.used;
   infos : l.self.infos.items ≡ l.initial.self.infos.items;
   steps : (s : ℕ) → 1 ≤ s → s < l.slot → SlotLink l.self.nodes.items s (s + 1);
 }

@@ -5,4 +5,5 @@ use Rattle.cedar_slots.proofs.slots.Slots.link.Goals as goal
 
 pub returns-clause-nodes : goal.returns-clause-nodes
 returns-clause-nodes g c =
-    linked_is c.args.self.now.nodes.items c.args.from c.args.to c.index_mut.result.now c.index_mut-2.result.now _ _ (omega arith) (omega arith) c.index_mut.ensures.value c.index_mut-2.ensures.value (omega (arith, ints)) (omega (arith, ints))
+    let within = c.args.self.now.nodes_within in
+    linked_is c.args.self.now.nodes.items _ _ c.args.from c.args.to c.at-node.result c.at-node-2.result _ _ c.set.ensures.items c.set-2.ensures.items (omega (arith, within)) (omega (arith, within)) (c.at-node.ensures _) (omega (arith, ints)) (omega (arith, ints)) (c.at-node-2.ensures _) (omega (arith, ints)) (omega (arith, ints))

@@ -1,7 +1,6 @@
 use Rattle.std.proofs.Common.{◌≡◌, ◌∙◌, ap, arith, false, inl, inr, int_lt, of_z, pos, rules, sym, to_z, true, w32, ℕ, ℤ, FitsSigned}
 use Rattle.std.proofs.lemmas.Bool.{cases_Bool, false≢true}
 use Rattle.std.proofs.lemmas.Int.{to_z-of_z}
-use Rattle.std.proofs.lemmas.List.{get_or_read}
 use Rattle.cedar_slots.specs.declared.records.NodeRecord.{NodeRecord}
 use Rattle.cedar_model.specs.Table.Cells.{Cells, Held}
 use Rattle.cedar_slots.specs.Slots.{blank_node, check_at}
@@ -23,12 +22,14 @@ free_check T s z read free = elim (cases_Bool (int_lt z (pos 0))) [
 
 pub returns : goal.returns
 returns g c =
-    let shaped = c.args.self.now.shaped in
-    let r : ℤ = c.index.result.now.check in
+    let r : ℤ = c.at.result.check in
     let fits : FitsSigned w32 r = search rules in
     let same : to_z w32 (of_z w32 r) ≡ r = to_z-of_z w32 r fits in
-    let read : r ≡ check_at c.args.self.now.places.slots.nodes.items c.args.slot = ap (λ (n : NodeRecord). n.check) (get_or_read c.args.self.now.places.slots.nodes.items c.args.slot c.index.result.now (omega (arith, c.requires.slot_in, shaped.nodes, shaped.blocks.active_in)) c.index.ensures blank_node) in
+    let read : r ≡ check_at c.args.self.now.places.slots.nodes.items c.args.slot = ap (λ (n : NodeRecord). n.check) (c.at.ensures blank_node) in
     let cell : to_z w32 (of_z w32 r) ≡ (cells c.args.self.now).check c.args.slot = same ∙ read ∙ sym (active_is g.L.Layout.kind (places_of c.args.self.now.places) c.args.slot c.requires.slot_in) in (
       (λ below held. false≢true (sym (held_check (cells c.args.self.now) c.args.slot _ c.requires.not_root cell held) ∙ below)),
       (λ free. free_check (cells c.args.self.now) c.args.slot _ cell free),
     )
+
+pub at-requires : goal.at-requires
+at-requires g c = omega (arith, c.requires.slot_in, c.args.self.now.places.blocks.ready, c.args.self.now.places.nodes_ready)

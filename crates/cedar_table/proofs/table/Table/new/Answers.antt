@@ -1,6 +1,6 @@
-use Rattle.std.proofs.Common.{◌≡◌, ap, arith, refl, rules, subst}
+use Rattle.std.proofs.Common.{◌≡◌, ap, refl, rules, subst, w32, FitsSigned}
 use Rattle.std.specs.Prelude.{negsuc}
-use Rattle.std.proofs.lemmas.Int.{ints}
+use Rattle.std.proofs.lemmas.Int.{to_z-of_z}
 use Rattle.cedar_slots.specs.declared.records.NodeRecord.{NodeRecord}
 use Rattle.cedar_model.specs.declared.layout.Stored.TheVariants.{AtBase}
 use Rattle.cedar_slots.specs.Places.{IsNewPlaces}
@@ -32,7 +32,9 @@ pub returns-clause-sound : goal.returns-clause-sound
 returns-clause-sound g c = IsTable-new g.row.SLOTS _ _ c.requires.limit c.in_ok-new.ensures.sound c.in_ok-new.ensures.made
 
 pub returns-clause-made : goal.returns-clause-made
-returns-clause-made g c = subst (IsNewPlaces _) (omega (arith, ints)) c.in_ok-new.ensures.made
+returns-clause-made g c =
+    let fits : FitsSigned w32 c.args.max_trial = search rules in
+    subst (IsNewPlaces _) (to_z-of_z w32 c.args.max_trial fits) c.in_ok-new.ensures.made
 
 pub returns-clause-bare : goal.returns-clause-bare
 returns-clause-bare g c = bare_new g.L.Layout.kind _ _ c.in_ok-new.ensures.made

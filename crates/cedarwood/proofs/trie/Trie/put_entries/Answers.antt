@@ -37,7 +37,7 @@ loop-left-preserved g c =
     let fine = place_fault g.T.Walked.slots T c.requires.well_formed (get_or places i blank) (place_at (IsEntryPlace T) places i blank inside c.requires.places.each) in
     record {
       within = omega (arith, c.loop-left.invariant.within);
-      back = turn_put g.L.Layout.kind g.row.SLOTS c.args.self.now.state.ordered c.args.self.now.max_trial T places left i blank c.loop-left.self c.put_entry.new.self next inside fine c.loop-left.invariant.back
+      back = turn_put g.L.Layout.kind g.row.SLOTS c.args.self.now.state.ordered c.args.self.now.max_trial T places left i blank c.loop-left.self c.put_entry.new.trie next inside fine c.loop-left.invariant.back
           c.put_entry.result c.put_entry.ensures c.in_ok-put_entry.was;
     }
 
@@ -51,7 +51,7 @@ returns-in_err-put_entry g c =
     let inside : i < length places = omega (arith, c.loop-left.invariant.within, c.loop-left-test.true) in
     let fine = place_fault g.T.Walked.slots T c.requires.well_formed (get_or places i blank) (place_at (IsEntryPlace T) places i blank inside c.requires.places.each) in
     let error = c.in_err-put_entry.field-0.0 in
-    let why = turn_refused g.L.Layout.kind g.row.SLOTS c.args.self.now.state.ordered c.args.self.now.max_trial T places left i blank c.loop-left.self c.put_entry.new.self next inside fine c.loop-left.invariant.back
+    let why = turn_refused g.L.Layout.kind g.row.SLOTS c.args.self.now.state.ordered c.args.self.now.max_trial T places left i blank c.loop-left.self c.put_entry.new.trie next inside fine c.loop-left.invariant.back
     c.put_entry.result c.put_entry.ensures error c.in_err-put_entry.was in
     let p = err_from_is_err_and c.from_residual.result c.from_residual.ensures.1 in
     lacking _ (LacksPlaces g.row.SLOTS (map (entry_of T) places)) c.from_residual.result error (p.1 ∙ ap Err p.2) why
