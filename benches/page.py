@@ -1,62 +1,66 @@
 #!/usr/bin/env python3
-"""page.py [--check]: makes the tables of docs/MEASUREMENTS.md, between its two marker lines, and the pictures in docs/pictures, of the rows in
-benches/results. With --check it writes nothing, and fails where they aren't what the rows give, or where rows don't belong together."""
+"""page.py [--check]: makes the tables of docs/MEASUREMENTS.md, between its two marker lines, those of README.md and docs/PERFORMANCE.md, and
+the pictures in docs/pictures, of the rows in benches/results. With --check it writes nothing, and fails where they aren't what the rows
+give, or where rows don't belong together."""
 
 import sys
 from pathlib import Path
 
 import pictures
 import rows
-from measures import DICTIONARY, LATENCIES, SCRIPTS, SIZES, THREADS, TITLES, unit_of
+from measures import DICTIONARY, LATENCIES, SCRIPTS, SIZES, THREADS
+from tables import SUBJECTS, Table, number
 
 TOP = Path(__file__).resolve().parent.parent
 PAGE = TOP / "docs" / "MEASUREMENTS.md"
 PICTURES = TOP / "docs" / "pictures"
 BEGIN, END = "<!-- made by benches/page.py of benches/results: begin -->", "<!-- made by benches/page.py of benches/results: end -->"
-SUBJECTS = ("here", "cedarwood", "judy", "libdatrie", "marisa", "map", "unordered_map")
 WORKLOADS = ("words", "random", "long")
 
+PYTHON = """Nanoseconds of the processor a step, its loop in Python included, by the median of the rounds; behind it how many times as long as
+`roskvidh`. Memory is by how much a process grows that makes the dictionary."""
 
-def number(text):
-    """A figure of a table: no more digits than it bears."""
-    value = float(text)
-    return f"{value:,.0f}" if value >= 100 else f"{value:.1f}" if value >= 10 else f"{value:.2f}"
+# The table of README.md: its head, the measures of its rows, and the subjects of its columns.
+README_HEAD = "| | here | cedarwood 0.6.1 | Judy | hash map |"
+README_COLUMNS = ("here", "cedarwood", "judy", "unordered_map")
+README_ROWS = {
+    "look up a held key, in no order": "hit",
+    "look up an absent key": "miss",
+    "insert, sorted order": "update_sorted",
+    "insert, in no order": "update_shuffled",
+    "erase": "erase",
+    "complete a prefix, a result": "prediction",
+    "list all entries": "entries",
+    "load a file": "load",
+}
+# The table of docs/PERFORMANCE.md, of which each row may name a measure.
+COSTS_HEAD = "| call | instructions | misses | grows with |"
+COSTS_ROWS = {
+    "exact look-up of a held key, in no order": "hit",
+    "exact look-up of an absent key": "miss",
+    "`update` of a new key, sorted order": "update_sorted",
+    "`update` of a new key, in no order": "update_shuffled",
+    "`update_batch`, each key in no order": "update_all",
+    "`erase`": "erase",
+    "`erase_batch`, each key": "erase_all",
+    "prefix walk, each start of a character in a text": "prefix_walk",
+    "`segment`, each byte of the text": "segment",
+    "prediction, each result": "prediction",
+    "entries in pages, each key": "entries",
+    "`from_sorted_bytes`, each key": "sorted_build",
+    "`from_pairs_bytes`, each key in no order": "unsorted_build",
+    "save in 1.1, each key": "save",
+    "load, each key": "load",
+}
 
 
-class Table:
-    """The rows by what they are of."""
-
-    def __init__(self, given):
-        self.by = {(row.measure, row.workload, row.subject, row.unit): row for row in given}
-        self.subjects = [name for name in SUBJECTS if any(row.subject == name for row in given)]
-        self.has_times = any(row.median != "-" and row.unit.startswith("ns") for row in given)
-        self.has_counts = any(row.count != "-" for row in given)
-
-    def row(self, measure, workload, subject):
-        return self.by.get((measure, workload, subject, unit_of(measure)))
-
-    def time(self, measure, workload, subject):
-        row = self.row(measure, workload, subject)
-        if row is None or row.median == "-":
-            return "-"
-        return f"{number(row.median)} ({number(row.low)} to {number(row.high)})"
-
-    def count(self, measure, workload, subject):
-        row = self.row(measure, workload, subject)
-        misses = self.by.get((measure, workload, subject, "misses"))
-        return "-" if row is None or row.count == "-" else f"{number(row.count)} / {misses.median}"
-
-    def lines(self, workload, measures, cell):
-        """A table of one workload: a line for each measure that anyone has, a column for each subject that has any."""
-        able = [name for name in self.subjects if any(cell(measure, workload, name) != "-" for measure in measures)]
-        if not able:
-            return []
-        made = [f"| measure | {' | '.join(able)} |", "|---" * (len(able) + 1) + "|"]
-        for measure in measures:
-            cells = [cell(measure, workload, name) for name in able]
-            if any(text != "-" for text in cells):
-                made.append(f"| {TITLES[measure][0]} | {' | '.join(cells)} |")
-        return [*made, ""]
+GROWN = (
+    ("hit", "look-up, ns"),
+    ("update_shuffled", "update, ns"),
+    ("latency_most", "slowest update, ns"),
+    ("resident", "memory a key, bytes"),
+    ("file", "bytes of the file a key"),
+)
 
 
 def sizes_of_growth(given):
@@ -65,7 +69,7 @@ def sizes_of_growth(given):
 
 def growth_lines(table, given):
     made = []
-    for measure, what in (("hit", "look-up, ns"), ("update_shuffled", "update, ns"), ("latency_most", "slowest update, ns"), ("resident", "memory a key, bytes")):
+    for measure, what in GROWN:
         able = [name for name in table.subjects if any(table.time(measure, f"random_{size}", name) != "-" for size in sizes_of_growth(given))]
         for name in able:
             cells = [table.row(measure, f"random_{size}", name) for size in sizes_of_growth(given)]
@@ -93,7 +97,8 @@ def introduction(table, notes, given):
     kind = "" if notes["kind"] == "whole" else ", small workloads of `./bench --quick`"
     told = f"Commit {given[0].commit}, {notes['date']}, {given[0].machine}{kind}. Subjects: {subjects}."
     if table.has_times:
-        told += f" Times are of the processor, medians of {notes['rounds']} rounds in turn, with the least and the greatest behind them; the load average was {notes['load']} at most."
+        told += f" Times are of the processor, medians of {notes['rounds']} rounds in turn, with the least and the greatest behind them;"
+        told += f" the load average was {notes['load']} at most."
     else:
         told += " It has no times: the machine had other work to do."
     if table.has_counts:
@@ -109,6 +114,9 @@ def block():
         return ["", "Nothing has been stored yet: `./bench --store` stores what it measures.", ""]
     table = Table(given)
     made = ["", *introduction(table, notes, given), ""]
+    compared = table.times_as_fast("words")
+    if compared:
+        made += ["### How many times as fast as the original crate, on the words and scripts", "", *compared]
     for workload in WORKLOADS:
         counts = table.lines(workload, DICTIONARY, table.count)
         times = table.lines(workload, (*DICTIONARY, *SIZES, *THREADS, *LATENCIES), table.time)
@@ -121,20 +129,52 @@ def block():
         made += [f"### Scripts: {notes['scripts']}", "", *counts, *times]
     growth = growth_lines(table, given)
     made += ["### Growth, by the number of random keys", "", *growth] if growth else []
+    python = table.of_python()
+    if python:
+        made += [f"### From Python: {notes['python']}", "", *wrapped(PYTHON), "", *python]
     for name, title in pictures.names(given):
         made += [f"![{title}](pictures/{name})", ""]
     return made
 
 
-def made_page():
-    lines = PAGE.read_text().splitlines()
+def made_page(text, table):
+    lines = text.splitlines()
     begin, end = lines.index(BEGIN), lines.index(END)
     return "\n".join([*lines[: begin + 1], *block(), *lines[end:]]) + "\n"
 
 
+def refreshed(text, head, rows_of, cells_of):
+    """A page whose table below a head line has new figures: `rows_of` tells the measure of a row by its first cell, and `cells_of` the
+    cells behind that. A row that tells no such measure stays, and so do cells that there is no figure for."""
+    lines, is_inside = text.splitlines(), False
+    for place, line in enumerate(lines):
+        if line == head:
+            is_inside = True
+        elif is_inside and not line.startswith("|"):
+            break
+        elif is_inside and (measure := rows_of.get(line.split("|")[1].strip())):
+            cells = line.split("|")
+            for column, cell in enumerate(cells_of(measure), 2):
+                cells[column] = f" {cell} " if cell else cells[column]
+            lines[place] = "|".join(cells)
+    return "\n".join(lines) + "\n"
+
+
+def first_page(text, table):
+    return refreshed(text, README_HEAD, README_ROWS, lambda measure: [table.instructions(measure, "words", name) for name in README_COLUMNS])
+
+
+def costs_page(text, table):
+    return refreshed(text, COSTS_HEAD, COSTS_ROWS, lambda measure: [table.instructions(measure, "words", "here"), table.misses(measure, "words", "here")])
+
+
+PAGES = {PAGE: made_page, TOP / "README.md": first_page, TOP / "docs" / "PERFORMANCE.md": costs_page}
+
+
 def write():
-    PAGE.write_text(made_page())
     _, given = rows.read_all()
+    for page, made in PAGES.items():
+        page.write_text(made(page.read_text(), Table(given)))
     PICTURES.mkdir(exist_ok=True)
     for old in PICTURES.glob("bench_*.svg"):
         old.unlink()
@@ -143,9 +183,9 @@ def write():
 
 
 def check():
-    """What of the page and the pictures isn't what the rows give."""
-    wrong = [] if made_page() == PAGE.read_text() else [str(PAGE.relative_to(TOP))]
+    """What of the pages and the pictures isn't what the rows give."""
     _, given = rows.read_all()
+    wrong = [str(page.relative_to(TOP)) for page, made in PAGES.items() if made(page.read_text(), Table(given)) != page.read_text()]
     wanted = pictures.drawn(given)
     found = {path.name: path.read_text() for path in PICTURES.glob("bench_*.svg")}
     return wrong + [f"docs/pictures/{name}" for name in sorted({*wanted, *found}) if wanted.get(name) != found.get(name)]
@@ -157,7 +197,8 @@ def show(given):
     for workload in (*WORKLOADS, "scripts"):
         for row in given:
             if row.workload == workload and row.unit != "misses":
-                print(f"{workload:8} {row.measure:16} {row.subject:14} {table.time(row.measure, workload, row.subject):>32} {row.unit:10} {table.count(row.measure, workload, row.subject):>20}")
+                told = (cell(row.measure, workload, row.subject) for cell in (table.time, table.count))
+                print(workload, row.measure, row.subject, row.unit, *told, sep="\t")
 
 
 if __name__ == "__main__":

@@ -35,7 +35,7 @@ class Plan:
         self.long = 2_000 if is_quick else 20_000
         self.text = 1 << (17 if is_quick else 20)
         self.lines = (10_000, 1_000) if is_quick else (250_000, 25_000)
-        self.growth = (1_000, 10_000, 50_000) if is_quick else (10_000, 30_000, 100_000, 300_000, 1_000_000)
+        self.growth = (1_000, 10_000, 50_000) if is_quick else (10_000, 30_000, 100_000, 300_000, 1_000_000, 10_000_000)
         self.rounds = rounds or (3 if is_quick else 5)
         self.passes = 1
 
@@ -47,8 +47,10 @@ def arguments():
     parser.add_argument("--only-counts", action="store_true", help="no times: for a machine that does other work")
     parser.add_argument("--original", metavar="PATH", help="measure the original crate too, whose sources are in PATH")
     parser.add_argument("--rounds", type=int, help="how often all subjects are measured in turn")
+    parser.add_argument("--python", metavar="INTERPRETER", help="measure the package for Python too, by python/compare.py in this interpreter")
     parser.add_argument("--offline", action="store_true", help="download no packages")
     parser.add_argument("--words", type=Path, metavar="LIST", help="take the first word of each line of LIST as the real words")
+    parser.add_argument("--as-built", action="store_true", help="build neither library nor program: after ./gate and ./build-c --after-gate")
     parser.add_argument("--only", metavar="SUBJECTS", help="measure these subjects alone, as 'here,judy'")
     parser.add_argument("--store", action="store_true", help="put the results into benches/results, and make page and pictures anew")
     return parser.parse_args()
@@ -97,6 +99,8 @@ class Results:
     def __init__(self, commit, machine):
         self.commit, self.machine = commit, machine
         self.times, self.counts = {}, {}
+        # Rows that come as such.
+        self.others = []
 
     def add_times(self, workload, figures):
         for (measure, subject), values in figures.items():
@@ -121,13 +125,13 @@ class Results:
             if key in self.counts:
                 misses = f"{self.counts[key][1]:.2f}"
                 made.append(rows.Row(*key, "misses", misses, misses, misses, "-", self.commit, self.machine))
-        return made
+        return made + (self.others if has_times else [])
 
 
 def take_times(plan, chosen, results):
     """Each workload with all subjects in turn, growth likewise, threads, and scripts by the programs that answer them."""
-    def take(folder, names):
-        able = [subject for subject in chosen if folder.name.partition("_")[0] in subject.workloads]
+    def take(folder, names, keys=0):
+        able = [subject for subject in chosen if folder.name.partition("_")[0] in subject.workloads and keys <= subject.most_keys]
         def run(subject):
             return timing.measure(subject, folder, plan.passes, [name for name in names if name not in subject.without])
         results.add_times(folder.name, timing.in_turn(able, plan.rounds, run))
@@ -138,7 +142,7 @@ def take_times(plan, chosen, results):
         take(data / name, (*DICTIONARY, *SIZES, "latency"))
     for size in plan.growth:
         say(f"times of {size} random keys")
-        take(data / f"random_{size}", GROWTH)
+        take(data / f"random_{size}", GROWTH, size)
     for subject in chosen:
         if subject.threads:
             say("look-ups by threads")
@@ -149,6 +153,19 @@ def take_times(plan, chosen, results):
         say(f"times of {name}")
         script = data / "scripts" / name
         results.add_times("scripts", timing.in_turn(able, plan.rounds, lambda subject: [timing.answer_script(subject, script, OUT)]))
+
+
+def take_python(interpreter, rounds, results):
+    """What the package for Python takes, as ./build-c laid it out, beside the tries that the interpreter has; and what they were told on."""
+    say("calls from Python")
+    file = OUT / "python.tsv"
+    package = TOP / "crates" / "cedar_c" / "out" / "c" / "python" / "plain"
+    command = [interpreter, str(TOP / "python" / "compare.py"), "--rounds", str(rounds), "--rows", str(file)]
+    told = subprocess.run(command, env={**os.environ, "PYTHONPATH": str(package)}, capture_output=True, text=True, check=True).stdout
+    for line in file.read_text().splitlines():
+        measure, unit, subject, *spread = line.split("\t")
+        results.others.append(rows.Row(measure, "python", subject, unit, *spread, "-", results.commit, results.machine))
+    return told.splitlines()[0]
 
 
 def take_counts(chosen, results):
@@ -182,7 +199,7 @@ def main():
     def wants(name):
         return told.only is None or name in told.only.split(",")
 
-    chosen = [subjects.here(OUT)] if wants("here") else []
+    chosen = [subjects.here(OUT, told.as_built)] if wants("here") else []
     chosen += [subjects.original(OUT, told.original)] if told.original and wants("cedarwood") else []
     chosen += subjects.peers(OUT, packages, wants)
     if not chosen:
@@ -193,6 +210,8 @@ def main():
     load = os.getloadavg()[0]
     if not told.only_counts:
         take_times(plan, chosen, results)
+        if told.python:
+            notes["python"] = take_python(told.python, plan.rounds, results)
         load = max(load, os.getloadavg()[0])
     if told.counts or told.only_counts:
         take_counts(chosen, results)

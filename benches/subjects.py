@@ -25,6 +25,8 @@ class Subject:
     # Measures that it isn't asked for, and the workloads that it is asked on.
     without: tuple = ()
     workloads: tuple = ("words", "random", "long")
+    # More keys than so many aren't put into it.
+    most_keys: int = 1_000_000
 
 
 def compiled(out, name, source, *words):
@@ -34,20 +36,21 @@ def compiled(out, name, source, *words):
     return program
 
 
-def here(out):
-    """This repository's library and program, built if they aren't."""
+def here(out, is_built):
+    """This repository's library and program, built if they aren't; with `is_built` those that are there."""
     library = TOP / "crates" / "cedar_c" / "out" / "c" / "libcedar.a"
     sources = [*TOP.glob("crates/*/src/**/*.rt"), *TOP.glob("include/*"), *TOP.glob("c/*")]
-    if not library.exists() or any(path.stat().st_mtime > library.stat().st_mtime for path in sources):
+    if not is_built and (not library.exists() or any(path.stat().st_mtime > library.stat().st_mtime for path in sources)):
         print("bench: ./build-c proves and builds the library first", flush=True)
         subprocess.run([str(TOP / "build-c")], check=True)
-    subprocess.run([str(TOP / "cedar")], stdin=subprocess.DEVNULL, check=True)
+    if not is_built:
+        subprocess.run([str(TOP / "cedar")], stdin=subprocess.DEVNULL, check=True)
     program = compiled(out, "here", "cedar.cpp", "-I", TOP / "include", library)
     rate = out / "bin" / "rate"
     c = ["gcc", "-std=c11", "-O2", "-pthread", "-I", TOP / "include", "-o", rate, TOP / "tests" / "c" / "rate.c", library]
     subprocess.run([*map(str, c)], check=True)
     version = (TOP / "VERSION").read_text().strip()
-    return Subject("here", program, version, [str(TOP / "crates" / "cedar" / "out" / "cedar")], rate)
+    return Subject("here", program, version, [str(TOP / "crates" / "cedar" / "out" / "cedar")], rate, most_keys=10_000_000)
 
 
 def peers(out, packages, wants):
@@ -89,4 +92,4 @@ def original(out, path):
     subprocess.run(["cargo", "build", "--release", "--quiet"], cwd=folder, check=True, env={**os.environ, "CARGO_TARGET_DIR": str(folder / "target")})
     program = folder / "target" / "release" / "original"
     compiler = subprocess.run(["rustc", "--version"], capture_output=True, text=True, check=True).stdout.split()[1]
-    return Subject("cedarwood", program, f"crate {version}, rustc {compiler}, LTO", [str(program), "script"])
+    return Subject("cedarwood", program, f"crate {version}, rustc {compiler}, LTO", [str(program), "script"], most_keys=10_000_000)

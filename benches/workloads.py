@@ -33,20 +33,21 @@ def absent(keys, chance):
 
 
 def write(folder, keys, prefix_bytes, most_text):
-    """Writes a workload of these keys. `prefix_bytes` says how long the prefixes of predictions are, `most_text` how long the text may be."""
+    """Writes a workload of these keys. `prefix_bytes` says how long the prefixes of predictions are, `most_text` how long the text may be;
+    with none the workload is one of growth, and has neither absent keys nor prefixes."""
     chance = random.Random(SEED)
     keys = sorted(set(keys))
     value = {key: place for place, key in enumerate(keys)}
     order = shuffled(keys, chance)
-    text = b"".join(key + b" " for key in shuffled(keys, chance))[:most_text]
-    fronts = sorted({key[:prefix_bytes] for key in keys})
+    text = b"".join(key + b" " for key in shuffled(keys, chance))[:most_text] if most_text else b""
+    fronts = sorted({key[:prefix_bytes] for key in keys}) if most_text else []
     contents = {
         "sorted": records(keys),
         "shuffled": records(order),
         "shuffled.values": struct.pack(f"<{len(order)}I", *(value[key] for key in order)),
         "hits": records(shuffled(keys, chance)),
-        "misses": records(absent(keys, chance)),
-        "erasures": records(shuffled(keys, chance)),
+        "misses": records(absent(keys, chance) if most_text else []),
+        "erasures": records(shuffled(keys, chance) if most_text else []),
         "prefixes": records(shuffled(fronts, chance)),
         "text": text,
     }
@@ -57,9 +58,10 @@ def write(folder, keys, prefix_bytes, most_text):
 
 
 def random_keys(count, length=8):
-    """Keys of so many bytes from 1 to 255."""
+    """Keys of so many bytes from 1 to 255: a byte 0 that chance gives is made a 1."""
     chance = random.Random(SEED + count + length)
-    return [bytes(chance.randrange(1, 256) for _ in range(length)) for _ in range(count)]
+    drawn = chance.randbytes(count * length).replace(b"\0", b"\1")
+    return [drawn[place : place + length] for place in range(0, count * length, length)]
 
 
 def long_keys(count):

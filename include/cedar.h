@@ -1,30 +1,31 @@
 /* A mutable dictionary from byte strings to whole numbers, for C and C++. cedar.hpp has a class over it.
  *
- * A key is a nonempty byte string without byte 0, a value a whole number from 0 to 2147483645, in both layouts. The library is
- * proved: for every caller that keeps the rules below, each call does what stands beside it, touches no memory but what
- * is named here, and returns.
+ * A key is a nonempty byte string without byte 0. A value is a whole number from 0 to 2147483645, in both layouts. The library is proved:
+ * for every caller that keeps the rules below, each call does what its comment says, touches no memory but what is named here, and returns.
  *
- * What the caller owes. Nothing checks it, and breaking it is undefined, as with any C library:
+ * The rules for the caller. Nothing checks them, and breaking one is undefined behaviour, as with any C library:
  *
- * - Each pointer points to what its type says: a key to `length` bytes that can be read, matches, found and buffers to `room` places, pairs
- *   to `count` pairs whose keys are such, at most PTRDIFF_MAX bytes each. What is only written to needn't be set before. What two
- *   parameters point to doesn't overlap, but for what is only read. During the call nobody else writes it, nor reads what the call may
- *   write.
- * - A pointer may be null where its length, room or count is 0, and position, held, before, needed and erased where nobody wants to know. No other
- *   one is null. What is proved is of pointers that aren't, and of places that are set; that others do the same is tested.
- * - A `cedar_dictionary` begins as CEDAR_CLOSED, or cedar_closed(), and is changed by these calls alone. It may be moved. Its fields aren't
- *   read or written.
- * - Calls that take a const dictionary only read it: any number of threads may make them at the same time, each with its own copy of
- *   the variable, made before (`cedar mine = *d;`). No call may change or free the dictionary meanwhile, and afterwards only the
- *   variable that this call was given is used: older copies are forgotten, and not freed.
- * - A call that changes or frees a dictionary comes before or behind each other call on it: a lock, a thread's start or join, or a
+ * - Each pointer points to what its type says: a key to `length` bytes that can be read; matches, found and buffers to `room` places; pairs
+ *   and keys to `count` of them, whose bytes are such. Each has at most PTRDIFF_MAX bytes. Memory that is only written to needn't be
+ *   initialised.
+ * - What two parameters point to doesn't overlap, except where both are only read. During the call nobody else writes it, and nobody else
+ *   reads what the call may write.
+ * - A pointer may be null where its length, room or count is 0. position, held, before, needed and erased may be null where the caller
+ *   doesn't want them. No other pointer may be null. The proofs are about pointers that aren't null, and about places that are initialised;
+ *   that the calls do the same with others is tested.
+ * - A `cedar_dictionary` is initialised with CEDAR_CLOSED or cedar_closed(), and only these calls change it. It may be moved. Its fields
+ *   are neither read nor written by the program.
+ * - A call that takes a const dictionary only reads it. Any number of threads may make such calls at the same time, each with its own copy
+ *   of the variable, made before (`cedar mine = *d;`). Meanwhile no call may change or free the dictionary. After a call that changes it
+ *   only the variable that this call was given is used: older copies are forgotten, and not freed.
+ * - A call that changes or frees a dictionary happens before or after each other call on it: a lock, a thread's start or join, or a
  *   sequentially consistent atomic orders them. Different dictionaries share nothing.
- * - Calls aren't made from a signal handler, or from the forked child of a process with threads.
- * - malloc, realloc and free are one allocator's, and align a block as C asks.
+ * - No call is made from a signal handler, or from the forked child of a process with threads.
+ * - malloc, realloc and free belong to one allocator, and align a block as C requires.
  *
- * What a call finds by itself, and answers: a closed dictionary (also one that was freed, once or twice, by this very
- * variable), a bad key or value, want of memory. What it can't find: a wild pointer, or a null one where none may be, a wrong length, a
- * second copy of a variable after the first was freed.
+ * A call detects by itself, and reports: a closed dictionary (also one that was freed, once or twice, by this very variable), a bad key or
+ * value, and memory that runs out. It can't detect: a wild pointer, a null one where none is allowed, a wrong length, a second copy of a
+ * variable after the first was freed.
  */
 #ifndef ROSKVIDH_CEDAR_H
 #define ROSKVIDH_CEDAR_H
@@ -42,19 +43,19 @@ typedef struct cedar_dictionary {
     uint32_t is_open;
 } cedar_dictionary;
 
-/* The short name, in C alone: a C++ program may use another library whose namespace is cedar. */
+/* The short name, in C only: a C++ program may use another library whose namespace is cedar. */
 #ifndef __cplusplus
 typedef cedar_dictionary cedar;
 #endif
 
-/* In C a function of this header alone stands in each file that includes it. */
+/* In C a function that only this header defines is compiled into each file that includes it. */
 #ifdef __cplusplus
 #define CEDAR_INLINE inline
 #else
 #define CEDAR_INLINE static inline
 #endif
 
-/* A closed dictionary: CEDAR_CLOSED where a variable begins, cedar_closed() where one is assigned. */
+/* A closed dictionary: CEDAR_CLOSED initialises a variable, cedar_closed() is assigned to one. */
 #define CEDAR_CLOSED { NULL, 0 }
 CEDAR_INLINE cedar_dictionary cedar_closed(void) {
     cedar_dictionary closed = CEDAR_CLOSED;
@@ -65,7 +66,7 @@ CEDAR_INLINE cedar_dictionary cedar_closed(void) {
 #define CEDAR_MAX_VALUE 2147483645
 #define CEDAR_LOAD_LIMIT 536870912
 
-/* What a call answers. */
+/* The status that a call returns. */
 enum {
     CEDAR_OK = 0,
     CEDAR_IS_CLOSED = 1,
@@ -75,10 +76,10 @@ enum {
     CEDAR_NUL_BYTE = 5,      /* the key has a byte 0: see *position */
     CEDAR_INVALID_VALUE = 6, /* below 0 or above 2147483645 */
     CEDAR_INVALID_MAX_TRIAL = 7,
-    CEDAR_DUPLICATE_KEY = 8,   /* of sorted pairs: see *position */
-    CEDAR_KEYS_NOT_SORTED = 9, /* of sorted pairs: see *position */
+    CEDAR_DUPLICATE_KEY = 8,   /* in sorted pairs: see *position */
+    CEDAR_KEYS_NOT_SORTED = 9, /* in sorted pairs: see *position */
     CEDAR_NO_ROOM = 11,      /* the buffer is too short */
-    CEDAR_NOT_ASCENDING = 12, /* labels do not ascend, so that a walk can't go on behind a key */
+    CEDAR_NOT_ASCENDING = 12, /* labels do not ascend, so an iteration can't go on after a key */
     /* of a file: the first thing that is wrong with it */
     CEDAR_FILE_TRUNCATED = 20,
     CEDAR_FILE_MAGIC = 21,         /* not a file of this format */
@@ -86,72 +87,73 @@ enum {
     CEDAR_FILE_BYTE_ORDER = 23,
     CEDAR_FILE_LAYOUT = 24,        /* a table of the other layout */
     CEDAR_FILE_HEADER = 25,        /* a number of the header is out of its rule */
-    CEDAR_FILE_MEMORY_LIMIT = 26,  /* it asks for more than the limit that was given */
+    CEDAR_FILE_MEMORY_LIMIT = 26,  /* it needs more than the limit that was given */
     CEDAR_FILE_CORRUPT = 27,       /* the table is not well-formed */
-    CEDAR_FILE_TRAILING = 28,      /* something follows the table */
-    CEDAR_FILE_UNREAD = 29,        /* a call on a file failed: answered by cedar_load_file and cedar_save_file alone */
+    CEDAR_FILE_TRAILING = 28,      /* there are bytes after the table */
+    CEDAR_FILE_UNREAD = 29,        /* a call on a file failed: only cedar_load_file and cedar_save_file return it */
     /* of a store */
-    CEDAR_STORE_FOREIGN = 40,  /* the file is not of a store */
-    CEDAR_STORE_CORRUPT = 41,  /* one of its records is no change */
+    CEDAR_STORE_FOREIGN = 40,  /* the file is not a store */
+    CEDAR_STORE_CORRUPT = 41,  /* one of its records is not a change */
     CEDAR_STORE_DEVICE = 42,   /* a call on the file failed: see errno */
-    CEDAR_STORE_FAILED = 43,   /* one has failed in an earlier change: open the file again */
+    CEDAR_STORE_FAILED = 43,   /* a call failed in an earlier change: open the file again */
     CEDAR_STORE_TOO_LONG = 44, /* the key has 2^32 - 5 bytes or more */
-    CEDAR_STORE_FULL = 45      /* the file's records end behind 2^60 bytes */
+    CEDAR_STORE_FULL = 45      /* the file's records end after 2^60 bytes */
 };
 
-/* Opens *d with an empty dictionary, in the place of the one that it has, if it is open. CEDAR_OK or CEDAR_MEMORY; then *d
- * is as it was. */
+/* Opens *d with an empty dictionary. If *d is open, the new dictionary replaces the old one. Returns CEDAR_OK, or CEDAR_MEMORY; then *d is
+ * as it was. */
 uint32_t cedar_new(cedar_dictionary *d);
 
-/* As cedar_new, with settings: whether the labels of each node ascend (else a new one goes before the others), and how many failed
- * searches for a place close a block of slots, 1 or more. Also CEDAR_INVALID_MAX_TRIAL. */
+/* As cedar_new, with settings. `ordered`: the labels of each node ascend, so that iterations go in the order of bytes; otherwise a new
+ * label goes before the others. `max_trial`, 1 or more: after so many failed searches for a place a block of slots is closed. Also returns
+ * CEDAR_INVALID_MAX_TRIAL. */
 uint32_t cedar_new_with(cedar_dictionary *d, bool ordered, int32_t max_trial);
 
-/* As cedar_new_with, of the reduced layout: a key's value stands in its last node as long as no longer key has been stored below
- * it, and takes no slot of its own. All calls below take a dictionary of either layout, and answer the same of both but for the
- * slots in use. Which one it is, is settled where it is made. */
+/* As cedar_new_with, in the reduced layout: a value is kept in the last node of its key as long as no longer key has been stored below it,
+ * and takes no slot of its own. All calls below take a dictionary of either layout, and return the same for both except for the number of
+ * slots in use. The layout is chosen when the dictionary is made. */
 uint32_t cedar_new_reduced(cedar_dictionary *d, bool ordered, int32_t max_trial);
 
-/* Whether *d is of the reduced layout. False if closed. */
+/* Returns whether *d has the reduced layout. False if closed. */
 bool cedar_is_reduced(const cedar_dictionary *d);
 
-/* Opens *d with the dictionary of a file's bytes, as `save_to_writer` and the programs write them, in the place of the one that it
- * has. It asks for memory_limit bytes at most, say CEDAR_LOAD_LIMIT. CEDAR_OK exactly takes the bytes of a well-formed table; else
- * the number of the first refusal, or CEDAR_MEMORY; then *d is as it was. */
+/* Opens *d with the dictionary in the bytes of a file, as `save_to_writer` and the programs write it. If *d is open, the new dictionary
+ * replaces the old one. It allocates at most memory_limit bytes, for example CEDAR_LOAD_LIMIT. Returns CEDAR_OK exactly if the bytes are
+ * those of a well-formed table. Otherwise it returns the status of the first refusal, or CEDAR_MEMORY, and *d is as it was. */
 uint32_t cedar_load(cedar_dictionary *d, const uint8_t *bytes, size_t length, size_t memory_limit);
 
-/* As cedar_load, of a file of the reduced layout. Each of the two refuses the other layout's files by CEDAR_FILE_LAYOUT, before it asks
- * for memory. */
+/* As cedar_load, for a file of the reduced layout. Each of the two refuses files of the other layout with CEDAR_FILE_LAYOUT, before it
+ * allocates. */
 uint32_t cedar_load_reduced(cedar_dictionary *d, const uint8_t *bytes, size_t length, size_t memory_limit);
 
-/* As cedar_load_reduced where the file's byte of its layout names the reduced one, and else as cedar_load: so a file of either layout is
- * loaded by one call, and one that names neither is refused by CEDAR_FILE_LAYOUT, unless something before that byte is wrong. */
+/* As cedar_load_reduced if the file's layout byte names the reduced layout, and otherwise as cedar_load. So one call loads a file of either
+ * layout. A file that names neither fails with CEDAR_FILE_LAYOUT, unless something before that byte is wrong. */
 uint32_t cedar_load_any(cedar_dictionary *d, const uint8_t *bytes, size_t length, size_t memory_limit);
 
-/* Writes the file of *d to the first places of a buffer, and to *needed how many bytes it has; the other places stay. The file
- * lists the slots and blocks that are in use, or, where is_full, all of them, as format 1.0 does. CEDAR_OK, CEDAR_IS_CLOSED,
- * CEDAR_NO_ROOM where the file has more than room bytes (a call with room 0 asks how many), or CEDAR_MEMORY: it asks for memory
- * for a copy of the file. After an error the buffer is as it was. */
+/* Writes the file of *d to the beginning of a buffer, and its number of bytes to *needed; the other places keep their content. The file
+ * lists the slots and blocks in use, or all of them if is_full, as format 1.0 does. Returns CEDAR_OK; CEDAR_IS_CLOSED; CEDAR_NO_ROOM if the
+ * file has more than room bytes (call with room 0 to learn how many); or CEDAR_MEMORY, since it allocates a copy of the file. After an
+ * error the buffer is as it was. */
 uint32_t cedar_save(const cedar_dictionary *d, bool is_full, uint8_t *buffer, size_t room, size_t *needed);
 
-/* Writes the text of a status to the first places of a buffer, as far as there is room, and answers how many bytes the text has. No
- * byte 0 is written behind it. */
+/* Writes the text of a status to the beginning of a buffer, as far as there is room, and returns how many bytes the text has. It writes no
+ * byte 0 after the text. */
 size_t cedar_status_text(uint32_t status, uint8_t *text, size_t room);
 
-/* Gives the memory of *d back. *d is closed then. On a closed one it does nothing. */
+/* Frees the memory of *d. *d is closed then. Does nothing if *d is closed. */
 void cedar_free(cedar_dictionary *d);
 
-/* Opens *copy with a copy of *d, in the place of the one that it has, if it is open: two dictionaries then, each of which is freed. CEDAR_OK,
- * CEDAR_IS_CLOSED where *d is closed, or CEDAR_MEMORY. After an error *copy is as it was. */
+/* Opens *copy with a copy of *d. If *copy is open, the copy replaces its dictionary. Both are then dictionaries of their own, and each is
+ * freed. Returns CEDAR_OK, CEDAR_IS_CLOSED if *d is closed, or CEDAR_MEMORY. After an error *copy is as it was. */
 uint32_t cedar_clone(const cedar_dictionary *d, cedar_dictionary *copy);
 
-/* Stores a value at a key, in place of the value that the key holds, if it holds one. CEDAR_IS_CLOSED, the pair's first
- * fault of CEDAR_EMPTY_KEY, CEDAR_NUL_BYTE (*position is then the first byte 0, counted from 0; else *position stays) and
- * CEDAR_INVALID_VALUE, or, only where the key isn't held, CEDAR_MEMORY or CEDAR_SLOT_LIMIT. After an error the dictionary
- * holds what it held. */
+/* Stores a value at a key. If the key holds a value, the new one replaces it. Returns CEDAR_OK; CEDAR_IS_CLOSED; the first fault of the
+ * pair: CEDAR_EMPTY_KEY, CEDAR_NUL_BYTE (*position is then the index of the first byte 0, counted from 0; otherwise *position isn't
+ * written) or CEDAR_INVALID_VALUE; or, only if the key isn't held, CEDAR_MEMORY or CEDAR_SLOT_LIMIT. After an error the dictionary holds
+ * what it held. */
 uint32_t cedar_update(cedar_dictionary *d, const uint8_t *key, size_t length, int32_t value, size_t *position);
 
-/* As cedar_update; after CEDAR_OK *held says whether the key was held before, and if so *before is the value that it had. */
+/* As cedar_update. After CEDAR_OK *held says whether the key held a value before, and if so *before is that value. */
 uint32_t cedar_insert(cedar_dictionary *d, const uint8_t *key, size_t length, int32_t value, bool *held, int32_t *before, size_t *position);
 
 /* A key to store and its value. */
@@ -161,139 +163,169 @@ typedef struct cedar_pair {
     int32_t value;
 } cedar_pair;
 
-/* Stores some pairs, one after another: a key's last value stands. All are tested first: with the first fault of a pair, which is
- * told as by cedar_update, nothing has changed. CEDAR_MEMORY or CEDAR_SLOT_LIMIT otherwise: then the first of the pairs, as many as
- * found room, are stored. It asks for memory for a list of the pairs besides. */
+/* Stores some pairs, one after another: the last value of a key counts. All pairs are tested first. With a faulty pair the first fault is
+ * returned as by cedar_update, and nothing has changed. Otherwise it may fail with CEDAR_MEMORY or CEDAR_SLOT_LIMIT: then the first of the
+ * pairs, as many as there was room for, are stored. It also allocates a list of the pairs. */
 uint32_t cedar_update_all(cedar_dictionary *d, const cedar_pair *pairs, size_t count, size_t *position);
 
-/* Opens *d with a dictionary of just these pairs, whose keys ascend by bytes, as unsigned numbers, in the place of the one that it
- * has, if it is open; settings as of cedar_new_with. All pairs are tested first. CEDAR_OK; CEDAR_INVALID_MAX_TRIAL; the number of the
- * first fault of the input: each pair's own, as of cedar_update, and then CEDAR_DUPLICATE_KEY or CEDAR_KEYS_NOT_SORTED where its key
- * repeats the one before it or is below it (*position is then its index, counted from 0); CEDAR_MEMORY, also before a fault is found,
- * since it asks for memory for a list of the pairs; or CEDAR_SLOT_LIMIT. After an error *d is as it was. Only an error that tells a
- * position writes *position. */
+/* Opens *d with a dictionary of exactly these pairs, whose keys ascend by bytes, compared as unsigned numbers. If *d is open, the new
+ * dictionary replaces the old one. Settings are as for cedar_new_with. All pairs are tested first. Returns:
+ *
+ * - CEDAR_OK.
+ * - CEDAR_INVALID_MAX_TRIAL.
+ * - The first fault of the input: for each pair its own, as of cedar_update, and then CEDAR_DUPLICATE_KEY if its key equals the one before
+ *   it, or CEDAR_KEYS_NOT_SORTED if it is below that one. For these two *position is the index of the pair, counted from 0.
+ * - CEDAR_MEMORY, also before a fault is found, since it allocates a list of the pairs.
+ * - CEDAR_SLOT_LIMIT.
+ *
+ * After an error *d is as it was. *position is written only with an error that has a position. */
 uint32_t cedar_build(cedar_dictionary *d, bool ordered, int32_t max_trial, const cedar_pair *pairs, size_t count, size_t *position);
 
-/* As cedar_build, of the reduced layout. */
+/* As cedar_build, in the reduced layout. */
 uint32_t cedar_build_reduced(cedar_dictionary *d, bool ordered, int32_t max_trial, const cedar_pair *pairs, size_t count, size_t *position);
 
-/* Removes a key, and says whether it was held. It takes no memory. */
+/* Opens *d with a dictionary of some pairs in any order; the last value of a key counts. If *d is open, the new dictionary replaces the old
+ * one. The pairs are sorted, and the dictionary is built at once, faster than by cedar_update_all of keys in no order. Settings as of
+ * cedar_new_with. All pairs are tested first. Returns CEDAR_OK; CEDAR_INVALID_MAX_TRIAL; the fault of the first pair that has one, as of
+ * cedar_update; CEDAR_MEMORY, also before a fault is found, since it allocates a list of the pairs, and two lists more to sort them; or
+ * CEDAR_SLOT_LIMIT. After an error *d is as it was. */
+uint32_t cedar_build_unsorted(cedar_dictionary *d, bool ordered, int32_t max_trial, const cedar_pair *pairs, size_t count, size_t *position);
+
+/* As cedar_build_unsorted, of the reduced layout. */
+uint32_t cedar_build_unsorted_reduced(cedar_dictionary *d, bool ordered, int32_t max_trial, const cedar_pair *pairs, size_t count,
+                                      size_t *position);
+
+/* Removes a key, and returns whether it was held. It allocates nothing. */
 bool cedar_erase(cedar_dictionary *d, const uint8_t *key, size_t length);
 
-/* Removes each key that begins with a prefix, and writes to *erased how many these were; the empty prefix removes all. It takes no memory
- * and gives none back. CEDAR_OK, or CEDAR_IS_CLOSED: then *erased stays. */
+/* A key to remove. */
+typedef struct cedar_key {
+    const uint8_t *key;
+    size_t length;
+} cedar_key;
+
+/* Removes some keys, one after another, and returns how many of them were held. held[i] becomes whether keys[i] was held, as cedar_erase
+ * would return it: of a key that is listed twice only the first one was. If `room` is below `count`, only that of the first `room` keys is
+ * written, and none with room 0; places behind the last key stay. It is faster than as many calls of cedar_erase if the table is large and
+ * the keys come in no order. It allocates nothing. Returns 0 if *d is closed, and then all places stay. */
+size_t cedar_erase_all(cedar_dictionary *d, const cedar_key *keys, size_t count, bool *held, size_t room);
+
+/* Removes each key that begins with a prefix, and writes their number to *erased. The empty prefix removes all keys. It neither allocates
+ * nor frees memory. Returns CEDAR_OK, or CEDAR_IS_CLOSED; then *erased isn't written. */
 uint32_t cedar_erase_prefix(cedar_dictionary *d, const uint8_t *prefix, size_t length, size_t *erased);
 
-/* Removes all keys; slots and settings stay. It takes no memory and gives none back. On a closed one it does nothing. */
+/* Removes all keys, and keeps slots and settings. It neither allocates nor frees memory. Does nothing if *d is closed. */
 void cedar_clear(cedar_dictionary *d);
 
-/* Says whether a key is held, and writes its value to *value if it is. It takes no memory. */
+/* Returns whether a key is held, and if so writes its value to *value. It allocates nothing. */
 bool cedar_get(const cedar_dictionary *d, const uint8_t *key, size_t length, int32_t *value);
 
-/* Says whether a key is held. It takes no memory. */
+/* Returns whether a key is held. It allocates nothing. */
 bool cedar_contains(const cedar_dictionary *d, const uint8_t *key, size_t length);
 
-/* How many keys are held; how many slots are (one for the root, one for each distinct nonempty prefix of keys, one for each
- * value that has a slot of its own, as each has but in the reduced layout); how many slots there are; how many blocks of 256 slots can
- * come into use before memory is asked for. 0 if closed. */
+/* The number of keys; the number of held slots; the number of slots there are; and the number of blocks of 256 slots that can come into use
+ * before memory is allocated. The root, each distinct nonempty prefix of the keys, and each value with a slot of its own hold one slot
+ * each; every value has one, except in the reduced layout. All four are 0 if closed. */
 size_t cedar_len(const cedar_dictionary *d);
 size_t cedar_used_slots(const cedar_dictionary *d);
 size_t cedar_capacity(const cedar_dictionary *d);
 size_t cedar_spare_blocks(const cedar_dictionary *d);
 
-/* Asks for the memory of so many blocks of 256 slots more than are in use, so that updates that make no more of them need none: an
- * update makes at most one for each byte of its key. While so many are spare (cedar_spare_blocks), nothing changes; else the slots double
- * until they are. CEDAR_OK; CEDAR_IS_CLOSED; CEDAR_SLOT_LIMIT where there can't be so many blocks (2^22 in all), else CEDAR_MEMORY. After
- * an error nothing has changed. */
+/* Allocates ahead for so many blocks of 256 slots more than are in use, so that updates that take no more of them need no memory: an update
+ * takes at most one for each byte of its key. If so many are spare already (cedar_spare_blocks), nothing changes; otherwise the slots
+ * double until they are. Returns CEDAR_OK; CEDAR_IS_CLOSED; CEDAR_SLOT_LIMIT if there can't be so many blocks (2^22 in all), or else
+ * CEDAR_MEMORY. After an error nothing has changed. */
 uint32_t cedar_reserve(cedar_dictionary *d, size_t blocks);
 
-/* Gives back the memory that growth and erasures have left: all keys are put into a new dictionary, which takes the place of the present
- * one unless it has more slots. Keys, values, their order, layout and settings stay. While it runs there are both, and a list of 24 bytes
- * for each key. CEDAR_OK; CEDAR_IS_CLOSED; CEDAR_MEMORY, or CEDAR_SLOT_LIMIT where the limit of slots allows no further block of the new
- * one. After an error nothing has changed. */
+/* Frees memory that growth and erasures have left unused: all keys are put into a new dictionary, which replaces the present one unless it
+ * has more slots. Keys, values, their order, layout and settings stay. While it runs, both dictionaries exist, and a list of 24 bytes for
+ * each key. Returns CEDAR_OK; CEDAR_IS_CLOSED; CEDAR_MEMORY; or CEDAR_SLOT_LIMIT if the limit of slots allows the new dictionary no further
+ * block. After an error nothing has changed. */
 uint32_t cedar_shrink(cedar_dictionary *d);
 
-/* A key that a walk found: its value, and how many bytes the whole key has. */
+/* A key that was found: its value, and the number of bytes of the whole key. */
 typedef struct cedar_match {
     int32_t value;
     size_t length;
 } cedar_match;
 
-/* The keys that a text begins with, shortest first. The first `room` of them, or all if there are fewer, are written to matches[0] and
- * on; the other places stay. It answers how many there are, never more than the text has bytes: an answer above room asks for a second
- * call with more room. It is one walk, and takes no memory. 0 if closed. */
+/* Finds the keys that are prefixes of a text, shortest first. The first `room` of them, or all if there are fewer, are written to
+ * matches[0] and on; the other places keep their content. Returns how many there are, never more than the text has bytes: if that is above
+ * room, call again with more room. It goes along the text once, and allocates nothing. Returns 0 if closed. */
 size_t cedar_prefixes(const cedar_dictionary *d, const uint8_t *text, size_t length, cedar_match *matches, size_t room);
 
-/* Writes the longest key that a text begins with to *found, and says whether there is one; else *found stays. It goes along the text once,
- * and takes no memory. */
+/* Writes the longest key that is a prefix of a text to *found, and returns whether there is one; if not, *found isn't written. It goes
+ * along the text once, and allocates nothing. */
 bool cedar_longest_prefix(const cedar_dictionary *d, const uint8_t *text, size_t length, cedar_match *found);
 
-/* The keys that begin with a text, in the order of the walk: `length` bytes of each are the text, and match.length - length follow it.
- * Else as cedar_prefixes: there are never more than keys. */
+/* Finds the keys that begin with a text, in iteration order. The first `length` bytes of each are the text, and match.length - length bytes
+ * follow it. There are never more than there are keys. Otherwise as cedar_prefixes. */
 size_t cedar_predictions(const cedar_dictionary *d, const uint8_t *text, size_t length, cedar_match *matches, size_t room);
 
-/* The same without the first *next of them, in pieces: as many as are left, and there is room for, are written to matches[0] and on;
- * the other places stay. They answer how many were written, and add it to *next, so that the same call goes on. Begin with *next 0;
- * an answer below room tells that nothing is left. The dictionary isn't changed between two pieces of a walk, else they may not belong
- * together. Each call walks past the first *next again; it takes no memory. 0 if closed. */
+/* As cedar_prefixes and cedar_predictions, without the first *next keys, in pieces: as many as are left, and there is room for, are written
+ * to matches[0] and on; the other places keep their content. They return how many were written, and add it to *next, so that the same call
+ * goes on. Begin with *next 0; a result below room means that nothing is left. Don't change the dictionary between two pieces, or they may
+ * not belong together. Each call walks past the first *next again; it allocates nothing. They return 0 if closed. */
 size_t cedar_prefixes_from(const cedar_dictionary *d, const uint8_t *text, size_t length, size_t *next, cedar_match *matches, size_t room);
 size_t cedar_predictions_from(const cedar_dictionary *d, const uint8_t *text, size_t length, size_t *next, cedar_match *matches,
                               size_t room);
 
-/* Writes the bytes of all keys to the first places of a buffer, one key after another in the order of the walk, and to *needed how many
- * bytes they are; the other places stay. cedar_predictions of the empty text tells each key's value and length in the same order.
- * CEDAR_OK, CEDAR_IS_CLOSED, CEDAR_NO_ROOM where the keys have more than room bytes, or CEDAR_MEMORY: it asks for memory for a copy of
- * them. After an error the buffer is as it was. */
+/* Writes the bytes of all keys to the beginning of a buffer, one key after another in iteration order, and their number of bytes to
+ * *needed; the other places keep their content. cedar_predictions with the empty text finds the value and the length of each key in the
+ * same order. Returns CEDAR_OK; CEDAR_IS_CLOSED; CEDAR_NO_ROOM if the keys have more than room bytes; or CEDAR_MEMORY, since it allocates a
+ * copy of them. After an error the buffer is as it was. */
 uint32_t cedar_keys(const cedar_dictionary *d, uint8_t *buffer, size_t room, size_t *needed);
 
-/* What stands at a place of a text: where it begins, how many bytes it has, and its value. */
+/* A key or token in a text: where it begins, how many bytes it has, and its value. */
 typedef struct cedar_found {
     size_t place;
     size_t length;
     int32_t value;
 } cedar_found;
 
-/* A page of entries with their keys: of those whose keys begin with a prefix, and come behind a key that was shown last, in the order of
- * the walk; from the first one on where `behind` has no byte. That key begins with the prefix, as the page's last key does, and needn't
- * be held any more; behind a key without the prefix the page ends at the first key without it. found[0] and on tell where each key stands
- * among the bytes, how many bytes it has, and its value; the other places stay. The keys are written to bytes[0] and on, one after
- * another, and the other bytes may be written to as well. *count is how many entries were written: as many as found room, and 0 only if
- * none is left, or `places` is 0. To go on, copy the last key, and give it as `behind`. A page costs a look-up or two and its own
- * entries, and takes no memory; the dictionary may be changed between two pages. CEDAR_OK; CEDAR_IS_CLOSED; CEDAR_NOT_ASCENDING where
- * `behind` has a byte and labels don't ascend; CEDAR_NO_ROOM where the first key to come has more than `room` bytes, and *needed is how
- * many: behind the last key with the prefix this may be one without it. After an error nothing else is written. */
+/* Writes a page of entries with their keys: of the keys that begin with a prefix, those that come after `behind` in iteration order. If
+ * `behind` has no byte, the page begins with the first entry. To go on, copy the last key of a page and pass it as `behind`. It begins with
+ * the prefix, and needn't be held any more; after a key without the prefix the page ends at the first key without it.
+ *
+ * found[0] and on say where each key begins among the bytes, how many bytes it has, and its value; the other places keep their content. The
+ * keys are written to bytes[0] and on, one after another, and the other bytes may be written to as well. *count is the number of entries
+ * written: as many as there was room for, and 0 only if none is left or `places` is 0. A page costs a look-up or two and its own entries,
+ * and allocates nothing. The dictionary may be changed between two pages.
+ *
+ * Returns CEDAR_OK; CEDAR_IS_CLOSED; CEDAR_NOT_ASCENDING if `behind` has a byte and labels don't ascend; or CEDAR_NO_ROOM if the next key
+ * has more than `room` bytes: then *needed is how many. After the last key with the prefix that next key may be one without it. After an
+ * error nothing else is written. */
 uint32_t cedar_entries_from(const cedar_dictionary *d, const uint8_t *prefix, size_t prefix_length, const uint8_t *behind,
                             size_t behind_length, cedar_found *found, size_t places, uint8_t *bytes, size_t room, size_t *count,
                             size_t *needed);
 
-/* All keys that stand in a text, from the place *next on: place after place, and at each the shortest first. It writes them to
- * found[0] and on, and answers how many it wrote; the other places may be written to as well. The keys of a place are told as a
- * whole: where there is no room left for them, the call ends and *next is this place, so that the same call with this *next goes on;
- * if it answers 0 then, the place has more keys than room, and never more than the longest key has bytes. Once all is told, *next is
- * the text's length. It takes no memory. A closed dictionary tells nothing. Begin with *next 0, and go on
- * while *next is below length. */
+/* Finds all keys in a text, from the place *next on: place after place, and at each place the shortest first. It writes them to found[0]
+ * and on, and returns how many it wrote; the other places may be written to as well. The keys of a place are returned by the same call: if
+ * there is no room left for them, the call ends and *next is this place, so that calling again with this *next goes on. If it then returns
+ * 0, the place has more keys than room; it never has more than the longest key has bytes. At the end *next is the text's length. It
+ * allocates nothing. It finds nothing in a closed dictionary. Begin with *next 0, and go on while *next is below length. */
 size_t cedar_scan(const cedar_dictionary *d, const uint8_t *text, size_t length, size_t *next, cedar_found *found, size_t room);
 
-/* The tokens of a text from the place *next on, where one begins: at each place the longest key that stands there, or else one byte,
- * with the value -1. Else as cedar_scan: with room 1 or more each call goes on. */
+/* Cuts a text into tokens, from the place *next on, where a token begins: at each place the longest key that begins there, or otherwise one
+ * byte, with the value -1. With room 1 or more each call goes on. Otherwise as cedar_scan. */
 size_t cedar_segment(const cedar_dictionary *d, const uint8_t *text, size_t length, size_t *next, cedar_found *found, size_t room);
 
-/* The keywords of a text from the place *next on, where a token begins, leftmost longest: of the keys that begin first the longest, and
- * so on from its end, so that none overlap. The bytes between them aren't told. Else as cedar_segment. */
+/* Finds the keywords of a text, leftmost longest, from the place *next on, where a token begins: of the keys that begin first the longest,
+ * then the same from its end on, so that none overlap. The bytes between them aren't reported. Otherwise as cedar_segment. */
 size_t cedar_keywords(const cedar_dictionary *d, const uint8_t *text, size_t length, size_t *next, cedar_found *found, size_t room);
 
-/* Cuts a whole text into keys and single bytes so that they cost the least together, writes these tokens to found[0] and on, and to *needed
- * how many they are; the other places stay. A key costs its value. A byte without a key, which has the value -1, costs `unknown`; where
- * by_characters, one from 128 to 191, which goes on with a character of UTF-8, costs nothing. Of cuts that cost the same it is the one with
- * the longer token where they first differ, and with a key rather than a byte. There are never more tokens than bytes. CEDAR_OK,
- * CEDAR_IS_CLOSED, CEDAR_NO_ROOM where there are more than room tokens (a call with room 0 asks how many, and costs as much), or
- * CEDAR_MEMORY: it asks for 9 bytes for each byte of the text, and for a list of the tokens. After an error the places are as they were. */
+/* Cuts a whole text into keys and single bytes whose costs have the least sum. It writes these tokens to found[0] and on, and their number
+ * to *needed; the other places keep their content. A key costs its value. A byte without a key has the value -1 and costs `unknown`; if
+ * by_characters, a byte from 128 to 191, which continues a character of UTF-8, costs nothing. Of cuts with the same cost it picks the one
+ * with the longer token where they first differ, and with a key rather than a byte. There are never more tokens than bytes. Returns
+ * CEDAR_OK; CEDAR_IS_CLOSED; CEDAR_NO_ROOM if there are more than room tokens (a call with room 0 says how many, and costs as much); or
+ * CEDAR_MEMORY: it allocates 9 bytes for each byte of the text, and a list of the tokens. After an error the places are as they were. */
 uint32_t cedar_cheapest(const cedar_dictionary *d, const uint8_t *text, size_t length, uint32_t unknown, bool by_characters,
                         cedar_found *found, size_t room, size_t *needed);
 
-/* The library's own functions take no null for position, held, before, needed and erased. In a program these here go by their names, and put a
- * place of their own there. They cost nothing where the compiler sees that a pointer isn't null. Another language, which calls the library
- * without this header, passes no null for these five. */
+/* The library's own functions take no null for position, held, before, needed and erased. In a program these functions take their names,
+ * and pass a variable of their own where the caller passes null. They cost nothing where the compiler sees that a pointer isn't null.
+ * Another language, which calls the library without this header, passes no null for these five. */
 CEDAR_INLINE uint32_t cedar_nullable_save(const cedar_dictionary *d, bool is_full, uint8_t *buffer, size_t room, size_t *needed) {
     size_t unwanted = 0;
     return cedar_save(d, is_full, buffer, room, needed ? needed : &unwanted);
@@ -324,6 +356,16 @@ CEDAR_INLINE uint32_t cedar_nullable_build_reduced(cedar_dictionary *d, bool ord
     size_t unwanted = 0;
     return cedar_build_reduced(d, ordered, max_trial, pairs, count, position ? position : &unwanted);
 }
+CEDAR_INLINE uint32_t cedar_nullable_build_unsorted(cedar_dictionary *d, bool ordered, int32_t max_trial, const cedar_pair *pairs,
+                                                    size_t count, size_t *position) {
+    size_t unwanted = 0;
+    return cedar_build_unsorted(d, ordered, max_trial, pairs, count, position ? position : &unwanted);
+}
+CEDAR_INLINE uint32_t cedar_nullable_build_unsorted_reduced(cedar_dictionary *d, bool ordered, int32_t max_trial, const cedar_pair *pairs,
+                                                            size_t count, size_t *position) {
+    size_t unwanted = 0;
+    return cedar_build_unsorted_reduced(d, ordered, max_trial, pairs, count, position ? position : &unwanted);
+}
 CEDAR_INLINE uint32_t cedar_nullable_keys(const cedar_dictionary *d, uint8_t *buffer, size_t room, size_t *needed) {
     size_t unwanted = 0;
     return cedar_keys(d, buffer, room, needed ? needed : &unwanted);
@@ -351,37 +393,39 @@ CEDAR_INLINE uint32_t cedar_nullable_entries_from(const cedar_dictionary *d, con
 #define cedar_update_all cedar_nullable_update_all
 #define cedar_build cedar_nullable_build
 #define cedar_build_reduced cedar_nullable_build_reduced
+#define cedar_build_unsorted cedar_nullable_build_unsorted
+#define cedar_build_unsorted_reduced cedar_nullable_build_unsorted_reduced
 #define cedar_keys cedar_nullable_keys
 #define cedar_cheapest cedar_nullable_cheapest
 #define cedar_erase_prefix cedar_nullable_erase_prefix
 
-/* Files by their paths, and the version. This block is C beside the proved library: tested, and not proved. */
+/* Files by their paths, and the version. These calls are C beside the proved library: tested, and not proved. */
 
-/* The version of this header, and that of the library, which a program may compare with it. */
+/* The version of this header, and that of the library. A program may compare the two. */
 #define CEDAR_VERSION_MAJOR 0
 #define CEDAR_VERSION_MINOR 1
 #define CEDAR_VERSION_PATCH 0
 #define CEDAR_VERSION "0.1.0"
 const char *cedar_version(void);
 
-/* As cedar_load, of the file at a path, of either layout. It reads at most 89 bytes more than memory_limit, so that a file that doesn't
- * end is refused. Also CEDAR_FILE_UNREAD where a call on the file failed: errno has its number. It asks for memory for the file's bytes
- * besides. A path ends with a byte 0. */
+/* As cedar_load_any, for the file at a path, which ends with a byte 0. It reads at most 89 bytes more than memory_limit, so that a file
+ * that doesn't end is refused. Also returns CEDAR_FILE_UNREAD if a call on the file failed; errno has the reason. It also allocates the
+ * file's bytes. */
 uint32_t cedar_load_file(cedar_dictionary *d, const char *path, size_t memory_limit);
 
-/* Puts the file of *d, as cedar_save makes it, in the place of the one at a path. It is written beside that, to the path with `.new` behind
- * it, with the old file's mode, and renamed once it is whole and on the disk: so after an error the old file is as it was, and no new one
- * is left if it could be removed. A file of that name that was there is lost. A symbolic link is replaced by the file. Where the path leads
- * to a pipe or a device, that is written to as it is. CEDAR_OK, CEDAR_IS_CLOSED, CEDAR_MEMORY, or CEDAR_FILE_UNREAD where a call on a file
- * failed: errno has its number. */
+/* Replaces the file at a path with the file of *d, as cedar_save makes it. The new file is written to the path with `.new` after it, with
+ * the old file's mode, and renamed once it is whole and on the disk. So after an error the old file is as it was, and the new one is
+ * removed if that is possible. A file that had that name before is lost. A symbolic link is replaced by the file. A pipe or a device is
+ * written to directly. Returns CEDAR_OK, CEDAR_IS_CLOSED, CEDAR_MEMORY, or CEDAR_FILE_UNREAD if a call on a file failed; errno has the
+ * reason. */
 uint32_t cedar_save_file(const cedar_dictionary *d, bool is_full, const char *path);
 
-/* Stores: dictionaries whose changes are in a file before they are acknowledged. What is written to the file, and in which order, is the
- * proved library's; the calls of the system are C beside it, tested and not proved. No crash of the process or the machine takes an
- * acknowledged change away, if the disk keeps what it has acknowledged, and nobody else writes to the file: it isn't locked.
- * docs/STORE.md has the file. */
+/* Stores: dictionaries whose changes are in a file before they are acknowledged. The proved library decides what is written to the file,
+ * and in which order; the calls of the system are C beside it, tested and not proved. No crash of the process or the machine takes an
+ * acknowledged change away, if the disk keeps what it has acknowledged, and nobody else writes to the file: it isn't locked. docs/STORE.md
+ * describes the file. */
 
-/* A store, or none while it is closed. It begins as CEDAR_STORE_CLOSED, and is changed by these calls alone; it may be moved. */
+/* A store. It is initialised with CEDAR_STORE_CLOSED, and only these calls change it. It may be moved. */
 typedef struct cedar_store {
     cedar_dictionary dictionary;
     struct cedar_store_file *file;
@@ -389,54 +433,60 @@ typedef struct cedar_store {
 
 #define CEDAR_STORE_CLOSED { CEDAR_CLOSED, NULL }
 
-/* Opens *s with the store of the file at a path, in the place of the one that it has, if it is open. A missing file is made. The changes of
- * the file are made again, which takes the time of all of them and memory for the file's bytes; what a crash has left of one that wasn't
- * acknowledged is cut off. CEDAR_OK; CEDAR_STORE_FOREIGN, CEDAR_STORE_CORRUPT, CEDAR_MEMORY or CEDAR_SLOT_LIMIT: then nothing was written;
- * or CEDAR_STORE_DEVICE where a call on the file failed, or something else than a file is at the path (EINVAL): errno has its number, and
- * the file stands for the same dictionary. After an error *s is as it was. */
+/* Opens *s with the store of the file at a path. If *s is open, the new store replaces the old one. A missing file is created. All changes
+ * in the file are made again, which takes their time, and memory for the file's bytes. What a crash has left of a change that wasn't
+ * acknowledged is cut off. Returns:
+ *
+ * - CEDAR_OK.
+ * - CEDAR_STORE_FOREIGN, CEDAR_STORE_CORRUPT, CEDAR_MEMORY or CEDAR_SLOT_LIMIT: nothing was written.
+ * - CEDAR_STORE_DEVICE if a call on the file failed, or if the path has something other than a file (EINVAL): errno has the reason, and the
+ *   file still has the same dictionary.
+ *
+ * After an error *s is as it was. */
 uint32_t cedar_store_open(cedar_store *s, const char *path);
 
-/* As cedar_store_open, with a dictionary of the reduced layout. The file is of neither layout. */
+/* As cedar_store_open, with a dictionary of the reduced layout. The file itself has no layout. */
 uint32_t cedar_store_open_reduced(cedar_store *s, const char *path);
 
-/* The dictionary of a store, for all calls that take a const dictionary. It is closed where the store is. It is lent: it goes with *s. */
+/* Lends the dictionary of a store to the calls that take a const dictionary. It is closed if the store is. It lives as long as *s. */
 CEDAR_INLINE const cedar_dictionary *cedar_store_dictionary(const cedar_store *s) {
     return &s->dictionary;
 }
 
-/* Stores a value at a key, in place of the value that the key holds, if it holds one. CEDAR_OK acknowledges the change: it is on the disk,
- * or waits as cedar_store_sync_every says. CEDAR_IS_CLOSED, the pair's first fault as of cedar_update, CEDAR_MEMORY, CEDAR_SLOT_LIMIT, CEDAR_STORE_TOO_LONG and CEDAR_STORE_FULL
- * leave the dictionary's keys and the file as they were. After CEDAR_STORE_DEVICE (errno has the number) the dictionary has the change, and
- * the file has it or not: each later change answers CEDAR_STORE_FAILED and changes nothing, until the file is opened again. */
+/* Stores a value at a key. If the key holds a value, the new one replaces it. CEDAR_OK acknowledges the change: it is on the disk, or waits
+ * as cedar_store_sync_every says. CEDAR_IS_CLOSED, the first fault of the pair as of cedar_update, CEDAR_MEMORY, CEDAR_SLOT_LIMIT,
+ * CEDAR_STORE_TOO_LONG and CEDAR_STORE_FULL leave the dictionary's keys and the file as they were. After CEDAR_STORE_DEVICE (errno has the
+ * reason) the dictionary has the change, and the file has it or not. From then on each change returns CEDAR_STORE_FAILED and changes
+ * nothing, until the file is opened again. */
 uint32_t cedar_store_update(cedar_store *s, const uint8_t *key, size_t length, int32_t value, size_t *position);
 
-/* As cedar_store_update; after CEDAR_OK *held says whether the key was held before, and if so *before is the value that it had. */
+/* As cedar_store_update. After CEDAR_OK *held says whether the key held a value before, and if so *before is that value. */
 uint32_t cedar_store_insert(cedar_store *s, const uint8_t *key, size_t length, int32_t value, bool *held, int32_t *before,
                             size_t *position);
 
-/* Removes a key; after CEDAR_OK *held says whether it was held. A key that isn't held makes no change, and nothing is written. Errors as of
- * cedar_store_update, but that no pair has a fault and no slots are asked for. */
+/* Removes a key. After CEDAR_OK *held says whether it was held. If it wasn't, nothing changes, and nothing is written. Errors are those of
+ * cedar_store_update, except that no pair has a fault and no slots are needed. */
 uint32_t cedar_store_erase(cedar_store *s, const uint8_t *key, size_t length, bool *held);
 
-/* How many changes go to the disk together from now on. With 1, as at first, each is there before it is acknowledged. With more,
- * CEDAR_OK of a change says that the dictionary has it, and it waits: the last of so many puts them all on the disk. With 0 they wait for
- * cedar_store_sync. A crash takes away those that wait, all of them or none, and no others. Their record has at most 2^32 bytes, and one
- * more that doesn't fit is refused with CEDAR_STORE_TOO_LONG. Those that wait now go to the disk first, with the statuses of
- * cedar_store_sync; after another one than CEDAR_OK the number is as it was. */
+/* Sets how many changes go to the disk together from now on. With 1, the setting at first, each change is on the disk before it is
+ * acknowledged. With a larger number, CEDAR_OK says that the dictionary has the change, and the change waits: the last of so many puts all
+ * of them on the disk. With 0 they wait for cedar_store_sync. A crash takes away those that wait, all of them or none, and no others. Their
+ * record has at most 2^32 bytes; a change that doesn't fit fails with CEDAR_STORE_TOO_LONG. Changes that wait now go to the disk first,
+ * with the statuses of cedar_store_sync; unless that returns CEDAR_OK, the setting is as it was. */
 uint32_t cedar_store_sync_every(cedar_store *s, size_t changes);
 
 /* Puts the changes that wait on the disk as one: a crash at any moment leaves a file with all of them or with none. CEDAR_OK: the disk has
- * all changes. CEDAR_IS_CLOSED; CEDAR_STORE_DEVICE and CEDAR_STORE_FAILED as of cedar_store_update. */
+ * all changes. Also returns CEDAR_IS_CLOSED, and CEDAR_STORE_DEVICE and CEDAR_STORE_FAILED as cedar_store_update does. */
 uint32_t cedar_store_sync(cedar_store *s);
 
-/* How many changes wait. 0 if closed. */
+/* Returns how many changes wait. 0 if closed. */
 size_t cedar_store_waiting(const cedar_store *s);
 
-/* Whether the device has failed in a change. False if closed. */
+/* Returns whether the device has failed in a change. False if closed. */
 bool cedar_store_failed(const cedar_store *s);
 
-/* Puts the changes that wait on the disk, closes the file, and gives the memory of *s back. *s is closed then. Whether the disk has them only
- * cedar_store_sync tells. On a closed one it does nothing. */
+/* Puts the changes that wait on the disk, closes the file, and frees the memory of *s. *s is closed then. Only cedar_store_sync tells
+ * whether the disk has the changes. Does nothing if *s is closed. */
 void cedar_store_close(cedar_store *s);
 
 #ifdef __cplusplus

@@ -8,10 +8,10 @@
 //     d.save_to_path("words.cedar");
 //
 // A key is a nonempty byte string without byte 0, a value a whole number from 0 to 2147483645. All lengths, places and positions are
-// bytes, counted from 0. Keys, texts and files are read during the call only, unless a member says otherwise.
+// bytes, counted from 0. Keys, texts and files are read during the call only, unless a member's comment says otherwise.
 //
-// Errors. A refusal is thrown as roskvidh::error, want of memory as std::bad_alloc, a fault of a file as std::system_error. After each
-// of them the dictionary holds what it held before the call; update_all alone may have stored the first of its pairs.
+// Errors. A call that fails throws roskvidh::error; std::bad_alloc if memory runs out; std::system_error if a call on a file fails. After
+// each of them the dictionary holds what it held before the call. Only update_all may have stored the first of its pairs.
 //
 // Threads. Any number of threads may call const members of one dictionary at the same time, as long as none calls another member of it:
 // cedar.h says how to order those. Different dictionaries share nothing.
@@ -46,23 +46,23 @@
 
 namespace roskvidh {
 
-/// How the slots of a dictionary stand for its keys. All answers are the same in both; a reduced one takes fewer slots.
+/// How the slots of a dictionary represent its keys. All results are the same in both; the reduced layout takes fewer slots.
 enum class layout { standard, reduced };
 
 /// The version of a file's format: 1.1 lists the slots in use, 1.0 all slots.
 enum class file_format { v1_1, v1_0 };
 
-/// A call that was refused. what() is the library's text, and the position behind it where one is told.
+/// A call that was refused. what() is the library's text, followed by the position if there is one.
 class error : public std::runtime_error {
 public:
     error(std::uint32_t status, std::optional<std::size_t> position)
         : std::runtime_error(text_of(status, position)), status_(status), position_(position) {}
 
-    /// The status of cedar.h, as CEDAR_NUL_BYTE.
+    /// The status of cedar.h, such as CEDAR_NUL_BYTE.
     std::uint32_t status() const noexcept { return status_; }
 
-    /// Of CEDAR_NUL_BYTE: the place of the first byte 0 in the key. Of CEDAR_DUPLICATE_KEY and CEDAR_KEYS_NOT_SORTED: the index of the
-    /// pair. Nothing otherwise.
+    /// For CEDAR_NUL_BYTE, the place of the first byte 0 in the key. For CEDAR_DUPLICATE_KEY and CEDAR_KEYS_NOT_SORTED, the index of the
+    /// pair. Otherwise nothing.
     std::optional<std::size_t> position() const noexcept { return position_; }
 
 private:
@@ -78,10 +78,10 @@ private:
     std::optional<std::size_t> position_;
 };
 
-/// A key that a walk found: its value, and how many bytes the key has.
+/// A key that was found: its value, and how many bytes the key has.
 using match = cedar_match;
 
-/// A key that stands in a text: where it begins, how many bytes it has, and its value.
+/// A key in a text: where it begins, how many bytes it has, and its value.
 using occurrence = cedar_found;
 
 /// A token of a text: where it begins, how many bytes it has, and its value if it is a key.
@@ -91,7 +91,7 @@ struct token {
     std::optional<std::int32_t> value;
 };
 
-/// A key and its value. The key's bytes are those of the entries that it comes from.
+/// A key and its value. The key's bytes belong to the entries that it comes from.
 struct entry {
     std::string_view key;
     std::int32_t value;
@@ -100,9 +100,9 @@ struct entry {
 /// Figures of a dictionary.
 struct statistics {
     std::size_t keys;         ///< how many keys are held
-    std::size_t used_slots;   ///< how many slots stand for the root, for the bytes of keys, and for values
+    std::size_t used_slots;   ///< how many slots represent the root, bytes of keys, and values
     std::size_t capacity;     ///< how many slots there are
-    std::size_t spare_blocks; ///< how many blocks of 256 slots can come into use before memory is asked for
+    std::size_t spare_blocks; ///< how many blocks of 256 slots can come into use before memory is allocated
 };
 
 namespace detail {
@@ -134,6 +134,19 @@ std::vector<cedar_pair> pairs_of(const Pairs &pairs) {
         static_assert(std::is_integral_v<Value> && std::numeric_limits<Value>::digits <= 31, "no value is cut off");
         const std::string_view view(key);
         listed.push_back({bytes(view), view.size(), std::int32_t{value}});
+    }
+    return listed;
+}
+
+// The keys of a range as C takes them: they name its bytes.
+template <class Keys>
+std::vector<cedar_key> keys_of(const Keys &keys) {
+    static_assert(std::is_lvalue_reference_v<decltype(*std::begin(keys))>, "the keys stand in the range, which lends them");
+    std::vector<cedar_key> listed;
+    listed.reserve(1); // so that data() isn't null
+    for (const auto &key : keys) {
+        const std::string_view view(key);
+        listed.push_back({bytes(view), view.size()});
     }
     return listed;
 }
@@ -200,8 +213,9 @@ inline bool replace_file(const std::string &path, const std::string &beside, con
 
 } // namespace detail
 
-/// Keys and values as they were when the range was made, in the order of the walk: in that of bytes where labels ascend. The range has
-/// a copy of them, so the dictionary may change or go meanwhile. Its views of keys hold as long as the range, or what it is moved to.
+/// Keys and values as they were when the range was made, in iteration order: that of bytes if the dictionary is ordered. The range has a
+/// copy of them, so the dictionary may change or be destroyed meanwhile. Its views of keys are valid as long as the range, or what it is
+/// moved to.
 class entries {
 public:
     class iterator {
@@ -251,15 +265,15 @@ private:
     std::vector<occurrence> found_; // where they stand
 };
 
-/// A mutable dictionary from byte strings to whole numbers. It is moved and not copied; clone() makes a copy. What was moved from is
-/// closed: it holds nothing and may be assigned to; calls that store or save throw the error CEDAR_IS_CLOSED.
+/// A mutable dictionary from byte strings to whole numbers. It is moved and not copied; clone() makes a copy. A dictionary that was moved
+/// from is closed: it holds nothing and may be assigned to; calls that store or save throw the error CEDAR_IS_CLOSED.
 class dictionary {
 public:
-    /// No limit on how many answers a walk gives.
+    /// No limit on how many results a call returns.
     static constexpr std::size_t unlimited = std::numeric_limits<std::size_t>::max();
 
-    /// An empty dictionary. `ordered` says whether walks go in the order of bytes; else a new branch goes before its siblings, which
-    /// makes storing faster. `max_trial`, 1 or more, is how many failed searches for a place close a block of slots: more make the
+    /// Makes an empty dictionary. If `ordered`, iterations go in the order of bytes; otherwise a new branch goes before its siblings, which
+    /// makes storing faster. `max_trial`, 1 or more: after so many failed searches for a place a block of slots is closed. More make the
     /// table denser and storing slower. Throws CEDAR_INVALID_MAX_TRIAL and std::bad_alloc.
     explicit dictionary(layout kind = layout::standard, bool ordered = true, std::int32_t max_trial = 1) {
         detail::check((kind == layout::reduced ? cedar_new_reduced : cedar_new_with)(&inside_, ordered, max_trial));
@@ -267,7 +281,7 @@ public:
     dictionary(const dictionary &) = delete;
     dictionary &operator=(const dictionary &) = delete;
 
-    /// Takes the other one's content and leaves it closed. It allocates nothing; no key is touched.
+    /// Takes the content of the other one and leaves it closed. It allocates nothing; no key is touched.
     dictionary(dictionary &&other) noexcept { swap(other); }
     dictionary &operator=(dictionary &&other) noexcept {
         dictionary moved(std::move(other));
@@ -275,7 +289,7 @@ public:
         return *this;
     }
 
-    /// Gives the memory back.
+    /// Frees the memory.
     ~dictionary() { cedar_free(&inside_); }
 
     /// Exchanges the contents. It allocates nothing; no key is touched.
@@ -284,22 +298,25 @@ public:
     }
     friend void swap(dictionary &one, dictionary &other) noexcept { one.swap(other); }
 
-    /// The dictionary of pairs whose keys ascend by bytes, as those of a std::map do, made at once. `pairs` is any range of pairs of what
-    /// is a std::string_view and an int. All pairs are tested first. Throws the first fault of the pairs: CEDAR_EMPTY_KEY,
-    /// CEDAR_NUL_BYTE, CEDAR_INVALID_VALUE, CEDAR_DUPLICATE_KEY, CEDAR_KEYS_NOT_SORTED; or CEDAR_INVALID_MAX_TRIAL, CEDAR_SLOT_LIMIT,
-    /// std::bad_alloc.
+    /// Returns the dictionary of pairs whose keys ascend by bytes, as those of a std::map do. It is built in one pass. `pairs` is any range
+    /// of pairs of what converts to a std::string_view and an int. All pairs are tested first. Throws the first fault of the pairs:
+    /// CEDAR_EMPTY_KEY, CEDAR_NUL_BYTE, CEDAR_INVALID_VALUE, CEDAR_DUPLICATE_KEY, CEDAR_KEYS_NOT_SORTED; or CEDAR_INVALID_MAX_TRIAL,
+    /// CEDAR_SLOT_LIMIT, std::bad_alloc.
     template <class Pairs = std::initializer_list<std::pair<std::string_view, std::int32_t>>>
     static dictionary from_sorted(const Pairs &pairs, layout kind = layout::standard, bool ordered = true, std::int32_t max_trial = 1) {
-        const std::vector<cedar_pair> listed = detail::pairs_of(pairs);
-        dictionary built{closed()};
-        std::size_t position = 0;
-        const auto build = kind == layout::reduced ? cedar_build_reduced : cedar_build;
-        const std::uint32_t status = build(&built.inside_, ordered, max_trial, listed.data(), listed.size(), &position);
-        detail::check(status, position);
-        return built;
+        return built(kind == layout::reduced ? cedar_build_reduced : cedar_build, pairs, ordered, max_trial);
     }
 
-    /// An equal dictionary, with the same order, settings and layout. Throws std::bad_alloc, and CEDAR_IS_CLOSED.
+    /// The dictionary of pairs in any order: the last value of a key counts. The pairs are sorted, and it is built at once, faster than by
+    /// update_all; keys go in the order of bytes at first, whatever `ordered` says. `pairs` is a range as of from_sorted. All pairs are
+    /// tested first. Throws the first fault of a pair: CEDAR_EMPTY_KEY, CEDAR_NUL_BYTE, CEDAR_INVALID_VALUE; or CEDAR_INVALID_MAX_TRIAL,
+    /// CEDAR_SLOT_LIMIT, std::bad_alloc.
+    template <class Pairs = std::initializer_list<std::pair<std::string_view, std::int32_t>>>
+    static dictionary from_pairs(const Pairs &pairs, layout kind = layout::standard, bool ordered = true, std::int32_t max_trial = 1) {
+        return built(kind == layout::reduced ? cedar_build_unsorted_reduced : cedar_build_unsorted, pairs, ordered, max_trial);
+    }
+
+    /// Returns an equal dictionary, with the same order, settings and layout. Throws std::bad_alloc, and CEDAR_IS_CLOSED.
     dictionary clone() const {
         const cedar_dictionary mine = inside_;
         dictionary copy{closed()};
@@ -307,8 +324,8 @@ public:
         return copy;
     }
 
-    /// Stores a value at a key, in place of the value that the key holds. Throws CEDAR_EMPTY_KEY, CEDAR_NUL_BYTE, CEDAR_INVALID_VALUE,
-    /// and, where the key isn't held, CEDAR_SLOT_LIMIT and std::bad_alloc.
+    /// Stores a value at a key, and replaces the value that the key holds, if any. Throws CEDAR_EMPTY_KEY, CEDAR_NUL_BYTE,
+    /// CEDAR_INVALID_VALUE, and, if the key isn't held, CEDAR_SLOT_LIMIT and std::bad_alloc.
     void update(std::string_view key, std::int32_t value) {
         std::size_t position = 0;
         const std::uint32_t status = cedar_update(&inside_, detail::bytes(key), key.size(), value, &position);
@@ -325,8 +342,9 @@ public:
         return held ? std::optional(before) : std::nullopt;
     }
 
-    /// Stores the pairs of a range, as of from_sorted, in any order: a key's last value stands. All are tested first: with a fault, as of
-    /// update, nothing is stored. CEDAR_SLOT_LIMIT, or std::bad_alloc: the first of the pairs, as many as found room, are stored.
+    /// Stores the pairs of a range, which may be what from_sorted takes, in any order: the last value of a key counts. All are tested
+    /// first. If a pair has a fault, it throws as update does, and nothing is stored. After CEDAR_SLOT_LIMIT or std::bad_alloc the first of
+    /// the pairs, as many as there was room for, are stored.
     template <class Pairs = std::initializer_list<std::pair<std::string_view, std::int32_t>>>
     void update_all(const Pairs &pairs) {
         const std::vector<cedar_pair> listed = detail::pairs_of(pairs);
@@ -338,22 +356,33 @@ public:
     /// Removes a key, and returns whether it was held. Its slots are used again. It allocates nothing.
     bool erase(std::string_view key) noexcept { return cedar_erase(&inside_, detail::bytes(key), key.size()); }
 
-    /// Removes each key that begins with a prefix, and returns how many these were; the empty prefix removes all. It allocates nothing and
-    /// gives nothing back.
+    /// Removes the keys of a range, as of std::string_view, one after another, and returns how many of them were held. It is faster than as
+    /// many calls of erase if the dictionary is large and the keys come in no order. It allocates a list of the keys: throws
+    /// std::bad_alloc, and then nothing has changed.
+    template <class Keys = std::initializer_list<std::string_view>>
+    std::size_t erase_all(const Keys &keys) {
+        const std::vector<cedar_key> listed = detail::keys_of(keys);
+        bool unwanted = false;
+        return cedar_erase_all(&inside_, listed.data(), listed.size(), &unwanted, 0);
+    }
+
+    /// Removes each key that begins with a prefix, and returns how many these were; the empty prefix removes all. It neither allocates nor
+    /// frees memory.
     std::size_t erase_prefix(std::string_view prefix) noexcept {
         std::size_t erased = 0;
         cedar_erase_prefix(&inside_, detail::bytes(prefix), prefix.size(), &erased);
         return erased;
     }
 
-    /// Removes all keys. It allocates nothing and gives nothing back.
+    /// Removes all keys. It neither allocates nor frees memory.
     void clear() noexcept { cedar_clear(&inside_); }
 
-    /// Gives back the memory that growth and erasures have left: the keys are put into a new table, which takes the place of the present
-    /// one unless it has more slots. Throws CEDAR_IS_CLOSED, CEDAR_SLOT_LIMIT and std::bad_alloc; then nothing has changed.
+    /// Frees memory that growth and erasures have left unused: the keys are put into a new table, which replaces the present one unless it
+    /// has more slots. Throws CEDAR_IS_CLOSED, CEDAR_SLOT_LIMIT and std::bad_alloc; then nothing has changed.
     void shrink_to_fit() { detail::check(cedar_shrink(&inside_)); }
 
-    /// The value at a key, if it is held. It reads at most one slot for each byte of the key and one for the value, and allocates nothing.
+    /// Returns the value at a key, if it is held. It reads at most one slot for each byte of the key and one for the value, and allocates
+    /// nothing.
     std::optional<std::int32_t> get(std::string_view key) const noexcept {
         const cedar_dictionary mine = inside_;
         std::int32_t value = 0;
@@ -361,50 +390,50 @@ public:
         return value;
     }
 
-    /// Whether a key is held. It costs what get does.
+    /// Returns whether a key is held. It costs what get does.
     bool contains(std::string_view key) const noexcept {
         const cedar_dictionary mine = inside_;
         return cedar_contains(&mine, detail::bytes(key), key.size());
     }
 
-    /// How many keys are held. They are counted as they come and go, so this costs the same for all dictionaries.
+    /// Returns how many keys are held. The number is kept, so this costs the same for all dictionaries.
     std::size_t size() const noexcept {
         const cedar_dictionary mine = inside_;
         return cedar_len(&mine);
     }
 
-    /// Whether no key is held.
+    /// Returns whether no key is held.
     bool empty() const noexcept { return size() == 0; }
 
-    /// Whether the dictionary is open. One that was moved from isn't.
+    /// Returns whether the dictionary is open. One that was moved from isn't.
     bool is_open() const noexcept {
         const cedar_dictionary mine = inside_;
         return cedar_capacity(&mine) != 0;
     }
 
-    /// The layout, which is settled where the dictionary is made. That of a closed one is standard.
+    /// Returns the layout, which is chosen when the dictionary is made. That of a closed one is standard.
     layout kind() const noexcept {
         const cedar_dictionary mine = inside_;
         return cedar_is_reduced(&mine) ? layout::reduced : layout::standard;
     }
 
-    /// The figures, which are 0 for a closed dictionary.
+    /// Returns the figures, which are 0 for a closed dictionary.
     roskvidh::statistics statistics() const noexcept {
         const cedar_dictionary mine = inside_;
         return {cedar_len(&mine), cedar_used_slots(&mine), cedar_capacity(&mine), cedar_spare_blocks(&mine)};
     }
 
-    /// Asks for the memory of so many blocks of 256 slots more than are in use. Updates that make no more of them ask for none: an update
-    /// makes at most one for each byte of its key. Throws CEDAR_IS_CLOSED, CEDAR_SLOT_LIMIT and std::bad_alloc.
+    /// Allocates ahead for so many blocks of 256 slots more than are in use. Updates that take no more of them allocate nothing: an update
+    /// takes at most one for each byte of its key. Throws CEDAR_IS_CLOSED, CEDAR_SLOT_LIMIT and std::bad_alloc.
     void reserve(std::size_t blocks) { detail::check(cedar_reserve(&inside_, blocks)); }
 
-    /// The keys that a text begins with, shortest first: for each its value, and its length in bytes. It is one walk along the text, or
-    /// three where there are 64 or more. Throws std::bad_alloc.
+    /// Returns the keys that are prefixes of a text, shortest first: for each its value, and its length in bytes. It goes along the text
+    /// once, or three times if there are 64 or more. Throws std::bad_alloc.
     std::vector<match> prefixes(std::string_view text) const {
         return walked(cedar_prefixes_from, cedar_prefixes, text, unlimited);
     }
 
-    /// Of the keys that a text begins with the longest: its value, and its length in bytes. It allocates nothing.
+    /// Returns the longest key that is a prefix of a text: its value, and its length in bytes. It allocates nothing.
     std::optional<match> longest_match(std::string_view text) const noexcept {
         const cedar_dictionary mine = inside_;
         match found{};
@@ -412,17 +441,18 @@ public:
         return found;
     }
 
-    /// The keys that begin with a text, in the order of the walk, at most `most` of them: for each its value, and how many bytes the whole
-    /// key has. It is one walk over them, or three where 64 or more are wanted. Throws std::bad_alloc.
+    /// Returns the keys that begin with a text, in iteration order, at most `most` of them: for each its value, and how many bytes the
+    /// whole key has. It goes over them once, or three times if 64 or more are wanted. Throws std::bad_alloc.
     std::vector<match> predictions(std::string_view text, std::size_t most = unlimited) const {
         return walked(cedar_predictions_from, cedar_predictions, text, most);
     }
 
-    /// All keys with their values. It copies the keys, and 24 bytes an entry besides, in a few allocations. Throws std::bad_alloc.
+    /// Returns all keys with their values. It copies the keys, and 24 bytes more for each entry, in a few allocations. Throws
+    /// std::bad_alloc.
     roskvidh::entries entries() const { return entries_with_prefix({}); }
 
-    /// The keys that begin with a text, with their values. It walks over them alone: once or three times to count them, and once to copy
-    /// them. Throws std::bad_alloc.
+    /// Returns the keys that begin with a text, with their values. It goes over these keys only: once or three times to count them, and
+    /// once to copy them. Throws std::bad_alloc.
     roskvidh::entries entries_with_prefix(std::string_view prefix) const {
         roskvidh::entries range;
         {
@@ -441,31 +471,32 @@ public:
         return range;
     }
 
-    /// Calls `callable(occurrence)` for each key that stands in a text: place after place, and at each the shortest first. If it returns a
-    /// bool, false ends the scan. Up to 256 keys are found ahead, so what `callable` stores or erases shows later or never. It allocates
-    /// only where more than 256 keys begin at one place. Throws what `callable` throws, and std::bad_alloc.
+    /// Calls `callable(occurrence)` for each key in a text: place after place, and at each place the shortest first. If `callable` returns
+    /// a bool, false ends the scan. Up to 256 keys are found ahead, so what `callable` stores or erases shows later or never. It allocates
+    /// only if more than 256 keys begin at one place. Throws what `callable` throws, and std::bad_alloc.
     template <class Callable>
     void scan(std::string_view text, Callable &&callable) const {
         told(cedar_scan, text, [&callable](const cedar_found &one) { return detail::tell(callable, one); });
     }
 
-    /// Calls `callable(token)` for the tokens that a text is cut into: at each place the longest key that stands there, or else one byte,
-    /// which has no value. If it returns a bool, false ends it. Else as scan, but that it allocates nothing.
+    /// Calls `callable(token)` for the tokens that a text is cut into: at each place the longest key that begins there, or otherwise one
+    /// byte, which has no value. If `callable` returns a bool, false ends it. Otherwise as scan, except that it allocates nothing.
     template <class Callable>
     void segment(std::string_view text, Callable &&callable) const {
         told(cedar_segment, text, [&callable](const cedar_found &one) { return detail::tell(callable, detail::token_of(one)); });
     }
 
-    /// Calls `callable(occurrence)` for the keywords of a text, leftmost longest: of the keys that begin first the longest, and so on from
-    /// its end, so that none overlap. If it returns a bool, false ends it. Else as scan, but that it allocates nothing.
+    /// Calls `callable(occurrence)` for the keywords of a text, leftmost longest: of the keys that begin first the longest, then the same
+    /// from its end on, so that none overlap. If `callable` returns a bool, false ends it. Otherwise as scan, except that it allocates
+    /// nothing.
     template <class Callable>
     void keywords(std::string_view text, Callable &&callable) const {
         told(cedar_keywords, text, [&callable](const cedar_found &one) { return detail::tell(callable, one); });
     }
 
-    /// The tokens that cost the least together, of which a text is made: a key costs its value, and a byte without a key `unknown`. Where
-    /// `by_characters`, a byte that goes on with a character of UTF-8 costs nothing, so that an unknown character costs once; its bytes
-    /// are tokens of their own too. Of cuts that cost the same it is the one with the longer token where they first differ, and with a
+    /// Cuts a text into the tokens whose costs have the least sum: a key costs its value, and a byte without a key `unknown`. If
+    /// `by_characters`, a byte that continues a character of UTF-8 costs nothing, so that an unknown character costs once; its bytes are
+    /// still tokens of their own. Of cuts that cost the same it picks the one with the longer token where they first differ, and with a
     /// key rather than a byte. While it runs, it allocates 32 bytes for each byte of the text, and lists of the tokens. Throws
     /// std::bad_alloc and CEDAR_IS_CLOSED.
     std::vector<token> cheapest(std::string_view text, std::uint32_t unknown, bool by_characters = false) const {
@@ -481,7 +512,7 @@ public:
         return tokens;
     }
 
-    /// The bytes of the dictionary's file. Throws std::bad_alloc and CEDAR_IS_CLOSED.
+    /// Returns the bytes of the dictionary's file. Throws std::bad_alloc and CEDAR_IS_CLOSED.
     std::vector<std::uint8_t> save(file_format version = file_format::v1_1) const {
         const cedar_dictionary mine = inside_;
         const bool is_full = version == file_format::v1_0;
@@ -494,9 +525,9 @@ public:
         return file;
     }
 
-    /// The dictionary of a file's bytes, of the layout that they are of. It asks for `memory_limit` bytes for its tables at most. Any bytes
-    /// may come: what isn't a well-formed table throws the first refusal, one of CEDAR_FILE_TRUNCATED to CEDAR_FILE_TRAILING. Throws
-    /// std::bad_alloc too.
+    /// Returns the dictionary of a file's bytes, in the layout of the file. It allocates at most `memory_limit` bytes for its tables. The
+    /// bytes may be anything: if they aren't a well-formed table, it throws the first fault, one of CEDAR_FILE_TRUNCATED to
+    /// CEDAR_FILE_TRAILING. Also throws std::bad_alloc.
     static dictionary load(const std::uint8_t *bytes, std::size_t length, std::size_t memory_limit = CEDAR_LOAD_LIMIT) {
         dictionary loaded{closed()};
         const std::uint8_t none = 0;
@@ -505,18 +536,18 @@ public:
         return loaded;
     }
 
-    /// The same of a vector of bytes.
+    /// The same for a vector of bytes.
     static dictionary load(const std::vector<std::uint8_t> &bytes, std::size_t memory_limit = CEDAR_LOAD_LIMIT) {
         return load(bytes.data(), bytes.size(), memory_limit);
     }
 
-    /// Writes the file to PATH.new, whole and on the disk, which then replaces the file at the path. After an error that one is as it was,
-    /// and PATH.new is removed. Throws std::system_error with the path, std::bad_alloc and CEDAR_IS_CLOSED.
+    /// Writes the file to PATH.new. Once that is whole and on the disk, it replaces the file at the path. After an error the old file is as
+    /// it was, and PATH.new is removed. Throws std::system_error with the path, std::bad_alloc and CEDAR_IS_CLOSED.
     void save_to_path(const std::string &path, file_format version = file_format::v1_1) const {
         if (!detail::replace_file(path, path + ".new", save(version))) detail::throw_file_error(errno, path);
     }
 
-    /// As load, of the bytes of the file at a path, which is read into memory as a whole. Throws std::system_error with the path too.
+    /// As load, for the file at a path, which is read into memory as a whole. Also throws std::system_error with the path.
     static dictionary load_from_path(const std::string &path, std::size_t memory_limit = CEDAR_LOAD_LIMIT) {
         return load(detail::read_file(path), memory_limit);
     }
@@ -526,8 +557,21 @@ private:
     using walk = std::size_t (*)(const cedar_dictionary *, const std::uint8_t *, std::size_t, cedar_match *, std::size_t);
     using text_walk = std::size_t (*)(const cedar_dictionary *, const std::uint8_t *, std::size_t, std::size_t *, cedar_found *, std::size_t);
 
+    using build = std::uint32_t (*)(cedar_dictionary *, bool, std::int32_t, const cedar_pair *, std::size_t, std::size_t *);
+
     struct closed {};
     explicit dictionary(closed) noexcept {}
+
+    // What a build makes of the pairs of a range.
+    template <class Pairs>
+    static dictionary built(build call, const Pairs &pairs, bool ordered, std::int32_t max_trial) {
+        const std::vector<cedar_pair> listed = detail::pairs_of(pairs);
+        dictionary made{closed()};
+        std::size_t position = 0;
+        const std::uint32_t status = call(&made.inside_, ordered, max_trial, listed.data(), listed.size(), &position);
+        detail::check(status, position);
+        return made;
+    }
 
     // The first answers of a walk: a few at once, and where there are more, all that are wanted in a second walk.
     std::vector<match> walked(walk_from some, walk all, std::string_view text, std::size_t most) const {
@@ -573,13 +617,14 @@ private:
     friend class store;
 };
 
-/// A dictionary whose changes are in the file at a path before they are acknowledged. Once a change returns it is on the disk, and no
-/// crash of the process or the machine takes it away; one that a crash cuts off is there as a whole or not at all. Nobody else may write
-/// to the file meanwhile. It is moved and not copied. What was moved from is closed: changes throw the error CEDAR_IS_CLOSED.
+/// A dictionary whose changes are in the file at a path before they are acknowledged. Once a change returns, it is on the disk, and no
+/// crash of the process or the machine takes it away. A change that a crash interrupts is there as a whole or not at all. Nobody else may
+/// write to the file meanwhile. A store is moved and not copied. One that was moved from is closed: changes throw the error
+/// CEDAR_IS_CLOSED.
 class store {
 public:
-    /// Opens the file, made if it is missing, and makes its changes again. Throws CEDAR_STORE_FOREIGN, CEDAR_STORE_CORRUPT,
-    /// CEDAR_SLOT_LIMIT, std::bad_alloc, and std::system_error where a call on the file failed.
+    /// Opens the file, creates it if it is missing, and makes its changes again. Throws CEDAR_STORE_FOREIGN, CEDAR_STORE_CORRUPT,
+    /// CEDAR_SLOT_LIMIT, std::bad_alloc, and std::system_error if a call on the file failed.
     explicit store(const std::string &path, layout kind = layout::standard) {
         const std::uint32_t status = (kind == layout::reduced ? cedar_store_open_reduced : cedar_store_open)(&inside_, path.c_str());
         if (status == CEDAR_STORE_DEVICE) detail::throw_file_error(errno, path);
@@ -594,7 +639,7 @@ public:
         return *this;
     }
 
-    /// Closes the file, and gives the memory back.
+    /// Closes the file, and frees the memory.
     ~store() {
         words_.inside_ = cedar_closed();
         cedar_store_close(&inside_);
@@ -607,12 +652,13 @@ public:
     }
     friend void swap(store &one, store &other) noexcept { one.swap(other); }
 
-    /// The dictionary, for all const members. It is lent: it goes with the store.
+    /// Returns the dictionary, for all const members. It is valid as long as the store.
     const dictionary &words() const noexcept { return words_; }
 
-    /// Stores a value at a key, in place of the value that the key holds. Throws CEDAR_EMPTY_KEY, CEDAR_NUL_BYTE, CEDAR_INVALID_VALUE,
-    /// CEDAR_SLOT_LIMIT, CEDAR_STORE_TOO_LONG, CEDAR_STORE_FULL and std::bad_alloc: then nothing has changed. std::system_error where a
-    /// call on the file failed: the dictionary has the change, and the file has it or not; from then on CEDAR_STORE_FAILED.
+    /// Stores a value at a key, and replaces the value that the key holds, if any. Throws CEDAR_EMPTY_KEY, CEDAR_NUL_BYTE,
+    /// CEDAR_INVALID_VALUE, CEDAR_SLOT_LIMIT, CEDAR_STORE_TOO_LONG, CEDAR_STORE_FULL and std::bad_alloc; then nothing has changed. Throws
+    /// std::system_error if a call on the file failed: the dictionary has the change, and the file has it or not. From then on it throws
+    /// CEDAR_STORE_FAILED.
     void update(std::string_view key, std::int32_t value) { insert(key, value); }
 
     /// As update, and returns the value that the key held before, if it held one.
@@ -625,26 +671,26 @@ public:
         return held ? std::optional(before) : std::nullopt;
     }
 
-    /// Removes a key, and returns whether it was held. Throws as update, but that no pair has a fault.
+    /// Removes a key, and returns whether it was held. Throws as update does, except that no pair has a fault.
     bool erase(std::string_view key) {
         bool held = false;
         check(cedar_store_erase(&inside_, detail::bytes(key), key.size(), &held), 0);
         return held;
     }
 
-    /// How many changes go to the disk together from now on: 1, as at first, each before it returns. With more, a change that has returned
-    /// waits until as many do, and with 0 until sync(). A crash takes away those that wait, all of them or none, and no others. It puts
-    /// those that wait now on the disk. Throws as sync().
+    /// Sets how many changes go to the disk together from now on. With 1, the setting at first, each is there before it returns. With more,
+    /// a change that has returned waits until as many do, and with 0 until sync(). A crash takes away those that wait, all of them or none,
+    /// and no others. It puts those that wait now on the disk. Throws as sync() does.
     void sync_every(std::size_t changes) { check(cedar_store_sync_every(&inside_, changes), 0); }
 
-    /// Puts the changes that wait on the disk as one. Throws std::system_error where a call on the file failed, CEDAR_STORE_FAILED and
-    /// CEDAR_IS_CLOSED. The destructor puts them there too, and says nothing of an error.
+    /// Puts the changes that wait on the disk as one. Throws std::system_error if a call on the file failed, CEDAR_STORE_FAILED and
+    /// CEDAR_IS_CLOSED. The destructor puts them there too, and reports no error.
     void sync() { check(cedar_store_sync(&inside_), 0); }
 
-    /// How many changes wait.
+    /// Returns how many changes wait.
     std::size_t waiting() const noexcept { return cedar_store_waiting(&inside_); }
 
-    /// Whether a change has failed on the disk.
+    /// Returns whether a change has failed on the disk.
     bool failed() const noexcept { return cedar_store_failed(&inside_); }
 
 private:

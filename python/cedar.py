@@ -42,6 +42,10 @@ class _Pair(ctypes.Structure):
     _fields_ = [("key", c_char_p), ("length", c_size_t), ("value", c_int32)]
 
 
+class _Key(ctypes.Structure):
+    _fields_ = [("key", c_char_p), ("length", c_size_t)]
+
+
 def _library(path=os.environ.get("CEDAR_LIBRARY", Path(__file__).parent / "libcedar.so")):
     # PyDLL keeps the interpreter's lock during a call, so that one call at a time works on a dictionary, and none reads it while it changes.
     # Between calls other threads run: what C writes to is each call's own.
@@ -60,7 +64,10 @@ def _library(path=os.environ.get("CEDAR_LIBRARY", Path(__file__).parent / "libce
         ("cedar_update_all", c_uint32, [handle, POINTER(_Pair), c_size_t, POINTER(c_size_t)]),
         ("cedar_build", c_uint32, [handle, c_bool, c_int32, POINTER(_Pair), c_size_t, POINTER(c_size_t)]),
         ("cedar_build_reduced", c_uint32, [handle, c_bool, c_int32, POINTER(_Pair), c_size_t, POINTER(c_size_t)]),
+        ("cedar_build_unsorted", c_uint32, [handle, c_bool, c_int32, POINTER(_Pair), c_size_t, POINTER(c_size_t)]),
+        ("cedar_build_unsorted_reduced", c_uint32, [handle, c_bool, c_int32, POINTER(_Pair), c_size_t, POINTER(c_size_t)]),
         ("cedar_erase", c_bool, [handle, c_char_p, c_size_t]),
+        ("cedar_erase_all", c_size_t, [handle, POINTER(_Key), c_size_t, POINTER(c_bool), c_size_t]),
         ("cedar_get", c_bool, [handle, c_char_p, c_size_t, POINTER(c_int32)]),
         ("cedar_prefixes", c_size_t, [handle, c_char_p, c_size_t, POINTER(_Match), c_size_t]),
         ("cedar_predictions", c_size_t, [handle, c_char_p, c_size_t, POINTER(_Match), c_size_t]),
@@ -95,7 +102,7 @@ def _bytes(key):
 
 
 class CedarError(ValueError):
-    """A call that was refused: its status, a number of cedar.h, and the library's text of it."""
+    """A call that failed: its status, a number of cedar.h, and the library's text for it."""
 
     def __init__(self, status, text):
         super().__init__(text)
@@ -120,7 +127,7 @@ def _text_of(status):
 
 
 def _check(status, position=None):
-    """Raises what a status says: MemoryError for want of memory or slots, and CedarError for all else."""
+    """Raises the exception of a status: MemoryError if memory or slots ran out, and CedarError otherwise."""
     if status == 0:
         return
     text = _text_of(status)
@@ -152,8 +159,8 @@ def _value(value):
 
 
 def _fresh_memory(size):
-    """Memory that isn't used yet, of which a long piece takes only the pages that are written to. These are of 2 MiB where the system
-    has such: to clear and map pages of 4 KiB takes longer than the walk over a text that fills them."""
+    """Returns unused memory. A long piece takes only the pages that are written to. Pages have 2 MiB if the system has such: clearing
+    and mapping pages of 4 KiB takes longer than the scan of a text that fills them."""
     if size < _LONG:
         return bytearray(size)
     try:
@@ -166,13 +173,13 @@ def _fresh_memory(size):
 
 
 class Matches(Sequence):
-    """What stands in a text, in the order of places: for each where it begins, how many bytes it has, and its value, which is None
-    for a token that is no key. They are read from C's numbers as they are asked for."""
+    """The keys or tokens of a text, in the order of places: for each where it begins, how many bytes it has, and its value, which is
+    None for a token that isn't a key. Items are read from C's numbers when they are asked for."""
 
     _ENTRY = struct.Struct("NNi0N")
 
     def __init__(self, parts):
-        """`parts` has the numbers that each call wrote, as bytes or views of them."""
+        """Takes the numbers that each call wrote, as bytes or views of them."""
         self._parts = parts
         self._ends = list(accumulate(len(part) // self._ENTRY.size for part in parts))
 
@@ -197,40 +204,46 @@ class Matches(Sequence):
 
 
 class Cedar:
-    """A mapping from nonempty byte strings without byte 0 to whole numbers from 0 to 2147483645. One of the reduced layout answers the
-    same, and takes fewer slots."""
+    """A mapping from nonempty byte strings without byte 0 to whole numbers from 0 to 2147483645. The reduced layout gives the same
+    results and takes fewer slots."""
 
     def __init__(self, pairs=(), ordered=True, max_trial=1, reduced=False):
         self._handle = _Handle()
         self._this = byref(self._handle)
+        if ordered:  # sorted and made at once
+            self._build(_CEDAR.cedar_build_unsorted_reduced if reduced else _CEDAR.cedar_build_unsorted, pairs, ordered, max_trial)
+            return
         new = _CEDAR.cedar_new_reduced if reduced else _CEDAR.cedar_new_with
         _check(new(self._this, ordered, _trials(max_trial)))
         self.update(pairs)
 
+    def _build(self, build, pairs, ordered, max_trial):
+        array, position = _pairs(pairs), c_size_t()
+        _check(build(self._this, ordered, _trials(max_trial), array, len(array), byref(position)), position)
+
     def update(self, pairs):
-        """Stores the pairs of a mapping or of a sequence in one call: a key's last value stands. Where a pair is refused for itself,
-        nothing is stored; where memory is wanted, the pairs before it are."""
+        """Stores the pairs of a mapping or of a sequence in one call: the last value of a key counts. If a pair has a fault, nothing is
+        stored. If memory runs out, the pairs before that are stored."""
         array, position = _pairs(pairs), c_size_t()
         _check(_CEDAR.cedar_update_all(self._this, array, len(array), byref(position)), position)
 
     @classmethod
     def from_sorted(cls, pairs, ordered=True, max_trial=1, reduced=False):
-        """The dictionary of the pairs of a mapping or of a sequence, whose keys ascend by bytes, made at once. A key that isn't above the
-        one before it is refused, and its index is told."""
-        cedar, array, position = cls(), _pairs(pairs), c_size_t()
-        build = _CEDAR.cedar_build_reduced if reduced else _CEDAR.cedar_build
-        _check(build(cedar._this, ordered, _trials(max_trial), array, len(array), byref(position)), position)
+        """Returns the dictionary of the pairs of a mapping or of a sequence whose keys ascend by bytes, built in one pass. A key that
+        isn't above the one before it raises an error with its index."""
+        cedar = cls()
+        cedar._build(_CEDAR.cedar_build_reduced if reduced else _CEDAR.cedar_build, pairs, ordered, max_trial)
         return cedar
 
     def reserve(self, blocks):
-        """Asks for the memory of so many blocks of 256 slots more than are in use, so that updates that make no more of them need none: each
-        makes at most one for each byte of its key. Where it is refused, nothing has changed."""
+        """Allocates ahead for so many blocks of 256 slots more than are in use, so that updates that take no more of them need no memory:
+        each takes at most one for each byte of its key. If it fails, nothing has changed."""
         if blocks < 0:
             raise ValueError("the blocks to reserve are 0 or more")
         _check(_CEDAR.cedar_reserve(self._this, min(blocks, _MAX_SIZE)))
 
     def save(self, is_full=False):
-        """The bytes of its file: format 1.1, or 1.0, which lists all slots."""
+        """Returns the bytes of its file: format 1.1, or if is_full format 1.0, which lists all slots."""
         needed = c_size_t(1 << 16)
         while True:
             buffer = ctypes.create_string_buffer(needed.value)
@@ -240,13 +253,13 @@ class Cedar:
                 return ctypes.string_at(buffer, needed.value)
 
     def load(self, data, memory_limit=2**29):
-        """Becomes the dictionary that a file's bytes are of, of the layout that they are of. Where they are refused, it stays as it was."""
+        """Becomes the dictionary of a file's bytes, in the layout of the file. If it fails, it stays as it was."""
         data = bytes(memoryview(data))
         _check(_CEDAR.cedar_load_any(self._this, data, len(data), memory_limit))
 
     @classmethod
     def loaded(cls, data, memory_limit=2**29):
-        """The dictionary that a file's bytes are of."""
+        """Returns the dictionary of a file's bytes."""
         cedar = cls()
         cedar.load(data, memory_limit)
         return cedar
@@ -288,11 +301,17 @@ class Cedar:
         if not _CEDAR.cedar_erase(self._this, held, len(held)):
             raise KeyError(key)
 
+    def erase_all(self, keys):
+        """Removes the keys of an iterable in one call, and tells how many of them were held."""
+        keys = [_bytes(key) for key in keys]
+        array = (_Key * len(keys))(*[(key, len(key)) for key in keys])
+        return _CEDAR.cedar_erase_all(self._this, array, len(array), byref(c_bool()), 0)
+
     def __len__(self):
         return _CEDAR.cedar_len(self._this)
 
     def items(self):
-        """All keys with their values, in the order of the walk: in that of bytes, if labels ascend."""
+        """Iterates over all keys with their values, in the order of bytes if the dictionary is ordered."""
         matches = self._walk(_CEDAR.cedar_predictions, b"")
         keys = ctypes.create_string_buffer(sum(length for _, length in matches) or 1)
         _check(_CEDAR.cedar_keys(self._this, keys, len(keys), byref(c_size_t())))
@@ -314,11 +333,11 @@ class Cedar:
             room = count
 
     def prefixes(self, text):
-        """The keys that a text begins with, shortest first: for each its value, and how many bytes it has."""
+        """Returns the keys that are prefixes of a text, shortest first: for each its value, and how many bytes it has."""
         return self._walk(_CEDAR.cedar_prefixes, text)
 
     def predictions(self, text):
-        """The keys that begin with a text: for each its value, and how many bytes of it follow the text."""
+        """Returns the keys that begin with a text: for each its value, and how many bytes of it follow the text."""
         text = _bytes(text)
         return [(value, length - len(text)) for value, length in self._walk(_CEDAR.cedar_predictions, text)]
 
@@ -330,11 +349,11 @@ class Cedar:
         return [(match.value, match.length) for match in matches[:count]]
 
     def prefixes_from(self, text, start, most):
-        """Those of `prefixes` without the first `start` of them, and no more than `most`."""
+        """As `prefixes`, without the first `start` of them, and at most `most`."""
         return self._piece(_CEDAR.cedar_prefixes_from, text, start, most)
 
     def predictions_from(self, text, start, most):
-        """Those of `predictions` without the first `start` of them, and no more than `most`."""
+        """As `predictions`, without the first `start` of them, and at most `most`."""
         text = _bytes(text)
         return [(value, length - len(text)) for value, length in self._piece(_CEDAR.cedar_predictions_from, text, start, most)]
 
@@ -345,26 +364,26 @@ class Cedar:
             memory = _fresh_memory(room * ctypes.sizeof(_Found))
             count = call(self._this, text, len(text), byref(place), _Found.from_buffer(memory), room)
             parts.append(memoryview(memory)[: count * ctypes.sizeof(_Found)])
-            # The keys at one place are told as a whole: those at this one are more than `room`.
+            # One call returns all keys of a place: those of this one are more than `room`.
             if count == 0:
                 least = 4 * room
         return Matches(parts)
 
     def scan(self, text):
-        """All keys that stand in a text: place after place, and at each the shortest first."""
+        """Returns all keys in a text: place after place, and at each place the shortest first."""
         return self._everything(_CEDAR.cedar_scan, text)
 
     def segment(self, text):
-        """The tokens of a text: at each place the longest key that stands there, or else one byte without a value."""
+        """Returns the tokens of a text: at each place the longest key that begins there, or otherwise one byte without a value."""
         return self._everything(_CEDAR.cedar_segment, text)
 
     def keywords(self, text):
-        """The keywords of a text, which don't overlap: of the keys that begin first the longest, and so on from its end."""
+        """Returns the keywords of a text, which don't overlap: of the keys that begin first the longest, then the same from its end on."""
         return self._everything(_CEDAR.cedar_keywords, text)
 
     def cheapest(self, text, unknown, by_characters=False):
-        """The tokens of a text that cost the least together: a key costs its value, and a byte without one `unknown`. `by_characters`, one
-        that goes on with a character of UTF-8 costs nothing."""
+        """Returns the tokens of a text whose costs have the least sum: a key costs its value, and a byte without one `unknown`. If
+        `by_characters`, a byte that continues a character of UTF-8 costs nothing."""
         if not 0 <= unknown < 2**32:
             raise ValueError("the cost of a byte is 0 to 4294967295")
         text, count = _bytes(text), c_size_t()

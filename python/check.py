@@ -60,6 +60,7 @@ def check(reduced):
     assert Cedar.loaded(cedar.save()).predictions(b"") == cedar.predictions(b"")
     many()
     from_sorted(plain, reduced)
+    unsorted(plain, reduced)
     threads(reduced)
     refuses(TypeError, lambda: Cedar.loaded(5))
     whole_texts(cedar, {**plain, "käse".encode(): 3})
@@ -80,6 +81,10 @@ def many():
     assert len(cedar) == 2
     cedar.update({str(i): i for i in range(10_000)})
     assert len(cedar) == 10_002 and cedar["9999"] == 9999
+    assert cedar.erase_all([]) == 0 and cedar.erase_all(["none", "a", b"b", "a", ""]) == 2 and cedar.erase_all(map(str, range(0, 20_000, 2))) == 5_000
+    assert len(cedar) == 5_000 and dict(cedar.items()) == {str(i).encode(): i for i in range(1, 10_000, 2)}
+    refuses(TypeError, lambda: cedar.erase_all(["1", 1]))
+    assert cedar["1"] == 1
 
 
 def refusals(cedar):
@@ -128,6 +133,20 @@ def from_sorted(plain, reduced):
     assert refuses(CedarError, lambda: Cedar.from_sorted([("a", 1)], max_trial=0)) == "max_trial must be greater than zero"
     cedar[b"new"] = 5
     assert cedar["new"] == 5
+
+
+def unsorted(plain, reduced):
+    """A dictionary of pairs in no order, made at once, beside one made by updates and one of the same pairs sorted."""
+    pairs = [(key, 0) for key in plain] + list(plain.items())
+    random.shuffle(pairs)
+    pairs += plain.items()
+    cedar, updated = Cedar(pairs, reduced=reduced), Cedar(reduced=reduced)
+    updated.update(pairs)
+    assert list(cedar.items()) == list(updated.items()) == sorted(plain.items())
+    assert cedar.save() == Cedar.from_sorted(sorted(plain.items()), reduced=reduced).save()
+    assert dict(Cedar(pairs, ordered=False, reduced=reduced).items()) == plain and dict(Cedar(plain, reduced=reduced).items()) == plain
+    for faulty, text in [(("", 5), "cedar keys must not be empty"), (("c\0", 1), "cedar keys must not contain the terminal byte 0x00 (at byte 1)")]:
+        assert refuses(CedarError, lambda: Cedar([("d", 4), ("b", 2), faulty, ("", 1)], reduced=reduced)) == text
 
 
 def cheapest_in(plain, text, unknown):

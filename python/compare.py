@@ -1,9 +1,10 @@
 """Times the package beside other tries for Python, those that are installed of datrie, ahocorasick, marisa and pygtrie, and beside a dict.
 
-    python3 python/compare.py [--words FILE] [--text FILE] [--rounds N]
+    python3 python/compare.py [--words FILE] [--text FILE] [--rounds N] [--rows FILE]
 
 It prints a table in Markdown: what a step of each takes, by the median of all rounds, in which the contenders take turns; and how many
-times as long as the package it takes. All answers are compared with those of the dict. On Debian the others are the packages
+times as long as the package it takes. FILE gets a line for each figure: its measure, its unit, the contender, the median, the least and the
+greatest of the rounds, with tabs between them. All answers are compared with those of the dict. On Debian the others are the packages
 python3-datrie, python3-ahocorasick, python3-marisa and python3-pygtrie, the words are those of wamerican.
 """
 
@@ -305,7 +306,7 @@ def memory(one, given):
 
 
 def compare(all_contenders, words, text, given):
-    """The table's rows: for each measure its name, its unit, and a number for each contender, or None."""
+    """The table's rows: for each measure its name, its unit, and the figures of the rounds for each contender that has it."""
     pairs = [(word, i) for i, word in enumerate(words)]
     for one in all_contenders:
         one.made = made_of(one, fresh(pairs))
@@ -317,15 +318,22 @@ def compare(all_contenders, words, text, given):
                     took, answer = timed(one, method, pairs, asked)
                     assert answer == wanted, (one.name, name, answer, wanted)
                     times[one.name].append(took / steps)
-        yield name, "ns", [1e9 * statistics.median(times[one.name]) if one.name in times else None for one in all_contenders]
-    yield "memory, a key", "bytes", [memory(one, given) / len(words) for one in all_contenders]
+        yield name, "ns", {contender: [1e9 * took for took in each] for contender, each in times.items()}
+    yield "memory, a key", "bytes", {one.name: [memory(one, given) / len(words)] for one in all_contenders}
 
 
-def cell(number, unit, first):
-    if number is None:
+def cell(figures, contender, unit):
+    if contender not in figures:
         return "-"
+    number, first = statistics.median(figures[contender]), statistics.median(figures["roskvidh"])
     text = f"{number:,.0f} {unit}" if number >= 10 else f"{number:.1f} {unit}"
-    return text if number is first else f"{text} ({number / first:.1f})"
+    return text if contender == "roskvidh" else f"{text} ({number / first:.1f})"
+
+
+def lines(name, unit, figures):
+    for contender, each in figures.items():
+        spread = (f"{figure(each):.1f}" for figure in (statistics.median, min, max))
+        yield "\t".join((name, unit, contender, *spread)) + "\n"
 
 
 def main():
@@ -333,6 +341,7 @@ def main():
     given.add_argument("--words", default="/usr/share/dict/american-english")
     given.add_argument("--text", default="/usr/share/common-licenses/GPL-3")
     given.add_argument("--rounds", type=int, default=9)
+    given.add_argument("--rows", default=os.devnull, metavar="FILE")
     given.add_argument("--memory", help=argparse.SUPPRESS)
     given = given.parse_args()
     with open(given.words, encoding="utf-8") as file:
@@ -349,8 +358,10 @@ def main():
     print(f"{len(words):,} words, a text of {len(text):,} characters, Python {sys.version.split()[0]}, {given.rounds} rounds\n")
     print("| measure | " + " | ".join(one.name for one in all_contenders) + " |")
     print("|---" * (1 + len(all_contenders)) + "|")
-    for name, unit, numbers in compare(all_contenders, words, text, given):
-        print(f"| {name} | " + " | ".join(cell(number, unit, numbers[0]) for number in numbers) + " |", flush=True)
+    with open(given.rows, "w", encoding="utf-8") as rows:
+        for name, unit, figures in compare(all_contenders, words, text, given):
+            print(f"| {name} | " + " | ".join(cell(figures, one.name, unit) for one in all_contenders) + " |", flush=True)
+            rows.writelines(lines(name, unit, figures))
 
 
 if __name__ == "__main__":

@@ -15,11 +15,29 @@ struct Cedar {
     bool get(Key key, int32_t &value) const { return cedar_get(&d, bytes_of(key.bytes), key.length, &value); }
     bool erase(Key key) { return cedar_erase(&d, bytes_of(key.bytes), key.length); }
 
+    static std::vector<cedar_pair> listed(const std::vector<Pair> &pairs) {
+        std::vector<cedar_pair> list;
+        list.reserve(pairs.size());
+        for (const Pair &pair : pairs) list.push_back({bytes_of(pair.key.bytes), pair.key.length, pair.value});
+        return list;
+    }
     void build(const std::vector<Pair> &sorted) {
-        std::vector<cedar_pair> pairs;
-        pairs.reserve(sorted.size());
-        for (const Pair &pair : sorted) pairs.push_back({bytes_of(pair.key.bytes), pair.key.length, pair.value});
+        auto pairs = listed(sorted);
         if (cedar_build(&d, true, 1, pairs.data(), pairs.size(), nullptr) != CEDAR_OK) stop("a build was refused");
+    }
+    void update_all(const std::vector<Pair> &shuffled) {
+        auto pairs = listed(shuffled);
+        if (cedar_update_all(&d, pairs.data(), pairs.size(), nullptr) != CEDAR_OK) stop("updates were refused");
+    }
+    void build_unsorted(const std::vector<Pair> &shuffled) {
+        auto pairs = listed(shuffled);
+        if (cedar_build_unsorted(&d, true, 1, pairs.data(), pairs.size(), nullptr) != CEDAR_OK) stop("a build was refused");
+    }
+    size_t erase_all(const std::vector<Key> &keys) {
+        std::vector<cedar_key> list;
+        list.reserve(keys.size());
+        for (const Key &key : keys) list.push_back({bytes_of(key.bytes), key.length});
+        return cedar_erase_all(&d, list.data(), list.size(), nullptr, 0);
     }
 
     template <class Visit> void prefixes(const char *text, size_t length, Visit &&visit) const {

@@ -4,6 +4,7 @@
 // A subject is a struct with some of these members; what it lacks isn't measured:
 //
 //     bool update(Key, int32_t), bool get(Key, int32_t &), bool erase(Key), void build(const std::vector<Pair> &),
+//     void update_all(const std::vector<Pair> &), size_t erase_all(const std::vector<Key> &), void build_unsorted(const std::vector<Pair> &),
 //     void prefixes(text, length, visit(int32_t, size_t)), void predictions(Key, visit(int32_t, size_t)),
 //     void entries(visit(const char *, size_t, int32_t)), void scan(text, visit(size_t, size_t, int32_t)),
 //     void segment(text, visit(size_t, size_t, int32_t)),
@@ -198,8 +199,32 @@ private:
                 if (wants("update_sorted")) put("update_sorted", work.sorted);
                 if (wants("update_shuffled")) put("update_shuffled", work.shuffled);
                 if (wants("erase")) erase();
+                if (wants("update_all")) put_all();
+                if (wants("erase_all")) erase_all();
             }
         }
+    }
+
+    void put_all() {
+        if constexpr (requires(Subject &s) { s.update_all(work.shuffled); }) {
+            Subject subject;
+            auto all = [&] {
+                subject.update_all(work.shuffled);
+                return work.shuffled.size();
+            };
+            measure("update_all", all, all_keys());
+        }
+    }
+
+    void erase_all() {
+        if constexpr (requires(Subject &s) { s.erase_all(work.erasures.list()); }) {
+            auto subject = filled(work.shuffled);
+            measure("erase_all", [&] { return uint64_t{subject->erase_all(work.erasures.list())}; }, all_keys());
+        }
+    }
+
+    auto all_keys() const {
+        return [this] { return work.sorted.size(); };
     }
 
     void put(const char *name, const std::vector<Pair> &pairs) {
@@ -228,7 +253,13 @@ private:
         if constexpr (requires(Subject &s) { s.build(work.sorted); }) {
             for (int pass = 0; wants("sorted_build") && pass < passes; pass++) {
                 Subject subject;
-                measure("sorted_build", [&] { subject.build(work.sorted); return work.sorted.size(); }, [&] { return work.sorted.size(); });
+                measure("sorted_build", [&] { subject.build(work.sorted); return work.sorted.size(); }, all_keys());
+            }
+        }
+        if constexpr (requires(Subject &s) { s.build_unsorted(work.shuffled); }) {
+            for (int pass = 0; wants("unsorted_build") && pass < passes; pass++) {
+                Subject subject;
+                measure("unsorted_build", [&] { subject.build_unsorted(work.shuffled); return work.shuffled.size(); }, all_keys());
             }
         }
         if constexpr (requires(Subject &s, std::string file) { s.save(file); }) {

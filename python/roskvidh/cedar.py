@@ -17,8 +17,8 @@ class Cedar(Words[K]):
     """A mapping from keys to whole numbers from 0 to 2147483645.
 
     A key is a nonempty `bytes` (a `bytearray` or `memoryview` is taken too), or with `text=True` a nonempty `str`; none has a byte 0.
-    `pairs` is a mapping or an iterable of pairs. An iteration gives the keys ascending by bytes, unless `ordered=False`. `reduced=True`
-    takes fewer slots. `max_trial` says how many failed searches for a place close a block of slots.
+    `pairs` is a mapping or an iterable of pairs; the last value of a key counts. Iteration gives the keys ascending by bytes, unless
+    `ordered=False`. `reduced=True` takes fewer slots. After `max_trial` failed searches for a place a block of slots is closed.
 
     It takes a lock for each call, so threads may share it. Calls on long texts, saves and calls of many keys let other threads run.
 
@@ -66,8 +66,11 @@ class Cedar(Words[K]):
     def __init__(
         self, pairs: Pairs[Any] = (), *, text: bool = False, ordered: bool = True, reduced: bool = False, max_trial: int = 1
     ) -> None:
-        self._open(text, ordered, reduced, max_trial)
-        self.update(pairs)
+        if ordered:  # sorted and made at once
+            self._build_unsorted(text, ordered, reduced, max_trial, _pairs_of(pairs))
+        else:  # a build would begin with keys that ascend
+            self._open(text, ordered, reduced, max_trial)
+            self._update(_pairs_of(pairs))
 
     @overload
     @classmethod
@@ -91,7 +94,7 @@ class Cedar(Words[K]):
     def from_sorted(
         cls, pairs: Pairs[Any], *, text: bool = False, ordered: bool = True, reduced: bool = False, max_trial: int = 1
     ) -> "Cedar[Any]":
-        """Returns the dictionary of pairs whose keys ascend by bytes. It is made at once, faster than key by key.
+        """Returns the dictionary of pairs whose keys ascend by bytes. It is built in one pass, faster than key by key.
 
         >>> Cedar.from_sorted([(b"net", 7), (b"nets", 8)])[b"nets"]
         8
@@ -114,9 +117,9 @@ class Cedar(Words[K]):
 
     @classmethod
     def load(cls, source: Source, *, text: bool = False, memory_limit: int = _core.LOAD_LIMIT) -> "Cedar[Any]":
-        """Returns the dictionary that was saved, of either layout. `source` is a path, a file that is open for bytes, or the bytes.
+        """Returns a dictionary that was saved, in either layout. `source` is a path, a file opened for bytes, or the bytes.
 
-        A file that is damaged, or asks for more memory than the limit, raises CedarError. With `text=True` its keys have to be UTF-8.
+        A file that is damaged, or needs more memory than the limit, raises CedarError. With `text=True` its keys have to be UTF-8.
 
         >>> Cedar.load(Cedar({b"net": 7}).to_bytes())
         Cedar({b'net': 7})
@@ -124,9 +127,9 @@ class Cedar(Words[K]):
         return _restore(cls, text, read_all(source), memory_limit)
 
     def update(self, pairs: Pairs[K] = (), /, **keywords: int) -> None:  # type: ignore[override]
-        """Stores the pairs of a mapping or of an iterable: a key's last value stands.
+        """Stores the pairs of a mapping or of an iterable: the last value of a key counts.
 
-        Where a pair is refused for itself, nothing is stored. Where memory is wanted, the pairs before it are.
+        If a pair has a fault, nothing is stored. If memory runs out, the pairs before that are stored.
 
         >>> d = Cedar(text=True)
         >>> d.update({"net": 7}, ten=9)

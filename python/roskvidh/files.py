@@ -1,4 +1,4 @@
-"""Files: reading one as a whole, and putting one in the place of another."""
+"""Files: reading one as a whole, and replacing one by another."""
 
 import os
 import secrets

@@ -1,8 +1,8 @@
-"""The class Store: a mapping whose changes are in a file before they are made known."""
+"""The class Store: a mapping whose changes are in a file before they are acknowledged."""
 
 import os
 from contextlib import contextmanager
-from typing import Any, Iterator, Literal, TypeVar, Union, overload
+from typing import Any, Iterable, Iterator, Literal, TypeVar, Union, overload
 
 from .cedar import Cedar, Pairs, _pairs_of, _restore
 from .words import Words
@@ -13,13 +13,13 @@ Path = Union[str, "os.PathLike[str]"]
 
 
 class Store(Words[K]):
-    """A mapping as Cedar is one, of the file at a path: a missing one is made.
+    """A mapping like Cedar, kept in the file at a path. A missing file is created.
 
-    Once a change returns it is on the disk, and no crash of the process or the machine takes it away. A change that a crash cuts off is there as a
-    whole or not at all. Each change waits for the disk, and the file grows by each. Nobody else may write to the file meanwhile.
+    Once a change returns, it is on the disk, and no crash of the process or the machine takes it away. A change that a crash interrupts is
+    there as a whole or not at all. Each change waits for the disk, and the file grows by each. Nobody else may write to the file meanwhile.
 
-    With sync_every=n a change waits until n of them go to the disk as one; with 0 until sync(). A crash takes away those that wait, all of them or
-    none, and no others. batch() does so for the changes of a block.
+    With sync_every=n a change waits until n of them go to the disk as one; with 0 it waits for sync(). A crash takes away those that wait,
+    all of them or none, and no others. batch() does so for the changes of a block.
 
     A call on the file that fails raises OSError. From then on each change raises CedarError and changes nothing, and look-ups go on; open the file
     again.
@@ -55,7 +55,7 @@ class Store(Words[K]):
 
     @property
     def sync_every(self) -> int:
-        """How many changes go to the disk together; 0: they wait for sync(). Setting it puts those that wait on the disk."""
+        """How many changes go to the disk together. With 0 they wait for sync(). Setting it puts those that wait on the disk."""
         return self._sync_every_now
 
     @sync_every.setter
@@ -65,7 +65,7 @@ class Store(Words[K]):
 
     @property
     def waiting(self) -> int:
-        """How many changes wait to be put on the disk."""
+        """How many changes wait for the disk."""
         return self._waiting()
 
     def sync(self) -> None:
@@ -74,7 +74,7 @@ class Store(Words[K]):
 
     @contextmanager
     def batch(self) -> Iterator[None]:
-        """Puts the changes of a block on the disk as one, when the block ends, also by an exception: a crash leaves all of them or none.
+        """Puts the changes of a block on the disk as one when the block ends, also by an exception: a crash leaves all of them or none.
 
         >>> import os, tempfile
         >>> with tempfile.TemporaryDirectory() as folder, Store(os.path.join(folder, "words.store")) as s:
@@ -97,7 +97,7 @@ class Store(Words[K]):
             self.sync_every = before
 
     def close(self) -> None:
-        """Puts the changes that wait on the disk, and closes the file. On a closed store it does nothing."""
+        """Puts the changes that wait on the disk, and closes the file. Does nothing if the store is closed."""
         try:
             if not self.closed and not self.failed:
                 self.sync()
@@ -110,7 +110,7 @@ class Store(Words[K]):
         return self._has_failed()
 
     def update(self, pairs: Pairs[K] = (), /, **keywords: int) -> None:  # type: ignore[override]
-        """Stores the pairs of a mapping or of an iterable as a batch: where one is refused, those before it are stored."""
+        """Stores the pairs of a mapping or of an iterable as a batch: if one fails, those before it are stored."""
         with self.batch():
             for key, value in _pairs_of(pairs):
                 self[key] = value
@@ -131,8 +131,14 @@ class Store(Words[K]):
                 del self[key]
         return len(keys)
 
+    def erase_all(self, keys: Iterable[K], /) -> int:
+        """Removes the keys of an iterable, as a batch, and returns how many of them were held."""
+        listed = list(keys)
+        with self.batch():
+            return sum(self.pop(key, None) is not None for key in listed)
+
     def copy(self) -> "Cedar[K]":
-        """Returns an equal dictionary without a file."""
+        """Returns an equal Cedar, without a file."""
         return _restore(Cedar, self.text, self.to_bytes())
 
     def __repr__(self) -> str:

@@ -129,6 +129,7 @@ PyObject *core_cheapest(Core *core, PyObject *arguments, PyObject *named);
 /* makes.c: what puts a dictionary in place, and what gives its file. */
 PyObject *core_open(Core *core, PyObject *arguments);
 PyObject *core_build(Core *core, PyObject *arguments);
+PyObject *core_build_unsorted(Core *core, PyObject *arguments);
 PyObject *core_load(Core *core, PyObject *arguments);
 PyObject *core_open_store(Core *core, PyObject *arguments);
 int core_without_file(Core *core);
@@ -139,6 +140,7 @@ PyObject *core_waiting(Core *core, PyObject *nothing);
 PyObject *core_clear(Core *core, PyObject *nothing);
 PyObject *core_shrink(Core *core, PyObject *nothing);
 PyObject *core_update(Core *core, PyObject *pairs);
+PyObject *core_erase_all(Core *core, PyObject *keys);
 PyObject *core_dump(Core *core, PyObject *is_full);
 
 /* Work from which on a call gives up the interpreter's lock: bytes of text, and keys. To give it up and take it back costs less than a

@@ -126,6 +126,17 @@ static void pairs_free(Pairs *pairs) {
     free(pairs->pairs);
 }
 
+/* Makes room for one thing of a size behind `count` of them. */
+static int make_place(void **memory, size_t count, size_t *room, size_t size) {
+    if (count < *room) return 0;
+    size_t places = *room ? 2 * *room : 16;
+    void *grown = places > PTRDIFF_MAX / size ? NULL : realloc(*memory, places * size);
+    if (!grown) return fail_with(CEDAR_MEMORY);
+    *memory = grown;
+    *room = places;
+    return 0;
+}
+
 static int pairs_append(Core *core, Pairs *pairs, PyObject *key, PyObject *value) {
     Span span;
     int32_t number;
@@ -133,13 +144,7 @@ static int pairs_append(Core *core, Pairs *pairs, PyObject *key, PyObject *value
     int done = PyList_Append(pairs->owners, span.owner);
     Py_DECREF(span.owner);
     if (done < 0) return -1;
-    if (pairs->count == pairs->room) {
-        size_t room = pairs->room ? 2 * pairs->room : 16;
-        cedar_pair *grown = room > PTRDIFF_MAX / sizeof *grown ? NULL : realloc(pairs->pairs, room * sizeof *grown);
-        if (!grown) return fail_with(CEDAR_MEMORY);
-        pairs->pairs = grown;
-        pairs->room = room;
-    }
+    if (make_place((void **)&pairs->pairs, pairs->count, &pairs->room, sizeof *pairs->pairs) < 0) return -1;
     pairs->pairs[pairs->count++] = (cedar_pair){span.at, span.length, number};
     return 0;
 }
@@ -210,7 +215,9 @@ PyObject *core_update(Core *core, PyObject *given) {
     Py_RETURN_NONE;
 }
 
-PyObject *core_build(Core *core, PyObject *arguments) {
+typedef uint32_t (*Build)(cedar *, bool, int32_t, const cedar_pair *, size_t, size_t *);
+
+static PyObject *build_by(Core *core, PyObject *arguments, Build build, Build build_reduced) {
     Settings settings;
     Pairs pairs;
     PyObject *given = NULL;
@@ -221,11 +228,77 @@ PyObject *core_build(Core *core, PyObject *arguments) {
     if (pairs_take(core, given, &pairs) < 0) return NULL;
     uint32_t status;
     Py_BEGIN_ALLOW_THREADS
-    status = (settings.is_reduced ? cedar_build_reduced : cedar_build)(&fresh, settings.is_ordered, settings.max_trial, pairs.pairs, pairs.count,
-                                                                       &position);
+    status = (settings.is_reduced ? build_reduced : build)(&fresh, settings.is_ordered, settings.max_trial, pairs.pairs, pairs.count, &position);
     Py_END_ALLOW_THREADS
     pairs_free(&pairs);
     return status == CEDAR_OK ? install(core, &fresh, settings) : pairs_fail(status, position);
+}
+
+PyObject *core_build(Core *core, PyObject *arguments) {
+    return build_by(core, arguments, cedar_build, cedar_build_reduced);
+}
+
+PyObject *core_build_unsorted(Core *core, PyObject *arguments) {
+    return build_by(core, arguments, cedar_build_unsorted, cedar_build_unsorted_reduced);
+}
+
+/* Keys as C takes them, and the objects that keep them. */
+typedef struct Keys {
+    PyObject *owners;
+    cedar_key *keys;
+    size_t count;
+    size_t room;
+} Keys;
+
+static void keys_free(Keys *keys) {
+    Py_CLEAR(keys->owners);
+    free(keys->keys);
+}
+
+static int keys_append(Core *core, Keys *keys, PyObject *key) {
+    Span span;
+    if (span_take(core, key, &span) < 0) return -1;
+    int done = PyList_Append(keys->owners, span.owner);
+    Py_DECREF(span.owner);
+    if (done < 0 || make_place((void **)&keys->keys, keys->count, &keys->room, sizeof *keys->keys) < 0) return -1;
+    keys->keys[keys->count++] = (cedar_key){span.at, span.length};
+    return 0;
+}
+
+static int keys_take(Core *core, PyObject *given, Keys *keys) {
+    memset(keys, 0, sizeof *keys);
+    keys->owners = PyList_New(0);
+    /* C is told a place even where there are no keys. */
+    if (keys->owners) make_place((void **)&keys->keys, 0, &keys->room, sizeof *keys->keys);
+    PyObject *iterator = keys->keys ? PyObject_GetIter(given) : NULL, *key;
+    if (iterator) {
+        while ((key = PyIter_Next(iterator))) {
+            int done = keys_append(core, keys, key);
+            Py_DECREF(key);
+            if (done < 0) break;
+        }
+        Py_DECREF(iterator);
+    }
+    if (!PyErr_Occurred()) return 0;
+    keys_free(keys);
+    return -1;
+}
+
+/* Takes the keys of an iterable out, and returns how many were held. */
+PyObject *core_erase_all(Core *core, PyObject *given) {
+    Keys keys;
+    Turn turn;
+    bool unwanted = false;
+    if (core_without_file(core) < 0 || keys_take(core, given, &keys) < 0) return NULL;
+    if (turn_begin(core, keys.count >= LONG_COUNT, &turn) < 0) {
+        keys_free(&keys);
+        return NULL;
+    }
+    size_t erased = cedar_erase_all(&core->store.dictionary, keys.keys, keys.count, &unwanted, 0);
+    turn_end(&turn);
+    if (erased > 0) core->keys_changed++;
+    keys_free(&keys);
+    return PyLong_FromSize_t(erased);
 }
 
 static int fail_no_text(void) {

@@ -93,26 +93,26 @@ static PyGetSetDef core_properties[] = {
 
 static PyMethodDef core_methods[] = {
     {"get", (PyCFunction)core_get, METH_VARARGS,
-     "get($self, key, default=None, /)\n--\n\nReturns the value of a key, or else the default.\n\n"
+     "get($self, key, default=None, /)\n--\n\nReturns the value of a key, or the default if the key isn't held.\n\n"
      ">>> Cedar({b'net': 7}).get(b'ten', 0)\n0\n"},
     {"pop", (PyCFunction)core_pop, METH_VARARGS,
-     "Removes a key and returns its value, or else the default; without one it raises KeyError.\n\n"
+     "Removes a key and returns its value. If it isn't held, returns the default, or raises KeyError without one.\n\n"
      ">>> Cedar({b'net': 7}).pop(b'net')\n7\n"},
     {"setdefault", (PyCFunction)core_setdefault, METH_VARARGS,
-     "setdefault($self, key, default, /)\n--\n\nReturns the value of a key, and stores the default first where there is none.\n\n"
+     "setdefault($self, key, default, /)\n--\n\nReturns the value of a key. If it isn't held, stores the default first.\n\n"
      ">>> Cedar({b'net': 7}).setdefault(b'ten', 8)\n8\n"},
     {"popitem", (PyCFunction)core_popitem, METH_NOARGS,
      "popitem($self, /)\n--\n\nRemoves some key and returns it with its value. An empty dictionary raises KeyError.\n\n"
      ">>> Cedar({b'net': 7}).popitem()\n(b'net', 7)\n"},
     {"clear", (PyCFunction)core_clear, METH_NOARGS,
-     "clear($self, /)\n--\n\nRemoves all keys. Their memory is kept for others: shrink() gives it back.\n\n"
+     "clear($self, /)\n--\n\nRemoves all keys. Their memory is kept for others: shrink() frees it.\n\n"
      ">>> d = Cedar({b'net': 7})\n>>> d.clear()\n>>> len(d)\n0\n"},
     {"shrink", (PyCFunction)core_shrink, METH_NOARGS,
-     "shrink($self, /)\n--\n\nGives the memory back that growth and removed keys have left. It makes an equal dictionary, for which there has to be\n"
-     "memory; else it raises MemoryError, and nothing has changed.\n\n"
+     "shrink($self, /)\n--\n\nFrees memory that growth and removed keys have left unused. It makes an equal dictionary, for which there has to be\n"
+     "memory; otherwise it raises MemoryError, and nothing has changed.\n\n"
      ">>> d = Cedar((b'%d' % i, i) for i in range(10000))\n>>> d.clear()\n>>> d.shrink()\n>>> d.stats().capacity\n256\n"},
     {"close", (PyCFunction)core_close_call, METH_NOARGS,
-     "close($self, /)\n--\n\nGives the memory back. Any call but close raises ValueError from then on.\n\n"
+     "close($self, /)\n--\n\nFrees the memory. From then on any call except close raises ValueError.\n\n"
      ">>> d = Cedar()\n>>> d.close()\n>>> d.closed\nTrue\n"},
     {"prefixes", (PyCFunction)core_prefixes, METH_O,
      "prefixes($self, text, /)\n--\n\nReturns the keys that a text begins with and their values, shortest first.\n\n"
@@ -121,30 +121,34 @@ static PyMethodDef core_methods[] = {
      "longest_prefix($self, text, /)\n--\n\nReturns the longest key that a text begins with and its value, or None.\n\n"
      ">>> Cedar({b'net': 7, b'nets': 8}).longest_prefix(b'netset')\n(b'nets', 8)\n"},
     {"scan", (PyCFunction)core_scan, METH_O,
-     "scan($self, text, /)\n--\n\nReturns all keys that stand in a text: place after place, and at each the shortest first.\n\n"
+     "scan($self, text, /)\n--\n\nReturns all keys in a text: place after place, and at each place the shortest first.\n\n"
      ">>> [tuple(m) for m in Cedar({b'net': 7, b'nets': 8}).scan(b'a nets')]\n[(2, 3, 7), (2, 4, 8)]\n"},
     {"segment", (PyCFunction)core_segment, METH_O,
-     "segment($self, text, /)\n--\n\nReturns the tokens of a text: at each place the longest key, or else one byte (with text=True one\n"
+     "segment($self, text, /)\n--\n\nReturns the tokens of a text: at each place the longest key, or otherwise one byte (with text=True one\n"
      "character), whose value is None.\n\n"
      ">>> [tuple(m) for m in Cedar({b'net': 7, b'nets': 8}).segment(b'nets!')]\n[(0, 4, 8), (4, 1, None)]\n"},
     {"keywords", (PyCFunction)core_keywords, METH_O,
-     "keywords($self, text, /)\n--\n\nReturns the keywords of a text, which don't overlap: of the keys that begin first the longest, and so on from\n"
-     "its end.\n\n"
+     "keywords($self, text, /)\n--\n\nReturns the keywords of a text, which don't overlap: of the keys that begin first the longest, then the same\n"
+     "from its end on.\n\n"
      ">>> [tuple(m) for m in Cedar({b'net': 7, b'nets': 8, b'sew': 9}).keywords(b'a netsew')]\n[(2, 4, 8)]\n"},
     {"cheapest", (PyCFunction)(void (*)(void))core_cheapest, METH_VARARGS | METH_KEYWORDS,
-     "cheapest($self, text, /, unknown)\n--\n\nReturns the tokens of a text that cost the least together: a key costs its value, and a byte (with\n"
-     "text=True a character) that is no key costs `unknown`, 0 to 4294967295. Its value is None.\n\n"
+     "cheapest($self, text, /, unknown)\n--\n\nReturns the tokens of a text whose costs have the least sum: a key costs its value, and a byte (with\n"
+     "text=True a character) without a key costs `unknown`, 0 to 4294967295, and has the value None.\n\n"
      ">>> [tuple(m) for m in Cedar({b'a': 5, b'ab': 6, b'bcd': 1}).cheapest(b'abcd', unknown=10)]\n[(0, 1, 5), (1, 3, 1)]\n"},
     {"erase_prefix", (PyCFunction)core_erase_prefix, METH_O,
      "erase_prefix($self, prefix, /)\n--\n\nRemoves all keys that begin with a prefix, and returns how many there were.\n\n"
      ">>> Cedar({b'net': 7, b'nets': 8, b'ten': 9}).erase_prefix(b'ne')\n2\n"},
+    {"erase_all", (PyCFunction)core_erase_all, METH_O,
+     "erase_all($self, keys, /)\n--\n\nRemoves the keys of an iterable, and returns how many of them were held. Where one is refused, none is removed.\n\n"
+     ">>> Cedar({b'net': 7, b'nets': 8, b'ten': 9}).erase_all([b'ten', b'nor', b'net'])\n2\n"},
     {"reserve", (PyCFunction)core_reserve, METH_O,
-     "reserve($self, blocks, /)\n--\n\nAsks for memory for so many blocks of 256 slots more than are in use. An update makes at most one for each\n"
+     "reserve($self, blocks, /)\n--\n\nAllocates ahead for so many blocks of 256 slots more than are in use. An update takes at most one for each\n"
      "byte of its key, so the next ones need no memory.\n\n"
      ">>> d = Cedar()\n>>> d.reserve(100)\n>>> d.stats().spare_blocks >= 100\nTrue\n"},
     {"__class_getitem__", core_of_keys, METH_O | METH_CLASS, NULL},
     {"_open", (PyCFunction)core_open, METH_VARARGS, NULL},
     {"_build", (PyCFunction)core_build, METH_VARARGS, NULL},
+    {"_build_unsorted", (PyCFunction)core_build_unsorted, METH_VARARGS, NULL},
     {"_load", (PyCFunction)core_load, METH_VARARGS, NULL},
     {"_open_store", (PyCFunction)core_open_store, METH_VARARGS, NULL},
     {"_has_failed", (PyCFunction)core_has_failed, METH_NOARGS, NULL},

@@ -17,8 +17,9 @@ def keys_are_bytes(data: bytes) -> None:
     some: List[Match] = matches[1:]
     stats: Stats = d.stats()
     as_mapping: MutableMapping[bytes, int] = d
+    erased: int = loaded.erase_all([b"x", b"y"]) + loaded.erase_all(d)
     loaded |= built
-    print(value, match.value, some, keywords, cut, stats.keys, as_mapping)
+    print(erased, value, match.value, some, keywords, cut, stats.keys, as_mapping)
 
 
 def keys_are_texts(path: str, plain: Dict[str, int]) -> None:

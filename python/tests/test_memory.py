@@ -59,11 +59,12 @@ class Refused(unittest.TestCase):
                 self.refuse(1)
                 call(cedar)
                 self.assertEqual((self.refuse(0), len(cedar)), (1, 0), "it asks for memory")
+            self.each(lambda: Cedar(PLAIN, reduced=reduced), lambda d: d.erase_all(list(PLAIN)), lambda d: len(d) in (0, len(PLAIN)))
             self.each(lambda: Cedar(PLAIN, reduced=reduced), Cedar.popitem, lambda d: len(d) in (len(PLAIN), len(PLAIN) - 1))
 
     def test_makes(self):
         data = Cedar(PLAIN).to_bytes()
-        for call in (lambda _: Cedar(PLAIN), lambda _: Cedar.from_sorted(sorted(PLAIN.items())), lambda _: Cedar.load(data), lambda _: Cedar.load(data, text=True)):
+        for call in (lambda _: Cedar(PLAIN), lambda _: Cedar(PLAIN, ordered=False), lambda _: Cedar.from_sorted(sorted(PLAIN.items())), lambda _: Cedar.load(data), lambda _: Cedar.load(data, text=True)):
             self.assertEqual(len(self.each(lambda: None, call, lambda _: True)), len(PLAIN))
 
 

@@ -76,6 +76,8 @@ class Stores(unittest.TestCase):
         with Store(self.path) as s:
             s.update({b"net": 7, b"nets": 8})
             s.update([(b"ten", MAX_VALUE)])
+            s.update({b"nor": 1, b"not": 2})
+            self.assertEqual((s.erase_all([b"nor", b"none", b"not", b"nor"]), len(s)), (2, 3))
             self.assertEqual((s.erase_prefix(b"ne"), dict(s)), (2, {b"ten": MAX_VALUE}))
             with self.assertRaises(CedarError):
                 s.update([(b"a", 1), (b"", 2), (b"b", 3)])

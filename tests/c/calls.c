@@ -110,6 +110,35 @@ static void erased_by_prefix(bool is_reduced) {
     cedar_free(&d);
 }
 
+/* Many keys erased by one call, with room for no answer, some answers and more than all. */
+static void erased_together(bool is_reduced) {
+    enum { KEYS = 100 };
+    static uint8_t bytes[KEYS][2];
+    static cedar_key keys[KEYS + 2];
+    static bool held[KEYS + 3];
+    cedar d = CEDAR_CLOSED;
+    for (int i = 0; i < KEYS; i++) {
+        bytes[i][0] = (uint8_t)(1 + i * 7 % 10);
+        bytes[i][1] = (uint8_t)(1 + i / 10);
+        keys[i] = (cedar_key){bytes[i], 2};
+    }
+    keys[KEYS] = keys[3];
+    keys[KEYS + 1] = (cedar_key){NULL, 0};
+    held[0] = true;
+    CHECK(cedar_erase_all(&d, keys, KEYS, held, 1) == 0 && held[0] && cedar_erase_all(&d, NULL, 0, NULL, 0) == 0);
+    for (size_t room = 0; room <= KEYS + 3; room += room < 20 ? 1 : 9) {
+        CHECK((is_reduced ? cedar_new_reduced(&d, true, 1) : cedar_new(&d)) == CEDAR_OK);
+        CHECK(cedar_update(&d, (const uint8_t *)"stays", 5, 5, NULL) == CEDAR_OK);
+        for (int i = 0; i < KEYS; i += 3) CHECK(cedar_update(&d, bytes[i], 2, i, NULL) == CEDAR_OK);
+        memset(held, true, sizeof held);
+        size_t slots = cedar_capacity(&d);
+        CHECK(cedar_erase_all(&d, keys, KEYS + 2, room ? held : NULL, room) == (KEYS + 2) / 3 && cedar_len(&d) == 1 && cedar_capacity(&d) == slots);
+        for (size_t i = 0; i < KEYS + 3; i++) CHECK(held[i] == (i >= room || i >= KEYS + 2 || (i < KEYS && i % 3 == 0)));
+        CHECK(cedar_contains(&d, (const uint8_t *)"stays", 5) && cedar_erase_all(&d, keys, KEYS, NULL, 0) == 0 && cedar_erase_all(&d, NULL, 0, held, 1) == 0);
+    }
+    cedar_free(&d);
+}
+
 /* Whether a key is held, and the longest one that a text begins with. */
 static void short_questions(bool is_reduced) {
     cedar d = CEDAR_CLOSED;
@@ -199,6 +228,7 @@ static void many_pairs(void) {
 static void null_pointers(void) {
     cedar d = cedar_closed();
     const cedar_pair empty = {NULL, 0, 1}, twice[] = {{bytes_of("a"), 1, 1}, {bytes_of("a"), 1, 1}};
+    const cedar_key absent = {NULL, 0};
     size_t next = 0;
     int32_t value = 55;
     bool held;
@@ -206,11 +236,12 @@ static void null_pointers(void) {
     CHECK(unset != NULL && cedar_update(&d, NULL, 0, 1, NULL) == CEDAR_IS_CLOSED && cedar_insert(&d, NULL, 0, 1, NULL, NULL, NULL) == CEDAR_IS_CLOSED);
     CHECK(!cedar_get(&d, NULL, 0, &value) && cedar_save(&d, false, NULL, 0, NULL) == CEDAR_IS_CLOSED && cedar_keys(&d, NULL, 0, NULL) == CEDAR_IS_CLOSED);
     CHECK(cedar_build(&d, true, 1, NULL, 0, NULL) == CEDAR_OK && cedar_build_reduced(&d, true, 1, twice, 2, NULL) == CEDAR_DUPLICATE_KEY);
+    CHECK(cedar_build_unsorted(&d, true, 1, &empty, 1, NULL) == CEDAR_EMPTY_KEY && cedar_build_unsorted_reduced(&d, true, 1, NULL, 0, NULL) == CEDAR_OK);
     CHECK(cedar_update(&d, NULL, 0, 1, NULL) == CEDAR_EMPTY_KEY && cedar_update(&d, bytes_of("a\0"), 2, 1, NULL) == CEDAR_NUL_BYTE);
     CHECK(cedar_update_all(&d, NULL, 0, NULL) == CEDAR_OK && cedar_update_all(&d, &empty, 1, NULL) == CEDAR_EMPTY_KEY && cedar_len(&d) == 0);
     CHECK(cedar_insert(&d, bytes_of("net"), 3, 7, NULL, NULL, NULL) == CEDAR_OK && cedar_insert(&d, bytes_of("net"), 3, 8, &held, NULL, NULL) == CEDAR_OK);
     CHECK(held && cedar_insert(&d, bytes_of("net"), 3, 9, NULL, &value, NULL) == CEDAR_OK && value == 8 && cedar_len(&d) == 1);
-    CHECK(!cedar_get(&d, NULL, 0, &value) && value == 8 && !cedar_erase(&d, NULL, 0));
+    CHECK(!cedar_get(&d, NULL, 0, &value) && value == 8 && !cedar_erase(&d, NULL, 0) && cedar_erase_all(&d, &absent, 1, NULL, 0) == 0);
     CHECK(cedar_prefixes(&d, NULL, 0, NULL, 0) == 0 && cedar_prefixes(&d, bytes_of("net"), 3, NULL, 0) == 1 && cedar_predictions(&d, NULL, 0, NULL, 0) == 1);
     CHECK(cedar_prefixes_from(&d, bytes_of("net"), 3, &next, NULL, 0) == 0 && cedar_predictions_from(&d, NULL, 0, &next, NULL, 0) == 0 && next == 0);
     CHECK(cedar_scan(&d, NULL, 0, &next, NULL, 0) == 0 && cedar_scan(&d, bytes_of("net"), 3, &next, NULL, 0) == 0 && next == 0);
@@ -243,6 +274,68 @@ static void sorted_pairs(void) {
     CHECK(cedar_build(&d, false, 3, pairs + 1, 2, &position) == CEDAR_OK && cedar_len(&d) == 2 && !cedar_get(&d, bytes_of("a"), 1, &value));
     CHECK(cedar_update(&d, bytes_of("a"), 1, 6, &position) == CEDAR_OK && cedar_get(&d, bytes_of("a"), 1, &value) && value == 6);
     CHECK(cedar_build(&other, true, 1, pairs, 0, &position) == CEDAR_OK && cedar_len(&other) == 0 && cedar_capacity(&other) == 256);
+    cedar_free(&d);
+    cedar_free(&other);
+}
+
+/* Whether two dictionaries have the same file. */
+static bool are_same(const cedar *d, const cedar *other) {
+    static uint8_t file[1 << 18], another[1 << 18];
+    size_t length = 0, other_length = 0;
+    CHECK(cedar_save(d, false, file, sizeof file, &length) == CEDAR_OK && cedar_save(other, false, another, sizeof another, &other_length) == CEDAR_OK);
+    return length == other_length && memcmp(file, another, length) == 0;
+}
+
+static void unsorted_pairs(bool is_reduced) {
+    uint32_t (*build)(cedar *, bool, int32_t, const cedar_pair *, size_t, size_t *) = is_reduced ? cedar_build_unsorted_reduced : cedar_build_unsorted;
+    cedar d = CEDAR_CLOSED, other = CEDAR_CLOSED;
+    const cedar_pair pairs[] = {{bytes_of("b\xff"), 2, 4}, {bytes_of("a"), 1, 5}, {bytes_of("ab"), 2, 2}, {bytes_of("b\xff"), 2, 3}, {bytes_of("a"), 1, 1}};
+    const cedar_pair sorted[] = {{bytes_of("a"), 1, 1}, {bytes_of("ab"), 2, 2}, {bytes_of("b\xff"), 2, 3}};
+    const cedar_pair faulty[] = {{bytes_of("b"), 1, 1}, {bytes_of("ab\0"), 3, -1}, {bytes_of("a"), 0, 3}, {bytes_of("a"), 1, -1}, {bytes_of("b"), 1, 2}};
+    cedar_match matches[3];
+    size_t position = 77;
+    int32_t value;
+    CHECK(build(&d, true, 0, pairs, 5, &position) == CEDAR_INVALID_MAX_TRIAL && cedar_capacity(&d) == 0);
+    CHECK(build(&d, true, 1, pairs, 5, &position) == CEDAR_OK && position == 77 && cedar_len(&d) == 3 && cedar_is_reduced(&d) == is_reduced);
+    CHECK(cedar_predictions(&d, bytes_of(""), 0, matches, 3) == 3 && matches[0].value == 1 && matches[1].value == 2 && matches[2].value == 3);
+    CHECK((is_reduced ? cedar_build_reduced : cedar_build)(&other, true, 1, sorted, 3, &position) == CEDAR_OK && are_same(&d, &other));
+    CHECK(build(&d, true, 1, faulty, 5, &position) == CEDAR_NUL_BYTE && position == 2 && cedar_len(&d) == 3);
+    CHECK(build(&d, true, 1, faulty + 2, 3, &position) == CEDAR_EMPTY_KEY && build(&d, true, 1, faulty + 3, 2, NULL) == CEDAR_INVALID_VALUE && position == 2);
+    CHECK(cedar_get(&d, bytes_of("ab"), 2, &value) && value == 2 && are_same(&d, &other));
+    CHECK(build(&d, false, 3, pairs, 2, NULL) == CEDAR_OK && cedar_len(&d) == 2 && cedar_get(&d, bytes_of("a"), 1, &value) && value == 5);
+    CHECK(cedar_update(&d, bytes_of("c"), 1, 6, NULL) == CEDAR_OK && cedar_predictions(&d, bytes_of(""), 0, matches, 3) == 3 && matches[0].value == 6);
+    CHECK(build(&other, true, 1, NULL, 0, NULL) == CEDAR_OK && cedar_len(&other) == 0 && cedar_capacity(&other) == 256);
+    cedar_free(&d);
+    cedar_free(&other);
+}
+
+/* Builds of random pairs in any order beside a plain table, and beside a build of the same entries sorted. */
+static void random_builds(bool is_reduced) {
+    enum { PAIRS = 700 };
+    static int32_t plain[PLACES]; /* a value and 1, or 0 */
+    static uint8_t bytes[PAIRS][4], sorted_bytes[4 * PAIRS];
+    static cedar_pair pairs[PAIRS];
+    static cedar_match matches[PAIRS];
+    cedar d = CEDAR_CLOSED, other = CEDAR_CLOSED;
+    for (int turn = 0; turn < 200; turn++) {
+        size_t count = next_random() % (turn % 10 ? 40 : PAIRS), position = 77, held = 0, needed = 0, place = 0;
+        int32_t value;
+        memset(plain, 0, sizeof plain);
+        for (size_t i = 0; i < count; i++) {
+            size_t length = random_key(bytes[i]);
+            pairs[i] = (cedar_pair){bytes[i], length, (int32_t)(next_random() % 1000000)};
+            held += plain[place_of(bytes[i], length)] == 0;
+            plain[place_of(bytes[i], length)] = pairs[i].value + 1;
+        }
+        CHECK((is_reduced ? cedar_build_unsorted_reduced : cedar_build_unsorted)(&d, true, 1, pairs, count, &position) == CEDAR_OK);
+        CHECK(position == 77 && cedar_len(&d) == held);
+        for (size_t i = 0; i < count; i++) {
+            CHECK(cedar_get(&d, pairs[i].key, pairs[i].length, &value) && value == plain[place_of(pairs[i].key, pairs[i].length)] - 1);
+        }
+        CHECK(cedar_predictions(&d, NULL, 0, matches, PAIRS) == held && cedar_keys(&d, sorted_bytes, sizeof sorted_bytes, &needed) == CEDAR_OK);
+        for (size_t i = 0; i < held; place += matches[i++].length) pairs[i] = (cedar_pair){sorted_bytes + place, matches[i].length, matches[i].value};
+        CHECK((is_reduced ? cedar_build_reduced : cedar_build)(&other, true, 1, pairs, held, &position) == CEDAR_OK && are_same(&d, &other));
+    }
     cedar_free(&d);
     cedar_free(&other);
 }
@@ -349,6 +442,26 @@ static void whole_texts(void) {
     cedar_free(&d);
 }
 
+/* Erases some random keys by one call, from a plain table too, and answers how many were held. */
+static size_t erase_random_keys(cedar *d, int32_t *plain) {
+    enum { MOST = 40 };
+    uint8_t bytes[MOST][4];
+    cedar_key keys[MOST] = {{NULL, 0}};
+    bool held[MOST] = {false};
+    size_t count = next_random() % (MOST + 1), room = next_random() % (MOST + 1), erased = 0, told = 0;
+    for (size_t i = 0; i < count; i++) keys[i] = (cedar_key){bytes[i], random_key(bytes[i])};
+    size_t answer = cedar_erase_all(d, keys, count, held, room);
+    for (size_t i = 0; i < count; i++) {
+        size_t place = place_of(keys[i].key, keys[i].length);
+        CHECK(held[i] == (i < room && plain[place] != 0));
+        erased += plain[place] != 0;
+        plain[place] = 0;
+    }
+    for (size_t i = 0; i < MOST; i++) told += held[i];
+    CHECK(answer == erased && told <= erased && (told == erased || room < count));
+    return erased;
+}
+
 static void random_calls(bool is_reduced) {
     static int32_t plain[PLACES]; /* a value and 1, or 0 */
     size_t held = 0, position;
@@ -359,6 +472,7 @@ static void random_calls(bool is_reduced) {
         uint8_t key[4];
         size_t length = random_key(key), place = place_of(key, length);
         int32_t value = (int32_t)(next_random() % 1000000);
+        if (i % 50 == 0) held -= erase_random_keys(&d, plain);
         switch (next_random() % 3) {
         case 0:
             CHECK(cedar_update(&d, key, length, value, &position) == CEDAR_OK);
@@ -439,6 +553,9 @@ int main(int count, char **arguments) {
     room_ahead(true);
     for (int is_reduced = 0; is_reduced < 2; is_reduced++) {
         erased_by_prefix(is_reduced);
+        erased_together(is_reduced);
+        unsorted_pairs(is_reduced);
+        random_builds(is_reduced);
         short_questions(is_reduced);
         copies(is_reduced);
     }

@@ -42,22 +42,23 @@ static int32_t fill(cedar *d) {
     return stored;
 }
 
-/* Builds of sorted pairs with each request refused in turn: the dictionary stays till one is met. Answers how many were refused. */
-static int builds(void) {
+/* Builds of pairs, sorted or not, with each request refused in turn: the dictionary stays till one is met. Answers how many were refused. */
+static int builds(bool is_sorted) {
     static uint8_t keys[KEYS][2];
     static cedar_pair pairs[KEYS];
     cedar d = CEDAR_CLOSED;
     size_t position = 77;
     int32_t value;
     for (int32_t i = 0; i < KEYS; i++) {
+        int32_t at = is_sorted ? i : i * 7 % KEYS; /* each once if KEYS has no factor 7 */
         keys[i][0] = (uint8_t)(1 + i / 250);
         keys[i][1] = (uint8_t)(1 + i % 250);
-        pairs[i] = (cedar_pair){keys[i], 2, i};
+        pairs[at] = (cedar_pair){keys[i], 2, i};
     }
     CHECK(cedar_new(&d) == CEDAR_OK && cedar_update(&d, keys[7], 2, 70, &position) == CEDAR_OK);
     for (int refused = 0;; refused++) {
         left = refused;
-        uint32_t status = cedar_build(&d, true, 1, pairs, KEYS, &position);
+        uint32_t status = is_sorted ? cedar_build(&d, true, 1, pairs, KEYS, &position) : cedar_build_unsorted(&d, true, 1, pairs, KEYS, &position);
         left = -1;
         if (status == CEDAR_OK) {
             CHECK(cedar_len(&d) == KEYS && cedar_get(&d, keys[7], 2, &value) && value == 7);
@@ -169,8 +170,8 @@ int main(void) {
         left = -1;
         cedar_free(&d);
     }
-    int refused_builds = builds(), refused_reserves = reserves(), refused_copies = copies(false), refused_shrinks = copies(true);
-    CHECK(refused_new > 0 && refused_update > 0 && refused_builds > 10 && refused_reserves > 0 && refused_copies > 0 && refused_shrinks > 0);
+    int refused_builds = builds(true), refused_unsorted = builds(false), refused_reserves = reserves(), refused_copies = copies(false), refused_shrinks = copies(true);
+    CHECK(refused_new > 0 && refused_update > 0 && refused_builds > 10 && refused_unsorted > refused_builds && refused_reserves > 0 && refused_copies > 0 && refused_shrinks > 0);
     CHECK(cuts() > 0);
     printf("refused: %d new, %d updates, %d builds, %d reserves\nok\n", refused_new, refused_update, refused_builds, refused_reserves);
     return 0;

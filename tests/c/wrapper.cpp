@@ -108,6 +108,8 @@ void each_member(layout kind) {
     CHECK(d.size() == 5 && !d.empty() && d.get("net") == 7 && d.get("new") == 2 && d.get("ne") == std::nullopt);
     CHECK(d.contains("a") && !d.contains("") && !d.contains({}) && !d.contains("netw") && d.get("no") == CEDAR_MAX_VALUE);
     CHECK(d.erase("a") && !d.erase("a") && d.size() == 4);
+    d.update_all({{"b", 1}, {"c", 2}});
+    CHECK(d.erase_all({"b", "none", "c", "b"}) == 2 && d.erase_all(std::vector<std::string>()) == 0 && d.erase_all({""}) == 0 && d.size() == 4);
     const Pairs all = {{"net", 7}, {"network", 8}, {"new", 2}, {"no", CEDAR_MAX_VALUE}};
     CHECK(listed(d.entries()) == all && listed(d.entries_with_prefix("ne")) == Pairs(all.begin(), all.begin() + 3));
     CHECK(listed(d.entries_with_prefix("new")) == Pairs({{"new", 2}}) && listed(d.entries_with_prefix("nx")).empty());
@@ -190,6 +192,10 @@ void settings_and_sorted_pairs(layout kind) {
     const dictionary sorted = dictionary::from_sorted(plain, kind);
     CHECK(listed(sorted.entries()) == Pairs(plain.begin(), plain.end()) && sorted.kind() == kind);
     CHECK(dictionary::from_sorted(Pairs(), kind).empty() && dictionary::from_sorted({}, kind, false, 2).is_open());
+    const dictionary unsorted = dictionary::from_pairs({{"b", 9}, {"a\xff", 2}, {"a", 1}, {"b", 3}}, kind);
+    CHECK(listed(unsorted.entries()) == Pairs(plain.begin(), plain.end()) && unsorted.kind() == kind && unsorted.save() == sorted.save());
+    CHECK(dictionary::from_pairs(Pairs(), kind).empty() && dictionary::from_pairs(plain, kind, false, 2).size() == 3);
+    refused(CEDAR_INVALID_MAX_TRIAL, {}, "max_trial must be greater than zero", [&] { dictionary::from_pairs(plain, kind, true, 0); });
     refused(CEDAR_INVALID_MAX_TRIAL, {}, "max_trial must be greater than zero", [&] { dictionary(kind, true, 0); });
     refused(CEDAR_INVALID_MAX_TRIAL, {}, "max_trial must be greater than zero", [&] { dictionary::from_sorted(plain, kind, true, -1); });
     refused(CEDAR_DUPLICATE_KEY, 1, "duplicate key in sorted input (at pair 1)", [&] { dictionary::from_sorted({{"a", 1}, {"a", 2}}, kind); });
@@ -207,6 +213,7 @@ void refusals(layout kind) {
         [&](auto key, auto value) { d.insert(key, value); },
         [&](auto key, auto value) { d.update_all({{"a", 1}, {key, value}}); },
         [&](auto key, auto value) { dictionary::from_sorted({{key, value}}, kind); },
+        [&](auto key, auto value) { dictionary::from_pairs({{"b", 2}, {"a", 1}, {key, value}, {"", 1}}, kind); },
     };
     for (const auto &store : stores) {
         refused(CEDAR_EMPTY_KEY, {}, "cedar keys must not be empty", [&] { store({}, -1); });
@@ -226,7 +233,11 @@ void refusals(layout kind) {
     CHECK(listed(d.entries()) == Pairs({{"held", 1}}));
     left = -1;
     lacks_memory([&] { dictionary::from_sorted({{"a", 1}}, kind); });
+    lacks_memory([&] { dictionary::from_pairs({{"a", 1}}, kind); });
     lacks_memory([&] { d.update_all({{"a", 1}}); });
+    left = 0; // an erasure takes no memory of the library's
+    CHECK(d.erase_all({"none", "another"}) == 0);
+    left = -1;
     lacks_memory([&] {
         for (int i = 1; i < 10000; i++) d.update(std::string(1, static_cast<char>(1 + i % 255)) + std::to_string(i), i);
     });
@@ -250,7 +261,7 @@ void moves(layout kind) {
     refused(CEDAR_IS_CLOSED, {}, text, [&] { (void)first.clone(); });
     refused(CEDAR_IS_CLOSED, {}, text, [&] { first.shrink_to_fit(); });
     first.clear();
-    CHECK(first.erase_prefix("") == 0 && !first.is_open());
+    CHECK(first.erase_prefix("") == 0 && first.erase_all({"a"}) == 0 && !first.is_open());
     first = dictionary(kind);
     first.update("b", 2);
     swap(first, second);

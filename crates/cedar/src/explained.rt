@@ -1,16 +1,16 @@
-//! A script whose bad lines are told why on standard error, as they are read.
+//! A script whose bad lines are explained on standard error, as they are read.
 
 use cedar_cli::explain_line;
 use std::alloc::{AllocError, Global};
 use std::io;
 use std::io::{Read, Write};
 
-/// A reader of a script that tells of bad lines where that is asked for.
+/// A reader of a script that reports bad lines if the arguments say so.
 #[derive(Drop)]
 pub(crate) struct Explained<R, E> {
     reader: R,
     errors: E,
-    /// Whether anything is told. It no longer is once there was no memory for a line.
+    /// Whether anything is explained. It no longer is once there was no memory for a line.
     is_told: bool,
     /// The bytes of the line that has begun.
     line: Vec<u8>,
@@ -21,7 +21,7 @@ pub(crate) struct Explained<R, E> {
 }
 
 impl<R: Read, E: Write> Explained<R, E> {
-    /// A reader that tells of bad lines on `errors`, if that is asked for.
+    /// A reader that reports bad lines on `errors`, if the arguments say so.
     pub(crate) fn new(alloc: Global, reader: R, errors: E, is_told: bool) -> Explained<R, E> {
         Explained {
             reader,
@@ -33,7 +33,7 @@ impl<R: Read, E: Write> Explained<R, E> {
         }
     }
 
-    /// Takes some bytes of the script, and tells of each bad line that ends in them.
+    /// Takes some bytes of the script, and reports each bad line that ends in them.
     fn take(&mut self, bytes: &[u8]) -> Result<(), AllocError> {
         for byte in bytes {
             if *byte == b'\n' {
@@ -45,7 +45,7 @@ impl<R: Read, E: Write> Explained<R, E> {
         Ok(())
     }
 
-    /// Tells of the line that ends, if it is a bad one.
+    /// Reports the line that ends, if it is a bad one.
     fn end_line(&mut self) -> Result<(), AllocError> {
         self.number = self.number.saturating_add(1);
         let number = self.number;

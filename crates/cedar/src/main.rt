@@ -1,4 +1,4 @@
-//! The program `cedar`: it answers the script on standard input.
+//! The program `cedar`: it runs the script on standard input.
 #![tactic(auto)]
 
 mod explained;
@@ -31,7 +31,7 @@ fn main(rt: HostRuntime) -> ExitCode {
     }
 }
 
-/// Does what the arguments ask for, the first of which is the program's name.
+/// Does what the arguments say, the first of which is the program's name.
 fn answer(rt: &HostRuntime, texts: &[&str]) -> ExitCode {
     let (name, arguments) = match texts.split_first() {
         Some((name, arguments)) => (*name, arguments),
@@ -63,7 +63,7 @@ fn print(rt: &HostRuntime, text: &str) -> ExitCode {
     }
 }
 
-/// Answers the script. `--explain` is no option of the script's own.
+/// Runs the script. `--explain` is no option of the script's own.
 fn answer_script(rt: &HostRuntime, reduced: bool, arguments: &[&str]) -> ExitCode {
     let Ok(output) = BufWriter::new(rt.alloc(), rt.stdout()) else {
         return out_of_memory(rt);
@@ -90,7 +90,7 @@ fn answer_script(rt: &HostRuntime, reduced: bool, arguments: &[&str]) -> ExitCod
     ExitCode::from(status)
 }
 
-/// The arguments but for `--explain`, and whether that is among them.
+/// The arguments except `--explain`, and whether that is among them.
 fn without_explain<'a>(
     alloc: Global,
     arguments: &[&'a str],
@@ -120,7 +120,7 @@ fn texts_of(alloc: Global, words: &[String]) -> Result<Vec<&str>, AllocError> {
     words.iter().map(|word| word.as_str()).collect(alloc)
 }
 
-/// Where not even the arguments or the output's buffer have room.
+/// Reports that not even the arguments or the output's buffer have room.
 fn out_of_memory(rt: &HostRuntime) -> ExitCode {
     let mut errors = Watched::new(rt.stderr());
     let _ = errors.write_all(b"cedar: out of memory\n");

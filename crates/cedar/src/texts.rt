@@ -1,9 +1,9 @@
-//! What the program tells of itself.
+//! What the program prints about itself.
 
-/// What `--version` tells.
+/// What `--version` prints.
 pub(crate) const VERSION: &str = "cedar 0.1.0\n";
 
-/// What `--help` tells.
+/// What `--help` prints.
 pub(crate) const HELP: &str = "\
 Answers a script of a dictionary, a line each.
 

@@ -1,4 +1,4 @@
-//! All labels of a node, one behind the other.
+//! All labels of a node, one after another.
 
 ghost use Rattle.std.specs.Prelude.{◌++◌, ◌∷◌, ◌≡◌, ◌⊎◌, [], bit_xor, List, pos, ℕ};
 ghost use Rattle.cedar_bulk.specs.Words.{AppendsLeaf, AtBase, below, capacity_of, cells, fields, GetsLabels, Held, IsAt, IsTable, SameFrame, SameSettings, size_of, WantsLabel, WantsLabels};
@@ -6,15 +6,15 @@ ghost use Rattle.cedar_bulk.specs.Words.{AppendsLeaf, AtBase, below, capacity_of
 use cedar_table::{Layout, Table};
 use std::alloc::Allocator;
 
-/// The slot for a label below a node whose slots begin at `base`.
+/// Returns the slot for a label below a node whose slots begin at `base`.
 pub(crate) fn slot_at(base: usize, label: u8) -> usize
     ensures { result ≡ bit_xor base label }
 {
     base ^ usize::from(label)
 }
 
-/// Takes the slot of `label` below `node`, whose slots begin at `base`, and returns it. The new leaf comes behind all labels of the node, which are
-/// lower: behind the slot `before`, or first of all. The order of the table doesn't matter.
+/// Takes the slot of `label` below `node`, whose slots begin at `base`, and returns it. The new leaf comes after all labels of
+/// the node, which are lower: after the slot `before`, or first of all. The order of the table doesn't matter.
 #[inline(always)]
 fn append_label<L: Layout, const SLOTS: usize, A: Allocator>(
     table: &mut Table<L, SLOTS, A>,
@@ -46,8 +46,8 @@ fn append_label<L: Layout, const SLOTS: usize, A: Allocator>(
     slot
 }
 
-/// Takes the slots of ascending labels below `node`, whose slots begin at `base` and which has no label yet: each comes behind the one before it, and the
-/// first one behind the slot `before`, or first of all.
+/// Takes the slots of ascending labels below `node`, whose slots begin at `base` and which has no label yet. Each comes after the
+/// one before it, and the first one after the slot `before`, or first of all.
 #[inline(always)]
 pub(crate) fn append_labels<L: Layout, const SLOTS: usize, A: Allocator>(
     table: &mut Table<L, SLOTS, A>,

@@ -9,7 +9,7 @@ use cedar_table::{Layout, Table};
 use std::alloc::Allocator;
 
 /// Gives a node that has neither number nor label a base from which the slots of all labels are free, 0 standing for the
-/// number, and returns it. The root keeps its base. All growth of a build from sorted pairs happens here.
+/// number, and returns the base. The root keeps its base. All growth of a build from sorted pairs happens here.
 #[inline(always)]
 fn give_base<L: Layout, const SLOTS: usize, A: Allocator>(
     table: &mut Table<L, SLOTS, A>,
@@ -53,7 +53,7 @@ fn take_number<L: Layout, const SLOTS: usize, A: Allocator>(
     slot
 }
 
-/// Takes the slot for the number, if there is one, and returns the slot that the first label goes behind, unless it begins
+/// Takes the slot for the number, if there is one, and returns the slot that the first label goes after, unless it begins
 /// the chain.
 #[inline(always)]
 fn begin_chain<L: Layout, const SLOTS: usize, A: Allocator>(
@@ -101,8 +101,8 @@ fn place_node<L: Layout, const SLOTS: usize, A: Allocator>(
     Ok(base)
 }
 
-/// The number that a node with these labels keeps in its own base field: it has one there if there are no labels and the layout
-/// keeps such numbers so.
+/// Returns the number that a node with these labels keeps in its own base field: it has one there if there are no labels and the
+/// layout keeps such numbers so.
 fn own_number<L: Layout>(number: Option<i32>, labels: &[u8]) -> Option<i32>
     ensures { MatchOption result (StaysBare L.kind number labels.now) (StaysOwn L.kind number labels.now) }
 {
@@ -113,7 +113,7 @@ fn own_number<L: Layout>(number: Option<i32>, labels: &[u8]) -> Option<i32>
 }
 
 /// Gives a node that has neither number nor label a number, if there is one, and ascending labels, each a leaf without
-/// number, and returns where their slots begin. A number without labels goes into the node's own base field, where the layout
+/// number, and returns where their slots begin. A number without labels goes into the node's own base field, if the layout
 /// keeps it there; then no slot follows.
 #[inline(always)]
 pub(crate) fn fill_node<L: Layout, const SLOTS: usize, A: Allocator>(

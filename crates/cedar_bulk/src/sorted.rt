@@ -1,4 +1,4 @@
-//! A table made of sorted pairs: each node gets all of its slots at once, the last child's subtree first.
+//! A table made from sorted pairs: each node gets all of its slots at once, the last child's subtree first.
 
 ghost use Rattle.std.specs.Prelude.{◌*◌, ◌++◌, ◌+◌, ◌<◌, ◌≡◌, ◌≢◌, ◌≤ℤ◌, ◌≤◌, [], IfErr, IfOk, length, None, OnErr, OnOk, option_to_list, pos, true, ℕ};
 ghost use Rattle.cedar_bulk.specs.Words.{AddsChildren, AllByRecursion, ArePathsAscending, ArePathsKeys, asc, AtBase, cells, CoversChildren, empty_tree, EndsFilling, entries_by, fields, Filling, FillsSpan, Forest, HasBlocksFor, HoldsTree, is_value, IsAlike, IsSlotLimit, IsTable, IsTreeOfSpan, IsUnfilled, IsWellFormed, KeepsOwnOf, LacksMemoryOr, MakesBlocks, marks, MayRefuse, none, OfTree, parts_of, prefixes, prefixes_forest, SameModes, SameSettings, size_of, SlotLimit, SortedMarks, Tree, tree_of, WantsMoreThan};
@@ -42,8 +42,8 @@ fn fill_span<'a, L: Layout, const SLOTS: usize, A: Allocator, K: AsSlice<u8>>(
     Ok(())
 }
 
-/// Gives the node of a span of one pair what the pair's key has there: its number where the key ends, and else its next label.
-/// Pairs that all go on with one label are taken as one. Returns the span of that label's child, if there is one.
+/// Gives the node of a span of one pair what the pair's key has there: its number if the key ends there, and otherwise its next
+/// label. Pairs that all go on with one label are taken as one. Returns the span of that label's child, if there is one.
 fn fill_alone<'a, L: Layout, const SLOTS: usize, A: Allocator, K: AsSlice<u8>>(
     table: &mut Table<L, SLOTS, A>,
     span: Span<'a, K>,
@@ -78,7 +78,7 @@ fn fill_alone<'a, L: Layout, const SLOTS: usize, A: Allocator, K: AsSlice<u8>>(
 }
 
 /// Gives the node of a span below the root its number and its labels, and returns the span whose turn is next, if one is left:
-/// that of the last child, or else the last one that waits.
+/// that of the last child, or otherwise the last one that waits.
 fn fill_next<'a, L: Layout, const SLOTS: usize, A: Allocator, K: AsSlice<u8>>(
     table: &mut Table<L, SLOTS, A>,
     span: Span<'a, K>,
@@ -129,7 +129,7 @@ fn fill_pending<'a, L: Layout, const SLOTS: usize, A: Allocator, K: AsSlice<u8>>
     Ok(())
 }
 
-/// Makes an empty table that of some pairs.
+/// Makes an empty table the table of some pairs.
 fn fill<L: Layout, const SLOTS: usize, A: Allocator, K: AsSlice<u8>>(
     table: &mut Table<L, SLOTS, A>,
     alloc: A,
@@ -157,7 +157,7 @@ fn fill<L: Layout, const SLOTS: usize, A: Allocator, K: AsSlice<u8>>(
     fill_pending(table, &mut wanted, &mut pending)
 }
 
-/// Makes a new table that of some pairs, whose keys ascend.
+/// Makes a new table the table of some pairs, whose keys ascend.
 fn fill_sorted<L: Layout, const SLOTS: usize, A: Allocator, K: AsSlice<u8>>(
     table: &mut Table<L, SLOTS, A>,
     alloc: A,
@@ -185,9 +185,9 @@ fn fill_sorted<L: Layout, const SLOTS: usize, A: Allocator, K: AsSlice<u8>>(
     Ok(())
 }
 
-/// A table of some pairs of a key and its number, whose keys ascend by bytes, each below the next: it stands for their one
-/// tree with ascending labels, also where a new label would not go to its ascending place. Keys are bytes or texts. It makes
-/// one block at most for each distinct nonempty prefix of a key.
+/// Makes a table of some pairs of a key and its number, whose keys ascend by bytes, each below the next. It stands for their
+/// one tree with ascending labels, even if a new label would not go to its ascending place. Keys are bytes or texts. It makes
+/// at most one block for each distinct nonempty prefix of a key.
 ///
 /// `ordered` and `max_trial` are the settings of the table that is made. It may be refused for memory, or with `SlotLimit` where
 /// 256 times the number of these prefixes is `SLOTS` or more; then no table is made. So
@@ -209,17 +209,17 @@ pub fn build_sorted<L: Layout, const SLOTS: usize, A: Allocator + Copy, K: AsSli
     ensures well_formed { IfOk result (λ table. IsWellFormed SLOTS (fields table)) }
     ensures tree { IfOk result (λ table. tree_of (fields table) ≡ asc (entries_by K.items pairs.now)) }
 
-    //= By default each number has a slot of its own; in the reduced layout just those do whose keys begin longer ones. [by SortedMarks]
+    //= By default each number has a slot of its own; in the reduced layout exactly those do whose keys begin longer ones. [by SortedMarks]
     ensures marks { IfOk result (λ table. SortedMarks L.kind (asc (entries_by K.items pairs.now)) (marks (fields table))) }
 
-    //= Its order and `max_trial` are those asked for. [with max_trial]
+    //= Its order and `max_trial` are the given ones. [with max_trial]
     ensures ordered { IfOk result (λ table. (fields table).ordered ≡ ordered) }
     ensures max_trial { IfOk result (λ table. (fields table).places.blocks.max_trial ≡ max_trial) }
 
     //= It makes at most one block for each distinct nonempty prefix of a key, beside the first one.
     ensures blocks { IfOk result (λ table. HasBlocksFor (asc (entries_by K.items pairs.now)) (fields table)) }
 
-    //= It is refused for memory, or for slots where 256 times the number of these prefixes is the limit or more.
+    //= It fails for lack of memory, or of slots if 256 times the number of these prefixes is the limit or more.
     ensures refused { IfErr result (LacksMemoryOr (SLOTS ≤ 256 * length (prefixes (asc (entries_by K.items pairs.now))))) }
 {
     let mut table = Table::new(alloc, ordered, max_trial)?;

@@ -1,4 +1,4 @@
-//! Sorted pairs that go on below one node, and what they say of its number and its labels.
+//! Sorted pairs that go on below one node, and what they say about its number and its labels.
 
 ghost use Rattle.std.specs.Prelude.{◌+◌, ◌<◌, ◌↔◌, ◌≡◌, ◌≤◌, [], get_or, IsTrue, length, OnOk};
 ghost use Rattle.cedar_bulk.specs.Words.{AddsSpans, based_behind, entries_by, first_label, first_number, Forest, GoesOnAlike, IsAlike, IsDeeper, IsTreeOfSpan, labels, Lists, parts_of, run, slot_labels, Tree};
@@ -7,7 +7,7 @@ use arrayvec::ArrayVec;
 use std::alloc::{AllocError, Allocator};
 use std::convert::AsSlice;
 
-/// The labels of one node, and 0 for its number: as many as there can be, so that a set of labels takes no memory.
+/// The labels of one node, and 0 for its number: as many as there can be, so that a set of labels allocates nothing.
 pub(crate) type Labels = ArrayVec<u8, 256>;
 
 /// Sorted pairs whose keys have the same first `depth` bytes, and the slot of the node to which these lead. It has neither
@@ -19,7 +19,7 @@ pub(crate) struct Span<'a, K> {
     pub(crate) pairs: &'a [(K, i32)],
 }
 
-/// The byte of a key behind its first `depth` ones, and 0 where there is none.
+/// Returns the byte of a key after its first `depth` ones, or 0 if there is none.
 fn label_at<K: AsSlice<u8>>(pair: &(K, i32), depth: usize) -> u8
     ensures { result ≡ get_or (K.items pair.now.0) depth 0 }
 {
@@ -27,7 +27,7 @@ fn label_at<K: AsSlice<u8>>(pair: &(K, i32), depth: usize) -> u8
     if depth < key.len() { key[depth] } else { 0 }
 }
 
-/// Whether the pair at an index has the label of the first pair. Those that have it come first.
+/// Returns whether the pair at an index has the label of the first pair. Those that have it come first.
 fn has_first_label<K: AsSlice<u8>>(
     pairs: &[(K, i32)],
     depth: usize,
@@ -42,7 +42,7 @@ fn has_first_label<K: AsSlice<u8>>(
     label_at(&pairs[index], depth) == label
 }
 
-/// How many of the first pairs have the label of the first one: as many as `low` at least, and as `high` at most.
+/// Returns how many of the first pairs have the label of the first one: at least `low`, and at most `high`.
 fn run_between<K: AsSlice<u8>>(
     pairs: &[(K, i32)],
     depth: usize,
@@ -70,8 +70,8 @@ fn run_between<K: AsSlice<u8>>(
     low
 }
 
-/// How many of the first pairs have the label of the first one. Often that is all of them, or one. Else the end is looked for near
-/// the front: in steps that double, and then by halves.
+/// Returns how many of the first pairs have the label of the first one. Often that is all of them, or one. Otherwise it searches for
+/// the end near the start: in steps that double, and then by halves.
 fn run_length<K: AsSlice<u8>>(pairs: &[(K, i32)], depth: usize, label: u8) -> usize
     requires lists { (f : Forest) × Lists depth (entries_by K.items pairs.now) f }
     requires first { first_label depth (entries_by K.items pairs.now) ≡ label }
@@ -97,7 +97,7 @@ fn run_length<K: AsSlice<u8>>(pairs: &[(K, i32)], depth: usize, label: u8) -> us
     run_between(pairs, depth, label, low, last)
 }
 
-/// Whether no pair ends here and all go on with one label.
+/// Returns whether no pair ends here and all go on with one label.
 fn go_on_alike<K: AsSlice<u8>>(pairs: &[(K, i32)], depth: usize) -> bool
     requires some { 0 < length pairs.now }
     requires tree { (t : Tree) × IsTreeOfSpan depth (entries_by K.items pairs.now) t }
@@ -110,7 +110,7 @@ fn go_on_alike<K: AsSlice<u8>>(pairs: &[(K, i32)], depth: usize) -> bool
     has_first_label(pairs, depth, key[depth], pairs.len() - 1)
 }
 
-/// Whether there is one pair, or no pair ends here and all go on with one label.
+/// Returns whether there is one pair, or no pair ends here and all go on with one label.
 pub(crate) fn are_alike<K: AsSlice<u8>>(pairs: &[(K, i32)], depth: usize) -> bool
     requires some { 0 < length pairs.now }
     requires tree { (t : Tree) × IsTreeOfSpan depth (entries_by K.items pairs.now) t }
@@ -122,7 +122,7 @@ pub(crate) fn are_alike<K: AsSlice<u8>>(pairs: &[(K, i32)], depth: usize) -> boo
     go_on_alike(pairs, depth)
 }
 
-/// The number of the first pair, if its key has no byte behind its first `depth` ones.
+/// Returns the number of the first pair, if its key has no byte after its first `depth` ones.
 pub(crate) fn number_at<K: AsSlice<u8>>(pairs: &[(K, i32)], depth: usize) -> Option<i32>
     ensures { result ≡ first_number depth (entries_by K.items pairs.now) }
 {
@@ -132,7 +132,7 @@ pub(crate) fn number_at<K: AsSlice<u8>>(pairs: &[(K, i32)], depth: usize) -> Opt
     }
 }
 
-/// One byte deeper into a key that is longer.
+/// Returns the depth one byte deeper into a key that is longer.
 pub(crate) fn deeper(key: &[u8], depth: usize) -> usize
     requires { depth < length key.now }
     ensures { result ≡ depth + 1 }
@@ -140,7 +140,7 @@ pub(crate) fn deeper(key: &[u8], depth: usize) -> usize
     depth + 1
 }
 
-/// How deep the pairs with the first pair's label lead.
+/// Returns how deep the pairs with the first pair's label lead.
 fn depth_below<K: AsSlice<u8>>(pairs: &[(K, i32)], depth: usize) -> usize
     requires { IsDeeper depth (entries_by K.items pairs.now) }
     ensures { result ≡ depth + 1 }
@@ -148,7 +148,7 @@ fn depth_below<K: AsSlice<u8>>(pairs: &[(K, i32)], depth: usize) -> usize
     deeper(pairs[0].0.as_slice(), depth)
 }
 
-/// The label of the first pair.
+/// Returns the label of the first pair.
 fn first_label_at<K: AsSlice<u8>>(pairs: &[(K, i32)], depth: usize) -> u8
     requires { 0 < length pairs.now }
     ensures { result ≡ first_label depth (entries_by K.items pairs.now) }
@@ -156,7 +156,7 @@ fn first_label_at<K: AsSlice<u8>>(pairs: &[(K, i32)], depth: usize) -> u8
     label_at(&pairs[0], depth)
 }
 
-/// Makes a list of labels the label 0 alone if there is a number, and else no label.
+/// Sets a list of labels to the label 0 alone if there is a number, and otherwise to no label.
 fn begin_labels(wanted: &mut Labels, number: Option<i32>)
     ensures { wanted.new.items ≡ slot_labels number [] }
 {
@@ -166,7 +166,7 @@ fn begin_labels(wanted: &mut Labels, number: Option<i32>)
     }
 }
 
-/// Makes a list of labels those of some pairs, ascending, behind the 0 of a number, if there is one, and adds a span for each of
+/// Sets a list of labels to those of some pairs, ascending, after the 0 of a number, if there is one, and adds a span for each of
 /// these labels. The slots of the spans begin at 0, since no base is known yet.
 pub(crate) fn list_spans<'a, K: AsSlice<u8>, A: Allocator>(
     wanted: &mut Labels,
@@ -197,7 +197,7 @@ pub(crate) fn list_spans<'a, K: AsSlice<u8>, A: Allocator>(
     Ok(())
 }
 
-/// Moves the slots of the spans behind the first ones from 0 to a base.
+/// Moves the slots of the spans after the first ones from 0 to a base.
 pub(crate) fn move_spans<'a, K: AsSlice<u8>, A: Allocator>(
     pending: &mut Vec<Span<'a, K>, A>,
     first: usize,

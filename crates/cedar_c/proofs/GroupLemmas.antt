@@ -1,20 +1,20 @@
 -- The records of a group, one behind another.
 use Rattle.std.specs.Prelude.{ℤ, option_map, Option, Some, None}
-use Rattle.std.proofs.Common.{◌≡◌, ◌⊎◌, inl, inr, ℕ, zero, suc, ◌+◌, ◌≤◌, ◌<◌, Bool, true, false, List, [], ◌∷◌, ◌++◌, length, take, drop, refl, sym, subst, ◌∙◌, ap, append_assoc, arith, slice_set, length-append, length-drop, take-append-drop}
+use Rattle.std.proofs.Common.{◌≡◌, inl, inr, ℕ, zero, suc, ◌+◌, ◌≤◌, ◌<◌, true, List, [], ◌∷◌, ◌++◌, length, take, drop, refl, sym, subst, ◌∙◌, ap, append_assoc, arith, slice_set, length-append, length-drop, take-append-drop}
 use Rattle.std.proofs.lemmas.Bool.{cases_Bool, cases_eq}
 use Rattle.std.proofs.lemmas.List.{take-append-le, take_all, take-set, drop-set, set-append_right, length-take-le}
 use Rattle.cedar_journal.specs.Records.{AreWholeRecords, behind_record, framed, has_record, length_bytes, payload, payloads_in}
 use Rattle.cedar_journal.proofs.Found.{length-payload}
+use Rattle.cedar_journal.proofs.Fronts.{front_of_none}
 use Rattle.cedar_journal.proofs.Reading.{behind_and_rest, length-behind, payloads_first, payloads_none, record_is_whole, same_payload, still_there}
 use Rattle.cedar_plan.specs.Plans.{works_of}
 use Rattle.cedar_plan.specs.Works.{append_works}
 use Rattle.cedar_plan.specs.declared.plan.Plan.{Plan}
 use Rattle.cedar_store.specs.Batches.{record_of}
-use Rattle.cedar_store.specs.Changes.{Change, all_changed, batch_of, change_of, changes_of, each_change, put_at, records_length}
+use Rattle.cedar_store.specs.Changes.{Change, all_changed, batch_of, change_of, each_change, put_at, records_length}
 use Rattle.cedar_store.proofs.Batched.{cut_batch, whole_batch}
 use Rattle.cedar_store.proofs.Payloads.{of_batch}
-use Rattle.cedar_store.proofs.Recorded.{each_more, front_of_none, its_payloads, longer_records}
-use Rattle.cedar_tree.specs.State.{State}
+use Rattle.cedar_store.proofs.Recorded.{each_more, its_payloads, longer_records}
 use Rattle.cedar_c.specs.Changes.{IsRecord}
 use Rattle.cedar_c.specs.Groups.{AddsChange, IsGroup}
 use Rattle.cedar_c.proofs.PlanLemmas.{is_change}

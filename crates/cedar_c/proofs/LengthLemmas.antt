@@ -6,7 +6,7 @@ use Rattle.std.proofs.lemmas.Bool.{false≢true}
 use Rattle.std.proofs.lemmas.List.{length-map}
 use Rattle.cedar_tree.specs.Tree.{Forest, none, child, Tree}
 use Rattle.cedar_tree.specs.Queries.{Entry, own_entry, under, walk_forest, walk, predict, prefixes_forest, prefixes}
-use Rattle.cedar_c.specs.Matches.{Fit, longer, lengthened, predicted_keys}
+use Rattle.cedar_c.specs.Matches.{Fit, lengthened, predicted_keys}
 
 -- no entry's key has more bytes than this
 abbrev Within : ℕ → List Entry → Type 0

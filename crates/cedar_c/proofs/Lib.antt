@@ -1,6 +1,7 @@
 pub mod ClosedLemmas
 pub mod CutLemmas
 pub mod EntryLemmas
+pub mod ErasedLemmas
 pub mod FileLemmas
 pub mod GroupLemmas
 pub mod KeywordLemmas

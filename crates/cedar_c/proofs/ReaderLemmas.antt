@@ -6,9 +6,8 @@
 use Rattle.std.specs.Prelude.{ℕ, Some}
 use mathlib.Core.List.{[], ◌∷◌}
 use seplogic.Ra.Ura.{Ura}
-use base.Fraction.{full_share}
 use base.Logic.{SProp, ent, sep, ex}
-use base.Fml.{Lft, Share, Fml, fsep, flft, flent}
+use base.Fml.{Lft, Share, Fml, flft, flent}
 use contract.BorrowLft.{meet_⊑_left}
 use types.Logic.{Logic, sem}
 use types.Kit.{‵, ◌$◌, ◌∵◌, !, qed, move, keep, use2, fsplit, fjoin, show, updating, now, done}

@@ -1,7 +1,7 @@
 -- A buffer that takes what stands in a text.
-use Rattle.std.proofs.Common.{◌≡◌, ℕ, zero, suc, ◌+◌, ◌-◌, ◌<◌, ◌≤◌, ◌^◌, ℤ, List, [], ◌∷◌, ◌++◌, length, map, take, drop, set, Option, Some, None, option_map, refl, sym, ap, ◌∙◌, arith}
+use Rattle.std.proofs.Common.{◌≡◌, ℕ, zero, suc, ◌+◌, ◌-◌, ◌<◌, ◌^◌, ℤ, List, [], ◌∷◌, ◌++◌, length, map, take, drop, set, Option, Some, None, option_map, refl, sym, ap, ◌∙◌, arith}
 use Rattle.std.specs.List.{filter_map, cons_option, range_with_len}
-use Rattle.std.proofs.lemmas.List.{append_assoc, drop-drop, length-drop, take_all, take_more_set}
+use Rattle.std.proofs.lemmas.List.{append_assoc, drop-drop, take_more_set}
 use Rattle.cedar_tree.specs.Tree.{Tree, number_at}
 use Rattle.cedar_tree.specs.Queries.{front}
 use Rattle.cedar_words.specs.Words.{longest, len_of, found_number}
@@ -53,7 +53,3 @@ fit_range t q (suc n) a h =
 
 pub fronts_are_short : (t : Tree) (q : List ℕ) → length q < 2 ^ 64 → Fit 1 (front t q)
 fronts_are_short t q h = fit_range t q (length q) 0 (omega (arith, h))
-
--- the rest of a text as a slice of it
-pub rest_of : (text : List ℕ) (next : ℕ) → take (length text - next) (drop next text) ≡ drop next text
-rest_of text next = let all : length (drop next text) ≤ length text - next = omega (arith, length-drop next text) in take_all (length text - next) (drop next text) all

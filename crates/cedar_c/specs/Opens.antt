@@ -7,7 +7,7 @@ use Rattle.cedarwood.specs.declared.builder.CedarBuilder.{CedarBuilder}
 use Rattle.cedar_c.specs.Content.{content, layout_in}
 use Rattle.cedar_c.specs.Files.{early_refusal, file_status, IsFileOf, IsOfNoTable, TellsHeader}
 use Rattle.cedar_c.specs.Layouts.{dictionary_in, layout_of, most_slots}
-use Rattle.cedar_c.specs.Pairs.{MayWantSlots, entries_in, fault_in}
+use Rattle.cedar_c.specs.Pairs.{MayWantSlots, build_fault, entries_in}
 use Rattle.cedar_c.specs.Status.{TellsFault, TellsPosition}
 use Rattle.cedar_c.specs.declared.any.AnyCedar.{AnyCedar}
 use Rattle.cedar_c.specs.declared.handle.Handle.{Handle}
@@ -23,17 +23,17 @@ pub record OpensNew (kind : LayoutKind) (ordered : Bool) (trials : ℤ) (before 
   pub invalid : (status ≡ INVALID_MAX_TRIAL) ↔ (trials <ℤ pos 1)
   pub refused : (status ≡ OK) ⊎ (((status ≡ INVALID_MAX_TRIAL) ⊎ (status ≡ MEMORY)) × (content after ≡ content before))
 
--- by OK the handle is opened with a dictionary of just these pairs, in the place of what it had; by another status it is as it was. `found`
--- and `told` are the position before and after
-pub record OpensSorted (kind : LayoutKind) (ordered : Bool) (trials : ℤ) (pairs : List Pair) (before after : Handle) (found told status : ℕ) : Type 0 where
+-- by OK the handle is opened with a dictionary of just these pairs, which come sorted or in any order, in the place of what it had; by
+-- another status it is as it was. `found` and `told` are the position before and after
+pub record OpensBuilt (kind : LayoutKind) (is_sorted ordered : Bool) (trials : ℤ) (pairs : List Pair) (before after : Handle) (found told status : ℕ) : Type 0 where
   pub made : status ≡ OK → (settings : CedarBuilder) × (settings.ordered ≡ ordered) × (settings.max_trial ≡ trials)
       × ((a : AnyCedar) × (content after ≡ Some a) × IsSorted (layout_of a) settings (entries_in pairs) (dictionary_in a))
   pub layout : status ≡ OK → layout_in after ≡ Some kind
   pub invalid : trials <ℤ pos 1 → status ≡ INVALID_MAX_TRIAL
   -- the first fault of the pairs is told, unless memory was wanted before it was found
-  pub faulty : pos 1 ≤ℤ trials → IfSome (fault_in pairs) (TellsFault found told status)
+  pub faulty : pos 1 ≤ℤ trials → IfSome (build_fault is_sorted (entries_in pairs)) (TellsFault found told status)
   -- without a fault slots are wanted only where there might not be enough
-  pub refused : pos 1 ≤ℤ trials → fault_in pairs ≡ None
+  pub refused : pos 1 ≤ℤ trials → build_fault is_sorted (entries_in pairs) ≡ None
       → (status ≡ OK) ⊎ (status ≡ MEMORY) ⊎ ((status ≡ SLOT_LIMIT) × MayWantSlots most_slots pairs)
   pub kept : (status ≡ OK) ⊎ (content after ≡ content before)
   -- only an error that tells a position writes it

@@ -1,12 +1,13 @@
--- Pairs of C's.
-use Rattle.std.specs.Prelude.{◌≡◌, ◌*◌, ◌<◌, ◌≤◌, ℕ, ℤ, List, [], ◌∷◌, ◌++◌, length, map, take, Option, None}
+-- Pairs and keys of C's.
+use Rattle.std.specs.Prelude.{◌≡◌, ◌*◌, ◌<◌, ◌≤◌, ℕ, Bool, true, false, ℤ, List, [], ◌∷◌, ◌++◌, length, map, take, Option, None}
 use Rattle.std.specs.Borrow.{Bor}
 use Rattle.cedarwood.specs.declared.error.CedarError.{CedarError}
 use Rattle.cedar_tree.specs.Tree.{number_at}
 use Rattle.cedar_tree.specs.Queries.{Entry, asc, prefixes}
-use Rattle.cedarwood.specs.Builds.{all_stored, path_at}
+use Rattle.cedarwood.specs.Builds.{all_stored, first_fault, path_at}
 use Rattle.cedarwood.specs.SortedInput.{fault_from}
 use Rattle.cedarwood.specs.State.{State}
+use Rattle.cedar_c.specs.declared.erasures.Key.{Key}
 use Rattle.cedar_c.specs.declared.pairs.Pair.{Pair}
 
 abbrev pub entries_in : List Pair → List Entry
@@ -16,9 +17,14 @@ entries_in pairs = map (λ p. (p.key.now, p.value)) pairs
 abbrev pub taken_pair : Pair → Bor (List ℕ) × ℤ
 taken_pair p = (p.key, p.value)
 
--- the first fault of some pairs as a sorted input
-abbrev pub fault_in : List Pair → Option CedarError
-fault_in pairs = fault_from 0 [] (entries_in pairs)
+-- the first fault of the pairs of a build, which come sorted or in any order
+abbrev pub build_fault : Bool → List Entry → Option CedarError
+build_fault true entries = fault_from 0 [] entries
+build_fault false entries = first_fault entries
+
+-- the bytes of some keys of C's
+abbrev pub named_keys : List Key → List (List ℕ)
+named_keys keys = map (λ k. k.key.now) keys
 
 -- the bytes of the keys of some entries, one after another
 abbrev pub keys_in : List Entry → List ℕ

@@ -1,5 +1,5 @@
 -- The dictionary of a store whose file somebody else keeps: what the plans say that its calls write down.
-use Rattle.std.specs.Prelude.{◌≡◌, ◌⊎◌, ℕ, ◌+◌, ◌<◌, ◌≤◌, ◌^◌, List, [], ◌∷◌, Some}
+use Rattle.std.specs.Prelude.{◌≡◌, ◌⊎◌, ℕ, ℤ, ◌+◌, ◌<◌, ◌≤◌, ◌^◌, List, [], ◌∷◌, Some}
 use Rattle.cedar_disk.specs.Calls.{Call, opened, seen_after}
 use Rattle.cedar_plan.specs.Safety.{CrashLeaves, IsAtRest}
 use Rattle.cedar_plan.specs.Works.{AreCarriedOut, Work, all_done}
@@ -7,7 +7,7 @@ use Rattle.cedar_store.specs.Causes.{LoadCause}
 use Rattle.cedar_store.specs.Files.{IsEither, state_of}
 use Rattle.cedar_store.specs.declared.error.DurableError.{DurableError}
 use Rattle.cedar_store.specs.declared.error.DurableError.TheVariants as error
-use Rattle.cedarwood.specs.State.{State}
+use Rattle.cedarwood.specs.State.{erased, State, stored}
 use Rattle.cedar_c.specs.Status.{status_of}
 use Rattle.cedar_c.specs.declared.status.TheConstants.{OK, MEMORY, SLOT_LIMIT, NO_ROOM, OTHER, STORE_CORRUPT, STORE_FOREIGN, STORE_FULL, STORE_TOO_LONG}
 
@@ -21,6 +21,13 @@ pub record IsKept (calls : List Call) (end : ℕ) (s : State) : Type 0 where
 pub record IsChangePlan (works : List Work) (from to : ℕ) (before after : State) : Type 0 where
   pub kept : (calls : List Call) → IsKept calls from before → IsKept (all_done works calls) to after
   pub any_moment : (calls later : List Call) → IsKept calls from before → AreCarriedOut works calls later → CrashLeaves calls later (IsEither before after)
+
+-- so those of a pair that is put, and of a key that is erased
+abbrev pub IsPutPlan : List Work → ℕ → ℕ → State → List ℕ → ℤ → Type 0
+IsPutPlan works from to s key value = IsChangePlan works from to s (stored s key value)
+
+abbrev pub IsErasurePlan : List Work → ℕ → ℕ → State → List ℕ → Type 0
+IsErasurePlan works from to s key = IsChangePlan works from to s (erased s key)
 
 -- Works that make a file of these bytes ready for changes, which was synced and then read. A crash at any moment, also where one of them
 -- fails, leaves a file that stands for the same state.

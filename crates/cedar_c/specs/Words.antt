@@ -1,4 +1,5 @@
 -- The words of clauses, from one place.
+pub use Rattle.cedar_bulk.specs.Sorted.{entries_of}
 pub use Rattle.cedar_c.specs.Changes.{IsRecord}
 pub use Rattle.cedar_c.specs.Content.{capacity_in, ChangesBy, content, ErasesUnder, layout_in, marks_in, size_in, state_in, tree_in}
 pub use Rattle.cedar_c.specs.Content.{trials_in}
@@ -10,9 +11,9 @@ pub use Rattle.cedar_c.specs.Groups.{AddsChange, IsGroup, LacksGroup}
 pub use Rattle.cedar_c.specs.Layouts.{dictionary_in, HasToGrow, layout_if, layout_of, most_slots}
 pub use Rattle.cedar_c.specs.Lending.{as_shown, LendsCedar, LendsSeen}
 pub use Rattle.cedar_c.specs.Matches.{filled_from, filled_matches, Fit, front_keys, lengthened, longer, match_of, predicted_keys}
-pub use Rattle.cedar_c.specs.Opens.{OpensLoaded, OpensNew, OpensSorted}
-pub use Rattle.cedar_c.specs.Pairs.{entries_in, fault_in, keys_in, MayWantSlots, StoresFront, StoresPart, taken_pair}
-pub use Rattle.cedar_c.specs.Plans.{IsChangePlan, IsOpening, LacksChange, LacksRecord, TellsWhy, store_status}
+pub use Rattle.cedar_c.specs.Opens.{OpensBuilt, OpensLoaded, OpensNew}
+pub use Rattle.cedar_c.specs.Pairs.{build_fault, entries_in, keys_in, MayWantSlots, named_keys, StoresFront, StoresPart, taken_pair}
+pub use Rattle.cedar_c.specs.Plans.{IsChangePlan, IsErasurePlan, IsOpening, IsPutPlan, LacksChange, LacksRecord, TellsWhy, store_status}
 pub use Rattle.cedar_c.specs.Readings.{shown_figure, shown_in, shown_layout, shown_tree}
 pub use Rattle.cedar_c.specs.Scans.{found_keywords, found_spot, found_spots, found_token, found_tokens, WritesOn, WritesPiece}
 pub use Rattle.cedar_c.specs.Shrinks.{Shrinks}
@@ -28,13 +29,13 @@ pub use Rattle.cedar_model.specs.Meaning.WellFormed.{IsWellFormed, tree_of}
 pub use Rattle.cedar_model.specs.Table.Layouts.{default_layout, layout_byte, reduced_layout}
 pub use Rattle.cedar_plan.specs.Plans.{works_of}
 pub use Rattle.cedar_plan.specs.Works.{append_works, end_of}
-pub use Rattle.cedar_slots.specs.Places.{IsSlotLimit}
 pub use Rattle.cedar_store.specs.Causes.{LoadCause}
 pub use Rattle.cedar_store.specs.Changes.{erase_at, put_at}
 pub use Rattle.cedar_store.specs.Files.{state_of}
-pub use Rattle.cedar_tree.specs.Queries.{prefixes, used, walk}
+pub use Rattle.cedar_tree.specs.Queries.{asc, prefixes, used, walk}
 pub use Rattle.cedar_tree.specs.Tree.{Tree}
 pub use Rattle.cedar_walk.specs.Visits.{ComesToFirst, IsNumberedBelow}
+pub use Rattle.cedarwood.specs.Batches.{held_in_turn, keys_erased}
 pub use Rattle.cedarwood.specs.Builds.{all_stored, first_fault, outcome}
 pub use Rattle.cedarwood.specs.Dictionary.{capacity_after}
 pub use Rattle.cedarwood.specs.Fault.{fault, IsShortage}
@@ -47,7 +48,7 @@ pub use Rattle.cedarwood.specs.Shrinking.{IsShrunk}
 pub use Rattle.cedarwood.specs.State.{erased, stored}
 pub use Rattle.cedarwood.specs.Tree.{number_at}
 pub use Rattle.cedarwood.specs.Updates.{IsUpdate}
-pub use Rattle.cedarwood.specs.Words.{IsCleared, IsEmpty, IsErasedUnder, IsSorted}
+pub use Rattle.cedarwood.specs.Words.{IsCleared, IsEmpty, IsErasedUnder, IsSlotLimit, IsSorted}
 pub use Rattle.cedarwood.specs.Words.{key_fault, value_fault}
 pub use Rattle.std.specs.Borrow.{sem}
 pub use Rattle.std.specs.List.{starts_with}

@@ -14,7 +14,7 @@ pub enum AnyCedar {
 }
 
 impl AnyCedar {
-    /// An empty dictionary with these settings, or `None` where memory is refused.
+    /// An empty dictionary with these settings, or `None` if an allocation is refused.
     #[tactic(auto, using(cedarwood::proofs::DictionaryLemmas::default_limit))]
     pub(crate) fn new(alloc: Global, is_reduced: bool, settings: CedarBuilder) -> Option<AnyCedar>
         ensures made { IfSome result (λ a. IsEmpty settings (dictionary_in a)) }

@@ -1,4 +1,4 @@
-//! The calls that make, copy, change and ask a dictionary.
+//! The calls that make, copy, change and query a dictionary.
 
 ghost use Rattle.std.specs.Prelude.{◌*◌, ◌-◌, ◌<◌, ◌↔◌, ◌≡◌, ◌≤◌, ◌⊎◌, IfSome, IsSome, IsTrue, length, None, option_map, pos, Some, true};
 ghost use Rattle.cedar_c.specs.Words.{AnyCedar, capacity_in, ChangesBy, content, default_layout, dictionary_in, erased, ErasesUnder, fault, IsCleared, IsEmpty, IsErasedUnder, LacksOnlyNew, layout_if, layout_in, layout_of, longest_front, match_of, most_slots, number_at, OpensNew, position_of, reduced_layout, shown_in, shown_tree, size_in, state_in, status_of, stored, TellsPosition, tree_in, trials_in};
@@ -36,13 +36,14 @@ fn renew(handle: &mut Handle, alloc: Global, is_reduced: bool, settings: CedarBu
     }
 }
 
-/// Opens a handle with an empty dictionary, in the place of the one that it has, if it is open.
+/// Opens a handle with an empty dictionary. If the handle is open, the new one replaces the old one.
 ///
 /// # Errors
-/// `MEMORY` where a request for memory was refused. Then the handle is as it was.
+/// `MEMORY` if an allocation was refused. Then the handle is as it was.
 #[unsafe(no_mangle)]
 pub extern "C" fn cedar_new(handle: &mut Handle, alloc: Global) -> u32
-    //= The dictionary that was made is of the default layout. [also cedar_new_with, cedar_build, cedar_load; by layout]
+    //= The dictionary that was made is of the default layout. [also cedar_new_with, cedar_build, cedar_build_unsorted, cedar_load; by
+    //  layout]
     ensures opens { OpensNew default_layout true (pos 1) handle.old handle.new result }
 {
     renew_with(handle, alloc, false, true, 1)
@@ -51,8 +52,7 @@ pub extern "C" fn cedar_new(handle: &mut Handle, alloc: Global) -> u32
 /// As `cedar_new`, with settings: whether the labels of each node ascend, and how many failed searches for a place close a block.
 ///
 /// # Errors
-/// `INVALID_MAX_TRIAL` where `max_trial` is 0 or less, and else `MEMORY` where a request for memory was refused. Then the handle is as
-/// it was.
+/// `INVALID_MAX_TRIAL` if `max_trial` is 0 or less, and otherwise `MEMORY` if an allocation was refused. Then the handle is as it was.
 #[unsafe(no_mangle)]
 pub extern "C" fn cedar_new_with(
     handle: &mut Handle,
@@ -60,9 +60,9 @@ pub extern "C" fn cedar_new_with(
     ordered: bool,
     max_trial: i32,
 ) -> u32
-    //= A handle is opened with an empty dictionary of 256 slots and the settings that are given, or those by default. [also
+    //= The call opens a handle with an empty dictionary of 256 slots and the settings that are given, or the default ones. [also
     //  cedar_new_reduced, cedar_new; by made]
-    //= It is refused for memory, and for a `max_trial` exactly if that is below 1; then the handle has what it had. [also
+    //= It fails for lack of memory, and for a `max_trial` exactly if that is below 1. Then the handle has what it had. [also
     //  cedar_new_reduced, cedar_new; by refused, invalid]
     ensures opens { OpensNew default_layout ordered max_trial handle.old handle.new result }
 {
@@ -80,7 +80,8 @@ pub extern "C" fn cedar_new_reduced(
     ordered: bool,
     max_trial: i32,
 ) -> u32
-    //= The dictionary that was made is of the reduced layout. [also cedar_build_reduced, cedar_load_reduced; by layout]
+    //= The dictionary that was made is of the reduced layout. [also cedar_build_reduced, cedar_build_unsorted_reduced,
+    //  cedar_load_reduced; by layout]
     ensures opens { OpensNew reduced_layout ordered max_trial handle.old handle.new result }
 {
     renew_with(handle, alloc, true, ordered, max_trial)
@@ -111,10 +112,10 @@ pub extern "C" fn cedar_free(handle: &mut Handle, alloc: Global)
     drop(handle.take(alloc));
 }
 
-/// Stores a value at a key, in place of the value that the key holds, if it holds one.
+/// Stores a value at a key, and replaces the value that the key holds, if any.
 ///
 /// # Errors
-/// `CLOSED` where the handle is closed, and else the number of the error. Then the dictionary holds what it held.
+/// `CLOSED` if the handle is closed, and otherwise the number of the error. Then the dictionary holds what it held.
 #[unsafe(no_mangle)]
 pub extern "C" fn cedar_update(
     handle: &mut Handle,
@@ -122,32 +123,35 @@ pub extern "C" fn cedar_update(
     value: i32,
     position: &mut usize,
 ) -> u32
-    //= An update answers `CLOSED` exactly if the handle is closed. [also cedar_insert]
+    //= An update returns `CLOSED` exactly if the handle is closed. [also cedar_insert]
     ensures closed { (result ≡ CLOSED) ↔ (content handle.old ≡ None) }
 
-    //= It answers the number of the pair's first fault, with the place of a byte 0, or stores the value. [with faulty; also cedar_insert]
+    //= It returns the number of the pair's first fault, with the position of a byte 0, or stores the value. [with faulty; also
+    //  cedar_insert]
     ensures ok { result ≡ OK → state_in handle.new ≡ option_map (λ s. stored s key.now value) (state_in handle.old) }
 
     //= After any error the tree is as it was, and after a pair's fault the whole dictionary. [with unchanged; also cedar_insert]
     ensures err { (result ≡ OK) ⊎ (state_in handle.new ≡ state_in handle.old) }
     ensures unchanged { IsSome (fault key.now value) → content handle.new ≡ content handle.old }
 
-    //= Updates, inserts and erasures leave the layout as it is, whatever they answer. [also cedar_insert, cedar_update_all, cedar_erase]
+    //= Updates, inserts and erasures don't change the layout, whatever they return. [also cedar_insert, cedar_update_all, cedar_erase,
+    //  cedar_erase_all]
     ensures layout { layout_in handle.new ≡ layout_in handle.old }
     ensures faulty { IsSome (content handle.old) → IfSome (fault key.now value) (λ e. (result ≡ status_of e) × (position.new ≡ position_of position.old e)) }
 
-    //= Without a fault it is refused only for memory or slots, only where the key isn't held, and not while a block is spare for each byte.
+    //= Without a fault it fails only for lack of memory or slots, only if the key isn't held, and not while a block is spare for each byte.
     //  [with limit, spare, refused; also cedar_insert]
     ensures memory { result ≡ MEMORY → (size_in handle.new ≡ capacity_in handle.new) × (capacity_in handle.new < most_slots) }
     ensures limit { result ≡ SLOT_LIMIT → size_in handle.new ≡ most_slots }
     ensures spare { IsSome (content handle.old) → fault key.now value ≡ None
         → 256 * length key.now ≤ capacity_in handle.old - size_in handle.old → result ≡ OK }
 
-    //= Only an error that tells a position writes it (`TellsPosition`); after an error an insert tells nothing. [also
-    //  cedar_insert.stays.untold, cedar_update_all, cedar_build.opens, cedar_build_reduced.opens; by stays]
+    //= Only an error that has a position writes it (`TellsPosition`). After an error an insert reports neither whether the key was held nor
+    //  its value. [also cedar_insert.stays.untold, cedar_update_all, cedar_build.opens, cedar_build_reduced.opens,
+    //  cedar_build_unsorted.opens, cedar_build_unsorted_reduced.opens; by stays]
     ensures stays { TellsPosition result ⊎ (position.new ≡ position.old) }
 
-    //= `max_trial` stays. [also cedar_insert, cedar_update_all, cedar_erase]
+    //= `max_trial` doesn't change. [also cedar_insert, cedar_update_all, cedar_erase, cedar_erase_all]
     ensures trials { trials_in handle.new ≡ trials_in handle.old }
     ensures refused { IsSome (content handle.old) → fault key.now value ≡ None → LacksOnlyNew (tree_in handle.old) key.now result }
 {
@@ -161,7 +165,7 @@ pub extern "C" fn cedar_update(
     }
 }
 
-/// As `cedar_update`, and tells whether the key was held before, and with which value.
+/// As `cedar_update`, and writes whether the key was held before, and with which value.
 ///
 /// # Errors
 /// As `cedar_update`; then neither is written.
@@ -180,7 +184,7 @@ pub extern "C" fn cedar_insert(
     ensures unchanged { IsSome (fault key.now value) → content handle.new ≡ content handle.old }
     ensures layout { layout_in handle.new ≡ layout_in handle.old }
 
-    //= An insert tells whether the key was held, and with which value. [with before]
+    //= An insert writes whether the key was held, and with which value. [with before]
     ensures held { result ≡ OK → IsTrue held.new ↔ IsSome (number_at (tree_in handle.old) key.now) }
     ensures before { result ≡ OK → IfSome (number_at (tree_in handle.old) key.now) (λ v. before.new ≡ v) }
     ensures faulty { IsSome (content handle.old) → IfSome (fault key.now value) (λ e. (result ≡ status_of e) × (position.new ≡ position_of position.old e)) }
@@ -209,10 +213,10 @@ pub extern "C" fn cedar_insert(
     }
 }
 
-/// Removes a key, and says whether it was held.
+/// Removes a key, and returns whether it was held.
 #[unsafe(no_mangle)]
 pub extern "C" fn cedar_erase(handle: &mut Handle, key: &[u8]) -> bool
-    //= An erasure says whether the key was held; the tree is `cut`, and the slots are as many. [with after, size]
+    //= An erasure returns whether the key was held. The tree is then `cut`, and there are as many slots as before. [with after, size]
     ensures answer { IsTrue result ↔ IsSome (number_at (tree_in handle.old) key.now) }
     ensures after { state_in handle.new ≡ option_map (λ s. erased s key.now) (state_in handle.old) }
     ensures size { (size_in handle.new ≡ size_in handle.old) × (capacity_in handle.new ≡ capacity_in handle.old) }
@@ -225,15 +229,15 @@ pub extern "C" fn cedar_erase(handle: &mut Handle, key: &[u8]) -> bool
     handle.held.lend().erase_bytes(key)
 }
 
-/// Tells the value at a key, and says whether the key is held.
+/// Writes the value at a key, and returns whether the key is held.
 #[unsafe(no_mangle)]
 pub extern "C" fn cedar_get(handle: &mut Reading, key: &[u8], value: &mut i32) -> bool
-    //= A look-up says whether the key is held, and tells its value or nothing. [with value, absent]
+    //= A look-up returns whether the key is held, and writes its value or nothing. [with value, absent]
     ensures answer { IsTrue result ↔ IsSome (number_at (shown_tree handle.old) key.now) }
     ensures value { IfSome (number_at (shown_tree handle.old) key.now) (λ v. value.new ≡ v) }
     ensures absent { number_at (shown_tree handle.old) key.now ≡ None → value.new ≡ value.old }
 
-    //= Look-ups, figures, walks, scans, tokens, saves and lists of keys leave the handle as it was. [also cedar_len, cedar_used_slots,
+    //= Look-ups, figures, walks, scans, tokens, saves and lists of keys don't change the handle. [also cedar_len, cedar_used_slots,
     //  cedar_capacity, cedar_spare_blocks, cedar_is_reduced, cedar_prefixes, cedar_predictions, cedar_prefixes_from,
     //  cedar_predictions_from, cedar_scan, cedar_segment, cedar_keywords, cedar_cheapest, cedar_save, cedar_keys, cedar_contains,
     //  cedar_longest_prefix, cedar_clone, cedar_entries_from]
@@ -258,7 +262,7 @@ impl AnyCedar {
     }
 }
 
-/// Tells the value at a key, and says whether the key is held.
+/// Writes the value at a key, and returns whether the key is held.
 fn get<L: Layout, const SLOTS: usize>(
     trie: &Trie<L, SLOTS, Global>,
     key: &[u8],
@@ -268,7 +272,7 @@ fn get<L: Layout, const SLOTS: usize>(
     ensures value { IfSome (number_at trie.now.state.tree key.now) (λ v. value.new ≡ v) }
     ensures absent { number_at trie.now.state.tree key.now ≡ None → value.new ≡ value.old }
 {
-    // The empty key, which is never held, is asked for by itself: else LLVM keeps a way for it into the code behind the others' loop, and
+    // The empty key, which is never held, is tested by itself: otherwise LLVM keeps a way for it into the code after the others' loop, and
     // a hit takes a jump more.
     if key.is_empty() {
         return trie.exact_match_search_bytes(key).is_some();
@@ -282,10 +286,10 @@ fn get<L: Layout, const SLOTS: usize>(
     }
 }
 
-/// Says whether a key is held. It takes no memory.
+/// Returns whether a key is held. It allocates nothing.
 #[unsafe(no_mangle)]
 pub extern "C" fn cedar_contains(handle: &mut Reading, key: &[u8]) -> bool
-    //= `cedar_contains` says whether the key is held.
+    //= `cedar_contains` returns whether the key is held.
     ensures answer { IsTrue result ↔ IsSome (number_at (shown_tree handle.old) key.now) }
     ensures kept { handle.new ≡ handle.old }
 {
@@ -295,12 +299,12 @@ pub extern "C" fn cedar_contains(handle: &mut Reading, key: &[u8]) -> bool
     handle.shown.see().dictionary().contains_key_bytes(key)
 }
 
-/// Tells the longest key that a text begins with, its value and how many bytes it has, and says whether there is one: else nothing is
-/// told. It goes along the text once, and takes no memory.
+/// Writes the value and the length of the longest key that a text begins with, and returns whether there is one; if not, nothing is
+/// written. It goes along the text once, and allocates nothing.
 #[unsafe(no_mangle)]
 pub extern "C" fn cedar_longest_prefix(handle: &mut Reading, text: &[u8], found: &mut Match) -> bool
-    //= `cedar_longest_prefix` says whether a text begins with a key, and tells value and length of the longest such key, or nothing. [with
-    //  told, absent; by longest_front]
+    //= `cedar_longest_prefix` returns whether a text begins with a key, and writes value and length of the longest such key, or nothing.
+    //  [with told, absent; by longest_front]
     ensures answer { IsTrue result ↔ IsSome (longest_front (shown_tree handle.old) text.now) }
     ensures told { IfSome (longest_front (shown_tree handle.old) text.now) (λ longest. found.new ≡ match_of longest) }
     ensures absent { longest_front (shown_tree handle.old) text.now ≡ None → found.new ≡ found.old }
@@ -339,17 +343,17 @@ impl AnyCedar {
     }
 }
 
-/// Opens a handle with a copy of another one's dictionary, in the place of the one that it has, if it is open. A change of the one doesn't
+/// Opens a handle with a copy of another one's dictionary. If the handle is open, the new one replaces the old one. A change of one doesn't
 /// show in the other.
 ///
 /// # Errors
-/// `CLOSED` where the handle that is copied is closed, and `MEMORY` where a request for memory was refused. Then the handle is as it was.
+/// `CLOSED` if the handle that is copied is closed, and `MEMORY` if an allocation was refused. Then the handle is as it was.
 #[unsafe(no_mangle)]
 pub extern "C" fn cedar_clone(original: &mut Reading, alloc: Global, handle: &mut Handle) -> u32
     ensures closed { (result ≡ CLOSED) ↔ (shown_in original.old ≡ None) }
 
-    //= A clone has an equal dictionary, its table field by field among it; where it is refused, for memory alone, the handle has what it had.
-    //  [with refused]
+    //= A clone has an equal dictionary, whose table is equal field by field. It fails only for lack of memory; then the handle has what it
+    //  had. [with refused]
     ensures cloned { result ≡ OK → content handle.new ≡ shown_in original.old }
     ensures refused { (result ≡ OK) ⊎ (((result ≡ CLOSED) ⊎ (result ≡ MEMORY)) × (content handle.new ≡ content handle.old)) }
     ensures kept { original.new ≡ original.old }
@@ -369,7 +373,7 @@ pub extern "C" fn cedar_clone(original: &mut Reading, alloc: Global, handle: &mu
 }
 
 impl AnyCedar {
-    /// An equal dictionary on the heap, or `None` where memory is refused.
+    /// An equal dictionary on the heap, or `None` if an allocation is refused.
     fn boxed_copy(&self, alloc: Global) -> Option<Box<AnyCedar, Global>>
         ensures { IfSome result (λ b. b.value ≡ self.now) }
     {
@@ -381,18 +385,17 @@ impl AnyCedar {
     }
 }
 
-/// Removes each key that begins with a prefix, and tells how many these were; the empty prefix removes all. It takes no memory, and gives
-/// none back.
+/// Removes each key that begins with a prefix, and writes how many these were; the empty prefix removes all. It neither allocates nor frees
+/// memory.
 ///
 /// # Errors
-/// `CLOSED` where the handle is closed: then nothing is told.
+/// `CLOSED` if the handle is closed: then nothing is written.
 #[unsafe(no_mangle)]
 pub extern "C" fn cedar_erase_prefix(handle: &mut Handle, prefix: &[u8], erased: &mut usize) -> u32
     ensures closed { (result ≡ CLOSED) ↔ (content handle.old ≡ None) }
 
-    //= An erasure by a prefix removes all keys that begin with it, and no other one, and tells how many these were; it is refused only by a
-    //  closed handle, which stays closed. [with refused, layout; by erased, ErasesUnder,
-    //  IsErasedUnder]
+    //= An erasure by a prefix removes all keys that begin with it, and no other one, and writes how many these were. It is refused only if
+    //  the handle is closed, which then stays closed. [with refused, layout; by erased, ErasesUnder, IsErasedUnder]
     ensures erased { IsSome (content handle.old) → ChangesBy (ErasesUnder prefix.now erased.new) handle.old handle.new }
     ensures layout { layout_in handle.new ≡ layout_in handle.old }
     ensures refused { (result ≡ OK) ⊎ ((result ≡ CLOSED) × (content handle.new ≡ content handle.old) × (erased.new ≡ erased.old)) }
@@ -404,10 +407,11 @@ pub extern "C" fn cedar_erase_prefix(handle: &mut Handle, prefix: &[u8], erased:
     OK
 }
 
-/// Removes all keys. It takes no memory and gives none back. On a closed handle it does nothing.
+/// Removes all keys. It neither allocates nor frees memory. On a closed handle it does nothing.
 #[unsafe(no_mangle)]
 pub extern "C" fn cedar_clear(handle: &mut Handle)
-    //= `cedar_clear` removes all keys; layout, settings and slots stay. A closed handle stays closed. [with closed, layout; by cleared, IsCleared]
+    //= `cedar_clear` removes all keys. Layout, settings and slots don't change. A closed handle stays closed. [with closed, layout; by
+    //  cleared, IsCleared]
     ensures cleared { IsSome (content handle.old) → ChangesBy (λ a b. IsCleared (dictionary_in a) (dictionary_in b)) handle.old handle.new }
     ensures closed { content handle.old ≡ None → content handle.new ≡ None }
     ensures layout { layout_in handle.new ≡ layout_in handle.old }

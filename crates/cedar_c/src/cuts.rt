@@ -11,15 +11,15 @@ use cedar_words::{cheapest, cheapest_by_characters};
 use cedarwood::{Layout, Trie};
 use std::alloc::Global;
 
-/// Cuts a whole text into keys and single bytes so that they cost the least together, writes these tokens into the first places of a
-/// buffer, and tells how many they are. A key costs its value. A byte without a value, which is told by the value -1, costs `unknown`; if
-/// `by_characters`, one that goes on with a character of UTF-8 costs nothing. Of cuts that cost the same it is the one with the longer
-/// token where they first differ, and with a key rather than a byte. There are never more tokens than bytes. It asks for 9 bytes of memory
-/// for each byte of the text, and for a list of the tokens.
+/// Cuts a whole text into keys and single bytes whose costs have the least sum, writes these tokens into the first places of a buffer, and
+/// how many they are. A key costs its value. A byte without a value is written with the value -1 and costs `unknown`; if `by_characters`,
+/// one that continues a character of UTF-8 costs nothing. Of cuts that cost the same it picks the one with the longer token where they
+/// first differ, and with a key rather than a byte. There are never more tokens than bytes. It allocates 9 bytes for each byte of the text,
+/// and a list of the tokens.
 ///
 /// # Errors
-/// `CLOSED` where the handle is closed, `NO_ROOM` where there are more tokens than the buffer has places: then it tells how many; `MEMORY`
-/// where a request for memory was refused. After an error the buffer is as it was.
+/// `CLOSED` if the handle is closed, `NO_ROOM` if there are more tokens than the buffer has places: then it writes how many; `MEMORY` if an
+/// allocation was refused. After an error the buffer is as it was.
 #[unsafe(no_mangle)]
 pub extern "C" fn cedar_cheapest(
     handle: &mut Reading,
@@ -30,13 +30,13 @@ pub extern "C" fn cedar_cheapest(
     found: &mut [Found],
     needed: &mut usize,
 ) -> u32
-    //= A cut of least cost answers `CLOSED` exactly if the handle is closed, `OK` only if all its tokens fit, `NO_ROOM` only if they don't,
-    //  and else `MEMORY`; after any error the buffer is as it was. [with refused, cut, room]
+    //= A cut of least cost returns `CLOSED` exactly if the handle is closed, `OK` only if all its tokens fit, `NO_ROOM` only if they don't,
+    //  and otherwise `MEMORY`. After any error the buffer is as it was. [with refused, cut, room]
     ensures closed { (result ≡ CLOSED) ↔ (shown_in handle.old ≡ None) }
 
     //= It writes the tokens of the text's cut of least cost, as `cheapest` or `cheapest_by_characters` has it, into the first places of a
-    //  buffer, and leaves the others; `needed` is how many they are, and stays where neither `OK` nor `NO_ROOM` is answered. [with room,
-    //  stays; by IsLeastCut, prices]
+    //  buffer, and doesn't change the others. `needed` is how many they are, and doesn't change if neither `OK` nor `NO_ROOM` is returned.
+    //  [with room, stays; by IsLeastCut, prices]
     ensures cut { result ≡ OK → WritesLeastCut (shown_tree handle.old) (prices by_characters unknown text.now) text.now found.old found.new needed.new }
     ensures room { result ≡ NO_ROOM → LacksPlacesForCut (shown_tree handle.old) (prices by_characters unknown text.now) text.now found.old needed.new }
     ensures refused { (result ≡ OK) ⊎ (((result ≡ CLOSED) ⊎ (result ≡ MEMORY) ⊎ (result ≡ NO_ROOM)) × (found.new ≡ found.old)) }
@@ -54,7 +54,7 @@ pub extern "C" fn cedar_cheapest(
 }
 
 impl AnyCedar {
-    /// Writes the tokens of a text's cut of least cost into the first places of a buffer, and tells how many they are.
+    /// Writes the tokens of a text's cut of least cost into the first places of a buffer, and how many they are.
     fn cheapest(
         &self,
         alloc: Global,
@@ -91,7 +91,7 @@ impl AnyCedar {
     }
 }
 
-/// The tokens of a text's cut of least cost, or `None` where memory is refused.
+/// The tokens of a text's cut of least cost, or `None` if an allocation is refused.
 fn either_cut<L: Layout, const SLOTS: usize>(
     trie: &Trie<L, SLOTS, Global>,
     alloc: Global,
@@ -108,7 +108,7 @@ fn either_cut<L: Layout, const SLOTS: usize>(
     }
 }
 
-/// Writes some tokens into the first places of a buffer, if it has room for all, and tells how many they are.
+/// Writes some tokens into the first places of a buffer, if it has room for all, and how many they are.
 fn write_whole(
     tokens: &[(usize, usize, Option<i32>)],
     found: &mut [Found],

@@ -33,8 +33,8 @@ fn key_length<T: Walked>(trie: &T, start: &[u8], at: Numbered) -> usize
     start.len() + at.depth
 }
 
-/// Writes the key of a node behind the first `used` bytes of a buffer, and says how many bytes it has: `None` where there is no room for
-/// them, or where the key doesn't begin with a prefix.
+/// Writes the key of a node after the first `used` bytes of a buffer, and returns how many bytes it has: `None` if there is no room for
+/// them, or if the key doesn't begin with a prefix.
 fn write_entry<T: Walked>(
     trie: &T,
     start: &[u8],
@@ -65,7 +65,7 @@ fn write_entry<T: Walked>(
     }
 }
 
-/// Writes a page of the entries that a walk has left: where their keys stand, and the keys. It says how many they are.
+/// Writes a page of the entries that a walk has left: where their keys begin, and the keys. It returns how many they are.
 fn write_page<T: Walked>(
     trie: &T,
     start: &[u8],
@@ -121,7 +121,7 @@ fn lack<T: Walked>(
     }
 }
 
-/// Writes a page of the entries that a walk has left, or tells how many bytes its first key needs.
+/// Writes a page of the entries that a walk has left, or how many bytes its first key needs.
 fn tell_page<T: Walked>(
     trie: &T,
     start: &[u8],
@@ -148,7 +148,7 @@ fn tell_page<T: Walked>(
     }
 }
 
-/// The node of the first entry behind a key.
+/// The node of the first entry after a key.
 fn first_behind<T: Walked>(trie: &T, key: &[u8], is_held: bool) -> Option<Numbered>
     requires well_formed { IsWellFormed T.slots (T.shown trie.now) }
     requires ordered { (T.shown trie.now).ordered ≡ true }
@@ -214,15 +214,15 @@ impl AnyCedar {
     }
 }
 
-/// Writes a page of the entries whose keys begin with a prefix, behind a key that was shown last, in the order of the walk: where their keys
-/// stand, how long they are and their values into the places, and the keys one after another into the bytes. It tells how many they are: as
-/// many as there are places and room for; none are left where it tells 0. Where `behind` is empty the page begins with the first entry. It
-/// looks `behind` up, walks over no entry before the page, and takes no memory.
+/// Writes a page of the entries whose keys begin with a prefix and come after `behind`, in iteration order: where their keys begin, how
+/// long they are and their values into the places, and the keys one after another into the bytes. It writes how many they are: as many as
+/// there are places and room for; if that is 0, none are left. If `behind` is empty, the page begins with the first entry. It looks
+/// `behind` up, visits no entry before the page, and allocates nothing.
 ///
 /// # Errors
-/// `CLOSED` where the handle is closed; `NOT_ASCENDING` where `behind` isn't empty and the labels of the dictionary don't ascend; `NO_ROOM`
-/// where the next key, which may be the first one behind those with the prefix, has more bytes than there is room for: then it tells how
-/// many. Then nothing else is written.
+/// `CLOSED` if the handle is closed; `NOT_ASCENDING` if `behind` isn't empty and the labels of the dictionary don't ascend; `NO_ROOM` if
+/// the next key, which may be the first one after those with the prefix, has more bytes than there is room for: then it writes how many.
+/// After an error nothing else is written.
 #[unsafe(no_mangle)]
 pub extern "C" fn cedar_entries_from(
     handle: &mut Reading,
@@ -235,13 +235,13 @@ pub extern "C" fn cedar_entries_from(
 ) -> u32
     ensures closed { (result ≡ CLOSED) ↔ (shown_in handle.old ≡ None) }
 
-    //= A page of entries has those behind a key by bytes, or from the first one on where no key is given, in the order of the walk, as long
-    //  as their keys begin with the prefix, and there are places and room for their bytes; `count` is how many. The places tell where each
-    //  key stands, its length and its value, and the others stay; the keys stand one after another in the first bytes. [by page,
-    //  TellsEntries, following, page_of]
-    //= It is refused exactly by a closed handle, by `NOT_ASCENDING` where a key is given and labels don't ascend, and else by `NO_ROOM`
-    //  where the first key to come has more bytes than there are: `need` is how many. Then nothing else is written. [with closed,
-    //  closed_stays]
+    //= A page of entries has those after a key by bytes, or from the first one on if no key is given, in iteration order, as long as their
+    //  keys begin with the prefix, and there are places and room for their bytes. `count` is how many. Each place has where its key is, its
+    //  length and its value, and the other places don't change. The keys are one after another in the first bytes. [by page, TellsEntries,
+    //  following, page_of]
+    //= It is refused exactly if the handle is closed, with `NOT_ASCENDING` if a key is given and labels don't ascend, and otherwise with
+    //  `NO_ROOM` if the first key to come has more bytes than there is room for: `need` is how many. Then nothing else is written. [with
+    //  closed, closed_stays]
     ensures page { IfSome (shown_in handle.old) (PageOf prefix.now behind.now found.old found.new keys.old keys.new count.old count.new need.old need.new result) }
     ensures closed_stays { result ≡ CLOSED → WritesNothing found.old found.new keys.old keys.new count.old count.new × (need.new ≡ need.old) }
     ensures kept { handle.new ≡ handle.old }

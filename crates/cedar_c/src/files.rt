@@ -18,11 +18,10 @@ const LAYOUT_PLACE: usize = 13;
 /// The byte of the reduced layout.
 const REDUCED_LAYOUT: u8 = 1;
 
-/// Opens a handle with the dictionary that a file's bytes are of, in the place of the one that it has. It asks for
-/// `memory_limit` bytes at most.
+/// Opens a handle with the dictionary of a file's bytes, which replaces the one that it has. It allocates at most `memory_limit` bytes.
 ///
 /// # Errors
-/// The number of the file's first refusal; `MEMORY` where a request for memory was refused. Then the handle is as it was.
+/// The number of the file's first fault; `MEMORY` if an allocation was refused. Then the handle is as it was.
 #[unsafe(no_mangle)]
 pub extern "C" fn cedar_load(
     handle: &mut Handle,
@@ -30,14 +29,14 @@ pub extern "C" fn cedar_load(
     bytes: &[u8],
     memory_limit: usize,
 ) -> u32
-    //= A load that answers `OK` opens the handle with the dictionary whose table's bytes were given, in either version, and the table is
-    //  well-formed; else the handle has what it had. [also cedar_load_reduced; by loaded, refused]
-    //= Where the header refuses the bytes, by the layout of the call, it answers that refusal's number or want of memory; a failed read
-    //  (`FILE_UNREAD`) is never answered. [also cedar_load_reduced; by header, read]
-    //= What is refused before memory is asked for (the header itself, and its sizes) is told by just its number; behind a header that
-    //  passes the answer is `OK`, want of memory, or `FILE_CORRUPT`, and that only where the bytes are of no well-formed table. [also
-    //  cedar_load_reduced; by early, behind]
-    //= A loaded dictionary stands on the table that was loaded. [also cedar_load_reduced; by stands]
+    //= A load that returns `OK` opens the handle with the dictionary whose table's bytes were given, in either version, and the table is
+    //  well-formed. Otherwise the handle has what it had. [also cedar_load_reduced; by loaded, refused]
+    //= If the header refuses the bytes, by the layout of the call, it returns that refusal's number or reports lack of memory. It never
+    //  returns a failed read (`FILE_UNREAD`). [also cedar_load_reduced; by header, read]
+    //= What is refused before an allocation (the header itself, and its sizes) is reported by exactly its number. After a header that
+    //  passes it returns `OK`, or reports lack of memory, or returns `FILE_CORRUPT`, and that only if the bytes are of no well-formed
+    //  table. [also cedar_load_reduced; by early, behind]
+    //= A loaded dictionary is the one that the loaded table holds. [also cedar_load_reduced; by stands]
     ensures opens { OpensLoaded default_layout memory_limit bytes.now handle.old handle.new result }
 {
     renew(handle, alloc, false, bytes, memory_limit)
@@ -59,13 +58,13 @@ pub extern "C" fn cedar_load_reduced(
     renew(handle, alloc, true, bytes, memory_limit)
 }
 
-/// Opens a handle with the dictionary that a file's bytes are of, of the layout that the file names, in the place of the one that it has, if
-/// it is open. It asks for `memory_limit` bytes at most.
+/// Opens a handle with the dictionary of a file's bytes, of the layout that the file names. If the handle is open, the new one replaces the
+/// old one. It allocates at most `memory_limit` bytes.
 ///
 /// # Errors
-/// As `cedar_load_reduced` where the file's byte names the reduced layout, and else as `cedar_load`: so a file that names neither is refused
-/// by `FILE_LAYOUT` unless something before that is wrong with it, and one that ends before its byte by what that is, or as too short. Then
-/// the handle is as it was.
+/// As `cedar_load_reduced` if the file's byte names the reduced layout, and otherwise as `cedar_load`: so a file that names neither is
+/// refused with `FILE_LAYOUT` unless something before that byte is wrong, and a file that ends before it is refused with what is wrong
+/// there, or as too short. Then the handle is as it was.
 #[unsafe(no_mangle)]
 pub extern "C" fn cedar_load_any(
     handle: &mut Handle,
@@ -73,8 +72,8 @@ pub extern "C" fn cedar_load_any(
     bytes: &[u8],
     memory_limit: usize,
 ) -> u32
-    //= `cedar_load_any` does what `cedar_load_reduced` does where the file's byte names the reduced layout, and else what `cedar_load` does.
-    //  [by OpensLoaded, layout_named]
+    //= `cedar_load_any` does what `cedar_load_reduced` does if the file's byte names the reduced layout, and otherwise what `cedar_load`
+    //  does. [by OpensLoaded, layout_named]
     ensures opens { OpensLoaded (layout_named bytes.now) memory_limit bytes.now handle.old handle.new result }
 {
     renew(handle, alloc, names_reduced(bytes), bytes, memory_limit)
@@ -90,7 +89,7 @@ fn renew(
 ) -> u32
     ensures opens { OpensLoaded (layout_if is_reduced) memory_limit bytes.now handle.old handle.new result }
 {
-    match boxed(alloc, is_reduced, bytes, memory_limit) {
+    match load_on_heap(alloc, is_reduced, bytes, memory_limit) {
         Ok(cedar) => {
             let _ = handle.take(alloc);
             *handle = Handle::of(cedar);
@@ -111,7 +110,7 @@ fn names_reduced(bytes: &[u8]) -> bool
 }
 
 /// The dictionary that a file's bytes are of, on the heap.
-fn boxed(
+fn load_on_heap(
     alloc: Global,
     is_reduced: bool,
     bytes: &[u8],
@@ -126,7 +125,7 @@ fn boxed(
     ensures stands { IfOk result (λ b. IsOnTable most_slots (dictionary_in b.value)) }
     ensures read { IfErr result (λ status. status ≢ FILE_UNREAD) }
 {
-    match AnyCedar::loaded(alloc, is_reduced, bytes, memory_limit) {
+    match AnyCedar::load_file(alloc, is_reduced, bytes, memory_limit) {
         Ok(cedar) => match Box::new(alloc, cedar) {
             Ok(cedar) => Ok(cedar),
             Err(_) => Err(MEMORY),
@@ -138,7 +137,7 @@ fn boxed(
 impl AnyCedar {
     /// The dictionary that a file's bytes are of.
     #[tactic(auto, using(cedarwood::proofs::DictionaryLemmas::default_limit))]
-    fn loaded(
+    fn load_file(
         alloc: Global,
         is_reduced: bool,
         bytes: &[u8],

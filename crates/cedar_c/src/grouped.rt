@@ -9,16 +9,16 @@ use cedar_journal::{MAX_END, MAX_PAYLOAD};
 use cedar_plan::Plan;
 use cedar_store::BATCH;
 
-/// How many bytes stand in front of the records of a group: the gate of its own record, its length in four bytes, and what kind it is of.
+/// How many bytes come before the records of a group: the gate of its own record, its length in four bytes, and what kind it is of.
 const HEAD: usize = 6;
 
-/// Makes one record of those of several changes, and tells the plan by which it is appended where the records end; then they end elsewhere.
-/// The records of the changes stand in the buffer from its seventh place on, one behind another, each without its last byte, as
-/// `cedar_plan_put` and `cedar_plan_erase` have written them, and have so many bytes together. The place behind them is written to as well.
+/// Makes one record of those of several changes, and writes the plan by which it is appended where the records end; then they end
+/// elsewhere. The records of the changes are in the buffer from its seventh place on, one after another, each without its last byte, as
+/// `cedar_plan_put` and `cedar_plan_erase` have written them, and have so many bytes together. The place after them is written to as well.
 ///
 /// # Errors
-/// `STORE_FULL` where the records end behind 2^60 bytes, `STORE_TOO_LONG` where those of the changes have 2^32 - 1 bytes or more, `NO_ROOM`
-/// where the buffer has less than 7 places more. Then nothing changes.
+/// `STORE_FULL` if the records end after 2^60 bytes, `STORE_TOO_LONG` if those of the changes have 2^32 - 1 bytes or more, `NO_ROOM` if the
+/// buffer has fewer than 7 places more. Then nothing changes.
 #[unsafe(no_mangle)]
 pub extern "C" fn cedar_plan_group(
     size: usize,
@@ -26,11 +26,11 @@ pub extern "C" fn cedar_plan_group(
     buffer: &mut [u8],
     plan: &mut Plan,
 ) -> u32
-    //= Once the plan of a group is carried out, a file that stood for some dictionary stands for the one with all changes of the group, in their
-    //  order, on the disk. A crash at any moment, also where a step fails, leaves the one or the other. [by IsGroup, IsChangePlan]
+    //= Once the plan of a group is carried out, a file that stood for some dictionary stands for the one with all changes of the group, in
+    //  their order, on the disk. A crash at any moment, even if a step fails, leaves the one or the other. [by IsGroup, IsChangePlan]
     ensures planned { result ≡ OK → IsGroup (works_of buffer.new plan.new) end.old end.new (take size (drop 6 buffer.old)) }
 
-    //= A group is refused just where the records end too far back, its record would be too long, or the buffer has too few places; then
+    //= A group is refused exactly if the records end too far back, its record would be too long, or the buffer has too few places. Then
     //  nothing changes. [with untold]
     ensures refused { (result ≡ OK) ⊎ LacksGroup end.old size (length buffer.old) result }
     ensures untold { (result ≡ OK) ⊎ ((end.new ≡ end.old) × (plan.new ≡ plan.old) × (buffer.new ≡ buffer.old)) }
@@ -62,7 +62,7 @@ fn check_room(size: usize, end: usize, places: usize) -> Result<(), u32>
     Ok(())
 }
 
-/// Writes the head of a group's record in front of the records of its changes, and the closed gate behind them.
+/// Writes the head of a group's record in front of the records of its changes, and the closed gate after them.
 fn frame_group(size: usize, buffer: &mut [u8])
     requires short { size + 1 < 2 ^ 32 }
     requires room { size + 7 ≤ length buffer.old }

@@ -10,13 +10,12 @@ use crate::status::{CLOSED, MEMORY, NO_ROOM, OK};
 use cedarwood::{Layout, Trie};
 use std::alloc::Global;
 
-/// Writes the bytes of all keys into the first places of a buffer, one key after another in the order of the walk, and tells how
-/// many bytes they are: `cedar_predictions` of the empty text tells each key's value and length in the same order. It asks for
-/// memory for a copy of them.
+/// Writes the bytes of all keys into the first places of a buffer, one key after another in iteration order, and how many bytes they are:
+/// `cedar_predictions` of the empty text finds each key's value and length in the same order. It allocates a copy of them.
 ///
 /// # Errors
-/// `CLOSED` where the handle is closed, `NO_ROOM` where the keys have more bytes than the buffer has places: then it tells how many;
-/// `MEMORY` where a request for memory was refused. After an error the buffer is as it was.
+/// `CLOSED` if the handle is closed, `NO_ROOM` if the keys have more bytes than the buffer has places: then it writes how many; `MEMORY` if
+/// an allocation was refused. After an error the buffer is as it was.
 #[unsafe(no_mangle)]
 pub extern "C" fn cedar_keys(
     handle: &mut Reading,
@@ -26,7 +25,7 @@ pub extern "C" fn cedar_keys(
 ) -> u32
     ensures closed { (result ≡ CLOSED) ↔ (shown_in handle.old ≡ None) }
 
-    //= All keys are written so, one after another in the order of the walk. [with needed]
+    //= All keys are written in this way, one after another in iteration order. [with needed]
     ensures written { result ≡ OK → buffer.new ≡ keys_in (walk (shown_tree handle.old)) ++ drop needed.new buffer.old }
     ensures needed { (result ≡ OK) ⊎ (result ≡ NO_ROOM) → needed.new ≡ length (keys_in (walk (shown_tree handle.old))) }
     ensures room { (result ≡ OK → needed.new ≤ length buffer.old) × (result ≡ NO_ROOM → length buffer.old < needed.new) }
@@ -54,7 +53,7 @@ impl AnyCedar {
     }
 }
 
-/// The bytes of all keys, one key after another in the order of the walk, or `None` where memory is refused.
+/// The bytes of all keys, one key after another in iteration order, or `None` if an allocation is refused.
 fn keys_of<L: Layout, const SLOTS: usize>(
     trie: &Trie<L, SLOTS, Global>,
     alloc: Global,

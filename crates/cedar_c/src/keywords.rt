@@ -22,7 +22,7 @@ fn keywords<T: LongestPrefix>(trie: &T, text: &[u8], next: &mut usize, found: &m
     count
 }
 
-/// Passes the token at a place of a text. If it is a key, this is written behind the first `count` places of a buffer. It says how many
+/// Passes the token at a place of a text. If it is a key, this is written after the first `count` places of a buffer. It returns how many
 /// places are written then.
 fn pass_token<T: LongestPrefix>(
     trie: &T,
@@ -67,7 +67,7 @@ impl AnyCedar {
 
 /// Writes the keywords of a text from a place on, leftmost longest: of the keys that begin first the longest, and so on from its end. It
 /// ends where the text or the room does, and `next` is the end of the last one then, so that a call from there goes on. It returns how many
-/// places of the buffer it wrote; what the others have then is left open. It takes no memory.
+/// places of the buffer it wrote; what the others have then is left open. It allocates nothing.
 #[unsafe(no_mangle)]
 pub extern "C" fn cedar_keywords(
     handle: &mut Reading,
@@ -75,8 +75,8 @@ pub extern "C" fn cedar_keywords(
     next: &mut usize,
     found: &mut [Found],
 ) -> usize
-    //= Keywords are written so too, from a place on where a token begins: what stood from the old `next` on is what was written, and then
-    //  what stands from the new one on. [by found_keywords]
+    //= Keywords are written in this way too, from a place on where a token begins: those from the old `next` on are those that were
+    //  written, and then those from the new one on. [by found_keywords]
     ensures told { IsSome (shown_in handle.old) → WritesPiece (found_keywords (shown_tree handle.old)) text.now next.old next.new (take result found.new) }
     ensures full { (length text.now ≤ next.new) ⊎ (result ≡ length found.new) }
     ensures within { (result ≤ length found.new) × (next.old ≤ next.new) }

@@ -1,14 +1,16 @@
 //! The dictionary for C, and so for C++ and Python: `include/cedar.h` declares the exports, and says what their callers owe.
 //!
 //! C has a [`handle::Handle`]: a pointer to a dictionary of either layout on the C library's heap, or none. Each call makes the
-//! dictionary's own call where it lies; one that opens or closes a handle alone takes a dictionary out of it or puts one in. Calls that
-//! only read take the same words as a [`reading::Reading`].
+//! dictionary's own call where it is; one that opens or closes a handle alone takes a dictionary out of it or puts one in. Calls that only
+//! read take the same words as a [`reading::Reading`].
 #![tactic(auto)]
 
 mod any;
+mod builds;
 mod calls;
 mod cuts;
 mod entries;
+mod erasures;
 mod figures;
 mod files;
 mod grouped;
@@ -26,6 +28,5 @@ mod room;
 mod save;
 mod scans;
 mod shown;
-mod sorted;
 mod status;
 mod walks;

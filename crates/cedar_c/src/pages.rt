@@ -9,7 +9,7 @@ use crate::walks::{Finds, Match, put_at};
 use cedarwood::{Layout, Trie};
 use std::alloc::Global;
 
-/// Passes over the first of what a walk finds, and says whether it finds so many.
+/// Passes over the first of what a walk finds, and returns whether it finds so many.
 fn pass<F: Finds>(walk: &mut F, count: usize) -> bool
     ensures passed { IsTrue result → F.left walk.new ≡ drop count (F.left walk.old) }
     ensures ended { result ≡ false → drop count (F.left walk.old) ≡ [] }
@@ -24,8 +24,8 @@ fn pass<F: Finds>(walk: &mut F, count: usize) -> bool
     true
 }
 
-/// Writes what a walk finds into the places of a buffer, till it is full or nothing is left, and says how many it wrote. Each key has
-/// `more` bytes than the walk tells of it.
+/// Writes what a walk finds into the places of a buffer, until it is full or nothing is left, and returns how many it wrote. Each key has
+/// `more` bytes more than the walk says.
 fn fill_page<F: Finds>(walk: &mut F, more: usize, matches: &mut [Match]) -> usize
     requires { Fit more (F.left walk.old) }
     ensures count { result ≡ length (take (length matches.old) (F.left walk.old)) }
@@ -58,7 +58,7 @@ fn go_on<F: Finds>(walk: &mut F, more: usize, next: &mut usize, matches: &mut [M
     count
 }
 
-/// Writes the held fronts of a text from a place of the walk on.
+/// Writes the keys that a text begins with from a place of the walk on.
 fn go_on_prefixes<L: Layout, const SLOTS: usize>(
     trie: &Trie<L, SLOTS, Global>,
     text: &[u8],
@@ -69,7 +69,7 @@ fn go_on_prefixes<L: Layout, const SLOTS: usize>(
     ensures filled { matches.new ≡ filled_matches matches.old (drop next.old (front_keys trie.now.state.tree text.now)) }
     ensures next { next.new ≡ next.old + result }
 {
-    // A walk tells the place of a key's last byte.
+    // A walk gives the index of a key's last byte.
     go_on(&mut trie.common_prefix_iter_bytes(text), 1, next, matches)
 }
 
@@ -119,7 +119,7 @@ impl AnyCedar {
     }
 }
 
-/// As `cedar_prefixes`, without the first `next` of them: it says how many it wrote, and sets `next` to where the same call goes on.
+/// As `cedar_prefixes`, without the first `next` of them: it returns how many it wrote, and sets `next` to where the same call goes on.
 #[unsafe(no_mangle)]
 pub extern "C" fn cedar_prefixes_from(
     handle: &mut Reading,
@@ -127,8 +127,8 @@ pub extern "C" fn cedar_prefixes_from(
     next: &mut usize,
     matches: &mut [Match],
 ) -> usize
-    //= A walk in pieces writes what such a walk has behind the first `next`, as far as there are places, leaves the others, answers how
-    //  many it wrote and adds that to `next`. [with filled, next; also cedar_predictions_from]
+    //= A walk in pieces writes what such a walk has after the first `next`, as far as there are places, and doesn't change the others. It
+    //  returns how many it wrote and adds that to `next`. [with filled, next; also cedar_predictions_from]
     ensures count { result ≡ length (take (length matches.old) (drop next.old (front (shown_tree handle.old) text.now))) }
     ensures filled { matches.new ≡ filled_matches matches.old (drop next.old (front_keys (shown_tree handle.old) text.now)) }
     ensures next { next.new ≡ next.old + result }
@@ -144,7 +144,7 @@ pub extern "C" fn cedar_prefixes_from(
         .prefixes_from(text, next, matches)
 }
 
-/// As `cedar_predictions`, without the first `next` of them: it says how many it wrote, and sets `next` to where the same call goes on.
+/// As `cedar_predictions`, without the first `next` of them: it returns how many it wrote, and sets `next` to where the same call goes on.
 #[unsafe(no_mangle)]
 pub extern "C" fn cedar_predictions_from(
     handle: &mut Reading,

@@ -17,8 +17,11 @@ pub struct Pair<'a> {
     pub value: i32,
 }
 
-/// The pairs as the dictionary's own calls take them, or `None` where memory is refused.
-pub(crate) fn taken<'a>(alloc: Global, pairs: &[Pair<'a>]) -> Option<Vec<(&'a [u8], i32), Global>>
+/// The pairs as the dictionary's own calls take them, or `None` if an allocation is refused.
+pub(crate) fn take_pairs<'a>(
+    alloc: Global,
+    pairs: &[Pair<'a>],
+) -> Option<Vec<(&'a [u8], i32), Global>>
     ensures { IfSome result (λ v. v.items ≡ map taken_pair pairs.now) }
 {
     let mut taken = Vec::new(alloc);
@@ -29,7 +32,7 @@ pub(crate) fn taken<'a>(alloc: Global, pairs: &[Pair<'a>]) -> Option<Vec<(&'a [u
     Some(taken)
 }
 
-/// Stores some pairs, as the dictionary's own call does; or none, where memory is refused.
+/// Stores some pairs, as the dictionary's own call does; or none, if an allocation is refused.
 fn store_all<L: Layout, const SLOTS: usize>(
     trie: &mut Trie<L, SLOTS, Global>,
     alloc: Global,
@@ -43,7 +46,7 @@ fn store_all<L: Layout, const SLOTS: usize>(
     ensures part { OnErr result ((trie.new ≡ trie.old) ⊎ StoresPart trie.old.state trie.new.state (entries_in pairs.now)) }
     ensures max_trial { trie.new.max_trial ≡ trie.old.max_trial }
 {
-    match taken(alloc, pairs) {
+    match take_pairs(alloc, pairs) {
         Some(taken) => trie.build_bytes(taken.as_slice()),
         None => Err(CedarError::Memory),
     }
@@ -67,12 +70,11 @@ impl AnyCedar {
     }
 }
 
-/// Stores some pairs, one after another: a key's last value stands. All are tested first.
+/// Stores some pairs, one after another: the last value of a key counts. All are tested first.
 ///
 /// # Errors
-/// `CLOSED` where the handle is closed; `MEMORY` where a request for memory was refused; the number of the first pair's fault that has
-/// one, and then nothing has changed; `MEMORY` or `SLOT_LIMIT` where memory or slots were wanted for a pair: then those before it are
-/// stored.
+/// `CLOSED` if the handle is closed; `MEMORY` if an allocation was refused; the number of the first pair's fault that has one, and then
+/// nothing has changed; `MEMORY` or `SLOT_LIMIT` if memory or slots were lacking for a pair: then those before it are stored.
 #[unsafe(no_mangle)]
 pub extern "C" fn cedar_update_all(
     handle: &mut Handle,
@@ -80,20 +82,19 @@ pub extern "C" fn cedar_update_all(
     pairs: &[Pair<'_>],
     position: &mut usize,
 ) -> u32
-    //= Whatever it answers, a front of the pairs is stored and nothing else; it answers `CLOSED` exactly if the handle is closed. [with
-    //  front]
+    //= Whatever it returns, some first pairs are stored and nothing else. It returns `CLOSED` exactly if the handle is closed. [with front]
     ensures closed { (result ≡ CLOSED) ↔ (content handle.old ≡ None) }
 
-    //= Some pairs are all stored in turn; with a fault among them nothing changes, and the first fault is told, or want of memory; without
-    //  one the answer is `OK`, `MEMORY` or `SLOT_LIMIT`. [with faulty, refused]
+    //= Some pairs are all stored in turn. With a fault among them nothing changes, and the call returns the first fault, or reports lack of
+    //  memory. Without one it returns `OK`, `MEMORY` or `SLOT_LIMIT`. [with faulty, refused]
     ensures ok { result ≡ OK → state_in handle.new ≡ option_map (λ s. all_stored s (entries_in pairs.now)) (state_in handle.old) }
     ensures faulty { IsSome (content handle.old) → IfSome (first_fault (entries_in pairs.now)) (RefusesAll handle.old handle.new position.old position.new result) }
     ensures front { HoldsFront handle.old handle.new (entries_in pairs.now) }
     ensures layout { layout_in handle.new ≡ layout_in handle.old }
     ensures refused { IsSome (content handle.old) → first_fault (entries_in pairs.now) ≡ None → (result ≡ OK) ⊎ (result ≡ MEMORY) ⊎ (result ≡ SLOT_LIMIT) }
 
-    //= After an error nothing has changed, or the pairs before one whose key isn't held then are stored; `SLOT_LIMIT` is told only where
-    //  all slots are in use. [with part]
+    //= After an error nothing has changed, or the pairs before one whose key isn't held then are stored. The call returns `SLOT_LIMIT` only
+    //  if all slots are in use. [with part]
     ensures limit { result ≡ SLOT_LIMIT → size_in handle.new ≡ most_slots }
     ensures part { (result ≡ OK) ⊎ (content handle.new ≡ content handle.old) ⊎ HoldsPart handle.old handle.new (entries_in pairs.now) }
     ensures stays { TellsPosition result ⊎ (position.new ≡ position.old) }

@@ -1,8 +1,8 @@
-//! The dictionary of a store, whose file C keeps (`c/store.c`): each call writes down a plan, and C carries it out before it acknowledges the
-//! change. These exports are the library's own, and no program sees them.
+//! The dictionary of a store, whose file C keeps (`c/store.c`): each call writes down a plan, and C carries it out before it acknowledges
+//! the change. These exports are the library's own, and no program sees them.
 
 ghost use Rattle.std.specs.Prelude.{◌≡◌, ◌≢◌, ◌⊎◌, ◌↔◌, ◌+◌, ◌<◌, ◌≤◌, ◌^◌, ◌++◌, ◌∷◌, ℕ, List, IfErr, IfOk, IfSome, IsFalse, IsSome, IsTrue, None, Some, length, option_map, take};
-ghost use Rattle.cedar_c.specs.Words.{AddsChange, append_works, content, dictionary_in, end_of, erase_at, erased, fault, framed, HasExtent, IsChangePlan, IsOpening, LacksChange, LacksRecord, layout_if, layout_in, layout_of, LoadCause, number_at, position_of, put_at, state_in, state_of, status_of, store_status, stored, TellsWhy, tree_in, works_of};
+ghost use Rattle.cedar_c.specs.Words.{AddsChange, append_works, content, dictionary_in, end_of, erase_at, erased, fault, framed, HasExtent, IsChangePlan, IsErasurePlan, IsOpening, IsPutPlan, LacksChange, LacksRecord, layout_if, layout_in, layout_of, LoadCause, number_at, position_of, put_at, state_in, state_of, status_of, store_status, stored, TellsWhy, tree_in, works_of};
 
 use crate::any::AnyCedar;
 use crate::handle::Handle;
@@ -14,13 +14,13 @@ use cedar_store::{DurableError, words_of};
 use cedarwood::CedarError;
 use std::alloc::Global;
 
-/// Opens a handle with the dictionary that a file's bytes stand for, in the place of the one that it has, if it is open. The file was synced,
-/// and then read. It tells the plan by which the file is made ready, whose bytes it writes into the first places of a buffer, and where the
-/// records end then.
+/// Opens a handle with the dictionary that a file's bytes stand for. If the handle is open, the new one replaces the old one. The file was
+/// synced, and then read. It writes the plan by which the file is made ready, whose bytes it writes into the first places of a buffer, and
+/// where the records end then.
 ///
 /// # Errors
-/// `NO_ROOM` where the buffer has fewer than 14 places, `STORE_FOREIGN` where the file is of another kind, `STORE_CORRUPT` where one of its
-/// records is no change, `MEMORY` and `SLOT_LIMIT`. Then the handle is as it was, and nothing is told.
+/// `NO_ROOM` if the buffer has fewer than 14 places, `STORE_FOREIGN` if the file is of another kind, `STORE_CORRUPT` if one of its records
+/// is no change, `MEMORY` and `SLOT_LIMIT`. Then the handle is as it was, and nothing is written.
 #[unsafe(no_mangle)]
 pub extern "C" fn cedar_plan_open(
     handle: &mut Handle,
@@ -31,16 +31,16 @@ pub extern "C" fn cedar_plan_open(
     buffer: &mut [u8],
     plan: &mut Plan,
 ) -> u32
-    //= A store that is opened has the dictionary that the file's bytes stand for, of the layout that was asked for. [with layout]
+    //= A store that is opened has the dictionary that the file's bytes stand for, of the layout that was given. [with layout]
     ensures stands { result ≡ OK → (state_of bytes.now ≡ state_in handle.new) × IsSome (content handle.new) }
     ensures layout { result ≡ OK → layout_in handle.new ≡ Some (layout_if is_reduced) }
 
     //= Once the plan of an opening is carried out, the file is at rest, on the disk, and stands for that dictionary. A crash at any moment,
-    //  also where a step fails, leaves a file that stands for it. [by IsOpening]
+    //  even if a step fails, leaves a file that stands for it. [by IsOpening]
     ensures ready { result ≡ OK → IfSome (state_in handle.new) (IsOpening bytes.now (works_of buffer.new plan.new) end.new) }
 
-    //= A file is refused by its number as foreign or corrupt just as by a store, or for want of memory or slots; then the handle has what it
-    //  had, and no plan is told. [with kept, told; by LoadCause]
+    //= A file is refused by its number as foreign or corrupt exactly as by a store, or for lack of memory or slots. Then the handle has
+    //  what it had, and no plan is written. [with kept, told; by LoadCause]
     ensures refused { (result ≡ OK) ⊎ ((result ≡ NO_ROOM) × (length buffer.old < 14)) ⊎ TellsWhy bytes.now result }
     ensures kept { (result ≡ OK) ⊎ (content handle.new ≡ content handle.old) }
     ensures told { (result ≡ OK) ⊎ ((end.new ≡ end.old) × (plan.new ≡ plan.old)) }
@@ -48,7 +48,7 @@ pub extern "C" fn cedar_plan_open(
     if let Err(status) = place(&HEADER, buffer) {
         return status;
     }
-    match boxed(alloc, is_reduced, bytes) {
+    match replay_on_heap(alloc, is_reduced, bytes) {
         Ok((cedar, extent)) => {
             let _ = handle.take(alloc);
             *handle = Handle::of(cedar);
@@ -60,14 +60,14 @@ pub extern "C" fn cedar_plan_open(
     }
 }
 
-/// Stores a value at a key, and tells whether the key was held before, and with which value. It writes the change's record into the first
-/// places of a buffer, whose other places may be written to as well, and tells the plan by which that is appended where the records end;
-/// then they end elsewhere.
+/// Stores a value at a key, and writes whether the key was held before, and with which value. It writes the change's record into the first
+/// places of a buffer, whose other places may be written to as well, and the plan by which that is appended where the records end; then
+/// they end elsewhere.
 ///
 /// # Errors
-/// `CLOSED`, and the number of the pair's first fault; `STORE_FULL` where the records end behind 2^60 bytes; `STORE_TOO_LONG` where the key
-/// has 2^32 - 5 bytes or more; `NO_ROOM` where the buffer has fewer places than the key has bytes and 11 more; `MEMORY` and `SLOT_LIMIT`. Then
-/// the dictionary holds what it held, and nothing is told.
+/// `CLOSED`, and the number of the pair's first fault; `STORE_FULL` if the records end after 2^60 bytes; `STORE_TOO_LONG` if the key has
+/// 2^32 - 5 bytes or more; `NO_ROOM` if the buffer has fewer places than the key has bytes and 11 more; `MEMORY` and `SLOT_LIMIT`. Then the
+/// dictionary holds what it held, and nothing is reported.
 #[unsafe(no_mangle)]
 pub extern "C" fn cedar_plan_put(
     handle: &mut Handle,
@@ -81,11 +81,11 @@ pub extern "C" fn cedar_plan_put(
     before: &mut i32,
     position: &mut usize,
 ) -> u32
-    //= A change of a store answers `CLOSED` exactly if the handle is closed. [also cedar_plan_erase]
+    //= A change of a store returns `CLOSED` exactly if the handle is closed. [also cedar_plan_erase]
     ensures closed { (result ≡ CLOSED) ↔ (content handle.old ≡ None) }
 
-    //= A put that answers `OK` has stored the value, and tells whether the key was held, and with which value; after an error the tree is as it
-    //  was, and nothing is told. [with kept, held, before, untold, layout]
+    //= A put that returns `OK` has stored the value, and writes whether the key was held, and with which value. After an error the tree is
+    //  as it was, and nothing is reported. [with kept, held, before, untold, layout]
     ensures stored { result ≡ OK → state_in handle.new ≡ option_map (λ s. stored s key.now value) (state_in handle.old) }
     ensures kept { (result ≡ OK) ⊎ (state_in handle.new ≡ state_in handle.old) }
     ensures held { result ≡ OK → IsTrue held.new ↔ IsSome (number_at (tree_in handle.old) key.now) }
@@ -93,16 +93,16 @@ pub extern "C" fn cedar_plan_put(
     ensures untold { (result ≡ OK) ⊎ ((held.new ≡ held.old) × (before.new ≡ before.old) × (end.new ≡ end.old) × (plan.new ≡ plan.old)) }
     ensures layout { layout_in handle.new ≡ layout_in handle.old }
 
-    //= Once the plan of a put is carried out, a file that stood for the dictionary from before it stands for the one with it, on the disk. A
-    //  crash at any moment, also where a step fails, leaves the one or the other. [by IsChangePlan]
+    //= Once the plan of a put is carried out, a file that stood for the dictionary from before it stands for the one with it, on the disk.
+    //  A crash at any moment, even if a step fails, leaves the one or the other. [by IsChangePlan]
     ensures planned { result ≡ OK → IfSome (state_in handle.old) (λ s. IsChangePlan (works_of buffer.new plan.new) end.old end.new s (stored s key.now value)) }
 
-    //= What a put that answers `OK` has written is the record of its change, which may stand behind those of a group without its last byte. So
-    //  it is of an erasure of a key that was held. [also cedar_plan_erase]
+    //= What a put that returns `OK` has written is the record of its change, which may follow those of a group without its last byte. The
+    //  same holds of an erasure of a key that was held. [also cedar_plan_erase]
     ensures recorded { result ≡ OK → AddsChange (put_at key.now value) (take (length key.now + 10) buffer.new) }
 
-    //= A put answers the number of the pair's first fault, with the place of a byte 0; else it is refused only where the records end too far
-    //  back, the record is too long or finds no room, or for want of memory or slots. [with refused]
+    //= A put returns the number of the pair's first fault, with the position of a byte 0. Otherwise it is refused only if the records end
+    //  too far back, the record is too long or finds no room, or for lack of memory or slots. [with refused]
     ensures faulty { IsSome (content handle.old) → IfSome (fault key.now value) (λ e. (result ≡ status_of e) × (position.new ≡ position_of position.old e)) }
     ensures refused { IsSome (content handle.old) → fault key.now value ≡ None → LacksChange end.old (length key.now + 5) (length buffer.old) result }
 {
@@ -112,12 +112,12 @@ pub extern "C" fn cedar_plan_put(
     handle.held.lend().plan_put(alloc, key, value, end, buffer, plan, held, before, position)
 }
 
-/// Removes a key, and tells whether it was held; if it was, it writes and tells as `cedar_plan_put` does. Else nothing changes, and there is
-/// no plan.
+/// Removes a key, and writes whether it was held; if it was, it writes the record and the plan as `cedar_plan_put` does. Otherwise nothing
+/// changes, and there is no plan.
 ///
 /// # Errors
 /// `CLOSED`; `STORE_FULL`, `STORE_TOO_LONG`, `NO_ROOM` and `MEMORY` as of `cedar_plan_put`, of a record that is 4 bytes shorter. Then the
-/// dictionary holds what it held, and nothing is told.
+/// dictionary holds what it held, and nothing is reported.
 #[unsafe(no_mangle)]
 pub extern "C" fn cedar_plan_erase(
     handle: &mut Handle,
@@ -130,8 +130,8 @@ pub extern "C" fn cedar_plan_erase(
 ) -> u32
     ensures closed { (result ≡ CLOSED) ↔ (content handle.old ≡ None) }
 
-    //= An erasure that answers `OK` tells whether the key was held, and has removed it; after an error, and where the key wasn't held, the tree
-    //  is as it was. [with missed, kept, held, untold, layout]
+    //= An erasure that returns `OK` writes whether the key was held, and has removed it. After an error, and if the key wasn't held, the
+    //  tree is as it was. [with missed, kept, held, untold, layout]
     ensures erased { result ≡ OK → IsTrue held.new → state_in handle.new ≡ option_map (λ s. erased s key.now) (state_in handle.old) }
     ensures missed { result ≡ OK → IsFalse held.new → (state_in handle.new ≡ state_in handle.old) × (end.new ≡ end.old) × (plan.new ≡ plan.old) }
     ensures kept { (result ≡ OK) ⊎ (state_in handle.new ≡ state_in handle.old) }
@@ -139,14 +139,14 @@ pub extern "C" fn cedar_plan_erase(
     ensures untold { (result ≡ OK) ⊎ ((held.new ≡ held.old) × (end.new ≡ end.old) × (plan.new ≡ plan.old)) }
     ensures layout { layout_in handle.new ≡ layout_in handle.old }
 
-    //= Once the plan of an erasure is carried out, a file that stood for the dictionary from before it stands for the one without the key, on
-    //  the disk. A crash at any moment, also where a step fails, leaves the one or the other. [by IsChangePlan]
+    //= Once the plan of an erasure is carried out, a file that stood for the dictionary from before it stands for the one without the key,
+    //  on the disk. A crash at any moment, even if a step fails, leaves the one or the other. [by IsChangePlan]
     ensures planned { result ≡ OK → IsTrue held.new
         → IfSome (state_in handle.old) (λ s. IsChangePlan (works_of buffer.new plan.new) end.old end.new s (erased s key.now)) }
 
     ensures recorded { result ≡ OK → IsTrue held.new → AddsChange (erase_at key.now) (take (length key.now + 6) buffer.new) }
 
-    //= An erasure is refused only where the records end too far back, the record is too long or finds no room, or for want of memory.
+    //= An erasure is refused only if the records end too far back, the record is too long or finds no room, or for lack of memory.
     ensures refused { IsSome (content handle.old) → (result ≡ OK) ⊎ LacksRecord end.old (length key.now + 1) (length buffer.old) result }
 {
     if !handle.is_open() {
@@ -184,7 +184,7 @@ fn end_of(extent: Extent) -> usize
 }
 
 /// The dictionary that a file's bytes stand for, on the heap, and how far the file goes.
-fn boxed(
+fn replay_on_heap(
     alloc: Global,
     is_reduced: bool,
     bytes: &[u8],
@@ -194,7 +194,7 @@ fn boxed(
     ensures layout { IfOk result (λ found. layout_of found.0.value ≡ layout_if is_reduced) }
     ensures cause { IfErr result (λ e. LoadCause bytes.now e) }
 {
-    match AnyCedar::replayed(alloc, is_reduced, bytes) {
+    match AnyCedar::replay_file(alloc, is_reduced, bytes) {
         Ok((cedar, extent)) => match Box::new(alloc, cedar) {
             Ok(cedar) => Ok((cedar, extent)),
             Err(_) => Err(DurableError::Refused(CedarError::Memory)),
@@ -206,7 +206,7 @@ fn boxed(
 impl AnyCedar {
     /// The dictionary that a file's bytes stand for, and how far the file goes.
     #[tactic(auto, using(cedarwood::proofs::DictionaryLemmas::default_limit))]
-    fn replayed(
+    fn replay_file(
         alloc: Global,
         is_reduced: bool,
         bytes: &[u8],
@@ -249,7 +249,7 @@ impl AnyCedar {
         ensures before { result ≡ OK → IfSome (number_at (dictionary_in self.old).state.tree key.now) (λ v. before.new ≡ v) }
         ensures untold { (result ≡ OK) ⊎ ((held.new ≡ held.old) × (before.new ≡ before.old) × (end.new ≡ end.old) × (plan.new ≡ plan.old)) }
         ensures layout { layout_of self.new ≡ layout_of self.old }
-        ensures planned { result ≡ OK → IsChangePlan (works_of buffer.new plan.new) end.old end.new (dictionary_in self.old).state (stored (dictionary_in self.old).state key.now value) }
+        ensures planned { result ≡ OK → IsPutPlan (works_of buffer.new plan.new) end.old end.new (dictionary_in self.old).state key.now value }
         ensures recorded { result ≡ OK → AddsChange (put_at key.now value) (take (length key.now + 10) buffer.new) }
         ensures faulty { IfSome (fault key.now value) (λ e. (result ≡ status_of e) × (position.new ≡ position_of position.old e)) }
         ensures refused { fault key.now value ≡ None → LacksChange end.old (length key.now + 5) (length buffer.old) result }
@@ -292,7 +292,7 @@ impl AnyCedar {
         ensures untold { (result ≡ OK) ⊎ ((held.new ≡ held.old) × (end.new ≡ end.old) × (plan.new ≡ plan.old)) }
         ensures layout { layout_of self.new ≡ layout_of self.old }
         ensures planned { result ≡ OK → IsTrue held.new
-            → IsChangePlan (works_of buffer.new plan.new) end.old end.new (dictionary_in self.old).state (erased (dictionary_in self.old).state key.now) }
+            → IsErasurePlan (works_of buffer.new plan.new) end.old end.new (dictionary_in self.old).state key.now }
         ensures recorded { result ≡ OK → IsTrue held.new → AddsChange (erase_at key.now) (take (length key.now + 6) buffer.new) }
         ensures refused { (result ≡ OK) ⊎ LacksRecord end.old (length key.now + 1) (length buffer.old) result }
     {
@@ -312,7 +312,7 @@ impl AnyCedar {
     }
 }
 
-/// Tells the plan by which a record of so many bytes is appended where the records end, and moves that behind it.
+/// Writes the plan by which a record of so many bytes is appended where the records end, and moves that end after it.
 pub(crate) fn go_on(size: usize, end: &mut usize, plan: &mut Plan)
     requires room { end.old < 2 ^ 60 }
     requires record { 6 ≤ size }

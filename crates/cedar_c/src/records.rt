@@ -15,8 +15,8 @@ use std::alloc::Global;
 /// pair has no fault.
 ///
 /// # Errors
-/// The number of why there is none: the records end too far back, the payload is too long, the buffer is too short, or a request for memory
-/// was refused.
+/// The number of why there is none: the records end too far back, the payload is too long, the buffer is too short, or an allocation was
+/// refused.
 pub(crate) fn write_put(
     alloc: Global,
     end: usize,
@@ -80,7 +80,7 @@ fn write_record(alloc: Global, end: usize, payload: &[u8], buffer: &mut [u8]) ->
 /// Writes some bytes into the first places of a buffer.
 ///
 /// # Errors
-/// `NO_ROOM` where the buffer has fewer places.
+/// `NO_ROOM` if the buffer has fewer places.
 pub(crate) fn place(bytes: &[u8], buffer: &mut [u8]) -> Result<(), u32>
     ensures written { OnOk result ((rest : List ℕ) × (buffer.new ≡ bytes.now ++ rest)) }
     ensures refused { IfErr result (λ status. (status ≡ NO_ROOM) × (length buffer.old < length bytes.now)) }
@@ -115,14 +115,14 @@ fn check_key(key: &[u8]) -> Result<(), CedarError>
     }
 }
 
-/// Where a key's first byte 0 stands.
+/// The position of a key's first byte 0.
 fn nul_position(key: &[u8]) -> Option<usize>
     ensures { result ≡ position (λ byte. byte == 0) key.now }
 {
     key.iter().position(|byte| *byte == 0)
 }
 
-/// Tests that a number can be stored.
+/// Tests that a value can be stored.
 fn check_value(value: i32) -> Result<(), CedarError>
     ensures faulty { IfSome (value_fault value) (λ e. result ≡ Err e) }
     ensures sound { value_fault value ≡ None → IsOk result }

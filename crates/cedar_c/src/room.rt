@@ -1,4 +1,4 @@
-//! Memory asked for ahead, and memory given back.
+//! Memory allocated ahead, and memory freed.
 
 ghost use Rattle.std.specs.Prelude.{◌*◌, ◌+◌, ◌-◌, ◌<◌, ◌↔◌, ◌≡◌, ◌≤◌, ◌⊎◌, IsSome, None, OnErr};
 ghost use Rattle.cedar_c.specs.Words.{capacity_after, capacity_in, content, dictionary_in, HasToGrow, IsShrunk, layout_in, layout_of, marks_in, most_slots, Shrinks, size_in, state_in, trials_in};
@@ -8,21 +8,21 @@ use crate::handle::Handle;
 use crate::status::{CLOSED, MEMORY, OK, SLOT_LIMIT};
 use cedarwood::CedarError;
 
-/// Asks for the memory of `blocks` blocks of 256 slots more than are in use, so that an update of a key of as many bytes, or of several
-/// keys of as many bytes together, needs none. While so many are spare, nothing changes.
+/// Allocates ahead for `blocks` blocks of 256 slots more than are in use, so that an update of a key of as many bytes, or of several keys
+/// of as many bytes together, needs no memory. If so many are spare already, nothing changes.
 ///
 /// # Errors
-/// `CLOSED` where the handle is closed; `SLOT_LIMIT` where the limit of slots doesn't allow so many blocks, else `MEMORY` where a request
-/// for memory was refused. After an error nothing has changed.
+/// `CLOSED` if the handle is closed; `SLOT_LIMIT` if the limit of slots doesn't allow so many blocks, otherwise `MEMORY` if an allocation
+/// was refused. After an error nothing has changed.
 #[unsafe(no_mangle)]
 pub extern "C" fn cedar_reserve(handle: &mut Handle, blocks: usize) -> u32
-    //= It answers `CLOSED` exactly if the handle is closed, `SLOT_LIMIT` just where the limit doesn't allow so many blocks, and `MEMORY`
-    //  only where the slots have to double and may; after any error the dictionary is as it was. [with limit, memory, refused]
+    //= It returns `CLOSED` exactly if the handle is closed, `SLOT_LIMIT` exactly if the limit doesn't allow so many blocks, and `MEMORY`
+    //  only if the slots have to double and may. After any error the dictionary is as it was. [with limit, memory, refused]
     ensures closed { (result ≡ CLOSED) ↔ (content handle.old ≡ None) }
 
-    //= `cedar_reserve` of n blocks leaves n blocks spare; state, marks, settings, layout and slots in use stay. The slots are then as many
-    //  as if n blocks had come into use, and where n were spare nothing changes at all. [with marks, trials, layout, size, capacity, spare,
-    //  enough, asks_nothing]
+    //= `cedar_reserve` of n blocks leaves n blocks spare. State, marks, settings, layout and slots in use don't change. There are then as
+    //  many slots as if n blocks had come into use, and if n were spare nothing changes at all. [with marks, trials, layout, size,
+    //  capacity, spare, enough, asks_nothing]
     ensures state { state_in handle.new ≡ state_in handle.old }
     ensures marks { marks_in handle.new ≡ marks_in handle.old }
     ensures trials { trials_in handle.new ≡ trials_in handle.old }
@@ -43,7 +43,7 @@ pub extern "C" fn cedar_reserve(handle: &mut Handle, blocks: usize) -> u32
 }
 
 impl AnyCedar {
-    /// Asks for the memory of so many blocks more than are in use, and says what was lacking.
+    /// Allocates ahead for so many blocks more than are in use, and returns what was lacking.
     fn reserve(&mut self, blocks: usize) -> u32
         ensures state { (dictionary_in self.new).state ≡ (dictionary_in self.old).state }
         ensures marked { (dictionary_in self.new).marked ≡ (dictionary_in self.old).marked }
@@ -68,18 +68,18 @@ impl AnyCedar {
     }
 }
 
-/// Gives back the memory that growth and erasures have left: all keys are put into a new dictionary, which takes the place of the present
-/// one unless it has more slots. Layout and settings stay. While it runs there are both, and a list of 24 bytes for each key.
+/// Frees memory that growth and erasures have left unused: all keys are put into a new dictionary, which replaces the present one unless it
+/// has more slots. Layout and settings stay. While it runs, there are both, and a list of 24 bytes for each key.
 ///
 /// # Errors
-/// `CLOSED` where the handle is closed; `MEMORY` where a request for memory was refused, and `SLOT_LIMIT` where the limit of slots allows no
-/// further block of the new one. After an error nothing has changed.
+/// `CLOSED` if the handle is closed; `MEMORY` if an allocation was refused, and `SLOT_LIMIT` if the limit of slots allows no further block
+/// of the new one. After an error nothing has changed.
 #[unsafe(no_mangle)]
 pub extern "C" fn cedar_shrink(handle: &mut Handle) -> u32
     ensures closed { (result ≡ CLOSED) ↔ (content handle.old ≡ None) }
 
-    //= `cedar_shrink` leaves keys, values, their order and the settings, and never more slots than there were, and answers as `shrink_to_fit`;
-    //  after any error the dictionary is as it was. [with refused, layout; by shrunk, Shrinks, IsShrunk]
+    //= `cedar_shrink` doesn't change keys, values, their order and the settings, and never leaves more slots than there were. It returns
+    //  the result of `shrink_to_fit`. After any error the dictionary is as it was. [with refused, layout; by shrunk, Shrinks, IsShrunk]
     ensures shrunk { IsSome (content handle.old) → Shrinks handle.old handle.new result }
     ensures layout { layout_in handle.new ≡ layout_in handle.old }
     ensures refused { (result ≡ OK) ⊎ (((result ≡ CLOSED) ⊎ (result ≡ MEMORY) ⊎ (result ≡ SLOT_LIMIT)) × (content handle.new ≡ content handle.old)) }

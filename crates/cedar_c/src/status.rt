@@ -1,4 +1,4 @@
-//! The numbers that C is answered, those of `cedar.h`, and their texts.
+//! The statuses that C gets, those of `cedar.h`, and their texts.
 
 ghost use Rattle.std.specs.Prelude.{◌++◌, ◌≡◌, ◌⊎◌, drop, length, take};
 ghost use Rattle.cedar_c.specs.Words.{position_of, status_of, status_text, TellsPosition};
@@ -12,10 +12,10 @@ pub(crate) const OK: u32 = 0;
 /// The handle has no dictionary.
 pub(crate) const CLOSED: u32 = 1;
 
-/// A request for memory was refused.
+/// An allocation was refused.
 pub(crate) const MEMORY: u32 = 2;
 
-/// The limit of slots doesn't allow what is wanted.
+/// The limit of slots doesn't allow as many as are needed.
 pub(crate) const SLOT_LIMIT: u32 = 3;
 
 /// The key has no byte.
@@ -42,7 +42,7 @@ pub(crate) const OTHER: u32 = 10;
 /// The buffer has too few places.
 pub(crate) const NO_ROOM: u32 = 11;
 
-/// A walk can't go on behind a key, since the labels of the dictionary don't ascend.
+/// A walk can't go on after a key, since the labels of the dictionary don't ascend.
 pub(crate) const NOT_ASCENDING: u32 = 12;
 
 /// The file ends too early.
@@ -63,7 +63,7 @@ pub(crate) const FILE_LAYOUT: u32 = 24;
 /// A number of the file's header is out of its rule.
 pub(crate) const FILE_HEADER: u32 = 25;
 
-/// The file asks for more memory than the limit that was given.
+/// The file needs more memory than the limit that was given.
 pub(crate) const FILE_MEMORY_LIMIT: u32 = 26;
 
 /// The file's table isn't well-formed.
@@ -81,20 +81,20 @@ pub(crate) const STORE_FOREIGN: u32 = 40;
 /// A record of the store's file is no change.
 pub(crate) const STORE_CORRUPT: u32 = 41;
 
-/// A call on the store's file failed: told in C alone.
+/// A call on the store's file failed: only C returns it.
 pub(crate) const STORE_DEVICE: u32 = 42;
 
-/// The store has failed before: told in C alone.
+/// The store has failed before: only C returns it.
 pub(crate) const STORE_FAILED: u32 = 43;
 
 /// The change has 2^32 bytes or more.
 pub(crate) const STORE_TOO_LONG: u32 = 44;
 
-/// The records of the store's file end behind 2^60 bytes.
+/// The records of the store's file end after 2^60 bytes.
 pub(crate) const STORE_FULL: u32 = 45;
 
-/// The number of an error. Where a byte 0 was refused, it tells its position, and where a key isn't above the one before it, the index
-/// of its pair.
+/// The number of an error. If a byte 0 was refused, it writes its position, and if a key isn't above the one before it, the index of its
+/// pair.
 pub(crate) fn tell(error: CedarError, position: &mut usize) -> u32
     ensures status { result ≡ status_of error }
     ensures position { position.new ≡ position_of position.old error }
@@ -122,12 +122,12 @@ pub(crate) fn tell(error: CedarError, position: &mut usize) -> u32
     }
 }
 
-/// Writes the text of a status into the first places of a buffer, as far as there is room, and says how many bytes it has. It has
-/// no byte 0 at its end.
+/// Writes the text of a status into the first places of a buffer, as far as there is room, and returns how many bytes it has. It has no
+/// byte 0 at its end.
 #[unsafe(no_mangle)]
 pub extern "C" fn cedar_status_text(status: u32, text: &mut [u8]) -> usize
-    //= Each status has its text (`status_text`), and all other numbers one; its first bytes are written, as far as there are places, the
-    //  others stay, and its length is answered. [with written]
+    //= Each status has its text (`status_text`), and all other numbers have one. The call writes the text's first bytes, as far as there
+    //  are places, doesn't change the other places, and returns the text's length. [with written]
     ensures count { result ≡ length (status_text status) }
     ensures written { text.new ≡ take (length text.old) (status_text status) ++ drop (length (status_text status)) text.old }
 {

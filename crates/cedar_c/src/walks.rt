@@ -42,8 +42,8 @@ impl<'a, T: Walked> Finds for PrefixPredictIter<'a, T> {
     }
 }
 
-/// Writes what a walk finds into the first places, as far as there are any, and says how many it found. Each key has `more` bytes
-/// than the walk tells of it.
+/// Writes what a walk finds into the first places, as far as there are any, and returns how many it found. Each key has `more` bytes more
+/// than the walk gives for it.
 fn fill<F: Finds>(walk: &mut F, more: usize, matches: &mut [Match]) -> usize
     requires count { length (F.left walk.old) < 2 ^ 64 }
     requires fit { Fit more (F.left walk.old) }
@@ -71,7 +71,7 @@ pub(crate) fn put_at(matches: &mut [Match], place: usize, found: (i32, usize), m
     }
 }
 
-/// Writes the held fronts of a text, and says how many it has.
+/// Writes the keys that a text begins with, and says how many it has.
 fn fill_prefixes<L: Layout, const SLOTS: usize>(
     trie: &Trie<L, SLOTS, Global>,
     text: &[u8],
@@ -80,7 +80,7 @@ fn fill_prefixes<L: Layout, const SLOTS: usize>(
     ensures count { result ≡ length (front trie.now.state.tree text.now) }
     ensures filled { matches.new ≡ filled_matches matches.old (front_keys trie.now.state.tree text.now) }
 {
-    // A walk tells the place of a key's last byte.
+    // A walk gives the index of a key's last byte.
     fill(&mut trie.common_prefix_iter_bytes(text), 1, matches)
 }
 
@@ -125,13 +125,13 @@ impl AnyCedar {
     }
 }
 
-/// Writes the held fronts of a text into the first places of a buffer, shortest first, as many as there is room for, and says
-/// how many the text has: for each the value and the length. It is one walk.
+/// Writes the keys that a text begins with into the first places of a buffer, shortest first, as many as there is room for, and returns how
+/// many the text has: for each the value and the length. It is one walk.
 #[unsafe(no_mangle)]
 pub extern "C" fn cedar_prefixes(handle: &mut Reading, text: &[u8], matches: &mut [Match]) -> usize
-    //= A walk writes the number and the length of each key that a text begins with, or of each key that begins with it, into the first
-    //  places of a buffer, as far as there are places, leaves the others, and answers how many there are (`front`, `predict`). [with
-    //  filled; also cedar_predictions; by front_keys, predicted_keys]
+    //= A walk writes the value and the length of each key that a text begins with, or of each key that begins with it, into the first
+    //  places of a buffer, as far as there are places, and doesn't change the others. It returns how many there are (`front`, `predict`).
+    //  [with filled; also cedar_predictions; by front_keys, predicted_keys]
     ensures count { result ≡ length (front (shown_tree handle.old) text.now) }
     ensures filled { matches.new ≡ filled_matches matches.old (front_keys (shown_tree handle.old) text.now) }
     ensures kept { handle.new ≡ handle.old }
@@ -142,8 +142,8 @@ pub extern "C" fn cedar_prefixes(handle: &mut Reading, text: &[u8], matches: &mu
     handle.shown.see().dictionary().prefixes(text, matches)
 }
 
-/// Writes the keys that begin with a text into the first places of a buffer, in the order of the walk, as many as there is room
-/// for, and says how many there are: for each the value, and the length of the whole key. It is one walk.
+/// Writes the keys that begin with a text into the first places of a buffer, in iteration order, as many as there is room for, and returns
+/// how many there are: for each the value, and the length of the whole key. It is one walk.
 #[unsafe(no_mangle)]
 pub extern "C" fn cedar_predictions(
     handle: &mut Reading,

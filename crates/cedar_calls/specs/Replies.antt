@@ -36,6 +36,10 @@ abbrev pub in_order : Bool → List Entry → Option (List Entry)
 in_order true es = Some es
 in_order false es = None
 
+-- they were collected, or there was no memory for them
+abbrev pub CollectsRange : {X : Type 0} → Result (Option X) CedarError → (X → List Entry) → Bool → List Entry → Type 0
+CollectsRange result entries ordered es = Collects result (λ found. option_map entries found ≡ in_order ordered es)
+
 -- the slots that are held: one for the root, one for each prefix, and one for each number that has a slot of its own
 abbrev pub held_slots : Dictionary → ℕ
 held_slots d = 1 + length (prefixes d.state.tree) + length (walk d.marked)
@@ -73,9 +77,9 @@ IsReply layout slots d question.Entries (reply.Entries result) = Collects result
 IsReply layout slots d question.TextEntries (reply.TextEntries result) = Collects result (λ found. AreTexts (map (option_map (λ e. (string_bytes e.0, e.1))) found.items) (walk d.state.tree))
 IsReply layout slots d (question.EntriesWith prefix) (reply.Entries result) = Collects result (λ found. map (λ e. (e.0.items, e.1)) found.items ≡ entries_with d.state.tree prefix.now)
 IsReply layout slots d (question.EntriesFrom key) (reply.Range result) =
-    Collects result (λ found. option_map (λ v. map (λ e. (e.0.items, e.1)) v.items) found ≡ in_order d.state.ordered (entries_since d.state.tree key.now))
+    CollectsRange result (λ v. map (λ e. (e.0.items, e.1)) v.items) d.state.ordered (entries_since d.state.tree key.now)
 IsReply layout slots d (question.Range from to) (reply.Range result) =
-    Collects result (λ found. option_map (λ v. map (λ e. (e.0.items, e.1)) v.items) found ≡ in_order d.state.ordered (entries_between d.state.tree from.now to.now))
+    CollectsRange result (λ v. map (λ e. (e.0.items, e.1)) v.items) d.state.ordered (entries_between d.state.tree from.now to.now)
 IsReply layout slots d question.Len (reply.Len n) = n ≡ length (walk d.state.tree)
 IsReply layout slots d (question.Figure which) (reply.Figure n) = IsFigure layout d which n
 IsReply layout slots d question.IsEmpty (reply.IsEmpty result) = IsTrue result ↔ (walk d.state.tree ≡ [])

@@ -5,7 +5,7 @@ pub use Rattle.cedar_calls.specs.Files.{SavesLoadAgain}
 pub use Rattle.cedar_calls.specs.Keys.{KeysStandAlone, KeysStandAloneInRuns}
 pub use Rattle.cedar_calls.specs.Making.{IsCopy, Joins}
 pub use Rattle.cedar_calls.specs.Plain.{TreesDecide}
-pub use Rattle.cedar_calls.specs.Replies.{AreTexts, Collects, in_order, IsFigure, IsReply}
+pub use Rattle.cedar_calls.specs.Replies.{AreTexts, Collects, CollectsRange, IsFigure, IsReply}
 pub use Rattle.cedar_calls.specs.Runs.{IsRun, IsStep}
 pub use Rattle.cedar_format.specs.Tables.{IsTableFile}
 pub use Rattle.cedar_tree.specs.Queries.{exact, walk}

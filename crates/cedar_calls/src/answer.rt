@@ -1,24 +1,24 @@
-//! Answers as values.
+//! Results of calls as values.
 
 use cedarwood::{CedarError, CedarPersistenceError, MemoryStats};
 use std::alloc::Allocator;
 
-/// What a call answered.
+/// What a call returned.
 #[derive(Drop)]
 pub enum Answer<A: Allocator> {
     /// There is no dictionary at the index.
     Missing,
-    /// Whether a further dictionary was made. If so, it stands behind the others.
+    /// Whether a further dictionary was made. If so, it comes after the others.
     Made(Result<(), CedarError>),
-    /// Whether a further dictionary was loaded. If so, it stands behind the others.
+    /// Whether a further dictionary was loaded. If so, it comes after the others.
     Loaded(Result<(), CedarPersistenceError>),
-    /// What a change answered.
+    /// What a change returned.
     Changed(Changed),
-    /// What a dictionary replied.
+    /// What a question returned.
     Replied(Reply<A>),
 }
 
-/// What a change answered.
+/// What a change returned.
 #[derive(Debug, PartialEq, Eq, Drop)]
 pub enum Changed {
     /// Whether the value was stored.
@@ -41,7 +41,7 @@ pub enum Changed {
     Reserved(Result<(), CedarError>),
 }
 
-/// What a dictionary replied. Where there was no memory to collect an answer, it is `Memory`.
+/// What a query returned. If there was no memory to collect a result, it is `Memory`.
 #[derive(Drop)]
 pub enum Reply<A: Allocator> {
     /// The key's value and its length.
@@ -54,17 +54,17 @@ pub enum Reply<A: Allocator> {
     Longest(Option<(i32, usize)>),
     /// The key and the value of the first entry, or of the last one.
     End(Result<Option<(Vec<u8, A>, i32)>, CedarError>),
-    /// What an exact search answers of each key.
+    /// What an exact search of each key returns.
     Batch(Result<Vec<Option<(i32, usize)>, A>, CedarError>),
-    /// The fronts of the query that are held.
+    /// The prefixes of the query that are held.
     Prefixes(Result<Vec<(i32, usize), A>, CedarError>),
     /// The keys that begin with the query.
     Predictions(Result<Vec<(i32, usize), A>, CedarError>),
     /// All keys with their values, or those that begin with the prefix.
     Entries(Result<Vec<(Vec<u8, A>, i32), A>, CedarError>),
-    /// The keys of a range with their values, and `None` of a dictionary whose labels don't ascend.
+    /// The keys of a range with their values, and `None` if the dictionary's labels don't ascend.
     Range(Result<Option<Vec<(Vec<u8, A>, i32), A>>, CedarError>),
-    /// All keys as texts with their values, and `None` in the place of each key that isn't UTF-8.
+    /// All keys as texts with their values, and `None` for each key that isn't UTF-8.
     TextEntries(Result<Vec<Option<(String<A>, i32)>, A>, CedarError>),
     /// The keys that are held.
     Len(usize),

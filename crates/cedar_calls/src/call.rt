@@ -2,30 +2,29 @@
 
 use cedarwood::CedarBuilder;
 
-/// A call. A dictionary is named by its index: those that a run begins with come first, and each further one stands behind all
-/// others.
+/// A call. A dictionary is named by its index: those that a run begins with come first, and each further one comes after all others.
 #[derive(Clone, Copy, Debug)]
 pub enum Call<'a> {
-    /// Make an empty dictionary with these settings: a further one.
+    /// Make another, empty dictionary with these settings.
     New {
         /// Whether its labels ascend, and how many failed searches close a block.
         settings: CedarBuilder,
     },
-    /// Make a further dictionary, of pairs whose keys ascend by bytes.
+    /// Make another dictionary, of pairs whose keys ascend by bytes.
     Sorted {
         /// As of `New`.
         settings: CedarBuilder,
         /// Keys and their values.
         pairs: &'a [(&'a [u8], i32)],
     },
-    /// Load a further dictionary.
+    /// Load another dictionary.
     Load {
         /// What was saved, or any other bytes.
         bytes: &'a [u8],
-        /// How many bytes of memory the load may ask for at most.
+        /// How many bytes the load may allocate at most.
         limit: usize,
     },
-    /// Copy a dictionary: a further one.
+    /// Copy a dictionary: the copy is another one.
     Clone {
         /// Which one is copied.
         index: usize,
@@ -37,11 +36,11 @@ pub enum Call<'a> {
         /// How it is changed.
         change: Change<'a>,
     },
-    /// Ask a dictionary.
+    /// Query a dictionary.
     Ask {
-        /// Which one is asked.
+        /// Which one is queried.
         index: usize,
-        /// What it is asked.
+        /// The query.
         question: Question<'a>,
     },
 }
@@ -51,7 +50,7 @@ pub enum Call<'a> {
 pub enum Change<'a> {
     /// Store a value at a key.
     Update { key: &'a [u8], value: i32 },
-    /// The same, and answer what the key held.
+    /// The same, and return what the key held.
     Insert { key: &'a [u8], value: i32 },
     /// Remove a key.
     Erase { key: &'a [u8] },
@@ -59,13 +58,13 @@ pub enum Change<'a> {
     ErasePrefix { prefix: &'a [u8] },
     /// Remove all keys.
     Clear,
-    /// Give back memory that isn't needed.
+    /// Free memory that isn't needed.
     Shrink,
     /// Begin anew, with these settings.
     Renew { settings: CedarBuilder },
     /// Store some pairs.
     Build { pairs: &'a [(&'a [u8], i32)] },
-    /// Ask for the memory of so many blocks more than are in use.
+    /// Allocate ahead for so many blocks more than are in use.
     Reserve { blocks: usize },
 }
 
@@ -82,7 +81,7 @@ pub enum Question<'a> {
     Longest { text: &'a [u8] },
     /// Which values do the keys hold?
     Batch { keys: &'a [&'a [u8]] },
-    /// Which fronts of the query are held?
+    /// Which prefixes of the query are held?
     Prefixes { query: &'a [u8] },
     /// Which keys begin with the query?
     Predictions { query: &'a [u8] },
@@ -123,6 +122,6 @@ pub enum Figure {
     Capacity,
     /// The bytes that the table takes.
     AllocatedBytes,
-    /// The blocks of 256 slots that can come into use before memory is asked for.
+    /// The blocks of 256 slots that can come into use before memory is allocated.
     SpareBlocks,
 }

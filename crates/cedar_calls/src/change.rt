@@ -13,7 +13,7 @@ pub(crate) fn is_valid<L: Layout, const SLOTS: usize, A: Allocator + Copy>(trie:
     let _ = trie.len();
 }
 
-/// Makes a change. A renewed dictionary takes its memory from `alloc`, and each other one from its own allocator.
+/// Makes a change. A renewed dictionary allocates from `alloc`, and each other one from its own allocator.
 pub(crate) fn make_change<L: Layout, const SLOTS: usize, A: Allocator + Copy>(
     trie: &mut Trie<L, SLOTS, A>,
     alloc: A,

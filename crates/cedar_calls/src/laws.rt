@@ -5,53 +5,54 @@ ghost use Rattle.cedar_calls.specs.Words.{KeysStandAlone, KeysStandAloneInRuns, 
 use crate::{Answer, Call, Reply};
 use std::alloc::Allocator;
 
-/// Trees alone decide what a run says: whatever the layout, the limit of slots, `max_trial`, the marks and the tables, calls without a load, none of
-/// which is refused for memory or slots, answer what one function of the trees gives, and leave the trees that another one gives. Texts are among
-/// these answers, and in the default layout how many slots are in use. Answers that tell of places (how many slots there are, how many bytes and
-/// blocks, a file's bytes) may be asked for, and are not compared.
+/// Trees alone decide what a run returns: whatever the layout, the limit of slots, `max_trial`, the marks and the tables, calls without a
+/// load, none of which runs out of memory or slots, return what one function of the trees gives, and leave the trees that another one
+/// gives. Texts are among these results, and in the default layout how many slots are in use. Results that depend on places (how many slots
+/// there are, how many bytes and blocks, a file's bytes) may be in the list, and aren't compared.
 pub fn trees_decide<A: Allocator>(calls: &[Call<'_>], answers: &[Answer<A>])
-    //= Of calls without a load, of which none was refused for memory or slots, the answers are one function of the trees and the calls, and
-    //  the trees at the end another: layout, limit, `max_trial`, marks, sizes and tables have no part in them. Texts are among these
-    //  answers, and in the default layout how many slots are in use. [by TreesDecide]
+    //= For calls without a load, of which none was refused for memory or slots, the results are one function of the trees and the calls,
+    //  and the trees at the end are another: layout, limit, `max_trial`, marks, sizes and tables have no part in them. Texts are among
+    //  these results, and in the default layout how many slots are in use. [by TreesDecide]
     ensures { TreesDecide calls.now answers.now }
 {}
 
-/// Two runs of the same calls agree, loads among them: from the same trees they answer the same and leave the same trees, as long as nothing is
-/// refused for memory or slots. Calls are the same if they differ in `max_trial` alone, and what is compared is as of `trees_decide`. With a load, both
-/// runs have one layout and one limit of slots: then its refusals, and the tree that it makes, follow from its bytes and its limit alone.
+/// Two runs of the same calls agree, loads among them: from the same trees they return the same and leave the same trees, as long as none
+/// runs out of memory or slots. Calls count as the same if they differ only in `max_trial`, and what is compared is as for `trees_decide`.
+/// With a load, both runs have one layout and one limit of slots: then its refusals, and the tree that it makes, follow from its bytes and
+/// its limit alone.
 pub fn runs_agree<A: Allocator, B: Allocator>(
     calls: &[Call<'_>],
     answers: &[Answer<A>],
     others: &[Call<'_>],
     replies: &[Answer<B>],
 )
-    //= Two runs of the same calls from the same trees answer the same and leave the same trees, loads among them, if nothing was refused
+    //= Two runs of the same calls from the same trees return the same and leave the same trees, loads among them, if nothing was refused
     //  for memory or slots. Calls may differ in `max_trial`; runs may differ in layout, limit and allocator, but with a load among the
     //  calls layout and limit are one. [by RunsAgree]
     ensures { RunsAgree calls.now answers.now others.now replies.now }
 {}
 
-/// Keys stand alone: what a key holds after some changes of a dictionary follows from what it held before, change by change, and of a change that isn't
-/// of this key nothing is read. So the last stored value or removal of it decides.
+/// Keys stand alone: what a key holds after some changes of a dictionary follows from what it held before, change by change, and of a
+/// change that isn't of this key nothing is read. So the last stored value or removal of it decides.
 pub fn keys_stand_alone()
     //= What a key holds after some changes follows from what it held before, change by change, and changes of other keys have no part in it
-    //  (where the trees on the way are sound, as dictionaries' are). [by KeysStandAlone]
+    //  (if the trees on the way are sound, as dictionaries' are). [by KeysStandAlone]
     ensures { KeysStandAlone }
 {}
 
-/// Keys stand alone in any run: what the dictionaries hold at a key follows call by call from what they held at it before, and nothing is read of any
-/// other key. A further dictionary begins with no number at the key, with that of its pairs, of its file's table or of the dictionary that it
-/// copies; from then on the last accepted change of this key in this dictionary decides.
+/// Keys stand alone in any run: what the dictionaries hold at a key follows call by call from what they held at it before, and nothing is
+/// read of any other key. A further dictionary begins with no number at the key, with that of its pairs, of its file's table or of the
+/// dictionary that it copies; from then on the last accepted change of this key in this dictionary decides.
 pub fn keys_stand_alone_in_runs<A: Allocator>(calls: &[Call<'_>], answers: &[Answer<A>])
     //= What the dictionaries of any run hold at a key follows call by call from what they held at this key, and no other key is read. [by
     //  KeysStandAloneInRuns]
     ensures { KeysStandAloneInRuns calls.now answers.now }
 {}
 
-/// What was saved of a dictionary loads as one with its tree and its order, in any run of the same layout and limit of slots, whatever calls were made
-/// between, if the load answers `Ok`.
+/// What was saved of a dictionary loads as one with its tree and its order, in any run of the same layout and limit of slots, whatever
+/// calls were made between, if the load returns `Ok`.
 pub fn saves_load_again<A: Allocator>(saved: &Reply<A>)
     //= What was saved of a dictionary in a run loads, in this or another run of the same layout and limit of slots, as one with its tree
-    //  and its order, if the load answers `Ok`. [by SavesLoadAgain]
+    //  and its order, if the load returns `Ok`. [by SavesLoadAgain]
     ensures { SavesLoadAgain saved.now }
 {}

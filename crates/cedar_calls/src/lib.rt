@@ -1,7 +1,7 @@
 //! Any list of public calls, on any number of dictionaries, as one theorem.
 //!
-//! [`run_calls`] makes the calls of a list one after another, and its contract says what they answer and what they leave: whatever the
-//! calls are, each answer is that of a labelled tree for each dictionary, which the calls carry on. The words of that contract stand in
+//! [`run_calls`] makes the calls of a list one after another, and its contract says what they return and what they leave: whatever the
+//! calls are, each result is that of a labelled tree for each dictionary, which the calls carry on. The words of that contract are in
 //! `specs/`; docs/THEOREM.md reads it aloud.
 #![tactic(auto)]
 

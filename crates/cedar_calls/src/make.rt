@@ -1,4 +1,4 @@
-//! Further dictionaries.
+//! New dictionaries.
 
 ghost use Rattle.std.specs.Prelude.{◌+◌, ◌<◌, ◌≡◌, ◌≤◌, vec_capacity, vec_len};
 ghost use Rattle.cedar_calls.specs.Words.{IsCopy, IsSlotLimit, IsStep, Joins};
@@ -7,7 +7,7 @@ use crate::{Answer, Call};
 use cedarwood::{CedarError, Layout, Trie};
 use std::alloc::Allocator;
 
-/// Puts what was made behind the other dictionaries, for which there is room.
+/// Puts what was made after the other dictionaries, for which there is room.
 pub(crate) fn join<L: Layout, const SLOTS: usize, A: Allocator + Copy, E: Drop>(
     tries: &mut Vec<Trie<L, SLOTS, A>, A>,
     made: Result<Trie<L, SLOTS, A>, E>,
@@ -21,7 +21,7 @@ pub(crate) fn join<L: Layout, const SLOTS: usize, A: Allocator + Copy, E: Drop>(
     Ok(())
 }
 
-/// Loads a further dictionary.
+/// Loads another dictionary.
 pub(crate) fn load<L: Layout, const SLOTS: usize, A: Allocator + Copy>(
     tries: &mut Vec<Trie<L, SLOTS, A>, A>,
     alloc: A,

@@ -1,14 +1,14 @@
 //! Replies of a dictionary.
 
 ghost use Rattle.std.specs.Prelude.{◌++◌, ◌∷◌, ◌≡◌, [], cond, map, OnOk, option_map, string_bytes};
-ghost use Rattle.cedar_calls.specs.Words.{AreTexts, Collects, entries_between, entries_since, entries_with, exact, first_entry, in_order, IsFigure, IsReply, IsTableFile, keys_of, last_entry, walk};
+ghost use Rattle.cedar_calls.specs.Words.{AreTexts, Collects, CollectsRange, entries_between, entries_since, entries_with, exact, first_entry, IsFigure, IsReply, IsTableFile, keys_of, last_entry, walk};
 
 use crate::{Figure, Question, Reply};
 use cedarwood::{CedarError, EntryError, Layout, Trie, Watched};
 use std::alloc::{AllocError, Allocator};
 
-/// Asks a dictionary. The lists of a batch and of entries, and the bytes of a file, take their memory from `alloc`; the lists of
-/// prefixes and predictions, and each entry's key, from the dictionary's own allocator.
+/// Queries a dictionary. The lists of a batch and of entries, and the bytes of a file, are allocated from `alloc`; the lists of prefixes
+/// and predictions, and each entry's key, from the dictionary's own allocator.
 pub(crate) fn reply<L: Layout, const SLOTS: usize, A: Allocator + Copy>(
     trie: &Trie<L, SLOTS, A>,
     alloc: A,
@@ -37,12 +37,12 @@ pub(crate) fn reply<L: Layout, const SLOTS: usize, A: Allocator + Copy>(
         Question::Figure { figure } => Reply::Figure(figure_of(trie, *figure)),
         Question::IsEmpty => Reply::IsEmpty(trie.is_empty()),
         Question::Stats => Reply::Stats(trie.memory_stats()),
-        Question::Save => Reply::Saved(saved(trie, alloc, false)),
-        Question::SaveV1_0 => Reply::Saved(saved(trie, alloc, true)),
+        Question::Save => Reply::Saved(save(trie, alloc, false)),
+        Question::SaveV1_0 => Reply::Saved(save(trie, alloc, true)),
     }
 }
 
-/// The values that some keys hold, by one call.
+/// The values at some keys, by one call.
 fn batch<L: Layout, const SLOTS: usize, A: Allocator + Copy>(
     trie: &Trie<L, SLOTS, A>,
     alloc: A,
@@ -102,7 +102,7 @@ fn entries<L: Layout, const SLOTS: usize, A: Allocator + Copy>(
     Ok(found)
 }
 
-/// All keys as texts with their values, and `None` in the place of each that isn't UTF-8.
+/// All keys as texts with their values, and `None` for each that isn't UTF-8.
 fn text_entries<L: Layout, const SLOTS: usize, A: Allocator + Copy>(
     trie: &Trie<L, SLOTS, A>,
     alloc: A,
@@ -150,7 +150,7 @@ fn since<L: Layout, const SLOTS: usize, A: Allocator + Copy>(
     alloc: A,
     key: &[u8],
 ) -> Result<Option<Vec<(Vec<u8, A>, i32), A>>, CedarError>
-    ensures { Collects result (λ found. option_map (λ v. map (λ e. (e.0.items, e.1)) v.items) found ≡ in_order trie.now.state.ordered (entries_since trie.now.state.tree key.now)) }
+    ensures { CollectsRange result (λ v. map (λ e. (e.0.items, e.1)) v.items) trie.now.state.ordered (entries_since trie.now.state.tree key.now) }
 {
     let Some(entries) = trie.entries_from_bytes(key) else {
         return Ok(None);
@@ -169,7 +169,7 @@ fn between<L: Layout, const SLOTS: usize, A: Allocator + Copy>(
     from: &[u8],
     to: &[u8],
 ) -> Result<Option<Vec<(Vec<u8, A>, i32), A>>, CedarError>
-    ensures { Collects result (λ found. option_map (λ v. map (λ e. (e.0.items, e.1)) v.items) found ≡ in_order trie.now.state.ordered (entries_between trie.now.state.tree from.now to.now)) }
+    ensures { CollectsRange result (λ v. map (λ e. (e.0.items, e.1)) v.items) trie.now.state.ordered (entries_between trie.now.state.tree from.now to.now) }
 {
     let Some(entries) = trie.range_bytes(from, to) else {
         return Ok(None);
@@ -181,8 +181,8 @@ fn between<L: Layout, const SLOTS: usize, A: Allocator + Copy>(
     Ok(Some(found))
 }
 
-/// The bytes of a dictionary's file, in format 1.0 or 1.1. A write to them fails only where memory is refused.
-fn saved<L: Layout, const SLOTS: usize, A: Allocator + Copy>(
+/// The bytes of a dictionary's file, in format 1.0 or 1.1. A write to them fails only if an allocation is refused.
+fn save<L: Layout, const SLOTS: usize, A: Allocator + Copy>(
     trie: &Trie<L, SLOTS, A>,
     alloc: A,
     in_1_0: bool,

@@ -10,13 +10,12 @@ use crate::{Answer, Call};
 use cedarwood::{Layout, Trie};
 use std::alloc::{AllocError, Allocator};
 
-/// Makes some calls one after another, and collects their answers. The answers' list, new dictionaries, those that are loaded, and
-/// those that are renewed take their memory from `alloc`; a copy, and one that is changed, from the dictionary's own allocator. So do
-/// lists of prefixes and predictions and the keys of entries; all else that a reply holds is from `alloc`.
+/// Makes some calls one after another, and collects their results. The list of results, and dictionaries that are new, loaded or renewed,
+/// are allocated from `alloc`; a copy, and one that is changed, from the dictionary's own allocator. So are lists of prefixes and
+/// predictions and the keys of entries; everything else in a reply is from `alloc`.
 ///
 /// # Errors
-/// `AllocError` where there is no memory for the answers, or for as many further dictionaries as there are calls. Then no call was
-/// made.
+/// `AllocError` if there is no memory for the results, or for as many more dictionaries as there are calls. Then no call was made.
 pub fn run_calls<L: Layout, const SLOTS: usize, A: Allocator + Copy>(
     tries: &mut Vec<Trie<L, SLOTS, A>, A>,
     alloc: A,
@@ -24,21 +23,21 @@ pub fn run_calls<L: Layout, const SLOTS: usize, A: Allocator + Copy>(
 ) -> Result<Vec<Answer<A>, A>, AllocError>
     requires limit { IsSlotLimit SLOTS }
 
-    //= Calls on any number of dictionaries, loads of any bytes among them, are a run: one answer for each call, and each call begins with
+    //= Calls on any number of dictionaries, loads of any bytes among them, are a run: one result for each call, and each call begins with
     //  the dictionaries that the one before it left. [by IsRun]
-    //= A new dictionary, a sorted build, a load or a clone stands behind the others; where it is refused, none was made. All others are as
-    //  they were. [by IsStep, Makes]
-    //= What it is, and what it is refused by, is what the rows of `cedarwood` say of such a call; a clone is refused for memory alone. [by
-    //  IsNew, IsSortedBuild, IsLoad, IsCopy]
-    //= A dictionary that was loaded stands on the table that its bytes are of. [by IsLoad, IsOnTable]
-    //= An update, an insert, an erasure of a key, of a prefix or of all, `renew`, a build, `try_reserve` or `shrink_to_fit` changes just the
-    //  dictionary at its index, as the rows of `cedarwood` say. [by ChangesAt, IsChange]
-    //= A question changes nothing, and is answered as they say; where an answer is collected it may be `Memory`. [by AsksAt, IsReply]
-    //= A call on a dictionary that isn't there answers `Missing`, and all are as they were. [by MissesAt]
+    //= A new dictionary, a sorted build, a load or a clone comes after the others. If it is refused, none was made. All others are as they
+    //  were. [by IsStep, Makes]
+    //= What it is, and what it is refused with, is as the rows of `cedarwood` say of such a call. A clone fails only for lack of memory.
+    //  [by IsNew, IsSortedBuild, IsLoad, IsCopy]
+    //= A dictionary that was loaded is the one that the table of its bytes holds. [by IsLoad, IsOnTable]
+    //= An update, an insert, an erasure of a key, of a prefix or of all, `renew`, a build, `try_reserve` or `shrink_to_fit` changes only
+    //  the dictionary at its index, as the rows of `cedarwood` say. [by ChangesAt, IsChange]
+    //= A query changes nothing, and returns what they say. If a result is collected it may be `Memory`. [by AsksAt, IsReply]
+    //= A call on a dictionary that isn't there returns `Missing`, and all are as they were. [by MissesAt]
     //= A dictionary that is changed was valid before. [by IsStep, IsValid]
     ensures run { IfOk result (λ answers. IsRun L.kind SLOTS tries.old.items calls.now answers.items tries.new.items) }
 
-    //= Where there is no room for the answers, or for as many further dictionaries as there are calls, no call was made.
+    //= If there is no room for the results, or for as many further dictionaries as there are calls, no call was made.
     ensures refused { OnErr result (tries.new.items ≡ tries.old.items) }
 {
     let mut answers = Vec::with_capacity(alloc, calls.len())?;

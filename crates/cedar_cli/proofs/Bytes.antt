@@ -1,7 +1,5 @@
--- What is written in parts, the lines of a script in parts, and calls of a writer that didn't fail.
-use Rattle.std.proofs.Common.{◌≡◌, ◌≤◌, ◌<◌, inl, suc, ℕ, List, [], ◌∷◌, ◌++◌, Option, Some, None, refl, sym, ap, ◌∙◌, append_assoc, append-nil, take, drop, length, ◌-◌, arith, take-append-drop, length-drop, length-append, Bool, true, false, ◌||◌, ◌&&◌, ◌==◌, subst}
-use Rattle.std.proofs.lemmas.List.{take_all}
-use Rattle.std.proofs.lemmas.Bool.{eqb-true}
+-- The lines of a script in parts, and what their answers are written as.
+use Rattle.std.proofs.Common.{◌≡◌, ◌≤◌, ◌<◌, inl, suc, ℕ, List, [], ◌∷◌, ◌++◌, Option, Some, None, refl, sym, ap, ◌∙◌, append_assoc, append-nil, length, ◌-◌, arith, length-append, Bool, true, false, ◌||◌, subst}
 use Rattle.std.specs.Prelude.{Result, Ok, Err, IfErr, OnOk, OnErr}
 use Rattle.cedar_cli.specs.Command.{Order, order_of}
 use Rattle.cedar_cli.specs.Lines.{lines_of, HasNoNewline}
@@ -13,18 +11,7 @@ use Rattle.cedar_cli.specs.Script.{LineMayLackMemory, MayStop, reply, answer, an
 use Rattle.cedar_cli.specs.declared.script.ScriptError.{ScriptError}
 use Rattle.cedar_cli.specs.declared.script.ScriptError.TheVariants.{Read, Write, Memory, SlotLimit}
 use Rattle.std.specs.Io.KnownBytes.{Appends, Keeps}
-
--- bytes appended in two parts
-pub Appends-append : (a b c : Option (List ℕ)) (x y : List ℕ) → Appends a b x → Appends b c y → Appends a c (x ++ y)
-Appends-append None b c x y p q = tt
-Appends-append (Some xs) None c x y p q = absurd p
-Appends-append (Some xs) (Some ys) None x y p q = absurd q
-Appends-append (Some xs) (Some ys) (Some zs) x y p q = q ∙ ap (λ l. l ++ y) p ∙ append_assoc xs x y
-
--- no byte is appended
-pub Appends-none : (a : Option (List ℕ)) → Appends a a []
-Appends-none None = tt
-Appends-none (Some xs) = sym (append-nil xs)
+use Rattle.text_lines.proofs.Bytes.{Appends-append, Appends-none, or_false}
 
 -- what was appended stays where a device keeps its bytes
 pub Appends-kept : (a b c : Option (List ℕ)) (x : List ℕ) → Appends a b x → Keeps b c → Appends a c x
@@ -32,36 +19,6 @@ Appends-kept None b c x p k = tt
 Appends-kept (Some xs) None c x p k = absurd p
 Appends-kept (Some xs) (Some ys) None x p k = absurd k
 Appends-kept (Some xs) (Some ys) (Some zs) x p k = k ∙ p
-
--- the next n bytes of the rest were taken
-pub Appends-more : (a b c : Option (List ℕ)) (all x rest : List ℕ) (n : ℕ) → all ≡ x ++ rest → Appends a b x → Appends b c (take n rest)
-    → (y : List ℕ) × (all ≡ y ++ take (length rest - n) (drop n rest)) × Appends a c y
-Appends-more a b c all x rest n e p q = (
-  x ++ take n rest,
-  e ∙ ap (λ l. x ++ l) (sym (take-append-drop n rest)) ∙ sym (append_assoc x (take n rest) (drop n rest)) ∙ ap (λ l. (x ++ take n rest) ++ l) (sym whole),
-  Appends-append a b c x (take n rest) p q,
-) where
-  whole : take (length rest - n) (drop n rest) ≡ drop n rest
-  whole = take_all (length rest - n) (drop n rest) (omega (arith, length-drop n rest))
-
--- a front of some bytes is one of more bytes
-pub front_more : (a b : Option (List ℕ)) (bytes more : List ℕ) → WritesFront a b bytes → WritesFront a b (bytes ++ more)
-front_more a b bytes more h =
-    (h.0, h.1 ++ more, (let some = h.2 in omega (arith, length-append h.1 more)), ap (λ l. l ++ more) h.3 ∙ append_assoc h.0 h.1 more, h.4)
-
--- what was written, and a front of what follows
-pub front_after : (a b c : Option (List ℕ)) (done bytes : List ℕ) → Appends a b done → WritesFront b c bytes → WritesFront a c (done ++ bytes)
-front_after a b c done bytes p h =
-    (done ++ h.0, h.1, h.2, ap (λ l. done ++ l) h.3 ∙ sym (append_assoc done h.0 h.1), Appends-append a b c done h.0 p h.4)
-
--- the same of a call's result
-pub then_ok : {T E : Type 0} (r : Result T E) (a b c : Option (List ℕ)) (done bytes : List ℕ) → Appends a b done → OnOk r (Appends b c bytes) → OnOk r (Appends a c (done ++ bytes))
-then_ok (Ok x) a b c done bytes p h = Appends-append a b c done bytes p h
-then_ok (Err e) a b c done bytes p h = tt
-
-pub then_err : {T E : Type 0} (r : Result T E) (a b c : Option (List ℕ)) (done bytes : List ℕ) → Appends a b done → OnErr r (WritesFront b c bytes) → OnErr r (WritesFront a c (done ++ bytes))
-then_err (Ok x) a b c done bytes p h = tt
-then_err (Err e) a b c done bytes p h = front_after a b c done bytes p h
 
 -- an answer is cut short where nothing of it is written
 pub cut_short_none : (t : View) (lines : List (List ℕ)) → IsCutShort t lines []
@@ -239,10 +196,6 @@ pub read_stop : (slots : ℕ) (d : Dictionary) (lines : List (List ℕ)) → May
 read_stop slots d [] = tt
 read_stop slots d (line ∷ lines) = tt
 
-pub on_err : {T E P : Type 0} (r : Result T E) → P → OnErr r P
-on_err (Ok x) p = tt
-on_err (Err e) p = p
-
 -- what holds of each fault, and what holds of the one that a call was handed
 pub each_fault : {T : Type 0} (P : ScriptError → Type 0) (r : Result T ScriptError) → ((fault : ScriptError) → P fault) → IfErr r P
 each_fault P (Ok x) h = tt
@@ -272,22 +225,9 @@ pub Advances-kept : (old new : View) (held holds kept : Option (List ℕ)) (text
 Advances-kept old new held holds kept text left h k =
     (h.0, h.1, (h.2.0, Appends-kept held holds kept (answers old h.0) h.2.1 k))
 
-or_false : (b : Bool) → (b || false) ≡ b
-or_false true = refl
-or_false false = refl
-
 -- a call that didn't answer a fault left its device as unfailed as it was
 pub unfailed_call : (before after : Bool) → after ≡ (before || false) → after ≡ before
 unfailed_call before after h = h ∙ or_false before
-
--- and so did a write that took a byte or more
-pub unfailed_by : (before after : Bool) (count : ℕ) (any : Bool) → after ≡ (before || (count == 0 && any)) → (count ≡ 0 → ⊥) → after ≡ before
-unfailed_by before after count any h some = h ∙ rw (eqb-not count 0 some) (or_false before) where
-  eqb-not : (m n : ℕ) → (m ≡ n → ⊥) → (m == n) ≡ false
-  eqb-not m n ne = (elim (m == n) as (λ same. (m == n) ≡ same → (m == n) ≡ false) [
-    | true ↦ λ e. absurd (ne (eqb-true m n e))
-    | false ↦ λ e. e
-  ]) refl
 
 -- a call that answered a fault leaves its device failed
 pub failed_call : (before after : Bool) → after ≡ (before || true) → after ≡ true

@@ -7,7 +7,7 @@ use Rattle.hex.specs.Hex.{encode_with, encode_lower, lower_digits}
 use Rattle.cedar_tree.specs.Queries.{Entry}
 use Rattle.cedar_cli.specs.Script.{hex_entry_line, hex_entry_lines}
 use Rattle.text_lines.specs.Written.{WritesFront}
-use Rattle.cedar_cli.proofs.Bytes.{Appends-append, Appends-none, front_after, front_more}
+use Rattle.text_lines.proofs.Bytes.{Appends-append, Appends-none, front_after, front_more}
 
 hex_entry_lines-append : (a b : List Entry) → hex_entry_lines (a ++ b) ≡ hex_entry_lines a ++ hex_entry_lines b
 hex_entry_lines-append [] b = refl

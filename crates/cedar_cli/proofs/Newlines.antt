@@ -1,5 +1,5 @@
 -- A chunk of a script, cut at its bytes 10.
-use Rattle.std.proofs.Common.{◌≡◌, ℕ, suc, List, [], ◌∷◌, ◌++◌, Option, Some, None, Bool, true, false, refl, sym, ap, subst, ◌∙◌, append_assoc, append-nil, arith, length, take, drop, get_or, ◌==◌, ◌<◌, ◌+◌, ◌-◌}
+use Rattle.std.proofs.Common.{◌≡◌, ℕ, suc, List, [], ◌∷◌, ◌++◌, Option, Some, None, true, false, refl, sym, ap, subst, ◌∙◌, append_assoc, append-nil, arith, length, take, drop, get_or, ◌==◌, ◌<◌, ◌+◌, ◌-◌}
 use Rattle.std.proofs.lemmas.Bool.{eqb-true}
 use Rattle.memchr.specs.Find.{IsFirstByte, is_byte}
 use Rattle.std.proofs.lemmas.List.Sums.{position_or_len_is, split_at_first, passes_at_first}
@@ -17,6 +17,7 @@ use Rattle.cedar_cli.specs.declared.script.ScriptError.{ScriptError}
 use Rattle.cedar_cli.specs.declared.script.ScriptError.TheVariants.{Memory}
 use Rattle.cedar_cli.proofs.Bytes.{line_done, line_left, long_stop, may_stop, bytes_on, not_begun, Advances-append, Stops-append, Stops-more}
 use Rattle.cedar_cli.proofs.Text.{before_at, after_at, before_none}
+use Rattle.text_lines.proofs.Figures.{not_true}
 
 pub open_append : (a b : List ℕ) → HasNoNewline a → HasNoNewline b → HasNoNewline (a ++ b)
 open_append [] b p q = q
@@ -24,10 +25,6 @@ open_append (c ∷ a) b p q = (p.0, open_append a b p.1 q)
 
 take_after : (n b : ℕ) (rest : List ℕ) → take (1 + n) (b ∷ rest) ≡ b ∷ take n rest
 take_after n b rest = ap (λ m. take m (b ∷ rest)) (let e : 1 + n ≡ suc n = omega arith in e)
-
-not_true : {b : Bool} → (b ≡ true → ⊥) → b ≡ false
-not_true {b = true} h = absurd (h refl)
-not_true {b = false} h = refl
 
 -- before the first byte 10 there is none
 pub open_before : (text : List ℕ) → HasNoNewline (before_first is_newline text)

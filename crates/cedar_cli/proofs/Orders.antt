@@ -21,7 +21,8 @@ use Rattle.cedar_cli.specs.declared.command.Verb.TheVariants.{Erase}
 use Rattle.cedar_cli.specs.declared.script.ScriptError.{ScriptError}
 use Rattle.cedar_cli.specs.declared.script.ScriptError.TheVariants.{Read, Write, Memory as NoMemory, SlotLimit as NoSlot}
 use Rattle.std.specs.Io.KnownBytes.{Appends}
-use Rattle.cedar_cli.proofs.Bytes.{Appends-none, Disobeys-on_err, Obeys-on_ok, all_stays}
+use Rattle.text_lines.proofs.Bytes.{Appends-none}
+use Rattle.cedar_cli.proofs.Bytes.{Disobeys-on_err, Obeys-on_ok, all_stays}
 
 -- what an exact search that missed says
 pub exact_missed : (t : Tree) (key : List ℕ) → None ≡ exact t key → number_at t key ≡ None
@@ -42,11 +43,11 @@ pub found_reply : (t : Tree) (key : List ℕ) (v : ℤ) (n : ℕ) → ◌≡◌ 
 found_reply t key v n h = let p = exact_found t key v n h in rw (p.0, p.1) refl
 
 -- the answer to an erasure, where the key is held and where it isn't
-pub erased_reply : (s : View) (key : List ℕ) (found : ℤ × ℕ) → ◌≡◌ {A = Option (ℤ × ℕ)} (Some found) (exact s.state.tree key) → codes "erased" ≡ reply s (Some (Erase, key))
-erased_reply s key found h = rw (exact_found s.state.tree key found.0 found.1 h).0 refl
+pub erased_reply : (s : View) (key : List ℕ) (v : ℤ) → number_at s.state.tree key ≡ Some v → codes "erased" ≡ reply s (Some (Erase, key))
+erased_reply s key v h = rw h refl
 
-pub absent_reply : (s : View) (key : List ℕ) → None ≡ exact s.state.tree key → codes "absent" ≡ reply s (Some (Erase, key))
-absent_reply s key h = rw (exact_missed s.state.tree key h) refl
+pub absent_reply : (s : View) (key : List ℕ) → number_at s.state.tree key ≡ None → codes "absent" ≡ reply s (Some (Erase, key))
+absent_reply s key h = rw h refl
 
 -- the line of a fault that has a number in it
 pub nul_line : (e : CedarError) (at : ℕ) (figures : List ℕ) → e ≡ NulByte at → figures ≡ decimal at
@@ -181,13 +182,9 @@ pub none_reply : (t : Tree) (key : List ℕ) → None ≡ exact t key → codes 
 none_reply t key h = rw (exact_missed t key h) refl
 
 -- what an erasure answers was written
-pub erased_written : (s : View) (key : List ℕ) (found : ℤ × ℕ) (held holds : Option (List ℕ)) → ◌≡◌ {A = Option (ℤ × ℕ)} (Some found) (exact s.state.tree key)
+pub erased_written : (s : View) (key : List ℕ) (v : ℤ) (held holds : Option (List ℕ)) → number_at s.state.tree key ≡ Some v
     → Appends held holds (codes "erased" ++ 10 ∷ []) → Appends held holds (reply s (Some (Erase, key)) ++ 10 ∷ [])
-erased_written s key found held holds h p = subst (λ (l : List ℕ). Appends held holds (l ++ 10 ∷ [])) (erased_reply s key found h) p
-
-pub absent_written : (s : View) (key : List ℕ) (held holds : Option (List ℕ)) → None ≡ exact s.state.tree key
-    → Appends held holds (codes "absent" ++ 10 ∷ []) → Appends held holds (reply s (Some (Erase, key)) ++ 10 ∷ [])
-absent_written s key held holds h p = subst (λ (l : List ℕ). Appends held holds (l ++ 10 ∷ [])) (absent_reply s key h) p
+erased_written s key v held holds h p = subst (λ (l : List ℕ). Appends held holds (l ++ 10 ∷ [])) (erased_reply s key v h) p
 
 -- an answer that changes nothing was written whole, or not
 pub told : (layout : LayoutKind) (order : Option Order) (before after : Dictionary) (held holds : Option (List ℕ)) (bytes : List ℕ) (r : Result (Unit {0}) ScriptError)

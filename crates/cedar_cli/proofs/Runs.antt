@@ -11,7 +11,8 @@ use Rattle.cedar_cli.specs.Script.{MayStop, Obeys, Stays, Disobeys, Finishes, Sp
 use Rattle.text_lines.specs.Written.{AppendsFront}
 use Rattle.cedar_cli.specs.View.{View}
 use Rattle.cedar_cli.specs.declared.script.ScriptError.{ScriptError}
-use Rattle.cedar_cli.proofs.Bytes.{all_stays, Appends-append, Appends-kept, Appends-none, answers-append, cut_short_none, lines_of-last, Finishes-append, line_finished}
+use Rattle.text_lines.proofs.Bytes.{Appends-append, Appends-none}
+use Rattle.cedar_cli.proofs.Bytes.{all_stays, Appends-kept, answers-append, cut_short_none, lines_of-last, Finishes-append, line_finished}
 
 -- bytes consumed in two parts
 pub Consumes-append : (a b c : Option (List ℕ)) (x y : List ℕ) → Consumes a b x → Consumes b c y → Consumes a c (x ++ y)

@@ -12,7 +12,7 @@ pub use Rattle.cedar_cli.specs.Script.{found_text, hex_entry_line, hex_entry_lin
 pub use Rattle.cedar_cli.specs.Script.{number_text, pair_text, pairs_text, put_text, spaced_texts, Stops, token_text, tokens_text}
 pub use Rattle.cedar_cli.specs.View.{View, view_of}
 pub use Rattle.cedar_model.specs.Table.Layouts.{layout_byte}
-pub use Rattle.cedar_slots.specs.Places.{IsSlotLimit}
+pub use Rattle.cedarwood.specs.Words.{IsSlotLimit}
 pub use Rattle.cedar_tree.specs.State.{erased, stored}
 pub use Rattle.cedar_tree.specs.Tree.{number_at}
 pub use Rattle.cedarwood.specs.Dictionary.{Grows}

@@ -1,4 +1,4 @@
-//! What queries answer, as lines: entries, pairs of numbers, and tokens. It takes no memory but that of a walk.
+//! The answers of queries, as lines: entries, pairs of numbers, and tokens. They allocate only what an iteration does.
 
 ghost use Rattle.std.specs.Prelude.{[], ℕ, ℤ, ◌*◌, ◌++◌, ◌∷◌, ◌≡◌, codes, length, List, MatchOption, OnErr, OnOk};
 ghost use Rattle.cedar_cli.specs.Words.{AnswersOrFails, BreaksOff, colon_field, encode_lower, has_failed, hex_entry_line, hex_entry_lines, number_text, pair_text, pairs_text, spaced_texts, token_text, tokens_text, Writes, WritesOrFails};

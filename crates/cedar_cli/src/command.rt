@@ -6,14 +6,14 @@ ghost use Rattle.cedar_cli.specs.Words.{after_first, before_first, is_space, key
 use cedar_hex::decode_into;
 use memchr::memchr;
 
-/// What a line asks for.
+/// What a line says to do.
 #[derive(Clone, Copy, Debug, PartialEq, Eq)]
 pub(crate) enum Verb {
     /// Store this value.
     Put(i32),
     Erase,
     Exact,
-    /// The fronts of the key that are held.
+    /// The prefixes of the key that are held.
     Prefixes,
     /// The keys that begin with the key.
     Predict,
@@ -32,11 +32,11 @@ pub(crate) struct Command {
     pub key_len: usize,
 }
 
-/// Reads a line, and writes its key to the front of `room`, which has a byte for two of the line's. None is a bad line.
+/// Reads a line, and writes its key to the first bytes of `room`, which has a byte for two of the line's. None is a bad line.
 pub(crate) fn parse_line(line: &[u8], room: &mut [u8]) -> Option<Command>
     requires room { length line.now ≤ 2 * length room.old }
 
-    //= A line is read as an order or as a bad line by `order_of`, and takes no memory (always).
+    //= A line is read as an order or as a bad line by `order_of`, which allocates nothing (always).
     ensures order { option_map (λ c. (c.verb, take c.key_len room.new)) result ≡ order_of line.now }
     ensures len { length room.new ≡ length room.old }
     ensures within { IfSome result (λ c. c.key_len ≤ length room.old) }
@@ -97,7 +97,7 @@ fn split_at_space(text: &[u8]) -> (&[u8], &[u8])
     }
 }
 
-/// Reads a key, `.` or pairs of hexadecimal digits, writes it to the front of `room`, and says how many bytes it has.
+/// Reads a key, `.` or pairs of hexadecimal digits, writes it to the first bytes of `room`, and returns how many bytes it has.
 fn parse_key(text: &[u8], room: &mut [u8]) -> Option<usize>
     requires room { length text.now ≤ 2 * length room.old }
     ensures key { option_map (λ n. take n room.new) result ≡ key_of text.now }
@@ -119,8 +119,8 @@ fn parse_value(text: &[u8]) -> Option<i32>
     text.parse().ok()
 }
 
-/// Why a line of a script is answered `bad line`, and None of one that isn't. Its key is written to `room`, which has a byte for two of
-/// the line's. It takes no memory.
+/// Why a line of a script is answered `bad line`, and None of one that isn't. Its key is written to `room`, which has a byte for two of the
+/// line's. It allocates nothing.
 ///
 /// ```
 /// let mut room = [0u8; 8];
@@ -130,7 +130,7 @@ fn parse_value(text: &[u8]) -> Option<i32>
 pub fn explain_line(line: &[u8], room: &mut [u8]) -> Option<&'static str>
     requires room { length line.now ≤ 2 * length room.old }
 
-    //= A reason is told of just those lines that are no order (always).
+    //= A reason is given for exactly those lines that are no order (always).
     ensures told { is_some result ≡ not (is_some (order_of line.now)) }
     ensures len { length room.new ≡ length room.old }
 {

@@ -4,8 +4,8 @@ ghost use Rattle.cedar_cli.specs.Words.{FitsInMemory, IsTrue};
 
 use std::mem;
 
-/// Whether a value that may come to `place` fits in memory. It always does, and that is known at compile time; it tells a
-/// proof so, where the type names a type parameter of the function.
+/// Whether a value that may come to `place` fits in memory. It always does, and that is known at compile time. The function says this to a
+/// proof if the type names a type parameter of the function.
 pub(crate) fn fits<T>(place: &Option<T>) -> bool
     ensures { IsTrue result → FitsInMemory T.row }
 {

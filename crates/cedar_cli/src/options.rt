@@ -5,14 +5,14 @@ ghost use Rattle.cedar_cli.specs.Words.{is_excluded, limit_of, limit_or_default,
 
 use cedarwood::DEFAULT_LOAD_MEMORY_LIMIT;
 
-/// What the arguments ask for.
+/// What the arguments say.
 #[derive(Clone, Copy, Debug)]
 pub(crate) struct Options<'a> {
     /// Whether the labels of each node are to ascend.
     pub ordered: bool,
     /// The file that the dictionary comes from.
     pub load: Option<&'a str>,
-    /// How many bytes of memory that load may ask for.
+    /// How many bytes that load may allocate.
     pub limit: Option<usize>,
     /// The file that it is saved in.
     pub save: Option<&'a str>,
@@ -22,7 +22,7 @@ pub(crate) struct Options<'a> {
     pub reduced: bool,
 }
 
-/// What the arguments ask for, or None where they are wrong.
+/// What the arguments say, or None if they are wrong.
 pub(crate) fn options_of<'a>(arguments: &[&'a str]) -> Option<Options<'a>>
     ensures { option_map request_in result ≡ request_of arguments.now }
 {
@@ -37,7 +37,7 @@ pub(crate) fn options_of<'a>(arguments: &[&'a str]) -> Option<Options<'a>>
     with_options(nothing, arguments)
 }
 
-/// What some arguments ask for beside what has been asked, or None where they are wrong.
+/// What some arguments say beside those before them, or None if they are wrong.
 fn with_options<'a>(options: Options<'a>, arguments: &[&'a str]) -> Option<Options<'a>>
     ensures { option_map request_in result ≡ request_besides (request_in options.entry) (words arguments.now) }
 {
@@ -84,7 +84,7 @@ fn limit_of(text: &str) -> Option<usize>
     text.parse().ok()
 }
 
-/// How many bytes of memory a load may ask for.
+/// How many bytes a load may allocate.
 pub(crate) fn limit_or_default(limit: Option<usize>) -> usize
     ensures { result ≡ limit_or_default limit }
 {

@@ -13,19 +13,19 @@ use std::alloc::Allocator;
 use std::io::{Read, Write};
 use std::rt::Files;
 
-/// The status of a run that did all it was asked for.
+/// The status of a run that did all that the arguments name.
 pub const DONE: u8 = 0;
 
-/// The status after a fault of the input or the output, and where memory or slots ran out.
+/// The status after a fault of the input or the output, and if memory or slots ran out.
 pub const FAULT: u8 = 1;
 
-/// The status where the arguments are wrong.
+/// The status if the arguments are wrong.
 pub const USAGE: u8 = 2;
 
-/// The status where a load or a save was refused.
+/// The status if a load or a save was refused.
 pub const REFUSED: u8 = 3;
 
-/// The line that wrong arguments are answered by.
+/// The line that is written if the arguments are wrong.
 pub const USAGE_LINE: &str =
     "usage: cedar [--reduced] [--unordered] [--load PATH] [--limit BYTES] [--save PATH] [--v1-0]\n";
 
@@ -37,20 +37,20 @@ enum Fault {
     Save(CedarPersistenceError),
 }
 
-/// Answers the script on `reader` to `writer`, and says the status to end with: [`DONE`], [`FAULT`], [`USAGE`] or
-/// [`REFUSED`]. Where it isn't `DONE`, a line on `errors` says why; a fault of `errors` isn't told. The dictionary has
-/// `SLOTS` slots at most. The options, each once at most and in any order:
+/// Runs the script on `reader`, writes its answers to `writer`, and returns the status to end with: [`DONE`], [`FAULT`], [`USAGE`] or
+/// [`REFUSED`]. If it isn't `DONE`, a line on `errors` says why; a fault of `errors` isn't reported. The dictionary has at most `SLOTS`
+/// slots. The options, each once at most and in any order:
 ///
 /// - `--reduced`: the dictionary and its files are of the reduced layout;
 /// - `--unordered`: a new label goes before its siblings and not to its ascending place;
 /// - `--load PATH`: the dictionary is loaded from this file, and not empty at first; not beside `--unordered`, since a
 ///   file has its settings;
-/// - `--limit BYTES`, only beside `--load`: the load may ask for so many bytes of memory, and not for 2^29;
-/// - `--save PATH`: once all is answered and flushed, it is saved in this file;
+/// - `--limit BYTES`, only beside `--load`: the load may allocate so many bytes, instead of 2^29;
+/// - `--save PATH`: once all answers are written and flushed, it is saved in this file;
 /// - `--v1-0`, only beside `--save`: it is saved in format 1.0, and not in 1.1.
 ///
-/// The first fault ends the run, so nothing is saved after one. After a fault of the script what was answered is still
-/// flushed, and a fault of that flush isn't told.
+/// The first fault ends the run, so nothing is saved after one. After a fault of the script the answers that were written are still
+/// flushed, and a fault of that flush isn't reported.
 pub fn run_program<const SLOTS: usize, F: Files, A: Allocator + Copy, R: Read, W: Write, E: Write>(
     alloc: A,
     files: &F,
@@ -65,15 +65,15 @@ pub fn run_program<const SLOTS: usize, F: Files, A: Allocator + Copy, R: Read, W
     ensures status { result ≤ 3 }
 
     //= It is 2 exactly if the arguments are wrong (as `--unordered` beside `--load`, `--v1-0` without `--save`, or `--limit` without
-    //  `--load`); then nothing was read and nothing written to the output (always). [with untouched]
+    //  `--load`). Then nothing was read and nothing written to the output (always). [with untouched]
     ensures usage { (result ≡ 2) ↔ (request_of arguments.now ≡ None) }
     ensures untouched { result ≡ 2 → (reader.new ≡ reader.old) × (writer.new ≡ writer.old) }
 
-    //= Then no call of the reader or the writer failed, and nothing was told to standard error (always). [with unfailed]
+    //= Then no call of the reader or the writer failed, and nothing was written to standard error (always). [with unfailed]
     ensures silent { result ≡ 0 → errors.new ≡ errors.old }
 
     //= Status 0: the answers of the whole input were written, and nothing else: from an empty dictionary of the layout and the order that
-    //  were asked for, or with `--load` from some state and marks in that layout.
+    //  the arguments name, or with `--load` from some state and marks in that layout.
     ensures done { result ≡ 0 → IfSome (request_of arguments.now) (λ asked. OnAsked asked (AnswersAll R.remaining reader.old W.contents writer.old writer.new)) }
     ensures unfailed { result ≡ 0 → (has_failed reader.new ≡ has_failed reader.old) × (has_failed writer.new ≡ has_failed writer.old) }
 
@@ -90,7 +90,7 @@ pub fn run_program<const SLOTS: usize, F: Files, A: Allocator + Copy, R: Read, W
     }
 }
 
-/// Tells of a fault, with the path of the file that it is of, and says the status to end with.
+/// Reports a fault, with the path of the file that it is of, and returns the status to end with.
 fn tell<E: Write>(fault: Fault, options: Options<'_>, errors: &mut Watched<E>) -> u8
     ensures above { 0 < result }
     ensures within { result ≤ 3 }
@@ -114,7 +114,7 @@ fn tell<E: Write>(fault: Fault, options: Options<'_>, errors: &mut Watched<E>) -
     }
 }
 
-/// Does what the options ask for, over the layout that they name.
+/// Does what the options say, over the layout that they name.
 fn run_layout<const SLOTS: usize, F: Files, A: Allocator + Copy, R: Read, W: Write>(
     alloc: A,
     files: &F,
@@ -134,7 +134,7 @@ fn run_layout<const SLOTS: usize, F: Files, A: Allocator + Copy, R: Read, W: Wri
     }
 }
 
-/// Loads or makes the dictionary, answers the script, flushes the answers, and saves the dictionary.
+/// Loads or makes the dictionary, runs the script, flushes the answers, and saves the dictionary.
 fn run_options<L: Layout, const SLOTS: usize, F: Files, A: Allocator + Copy, R: Read, W: Write>(
     alloc: A,
     files: &F,
@@ -158,7 +158,7 @@ fn run_options<L: Layout, const SLOTS: usize, F: Files, A: Allocator + Copy, R: 
     }
 }
 
-/// Saves the dictionary, if that is asked for.
+/// Saves the dictionary, if the options say so.
 fn save<L: Layout, const SLOTS: usize, F: Files, A: Allocator + Copy>(
     files: &F,
     trie: &Trie<L, SLOTS, A>,
@@ -184,8 +184,8 @@ fn first_trie<L: Layout, const SLOTS: usize, F: Files, A: Allocator + Copy>(
     requires limit { IsSlotLimit SLOTS }
     ensures begun { IfOk result (λ trie. BeginsWith L.kind (request_in options.entry) (view_of L.kind trie)) }
 
-    //= A load that is refused memory is so under the limit of `--limit`, or without that under 2^29 bytes (always). [by LacksWithin,
-    //  asked_limit]
+    //= A load that is refused memory is refused it under the limit of `--limit`, or without that under 2^29 bytes (always). [by
+    //  LacksWithin, asked_limit]
     ensures lacks { IfErr result (LacksWithin (layout_byte L.kind) SLOTS (asked_limit (request_in options.entry))) }
 {
     match options.load {
@@ -200,7 +200,7 @@ fn first_trie<L: Layout, const SLOTS: usize, F: Files, A: Allocator + Copy>(
     }
 }
 
-/// Loads the dictionary, if that asks for so many bytes of memory at most.
+/// Loads the dictionary, if that allocates at most so many bytes.
 fn load<L: Layout, const SLOTS: usize, F: Files, A: Allocator + Copy>(
     alloc: A,
     files: &F,
@@ -216,7 +216,7 @@ fn load<L: Layout, const SLOTS: usize, F: Files, A: Allocator + Copy>(
     }
 }
 
-/// Answers the script, and flushes the answers.
+/// Runs the script, and flushes the answers.
 fn answer_script<L: Layout, const SLOTS: usize, A: Allocator + Copy, R: Read, W: Write>(
     alloc: A,
     trie: &mut Trie<L, SLOTS, A>,
@@ -238,7 +238,7 @@ fn answer_script<L: Layout, const SLOTS: usize, A: Allocator + Copy, R: Read, W:
     }
 }
 
-/// What standard error is told of a fault of the script.
+/// What is written to standard error of a fault of the script.
 fn fault_line(fault: ScriptError) -> &'static str {
     match fault {
         ScriptError::Read => "cedar: read fault\n",

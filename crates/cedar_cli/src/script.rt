@@ -16,7 +16,7 @@ pub enum ScriptError {
     Read,
     /// The writer failed.
     Write,
-    /// A request for memory was refused.
+    /// An allocation was refused.
     Memory,
     /// No slot is left in the dictionary.
     SlotLimit,
@@ -28,24 +28,24 @@ const MAX_READS: u64 = 1 << 63;
 /// A read takes this many bytes at most.
 const CHUNK: usize = 8192;
 
-/// A line of up to this many bytes has room that is asked for once.
+/// A line of up to this many bytes has room that is allocated once.
 const LINE_ROOM: usize = 8192;
 
 /// So has its key, which has a byte for two of the line's.
 const KEY_ROOM: usize = 4096;
 
-/// Answers each line of what the reader has left. Memory holds one line, half as many bytes for its key, and one key of a walk. The writer
-/// is flushed before each read, so that one who waits for an answer before the next line gets it.
+/// Runs each line of what the reader has left, and writes its answer. Memory holds one line, half as many bytes for its key, and one key of
+/// an iteration. The writer is flushed before each read, so that one who waits for an answer before the next line gets it.
 ///
-/// A line is the bytes up to byte 10 (`\n`); a last nonempty piece without it is a line too. A line is
-/// finished when its answer has been written whole, and keys and values are always those of the finished lines. So are the slots that are in use,
-/// but after a fault of the writer: in the reduced layout a value that was taken back may leave those of shorter keys in slots of their own.
+/// A line is the bytes up to byte 10 (`\n`); a last nonempty piece without it is a line too. A line is finished when its answer has been
+/// written whole, and keys and values are always those of the finished lines. So are the slots that are in use, except after a fault of the
+/// writer: in the reduced layout a value that was undone may leave those of shorter keys in slots of their own.
 ///
 /// # Errors
-/// The first fault ends the run: `Read` or `Write` where the device failed (an interrupted call is a fault),
-/// `Memory` where a request was refused, `SlotLimit` where all slots that there may be are in use. What was written then begins with the answers of the finished
-/// lines. A line that a read fault cut isn't answered. Room for lines of up to 8,192 bytes is asked for before the first read. Behind it a line is told `Memory`
-/// only if it is longer, if it lists all entries, or if the dictionary has no block spare and fewer slots than it may have.
+/// The first fault ends the run: `Read` or `Write` if the device failed (an interrupted call is a fault), `Memory` if an allocation was
+/// refused, `SlotLimit` if all slots that there may be are in use. What was written then begins with the answers of the finished lines. A
+/// line that a read fault cut has no answer. Room for lines of up to 8,192 bytes is allocated before the first read. After it a line fails
+/// with `Memory` only if it is longer, if it lists all entries, or if the dictionary has no block spare and fewer slots than it may have.
 pub fn run_script<L: Layout, const SLOTS: usize, A: Allocator + Copy, R: Read, W: Write>(
     alloc: A,
     trie: &mut Trie<L, SLOTS, A>,
@@ -54,42 +54,42 @@ pub fn run_script<L: Layout, const SLOTS: usize, A: Allocator + Copy, R: Read, W
 ) -> Result<(), ScriptError>
     //= `Ok`: the answers of all lines of the input were written, nothing else was, and the dictionary's state and marks are those of all
     //  lines.
-    //= Among the answers: `#` tells how many keys are held and how many slots. By default these are `used` of the tree, and in the reduced
-    //  layout one, plus its prefixes, plus the numbers that have slots of their own. [by answers, reply, slots_held]
-    //= Which numbers have slots of their own is said line by line, by the keys that were stored and erased (`put_in`, `cut_in`). [by
+    //= Among the answers: that of `#` has how many keys are held and how many slots. By default these are `used` of the tree, and in the
+    //  reduced layout one, plus its prefixes, plus the numbers that have slots of their own. [by answers, reply, slots_held]
+    //= Which numbers have slots of their own is given line by line, by the keys that were stored and erased (`put_in`, `cut_in`). [by
     //  view_after_order]
     ensures ok { OnOk result (FinishesAll R.remaining reader.old W.contents writer.old writer.new L.kind trie.old trie.new) }
 
     //= After a fault the script's first lines are finished and no other: their answers were written, then at most a part of the next one's,
-    //  never the whole; the state is theirs, and after any fault but `Write` the marks are too. [by Stays]
-    //= So a put that is refused for want of memory or slots moves no number into a slot, in either layout; one whose answer can't be
-    //  written is taken back, and in the reduced layout numbers of shorter keys may then keep slots. [by Stays]
-    //= `Memory` only before any line is finished, or where the next line has more than 8,192 bytes or lists all keys, or where the
-    //  dictionary has no block spare and fewer slots than it may have; so want of slots is never told as want of memory behind the first
-    //  line, but at a line that long or such a list. [by MayStop]
+    //  never the whole. The state is theirs, and after any fault except `Write` the marks are too. [by Stays]
+    //= So a put that is refused for lack of memory or slots moves no number into a slot, in either layout. One whose answer can't be
+    //  written is undone, and in the reduced layout numbers of shorter keys may then keep slots. [by Stays]
+    //= A run fails with `Memory` only before any line is finished, or if the next line has more than 8,192 bytes or lists all keys, or if
+    //  the dictionary has no block spare and fewer slots than it may have. So after the first line, lack of slots is never reported as lack
+    //  of memory, except at a line that long or such a list. [by MayStop]
     ensures err { IfErr result (EndsInput R.remaining reader.old W.contents writer.old writer.new SLOTS L.kind trie.old trie.new) }
 
     //= After a read fault the finished lines are all that came with their byte 10, and state and marks are theirs.
     ensures read { result ≡ Err ScriptError.Read → FinishesComing R.remaining reader.old reader.new W.contents writer.old writer.new L.kind trie.old trie.new }
 
-    //= `Read` and `Write` are answered only where the device failed, in this run or before (always). [with write_cause]
+    //= A run fails with `Read` and `Write` only if the device failed, in this run or before (always). [with write_cause]
     ensures read_cause { result ≡ Err ScriptError.Read → has_failed reader.new ≡ true }
     ensures write_cause { result ≡ Err ScriptError.Write → has_failed writer.new ≡ true }
 
-    //= `Ok` only where no call of a device failed in the run (always).
+    //= It is `Ok` only if no call of a device failed in the run (always).
     ensures unfailed { OnOk result ((has_failed reader.new ≡ has_failed reader.old) × (has_failed writer.new ≡ has_failed writer.old)) }
 
-    //= `SlotLimit` only where all slots that there may be are in use at the end (always).
+    //= It fails with `SlotLimit` only if all slots that there may be are in use at the end (always).
     ensures limit { result ≡ Err ScriptError.SlotLimit → trie.new.size ≡ SLOTS }
 
-    //= A run on an input of n bytes makes n blocks at most, however it ends (where the reader tells its bytes) (always).
+    //= A run on an input of n bytes makes at most n blocks, however it ends (if the reader's bytes are known) (always).
     ensures blocks { IfSome (held_by R.remaining reader.old) (λ input. GrowsWithin (length input) trie.old trie.new) }
 
-    //= `Memory` and `SlotLimit` only where no call of a device failed in the run (always). [with full]
+    //= It fails with `Memory` and `SlotLimit` only if no call of a device failed in the run (always). [with full]
     ensures starved { result ≡ Err ScriptError.Memory → (has_failed reader.new ≡ has_failed reader.old) × (has_failed writer.new ≡ has_failed writer.old) }
     ensures full { result ≡ Err ScriptError.SlotLimit → (has_failed reader.new ≡ has_failed reader.old) × (has_failed writer.new ≡ has_failed writer.old) }
 
-    //= `max_trial` stays (always).
+    //= `max_trial` doesn't change (always).
     ensures max_trial { trie.new.max_trial ≡ trie.old.max_trial }
 {
     let Ok((mut line, mut key)) = line_room(alloc) else {
@@ -97,7 +97,7 @@ pub fn run_script<L: Layout, const SLOTS: usize, A: Allocator + Copy, R: Read, W
     };
     let mut chunk = [0u8; CHUNK];
     for turn in 0..MAX_READS {
-        // Whoever waits for the answers so far gets them before more input is asked for.
+        // Whoever waits for the answers so far gets them before more input is read.
         let Ok(()) = writer.flush() else {
             return Err(ScriptError::Write);
         };
@@ -165,7 +165,7 @@ fn position_of_newline(text: &[u8]) -> Option<usize>
     memchr(b'\n', text)
 }
 
-/// Answers a line that ends with a piece and byte 10. A line of one piece is answered where it stands.
+/// Runs a line that ends with a piece and byte 10. A line of one piece is run where it is.
 fn end_line<L: Layout, const SLOTS: usize, A: Allocator + Copy, W: Write>(
     trie: &mut Trie<L, SLOTS, A>,
     line: &mut Vec<u8, A>,
@@ -196,7 +196,7 @@ fn end_line<L: Layout, const SLOTS: usize, A: Allocator + Copy, W: Write>(
     Ok(())
 }
 
-/// Answers a line once there is room for its key. Only a line of more than 8,192 bytes asks for more of it.
+/// Runs a line once there is room for its key. Only a line of more than 8,192 bytes allocates more of it.
 fn answer_with_room<L: Layout, const SLOTS: usize, A: Allocator + Copy, W: Write>(
     trie: &mut Trie<L, SLOTS, A>,
     line: &[u8],

@@ -13,8 +13,8 @@ use itoa::Buffer;
 use std::alloc::Allocator;
 use std::io::Write;
 
-/// Does what a line asks, and writes the answer. The line's key is read into `room`, which has a byte for two of the line's. A line whose answer
-/// isn't written whole changes no key and no value.
+/// Does what a line says, and writes the answer. The line's key is read into `room`, which has a byte for two of the line's. A line whose
+/// answer isn't written whole changes no key and no value.
 pub(crate) fn answer_line<L: Layout, const SLOTS: usize, A: Allocator + Copy, W: Write>(
     trie: &mut Trie<L, SLOTS, A>,
     line: &[u8],
@@ -27,8 +27,8 @@ pub(crate) fn answer_line<L: Layout, const SLOTS: usize, A: Allocator + Copy, W:
     ensures answer { Answers L.kind (order_of line.now) trie.old trie.new (held_by W.contents writer.old) (held_by W.contents writer.new) result }
     ensures faults { AnswersOrFails (has_failed writer.old) (has_failed writer.new) result }
 
-    //= A line is told `Memory` only where the dictionary has no block spare and fewer slots than it may have, or where the line lists all
-    //  keys; `SlotLimit` only where all slots are in use (always). [with limit; also answer_command]
+    //= A line fails with `Memory` only if the dictionary has no block spare and fewer slots than it may have, or if the line lists all
+    //  keys; with `SlotLimit` only if all slots are in use (always). [with limit; also answer_command]
     ensures memory { result ≡ Err ScriptError.Memory → MayLackMemory SLOTS (order_of line.now) trie.new }
     ensures limit { result ≡ Err ScriptError.SlotLimit → trie.new.size ≡ SLOTS }
     ensures blocks { GrowsWithin (length line.now) trie.old trie.new }
@@ -44,7 +44,7 @@ pub(crate) fn answer_line<L: Layout, const SLOTS: usize, A: Allocator + Copy, W:
     }
 }
 
-/// Does what an order asks, and writes the answer.
+/// Does what an order says, and writes the answer.
 fn answer_command<L: Layout, const SLOTS: usize, A: Allocator + Copy, W: Write>(
     trie: &mut Trie<L, SLOTS, A>,
     verb: Verb,
@@ -70,8 +70,8 @@ fn answer_command<L: Layout, const SLOTS: usize, A: Allocator + Copy, W: Write>(
     }
 }
 
-/// Stores a value, and writes the answer. Where the answer can't be written, the value is taken back, which takes no
-/// memory: the key is erased, or its old value stored over the new one.
+/// Stores a value, and writes the answer. If the answer can't be written, the value is undone, which allocates nothing: the key is erased,
+/// or its old value stored over the new one.
 fn answer_put<L: Layout, const SLOTS: usize, A: Allocator + Copy, W: Write>(
     trie: &mut Trie<L, SLOTS, A>,
     key: &[u8],
@@ -101,7 +101,7 @@ fn answer_put<L: Layout, const SLOTS: usize, A: Allocator + Copy, W: Write>(
     }
 }
 
-/// Answers whether a key is held, and then removes it.
+/// Writes whether a key is held, and then removes it.
 fn answer_erase<L: Layout, const SLOTS: usize, A: Allocator + Copy, W: Write>(
     trie: &mut Trie<L, SLOTS, A>,
     key: &[u8],
@@ -112,15 +112,15 @@ fn answer_erase<L: Layout, const SLOTS: usize, A: Allocator + Copy, W: Write>(
     ensures blocks { Grows 0 trie.old trie.new }
     ensures max_trial { trie.new.max_trial ≡ trie.old.max_trial }
 {
-    match trie.exact_match_search_bytes(key) {
-        Some(_) => write_whole(writer, b"erased\n")?,
-        None => write_whole(writer, b"absent\n")?,
-    }
-    trie.erase_bytes(key);
+    let Some(found) = trie.find_bytes(key) else {
+        return write_whole(writer, b"absent\n");
+    };
+    write_whole(writer, b"erased\n")?;
+    trie.erase_found(key, found);
     Ok(())
 }
 
-/// Answers what a key holds.
+/// Writes what a key holds.
 fn answer_exact<L: Layout, const SLOTS: usize, A: Allocator + Copy, W: Write>(
     trie: &Trie<L, SLOTS, A>,
     key: &[u8],
@@ -135,7 +135,7 @@ fn answer_exact<L: Layout, const SLOTS: usize, A: Allocator + Copy, W: Write>(
     }
 }
 
-/// Answers the fronts of a query that are held.
+/// Writes the prefixes of a query that are held.
 fn answer_prefixes<L: Layout, const SLOTS: usize, A: Allocator + Copy, W: Write>(
     trie: &Trie<L, SLOTS, A>,
     key: &[u8],
@@ -147,7 +147,7 @@ fn answer_prefixes<L: Layout, const SLOTS: usize, A: Allocator + Copy, W: Write>
     write_pairs(writer, &mut trie.common_prefix_iter_bytes(key))
 }
 
-/// Answers the keys that begin with a query.
+/// Writes the keys that begin with a query.
 fn answer_predict<L: Layout, const SLOTS: usize, A: Allocator + Copy, W: Write>(
     trie: &Trie<L, SLOTS, A>,
     key: &[u8],
@@ -159,7 +159,7 @@ fn answer_predict<L: Layout, const SLOTS: usize, A: Allocator + Copy, W: Write>(
     write_pairs(writer, &mut trie.common_prefix_predict_iter_bytes(key))
 }
 
-/// Answers all entries. The line has no key, so any key will do.
+/// Writes all entries. The line has no key, so any key will do.
 fn answer_entries<L: Layout, const SLOTS: usize, A: Allocator + Copy, W: Write>(
     trie: &Trie<L, SLOTS, A>,
     key: &[u8],
@@ -175,7 +175,7 @@ fn answer_entries<L: Layout, const SLOTS: usize, A: Allocator + Copy, W: Write>(
     write_entries(writer, entries)
 }
 
-/// Answers how many keys are held, and how many slots. The line has no key, so any key will do.
+/// Writes how many keys are held, and how many slots. The line has no key, so any key will do.
 fn answer_figures<L: Layout, const SLOTS: usize, A: Allocator + Copy, W: Write>(
     trie: &Trie<L, SLOTS, A>,
     key: &[u8],
@@ -187,7 +187,7 @@ fn answer_figures<L: Layout, const SLOTS: usize, A: Allocator + Copy, W: Write>(
     write_figures(writer, trie.len(), trie.used_node_slots())
 }
 
-/// Answers the tokens of a text.
+/// Writes the tokens of a text.
 fn answer_segment<L: Layout, const SLOTS: usize, A: Allocator + Copy, W: Write>(
     trie: &Trie<L, SLOTS, A>,
     text: &[u8],
@@ -219,7 +219,7 @@ fn take_back<L: Layout, const SLOTS: usize, A: Allocator + Copy>(
     }
 }
 
-/// Writes the line of a pair's fault. It takes no memory.
+/// Writes the line of a pair's fault. It allocates nothing.
 fn write_refusal<W: Write>(writer: &mut Watched<W>, error: CedarError) -> Result<(), ScriptError>
     requires { IsPairFault error }
     ensures ok { OnOk result (Writes W.contents writer.old writer.new (put_text (Some error) ++ 10 ∷ [])) }
@@ -241,7 +241,7 @@ fn write_refusal<W: Write>(writer: &mut Watched<W>, error: CedarError) -> Result
     }
 }
 
-/// Writes the line of a key that is held. It takes no memory.
+/// Writes the line of a key that is held. It allocates nothing.
 fn write_found<W: Write>(
     writer: &mut Watched<W>,
     value: i32,
@@ -256,7 +256,7 @@ fn write_found<W: Write>(
     write_line(writer, b" ", figures.format(length).as_bytes())
 }
 
-/// Writes the line of two figures. It takes no memory.
+/// Writes the line of two figures. It allocates nothing.
 fn write_figures<W: Write>(
     writer: &mut Watched<W>,
     keys: usize,

@@ -20,7 +20,7 @@ const EXTENDED: u64 = 5;
 
 const REFUSED: u64 = 6;
 
-/// The calls so far. Its methods make none: each one notes a call that was made, with its answer.
+/// The calls so far. Its methods make none: each one notes a call that was made, with what it returned.
 #[derive(Drop)]
 pub(crate) struct Account {
     history: History,
@@ -28,7 +28,7 @@ pub(crate) struct Account {
     len: usize,
     /// Whether something was written or cut since the last sync.
     is_dirty: bool,
-    /// Whether no call has failed but such as changed nothing.
+    /// Whether no call has failed except such as changed nothing.
     is_usable: bool,
     ghost counted: { len ≡ length (seen_after history.calls) },
     ghost usable: { is_usable ≡ is_usable_after history.calls },
@@ -39,8 +39,8 @@ pub(crate) struct Account {
 impl Account {
     ghost use Rattle.cedar_disk.specs.Accounts.{calls_of, is_dirty};
 
-    /// The file was synced, and then read.
-    pub(crate) fn opened(bytes: &[u8]) -> Account
+    /// Notes that the file was synced, and then read.
+    pub(crate) fn of_file(bytes: &[u8]) -> Account
         ensures calls { calls_of result ≡ opened bytes.now ∷ [] }
     {
         let mut history = History::new();
@@ -53,21 +53,21 @@ impl Account {
         }
     }
 
-    /// How many bytes a read returns.
+    /// Returns how many bytes a read returns.
     pub(crate) fn len(&self) -> usize
         ensures { result ≡ length (seen_after (calls_of self.now)) }
     {
         self.len
     }
 
-    /// Whether something was written or cut since the last sync.
+    /// Returns whether something was written or cut since the last sync.
     pub(crate) fn is_dirty(&self) -> bool
         ensures { result ≡ is_dirty self.now }
     {
         self.is_dirty
     }
 
-    /// Refuses a call where one has failed before.
+    /// Refuses a call if one has failed before.
     pub(crate) fn admit(&mut self) -> Result<(), DeviceError>
         ensures usable { OnOk result (IsTrue (is_usable_after (calls_of self.new))) }
         ensures same { OnOk result (self.new ≡ self.old) }
@@ -77,19 +77,19 @@ impl Account {
         if self.is_usable {
             return Ok(());
         }
-        self.refused();
+        self.note_refusal();
         Err(DeviceError::Failed)
     }
 
-    /// A call failed that changed nothing.
-    pub(crate) fn refused(&mut self)
+    /// Notes that a call failed that changed nothing.
+    pub(crate) fn note_refusal(&mut self)
         ensures calls { calls_of self.new ≡ refused_call ∷ calls_of self.old }
     {
         self.history.note(&[REFUSED, 0, 0], &[]);
     }
 
-    /// Bytes were written over some that were there.
-    pub(crate) fn wrote(&mut self, at: usize, bytes: &[u8], ok: bool)
+    /// Notes that bytes were written over some that were there.
+    pub(crate) fn note_write(&mut self, at: usize, bytes: &[u8], ok: bool)
         requires within { at + length bytes.now ≤ length (seen_after (calls_of self.old)) }
         ensures calls { calls_of self.new ≡ written at bytes.now ok ∷ calls_of self.old }
     {
@@ -99,8 +99,8 @@ impl Account {
             .note(&[WRITTEN, at as u64, u64::from(ok)], bytes);
     }
 
-    /// Bytes were written past the end, which is at `end` now, and the file was synced.
-    pub(crate) fn extended(&mut self, at: usize, bytes: &[u8], end: usize, ok: bool)
+    /// Notes that bytes were written past the end, which is at `end` now, and that the file was synced.
+    pub(crate) fn note_extension(&mut self, at: usize, bytes: &[u8], end: usize, ok: bool)
         requires within { at ≤ length (seen_after (calls_of self.old)) }
         requires end { end ≡ at + length bytes.now }
         requires longer { length (seen_after (calls_of self.old)) < end }
@@ -116,8 +116,8 @@ impl Account {
             .note(&[EXTENDED, at as u64, u64::from(ok)], bytes);
     }
 
-    /// The file was cut.
-    pub(crate) fn shortened(&mut self, len: usize, ok: bool)
+    /// Notes that the file was cut.
+    pub(crate) fn note_cut(&mut self, len: usize, ok: bool)
         requires within { len ≤ length (seen_after (calls_of self.old)) }
         ensures calls { calls_of self.new ≡ shortened len ok ∷ calls_of self.old }
     {
@@ -128,8 +128,8 @@ impl Account {
             .note(&[SHORTENED, len as u64, u64::from(ok)], &[]);
     }
 
-    /// The file was synced.
-    pub(crate) fn synced(&mut self, ok: bool)
+    /// Notes that the file was synced.
+    pub(crate) fn note_sync(&mut self, ok: bool)
         requires usable { IsTrue (is_usable_after (calls_of self.old)) }
         ensures calls { calls_of self.new ≡ synced ok ∷ calls_of self.old }
     {
@@ -138,8 +138,8 @@ impl Account {
         self.history.note(&[SYNCED, 0, u64::from(ok)], &[]);
     }
 
-    /// Another file took its name.
-    pub(crate) fn replaced(&mut self, bytes: &[u8], ok: bool)
+    /// Notes that another file took its name.
+    pub(crate) fn note_replacement(&mut self, bytes: &[u8], ok: bool)
         requires usable { IsTrue (is_usable_after (calls_of self.old)) }
         ensures calls { calls_of self.new ≡ replaced bytes.now ok ∷ calls_of self.old }
     {

@@ -16,15 +16,15 @@ use std::io;
 use std::path::PathBuf;
 use std::rt::Files;
 
-/// A file of the operating system, which nobody else writes to.
+/// A file of the operating system to which nobody else writes.
 ///
-/// It holds the bytes that were read as it was opened, until it is first written, cut or replaced. From then on a read is refused with
-/// `Failed`: nothing would tell whether what comes is what was written. Open the file again to read it.
+/// It holds the bytes that were read when it was opened, until it is first written, cut or replaced. From then on a read fails with
+/// `Failed`: nothing would show whether what comes is what was written. Open the file again to read it.
 ///
-/// Once a call of the system has failed to write, cut, sync or rename, each later call is refused with `Failed`: after a sync that failed
-/// no other one tells what the disk has. Open the file again.
+/// Once a system call has failed to write, cut, sync or rename, each later call fails with `Failed`: after a sync that failed
+/// no other one shows what the disk has. Open the file again.
 ///
-/// A write that makes the file longer waits until the disk has it, and the `sync` behind it then asks nothing of the system.
+/// A write that makes the file longer waits until the disk has it, and the `sync` after it then asks nothing of the system.
 #[derive(Drop)]
 pub struct FileDevice<F: Files + Drop, A: Allocator> {
     files: F,
@@ -41,12 +41,12 @@ pub struct FileDevice<F: Files + Drop, A: Allocator> {
 impl<F: Files + Drop, A: Allocator + Copy> FileDevice<F, A> {
     ghost use Rattle.cedar_disk.specs.FileDevices.{device_calls};
 
-    /// Opens the file at `path`, or makes it, and puts it and its name on the disk. Then it is read.
+    /// Opens the file at `path`, or creates it, and puts it and its name on the disk. Then it is read.
     ///
-    /// Links in the path are followed now and not later. `path` with `.new` behind it is where a file is made that replaces this one.
+    /// Links in the path are followed now and not later. A file that replaces this one is made at `path` with `.new` after it.
     ///
     /// # Errors
-    /// `Memory` where a request was refused, `Io` where a call of the system failed, or where something else than a file is at the path.
+    /// `Memory` if an allocation failed, `Io` if a system call failed, or if something other than a file is at the path.
     pub fn open(files: F, alloc: A, path: &str) -> Result<FileDevice<F, A>, OpenError>
         //= A file that was opened is on the disk: a crash leaves what a read returns.
         ensures durable { IfOk result (λ device. Only (seen_after (device_calls device)) (MayLeave (device_calls device))) }
@@ -58,7 +58,7 @@ impl<F: Files + Drop, A: Allocator + Copy> FileDevice<F, A> {
         file.sync_all()?;
         folder.sync_all()?;
         let bytes = read_all(&mut file, alloc)?;
-        let account = Account::opened(&bytes);
+        let account = Account::of_file(&bytes);
         Ok(FileDevice {
             files,
             path,
@@ -71,7 +71,7 @@ impl<F: Files + Drop, A: Allocator + Copy> FileDevice<F, A> {
     }
 }
 
-fn failed(_error: io::Error) -> DeviceError
+fn device_error(_error: io::Error) -> DeviceError
     ensures { result ≡ DeviceError.Failed }
 {
     DeviceError::Failed
@@ -80,8 +80,8 @@ fn failed(_error: io::Error) -> DeviceError
 impl<F: Files + Drop, A: Allocator + Copy> Device for FileDevice<F, A> {
     ghost use Rattle.cedar_disk.specs.FileDevices.{device_calls};
 
-    //= A file of the operating system is a device. What a read returns, and what a crash may leave, is said by the list of its calls, each
-    //  noted with its answer. [with may_leave, moment, left_since, faults]
+    //= A file of the operating system is a device. The list of its calls, each noted with its result, gives what a read returns, and what a
+    //  crash may leave. [with may_leave, moment, left_since, faults]
     ghost seen = { λ device. seen_after (device_calls device) };
 
     ghost may_leave = { λ device. MayLeave (device_calls device) };
@@ -100,7 +100,7 @@ impl<F: Files + Drop, A: Allocator + Copy> Device for FileDevice<F, A> {
         match &self.held {
             Some(bytes) => Ok(bytes.to_vec(alloc)?),
             None => {
-                self.account.refused();
+                self.account.note_refusal();
                 Err(DeviceError::Failed)
             }
         }
@@ -109,27 +109,27 @@ impl<F: Files + Drop, A: Allocator + Copy> Device for FileDevice<F, A> {
     fn write_at(&mut self, at: usize, bytes: &[u8]) -> Result<(), DeviceError> {
         self.account.admit()?;
         let Some(end) = at.checked_add(bytes.len()) else {
-            self.account.refused();
+            self.account.note_refusal();
             return Err(DeviceError::Failed);
         };
         self.held = None;
         if end <= self.account.len() {
             let answer = write_all_at(&mut self.file, at, bytes);
-            self.account.wrote(at, bytes, answer.is_ok());
-            return answer.map_err(failed);
+            self.account.note_write(at, bytes, answer.is_ok());
+            return answer.map_err(device_error);
         }
-        // Else a crash could leave a shorter file than a cut may be told to leave.
+        // Otherwise a crash could leave a shorter file than a cut may be said to leave.
         let answer = write_synced_at(&mut self.file, at, bytes);
-        self.account.extended(at, bytes, end, answer.is_ok());
-        answer.map_err(failed)
+        self.account.note_extension(at, bytes, end, answer.is_ok());
+        answer.map_err(device_error)
     }
 
     fn cut(&mut self, len: usize) -> Result<(), DeviceError> {
         self.account.admit()?;
         self.held = None;
         let answer = self.file.set_len(len as u64);
-        self.account.shortened(len, answer.is_ok());
-        answer.map_err(failed)
+        self.account.note_cut(len, answer.is_ok());
+        answer.map_err(device_error)
     }
 
     fn sync(&mut self) -> Result<(), DeviceError> {
@@ -139,8 +139,8 @@ impl<F: Files + Drop, A: Allocator + Copy> Device for FileDevice<F, A> {
         } else {
             Ok(())
         };
-        self.account.synced(answer.is_ok());
-        answer.map_err(failed)
+        self.account.note_sync(answer.is_ok());
+        answer.map_err(device_error)
     }
 }
 
@@ -152,7 +152,7 @@ impl<F: Files + Drop, A: Allocator + Copy> ReplaceDevice for FileDevice<F, A> {
         let made = make_file(&self.files, self.beside.as_str(), &self.file, bytes);
         let Ok(file) = made else {
             let _ = fs::remove_file(&self.files, self.beside.as_str());
-            self.account.refused();
+            self.account.note_refusal();
             return Err(ReplaceError::Kept(DeviceError::Failed));
         };
         self.held = None;
@@ -162,7 +162,7 @@ impl<F: Files + Drop, A: Allocator + Copy> ReplaceDevice for FileDevice<F, A> {
             self.beside.as_str(),
             self.path.as_str(),
         );
-        self.account.replaced(bytes, answer.is_ok());
+        self.account.note_replacement(bytes, answer.is_ok());
         self.file = file;
         answer.map_err(|_| ReplaceError::Failed)
     }

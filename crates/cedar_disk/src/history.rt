@@ -1,11 +1,11 @@
-//! A list of calls that only clauses read. It takes no memory.
+//! A list of calls that only clauses read. It occupies no memory.
 
 ghost use Rattle.std.specs.Prelude.{◌≡◌, List, [], ◌∷◌};
 ghost use Rattle.cedar_disk.specs.Words.{Call, call_of, ftrue};
 
 use std::marker::{Model, PhantomData};
 
-/// The calls on one file, of which the newest comes first.
+/// The calls on one file, the newest first.
 #[derive(Drop)]
 pub(crate) struct History {
     marker: PhantomData<u8>,

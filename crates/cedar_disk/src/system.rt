@@ -1,4 +1,4 @@
-//! The calls of the system. No contract can say what they do: `specs/Calls.antt` has what is supposed of them.
+//! The system calls. No contract can say what they do: `specs/Calls.antt` has what is assumed of them.
 
 ghost use Rattle.std.specs.Prelude.{◌≡◌};
 ghost use Rattle.cedar_disk.specs.Words.{Memory, TellsKind};
@@ -13,14 +13,14 @@ use std::rt::Files;
 /// Why a file wasn't opened.
 #[derive(Clone, Copy, Debug)]
 pub enum OpenError {
-    /// A request for memory was refused.
+    /// An allocation failed.
     Memory,
     /// The system's error. `Unsupported`: what is at the path isn't a file.
     Io(io::Error),
 }
 
 impl From<AllocError> for OpenError {
-    //= A refused request for memory is told as `Memory`.
+    //= A failed allocation becomes `Memory`.
     ghost from_gives = { λ _ e. e ≡ Memory };
 
     fn from(_: AllocError) -> Self {
@@ -29,7 +29,7 @@ impl From<AllocError> for OpenError {
 }
 
 impl From<io::Error> for OpenError {
-    //= The system's error is handed on, but for one of the kind `OutOfMemory`, which is told as `Memory`.
+    //= The system's error is passed on, except one of the kind `OutOfMemory`, which becomes `Memory`.
     ghost from_gives = { TellsKind };
 
     fn from(error: io::Error) -> Self {
@@ -40,7 +40,7 @@ impl From<io::Error> for OpenError {
     }
 }
 
-/// The file's path with no link in it. The file is made if it is missing.
+/// Returns the file's path with no link in it. The file is created if it is missing.
 pub(crate) fn resolve<F: Files, A: Allocator>(
     files: &F,
     alloc: A,
@@ -54,7 +54,7 @@ pub(crate) fn resolve<F: Files, A: Allocator>(
     files.canonicalize(alloc, path)
 }
 
-/// Opens the folder that a file lies in, for its names to be synced.
+/// Opens the folder that a file lies in, so that its names can be synced.
 pub(crate) fn open_folder<F: Files>(files: &F, path: &str) -> io::Result<F::File> {
     match path.rsplit_once('/') {
         Some(("", _)) => fs::open(files, "/"),
@@ -100,7 +100,7 @@ pub(crate) fn write_synced_at<W: Write + Seek + OpenFile>(
     file.sync_data()
 }
 
-/// Makes a file of these bytes, on the disk, whose permissions are those of another one. What was at the path is removed.
+/// Creates a file of these bytes, on the disk, whose permissions are those of another one. What was at the path is removed.
 pub(crate) fn make_file<F: Files>(
     files: &F,
     path: &str,

@@ -1,1 +1,2 @@
 pub mod StepLemmas
+mod WantedRoom

@@ -1,4 +1,4 @@
-//! Keys put into a table and taken away: labels and numbers of its nodes, and sets of slots moved to another base where a new
+//! Keys put into a table and erased: labels and numbers of its nodes, and sets of slots moved to another base if a new
 //! label finds no room.
 #![tactic(auto)]
 

@@ -1,5 +1,5 @@
-//! A table as a file: the bytes that are written of one, and the table that the bytes of a file are, which is tested before
-//! anybody has it.
+//! A table as a file: the bytes that are written for one, and the table that the bytes of a file encode, which is tested before
+//! anybody gets it.
 #![tactic(auto)]
 
 mod check;

@@ -1,4 +1,4 @@
-//! How a table is loaded, and tested before anybody has it.
+//! How a table is loaded, and tested before anybody gets it.
 
 ghost use Rattle.std.specs.Prelude.{◌*◌, ◌+◌, ◌^◌, ◌≡◌, ◌≤◌, IfErr};
 ghost use Rattle.cedar_file.specs.Words.{CorruptData, CountsWithin, fields, file_fields, IsFile, IsIo, IsLack, IsSlotLimit, layout_byte, LoadsBy, need, refusal, refusal_of, TellsBreaks, trial_refusal};
@@ -9,13 +9,13 @@ use cedar_table::{Corrupt, Layout, Parts, Table, Ticks};
 use std::alloc::Allocator;
 use std::sync::ledger::Ledger;
 
-/// Loads the table that was saved. The bytes that are asked of memory are counted, and the records that are read to test the
-/// table.
+/// Loads the table that was saved. It counts the bytes that it requests from the allocator, and the records that it reads to
+/// test the table.
 ///
 /// # Errors
-/// The first refusal of the header and of the input's length, if there is one; `CorruptData` where the bytes are of no
-/// well-formed table; `AllocationFailed` with the number of elements where a request was refused, once the header has
-/// passed; `Io` where the reader failed, which bytes in memory never do.
+/// The first refusal of the header and of the input's length, if there is one; `CorruptData` if the bytes are of no
+/// well-formed table; `AllocationFailed` with the number of elements if an allocation failed, once the header has
+/// passed; `Io` if the reader failed, which bytes in memory never do.
 pub fn load_table<
     L: Layout,
     const SLOTS: usize,
@@ -32,19 +32,19 @@ pub fn load_table<
 ) -> Result<Table<L, SLOTS, A>, CedarPersistenceError>
     requires limit { IsSlotLimit SLOTS }
 
-    //= A table comes only with just its bytes, and it is well-formed, whatever the reader does. [by bytes, formed, LoadsBy]
-    //= A reader that tells its bytes and doesn't fail gets the answer that they decide: the table that they are, or the first refusal; or a
+    //= A table is loaded only from exactly its bytes, and it is well-formed, whatever the reader does. [by bytes, formed, LoadsBy]
+    //= If the reader's bytes are known and it doesn't fail, they decide the result: the table that they encode, or the first refusal; or a
     //  list found no room. [by answer]
-    //= `Io` and want of memory are answered only where the reader failed, and a list of a header that has passed found no room. [by io,
+    //= `Io` is returned only if the reader failed, and a lack of memory only if a list of a header that has passed found no room. [by io,
     //  lacks]
     ensures loads { LoadsBy (λ t. fields t) L.kind SLOTS memory_limit (S.remaining reader.old) (S.remaining reader.new) (S.failed reader.new) result }
 
-    //= Where a read was broken off, by a fault that is neither an end of the input nor an interruption, neither a table nor `Truncated` is
-    //  the answer. [by TellsBreaks]
+    //= If a read was broken off, by a fault that is neither an end of the input nor an interruption, the result is neither a table nor
+    //  `Truncated`. [by TellsBreaks]
     ensures told { TellsBreaks (S.broken reader.old) (S.broken reader.new) result }
 
-    //= By their counts nothing is asked of memory and no record is read for the test before the header has passed, and then no more than
-    //  the need and sixteen records a slot and 1024. [with reads]
+    //= By their counts nothing is requested from the allocator and no record is read for the test before the header has passed, and then no
+    //  more than the need and sixteen records a slot and 1024. [with reads]
     ensures asked { CountsWithin (layout_byte L.kind) SLOTS memory_limit (S.remaining reader.old) need asked.old asked.new }
     ensures reads { CountsWithin (layout_byte L.kind) SLOTS memory_limit (S.remaining reader.old) (λ h. 16 * h.capacity + 1024) reads.old reads.new }
 {
@@ -57,7 +57,7 @@ pub fn load_table<
     }
 }
 
-/// The table of a file's fields. Its lists are moved and not copied; whether it is well-formed isn't tested.
+/// Returns the table of a file's fields. Its lists are moved and not copied; whether it is well-formed isn't tested.
 fn table_of<L: Layout, const SLOTS: usize, A: Allocator>(
     decoded: Decoded<A>,
     memory_limit: usize,
@@ -97,7 +97,7 @@ fn check_trials(header: &Header) -> Result<(), CedarPersistenceError>
     })
 }
 
-/// The error for a table that isn't well-formed.
+/// Returns the error for a table that isn't well-formed.
 fn corrupt_data(corrupt: Corrupt) -> CedarPersistenceError
     ensures refusal { refusal_of result ≡ CorruptData }
     ensures io { IsIo result → ⊥ }

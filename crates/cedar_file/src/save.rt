@@ -10,7 +10,7 @@ use cedar_table::{BLOCK_SIZE, Layout, Table};
 use std::alloc::Allocator;
 use std::io::Write;
 
-/// What the header of a table's file says, in a minor version.
+/// Returns what the header of a table's file says, in a minor version.
 fn header_of<L: Layout, const SLOTS: usize, A: Allocator>(
     table: &Table<L, SLOTS, A>,
     minor: u16,
@@ -35,30 +35,30 @@ fn header_of<L: Layout, const SLOTS: usize, A: Allocator>(
     }
 }
 
-/// The first items, `len` of them if there are as many.
+/// Returns the first `len` items, or all if there are fewer.
 fn front<T>(items: &[T], len: usize) -> &[T]
     ensures { result.now ≡ take len items.now }
 {
     &items[..items.len().min(len)]
 }
 
-/// Writes the bytes of a table in a minor version. It takes no memory.
+/// Writes the bytes of a table in a minor version. It allocates nothing.
 ///
 /// # Errors
-/// `Io` where the writer failed.
+/// `Io` if the writer failed.
 pub fn write_table<L: Layout, const SLOTS: usize, A: Allocator, W: Write>(
     table: &Table<L, SLOTS, A>,
     minor: u16,
     writer: &mut Watched<W>,
 ) -> Result<(), CedarPersistenceError>
-    //= The bytes of a table in a version are written and nothing else. [with fits]
+    //= It writes the bytes of a table in a version and nothing else. [with fits]
     ensures bytes { OnOk result (Appends (W.contents (device_of writer.old)) (W.contents (device_of writer.new)) (table_bytes minor (fields table.now))) }
     ensures fits { OnOk result (FitsTable minor (fields table.now)) }
 
-    //= It fails only where its writer does.
+    //= It fails only if its writer does.
     ensures err { IfErr result (λ e. IsIo e × (has_failed writer.new ≡ true)) }
 
-    //= A writer that has failed stays so.
+    //= A writer that has failed stays failed.
     ensures failed { has_failed writer.old ≡ true → has_failed writer.new ≡ true }
 {
     let header = header_of(table, minor);

@@ -26,7 +26,7 @@ pub struct Decoded<A: Allocator> {
     pub reject: Vec<i16, A>,
 }
 
-/// The four tables, empty and with room for what the header says.
+/// Makes the four tables, empty and with room for what the header states.
 fn reserve_tables<A: Allocator + Copy, C: Ledger>(
     alloc: A,
     header: Header,
@@ -35,7 +35,7 @@ fn reserve_tables<A: Allocator + Copy, C: Ledger>(
     requires capacity { header.capacity ≤ 2 ^ 30 }
     requires reject { header.reject_len ≡ 257 }
     ensures header { IfOk result (λ d. d.header ≡ header) }
-    // Just the room that was counted.
+    // Exactly the room that was counted.
     ensures nodes { IfOk result (λ d. (d.nodes.items ≡ []) × (vec_capacity d.nodes ≡ header.capacity)) }
     ensures n_infos { IfOk result (λ d. (d.n_infos.items ≡ []) × (vec_capacity d.n_infos ≡ header.capacity)) }
     ensures blocks { IfOk result (λ d. (d.blocks.items ≡ []) × (vec_capacity d.blocks ≡ header.capacity / 256)) }
@@ -136,7 +136,7 @@ fn fill_tables<A: Allocator>(lists: Decoded<A>) -> Decoded<A>
     }
 }
 
-/// The end of the input, by one exact read of one byte.
+/// Tests for the end of the input, by one exact read of one byte.
 fn read_end<S: Source>(reader: &mut S) -> Result<(), CedarPersistenceError>
     ensures bytes { OnOk result (Consumes (S.remaining reader.old) (S.remaining reader.new) []) }
     ensures ended { OnOk result (S.failed reader.new ≡ false → IsAtEnd (S.remaining reader.old)) }
@@ -162,7 +162,7 @@ fn read_end<S: Source>(reader: &mut S) -> Result<(), CedarPersistenceError>
     }
 }
 
-/// Reads the fields of a file of this layout, up to its end. The bytes that are asked of memory aren't counted.
+/// Reads the fields of a file of this layout, up to its end. The bytes that it requests from the allocator aren't counted.
 ///
 /// # Errors
 /// As `decode_counted`.
@@ -175,19 +175,19 @@ pub fn decode<S: Source, A: Allocator + Copy>(
 ) -> Result<Decoded<A>, CedarPersistenceError>
     requires slots { IsSlotLimit slots }
 
-    //= Fields come only from just their bytes, the header and then the lists as far as its version lists them, also where the reader fails.
-    //  [also decode_counted; by bytes, DecodesBy]
-    //= After a success the header's sizes pass, there are as many records as its capacity asks for, the numbers that are listed are of
-    //  their types, and what isn't listed is blank. [also decode_counted; by file]
-    //= The answer is the first refusal in the stated order; or, once the header has passed, that a list found no room, with its number of
+    //= Fields are read only from exactly their bytes, the header and then the lists as far as its version lists them, even if the reader
+    //  fails. [also decode_counted; by bytes, DecodesBy]
+    //= After a success the header's sizes pass, there are as many records as its capacity requires, the listed numbers fit their types, and
+    //  what isn't listed is blank. [also decode_counted; by file]
+    //= The result is the first refusal in the stated order; or, once the header has passed, that a list found no room, with its number of
     //  elements. [also decode_counted; by answer]
-    //= After a success nothing is left of the input, if the reader has not failed. [also decode_counted; by at_end]
-    //= Want of memory is answered only with the number of elements of one of the four lists of a header that has passed, also where the
+    //= After a success no input is left, if the reader has not failed. [also decode_counted; by at_end]
+    //= A lack of memory is reported only with the number of elements of one of the four lists of a header that has passed, even if the
     //  reader fails. [also decode_counted; by lacks]
-    //= `Io` is answered only where the reader failed, now or before. [also decode_counted; by io]
+    //= `Io` is returned only if the reader failed, now or before. [also decode_counted; by io]
     ensures decodes { DecodesBy layout slots memory_limit (S.remaining reader.old) (S.remaining reader.new) (S.failed reader.new) result }
 
-    //= Where a read was broken off, neither a success nor `Truncated` is the answer. [also decode_counted, read_header, read_u8, read_u16,
+    //= If a read was broken off, the result is neither a success nor `Truncated`. [also decode_counted, read_header, read_u8, read_u16,
     //  read_i16, read_i32, read_u64, read_usize; by TellsBreaks]
     ensures told { TellsBreaks (S.broken reader.old) (S.broken reader.new) result }
 {
@@ -214,11 +214,11 @@ fn uncounted<C: Ledger, S: Source, A: Allocator + Copy>(
     decode_counted(alloc, reader, layout, slots, memory_limit, &mut asked)
 }
 
-/// Reads the fields of a file of this layout, up to its end, and counts the bytes that are asked of memory.
+/// Reads the fields of a file of this layout, up to its end, and counts the bytes that it requests from the allocator.
 ///
 /// # Errors
-/// The first refusal, if there is one; `AllocationFailed` with the number of elements where a table's request was refused,
-/// once the header has passed; `Io` where the reader failed.
+/// The first refusal, if there is one; `AllocationFailed` with the number of elements if the allocation of a table failed,
+/// once the header has passed; `Io` if the reader failed.
 pub fn decode_counted<S: Source, A: Allocator + Copy, C: Ledger>(
     alloc: A,
     reader: &mut S,
@@ -232,8 +232,8 @@ pub fn decode_counted<S: Source, A: Allocator + Copy, C: Ledger>(
     ensures decodes { DecodesBy layout slots memory_limit (S.remaining reader.old) (S.remaining reader.new) (S.failed reader.new) result }
     ensures told { TellsBreaks (S.broken reader.old) (S.broken reader.new) result }
 
-    //= By its count nothing is asked of memory before the header has passed, and at most the need that it was tested for after that; also
-    //  where the reader fails. [with passes]
+    //= By its count nothing is requested from the allocator before the header has passed, and after that at most the need that was tested;
+    //  even if the reader fails. [with passes]
     ensures asked { CountsWithin layout slots memory_limit (S.remaining reader.old) need asked.old asked.new }
     ensures passes { IfOk result (λ d. Passes layout slots memory_limit (S.remaining reader.old) d.header) }
 {
@@ -245,11 +245,11 @@ pub fn decode_counted<S: Source, A: Allocator + Copy, C: Ledger>(
     Ok(fill_tables(lists))
 }
 
-/// Writes the four lists of a file, one after another, in pieces of some thousand bytes. `slots` is how many slots the file lists:
-/// those that the lists lack, and their blocks, are blank. It takes no memory.
+/// Writes the four lists of a file, one after another, in pieces of several thousand bytes. `slots` is how many slots the file lists.
+/// Those that the lists lack, and their blocks, are blank. It allocates nothing.
 ///
 /// # Errors
-/// `Io` where the writer failed.
+/// `Io` if the writer failed.
 pub fn write_lists<W: Write>(
     writer: &mut Watched<W>,
     slots: usize,
@@ -258,12 +258,12 @@ pub fn write_lists<W: Write>(
     blocks: &[BlockRecord],
     reject: &[i16],
 ) -> Result<(), CedarPersistenceError>
-    //= The four lists of a table are written with just their bytes and nothing else, with blanks behind the first three up to the number
-    //  of slots that the file lists. [with fits]
+    //= The four lists of a table are written as exactly their bytes and nothing else, with blanks after the first three up to the number of
+    //  slots that the file lists. [with fits]
     ensures bytes { OnOk result (Appends (W.contents (device_of writer.old)) (W.contents (device_of writer.new)) (filled_bytes slots nodes.now n_infos.now blocks.now reject.now)) }
     ensures fits { OnOk result (FitsFilled slots nodes.now n_infos.now blocks.now reject.now) }
 
-    //= It fails only where its writer does.
+    //= It fails only if its writer does.
     ensures err { IfErr result (λ e. IsIo e × (has_failed writer.new ≡ true)) }
     ensures failed { has_failed writer.old ≡ true → has_failed writer.new ≡ true }
 {

@@ -1,4 +1,4 @@
-//! Numbers at the front of some bytes, at a place among them, and behind those in a buffer.
+//! Numbers at the start of some bytes, at a place among them, and after those in a buffer.
 
 ghost use Rattle.std.specs.Prelude.{◌++◌, ◌+◌, ◌∷◌, ◌≡◌, ◌≤◌, length, take};
 ghost use Rattle.cedar_format.specs.Words.{array_vec_len, i16_bytes, i32_bytes, IsI16, IsI32, u16_bytes, u64_bytes};
@@ -12,7 +12,7 @@ pub(crate) const BUFFER_LEN: usize = 16384;
 /// The bytes of a header on their way to a writer.
 pub(crate) type Buffer = ArrayVec<u8, HEADER_LEN>;
 
-/// Puts bytes behind those in a buffer.
+/// Appends bytes to those in a buffer.
 pub(crate) fn put_bytes(buffer: &mut Buffer, bytes: &[u8])
     requires { array_vec_len buffer.old + length bytes.now ≤ 88 }
     ensures bytes { buffer.new.items ≡ buffer.old.items ++ bytes.now }
@@ -21,7 +21,7 @@ pub(crate) fn put_bytes(buffer: &mut Buffer, bytes: &[u8])
     buffer.try_extend_from_slice(bytes).unwrap();
 }
 
-/// Puts a number of 2 bytes behind those in a buffer.
+/// Appends a number of 2 bytes to those in a buffer.
 #[tactic(auto, unfolding(crate::specs::Numbers::u16_bytes))]
 pub(crate) fn put_u16(buffer: &mut Buffer, value: u16)
     requires { array_vec_len buffer.old + 2 ≤ 88 }
@@ -31,7 +31,7 @@ pub(crate) fn put_u16(buffer: &mut Buffer, value: u16)
     put_bytes(buffer, &value.to_le_bytes());
 }
 
-/// Puts a signed number of 4 bytes behind those in a buffer.
+/// Appends a signed number of 4 bytes to those in a buffer.
 #[tactic(auto, unfolding(crate::specs::Numbers::i32_bytes))]
 pub(crate) fn put_i32(buffer: &mut Buffer, value: i32)
     requires { array_vec_len buffer.old + 4 ≤ 88 }
@@ -42,7 +42,7 @@ pub(crate) fn put_i32(buffer: &mut Buffer, value: i32)
     put_bytes(buffer, &value.to_le_bytes());
 }
 
-/// Puts a number of 8 bytes behind those in a buffer.
+/// Appends a number of 8 bytes to those in a buffer.
 #[tactic(auto, unfolding(crate::specs::Numbers::u64_bytes))]
 pub(crate) fn put_usize(buffer: &mut Buffer, value: usize)
     requires { array_vec_len buffer.old + 8 ≤ 88 }
@@ -100,7 +100,7 @@ pub(crate) fn u64_of(bytes: [u8; 8]) -> u64
     u64::from_le_bytes(bytes)
 }
 
-/// Takes as many bytes from the front as the buffer has, by one copy.
+/// Takes as many bytes from the start as the buffer has, by one copy.
 pub(crate) fn take_bytes(bytes: &mut &[u8], buf: &mut [u8])
     requires { length buf.old ≤ length bytes.old.now }
     ensures { bytes.old.now ≡ buf.new ++ bytes.new.now }
@@ -110,7 +110,7 @@ pub(crate) fn take_bytes(bytes: &mut &[u8], buf: &mut [u8])
     buf.copy_from_slice(front);
 }
 
-/// Takes a byte from the front.
+/// Takes a byte from the start.
 pub(crate) fn take_u8(bytes: &mut &[u8]) -> u8
     requires { 1 ≤ length bytes.old.now }
     ensures front { bytes.old.now ≡ result ∷ bytes.new.now }
@@ -121,7 +121,7 @@ pub(crate) fn take_u8(bytes: &mut &[u8]) -> u8
     front[0]
 }
 
-/// Takes a number of 2 bytes from the front.
+/// Takes a number of 2 bytes from the start.
 pub(crate) fn take_i16(bytes: &mut &[u8]) -> i16
     requires { 2 ≤ length bytes.old.now }
     ensures front { bytes.old.now ≡ i16_bytes result ++ bytes.new.now }
@@ -133,7 +133,7 @@ pub(crate) fn take_i16(bytes: &mut &[u8]) -> i16
     i16_of([front[0], front[1]])
 }
 
-/// Takes a number of 4 bytes from the front.
+/// Takes a number of 4 bytes from the start.
 pub(crate) fn take_i32(bytes: &mut &[u8]) -> i32
     requires { 4 ≤ length bytes.old.now }
     ensures front { bytes.old.now ≡ i32_bytes result ++ bytes.new.now }

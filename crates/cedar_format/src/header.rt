@@ -20,7 +20,7 @@ pub const MAJOR: u16 = 1;
 /// The minor version of the format in which a dictionary is saved.
 pub const MINOR: u16 = 1;
 
-/// The minor version before, which lists the slots and blocks that aren't in use too.
+/// The minor version before it, which also lists the slots and blocks that aren't in use.
 pub const FULL_MINOR: u16 = 0;
 
 /// The mark of the byte order.
@@ -56,7 +56,7 @@ pub struct Header {
     pub entries: usize,
 }
 
-/// The number of 2 bytes at a place.
+/// Returns the number of 2 bytes at a place.
 #[tactic(auto, unfolding(crate::specs::Format::u16_at))]
 fn u16_at(bytes: &[u8], at: usize) -> u16
     requires { at + 2 ≤ length bytes.now }
@@ -65,7 +65,7 @@ fn u16_at(bytes: &[u8], at: usize) -> u16
     u16::from_le_bytes([bytes[at], bytes[at + 1]])
 }
 
-/// The signed number of 4 bytes at a place.
+/// Returns the signed number of 4 bytes at a place.
 #[tactic(auto, unfolding(crate::specs::Format::i32_at))]
 fn i32_at(bytes: &[u8], at: usize) -> i32
     requires { at + 4 ≤ length bytes.now }
@@ -74,7 +74,7 @@ fn i32_at(bytes: &[u8], at: usize) -> i32
     i32::from_le_bytes([bytes[at], bytes[at + 1], bytes[at + 2], bytes[at + 3]])
 }
 
-/// The number of 8 bytes at a place.
+/// Returns the number of 8 bytes at a place.
 #[tactic(auto, unfolding(crate::specs::Format::u64_at))]
 fn u64_at(bytes: &[u8], at: usize) -> u64
     requires { at + 8 ≤ length bytes.now }
@@ -92,7 +92,7 @@ fn u64_at(bytes: &[u8], at: usize) -> u64
     ])
 }
 
-/// The fields of the first 88 bytes.
+/// Returns the fields of the first 88 bytes.
 fn header_at(bytes: &[u8]) -> Header
     requires { 88 ≤ length bytes.now }
     ensures { result ≡ header_at bytes.now }
@@ -176,7 +176,7 @@ fn check_kind(bytes: &[u8], layout: u8) -> Result<(), CedarPersistenceError>
     Ok(())
 }
 
-/// The header that begins the bytes, or the first thing that is wrong with it.
+/// Returns the header that begins the bytes, or the first thing that is wrong with it.
 pub(crate) fn parse_header(bytes: &[u8], layout: u8) -> Result<Header, CedarPersistenceError>
     ensures refusal { refusal result ≡ header_refusal layout bytes.now }
     ensures header { IfOk result (λ h. h ≡ header_at bytes.now) }
@@ -197,7 +197,7 @@ pub(crate) fn parse_header(bytes: &[u8], layout: u8) -> Result<Header, CedarPers
 
 /// Reads a header of this layout.
 pub fn read_header<S: Source>(reader: &mut S, layout: u8) -> Result<Header, CedarPersistenceError>
-    //= A header is read with just its bytes, and its refusal is the first one, never want of memory. [with refusal, io, room]
+    //= A header is read from exactly its bytes, and its refusal is the first one, never a lack of memory. [with refusal, io, room]
     ensures bytes { IfOk result (λ h. (bytes : List ℕ) × Consumes (S.remaining reader.old) (S.remaining reader.new) bytes × IsHeader layout bytes h) }
     ensures refusal { IfSome (S.remaining reader.old) (λ bytes. S.failed reader.new ≡ false → refusal result ≡ header_refusal layout (take 88 bytes)) }
     ensures io { IfErr result (λ e. IsIo e → S.failed reader.new ≡ true) }
@@ -210,7 +210,7 @@ pub fn read_header<S: Source>(reader: &mut S, layout: u8) -> Result<Header, Ceda
     with_fault(parse_header(&buf[..count], layout), fault)
 }
 
-/// Returns the fault that ended the bytes where too few came, and else the answer.
+/// Returns the fault that ended the bytes if too few came, and otherwise the result.
 fn with_fault<X>(
     answer: Result<X, CedarPersistenceError>,
     fault: Option<io::Error>,
@@ -228,15 +228,15 @@ fn with_fault<X>(
     }
 }
 
-/// How many slots a file of a minor version lists: all, or from 1 on those in use alone.
+/// Returns how many slots a file of a minor version lists: all, or from 1 on only those in use.
 pub fn listed_slots(minor: u16, capacity: usize, size: usize) -> usize
-    //= A file of a version lists so many slots: all, or those in use.
+    //= This is how many slots a file of a version lists: all, or those in use.
     ensures { result ≡ listed_slots minor capacity size }
 {
     if minor == FULL_MINOR { capacity } else { size }
 }
 
-/// Tests the sizes that a header gives, and whether the need of a load passes the limit.
+/// Tests the sizes that a header gives, and whether the need of a load exceeds the limit.
 pub(crate) fn check_sizes(
     header: &Header,
     slots: usize,
@@ -274,7 +274,7 @@ pub(crate) fn check_sizes(
     Ok(())
 }
 
-/// A field out of its rule.
+/// Returns the error of a field that breaks its rule.
 fn invalid(field: &'static str, value: usize) -> CedarPersistenceError
     ensures { refusal_of result ≡ InvalidHeader field.now value }
 {
@@ -290,7 +290,7 @@ pub fn write_header<W: Write>(
     layout: u8,
     header: Header,
 ) -> Result<(), CedarPersistenceError>
-    //= A header is written with just its bytes, in the version that it names. [with err]
+    //= A header is written as exactly its bytes, in the version that it names. [with err]
     ensures bytes { OnOk result (Appends (W.contents (device_of writer.old)) (W.contents (device_of writer.new)) (header_bytes layout header)) }
     ensures fits { FitsHeader header }
     ensures err { IfErr result (λ e. IsIo e × (has_failed writer.new ≡ true)) }

@@ -16,8 +16,8 @@ pub fn well_formed_tables_pass()
     ensures { TablesPass }
 {}
 
-/// The fields of a header that was written are read again.
+/// The fields of a header that was written are read back.
 pub fn headers_are_read_again()
-    //= The fields of a header that was written are read again.
+    //= The fields of a header that was written are read back.
     ensures { HeadersAreReadAgain }
 {}

@@ -12,7 +12,7 @@ use crate::watched::Watched;
 use std::alloc::Allocator;
 use std::io::Write;
 
-/// Reads a list of so many records.
+/// Reads a list of a given number of records.
 pub(crate) fn read_records<S: Source, T: Record, A: Allocator>(
     reader: &mut S,
     count: usize,
@@ -62,7 +62,7 @@ fn read_piece<S: Source, T: Record, A: Allocator>(
     Ok(())
 }
 
-/// Takes the records that some bytes are.
+/// Takes the records that some bytes encode.
 fn take_records<T: Record, A: Allocator>(bytes: &[u8], count: usize, records: &mut Vec<T, A>)
     requires len { length bytes.now ≡ count * T.LEN }
     requires room { vec_len records.old + count ≤ vec_capacity records.old }
@@ -78,7 +78,7 @@ fn take_records<T: Record, A: Allocator>(bytes: &[u8], count: usize, records: &m
     }
 }
 
-/// Fills a list up to a length, in the room that it has.
+/// Fills a list up to a length, within the room that it has.
 pub(crate) fn fill_up<T: Record, A: Allocator>(records: &mut Vec<T, A>, len: usize, blank: T)
     requires { len ≤ vec_capacity records.old }
     ensures { records.new.items ≡ filled_list blank len records.old.items }
@@ -88,7 +88,7 @@ pub(crate) fn fill_up<T: Record, A: Allocator>(records: &mut Vec<T, A>, len: usi
     }
 }
 
-/// Writes a list of records, as many at once as fit in the buffer, whatever that held.
+/// Writes a list of records, as many at once as fit in the buffer, whatever it held before.
 pub(crate) fn write_records<W: Write, T: Record>(
     writer: &mut Watched<W>,
     buffer: &mut [u8; BUFFER_LEN],
@@ -126,7 +126,8 @@ fn write_piece<W: Write, T: Record>(
     write_bytes(writer, bytes)
 }
 
-/// Writes a list of records, and behind it as many blanks as it lacks to `len`. They go out in pieces, too, whatever the buffer held.
+/// Writes a list of records, and after it as many blanks as it lacks up to `len`. These are written in pieces too, whatever the buffer
+/// held before.
 pub(crate) fn write_filled<W: Write, T: Record>(
     writer: &mut Watched<W>,
     buffer: &mut [u8; BUFFER_LEN],
@@ -143,7 +144,7 @@ pub(crate) fn write_filled<W: Write, T: Record>(
     write_blanks(writer, buffer, len.saturating_sub(records.len()), blank)
 }
 
-/// Writes so many blanks, as many at once as fit in the buffer.
+/// Writes a given number of blanks, as many at once as fit in the buffer.
 fn write_blanks<W: Write, T: Record>(
     writer: &mut Watched<W>,
     buffer: &mut [u8; BUFFER_LEN],
@@ -165,7 +166,7 @@ fn write_blanks<W: Write, T: Record>(
     Ok(())
 }
 
-/// Writes so many blanks, which fit in the buffer together.
+/// Writes a given number of blanks, which fit in the buffer together.
 fn write_piece_of<W: Write, T: Record>(
     writer: &mut Watched<W>,
     buffer: &mut [u8; BUFFER_LEN],
@@ -183,7 +184,7 @@ fn write_piece_of<W: Write, T: Record>(
     write_bytes(writer, bytes)
 }
 
-/// Makes some bytes those of so many blanks.
+/// Fills some bytes with those of a given number of blanks.
 fn put_blanks<T: Record>(blank: T, count: usize, bytes: &mut [u8])
     requires len { length bytes.old ≡ count * T.LEN }
     ensures bytes { bytes.new ≡ flat_map T.bytes_of (replicate count blank) }
@@ -196,7 +197,7 @@ fn put_blanks<T: Record>(blank: T, count: usize, bytes: &mut [u8])
     }
 }
 
-/// Makes some bytes those of records. No room is tested for a single record.
+/// Fills some bytes with those of records. No room is tested for a single record.
 fn put_records<T: Record>(records: &[T], bytes: &mut [u8])
     requires len { length bytes.old ≡ length records.now * T.LEN }
     ensures bytes { bytes.new ≡ flat_map T.bytes_of records.now }

@@ -22,7 +22,7 @@ pub(crate) fn write_bytes<W: Write>(
     Ok(())
 }
 
-/// Reads so many bytes.
+/// Reads `LEN` bytes.
 fn read_array<const LEN: usize, S: Source>(
     reader: &mut S,
 ) -> Result<[u8; LEN], CedarPersistenceError>
@@ -36,7 +36,7 @@ fn read_array<const LEN: usize, S: Source>(
 
 /// Reads one byte.
 pub fn read_u8<S: Source>(reader: &mut S) -> Result<u8, CedarPersistenceError>
-    //= A number is read from just its bytes, or the reader failed, or too few were left. [also read_u16, read_i16, read_i32, read_u64,
+    //= A number is read from exactly its bytes, or the reader failed, or too few were left. [also read_u16, read_i16, read_i32, read_u64,
     //  read_usize; by bytes, misses, ReadsBy]
     ensures reads { ReadsBy (λ x. x ∷ []) 1 (S.remaining reader.old) (S.remaining reader.new) (S.failed reader.old) (S.failed reader.new) result }
     ensures told { TellsBreaks (S.broken reader.old) (S.broken reader.new) result }
@@ -80,7 +80,7 @@ pub fn read_u64<S: Source>(reader: &mut S) -> Result<u64, CedarPersistenceError>
 /// Writes a number as 2 bytes.
 #[tactic(auto, unfolding(crate::specs::Numbers::i16_bytes))]
 pub fn write_i16<W: Write>(writer: &mut Watched<W>, value: i16) -> Result<(), CedarPersistenceError>
-    //= A number is written with just its bytes, or the writer failed. [with err; also write_i32, write_usize]
+    //= A number is written as exactly its bytes, or the writer failed. [with err; also write_i32, write_usize]
     ensures bytes { OnOk result (Appends (W.contents (device_of writer.old)) (W.contents (device_of writer.new)) (i16_bytes value)) }
     ensures err { IfErr result (λ e. IsIo e × (has_failed writer.new ≡ true)) }
     ensures failed { has_failed writer.old ≡ true → has_failed writer.new ≡ true }

@@ -1,4 +1,4 @@
-//! What a file holds lists of: the records of a table, and single numbers.
+//! The records that a file has lists of: those of a table, and single numbers.
 
 ghost use Rattle.std.specs.Prelude.{◌++◌, ◌+◌, ◌<◌, ◌≡◌, ◌≤◌, length, List, take, ℕ};
 ghost use Rattle.cedar_format.specs.Words.{block_bytes, FitsBlock, FitsInfo, FitsNode, i16_bytes, info_bytes, IsI16, length-append, length-i16_bytes, length-i32_bytes, node_bytes, rules};
@@ -6,7 +6,7 @@ ghost use Rattle.cedar_format.specs.Words.{block_bytes, FitsBlock, FitsInfo, Fit
 use crate::buffer::{take_i16, take_i32, take_u8, write_i16_at, write_i32_at};
 use cedar_slots::{BlockRecord, NInfoRecord, NodeRecord};
 
-/// What a file holds a list of.
+/// A record that a file has a list of.
 pub(crate) trait Record: Copy + Drop {
     /// How many bytes each takes, in a file as in memory.
     ghost LEN: { ℕ };
@@ -16,17 +16,17 @@ pub(crate) trait Record: Copy + Drop {
     /// The bytes of one.
     ghost bytes_of: { Self → List ℕ };
 
-    /// Its numbers are of their types.
+    /// Its numbers fit their types.
     ghost Fits: { Self → Type 0 };
 
-    /// Takes one from the front of some bytes.
+    /// Takes one from the start of some bytes.
     fn take_from(bytes: &mut &[u8]) -> Self
         requires { LEN ≤ length bytes.old.now }
         ensures front { bytes.old.now ≡ bytes_of result ++ bytes.new.now }
         ensures len { length bytes.old.now ≡ LEN + length bytes.new.now }
         ensures fits { Fits result };
 
-    /// Writes its bytes at a place. Those before it stay.
+    /// Writes its bytes at a place. The bytes before that place stay.
     fn write_at(&self, bytes: &mut [u8], at: usize)
         requires { at + LEN ≤ length bytes.old }
         ensures front { take (at + LEN) bytes.new ≡ take at bytes.old ++ bytes_of self.now }

@@ -12,12 +12,12 @@ use std::sync::ledger::Ledger;
 /// Makes room for exactly `len` more elements.
 ///
 /// # Errors
-/// `AllocationFailed` with `len` where the request was refused.
+/// `AllocationFailed` with `len` if the allocation failed.
 pub fn reserve_exact<T, A: Allocator>(
     vec: &mut Vec<T, A>,
     len: usize,
 ) -> Result<(), CedarPersistenceError>
-    //= Room for so many elements more is made, or refused with their number; the elements stay. [with ok, err]
+    //= Room for so many more elements is made, or refused with their number; the elements stay. [with ok, err]
     ensures items { vec.new.items ≡ vec.old.items }
     ensures ok { OnOk result (vec_len vec.new + len ≤ vec_capacity vec.new) }
     ensures exact { OnOk result (vec_capacity vec.old ≤ vec_len vec.old + len → vec_capacity vec.new ≡ vec_len vec.old + len) }
@@ -29,7 +29,7 @@ pub fn reserve_exact<T, A: Allocator>(
     }
 }
 
-/// Makes room for exactly `len` more records, and counts the bytes that are asked for.
+/// Makes room for exactly `len` more records, and counts the bytes that it requests from the allocator.
 pub(crate) fn reserve_counted<T: Record, A: Allocator, C: Ledger>(
     vec: &mut Vec<T, A>,
     len: usize,

@@ -1,6 +1,6 @@
-//! Reads and writes of a watched device: single ones, and those of whole buffers, which try again what was interrupted.
+//! Reads and writes of a watched device: single ones, and those of whole buffers, which try again after an interruption.
 //!
-//! The flags of `Watched` are out of reach here. So they are set only by a call of the device that answered a fault.
+//! The flags of `Watched` are out of reach here. So only a failed call of the device sets them.
 
 ghost use Rattle.std.specs.Prelude.{◌||◌, ◌≡◌, ◌≢◌, false, IfErr, is_err, length, OnErr, OnOk, true};
 ghost use Rattle.cedar_format.specs.Words.{Appends, Consumes, device_of, EndsWithin, error_kind, has_failed, is_broken, is_write_fault, Keeps, ReadConsumes, ReadsAtMost, WriteAppends, WritesAtMost};
@@ -18,10 +18,10 @@ impl<R: Read> Read for Watched<R> {
         //= A read gives no more bytes than its buffer has, and a write takes no more than it is given. [also write]
         ensures bound { ReadsAtMost result buf.new }
 
-        //= What a `read`, a `write` and a `flush` tell of the bytes is what the types of their devices tell. [also write, flush]
+        //= A `read`, a `write` and a `flush` say about the bytes what the types of their devices say. [also write, flush]
         ensures bytes { ReadConsumes (R.remaining (device_of self.old)) (R.remaining (device_of self.new)) result buf.new }
 
-        //= A `read`, a `write` and a `flush` set `failed()` exactly if they answered a fault; a `write` also if it took none of some bytes.
+        //= A `read`, a `write` and a `flush` set `failed()` exactly if they return a fault; a `write` also if it takes none of some bytes.
         //  [also write, flush]
         ensures failed { has_failed self.new ≡ (has_failed self.old || is_err result) }
         ensures whole { OnOk result (is_broken self.new ≡ is_broken self.old) }
@@ -32,10 +32,10 @@ impl<R: Read> Read for Watched<R> {
         self.read_once(buf)
     }
 
-    // An interrupted read is tried again; it counts as a fault all the same, but not as one that broke off.
+    // An interrupted read is tried again. It still counts as a fault, but not as one that broke off.
     fn read_exact(&mut self, buf: &mut [u8]) -> io::Result<()>
-        //= `read_exact` and `write_all` say what was read and written where they succeed; where `write_all` fails, a call of the device
-        //  failed. [with ended, kind; also write_all.bytes.err]
+        //= `read_exact` and `write_all` state what was read and written if they succeed; if `write_all` fails, a call of the device failed.
+        //  [with ended, kind; also write_all.bytes.err]
         ensures bytes { OnOk result (Consumes (R.remaining (device_of self.old)) (R.remaining (device_of self.new)) buf.new) }
         ensures ended { OnErr result (has_failed self.new ≡ false → EndsWithin (R.remaining (device_of self.old)) (length buf.old)) }
         ensures kind { IfErr result (λ e. has_failed self.new ≡ false → error_kind e ≡ ErrorKind.UnexpectedEof) }
@@ -113,7 +113,7 @@ impl<W: Write> Write for Watched<W> {
         self.flush_once()
     }
 
-    // A write that was interrupted is tried again; it counts as a fault all the same.
+    // An interrupted write is tried again. It still counts as a fault.
     fn write_all(&mut self, buf: &[u8]) -> io::Result<()>
         ensures bytes { OnOk result (Appends (W.contents (device_of self.old)) (W.contents (device_of self.new)) buf.now) }
         ensures err { OnErr result (has_failed self.new ≡ true) }

@@ -10,40 +10,40 @@ use std::io::ErrorKind;
 
 /// What a file is loaded from, and whether its reading has failed.
 ///
-/// The calls that load know of it only what this trait says. A [`Watched`](crate::Watched) reader has failed where one of its calls
-/// did. Bytes in memory, `&[u8]`, never fail, and begin behind what was taken.
+/// The calls that load know only what this trait says of it. A [`Watched`](crate::Watched) reader has failed if one of its calls
+/// did. Bytes in memory, `&[u8]`, never fail, and begin after what was taken.
 pub trait Source {
-    /// The bytes that are left, where they are known.
+    /// The bytes that are left, if they are known.
     ghost remaining: { Self → Option (List ℕ) };
 
-    /// Whether a read failed so far.
+    /// Whether a read has failed so far.
     ghost failed: { Self → Bool };
 
-    /// Whether a read was broken off so far: by a fault that is neither an end of the input nor an interruption.
+    /// Whether a read has been broken off so far, by a fault that is neither an end of the input nor an interruption.
     ghost broken: { Self → Bool };
 
     /// Fills the buffer.
     ///
     /// # Errors
-    /// `Truncated` where fewer bytes were left; `Io` where the reading failed.
+    /// `Truncated` if fewer bytes were left; `Io` if the reading failed.
     fn fill(&mut self, buf: &mut [u8]) -> Result<(), CedarPersistenceError>
-        //= A `Source` fills a buffer with just the bytes that it had left, or its reading failed, or too few were left. [with misses]
+        //= A `Source` fills a buffer with exactly the bytes that it had left, or its reading failed, or too few were left. [with misses]
         ensures bytes { OnOk result (Consumes (remaining self.old) (remaining self.new) buf.new) }
         ensures misses { IfErr result (Misses (remaining self.old) (failed self.new) (length buf.old)) }
 
-        //= A device that has failed stays so. [also read_available, read.failed, read_exact.failed, write.failed, flush.failed,
+        //= A device that has failed stays failed. [also read_available, read.failed, read_exact.failed, write.failed, flush.failed,
         //  write_all.failed, write_lists.failed, read_header.failed, write_header.failed, write_i16.failed, write_i32.failed,
         //  write_usize.failed]
         ensures stays { failed self.old ≡ true → failed self.new ≡ true }
 
-        //= A buffer isn't filled, nor is an end of the input told, where a read was broken off; a fault comes only before the buffer is
-        //  full. [also read_available.short.whole.early]
+        //= If a read was broken off, no buffer is filled and no end of the input is reported; a fault comes only before the buffer is full.
+        //  [also read_available.short.whole.early]
         ensures told { TellsBreaks (broken self.old) (broken self.new) result };
 
     /// Fills the buffer as far as the input goes. Returns how many bytes came, and the fault that ended them.
     fn read_available(&mut self, buf: &mut [u8]) -> (usize, Option<io::Error>)
-        //= As far as the input goes, a buffer is filled with just the bytes that came; fewer only at the input's end or where the reading
-        //  failed. [with bytes, ended, fault]
+        //= As far as the input goes, a buffer is filled with exactly the bytes that came; with fewer only at the input's end or if the
+        //  reading failed. [with bytes, ended, fault]
         ensures within { result.0 ≤ length buf.new }
         ensures bytes { Consumes (remaining self.old) (remaining self.new) (take result.0 buf.new) }
         ensures ended { IfNone result.1 (result.0 < length buf.new → IsAtEnd (remaining self.new)) }
@@ -76,7 +76,7 @@ impl Source for &[u8] {
     }
 }
 
-/// The error for a fault of the reader: its own end of input is an end of input.
+/// Returns the error for a fault of the reader: its own end of input is an end of input.
 pub(crate) fn fault_of(error: io::Error) -> CedarPersistenceError
     ensures end { error_kind error ≡ ErrorKind.UnexpectedEof → result ≡ Truncated }
     ensures other { error_kind error ≢ ErrorKind.UnexpectedEof → result ≡ Io error }

@@ -1,5 +1,5 @@
-//! The texts of refusals, each of which a contract knows byte by byte. Of a device's fault that is the prefix of the
-//! device's own text.
+//! The texts of refusals. A contract states each byte by byte; for a device's fault it states the prefix of the device's
+//! own text.
 
 ghost use Rattle.std.specs.Prelude.{◌++◌, option_map};
 ghost use Rattle.cedar_format.specs.Words.{DisplaysOnOk, fault_prefix, refusal_text};
@@ -9,8 +9,8 @@ use std::error::Error;
 use std::fmt;
 
 impl fmt::Display for CedarPersistenceError {
-    //= The text of each error is known byte by byte, with its numbers in decimal digits; of `Io` that is a prefix in front of the device's
-    //  own text, whatever that is. [also write_fault.writes; by refusal_text]
+    //= The text of each error is known byte by byte, with its numbers in decimal digits; for `Io` that is a prefix before the device's own
+    //  text, whatever that is. [also write_fault.writes; by refusal_text]
     ghost output = { refusal_text };
 
     fn fmt<W: fmt::Write>(&self, f: &mut fmt::Formatter<W>) -> fmt::Result {

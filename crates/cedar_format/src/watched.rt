@@ -8,7 +8,7 @@ use std::io::{ErrorKind, Read, Write};
 
 /// Passes its calls on to a reader or writer, and remembers whether one of them failed.
 ///
-/// Its bytes are known where those of the device inside are: a contract can name what a reader has left and what a
+/// Its bytes are known if those of the device inside are: a contract can name what a reader has left and what a
 /// writer holds.
 #[derive(Drop)]
 pub struct Watched<D> {
@@ -24,7 +24,7 @@ impl<D> Watched<D> {
         ensures device { device_of result ≡ device }
         ensures fresh { has_failed result ≡ false }
 
-        //= `broken()` is false at first; a `read` sets it exactly if it answered a fault that is neither an end of the input nor an
+        //= `broken()` is false at first; a `read` sets it exactly if it returns a fault that is neither an end of the input nor an
         //  interruption, and a call of a whole buffer only by such a `read`. [also read.whole.interrupted.early.broken,
         //  read_exact.whole.early.broken]
         ensures whole { is_broken result ≡ false }
@@ -36,22 +36,22 @@ impl<D> Watched<D> {
         }
     }
 
-    /// Whether a call answered a fault, or a write of some bytes took none.
+    /// Returns whether a call failed, or a write of some bytes took none.
     pub fn failed(&self) -> bool
-        //= `failed` and `broken` tell these two flags. [also broken]
+        //= `failed` and `broken` return these two flags. [also broken]
         ensures { result ≡ has_failed self.now }
     {
         self.failed
     }
 
-    /// Whether a read was broken off: by a fault that is neither an end of the input nor an interruption.
+    /// Returns whether a read was broken off: by a fault that is neither an end of the input nor an interruption.
     pub fn broken(&self) -> bool
         ensures { result ≡ is_broken self.now }
     {
         self.broken
     }
 
-    /// The device.
+    /// Returns the device.
     pub fn into_inner(self) -> D
         ensures { result ≡ device_of self }
     {
@@ -59,11 +59,11 @@ impl<D> Watched<D> {
     }
 }
 
-// Only these three calls set the flags. What reads and writes whole buffers stands in `retries`, out of reach of the fields: so it can't set
-// them by itself.
+// Only these three calls set the flags. The calls that read and write whole buffers are in `retries`, where the fields are out of reach, so
+// they can't set them by themselves.
 
 impl<R: Read> Watched<R> {
-    /// One read of the device.
+    /// Reads from the device once.
     pub(crate) fn read_once(&mut self, buf: &mut [u8]) -> io::Result<usize>
         ensures bound { ReadsAtMost result buf.new }
         ensures bytes { ReadConsumes (R.remaining (device_of self.old)) (R.remaining (device_of self.new)) result buf.new }
@@ -91,7 +91,7 @@ impl<R: Read> Watched<R> {
 }
 
 impl<W: Write> Watched<W> {
-    /// One write of the device.
+    /// Writes to the device once.
     pub(crate) fn write_once(&mut self, buf: &[u8]) -> io::Result<usize>
         ensures bound { WritesAtMost result buf.now }
         ensures bytes { WriteAppends (W.contents (device_of self.old)) (W.contents (device_of self.new)) result buf.now }
@@ -108,7 +108,7 @@ impl<W: Write> Watched<W> {
         written
     }
 
-    /// One flush of the device.
+    /// Flushes the device once.
     pub(crate) fn flush_once(&mut self) -> io::Result<()>
         ensures bytes { Keeps (W.contents (device_of self.old)) (W.contents (device_of self.new)) }
         ensures failed { has_failed self.new ≡ (has_failed self.old || is_err result) }

@@ -1,12 +1,12 @@
-//! Digits made bytes, and bytes made digits.
+//! Digits read as bytes, and bytes written as digits.
 
 ghost use Rattle.std.specs.Prelude.{◌%◌, ◌*◌, ◌+◌, ◌/◌, ◌<◌, ◌≡◌, ◌≤◌, drop, IfSome, is_err, length, MatchOption, Ok, option_map, slice_index, take, true};
 ghost use Rattle.cedar_hex.specs.Words.{decode_of, decode_pairs, encode_lower, hex_digit_value, lower_digits, result_ok};
 
-/// Reads hexadecimal digits of either case, two for each byte, writes the bytes to the front of `room`, and returns how many they are.
+/// Reads hexadecimal digits of either case, two for each byte, writes the bytes to the start of `room`, and returns how many they are.
 ///
-/// Returns `None` for an odd number of digits, and for a text in which another byte stands; then the first bytes of `room`, half as many as
-/// the text has, may have changed. It takes no memory.
+/// Returns `None` for an odd number of digits, and for a text that has another byte; then the first bytes of `room`, half as many as
+/// the text has, may have changed. It allocates nothing.
 ///
 /// ```
 /// let mut room = [0; 4];
@@ -34,7 +34,7 @@ pub fn decode_into(text: &[u8], room: &mut [u8]) -> Option<usize>
     (values < 16).then_some(count)
 }
 
-/// Writes the two hexadecimal digits of each byte, in lower case. `text` has two places for each of them. It takes no memory.
+/// Writes the two hexadecimal digits of each byte, in lower case. `text` has two places for each of them. It allocates nothing.
 ///
 /// ```
 /// let mut text = [0; 4];
@@ -54,7 +54,7 @@ pub fn encode_into(bytes: &[u8], text: &mut [u8])
     }
 }
 
-/// Writes the byte of each two digits. Returns the bits of all their values together: 16 or more if a byte of the text is no digit.
+/// Writes the byte of each two digits. Returns the bits of all their values together: 16 or more if a byte of the text isn't a digit.
 fn decode_pairs(text: &[u8], bytes: &mut [u8]) -> u8
     requires { length text.now ≡ 2 * length bytes.old }
     ensures digits { result < 16 → decode_pairs 0 text.now ≡ Ok bytes.new }
@@ -65,13 +65,13 @@ fn decode_pairs(text: &[u8], bytes: &mut [u8]) -> u8
         let high = digit_value(text[2 * i]);
         let low = digit_value(text[2 * i + 1]);
         bytes[i] = high.wrapping_mul(16).wrapping_add(low);
-        // A byte that is no digit is found behind the loop, so that no branch in it depends on the bytes.
+        // A byte that is no digit is found after the loop, so that no branch in it depends on the bytes.
         values |= high | low;
     }
     values
 }
 
-/// The value of a digit of either case; 16 or more of a byte that is none.
+/// Returns the value of a digit of either case, or 16 or more for a byte that isn't one.
 pub(crate) fn digit_value(byte: u8) -> u8
     ensures { MatchOption (hex_digit_value byte) (16 ≤ result) (λ value. result ≡ value) }
 {
@@ -83,7 +83,7 @@ pub(crate) fn digit_value(byte: u8) -> u8
     figure.min(letter)
 }
 
-/// The two digits of a byte, in lower case: the first one is the low half of the word.
+/// Returns the two digits of a byte, in lower case: the first one is the low half of the word.
 pub(crate) fn digit_pair(byte: u8) -> u16
     ensures { result ≡ slice_index lower_digits (byte / 16) + 256 * slice_index lower_digits (byte % 16) }
 {

@@ -1,7 +1,7 @@
-//! Hexadecimal digits, two for each byte, read and written by sums and bounds, and without a branch for each digit: the digits of keys are
-//! such that a processor guesses a branch on them wrong every other time. So LLVM makes instructions of it that take many bytes at once.
+//! Hexadecimal digits, two for each byte, read and written by sums and bounds, and without a branch for each digit: a processor
+//! mispredicts every other branch on the digits of keys. So LLVM makes instructions of it that take many bytes at once.
 //!
-//! Which digits stand for which bytes is said by the definitions of the kit's crate `hex`.
+//! The definitions of the kit's crate `hex` say which digits stand for which bytes.
 #![tactic(auto)]
 
 mod digits;

@@ -1,9 +1,9 @@
 -- What the code finds at the front of some bytes.
-use Rattle.std.proofs.Common.{◌≡◌, ◌≢◌, ℕ, ◌+◌, ◌≤◌, ◌<◌, true, false, List, [], ◌∷◌, ◌++◌, length, sym, take-append-drop, take, drop, get_or, ◌∙◌, ap, arith, length-drop, length-take-le}
+use Rattle.std.proofs.Common.{◌≡◌, ◌≢◌, ℕ, ◌+◌, ◌≤◌, ◌<◌, true, false, List, length, take, drop, get_or, ◌∙◌, ap, arith, length-drop, length-take-le}
 use Rattle.std.proofs.lemmas.Bool.{false_from_ne_true}
-use Rattle.cedar_journal.specs.Records.{payload_length, payload, behind_record, has_record, payloads_in, AreWholeRecords}
-use Rattle.cedar_journal.proofs.Reading.{record_is_whole, gate_is_open, is_record, same_payload}
-use Rattle.cedar_journal.proofs.Fronts.{first_of, longer_front, one_record, take_both}
+use Rattle.cedar_journal.specs.Records.{payload_length, payload, behind_record, has_record, AreWholeRecords}
+use Rattle.cedar_journal.proofs.Reading.{record_is_whole, gate_is_open, is_record}
+use Rattle.cedar_journal.proofs.Fronts.{longer_front}
 
 pub lacks_short : (file : List ℕ) → length file < 5 → has_record file ≡ false
 lacks_short file low = false_from_ne_true _ (λ has. let fits = record_is_whole file has in absurd (omega (arith, low, fits)))
@@ -32,15 +32,3 @@ pub one_more : (file bytes : List ℕ) (end : ℕ) → end ≤ length file → A
 one_more file bytes end fits front has is =
     let size : length bytes ≡ payload_length (drop end file) = ap length is ∙ length-payload (drop end file) has in
     longer_front file end (5 + length bytes) fits front has (omega (arith, size))
-
--- and its payload is read behind the others
-pub one_more_read : (file bytes : List ℕ) (end : ℕ) → end ≤ length file → AreWholeRecords (take end file) → has_record (drop end file) ≡ true → bytes ≡ payload (drop end file) → payloads_in (take (end + (5 + length bytes)) file) ≡ payloads_in (take end file) ++ bytes ∷ []
-one_more_read file bytes end fits front has is =
-    let rest = drop end file in
-    let n = 5 + length bytes in
-    let size : length bytes ≡ payload_length rest = ap length is ∙ length-payload rest has in
-    let first = first_of n rest has (omega (arith, size)) in
-    let same : payload rest ≡ payload (take n rest) = ap payload (sym (take-append-drop n rest)) ∙ same_payload (take n rest) (drop n rest) first.0 in
-    ap payloads_in (take_both end n file fits)
-    ∙ front (take n rest)
-    ∙ ap (λ (l : List (List ℕ)). payloads_in (take end file) ++ l) (one_record (take n rest) first.0 first.1 ∙ ap (λ (l : List ℕ). l ∷ []) (sym (is ∙ same)))

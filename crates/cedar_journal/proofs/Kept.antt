@@ -30,9 +30,6 @@ drop_push (suc t) (p ∷ past) v le = drop_push t past v (omega arith)
 abbrev Since : {A : Type 0} → Contents A → List ℕ → ℕ → List ℕ → Type 0
 Since past bytes t c = (c ≡ bytes) ⊎ HadBeen (drop t past) c
 
-pub elapses_same : {A : Type 0} (past : Contents A) (bytes : List ℕ) → Elapses (length past) (length past) (Since past bytes) (Since past bytes) (λ c. c ≡ bytes)
-elapses_same past bytes = record { later = omega arith; nothing_else = λ t c le left. inl left; keeps = λ t c le left. left }
-
 elapses_push : {A : Type 0} (past : Contents A) (v : Vec ℕ A) (old new : List ℕ) → v.items ≡ old → Elapses (length past) (length (past ++ v ∷ [])) (Since past old) (Since (past ++ v ∷ []) new) (λ c. c ≡ new)
 elapses_push {A = A} past v old new is = record {
   later = omega (arith, length-append past (v ∷ []));

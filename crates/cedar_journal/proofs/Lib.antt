@@ -1,6 +1,6 @@
 pub mod Crash
 pub mod Found
-mod Fronts
+pub mod Fronts
 pub mod HeaderCrash
 pub mod Headers
 pub mod Images

@@ -12,3 +12,4 @@ pub use Rattle.cedar_journal.specs.declared.device.DeviceError.TheVariants.{Memo
 pub use Rattle.cedar_journal.specs.declared.journal.JournalError.TheVariants.{Device}
 pub use Rattle.cedar_journal.specs.declared.replace.ReplaceError.TheVariants.{Kept}
 pub use Rattle.std.proofs.Common.{inl}
+pub use Rattle.std.specs.Prelude.{IfOk, OnOk}

@@ -5,17 +5,17 @@ ghost use Rattle.cedar_journal.specs.Words.{Cut, Elapses, Follows, HasCause, Hol
 
 use std::alloc::{AllocError, AllocFailed, Allocator};
 
-/// Why a device didn't do what it was asked for.
+/// Why a call of a device failed.
 #[derive(Clone, Copy, Debug, PartialEq, Eq)]
 pub enum DeviceError {
-    /// A request for memory was refused.
+    /// An allocation failed.
     Memory,
-    /// The disk failed. What it holds is known again once the file is opened again.
+    /// The disk failed. What it holds is unknown until the file is opened again.
     Failed,
 }
 
 impl From<AllocError> for DeviceError {
-    //= A refused request for memory is told as `Memory`.
+    //= A failed allocation becomes `Memory`.
     ghost from_gives = { λ _ e. e ≡ Memory };
 
     fn from(_: AllocError) -> Self {
@@ -24,7 +24,7 @@ impl From<AllocError> for DeviceError {
 }
 
 impl<T: Drop> From<AllocFailed<T>> for DeviceError {
-    //= So is a refused request for room for one value more.
+    //= So does a failure to make room for one more value.
     ghost from_gives = { λ _ e. e ≡ Memory };
 
     fn from(_: AllocFailed<T>) -> Self {
@@ -32,10 +32,10 @@ impl<T: Drop> From<AllocFailed<T>> for DeviceError {
     }
 }
 
-/// One file on a disk, which nobody else writes to. After a crash the next read returns one of the contents that `may_leave` has.
+/// A file on a disk to which nobody else writes. After a crash, the next read returns one of the contents in `may_leave`.
 ///
-/// Until a sync, a write may be on the disk, or not, or in part, with any bytes in the range that it wrote; bytes elsewhere stay. That a
-/// real file is such a device is nothing that a contract can say.
+/// Until a sync, a write may be on the disk, or not, or in part, with any bytes in the range that it wrote; bytes elsewhere stay. No
+/// contract can say that a real file is such a device.
 pub trait Device {
     /// The bytes that a read returns.
     ghost seen: { Self → List ℕ };
@@ -43,7 +43,7 @@ pub trait Device {
     /// What a crash at this moment may leave.
     ghost may_leave: { Self → List ℕ → Type 0 };
 
-    /// The moment, as a number that doesn't fall.
+    /// The moment, as a number that never falls.
     ghost moment: { Self → ℕ };
 
     /// What a crash at some moment from that one on might have left, during a call or between two.
@@ -55,11 +55,11 @@ pub trait Device {
     /// Returns all the bytes.
     ///
     /// # Errors
-    /// `Memory` where a request was refused, `Failed` where the disk failed.
+    /// `Memory` if an allocation failed, `Failed` if the disk failed.
     fn read<A: Allocator>(&mut self, alloc: A) -> Result<Vec<u8, A>, DeviceError>
-        //= The trait of devices: what each call does to what a read returns and to what a crash may leave, and that `Failed` is told only
-        //  where the disk has failed. [with seen, crash, time, cause; also write_at.written, write_at.crash, write_at.time, write_at.cause,
-        //  cut.cut, cut.crash, cut.time, cut.cause, sync.durable, sync.seen, sync.crash, sync.time, sync.cause]
+        //= The trait of devices: what each call does to what a read returns and to what a crash may leave, and that `Failed` is returned
+        //  only if the disk has failed. [with seen, crash, time, cause; also write_at.written, write_at.crash, write_at.time,
+        //  write_at.cause, cut.cut, cut.crash, cut.time, cut.cause, sync.durable, sync.seen, sync.crash, sync.time, sync.cause]
         ensures bytes { IfOk result (λ bytes. bytes.items ≡ seen self.old) }
         ensures seen { seen self.new ≡ seen self.old }
         ensures crash { (c : List ℕ) → may_leave self.new c → may_leave self.old c }
@@ -69,7 +69,7 @@ pub trait Device {
     /// Writes over what is there from the byte `at` on, and past the end. Until a sync, a crash may leave any bytes in the range.
     ///
     /// # Errors
-    /// `Memory` where a request was refused, `Failed` where the disk failed.
+    /// `Memory` if an allocation failed, `Failed` if the disk failed.
     fn write_at(&mut self, at: usize, bytes: &[u8]) -> Result<(), DeviceError>
         requires { at ≤ length (seen self.old) }
         ensures written { OnOk result (Holds (seen self.old) at bytes.now (seen self.new)) }
@@ -80,7 +80,7 @@ pub trait Device {
     /// Cuts the file to its first `len` bytes. Until a sync, a crash may leave any length in between.
     ///
     /// # Errors
-    /// `Memory` where a request was refused, `Failed` where the disk failed.
+    /// `Memory` if an allocation failed, `Failed` if the disk failed.
     fn cut(&mut self, len: usize) -> Result<(), DeviceError>
         requires { len ≤ length (seen self.old) }
         ensures cut { OnOk result (seen self.new ≡ take len (seen self.old)) }
@@ -88,10 +88,10 @@ pub trait Device {
         ensures time { Elapses (moment self.old) (moment self.new) (left_since self.old) (left_since self.new) (may_leave self.new) }
         ensures cause { HasCause (faults self.old) (faults self.new) result };
 
-    /// Puts all that was written on the disk: after it, a crash leaves what a read returns.
+    /// Puts all writes on the disk. After it, a crash leaves what a read returns.
     ///
     /// # Errors
-    /// `Memory` where a request was refused, `Failed` where the disk failed.
+    /// `Memory` if an allocation failed, `Failed` if the disk failed.
     fn sync(&mut self) -> Result<(), DeviceError>
         ensures durable { OnOk result (Only (seen self.old) (may_leave self.new)) }
         ensures seen { seen self.new ≡ seen self.old }

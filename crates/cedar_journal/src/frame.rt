@@ -1,24 +1,24 @@
-//! A record as it is written: made before anything is written, so that want of memory changes nothing.
+//! A record as it is written: made before anything is written, so that a lack of memory changes nothing.
 
 ghost use Rattle.std.specs.Prelude.{◌+◌, ◌<◌, ◌^◌, ◌≡◌, ◌≤◌, IfOk, IsErrOf, length};
 ghost use Rattle.cedar_journal.specs.Fields.{framed, Memory, unframed};
 
 use std::alloc::{AllocError, AllocFailed, Allocator};
 
-/// The longest payload, whose length four bytes tell.
+/// The length of the longest payload: four bytes hold it.
 pub const MAX_PAYLOAD: usize = 4294967295;
 
 /// Why no record can be made of a payload.
 #[derive(Clone, Copy, Debug, PartialEq, Eq)]
 pub enum FrameError {
-    /// A request for memory was refused.
+    /// An allocation failed.
     Memory,
     /// The payload is longer than `MAX_PAYLOAD`.
     TooLong,
 }
 
 impl From<AllocError> for FrameError {
-    //= Want of memory for a frame is told as `Memory`.
+    //= A lack of memory for a frame becomes `Memory`.
     ghost from_gives = { λ _ e. e ≡ Memory };
 
     fn from(_: AllocError) -> Self {
@@ -27,7 +27,7 @@ impl From<AllocError> for FrameError {
 }
 
 impl<T: Drop> From<AllocFailed<T>> for FrameError {
-    //= So is want of room for one byte more.
+    //= So does a lack of room for one more byte.
     ghost from_gives = { λ _ e. e ≡ Memory };
 
     fn from(_: AllocFailed<T>) -> Self {
@@ -35,7 +35,7 @@ impl<T: Drop> From<AllocFailed<T>> for FrameError {
     }
 }
 
-/// A record without its gate, and with the closed gate that stands behind it.
+/// A record without its gate, and with the closed gate after it.
 #[derive(Drop)]
 pub struct Frame<A: Allocator> {
     bytes: Vec<u8, A>,
@@ -47,12 +47,13 @@ pub struct Frame<A: Allocator> {
 impl<A: Allocator> Frame<A> {
     ghost use Rattle.cedar_journal.specs.Words.{payload_of};
 
-    /// Returns the record of a payload, for which it allocates its length and 5 bytes.
+    /// Returns the record of a payload. It allocates the payload's length and 5 bytes.
     ///
     /// # Errors
-    /// `TooLong` where the payload is longer than `MAX_PAYLOAD`, `Memory` where the request was refused.
+    /// `TooLong` if the payload is longer than `MAX_PAYLOAD`, `Memory` if the allocation failed.
     pub fn new(alloc: A, payload: &[u8]) -> Result<Frame<A>, FrameError>
-        //= A frame is of the payload that it was made of; just one of 2^32 bytes and more is refused as too long. [with long, refused]
+        //= A frame has the payload that it was made from; exactly a payload of 2^32 bytes or more is refused as too long. [with long,
+        //  refused]
         ensures payload { IfOk result (λ frame. payload_of frame ≡ payload.now) }
         ensures long { IsErrOf result FrameError.TooLong → 2 ^ 32 ≤ length payload.now }
         ensures refused { 2 ^ 32 ≤ length payload.now → IsErrOf result FrameError.TooLong }
@@ -71,7 +72,7 @@ impl<A: Allocator> Frame<A> {
         Ok(Frame { bytes })
     }
 
-    /// How many bytes the record has, its gate included.
+    /// Returns how many bytes the record has, its gate included.
     pub fn len(&self) -> usize
         //= A record has 5 bytes more than its payload.
         ensures { result ≡ 5 + length (payload_of self.now) }
@@ -79,7 +80,7 @@ impl<A: Allocator> Frame<A> {
         self.bytes.len()
     }
 
-    /// What is written behind the record's gate.
+    /// Returns what is written after the record's gate.
     pub(crate) fn bytes(&self) -> &[u8]
         ensures bytes { result.now ≡ framed (payload_of self.now) }
         ensures short { length (payload_of self.now) < 4294967296 }

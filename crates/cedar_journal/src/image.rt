@@ -1,4 +1,4 @@
-//! A journal's file made in memory, to be put in the place of another one at one stroke.
+//! A journal's file made in memory, to replace another one at one stroke.
 
 ghost use Rattle.std.specs.Prelude.{◌+◌, ◌++◌, ◌≡◌, ◌∷◌, [], IfOk, length, OnErr, OnOk};
 ghost use Rattle.cedar_journal.specs.Fields.{AreWholeRecords, image_of, records_of};
@@ -7,7 +7,7 @@ use crate::Frame;
 use crate::records::HEADER_FRAME;
 use std::alloc::{AllocError, Allocator};
 
-/// The bytes of a journal's file that is at rest: the header, whole records, and a closed gate behind them.
+/// The bytes of a journal's file that is at rest: the header, whole records, and a closed gate after them.
 #[derive(Drop)]
 pub struct Image<A: Allocator> {
     bytes: Vec<u8, A>,
@@ -21,7 +21,7 @@ impl<A: Allocator> Image<A> {
     /// Returns the file of a journal without records.
     ///
     /// # Errors
-    /// Where a request for memory was refused.
+    /// If an allocation failed.
     pub fn new(alloc: A) -> Result<Image<A>, AllocError>
         //= A new image stands for no payload, and has the 14 bytes of the header and of a closed gate. [with length]
         ensures none { IfOk result (λ image. payloads_of image ≡ []) }
@@ -33,12 +33,12 @@ impl<A: Allocator> Image<A> {
         Ok(Image { bytes })
     }
 
-    /// Adds a record behind the others.
+    /// Adds a record after the others.
     ///
     /// # Errors
-    /// Where a request for memory was refused. Then nothing has changed.
+    /// If an allocation failed. Then nothing has changed.
     pub fn push<B: Allocator>(&mut self, frame: &Frame<B>) -> Result<(), AllocError>
-        //= An image to which a record is pushed stands for one payload more, this one, and is longer by the record; a refused one is as it
+        //= An image to which a record is pushed stands for one more payload, this one, and is longer by the record; a refused one is as it
         //  was. [with longer, refused]
         ensures pushed { OnOk result (payloads_of self.new ≡ payloads_of self.old ++ payload_of frame.now ∷ []) }
         ensures longer { OnOk result (length (image_bytes self.new) ≡ length (image_bytes self.old) + 5 + length (payload_of frame.now)) }
@@ -50,9 +50,9 @@ impl<A: Allocator> Image<A> {
         Ok(())
     }
 
-    /// All bytes, the header's, the records' and the closed gate.
+    /// Returns all bytes: the header's, the records' and the closed gate.
     pub fn bytes(&self) -> &[u8]
-        //= An image's bytes can be looked at.
+        //= An image's bytes can be read.
         ensures { result.now ≡ image_bytes self.now }
     {
         &self.bytes

@@ -1,7 +1,7 @@
-//! The journal: a record is written behind a closed gate, and counts once its gate is opened.
+//! The journal: a record is written after a closed gate, and counts once its gate is opened.
 //!
-//! A closed gate (0) stands behind the last record, on the disk before anything is written behind it, and is opened by a write of its own
-//! after a sync: so no checksum is trusted.
+//! A closed gate (0) comes after the last record. It is on the disk before anything is written after it, and is opened by a write of its
+//! own after a sync. So no checksum is trusted.
 
 ghost use Rattle.std.specs.Prelude.{◌+◌, ◌<◌, ◌^◌, ◌≡◌, ◌≤◌, IfErr, IfOk, IsErrOf, length, OnErr, OnOk, Some};
 ghost use Rattle.cedar_journal.specs.Words.{added, Device, HasExtent, IfKept, image_bytes, IsBeforeOrAfter, IsSettled, IsStaged, LeavesOnly, Only, payload_of, payloads_of, recovered, StandsForEither};
@@ -10,20 +10,20 @@ use crate::repair::make_ready;
 use crate::{Device, DeviceError, Extent, Frame, Image, ReplaceDevice, ReplaceError};
 use std::alloc::Allocator;
 
-/// Where the records may end at the latest for one more to be written.
+/// The last place at which the records may end for one more to be written.
 pub const MAX_END: usize = 1 << 60;
 
 /// Why a record wasn't written.
 #[derive(Clone, Copy, Debug, PartialEq, Eq)]
 pub enum JournalError {
-    /// The records end behind `MAX_END`.
+    /// The records end after `MAX_END`.
     Full,
     /// The device's error.
     Device(DeviceError),
 }
 
 impl From<DeviceError> for JournalError {
-    //= A device's error is handed on.
+    //= A device's error is passed on.
     ghost from_gives = { λ error gives. gives ≡ Device error };
 
     fn from(error: DeviceError) -> Self {
@@ -36,18 +36,18 @@ impl From<DeviceError> for JournalError {
 pub struct Journal<D: Device> {
     /// The file. A read of it changes nothing; whoever writes to it has to open it again.
     pub device: D,
-    /// The place of the closed gate behind the last record.
+    /// The place of the closed gate after the last record.
     pub end: usize,
 }
 
 impl<D: Device> Journal<D> {
-    /// Returns the journal of a file that a crash may have left, whose extent `extent_of` has told, with its end cut behind the whole
-    /// records; a new file gets its header.
+    /// Returns the journal of a file that a crash may have left, whose extent `extent_of` has returned. It cuts the file's end after the
+    /// whole records, and gives a new file its header.
     ///
     /// # Errors
     /// The device's, with the device. The file stands for the same payloads.
     pub fn open(device: D, extent: Extent) -> Result<Journal<D>, (DeviceError, D)>
-        // After a restart, what is read is what is on the disk.
+        // After a restart, a read returns what is on the disk.
         requires restarted { Only (D.seen device) (D.may_leave device) }
         requires extent { HasExtent (D.seen device) extent }
 
@@ -55,14 +55,14 @@ impl<D: Device> Journal<D> {
         ensures settled { IfOk result (λ journal. IsSettled D.seen D.may_leave journal.device journal.end
             × (recovered (D.seen journal.device) ≡ recovered (D.seen device))) }
 
-        //= A crash at any moment while it is opened leaves the same payloads, and never a file of another kind; also where a device fails.
+        //= A crash at any moment while it is opened leaves the same payloads, and never a file of another kind; even if a device fails.
         //  [with any_moment_err]
         ensures any_moment { IfOk result (λ journal. LeavesOnly D.moment D.left_since device journal.device
             (λ c. recovered c ≡ recovered (D.seen device))) }
         ensures any_moment_err { IfErr result (λ e. LeavesOnly D.moment D.left_since device e.1
             (λ c. recovered c ≡ recovered (D.seen device))) }
 
-        //= An opening tells `Failed` only where the disk has failed.
+        //= An opening returns `Failed` only if the disk has failed.
         ensures failed { IfErr result (λ e. e.0 ≡ DeviceError.Failed → D.faults device < D.faults e.1) }
     {
         let mut device = device;
@@ -72,15 +72,15 @@ impl<D: Device> Journal<D> {
         }
     }
 
-    /// Writes a record behind the closed gate, in the place of whatever is there. It doesn't count yet: `commit` makes it count, and
+    /// Writes a record after the closed gate, over whatever is there. It doesn't count yet: `commit` makes it count, and
     /// another `stage` writes over it.
     ///
     /// # Errors
-    /// `Full` where the records end behind `MAX_END`: nothing is written. `Device` where the device fails: open the file again.
+    /// `Full` if the records end after `MAX_END`: nothing is written. `Device` if the device fails: open the file again.
     pub fn stage<A: Allocator>(&mut self, frame: &Frame<A>) -> Result<(), JournalError>
         requires { IsSettled D.seen D.may_leave self.old.device self.old.end }
 
-        //= A staged record stands behind the closed gate, on the disk; the payloads stay the same. [with end, same]
+        //= A staged record is after the closed gate, on the disk; the payloads stay the same. [with end, same]
         ensures staged { OnOk result (IsStaged D.seen D.may_leave self.new.device self.old.end (payload_of frame.now)) }
         ensures end { self.new.end ≡ self.old.end }
         ensures same { OnOk result (recovered (D.seen self.new.device) ≡ recovered (D.seen self.old.device)) }
@@ -89,8 +89,8 @@ impl<D: Device> Journal<D> {
         ensures any_moment { LeavesOnly D.moment D.left_since self.old.device self.new.device
             (λ c. recovered c ≡ recovered (D.seen self.old.device)) }
 
-        //= A record isn't staged just where the records end behind 2^60, and then nothing is written, or where the device fails; `Failed` is
-        //  told only where the disk has failed. [with far, untouched, failed, faults]
+        //= Staging fails exactly if the records end after 2^60, and then nothing is written, or if the device fails; `Failed` is returned
+        //  only if the disk has failed. [with far, untouched, failed, faults]
         ensures full { IsErrOf result JournalError.Full → 2 ^ 60 ≤ self.old.end }
         ensures far { 2 ^ 60 ≤ self.old.end → IsErrOf result JournalError.Full }
         ensures untouched { IsErrOf result JournalError.Full → self.new ≡ self.old }
@@ -105,22 +105,22 @@ impl<D: Device> Journal<D> {
         Ok(())
     }
 
-    /// Opens the gate of the record that was staged. At `Ok` it is acknowledged: from then on each crash leaves a file that has it.
+    /// Opens the gate of the record that was staged. On `Ok` it is acknowledged: from then on each crash leaves a file that has it.
     ///
     /// # Errors
-    /// The device's. The record counts or it doesn't: open the file again.
+    /// The device's. The record may or may not count: open the file again.
     pub fn commit<A: Allocator>(&mut self, frame: &Frame<A>) -> Result<(), DeviceError>
         requires { IsStaged D.seen D.may_leave self.old.device self.old.end (payload_of frame.now) }
 
-        //= Once a record is acknowledged, the file is at rest and on the disk, and stands for one payload more, this one. [with settled]
+        //= Once a record is acknowledged, the file is at rest and on the disk, and stands for one more payload, this one. [with settled]
         ensures acknowledged { OnOk result (recovered (D.seen self.new.device) ≡ added (payload_of frame.now) (recovered (D.seen self.old.device))) }
         ensures settled { OnOk result (IsSettled D.seen D.may_leave self.new.device self.new.end) }
 
-        //= A crash at any moment of it leaves the payloads from before it, with the new one or without.
+        //= A crash at any moment of it leaves the payloads from before it, with or without the new one.
         ensures any_moment { LeavesOnly D.moment D.left_since self.old.device self.new.device
             (IsBeforeOrAfter (recovered (D.seen self.old.device)) (payload_of frame.now)) }
 
-        //= An acknowledgement tells `Failed` only where the disk has failed. [with faults]
+        //= An acknowledgement returns `Failed` only if the disk has failed. [with faults]
         ensures failed { IsErrOf result DeviceError.Failed → D.faults self.old.device < D.faults self.new.device }
         ensures faults { D.faults self.old.device ≤ D.faults self.new.device }
     {
@@ -130,24 +130,24 @@ impl<D: Device> Journal<D> {
         Ok(())
     }
 
-    /// Writes a record and makes it count, by `stage` and `commit`. At `Ok` it is acknowledged.
+    /// Writes a record and makes it count, by `stage` and `commit`. On `Ok` it is acknowledged.
     ///
     /// # Errors
-    /// `Full` where the records end behind `MAX_END`: nothing is written. `Device` where the device fails: the record counts or it doesn't;
+    /// `Full` if the records end after `MAX_END`: nothing is written. `Device` if the device fails: the record may or may not count;
     /// open the file again.
     pub fn append<A: Allocator>(&mut self, frame: &Frame<A>) -> Result<(), JournalError>
         requires { IsSettled D.seen D.may_leave self.old.device self.old.end }
 
-        //= Once a record is appended, the file is at rest and on the disk, and stands for one payload more, this one. [with settled]
+        //= Once a record is appended, the file is at rest and on the disk, and stands for one more payload, this one. [with settled]
         ensures acknowledged { OnOk result (recovered (D.seen self.new.device) ≡ added (payload_of frame.now) (recovered (D.seen self.old.device))) }
         ensures settled { OnOk result (IsSettled D.seen D.may_leave self.new.device self.new.end) }
 
-        //= A crash at any moment of that leaves the payloads from before it, with the new one or without.
+        //= A crash at any moment of that leaves the payloads from before it, with or without the new one.
         ensures any_moment { LeavesOnly D.moment D.left_since self.old.device self.new.device
             (IsBeforeOrAfter (recovered (D.seen self.old.device)) (payload_of frame.now)) }
 
-        //= A record isn't appended just where the records end behind 2^60, and then nothing is written, or where the device fails; `Failed` is
-        //  told only where the disk has failed. [with far, untouched, failed, faults]
+        //= Appending fails exactly if the records end after 2^60, and then nothing is written, or if the device fails; `Failed` is returned
+        //  only if the disk has failed. [with far, untouched, failed, faults]
         ensures full { IsErrOf result JournalError.Full → 2 ^ 60 ≤ self.old.end }
         ensures far { 2 ^ 60 ≤ self.old.end → IsErrOf result JournalError.Full }
         ensures untouched { IsErrOf result JournalError.Full → self.new ≡ self.old }
@@ -161,10 +161,10 @@ impl<D: Device> Journal<D> {
 }
 
 impl<D: ReplaceDevice> Journal<D> {
-    /// Puts other records in the place of all that are there, at one stroke.
+    /// Replaces all records with others, at one stroke.
     ///
     /// # Errors
-    /// `Kept` where the records are those from before, and the journal goes on. `Failed` where they are those or the new ones: open the
+    /// `Kept` if the records are those from before, and the journal goes on. `Failed` if they are those or the new ones: open the
     /// file again.
     pub fn replace<A: Allocator>(&mut self, image: &Image<A>) -> Result<(), ReplaceError>
         requires { IsSettled D.seen D.may_leave self.old.device self.old.end }
@@ -180,13 +180,13 @@ impl<D: ReplaceDevice> Journal<D> {
         ensures any_moment { LeavesOnly D.moment D.left_since self.old.device self.new.device
             (StandsForEither (recovered (D.seen self.old.device)) (payloads_of image.now)) }
 
-        //= Where it is told that the records are kept, the file has the bytes from before, is at rest and on the disk. [with kept_bytes,
+        //= If the call reports that the records are kept, the file has the bytes from before, is at rest and on the disk. [with kept_bytes,
         //  kept_end]
         ensures kept { IfKept result (IsSettled D.seen D.may_leave self.new.device self.new.end) }
         ensures kept_bytes { IfKept result (D.seen self.new.device ≡ D.seen self.old.device) }
         ensures kept_end { OnErr result (self.new.end ≡ self.old.end) }
 
-        //= That the disk failed is told only where it did. [with kept_failed, faults]
+        //= The call reports that the disk failed only if it did. [with kept_failed, faults]
         ensures failed { IsErrOf result ReplaceError.Failed → D.faults self.old.device < D.faults self.new.device }
         ensures kept_failed { IsErrOf result (ReplaceError.Kept DeviceError.Failed) → D.faults self.old.device < D.faults self.new.device }
         ensures faults { D.faults self.old.device ≤ D.faults self.new.device }

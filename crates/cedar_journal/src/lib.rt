@@ -1,5 +1,5 @@
 //! A journal on a device that may crash: records of bytes, each on the disk before it is acknowledged. What the bytes say is the caller's
-//! business; a change that is to be made whole or not at all is one record.
+//! business. A change that must be made whole or not at all is one record.
 #![tactic(auto)]
 
 mod device;

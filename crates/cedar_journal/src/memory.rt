@@ -6,7 +6,7 @@ ghost use Rattle.cedar_journal.specs.Words.{HadBeen, inl, memory_bytes, only_byt
 use crate::{Device, DeviceError, ReplaceDevice, ReplaceError};
 use std::alloc::{AllocError, Allocator};
 
-/// A file in memory, which never fails but for want of memory.
+/// A file in memory, which fails only for lack of memory.
 #[derive(Drop)]
 pub struct Memory<A: Allocator> {
     alloc: A,
@@ -27,16 +27,16 @@ impl<A: Allocator + Copy> Memory<A> {
         }
     }
 
-    /// What a read returns.
+    /// Returns what a read returns.
     pub fn bytes(&self) -> &[u8]
-        //= Its bytes can be looked at.
+        //= Its bytes can be read.
         ensures { result.now ≡ memory_bytes self.now }
     {
         &self.bytes
     }
 }
 
-// Puts other bytes in the place of those that are there, which it keeps.
+// Replaces the bytes with others, and keeps the old ones.
 fn replace<A: Allocator + Copy>(
     alloc: A,
     bytes: &mut Vec<u8, A>,

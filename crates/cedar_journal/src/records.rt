@@ -1,13 +1,14 @@
-//! Records as bytes: what stands at the front of some bytes, where whole records end, and how far the file of a journal goes.
+//! Records as bytes: what is at the start of some bytes, where whole records end, and how far the file of a journal goes.
 
 ghost use Rattle.std.specs.Prelude.{◌*◌, ◌+◌, ◌≡◌, ◌≤◌, drop, false, IfNone, IfOk, IfSome, length, None, OnErr, true};
 ghost use Rattle.cedar_journal.specs.Words.{behind_record, EndsAt, has_record, HasExtent, is_begun, payload, recovered};
 
-/// Returns the payload of the record at the front, if its gate is open and all of it is there.
+/// Returns the payload of the record at the start, if its gate is open and all of it is there.
 ///
-/// The next record stands 5 bytes and the payload's length further on.
+/// The next record begins 5 bytes and the payload's length further on.
 pub fn first_payload(bytes: &[u8]) -> Option<&[u8]>
-    //= The payload of the record at the front is told just where that record counts, and where the next one begins. [with behind, none]
+    //= The payload of the record at the start is returned exactly if that record counts, and the next record begins after it. [with behind,
+    //  none]
     ensures some { IfSome result (λ p. (has_record bytes.now ≡ true) × (p.now ≡ payload bytes.now)) }
     ensures behind { IfSome result (λ p. (5 + length p.now ≤ length bytes.now) × (drop (5 + length p.now) bytes.now ≡ behind_record bytes.now)) }
     ensures none { IfNone result (has_record bytes.now ≡ false) }
@@ -25,14 +26,14 @@ pub fn first_payload(bytes: &[u8]) -> Option<&[u8]>
     Some(&bytes[5..5 + len])
 }
 
-// A number of four bytes, the lowest first.
+// Returns the number of four bytes, the lowest first.
 fn number(a: u8, b: u8, c: u8, d: u8) -> usize
     ensures { result ≡ a + 256 * b + 65536 * c + 16777216 * d }
 {
     a as usize + 256 * (b as usize) + 65536 * (c as usize) + 16777216 * (d as usize)
 }
 
-/// Where the whole records of some bytes end.
+/// Returns where the whole records of some bytes end.
 pub(crate) fn end_of(bytes: &[u8]) -> usize
     ensures { EndsAt bytes.now result }
 {
@@ -49,7 +50,7 @@ pub const MAGIC: [u8; 8] = *b"CEDARJ\0\0";
 /// How many bytes the first record has.
 pub const HEADER_LEN: usize = 13;
 
-/// What stands behind the gate of the first record, and the closed gate behind it.
+/// The bytes after the gate of the first record, and the closed gate after it.
 pub(crate) const HEADER_FRAME: [u8; HEADER_LEN] = *b"\x08\0\0\0CEDARJ\0\0\0";
 
 /// How far a journal's file goes.
@@ -68,9 +69,9 @@ pub struct ForeignFile;
 /// Returns how far a file with these bytes goes, whatever a crash has made of its end.
 ///
 /// # Errors
-/// `ForeignFile` where they are no journal's. A file of a single byte is taken for the beginning of one.
+/// `ForeignFile` if they are no journal's. A file of a single byte is taken for the beginning of one.
 pub fn extent_of(bytes: &[u8]) -> Result<Extent, ForeignFile>
-    //= How far a journal's file goes is told; just a file of another kind is refused. [with foreign]
+    //= `extent_of` returns how far a journal's file goes; it refuses exactly a file of another kind. [with foreign]
     ensures extent { IfOk result (λ extent. HasExtent bytes.now extent) }
     ensures foreign { OnErr result (recovered bytes.now ≡ None) }
 {
@@ -90,7 +91,7 @@ pub fn extent_of(bytes: &[u8]) -> Result<Extent, ForeignFile>
     }
 }
 
-// Whether these are the bytes of a header that a crash has cut short.
+// Returns whether these are the bytes of a header that a crash has cut short.
 fn is_begun(bytes: &[u8]) -> bool
     ensures { result ≡ is_begun bytes.now }
 {

@@ -1,4 +1,4 @@
-//! A file that a crash may have left is made ready for the next record. Each of these calls may itself be cut off by a crash.
+//! Calls that make a file that a crash may have left ready for the next record. A crash may cut off each of these calls too.
 
 ghost use Rattle.std.specs.Prelude.{◌<◌, ◌∷◌, ◌≡◌, ◌≤◌, [], IfOk, IsErrOf, OnOk, Some};
 ghost use Rattle.cedar_journal.specs.Words.{HasExtent, HasRecords, IsNewFile, IsSettled, LeavesOnly, Only, recovered};
@@ -6,7 +6,7 @@ ghost use Rattle.cedar_journal.specs.Words.{HasExtent, HasRecords, IsNewFile, Is
 use crate::records::{HEADER_FRAME, HEADER_LEN};
 use crate::{Device, DeviceError, Extent};
 
-/// Returns where the records end, behind which a closed gate stands now.
+/// Returns where the records end. A closed gate follows them now.
 pub(crate) fn make_ready<D: Device>(device: &mut D, extent: Extent) -> Result<usize, DeviceError>
     requires restarted { Only (D.seen device.old) (D.may_leave device.old) }
     requires extent { HasExtent (D.seen device.old) extent }
@@ -29,7 +29,7 @@ pub(crate) fn make_ready<D: Device>(device: &mut D, extent: Extent) -> Result<us
     }
 }
 
-/// Puts a closed gate behind the whole records.
+/// Puts a closed gate after the whole records.
 fn close_behind<D: Device>(device: &mut D, end: usize) -> Result<(), DeviceError>
     requires restarted { Only (D.seen device.old) (D.may_leave device.old) }
     requires records { HasRecords (D.seen device.old) end }
@@ -47,7 +47,7 @@ fn close_behind<D: Device>(device: &mut D, end: usize) -> Result<(), DeviceError
     Ok(())
 }
 
-/// Leaves nothing but a closed gate of a file that has no whole header.
+/// Leaves nothing but a closed gate in a file that has no whole header.
 fn clear<D: Device>(device: &mut D) -> Result<(), DeviceError>
     requires restarted { Only (D.seen device.old) (D.may_leave device.old) }
     requires begun { IsNewFile (D.seen device.old) }
@@ -64,7 +64,7 @@ fn clear<D: Device>(device: &mut D) -> Result<(), DeviceError>
     Ok(())
 }
 
-/// Writes the first record, whose payload names what the file is, behind a closed gate, and opens that.
+/// Writes the first record, whose payload names what the file is, after a closed gate, and opens that gate.
 fn write_header<D: Device>(device: &mut D) -> Result<(), DeviceError>
     requires cleared { D.seen device.old ≡ 0 ∷ [] }
     requires durable { Only (D.seen device.old) (D.may_leave device.old) }

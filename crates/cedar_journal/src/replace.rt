@@ -9,14 +9,14 @@ use std::alloc::AllocError;
 /// Why a device's bytes weren't replaced.
 #[derive(Clone, Copy, Debug, PartialEq, Eq)]
 pub enum ReplaceError {
-    /// Nothing was replaced. The device is as it was, and can be used on.
+    /// Nothing was replaced. The device is as it was, and can still be used.
     Kept(DeviceError),
     /// The disk failed. It has the old bytes or the new ones: open the file again.
     Failed,
 }
 
 impl From<AllocError> for ReplaceError {
-    //= A request for memory that is refused before anything is replaced is told as such.
+    //= An allocation that fails before anything is replaced is reported as such.
     ghost from_gives = { λ _ e. e ≡ Kept device_memory };
 
     fn from(_: AllocError) -> Self {
@@ -26,15 +26,15 @@ impl From<AllocError> for ReplaceError {
 
 /// A device whose bytes can be replaced at one stroke, as by a file beside it that takes its name.
 pub trait ReplaceDevice: Device {
-    /// Puts other bytes in the place of all that are there. A crash at any moment leaves what it might have left before, or the new bytes.
+    /// Replaces all bytes with others. A crash at any moment leaves what it might have left before, or the new bytes.
     ///
     /// # Errors
-    /// `Kept` where nothing was replaced, `Failed` where it isn't known.
+    /// `Kept` if nothing was replaced, `Failed` if it isn't known.
     fn replace(&mut self, bytes: &[u8]) -> Result<(), ReplaceError>
         //= Devices that replace their bytes at one stroke: once that is done, a read and each crash give the new bytes. A crash at any
-        //  moment of it leaves what it might have left before, or all of the new bytes. Where it is told that nothing was replaced, the
-        //  device is as it was. It is told that the disk failed only where it did. [with durable, crash, time, any_moment,
-        //  kept_seen, kept_crash, faults, failed, kept_failed]
+        //  moment of it leaves what it might have left before, or all of the new bytes. If the call reports that nothing was replaced, the
+        //  device is as it was. It reports that the disk failed only if it did. [with durable, crash, time, any_moment, kept_seen,
+        //  kept_crash, faults, failed, kept_failed]
         ensures replaced { OnOk result (Self.seen self.new ≡ bytes.now) }
         ensures durable { OnOk result (Only bytes.now (Self.may_leave self.new)) }
         ensures crash { (c : List ℕ) → Self.may_leave self.new c → Self.may_leave self.old c ⊎ (c ≡ bytes.now) }

@@ -3,7 +3,7 @@
 ghost use Rattle.std.specs.Prelude.{if◌then◌else◌, ◌+◌, ◌↔◌, ◌≡◌, count_by, length, List, None, true, ℕ};
 ghost use Rattle.cedar_model.specs.Words.{Cells, cells_in, default_layout, Fields, Forest, HasMark, HoldsTree, is_held, IsWellFormed, KeepsMarks, labels, Leads, MarkedAt, marks, NoPlace, occurs, prefixes, range_with_len, size_of, slot_at, slots_named, tree_of, used, walk};
 
-/// Slots stand for one tree at most, and a table's for the one that is read from it.
+/// Slots stand for one tree at most, and those of a table for the one that is read from it.
 pub fn one_tree()
     //= Slots stand for one labelled tree at most, and a table's is `tree_of`. [with read]
     ensures only { (size : ℕ) (slots : Cells) (f : Forest) (g : Forest) → HoldsTree size slots f → HoldsTree size slots g → f ≡ g }
@@ -23,7 +23,7 @@ pub fn held_slots_are_named()
 {}
 
 /// So as many slots are held as the tree names: one for the root, one for each prefix of a key, and one for each entry
-/// whose number stands in a slot of its own, which by default is each.
+/// whose number is in a slot of its own, which by default is each.
 pub fn held_slots_are_counted()
     //= As many slots are held as the tree names.
     ensures named { (limit : ℕ) (table : Fields) → IsWellFormed limit table → count_by (is_held (cells_in table)) (range_with_len 0 (size_of table)) ≡ length (slots_named (cells_in table) (tree_of table)) }
@@ -35,24 +35,24 @@ pub fn held_slots_are_counted()
     ensures marked { (limit : ℕ) (table : Fields) → IsWellFormed limit table → count_by (is_held (cells_in table)) (range_with_len 0 (size_of table)) ≡ 1 + length (prefixes (tree_of table)) + length (walk (marks table)) }
 {}
 
-/// As many slots are held in two tables that stand for one tree, if each number stands in the one as in the other: in a slot, or in
+/// Two tables that stand for one tree hold equally many slots, if each number is kept in the one as in the other: in a slot, or in
 /// its node's own base field.
 pub fn slots_stay()
-    //= Two well-formed tables with one tree, whose numbers stand alike, hold as many slots.
+    //= Two well-formed tables with one tree, whose numbers are kept alike, hold equally many slots.
     ensures { (limit : ℕ) (before : Fields) (after : Fields) → IsWellFormed limit before → IsWellFormed limit after → tree_of after ≡ tree_of before → KeepsMarks (cells_in before) (cells_in after)
         → count_by (is_held (cells_in after)) (range_with_len 0 (size_of after)) ≡ count_by (is_held (cells_in before)) (range_with_len 0 (size_of before)) }
 {}
 
-/// The tree of marks has just the numbers that stand in slots of their own.
+/// The tree of marks has exactly the numbers that are in slots of their own.
 pub fn marks_are_read()
-    //= The tree of marks has just the numbers that have slots of their own.
+    //= The tree of marks has exactly the numbers that have slots of their own.
     ensures { (limit : ℕ) (table : Fields) (w : List ℕ) → IsWellFormed limit table → HasMark (marks table) w ↔ MarkedAt (cells_in table) w true }
 {}
 
-/// Where no slot outside block 0 is free, each slot there is held, and in block 0 just those of the root and of its
+/// If no slot outside block 0 is free, each slot there is held, and in block 0 exactly those of the root and of its
 /// children: so the slots in use can be counted from the tree.
 pub fn full_blocks_are_counted()
-    //= In the default layout, where no slot outside block 0 is free, the slots in use and the root's children are together as many as the
+    //= In the default layout, if no slot outside block 0 is free, the slots in use and the root's children are together as many as the
     //  tree's slots and 255.
     ensures { (limit : ℕ) (table : Fields) → IsWellFormed limit table → table.layout ≡ default_layout → NoPlace (size_of table) (cells_in table) → size_of table + length (labels (tree_of table).children) ≡ used (tree_of table) + 255 }
 {}

@@ -15,33 +15,33 @@ pub enum Stored {
 pub trait Layout {
     ghost kind: { LayoutKind };
 
-    /// Whether a node that owns no slot keeps its number in its own base field.
+    /// Returns whether a node that owns no slot keeps its number in its own base field.
     fn keeps_numbers() -> bool
         ensures { IsTrue result ↔ (kind ≡ reduced_layout) };
 
-    /// What a base field says.
+    /// Returns what a base field says.
     fn read_base(field: i32) -> Stored
         //= The trait of layouts: how a base field is read and written; by default a field of at least 0 is a base, in the reduced layout s
         //  below 0 is the base -(s + 1), and any other the node's own number. [also read_node, base_field, keeps_numbers, file_byte; by
         //  reading]
         ensures { result ≡ reading kind field };
 
-    /// What the base field of a node says, which is never nothing.
+    /// Returns what the base field of a node says, which is never nothing.
     fn read_node(field: i32) -> Stored
         requires { reading kind field ≢ Nothing }
         ensures { result ≡ reading kind field };
 
-    /// A base as the base field keeps it.
+    /// Returns a base as the base field keeps it.
     fn base_field(base: usize) -> i32
         requires { base < 2 ^ 31 }
         ensures { reading kind result ≡ AtBase base };
 
-    /// The byte that names the layout in a file.
+    /// Returns the byte that names the layout in a file.
     fn file_byte() -> u8
         ensures { result ≡ layout_byte kind };
 }
 
-/// A node's base is kept as it is, and each number stands in a slot of its own.
+/// A node's base is kept as it is, and each number is in a slot of its own.
 pub struct DefaultLayout;
 
 impl Layout for DefaultLayout {
@@ -71,7 +71,7 @@ impl Layout for DefaultLayout {
     }
 }
 
-/// A node's base `b` is kept as `-(b + 1)`; the number of a node that owns no slot stands in its own base field.
+/// A node's base `b` is kept as `-(b + 1)`; the number of a node that owns no slot is in its own base field.
 pub struct ReducedLayout;
 
 impl Layout for ReducedLayout {

@@ -1,5 +1,5 @@
 //! What slots stand for: the definitions by which a table of slots is one labelled tree, and their laws. Of the code only the
-//! layouts of a base field stand here, since a node's meaning hangs on them.
+//! layouts of a base field are here, since a node's meaning depends on them.
 #![tactic(auto)]
 
 mod laws;

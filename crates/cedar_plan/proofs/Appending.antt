@@ -1,22 +1,16 @@
 -- A record is appended by its plan.
-use Rattle.std.proofs.Common.{◌≡◌, ◌≢◌, inl, inr, ℕ, ◌+◌, ◌≤◌, ◌<◌, List, [], ◌∷◌, ◌++◌, length, take, drop, refl, sym, ◌∙◌, ap, subst, arith, length-append}
-use Rattle.std.proofs.lemmas.List.{append-nil}
+use Rattle.std.proofs.Common.{◌≡◌, inl, inr, ℕ, ◌+◌, ◌≤◌, ◌<◌, List, [], ◌∷◌, ◌++◌, length, take, drop, refl, sym, ◌∙◌, ap, subst, arith, length-append}
+use Rattle.cedar_journal.proofs.Fronts.{behind_closed}
 use Rattle.cedar_journal.specs.Device.{Torn}
 use Rattle.cedar_journal.specs.Files.{HasHeader, added, recovered}
 use Rattle.cedar_journal.specs.Journal.{IsBeforeOrAfter, IsSettled, IsStaged}
-use Rattle.cedar_journal.specs.Records.{AreWholeRecords, framed, length_bytes, payloads_in}
+use Rattle.cedar_journal.specs.Records.{framed, length_bytes, payloads_in}
 use Rattle.cedar_journal.proofs.Crash.{front_ends, gate_crash, longer_ends, longer_stands, longer_whole, opened_file, settled_at, stage_crash, staged_at, staged_file, stands_for}
 use Rattle.cedar_journal.proofs.Headers.{either_stands, one_more_stands, same_stands}
-use Rattle.cedar_journal.proofs.Reading.{closed, payloads_none}
 use Rattle.cedar_disk.specs.Calls.{Call, MayLeave, overlaid, seen_after}
 use Rattle.cedar_plan.specs.Safety.{IsAppended, IsAtRest}
 use Rattle.cedar_plan.specs.Works.{append_works}
 use Rattle.cedar_plan.proofs.Working.{Has, Keep, all_have, all_leave}
-
--- a gate that isn't open ends the records
-pub behind_shut : (front : List ℕ) (gate : ℕ) (rest : List ℕ) → AreWholeRecords front → gate ≢ 1 → payloads_in (front ++ gate ∷ rest) ≡ payloads_in front
-behind_shut front gate rest is_front shut =
-    is_front (gate ∷ rest) ∙ ap (λ (l : List (List ℕ)). payloads_in front ++ l) (payloads_none (gate ∷ rest) (closed gate rest shut)) ∙ append-nil (payloads_in front)
 
 -- a file of which each crash leaves what it has
 abbrev itself : List ℕ → List ℕ
@@ -51,7 +45,7 @@ module _ (file : List ℕ) (end : ℕ) (payload : List ℕ) (s : IsSettled itsel
 
   same : recovered staged ≡ recovered file
   same = same_stands file staged s.header
-      (ap payloads_in (staged_file file end s.split s.whole (framed payload) staged refl) ∙ behind_shut (take end file) 0 _ s.whole (omega arith)
+      (ap payloads_in (staged_file file end s.split s.whole (framed payload) staged refl) ∙ behind_closed (take end file) 0 _ s.whole (omega arith)
       ∙ sym (stands_for file end s.split s.whole))
 
   more : recovered written ≡ added payload (recovered file)
@@ -97,7 +91,7 @@ module _ (file : List ℕ) (end : ℕ) (payload : List ℕ) (s : IsSettled itsel
       let header = is_staged.settled.header in
       let front_has : HasHeader front = (
         header.0 ++ payload ∷ [],
-        sym (behind_shut front 0 tail is_front (omega arith)) ∙ stands ∙ ap (λ (l : List (List ℕ)). l ++ payload ∷ []) header.1,
+        sym (behind_closed front 0 tail is_front (omega arith)) ∙ stands ∙ ap (λ (l : List (List ℕ)). l ++ payload ∷ []) header.1,
       ) in
       let far : end + (5 + length payload) ≡ end + 5 + length payload = omega arith in
       subst (λ n. IsSettled seen_after MayLeave calls n) far

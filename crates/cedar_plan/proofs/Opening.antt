@@ -13,7 +13,7 @@ use Rattle.cedar_journal.proofs.Headers.{byte_stands, empty_stands, gate_stands,
 use Rattle.cedar_disk.specs.Calls.{Call, MayLeave, opened, overlaid, seen_after}
 use Rattle.cedar_plan.specs.Safety.{IsOpened}
 use Rattle.cedar_plan.specs.Works.{opening_works}
-use Rattle.cedar_plan.proofs.Appending.{behind_shut}
+use Rattle.cedar_journal.proofs.Fronts.{behind_closed}
 use Rattle.cedar_plan.proofs.Working.{Has, Keep, all_have, all_leave, has_opened}
 
 -- ---- a file with records
@@ -38,7 +38,7 @@ module _ (file : List ℕ) (end : ℕ) (records : HasRecords file end) where
   is_gated = written_end file end records.ends gated refl
 
   gated_stands : payloads_in gated ≡ payloads_in file
-  gated_stands = ap payloads_in is_gated ∙ behind_shut (take end file) 0 [] records.ends.whole (omega arith) ∙ stays
+  gated_stands = ap payloads_in is_gated ∙ behind_closed (take end file) 0 [] records.ends.whole (omega arith) ∙ stays
 
   pub until_keeps : Keep (opening_works (Until end)) file Same
   until_keeps =

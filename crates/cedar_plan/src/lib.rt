@@ -1,4 +1,4 @@
-//! What is to be done to a journal's file, as steps for somebody else to carry out: for a library that makes no calls of the system.
+//! What has to be done to a journal's file, as steps for somebody else to carry out: for a library that makes no system calls.
 //!
 //! A step is a cut or a write, and waits until the disk has it. Whoever carries out the steps of a plan in their order, and stops at the
 //! first that fails, has a journal from which no crash takes an acknowledged record.

@@ -12,10 +12,10 @@ pub const CUT: u32 = 0;
 /// The kind of a step that writes bytes from the byte `at` on, and waits until the disk has them.
 pub const WRITE: u32 = 1;
 
-/// The record that each journal begins with, its gate open, and the closed gate behind it.
+/// The record that each journal begins with, its gate open, and the closed gate after it.
 pub const HEADER: [u8; 14] = *b"\x01\x08\0\0\0CEDARJ\0\0\0";
 
-/// One step. What is written are `length` of the plan's bytes from `from` on.
+/// One step. A write writes `length` of the plan's bytes from `from` on.
 #[repr(C)]
 #[derive(Clone, Copy, Debug, PartialEq, Eq)]
 pub struct Step {
@@ -25,7 +25,7 @@ pub struct Step {
     pub length: usize,
 }
 
-/// What stands in a plan behind its last step.
+/// What a plan has after its last step.
 const NOTHING: Step = Step {
     kind: CUT,
     at: 0,
@@ -44,10 +44,11 @@ pub struct Plan {
     pub fourth: Step,
 }
 
-/// The plan by which a file that goes as far as this is opened, whose bytes begin with those of `HEADER`: what a crash has left behind the whole
-/// records is cut off, and a closed gate is written there; a new file gets its header.
+/// Returns the plan that opens a file of this extent. The plan's bytes begin with those of `HEADER`. What a crash has left after the
+/// whole records is cut off, and a closed gate is written there; a new file gets its header.
 pub fn plan_opening(extent: Extent) -> Plan
-    //= The plan of an opening cuts the file behind its whole records and writes a closed gate there; of a new file it leaves only the header.
+    //= The plan of an opening cuts the file after its whole records and writes a closed gate there; of a new file it leaves only the
+    //  header.
     ensures { (rest : List ℕ) → works_of (header ++ rest) result ≡ opening_works extent }
 {
     match extent {
@@ -98,12 +99,12 @@ pub fn plan_opening(extent: Extent) -> Plan
     }
 }
 
-/// The plan by which a record is appended where the records end. Its bytes begin with the record, as `record_of` makes it, which has so
-/// many bytes.
+/// Returns the plan that appends a record where the records end. Its bytes begin with the record, as `record_of` makes it, which has
+/// `size` bytes.
 pub fn plan_append(end: usize, size: usize) -> Plan
     requires room { end < 2 ^ 60 }
     requires some { 0 < size }
-    //= The plan of a record writes it behind the closed gate, and then opens that.
+    //= The plan of a record writes it after the closed gate, and then opens that.
     ensures { (payload : List ℕ) (rest : List ℕ) → size ≡ 6 + length payload
         → works_of ((1 ∷ framed payload) ++ rest) result ≡ append_works end payload }
 {
@@ -126,14 +127,14 @@ pub fn plan_append(end: usize, size: usize) -> Plan
     }
 }
 
-/// Returns the record of a payload as it stands in a file once it counts, and the closed gate behind it. It asks for memory for 6 bytes
-/// more than the payload has.
+/// Returns the record of a payload as it is in a file once it counts, and the closed gate after it. It allocates 6 bytes more than
+/// the payload has.
 ///
 /// # Errors
-/// `TooLong` where the payload is longer than `MAX_PAYLOAD`, `Memory` where the request was refused.
+/// `TooLong` if the payload is longer than `MAX_PAYLOAD`, `Memory` if the allocation failed.
 pub fn record_of<A: Allocator>(alloc: A, payload: &[u8]) -> Result<Vec<u8, A>, FrameError>
-    //= A record for a plan is an open gate, the frame of its payload, and a closed gate; just one of 2^32 bytes and more is refused as too
-    //  long. [with long, refused]
+    //= A record for a plan is an open gate, the frame of its payload, and a closed gate; exactly a payload of 2^32 bytes or more is refused
+    //  as too long. [with long, refused]
     ensures written { IfOk result (λ bytes. bytes.items ≡ 1 ∷ framed payload.now) }
     ensures long { IsErrOf result FrameError.TooLong → 2 ^ 32 ≤ length payload.now }
     ensures refused { 2 ^ 32 ≤ length payload.now → IsErrOf result FrameError.TooLong }

@@ -11,7 +11,7 @@ use std::alloc::Allocator;
 pub struct Counts {
     /// How many slots are free; in block 0 the root counts too.
     pub num: i16,
-    /// A set of as many labels finds no place in the block.
+    /// A set of this many labels finds no place in the block.
     pub reject: i16,
     /// How often a search for a place has failed in the block.
     pub trial: i32,
@@ -22,7 +22,7 @@ pub struct Counts {
 impl Counts {
     ghost use Rattle.cedar_slots.specs.Words.{fresh_counts, int_max, kind_of};
 
-    /// What the block of this number counts while all of its slots are free.
+    /// Returns the counts of the block of this number while all of its slots are free.
     fn fresh(block: usize) -> Counts
         requires { block < 2 ^ 22 }
         ensures { result ≡ fresh_counts block }
@@ -35,7 +35,7 @@ impl Counts {
         }
     }
 
-    /// What a block counts once `slot` was taken, which stood before `next` in its ring.
+    /// Returns the counts after `slot` was taken, which came before `next` in its ring.
     pub(crate) fn less(self, slot: usize, next: usize) -> Counts
         requires some { pos 1 ≤ℤ self.num }
         requires slot_fits { slot < 2 ^ 31 }
@@ -58,7 +58,7 @@ impl Counts {
         }
     }
 
-    /// What a block counts whose free slots begin with `slot`.
+    /// Returns the counts of a block whose free slots begin with `slot`.
     pub(crate) fn beginning_at(self, slot: usize) -> Counts
         requires { slot < 2 ^ 31 }
         ensures num { result.num ≡ self.num }
@@ -72,7 +72,7 @@ impl Counts {
         }
     }
 
-    /// What a block counts once `wanted` labels have found no place in it.
+    /// Returns the counts after `wanted` labels have found no place in the block.
     pub(crate) fn failed(self, wanted: i16, max_trial: i32) -> Counts
         requires { self.trial <ℤ max_trial }
         ensures num { result.num ≡ self.num }
@@ -87,14 +87,14 @@ impl Counts {
         }
     }
 
-    /// The number of the slot at which the free ones begin, where there is one.
+    /// Returns the number of the slot at which the free ones begin, if there is one.
     pub(crate) fn head(self) -> usize
         ensures { result ≡ unsigned_abs self.e_head }
     {
         self.e_head.unsigned_abs() as usize
     }
 
-    /// What a block counts once a slot was given back to its other free slots. `floor` is what no
+    /// Returns the counts after a slot was given back to the block's other free slots. `floor` is what no
     /// block with as many free slots rejects.
     pub(crate) fn more(self, floor: i16) -> Counts
         requires { self.num <ℤ pos 256 }
@@ -112,7 +112,7 @@ impl Counts {
         }
     }
 
-    /// Whether these counts name the list that the block's counts before named, as far as that shows without a list: both
+    /// Returns whether these counts name the list that the block's counts before named, as far as that shows without a list: both
     /// leave the block several free slots and as many trials.
     fn keeps_list(self, before: Counts) -> bool
         ensures { IsTrue result → (max_trial : ℤ) → kind_of max_trial self ≡ kind_of max_trial before }
@@ -123,7 +123,7 @@ impl Counts {
         self.trial == before.trial
     }
 
-    /// What a block without free slots counts once `slot` was given back.
+    /// Returns the counts of a block without free slots after `slot` was given back.
     pub(crate) fn one(self, slot: usize, floor: i16) -> Counts
         requires num { self.num <ℤ pos 256 }
         requires fits { slot < 2 ^ 31 }
@@ -149,14 +149,14 @@ pub enum BlockType {
     Full,
 }
 
-/// All blocks, those that are not in use among them, and the heads of their three lists.
+/// All blocks, including those that are not in use, and the heads of their three lists.
 #[derive(Drop)]
 pub struct Blocks<A: Allocator> {
     pub records: Padded<BlockRecord, A>,
     pub full_head: i32,
     pub closed_head: i32,
     pub open_head: i32,
-    /// How many blocks are in use, block 0 among them.
+    /// How many blocks are in use, including block 0.
     pub active: usize,
     pub max_trial: i32,
     pub ghost ready: { active ≤ records.used },
@@ -166,7 +166,7 @@ pub struct Blocks<A: Allocator> {
 impl<A: Allocator> Blocks<A> {
     ghost use Rattle.cedar_slots.specs.Words.{block_at, blocks_of, BlockType, counts_at, fresh_counts, HasLists, head_of, KeepsCounts, KeepsLinks, kind_of, linked_blocks, ListRings, lists_with, next_at, occurs, Popped, prev_at, SameFrom, Sized, total};
 
-    /// The first block of a list, or 0.
+    /// Returns the first block of a list, or 0.
     pub fn head(&self, list: BlockType) -> i32
         ensures { result ≡ head_of (blocks_of self.now) list }
     {
@@ -177,14 +177,14 @@ impl<A: Allocator> Blocks<A> {
         }
     }
 
-    /// The number of a list's first block, or 0.
+    /// Returns the number of a list's first block, or 0.
     pub(crate) fn first(&self, list: BlockType) -> usize
         ensures { result ≡ unsigned_abs (head_of (blocks_of self.now) list) }
     {
         self.head(list).unsigned_abs() as usize
     }
 
-    /// The block after `block` in its list.
+    /// Returns the block after `block` in its list.
     pub(crate) fn next(&self, block: usize) -> usize
         requires { block < self.now.records.used }
         ensures { result ≡ unsigned_abs (next_at self.now.records.items block) }
@@ -192,7 +192,7 @@ impl<A: Allocator> Blocks<A> {
         self.records.at(block).next.unsigned_abs() as usize
     }
 
-    /// The block before `block` in its list.
+    /// Returns the block before `block` in its list.
     pub(crate) fn previous(&self, block: usize) -> usize
         requires { block < self.now.records.used }
         ensures { result ≡ unsigned_abs (prev_at self.now.records.items block) }
@@ -223,7 +223,7 @@ impl<A: Allocator> Blocks<A> {
         self.records.set(to, BlockRecord { prev, ..record });
     }
 
-    /// The list that a block's counts name.
+    /// Returns the list that a block's counts name.
     pub fn list_of(&self, counts: Counts) -> BlockType
         ensures { result ≡ kind_of self.now.max_trial counts }
     {
@@ -328,7 +328,7 @@ impl<A: Allocator> Blocks<A> {
         self.records.set(block, changed);
     }
 
-    /// What `block` counts.
+    /// Returns the counts of `block`.
     pub fn counts(&self, block: usize) -> Counts
         requires { block < self.now.records.used }
         ensures { result ≡ counts_at self.now.records.items block }
@@ -342,7 +342,7 @@ impl<A: Allocator> Blocks<A> {
         }
     }
 
-    /// Sets what `block` counts, and moves it to the list that its counts now name.
+    /// Sets the counts of `block`, and moves it to the list that they now name.
     fn set_counts_and_list(&mut self, block: usize, counts: Counts)
         requires lists { HasLists (blocks_of self.old) }
         requires sized { Sized (blocks_of self.old) }
@@ -365,8 +365,8 @@ impl<A: Allocator> Blocks<A> {
         }
     }
 
-    /// Sets what `block` counts, and moves it to the list that its counts now name. They come one by one: else each caller lays
-    /// them down in memory, though it mostly needs no list.
+    /// Sets the counts of `block`, and moves it to the list that they now name. They are passed one by one: otherwise each caller
+    /// stores them in memory, though it mostly needs no list.
     fn set_each_count(&mut self, block: usize, num: i16, reject: i16, trial: i32, e_head: i32)
         requires lists { HasLists (blocks_of self.old) }
         requires sized { Sized (blocks_of self.old) }
@@ -389,14 +389,15 @@ impl<A: Allocator> Blocks<A> {
         self.set_counts_and_list(block, counts);
     }
 
-    /// Sets what `block` counts, and moves it to the list that its counts now name.
+    /// Sets the counts of `block`, and moves it to the list that they now name.
     #[inline(always)]
     pub(crate) fn set_counts(&mut self, block: usize, counts: Counts)
         requires lists { HasLists (blocks_of self.old) }
         requires sized { Sized (blocks_of self.old) }
         requires block_in { block < self.old.active }
 
-        //= `set_counts` sets what a block counts, and the lists are then right for it; no other block's counts change. [with made, others]
+        //= `set_counts` sets the counts of a block, and the lists are then right for it; no other block's counts change. [with made,
+        //  others]
         ensures lists { HasLists (blocks_of self.new) }
         ensures made { counts_at self.new.records.items block ≡ counts }
         ensures others { (b : ℕ) → (b ≡ block → ⊥) → counts_at self.new.records.items b ≡ counts_at self.old.records.items b }
@@ -410,9 +411,9 @@ impl<A: Allocator> Blocks<A> {
         self.change_counts(block, old, counts);
     }
 
-    /// Sets what `block` counts, which was `old`, and moves it to the list that its counts now name. Mostly that is the list
-    /// that it is in, which is seen without a list.
-    // Else the counts go through memory in two widths, and each call waits for them.
+    /// Sets the counts of `block`, which were `old`, and moves it to the list that they now name. Mostly that is the list
+    /// that it is in, which shows without a list.
+    // Otherwise the counts go through memory in two widths, and each call waits for them.
     #[inline(always)]
     pub(crate) fn change_counts(&mut self, block: usize, old: Counts, counts: Counts)
         requires was { old ≡ counts_at self.old.records.items block }

@@ -9,7 +9,7 @@ pub struct Corrupt {
 }
 
 impl Corrupt {
-    /// A fault of a reject value.
+    /// Returns a fault of a reject value.
     pub fn reject(index: usize, reason: &'static str) -> Corrupt {
         Corrupt {
             section: "reject",
@@ -18,7 +18,7 @@ impl Corrupt {
         }
     }
 
-    /// A fault of a slot's own fields.
+    /// Returns a fault of a slot's own fields.
     pub fn nodes(slot: usize, reason: &'static str) -> Corrupt {
         Corrupt {
             section: "nodes",
@@ -27,7 +27,7 @@ impl Corrupt {
         }
     }
 
-    /// A fault of a block's own fields.
+    /// Returns a fault of a block's own fields.
     pub fn blocks(block: usize, reason: &'static str) -> Corrupt {
         Corrupt {
             section: "blocks",
@@ -36,7 +36,7 @@ impl Corrupt {
         }
     }
 
-    /// A fault in a ring of free slots.
+    /// Returns a fault in a ring of free slots.
     pub fn free_list(slot: usize, reason: &'static str) -> Corrupt {
         Corrupt {
             section: "free-list",
@@ -45,7 +45,7 @@ impl Corrupt {
         }
     }
 
-    /// A fault of a slot's labels.
+    /// Returns a fault of a slot's labels.
     pub fn n_infos(slot: usize, reason: &'static str) -> Corrupt {
         Corrupt {
             section: "n_infos",
@@ -54,7 +54,7 @@ impl Corrupt {
         }
     }
 
-    /// A fault in a list of blocks.
+    /// Returns a fault in a list of blocks.
     pub fn block_lists(block: usize, reason: &'static str) -> Corrupt {
         Corrupt {
             section: "block-lists",
@@ -63,7 +63,7 @@ impl Corrupt {
         }
     }
 
-    /// A fault of a slot of the tree.
+    /// Returns a fault of a slot of the tree.
     pub fn trie(slot: usize, reason: &'static str) -> Corrupt {
         Corrupt {
             section: "trie",
@@ -72,7 +72,7 @@ impl Corrupt {
         }
     }
 
-    /// A fault in the chain of labels below a slot.
+    /// Returns a fault in the chain of labels below a slot.
     pub fn siblings(slot: usize, reason: &'static str) -> Corrupt {
         Corrupt {
             section: "siblings",
@@ -81,7 +81,7 @@ impl Corrupt {
         }
     }
 
-    /// A chain that names a slot of another node, or of none.
+    /// Returns the fault of a chain that names a slot of another node, or of none.
     pub fn unowned(slot: usize) -> Corrupt {
         Corrupt::siblings(slot, "child ownership link is invalid")
     }

@@ -1,4 +1,4 @@
-//! A list of which only a front was written yet.
+//! A list of which only a prefix has been written yet.
 
 ghost use Rattle.std.specs.Prelude.{◌+◌, ◌++◌, ◌<◌, ◌≡◌, ◌≤◌, IfOk, length, OnErr, OnOk, replicate, slice_index_or, slice_set, take, vec_capacity, vec_len};
 ghost use Rattle.cedar_slots.specs.Padded.{Items, padded};
@@ -6,7 +6,7 @@ ghost use Rattle.cedar_slots.specs.Padded.{Items, padded};
 use std::alloc::{AllocError, Allocator};
 use std::marker::Model;
 
-/// What a record holds that is not in use.
+/// What a record that is not in use holds.
 pub trait Blank: Copy + Drop {
     ghost BLANK: { Self };
 
@@ -14,7 +14,7 @@ pub trait Blank: Copy + Drop {
     const BLANK: Self;
 }
 
-/// A list whose items behind a front are blank. They have room in memory, but nothing is written there yet: so a list doubles
+/// A list whose items after a prefix are blank. They have room in memory, but nothing is written there yet. So a list doubles
 /// in no time, and takes no pages that nobody uses.
 #[derive(Drop)]
 pub struct Padded<T: Blank, A: Allocator> {
@@ -31,9 +31,9 @@ impl<T: Blank, A: Allocator> Model for Padded<T, A> {
 }
 
 impl<T: Blank, A: Allocator> Padded<T, A> {
-    /// Items that all stand in memory.
+    /// Returns a list of items that are all written to memory.
     pub fn of(items: Vec<T, A>) -> Self
-        //= `of` makes a list of items that all stand in memory. [with used, within]
+        //= `of` makes a list of items that are all written to memory. [with used, within]
         ensures items { result.items ≡ items.items }
         ensures used { result.used ≡ length items.items }
         ensures within { result.used ≤ length result.items }
@@ -42,19 +42,19 @@ impl<T: Blank, A: Allocator> Padded<T, A> {
         Padded { front: items, len }
     }
 
-    /// Where the memory of the list comes from.
+    /// Returns the allocator of the list.
     pub fn allocator(&self) -> &A {
         self.front.allocator()
     }
 
-    /// How many items there are.
+    /// Returns how many items there are.
     pub fn len(&self) -> usize
         ensures { result ≡ length self.now.items }
     {
         self.len
     }
 
-    /// How many items stand in memory.
+    /// Returns how many items are written to memory.
     pub fn used(&self) -> usize
         ensures used { result ≡ self.now.used }
         ensures within { self.now.used ≤ length self.now.items }
@@ -62,17 +62,17 @@ impl<T: Blank, A: Allocator> Padded<T, A> {
         self.front.len()
     }
 
-    /// An item that stands in memory.
+    /// Returns an item that is written to memory.
     pub fn at(&self, index: usize) -> T
         requires { index < self.now.used }
 
-        //= `at` and `read` give the item that is asked for; `read` may give one of the blanks. [also read]
+        //= `at` and `read` return the item at a place; `read` may return one of the blanks. [also read]
         ensures { (d : T) → result ≡ slice_index_or self.now.items index d }
     {
         self.front[index]
     }
 
-    /// An item, which may be one of the blanks.
+    /// Returns an item, which may be one of the blanks.
     pub fn read(&self, index: usize) -> T
         ensures { result ≡ slice_index_or self.now.items index T.BLANK }
     {
@@ -83,11 +83,11 @@ impl<T: Blank, A: Allocator> Padded<T, A> {
         }
     }
 
-    /// Writes an item that stands in memory.
+    /// Writes over an item that is written to memory.
     pub fn set(&mut self, index: usize, item: T)
         requires { index < self.old.used }
 
-        //= `set` writes the one item that is named. [with used, within]
+        //= `set` writes only the named item. [with used, within]
         ensures items { self.new.items ≡ slice_set self.old.items index item }
         ensures used { self.new.used ≡ self.old.used }
         ensures within { self.new.used ≤ length self.new.items }
@@ -95,9 +95,9 @@ impl<T: Blank, A: Allocator> Padded<T, A> {
         self.front[index] = item;
     }
 
-    /// Asks for memory for `more` blanks behind the items. Nothing else changes.
+    /// Allocates room for `more` blanks after the items. Nothing else changes.
     pub fn reserve(&mut self, more: usize) -> Result<(), AllocError>
-        //= `reserve` asks for room and changes no item, whether it is refused or not. [with used, within, room]
+        //= `reserve` allocates room and changes no item, whether it fails or not. [with used, within, room]
         ensures items { self.new.items ≡ self.old.items }
         ensures used { self.new.used ≡ self.old.used }
         ensures within { self.new.used ≤ length self.new.items }
@@ -114,8 +114,8 @@ impl<T: Blank, A: Allocator> Padded<T, A> {
     pub fn extend(&mut self, more: usize)
         requires { length self.old.items + more ≤ self.old.room }
 
-        //= `extend` appends blanks, and `bring_in` writes those before a place: neither asks for memory, and no item changes. [with used,
-        //  within; also bring_in.items.used.within]
+        //= `extend` appends blanks, and `bring_in` writes those before a place: neither allocates, and no item changes. [with used, within;
+        //  also bring_in.items.used.within]
         ensures items { self.new.items ≡ self.old.items ++ replicate more T.BLANK }
         ensures used { self.new.used ≡ self.old.used }
         ensures within { self.new.used ≤ length self.new.items }
@@ -123,7 +123,7 @@ impl<T: Blank, A: Allocator> Padded<T, A> {
         self.len += more;
     }
 
-    /// Writes the blanks before `used`, so that they stand in memory. It takes no memory, and no item changes.
+    /// Writes the blanks before `used` to memory. It allocates nothing, and no item changes.
     pub fn bring_in(&mut self, used: usize)
         requires more { self.old.used ≤ used }
         requires within { used ≤ length self.old.items }
@@ -131,13 +131,13 @@ impl<T: Blank, A: Allocator> Padded<T, A> {
         ensures used { self.new.used ≡ used }
         ensures within { self.new.used ≤ length self.new.items }
     {
-        // There is room for all items, so that it can't fail.
+        // There is room for all items, so this can't fail.
         let _ = self.front.resize(used, T::BLANK);
     }
 
-    /// The items that stand in memory: all others are blank.
+    /// Returns the items that are written to memory: all others are blank.
     pub fn front(&self) -> &[T]
-        //= `front` gives the items that stand in memory, and all others are blank. [with rest, used]
+        //= `front` returns the items that are written to memory, and all others are blank. [with rest, used]
         ensures front { result.now ≡ take self.now.used self.now.items }
         ensures rest { self.now.items ≡ padded T.BLANK (length self.now.items) result.now }
         ensures used { self.now.used ≡ length result.now }
@@ -145,13 +145,13 @@ impl<T: Blank, A: Allocator> Padded<T, A> {
         self.front.as_slice()
     }
 
-    /// A list with the same items, of which as many stand in memory.
+    /// Returns a list with the same items, of which equally many are written to memory.
     pub fn copied(&self) -> Result<Padded<T, A>, AllocError>
     where
         A: Copy,
 
-        //= `copied` gives a list with the same items, of which as many stand in memory, or is refused for memory. [with used,
-        //  within]
+        //= `copied` returns a list with the same items, of which equally many are written to memory, or fails for lack of memory. [with
+        //  used, within]
         ensures items { IfOk result (λ copy. copy.items ≡ self.now.items) }
         ensures used { IfOk result (λ copy. copy.used ≡ self.now.used) }
         ensures within { IfOk result (λ copy. copy.used ≤ length copy.items) }

@@ -14,20 +14,20 @@ use std::alloc::{AllocError, Allocator};
 pub struct Places<A: Allocator> {
     pub slots: Slots<A>,
     pub blocks: Blocks<A>,
-    /// For each number of free slots, how many labels at least find no place in a block with as many.
+    /// For each number of free slots, the number of labels from which on a set finds no place in a block with as many.
     pub reject: Vec<i16, A>,
     pub ghost nodes_ready: { slots.nodes.used ≡ 256 * blocks.records.used },
     pub ghost infos_ready: { slots.infos.used ≡ 256 * blocks.records.used },
 }
 
-/// How many slots of `block` are counted as free and are in no ring: the root alone.
+/// Returns how many slots of `block` are counted as free and are in no ring: the root alone.
 pub fn reserved(block: usize) -> i16
     ensures { result ≡ pos (if block == 0 then 1 else 0) }
 {
     if block == 0 { 1 } else { 0 }
 }
 
-/// The reject values of a new table: a block with n free slots can't take n + 1 labels.
+/// Returns the reject values of a new table: a block with n free slots can't take n + 1 labels.
 fn first_rejects<A: Allocator>(alloc: A) -> Result<Vec<i16, A>, AllocError>
     ensures len { IfOk result (λ rejects. length rejects.items ≡ 257) }
     ensures values { IfOk result (λ rejects. (i : ℕ) → i ≤ 256 → reject_at rejects.items i ≡ pos (i + 1)) }
@@ -51,7 +51,7 @@ impl<A: Allocator> Places<A> {
         //= A new table is `Sound`.
         ensures sound { IfOk result (λ places. Sound (places_of places)) }
 
-        //= It has one block, in which the root alone is in use, with the node that is given. [with root]
+        //= It has one block, in which only the root is in use, with the node that is given. [with root]
         ensures made { IfOk result (λ places. IsNewPlaces (places_of places) max_trial) }
         ensures root { IfOk result (λ places. node_record_at places.slots.nodes.items 0 ≡ root) }
     {
@@ -78,7 +78,7 @@ impl<A: Allocator> Places<A> {
         })
     }
 
-    /// How many slots in use aren't free.
+    /// Returns how many slots in use aren't free.
     pub fn used_slots(&self) -> usize
         requires { Sound (places_of self.now) }
 
@@ -92,7 +92,7 @@ impl<A: Allocator> Places<A> {
         1 + BLOCK_SIZE * self.blocks.active - free
     }
 
-    /// How many labels at least find no place in a block with `num` free slots.
+    /// Returns the number of labels from which on a set finds no place in a block with `num` free slots.
     fn reject_for(&self, num: i16) -> i16
         requires rejects { Rejects self.now.reject.items }
         requires natural { pos 0 ≤ℤ num }
@@ -114,12 +114,12 @@ impl<A: Allocator> Places<A> {
         //  add_block, find_place, find_places]
         ensures sound { Sound (places_of self.new) }
 
-        //= `pop_e_node` takes the free slot that is named and stores the node there; no other slot becomes free or used, no other used
-        //  slot's node and no slot's labels change.
+        //= `pop_e_node` takes the named free slot and stores the node there; no other slot becomes free or used, and neither another used
+        //  slot's node nor any slot's labels change.
         ensures takes_slot { TakesSlot (slots_of self.old.slots) (slots_of self.new.slots) slot node }
 
-        //= `pop_e_node` and `push_e_node` leave how many blocks are in use and there are, and `max_trial`. [with capacity, max_trial; also
-        //  push_e_node]
+        //= `pop_e_node` and `push_e_node` keep the number of blocks in use, the number of blocks, and `max_trial`. [with capacity,
+        //  max_trial; also push_e_node]
         ensures active { self.new.blocks.active ≡ self.old.blocks.active }
         ensures capacity { length self.new.blocks.records.items ≡ length self.old.blocks.records.items }
         ensures max_trial { self.new.blocks.max_trial ≡ self.old.blocks.max_trial }
@@ -127,7 +127,7 @@ impl<A: Allocator> Places<A> {
         let block = slot / BLOCK_SIZE;
         let next = self.slots.next_free(slot);
         self.slots.take(slot, node);
-        // Read behind the writes above, so that what stays as it is needn't be written again.
+        // Read after the writes above, so that what stays as it is needn't be written again.
         let counts = self.blocks.counts(block);
         self.blocks
             .change_counts(block, counts, counts.less(slot, next));
@@ -141,8 +141,8 @@ impl<A: Allocator> Places<A> {
         requires not_root { 0 < slot }
         ensures sound { Sound (places_of self.new) }
 
-        //= `push_e_node` frees the slot that is named and clears its labels; no other slot becomes free or used, no other used slot's node
-        //  and no other slot's labels change.
+        //= `push_e_node` frees the named slot and clears its labels; no other slot becomes free or used, and neither another used slot's
+        //  node nor another slot's labels change.
         ensures frees_slot { FreesSlot (slots_of self.old.slots) (slots_of self.new.slots) slot }
         ensures active { self.new.blocks.active ≡ self.old.blocks.active }
         ensures capacity { length self.new.blocks.records.items ≡ length self.old.blocks.records.items }
@@ -170,7 +170,7 @@ impl<A: Allocator> Places<A> {
         requires node_used { (slot ≡ 0) ⊎ (int_lt node.check (pos 0) ≡ false) }
         ensures sound { Sound (places_of self.new) }
 
-        //= `write_node` and `write_info` change the one record that is named, and no block. [with infos, blocks, capacity; also write_info]
+        //= `write_node` and `write_info` change only the named record, and no block. [with infos, blocks, capacity; also write_info]
         ensures nodes { self.new.slots.nodes.items ≡ slice_set self.old.slots.nodes.items slot node }
         ensures infos { self.new.slots.infos.items ≡ self.old.slots.infos.items }
         ensures blocks { blocks_of self.new.blocks ≡ blocks_of self.old.blocks }
@@ -193,11 +193,11 @@ impl<A: Allocator> Places<A> {
         self.slots.infos.set(slot, info);
     }
 
-    /// A free slot outside block 0, if there is one.
+    /// Returns a free slot outside block 0, if there is one.
     pub(crate) fn free_slot(&self) -> Option<usize>
         requires { Sound (places_of self.now) }
 
-        //= `free_slot` gives a free slot outside block 0, or says that there is none. [with none]
+        //= `free_slot` returns a free slot outside block 0, or says that there is none. [with none]
         ensures found { IfSome result (λ slot. IsFreePlace (places_of self.now) slot) }
         ensures none { IfNone result (NoneFree (places_of self.now)) }
     {
@@ -212,7 +212,7 @@ impl<A: Allocator> Places<A> {
         None
     }
 
-    /// Makes the tables as long as `room` blocks need. All memory is asked for before the first of them grows.
+    /// Makes the tables as long as `room` blocks need. All memory is allocated before the first of them grows.
     pub fn grow(&mut self, room: usize) -> Result<(), AllocError>
         requires sound { Sound (places_of self.old) }
         requires doubled { IsPowerOfTwo room }
@@ -255,7 +255,7 @@ impl<A: Allocator> Places<A> {
         self.grow(2 * blocks)
     }
 
-    /// Writes the records of the block that comes next into use, and of its slots, if they don't stand in memory yet.
+    /// Writes to memory the records of the block that comes next into use, and of its slots, if they aren't there yet.
     fn bring_in(&mut self)
         requires shaped { Shaped (places_of self.old) }
         requires room { self.old.blocks.active < length self.old.blocks.records.items }
@@ -284,11 +284,11 @@ impl<A: Allocator> Places<A> {
         ensures max_trial { self.new.blocks.max_trial ≡ self.old.blocks.max_trial }
 
         //= `add_block` puts the next block into use with all of its slots free, and changes no other slot.
-        //= The number of blocks then doubles just where all were in use. [by capacity]
+        //= The number of blocks then doubles exactly if all were in use. [by capacity]
         ensures added { IfOk result (λ block. AddsBlock (places_of self.old) (places_of self.new) block) }
 
-        //= It is refused for memory only where all blocks are in use and the limit isn't reached, for slots only where as many as the limit
-        //  allows are in use: so not for memory while blocks are spare.
+        //= It fails for lack of memory only if all blocks are in use and the limit isn't reached, for lack of slots only if as many as the
+        //  limit allows are in use: so not for lack of memory while blocks are spare.
         ensures refused { IfErr result (λ error. MayRefuse (places_of self.old) slots error) }
 
         //= After a refusal the table is as it was, field by field.
@@ -305,7 +305,7 @@ impl<A: Allocator> Places<A> {
         Ok(block)
     }
 
-    /// A free slot outside block 0. A block is made only where there is none.
+    /// Returns a free slot outside block 0. A block is made only if there is none.
     pub fn find_place(&mut self, slots: usize) -> Result<usize, Shortage>
         requires sound { Sound (places_of self.old) }
         requires limit { IsSlotLimit slots }
@@ -314,10 +314,10 @@ impl<A: Allocator> Places<A> {
         ensures within { 256 * length self.new.blocks.records.items ≤ slots }
         ensures max_trial { self.new.blocks.max_trial ≡ self.old.blocks.max_trial }
 
-        //= `find_place` gives a free slot outside block 0.
+        //= `find_place` returns a free slot outside block 0.
         ensures found { IfOk result (λ slot. IsFreePlace (places_of self.new) slot) }
 
-        //= It makes a block, or is refused, only where no slot outside block 0 is free. [with refused]
+        //= It makes a block, or fails, only if no slot outside block 0 is free. [with refused]
         ensures made { IfOk result (λ slot. (places_of self.new ≡ places_of self.old) ⊎ (NoneFree (places_of self.old) × AddsBlock (places_of self.old) (places_of self.new) (slot / 256))) }
         ensures refused { IfErr result (λ error. NoneFree (places_of self.old) × MayRefuse (places_of self.old) slots error) }
 
@@ -376,7 +376,7 @@ impl<A: Allocator> Places<A> {
             .set_counts(block, counts.failed(wanted, max_trial));
     }
 
-    /// The first free slot of `block` that the first label can take with room for all others,
+    /// Returns the first free slot of `block` that the first label can take with room for all others,
     /// if the block's `reject` allows a search.
     fn start_in(&self, block: usize, labels: &[u8]) -> Option<usize>
         requires sound { Sound (places_of self.now) }
@@ -396,7 +396,7 @@ impl<A: Allocator> Places<A> {
         let head = counts.head();
         let mut slot = head;
         for _ in 0..BLOCK_SIZE {
-            // The first label would stand on `slot` itself.
+            // The first label would be on `slot` itself.
             if self.slots.fits(slot ^ first, others) {
                 return Some(slot);
             }
@@ -451,13 +451,13 @@ impl<A: Allocator> Places<A> {
         ensures within { 256 * length self.new.blocks.records.items ≤ slots }
         ensures max_trial { self.new.blocks.max_trial ≡ self.old.blocks.max_trial }
 
-        //= `find_places` gives a base outside block 0 from which the slot of each label is free.
+        //= `find_places` returns a base outside block 0 from which the slot of each label is free.
         ensures found { IfOk result (λ base. IsBase (places_of self.new) base labels.now) }
 
         //= It leaves all slots as they were, or makes one block; after a refusal all slots are as they were. [with err]
         ensures made { IfOk result (λ base. SameSlots (places_of self.old) (places_of self.new) ⊎ AddsBlock (places_of self.old) (places_of self.new) (base / 256)) }
 
-        //= It is refused as `add_block` is.
+        //= It fails as `add_block` does.
         ensures refused { IfErr result (λ error. MayRefuse (places_of self.old) slots error) }
         ensures err { OnErr result (SameSlots (places_of self.old) (places_of self.new)) }
     {

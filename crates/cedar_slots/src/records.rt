@@ -5,7 +5,7 @@ ghost use Rattle.cedar_slots.specs.Slots.{blank_info, blank_node};
 
 use crate::padded::Blank;
 
-/// A slot's numbers. Of a free slot `check` names the next one of its ring, and `base` the one before.
+/// A slot's numbers. In a free slot `check` names the next one of its ring, and `base` the one before.
 #[derive(Clone, Copy, Debug, PartialEq, Eq)]
 pub struct NodeRecord {
     pub base: i32,
@@ -44,7 +44,7 @@ pub struct BlockRecord {
 }
 
 impl BlockRecord {
-    /// Block 0 with the root alone in use: it is in no list but the ring of the full one.
+    /// Block 0 with only the root in use: it is in no list but the ring of the full one.
     pub const ROOT: BlockRecord = BlockRecord {
         prev: 0,
         next: 0,

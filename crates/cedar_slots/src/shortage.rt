@@ -1,4 +1,4 @@
-//! Why no slot can be had.
+//! Why no slot can be given.
 
 ghost use Rattle.std.specs.Prelude.{◌≡◌};
 ghost use Rattle.cedar_slots.specs.declared.shortage.Shortage.TheVariants.{Memory};
@@ -8,9 +8,9 @@ use std::alloc::AllocError;
 /// What an edit of a table lacked.
 #[derive(Clone, Copy, Debug, PartialEq, Eq)]
 pub enum Shortage {
-    /// A request for memory was refused.
+    /// An allocation failed.
     Memory,
-    /// No slot is left, and the limit of slots allows no further block of them.
+    /// No slot is left, and the limit of slots allows no further block.
     SlotLimit,
 }
 

@@ -9,7 +9,7 @@ use std::alloc::Allocator;
 /// The slots of a block.
 pub const BLOCK_SIZE: usize = 256;
 
-/// All slots, those that are not in use among them.
+/// All slots, including those that are not in use.
 #[derive(Drop)]
 pub struct Slots<A: Allocator> {
     pub nodes: Padded<NodeRecord, A>,
@@ -21,7 +21,7 @@ pub struct Slots<A: Allocator> {
 impl<A: Allocator> Slots<A> {
     ghost use Rattle.cedar_slots.specs.Words.{AllFree, base_at, blank_info, check_at, given_after, given_alone, is_free, node_record_at, nodes_after_link, nodes_after_take, SlotLink};
 
-    /// The free slot after `slot` in its ring.
+    /// Returns the free slot after `slot` in its ring.
     pub(crate) fn next_free(&self, slot: usize) -> usize
         requires { slot < self.now.nodes.used }
         ensures { result ≡ unsigned_abs (check_at self.now.nodes.items slot) }
@@ -29,7 +29,7 @@ impl<A: Allocator> Slots<A> {
         self.nodes.at(slot).check.unsigned_abs() as usize
     }
 
-    /// The free slot before `slot` in its ring.
+    /// Returns the free slot before `slot` in its ring.
     pub(crate) fn previous_free(&self, slot: usize) -> usize
         requires { slot < self.now.nodes.used }
         ensures { result ≡ unsigned_abs (base_at self.now.nodes.items slot) }
@@ -152,7 +152,7 @@ impl<A: Allocator> Slots<A> {
         self.nodes.set(0, root);
     }
 
-    /// Whether `slot`, which isn't the root's, is free.
+    /// Returns whether `slot`, which isn't the root's, is free.
     pub(crate) fn is_free(&self, slot: usize) -> bool
         requires slot_in { slot < self.now.nodes.used }
         requires not_root { 0 < slot }
@@ -161,8 +161,8 @@ impl<A: Allocator> Slots<A> {
         self.nodes.at(slot).check < 0
     }
 
-    /// Whether the slots of the first and of the last label are free from `base` on, as they are if all labels' slots are. Both
-    /// are read, since a branch between them would often be guessed wrong.
+    /// Returns whether the slots of the first and of the last label are free from `base` on, as they are if all labels' slots are.
+    /// Both are read, since a branch between them would often be mispredicted.
     fn ends_fit(&self, base: usize, labels: &[u8]) -> bool
         requires fits { self.now.nodes.used ≤ 2 ^ 30 }
         requires base_in { 256 * (base / 256) + 256 ≤ self.now.nodes.used }
@@ -177,7 +177,7 @@ impl<A: Allocator> Slots<A> {
         first & last
     }
 
-    /// Whether each label's slot is free from `base` on.
+    /// Returns whether each label's slot is free from `base` on.
     pub(crate) fn fits(&self, base: usize, labels: &[u8]) -> bool
         requires fits { self.now.nodes.used ≤ 2 ^ 30 }
         requires base_in { 256 * (base / 256) + 256 ≤ self.now.nodes.used }

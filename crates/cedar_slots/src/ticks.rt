@@ -5,12 +5,12 @@ ghost use Rattle.std.specs.Prelude.{◌+◌, ◌<◌, ◌≡◌, ℕ};
 use std::marker::Model;
 use std::sync::ledger::{Blank, Book, Ledger, Share};
 
-/// A count of reads, or of bytes that were asked of memory. It takes no bytes, and only `tick` and `add` change it.
+/// A count of reads, or of bytes requested from the allocator. It takes no bytes, and only `tick` and `add` change it.
 ///
 /// The count is the total of a ledger of std, whose tokens have no bytes either. A plain field would cost room and
-/// additions, or could be set back. Tokens of two ledgers must not be mixed, and since nothing of them is there at run
-/// time, it is their type that tells them apart: so the count, and each call that counts, has the ledger as a type
-/// parameter `C`. A caller passes `Brand` for it, and a fresh `Blank`.
+/// additions, or could be set back. Tokens of two ledgers must not be mixed. Nothing of them is there at run time, so
+/// their type keeps them apart: the count, and each call that counts, has the ledger as a type parameter `C`. A caller
+/// passes `Brand` for it, and a fresh `Blank`.
 #[derive(Drop)]
 pub struct Ticks<C: Ledger> {
     book: Book<C>,
@@ -26,7 +26,7 @@ impl<C: Ledger> Model for Ticks<C> {
 }
 
 impl<C: Ledger> Ticks<C> {
-    /// No ticks yet.
+    /// Makes a count without ticks.
     pub fn new(blank: Blank) -> Ticks<C>
         requires name { blank.name ≡ C.name }
         requires parts { blank.parts ≡ C.parts }

@@ -1,10 +1,9 @@
 -- A file that has one record for each entry of a dictionary.
 use Rattle.std.specs.Prelude.{◌&&◌, ◌-◌, ◌*◌, fold, int_le, max, nat_lt, pos, Bool, false, IfErr, IsErrAnd, OnOk, Result, Ok, Err, option_and_then, option_map, Option, Some, None, IfSome}
-use Rattle.std.proofs.Common.{◌≡◌, ⊎_elim, ℕ, zero, suc, ◌+◌, ℤ, true, List, [], ◌∷◌, ◌++◌, refl, sym, ◌∙◌, ap, subst, arith}
+use Rattle.std.proofs.Common.{◌≡◌, ℕ, zero, suc, ◌+◌, ℤ, true, List, [], ◌∷◌, ◌++◌, refl, sym, ◌∙◌, ap, subst, arith}
 use Rattle.std.proofs.lemmas.Bool.Decides.{nat_tests}
 use Rattle.std.specs.List.{AllByRecursion, Contains}
 use Rattle.cedar_journal.specs.Files.{recovered, added}
-use Rattle.cedar_journal.specs.Journal.{StandsForEither}
 use Rattle.cedar_tree.specs.Queries.{Entry, walk}
 use Rattle.cedar_tree.specs.State.{State, new_state}
 use Rattle.cedar_tree.specs.Tree.{AllNumbers, IsAscending, IsKey, IsPath, IsSound, Tree, number_at, put}
@@ -22,7 +21,7 @@ use Rattle.cedar_store.specs.declared.compaction.Compaction.TheVariants.{Never, 
 use Rattle.cedar_store.specs.declared.compaction.CompactError.{CompactError}
 use Rattle.cedar_store.specs.declared.compaction.CompactError.TheVariants as error
 use Rattle.cedar_store.specs.Compactions.{CompactCause, is_beyond, IsBeforeReplacing, LeavesFile}
-use Rattle.cedar_store.specs.Files.{state_of, StandsFor}
+use Rattle.cedar_store.specs.Files.{state_of}
 use Rattle.cedar_store.proofs.States.{replayed_more}
 
 -- ---- no entry of a dictionary has a fault
@@ -90,13 +89,6 @@ state_more file c p more = ap (option_and_then (replayed new_state)) more ∙ wi
     with_one : (r : Option (List (List ℕ))) → option_and_then (replayed new_state) (added p r) ≡ option_and_then (λ s. after s p) (option_and_then (replayed new_state) r)
     with_one None = refl
     with_one (Some ps) = replayed_more ps p new_state
-
--- a file in whose place another one is put: both stand for one state
-pub stands_still : (file c : List ℕ) (payloads : List (List ℕ)) (s : State) → state_of file ≡ Some s → replayed new_state payloads ≡ Some s → StandsForEither (recovered file) payloads c → StandsFor s c
-stands_still file c payloads s is made outcome = ⊎_elim
-    (λ before. ap (option_and_then (replayed new_state)) before ∙ is)
-    (λ now. ap (option_and_then (replayed new_state)) now ∙ made)
-    outcome
 
 -- ---- the rule
 

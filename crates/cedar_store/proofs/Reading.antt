@@ -2,10 +2,8 @@
 use Rattle.std.specs.Prelude.{option_and_then, Option, Some, IsSome, IfErr, Result, Ok, Err}
 use Rattle.std.proofs.Common.{◌≡◌, ℕ, ◌+◌, true, false, List, length, drop, refl, sym, ◌∙◌, ap, subst}
 use Rattle.std.proofs.lemmas.List.{drop-drop}
-use Rattle.cedar_journal.specs.declared.records.Extent.{Extent}
-use Rattle.cedar_journal.specs.declared.records.Extent.TheVariants.{New, Until}
 use Rattle.cedar_journal.specs.Records.{has_record, payload, behind_record, payloads_in}
-use Rattle.cedar_journal.specs.Files.{recovered, HasExtent, HasRecords, IsNewFile}
+use Rattle.cedar_journal.specs.Files.{HasRecords, IsNewFile}
 use Rattle.cedar_journal.proofs.Reading.{payloads_first, payloads_none}
 use Rattle.cedar_tree.specs.State.{State, new_state}
 use Rattle.cedar_store.specs.declared.error.DurableError.{DurableError}
@@ -45,10 +43,6 @@ pub ended : (bytes b : List ℕ) (at : ℕ) (s : State) → b ≡ drop at bytes 
 ended bytes b at s here lacks = ap (λ l. replayed s (payloads_in l)) (sym here) ∙ ap (replayed s) (payloads_none b lacks)
 
 -- ---- a whole file
-
-pub has_stands : (file : List ℕ) (extent : Extent) → HasExtent file extent → IsSome (recovered file)
-has_stands file New new = subst IsSome (sym new.stands) refl
-has_stands file (Until end) records = subst IsSome (sym records.stands) refl
 
 pub new_stands : (file : List ℕ) → IsNewFile file → state_of file ≡ Some new_state
 new_stands file new = ap (option_and_then (replayed new_state)) new.stands

@@ -1,11 +1,12 @@
 -- The changes of a batch as records, written one behind another.
 use Rattle.std.specs.Prelude.{option_map, option_and_then, Option, Some, None}
-use Rattle.std.proofs.Common.{◌≡◌, ℕ, zero, suc, ◌+◌, ◌≤◌, ◌<◌, true, List, [], ◌∷◌, ◌++◌, length, get_or, refl, sym, ◌∙◌, ap, append_assoc, arith, length-append}
+use Rattle.std.proofs.Common.{◌≡◌, ℕ, zero, suc, ◌+◌, ◌≤◌, ◌<◌, true, List, [], ◌∷◌, ◌++◌, length, get_or, refl, ◌∙◌, ap, arith, length-append}
 use Rattle.std.proofs.lemmas.List.{drop_all, take_all}
 use Rattle.std.specs.List.{AllByRecursion}
 use Rattle.cedar_journal.specs.Records.{payload_length, payload, behind_record, has_record, payloads_in, AreWholeRecords}
+use Rattle.cedar_journal.proofs.Fronts.{front_and, front_of_none, one_record, record_is_front}
 use Rattle.cedar_journal.proofs.Numbers.{told_length}
-use Rattle.cedar_journal.proofs.Reading.{behind_and_rest, is_record, nothing_there, payloads_first, payloads_none, same_payload, still_there}
+use Rattle.cedar_journal.proofs.Reading.{is_record, nothing_there, payloads_none}
 use Rattle.cedar_store.specs.declared.error.DurableError.{DurableError}
 use Rattle.cedar_store.specs.declared.error.DurableError.TheVariants as error
 use Rattle.cedar_store.specs.Batches.{batch_length, change_length, record_of}
@@ -13,29 +14,6 @@ use Rattle.cedar_store.specs.Causes.{FrameCause, PayloadCause}
 use Rattle.cedar_store.specs.Changes.{Change, change_of, changes_of, each_change, records_length}
 use Rattle.cedar_store.proofs.Batched.{whole_batch}
 use Rattle.cedar_store.proofs.Payloads.{of_batch}
-
--- ---- records one behind another, each of which is read as if it stood alone
-
-pub front_of_none : AreWholeRecords []
-front_of_none rest = ap (λ (l : List (List ℕ)). l ++ payloads_in rest) (sym (payloads_none [] nothing_there))
-
-front_and : (a b : List ℕ) → AreWholeRecords a → AreWholeRecords b → AreWholeRecords (a ++ b)
-front_and a b first second rest =
-    ap payloads_in (append_assoc a b rest) ∙ first (b ++ rest) ∙ ap (λ (l : List (List ℕ)). payloads_in a ++ l) (second rest)
-    ∙ sym (append_assoc (payloads_in a) (payloads_in b) (payloads_in rest)) ∙ ap (λ (l : List (List ℕ)). l ++ payloads_in rest) (sym (first b))
-
-module _ (r : List ℕ) (has : has_record r ≡ true) (alone : behind_record r ≡ []) where
-  one_record : payloads_in r ≡ payload r ∷ []
-  one_record = payloads_first r has ∙ ap (λ (l : List ℕ). payload r ∷ payloads_in l) alone ∙ ap (λ (l : List (List ℕ)). payload r ∷ l) (payloads_none [] nothing_there)
-
-  record_is_front : AreWholeRecords r
-  record_is_front rest =
-      payloads_first (r ++ rest) (still_there r rest has)
-      ∙ both_parts (same_payload r rest has) (behind_and_rest r rest has ∙ ap (λ (l : List ℕ). l ++ rest) alone)
-      ∙ ap (λ (l : List (List ℕ)). l ++ payloads_in rest) (sym one_record)
-    where
-      both_parts : payload (r ++ rest) ≡ payload r → behind_record (r ++ rest) ≡ rest → payload (r ++ rest) ∷ payloads_in (behind_record (r ++ rest)) ≡ payload r ∷ payloads_in rest
-      both_parts p b = λ i. p i ∷ payloads_in (b i)
 
 -- ---- the record of one payload
 

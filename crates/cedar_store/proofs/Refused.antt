@@ -2,8 +2,7 @@
 use Rattle.std.proofs.Common.{ℕ, List, Bool}
 use Rattle.cedar_store.specs.declared.error.DurableError.{DurableError}
 use Rattle.cedar_store.specs.declared.error.DurableError.TheVariants as error
-use Rattle.cedar_store.specs.Batches.{batch_length}
-use Rattle.cedar_store.specs.Causes.{BatchCause, FrameCause, IsRefusedAt, Leaves, PrepareCause}
+use Rattle.cedar_store.specs.Causes.{BatchCause, IsRefusedAt, Leaves, PrepareCause}
 use Rattle.cedar_store.specs.Changes.{Change}
 
 pub refused_cause : (changes : List Change) (end : ℕ) (e : DurableError) → IsRefusedAt changes e → PrepareCause changes end e
@@ -15,16 +14,6 @@ refused_cause changes end error.Foreign cause = cause
 refused_cause changes end error.Corrupt cause = cause
 refused_cause changes end (error.Device e) cause = cause
 refused_cause changes end error.Failed cause = cause
-
-pub frame_refused : (changes : List Change) (end : ℕ) (e : DurableError) → FrameCause end (batch_length changes) e → PrepareCause changes end e
-frame_refused changes end (error.RefusedAt index e) cause = absurd cause
-frame_refused changes end (error.Refused e) cause = cause
-frame_refused changes end error.TooLong cause = cause
-frame_refused changes end error.Full cause = cause
-frame_refused changes end error.Foreign cause = cause
-frame_refused changes end error.Corrupt cause = cause
-frame_refused changes end (error.Device e) cause = cause
-frame_refused changes end error.Failed cause = cause
 
 pub batch_cause : (failed : Bool) (changes : List Change) (end before now : ℕ) (e : DurableError) → PrepareCause changes end e → BatchCause failed changes end before now e
 batch_cause failed changes end before now (error.RefusedAt index e) cause = cause

@@ -1,8 +1,8 @@
 //! A batch of changes, made in a dictionary.
 //!
-//! An update can be taken back without memory, and an erasure can't: its key would want slots again. So the updates are made first, and the
+//! An update can be undone without memory, and an erasure can't: its key would need slots again. So the updates are made first, and the
 //! erasures once nothing can be refused any more. One whose key a later change puts again isn't made at all. What each key holds in the end
-//! is what its last change says, so the tree is the one that all changes leave in their order.
+//! is what its last change sets, so the tree is the one that all changes leave in their order.
 
 ghost use Rattle.std.specs.Prelude.{◌+◌, ◌<◌, ◌^◌, ◌≡◌, ◌≤◌, ◌⊎◌, IfErr, IfOk, List, OnErr, OnOk, Some, drop, false, if◌then◌else◌, length, true, ℕ};
 ghost use Rattle.cedar_store.specs.Words.{all_changed, all_erased_late, all_updated, change_at, change_fault, change_told, changes_of, changes_told, erased, is_put_by, late_erased, only_updated, payload_of, puts, AllByRecursion, AreHeld, HasKey, IsFaultless, IsHeld, IsRefusedAt, IsShortage, PrepareCause, State};
@@ -14,8 +14,8 @@ use cedar_journal::Frame;
 use cedarwood::CedarError;
 use std::alloc::Allocator;
 
-/// Makes a batch in a dictionary whose labels ascend, and returns the batch's record for a file whose records end here. Where anything is
-/// refused, the dictionary stays.
+/// Makes a batch in a dictionary whose labels ascend, and returns the batch's record for a file whose records end here. If anything is
+/// refused, the dictionary stays as it was.
 pub(crate) fn make<T: Words, A: Allocator + Copy>(
     words: &mut T,
     alloc: A,
@@ -30,14 +30,14 @@ pub(crate) fn make<T: Words, A: Allocator + Copy>(
     ensures err { OnErr result ((T.state words.new) ≡ (T.state words.old)) }
     ensures cause { IfErr result (λ error. PrepareCause (changes_told changes.now) end error) }
 {
-    // A dictionary is sound, and its labels ascend: so its tree is known by what each key holds.
+    // A dictionary is sound, and its labels ascend: so what each key holds decides its tree.
     let _ = words.count();
     let batch = prepare(words, alloc, end, changes)?;
     erase_rest(words, changes);
     Ok(batch)
 }
 
-/// Makes the updates of a batch, and the batch's record for a file whose records end here. Where anything is refused, no update stays.
+/// Makes the updates of a batch, and the batch's record for a file whose records end here. If anything is refused, no update stays.
 fn prepare<T: Words, A: Allocator + Copy>(
     words: &mut T,
     alloc: A,
@@ -64,7 +64,7 @@ fn prepare<T: Words, A: Allocator + Copy>(
     }
 }
 
-/// Makes the updates among some changes, and notes what each key held before. Where one is refused, none stays.
+/// Makes the updates among some changes, and notes what each key held before. If one is refused, none stays.
 fn update_all<T: Words>(
     words: &mut T,
     changes: &[Change<'_>],
@@ -110,7 +110,7 @@ fn update_one<T: Words>(words: &mut T, change: &Change<'_>) -> Result<Option<i32
     }
 }
 
-/// Takes the updates among some changes back, whose keys held this before, the last one first. It takes no memory.
+/// Takes the updates among some changes back, whose keys held this before, the last one first. It allocates nothing.
 fn take_all_back<T: Words>(words: &mut T, changes: &[Change<'_>], held: &[Option<i32>])
     requires { length changes.now ≤ length held.now }
     ensures { (s : State) → AreHeld s (changes_told changes.now) held.now → (T.state words.old) ≡ all_updated s (changes_told changes.now) → (T.state words.new) ≡ s }
@@ -164,7 +164,7 @@ fn erase_unless<T: Words>(words: &mut T, key: &[u8], put: bool)
     }
 }
 
-/// Where the last update among some changes ends: behind it there are erasures alone.
+/// Where the last update among some changes ends: after it there are only erasures.
 fn updates_end(changes: &[Change<'_>]) -> usize
     ensures within { result ≤ length changes.now }
     ensures no_more { (path : List ℕ) → is_put_by path (drop result (changes_told changes.now)) ≡ false }

@@ -12,8 +12,8 @@ use cedarwood::{Entries, Walked};
 use std::alloc::Allocator;
 
 impl<T: Words, A: Allocator + Copy, D: ReplaceDevice> Store<T, A, D> {
-    /// Puts a file of one record for each entry in the place of the one that has all changes. It is made beside that, so what was
-    /// acknowledged stays, whenever the process or the machine stops.
+    /// Replaces the file that has all changes by one with a record for each entry. It is made beside that, so what was acknowledged stays,
+    /// whenever the process or the machine stops.
     ///
     /// # Errors
     /// `Memory`, `TooLong` and `Kept`: the old file is there, and the store goes on with it. `Failed`: the device failed, or the store has
@@ -21,7 +21,7 @@ impl<T: Words, A: Allocator + Copy, D: ReplaceDevice> Store<T, A, D> {
     pub fn compact(&mut self) -> Result<(), CompactError>
         requires ready { IsReadyStore D.seen D.may_leave T.state self.old }
 
-        //= A file that was compacted has one record for each entry and nothing else; it stands for the dictionary, on the disk, and the
+        //= A file that was compacted has one record for each entry and nothing else. It stands for the dictionary, on the disk, and the
         //  dictionary is as it was. [with ready, words]
         ensures compacted { OnOk result ((self.new.failed ≡ false)
             × (length (D.seen self.new.journal.device) ≡ compacted_length (walk (T.state self.old.words).tree))) }
@@ -31,11 +31,11 @@ impl<T: Words, A: Allocator + Copy, D: ReplaceDevice> Store<T, A, D> {
         //= A crash at any moment of a compaction leaves a file that stands for the dictionary.
         ensures any_moment { self.old.failed ≡ false → CrashLeavesState D.moment D.left_since T.state self.old self.new }
 
-        //= A compaction is refused only where the store has failed before, for want of memory, where the record of an entry would be too
-        //  long, or where the device failed or kept the file.
+        //= A compaction fails only if the store has failed before, for lack of memory, if the record of an entry would be too long, or if
+        //  the device failed or kept the file.
         ensures cause { IfErr result (λ e. CompactCause self.old.failed (D.faults self.old.journal.device) (D.faults self.new.journal.device) e) }
 
-        //= After `Failed` the store has failed; after any other error the file is as it was, byte for byte, and the store goes on.
+        //= After `Failed` the store has failed. After any other error the file is as it was, byte for byte, and the store goes on.
         ensures err { IfErr result (λ e. LeavesFile e (self.new.failed ≡ true)
             ((self.new.failed ≡ self.old.failed) × (D.seen self.new.journal.device ≡ D.seen self.old.journal.device))) }
     {
@@ -49,7 +49,7 @@ impl<T: Words, A: Allocator + Copy, D: ReplaceDevice> Store<T, A, D> {
         }
     }
 
-    /// Writes a record of a change that the dictionary has, and makes the file short where it has grown too long.
+    /// Writes a record of a change that the dictionary has, and makes the file short if it has grown too long.
     pub(crate) fn acknowledge(&mut self, frame: &Frame<A>) -> Result<(), DurableError>
         requires settled { IsSettled D.seen D.may_leave self.old.journal.device self.old.journal.end }
         requires usable { self.old.failed ≡ false }
@@ -67,8 +67,8 @@ impl<T: Words, A: Allocator + Copy, D: ReplaceDevice> Store<T, A, D> {
         self.compact_if_due()
     }
 
-    /// Compacts the file where it is too long for what the entries take. It is looked at again once it is so much longer than it is now:
-    /// so all looks together cost no more than what was written, times a constant.
+    /// Compacts the file if it is too long for what the entries take. It is looked at again once it is so much longer than it is now: so
+    /// all looks together cost no more than what was written, times a constant.
     fn compact_if_due(&mut self) -> Result<(), DurableError>
         requires consistent { IsConsistent D.seen D.may_leave self.old.journal.device self.old.journal.end (T.state self.old.words) }
         requires usable { self.old.failed ≡ false }
@@ -84,14 +84,14 @@ impl<T: Words, A: Allocator + Copy, D: ReplaceDevice> Store<T, A, D> {
             return Ok(());
         }
         self.base = end;
-        // Want of memory and a device that keeps the file are no errors of the change, which is acknowledged.
+        // Lack of memory and a device that keeps the file are no errors of the change, which is acknowledged.
         match self.words.image(self.alloc) {
             Ok(image) => self.replace_if_shorter(&image),
             Err(_) => Ok(()),
         }
     }
 
-    /// Puts a file of the entries in the place of the one that is there, if that is too long for these.
+    /// Replaces the file by one of the entries, if it is too long for these.
     fn replace_if_shorter(&mut self, image: &Image<A>) -> Result<(), DurableError>
         requires consistent { IsConsistent D.seen D.may_leave self.old.journal.device self.old.journal.end (T.state self.old.words) }
         requires usable { self.old.failed ≡ false }
@@ -116,7 +116,7 @@ impl<T: Words, A: Allocator + Copy, D: ReplaceDevice> Store<T, A, D> {
         }
     }
 
-    /// Puts a file that stands for the dictionary in the place of the one that is there.
+    /// Replaces the file by one that stands for the dictionary.
     fn put_in_place(&mut self, image: &Image<A>) -> Result<(), ReplaceError>
         requires consistent { IsConsistent D.seen D.may_leave self.old.journal.device self.old.journal.end (T.state self.old.words) }
         requires usable { self.old.failed ≡ false }
@@ -165,7 +165,7 @@ pub(crate) fn image_of<T: Walked, A: Allocator + Copy, B: Allocator + Copy>(
     Ok(image)
 }
 
-/// Puts an entry behind the others of a file.
+/// Adds an entry after the others of a file.
 fn push_entry<B: Allocator + Copy>(
     image: &mut Image<B>,
     alloc: B,

@@ -13,9 +13,9 @@ use std::fmt;
 pub enum Compaction {
     /// Never: only `compact` does it.
     Never,
-    /// Where the file is longer than `factor` times what its entries take, and `spare` bytes more.
+    /// If the file is longer than `factor` times what its entries take, and `spare` bytes more.
     Beyond {
-        /// A factor below 2 counts as 2: else the cost wouldn't be linear in what is written.
+        /// A factor below 2 counts as 2: otherwise the cost wouldn't be linear in what is written.
         factor: usize,
         /// So many bytes a file may always be too long.
         spare: usize,
@@ -50,7 +50,7 @@ impl Compaction {
 /// Why a file wasn't compacted. What was acknowledged stays in any case.
 #[derive(Clone, Copy, Debug, PartialEq, Eq)]
 pub enum CompactError {
-    /// A request for memory was refused. Nothing has changed.
+    /// An allocation was refused. Nothing has changed.
     Memory,
     /// The record of an entry would have 2^32 bytes or more. Nothing has changed.
     TooLong,
@@ -61,7 +61,7 @@ pub enum CompactError {
 }
 
 impl From<AllocError> for CompactError {
-    //= Want of memory for a compaction is told as `Memory`.
+    //= Lack of memory for a compaction is reported as `Memory`.
     ghost from_gives = { λ _ error. error ≡ CompactMemory };
 
     fn from(_: AllocError) -> CompactError {
@@ -70,7 +70,7 @@ impl From<AllocError> for CompactError {
 }
 
 impl From<FrameError> for CompactError {
-    //= Why no record could be made of an entry is handed on.
+    //= The reason why no record of an entry could be made is passed on.
     ghost from_gives = { λ inner error. error ≡ compact_error inner };
 
     fn from(inner: FrameError) -> CompactError {
@@ -82,7 +82,7 @@ impl From<FrameError> for CompactError {
 }
 
 impl From<ReplaceError> for CompactError {
-    //= Why the file wasn't replaced is handed on.
+    //= The reason why the file wasn't replaced is passed on.
     ghost from_gives = { λ inner error. error ≡ replace_error inner };
 
     fn from(inner: ReplaceError) -> CompactError {
@@ -94,7 +94,7 @@ impl From<ReplaceError> for CompactError {
 }
 
 impl fmt::Display for CompactError {
-    //= So is that of each error of a compaction. [by compact_error_text]
+    //= So is the text of each error of a compaction. [by compact_error_text]
     ghost output = { λ error. Some (compact_error_text error) };
 
     fn fmt<W: fmt::Write>(&self, f: &mut fmt::Formatter<W>) -> fmt::Result {

@@ -14,20 +14,20 @@ use std::fmt;
 pub enum DurableError {
     /// The file is of another kind. Nothing has been written.
     Foreign,
-    /// A record of the file is no change of a dictionary. Nothing has been written.
+    /// A record of the file is not a change of a dictionary. Nothing has been written.
     Corrupt,
-    /// The pair has a fault, or a request for memory or slots was refused. Nothing has changed.
+    /// The pair has a fault, or memory or slots were refused. Nothing has changed.
     Refused(CedarError),
-    /// A change of a batch has a fault, or a request for memory or slots was refused for it. Nothing has changed.
+    /// A change of a batch has a fault, or memory or slots were refused for it. Nothing has changed.
     RefusedAt {
-        /// The place of the change, counted from 0.
+        /// The index of the change, counted from 0.
         index: usize,
-        /// What the change's own update answers.
+        /// The error of the change's own update.
         error: CedarError,
     },
     /// The change has 2^32 bytes or more. Nothing has changed.
     TooLong,
-    /// The file's records end behind 2^60 bytes. Nothing has changed.
+    /// The file's records end after 2^60 bytes. Nothing has changed.
     Full,
     /// The device failed. From then on each change is refused by `Failed`, until the file is opened again.
     Device(DeviceError),
@@ -36,7 +36,7 @@ pub enum DurableError {
 }
 
 impl From<ForeignFile> for DurableError {
-    //= A file of another kind is told as `Foreign`.
+    //= A file of another kind is reported as `Foreign`.
     ghost from_gives = { λ _ error. error ≡ Foreign };
 
     fn from(_: ForeignFile) -> DurableError {
@@ -45,7 +45,7 @@ impl From<ForeignFile> for DurableError {
 }
 
 impl From<CedarError> for DurableError {
-    //= What a dictionary refuses is handed on as `Refused`.
+    //= What a dictionary refuses is passed on as `Refused`.
     ghost from_gives = { λ inner error. error ≡ Refused inner };
 
     fn from(inner: CedarError) -> DurableError {
@@ -54,7 +54,7 @@ impl From<CedarError> for DurableError {
 }
 
 impl From<AllocError> for DurableError {
-    //= Want of memory is told as `Memory`.
+    //= Lack of memory is reported as `Memory`.
     ghost from_gives = { λ _ error. error ≡ Refused Memory };
 
     fn from(_: AllocError) -> DurableError {
@@ -63,7 +63,7 @@ impl From<AllocError> for DurableError {
 }
 
 impl<T: Drop> From<AllocFailed<T>> for DurableError {
-    //= So is want of room for one value more.
+    //= So is lack of room for one value more.
     ghost from_gives = { λ _ error. error ≡ Refused Memory };
 
     fn from(_: AllocFailed<T>) -> DurableError {
@@ -72,7 +72,7 @@ impl<T: Drop> From<AllocFailed<T>> for DurableError {
 }
 
 impl From<FrameError> for DurableError {
-    //= Why no record could be made is handed on.
+    //= The reason why no record could be made is passed on.
     ghost from_gives = { λ inner error. error ≡ frame_error inner };
 
     fn from(inner: FrameError) -> DurableError {
@@ -84,7 +84,7 @@ impl From<FrameError> for DurableError {
 }
 
 impl From<JournalError> for DurableError {
-    //= Why a record wasn't written is handed on.
+    //= The reason why a record wasn't written is passed on.
     ghost from_gives = { λ inner error. error ≡ journal_error inner };
 
     fn from(inner: JournalError) -> DurableError {
@@ -96,7 +96,7 @@ impl From<JournalError> for DurableError {
 }
 
 impl From<DeviceError> for DurableError {
-    //= A device's error is handed on as `Device`.
+    //= A device's error is passed on as `Device`.
     ghost from_gives = { λ inner error. error ≡ Device inner };
 
     fn from(inner: DeviceError) -> DurableError {
@@ -105,7 +105,7 @@ impl From<DeviceError> for DurableError {
 }
 
 impl fmt::Display for DurableError {
-    //= The text of each error of a store is known byte by byte. [by durable_error_text]
+    //= The text of each error of a store is given byte by byte. [by durable_error_text]
     ghost output = { λ error. Some (durable_error_text error) };
 
     fn fmt<W: fmt::Write>(&self, f: &mut fmt::Formatter<W>) -> fmt::Result {

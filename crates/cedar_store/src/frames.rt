@@ -69,10 +69,10 @@ fn frame_of<A: Allocator + Copy>(
     Ok(Frame::new(alloc, payload)?)
 }
 
-/// Returns the payload of a put, for which it asks for as many bytes. The pair has no fault.
+/// Returns the payload of a put, and allocates as many bytes for it. The pair has no fault.
 ///
 /// # Errors
-/// Where the request was refused.
+/// If the allocation was refused.
 pub fn put_payload<A: Allocator + Copy>(
     alloc: A,
     key: &[u8],
@@ -95,10 +95,10 @@ pub fn put_payload<A: Allocator + Copy>(
     Ok(payload)
 }
 
-/// Returns the payload of an erasure, for which it asks for as many bytes.
+/// Returns the payload of an erasure, and allocates as many bytes for it.
 ///
 /// # Errors
-/// Where the request was refused.
+/// If the allocation was refused.
 pub fn erase_payload<A: Allocator + Copy>(alloc: A, key: &[u8]) -> Result<Vec<u8, A>, AllocError>
     //= The payload of an erasure has that change, and one byte more than the key. [with length]
     ensures change { IfOk result (λ payload. change_of payload.items ≡ Some (erase_at key.now)) }
@@ -111,7 +111,7 @@ pub fn erase_payload<A: Allocator + Copy>(alloc: A, key: &[u8]) -> Result<Vec<u8
     Ok(payload)
 }
 
-/// The payload of a batch: behind the operation, each change as a record of its own.
+/// The payload of a batch: after the operation, each change as a record of its own.
 fn batch_payload<A: Allocator + Copy>(
     alloc: A,
     changes: &[Change<'_>],
@@ -129,7 +129,7 @@ fn batch_payload<A: Allocator + Copy>(
     Ok(payload)
 }
 
-/// Writes a change as a record behind some bytes.
+/// Writes a change as a record after some bytes.
 fn push_change<A: Allocator + Copy>(
     bytes: &mut Vec<u8, A>,
     alloc: A,
@@ -162,7 +162,7 @@ fn change_payload<A: Allocator + Copy>(
     }
 }
 
-/// Writes a payload as a record behind some bytes: an open gate, its length, and itself.
+/// Writes a payload as a record after some bytes: an open gate, its length, and itself.
 fn push_record<A: Allocator>(bytes: &mut Vec<u8, A>, payload: &[u8]) -> Result<(), AllocError>
     ensures { OnOk result (bytes.new.items ≡ bytes.old.items ++ record_of payload.now) }
 {

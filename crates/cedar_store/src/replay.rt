@@ -21,14 +21,14 @@ pub const BATCH: u8 = 2;
 /// Returns the dictionary that a file's bytes stand for, and how far the file goes.
 ///
 /// # Errors
-/// `Foreign` where the file is of another kind, `Corrupt` where a record is no change, `Refused` where memory or slots were refused.
+/// `Foreign` if the file is of another kind, `Corrupt` if a record is not a change, `Refused` if memory or slots were refused.
 pub fn words_of<T: Made<A>, A: Allocator>(
     alloc: A,
     bytes: &[u8],
 ) -> Result<(T, Extent), DurableError>
     requires limit { T.limit }
-    //= A file's bytes are read as a dictionary, the one that they stand for; they are refused as foreign or corrupt just as by an opening. [with
-    //  extent, cause]
+    //= A file's bytes are read as the dictionary that they stand for. They are refused as foreign or corrupt exactly as by an opening.
+    //  [with extent, cause]
     ensures made { IfOk result (λ found. state_of bytes.now ≡ Some (T.state found.0)) }
     ensures extent { IfOk result (λ found. HasExtent bytes.now found.1) }
     ensures cause { IfErr result (λ error. LoadCause bytes.now error) }
@@ -79,7 +79,7 @@ fn apply<T: Words>(words: &mut T, payload: &[u8]) -> Result<(), DurableError>
     apply_one(words, payload)
 }
 
-/// Makes the changes of a batch, whose records these bytes are, with nothing behind them.
+/// Makes the changes of a batch, whose records these bytes are, with nothing after them.
 fn apply_batch<T: Words>(words: &mut T, bytes: &[u8]) -> Result<(), DurableError>
     ensures state { OnOk result (option_map (all_changed (T.state words.old)) (batch_of bytes.now) ≡ Some (T.state words.new)) }
     ensures cause { IfErr result (λ error. ReplayCause (option_map (all_changed (T.state words.old)) (batch_of bytes.now)) error) }

@@ -23,14 +23,14 @@ pub struct Store<T: Words, A: Allocator, D: Device> {
     pub(crate) words: T,
     pub(crate) failed: bool,
     pub(crate) compaction: Compaction,
-    // Where the records ended when it was last looked whether the file is too long: 0 before.
+    // Where the records ended at the last test of whether the file is too long: 0 before.
     pub(crate) base: usize,
 }
 
-/// The store of a dictionary by default.
+/// The default store of a dictionary.
 pub type CedarStore<A, D> = Store<Cedar<A>, A, D>;
 
-/// The store of a dictionary of fewer slots.
+/// The store of a dictionary of the reduced layout.
 pub type ReducedStore<A, D> = Store<ReducedCedar<A>, A, D>;
 
 /// Reads a file, and returns the dictionary that it stands for, and how far it goes.
@@ -66,36 +66,36 @@ fn read_file<A: Allocator, D: Device>(alloc: A, device: &mut D) -> Result<Vec<u8
 }
 
 impl<T: Made<A>, A: Allocator + Copy, D: Device> Store<T, A, D> {
-    /// Opens a file that a crash may have left: makes its changes again, and cuts its end behind the whole records. A new file gets its
+    /// Opens a file that a crash may have left: makes its changes again, and cuts the file after the whole records. A new file gets its
     /// header.
     ///
     /// # Errors
-    /// With the device: `Foreign` where the file is of another kind, `Corrupt` where a record is no change, `Refused` where memory or slots
-    /// were refused; then nothing has been written. `Device` where the device failed; the file stands for the same dictionary.
+    /// With the device: `Foreign` if the file is of another kind, `Corrupt` if a record is not a change, `Refused` if memory or slots were
+    /// refused; then nothing has been written. `Device` if the device failed; the file stands for the same dictionary.
     pub fn open(alloc: A, device: D) -> Result<Self, (DurableError, D)>
         requires limit { T.limit }
         // After a restart, what is read is what is on the disk.
         requires restarted { Only (D.seen device) (D.may_leave device) }
 
-        //= An opened store is ready, and its dictionary is the one that the file stood for. So none is opened of a file of another kind, or of
-        //  one with a record that is no change. [with made, sound]
+        //= An opened store is ready, and its dictionary is the one that the file stood for. So no store is opened of a file of another
+        //  kind, or of one with a record that is no change. [with made, sound]
         ensures ready { IfOk result (λ store. (store.failed ≡ false)
             × IsConsistent D.seen D.may_leave store.journal.device store.journal.end (T.state store.words)) }
         ensures made { IfOk result (λ store. state_of (D.seen device) ≡ Some (T.state store.words)) }
         ensures sound { IfOk result (λ _. IsCorrupt (D.seen device) → ⊥) }
 
-        //= A crash at any moment while it is opened leaves a file that stands for the same dictionary; also where it isn't opened. [with
+        //= A crash at any moment while it is opened leaves a file that stands for the same dictionary, even if it isn't opened. [with
         //  any_moment_err]
         ensures any_moment { IfOk result (λ store. LeavesOnly D.moment D.left_since device store.journal.device
             (λ c. state_of c ≡ state_of (D.seen device))) }
         ensures any_moment_err { IfErr result (λ e. LeavesOnly D.moment D.left_since device e.1
             (λ c. state_of c ≡ state_of (D.seen device))) }
 
-        //= A file is refused as foreign just where it is of another kind, as corrupt where one of its records is no change, else only for want
-        //  of memory or slots, or where the device failed, which told `Failed` only where the disk has failed.
+        //= A file is refused as foreign exactly if it is of another kind, as corrupt if one of its records is no change, and otherwise only
+        //  for lack of memory or slots, or if the device failed, which reported `Failed` only if the disk has failed.
         ensures cause { IfErr result (λ e. OpenCause (D.seen device) (D.faults device) (D.faults e.1) e.0) }
 
-        //= A file that is refused by anything but the device stays byte for byte as it was, whenever a crash comes. [with seen]
+        //= A file that is refused for any other reason than the device stays byte for byte as it was, whenever a crash comes. [with seen]
         ensures untouched { IfErr result (λ e. IsBeforeWrites e.0 → LeavesOnly D.moment D.left_since device e.1 (λ c. c ≡ D.seen device)) }
         ensures seen { IfErr result (λ e. IsBeforeWrites e.0 → D.seen e.1 ≡ D.seen device) }
     {
@@ -120,7 +120,7 @@ impl<T: Made<A>, A: Allocator + Copy, D: Device> Store<T, A, D> {
 impl<T: Words, A: Allocator + Copy, D: Device> Store<T, A, D> {
     /// The dictionary, for look-ups and walks.
     pub fn dictionary(&self) -> &T
-        //= The dictionary of a store can be looked at by all calls that don't change it.
+        //= All calls that don't change the dictionary of a store can be made on it.
         ensures { result.now ≡ self.now.words }
     {
         &self.words
@@ -128,7 +128,7 @@ impl<T: Words, A: Allocator + Copy, D: Device> Store<T, A, D> {
 
     /// Whether the device has failed in a change. Then each later change is refused, until the file is opened again.
     pub fn has_failed(&self) -> bool
-        //= A store tells whether it has failed.
+        //= A store says whether it has failed.
         ensures { result ≡ self.now.failed }
     {
         self.failed
@@ -136,7 +136,7 @@ impl<T: Words, A: Allocator + Copy, D: Device> Store<T, A, D> {
 
     /// Hands the device back.
     pub fn into_device(self) -> D
-        //= A store hands its device back.
+        //= A store returns its device.
         ensures { result ≡ self.journal.device }
     {
         self.journal.device
@@ -144,7 +144,7 @@ impl<T: Words, A: Allocator + Copy, D: Device> Store<T, A, D> {
 
     /// When the store compacts its file by itself.
     pub fn compaction(&self) -> Compaction
-        //= A store tells when it compacts its file by itself.
+        //= A store says when it compacts its file by itself.
         ensures { result ≡ self.now.compaction }
     {
         self.compaction
@@ -152,7 +152,7 @@ impl<T: Words, A: Allocator + Copy, D: Device> Store<T, A, D> {
 
     /// Sets when the store compacts its file by itself: at the end of a change, from the next one on.
     pub fn set_compaction(&mut self, compaction: Compaction)
-        //= When it does can be set; that changes nothing else.
+        //= When it does can be set, which changes nothing else.
         ensures { self.new ≡ record self.old { compaction = compaction } }
     {
         self.compaction = compaction;
@@ -164,32 +164,32 @@ impl<T: Words, A: Allocator + Copy, D: ReplaceDevice> Store<T, A, D> {
     /// crash from then on leaves a file that has it.
     ///
     /// # Errors
-    /// `Refused` by the pair's first fault, or where memory or slots were refused, `TooLong` and `Full`: then nothing has changed, in the
-    /// dictionary or in the file. `Device` where the device failed, and `Failed` from then on.
+    /// `Refused` by the pair's first fault, or if memory or slots were refused, `TooLong` and `Full`: then nothing has changed, in the
+    /// dictionary or in the file. `Device` if the device failed, and `Failed` from then on.
     pub fn insert_bytes(&mut self, key: &[u8], value: i32) -> Result<Option<i32>, DurableError>
         requires ready { IsReadyStore D.seen D.may_leave T.state self.old }
 
-        //= An acknowledged insert or update has stored the value in the dictionary, and the file stands for it, on the disk. [with ready; also
-        //  insert, update_bytes, update]
+        //= An acknowledged insert or update has stored the value in the dictionary, and the file stands for it, on the disk. [with ready;
+        //  also insert, update_bytes, update]
         ensures stored { OnOk result (HasState T.state self.new (stored (T.state self.old.words) key.now value)) }
         ensures ready { IsReadyStore D.seen D.may_leave T.state self.new }
 
-        //= An insert tells the value that the key held before. [also insert]
+        //= An insert returns the value that the key held before. [also insert]
         ensures held { IfOk result (λ held. held ≡ number_at (T.state self.old.words).tree key.now) }
 
         //= A crash at any moment of an insert or update leaves a file that stands for the dictionary from before it, with the change or
         //  without. [also insert, update_bytes, update]
         ensures any_moment { CrashLeavesEither D.moment D.left_since T.state self.old self.new (stored (T.state self.old.words) key.now value) }
 
-        //= A pair that has a fault is refused by its first one, if the store hasn't failed. [also insert, update_bytes, update]
+        //= A pair that has a fault is refused with its first one, if the store hasn't failed. [also insert, update_bytes, update]
         ensures faulty { self.old.failed ≡ false → IfSome (fault key.now value) (λ e. result ≡ Err (DurableError.Refused e)) }
 
-        //= Else it is refused only where the store has failed before, for want of memory or slots, where the record is too long or the records
-        //  end too far back, or where the device failed. [also insert, update_bytes, update]
+        //= Otherwise it fails only if the store has failed before, for lack of memory or slots, if the record is too long or the records
+        //  end too far back, or if the device failed. [also insert, update_bytes, update]
         ensures cause { IfErr result (IsChangeCause D.faults self.old self.new (fault key.now value) (length key.now + 5)) }
 
-        //= After an error of the device the store has failed; after any other, the dictionary, the file and the store are as they were. [also
-        //  insert, update_bytes, update]
+        //= After an error of the device the store has failed. After any other, the dictionary, the file and the store are as they were.
+        //  [also insert, update_bytes, update]
         ensures err { IfErr result (LeavesStore T.state self.old self.new (stored (T.state self.old.words) key.now value)) }
     {
         if self.failed {
@@ -225,7 +225,7 @@ impl<T: Words, A: Allocator + Copy, D: ReplaceDevice> Store<T, A, D> {
         self.insert_bytes(key.as_bytes(), value)
     }
 
-    /// Stores a value at a key, in place of the value that the key holds, if it holds one. At `Ok` the change is acknowledged.
+    /// Stores a value at a key, and replaces the value that the key holds, if any. At `Ok` the change is acknowledged.
     ///
     /// # Errors
     /// As [`Store::insert_bytes`].
@@ -260,32 +260,32 @@ impl<T: Words, A: Allocator + Copy, D: ReplaceDevice> Store<T, A, D> {
         self.update_bytes(key.as_bytes(), value)
     }
 
-    /// Removes a key, and says whether it was held. At `Ok` the change is acknowledged. A key that isn't held makes no change: nothing is
-    /// written.
+    /// Removes a key, and returns whether it was held. At `Ok` the change is acknowledged. A key that isn't held makes no change: nothing
+    /// is written.
     ///
     /// # Errors
-    /// `Refused` where memory for the record was refused, `TooLong` and `Full`: then nothing has changed. `Device` where the device failed,
-    /// and `Failed` from then on.
+    /// `Refused` if memory for the record was refused, `TooLong` and `Full`: then nothing has changed. `Device` if the device failed, and
+    /// `Failed` from then on.
     pub fn erase_bytes(&mut self, key: &[u8]) -> Result<bool, DurableError>
         requires ready { IsReadyStore D.seen D.may_leave T.state self.old }
 
-        //= An acknowledged erasure has removed the key from the dictionary, and the file stands for it, on the disk. It tells whether the key
-        //  was held; where it wasn't, the file stays. [with ready, answer, missed; also erase]
+        //= An acknowledged erasure has removed the key from the dictionary, and the file stands for it, on the disk. It returns whether the
+        //  key was held. If it wasn't, the file doesn't change. [with ready, answer, missed; also erase]
         ensures erased { IfOk result (λ held. HasState T.state self.new (if held then erased (T.state self.old.words) key.now else (T.state self.old.words))) }
         ensures ready { IsReadyStore D.seen D.may_leave T.state self.new }
         ensures answer { IfOk result (λ held. held ≡ is_some (number_at (T.state self.old.words).tree key.now)) }
         ensures missed { IfOk result (λ held. held ≡ false → self.new.journal ≡ self.old.journal) }
 
-        //= A crash at any moment of an erasure leaves a file that stands for the dictionary from before it, with the change or without. [also
-        //  erase]
+        //= A crash at any moment of an erasure leaves a file that stands for the dictionary from before it, with the change or without.
+        //  [also erase]
         ensures any_moment { CrashLeavesEither D.moment D.left_since T.state self.old self.new (erased (T.state self.old.words) key.now) }
 
-        //= An erasure is refused only where the store has failed before, for want of memory, where the record is too long or the records end
-        //  too far back, or where the device failed. [also erase]
+        //= An erasure fails only if the store has failed before, for lack of memory, if the record is too long or the records end too far
+        //  back, or if the device failed. [also erase]
         ensures cause { IfErr result (IsEraseCause D.faults self.old self.new (length key.now + 1)) }
 
-        //= After an error of the device the store has failed; after any other, the dictionary, the file and the store are as they were. [also
-        //  erase]
+        //= After an error of the device the store has failed. After any other, the dictionary, the file and the store are as they were.
+        //  [also erase]
         ensures err { IfErr result (LeavesStore T.state self.old self.new (erased (T.state self.old.words) key.now)) }
     {
         if self.failed {
@@ -317,34 +317,35 @@ impl<T: Words, A: Allocator + Copy, D: ReplaceDevice> Store<T, A, D> {
         self.erase_bytes(key.as_bytes())
     }
 
-    /// Makes some changes, one after another, as one: at `Ok` all of them are acknowledged, and a crash at any moment leaves a file that has
-    /// all of them or none. They are one record, and cost the two syncs of one change. A key ends with what its last change says. No
+    /// Makes some changes, one after another, as one: at `Ok` all of them are acknowledged, and a crash at any moment leaves a file that
+    /// has all of them or none. They are one record, and cost the two syncs of one change. A key ends with what its last change says. No
     /// changes are no change: nothing is written.
     ///
-    /// Put erasures behind the updates where the order leaves the choice: one with updates behind it is compared with each of them.
+    /// Put erasures after the updates if the order doesn't matter: an erasure with updates after it is compared with each of them.
     ///
     /// # Errors
-    /// `RefusedAt` with the place of a change whose pair has a fault, or for which memory or slots were refused; `Refused` where memory for
-    /// the record was refused, `TooLong` and `Full`: then nothing has changed. `Device` where the device failed, and `Failed` from then on.
+    /// `RefusedAt` with the index of a change whose pair has a fault, or for which memory or slots were refused; `Refused` if memory for
+    /// the record was refused, `TooLong` and `Full`: then nothing has changed. `Device` if the device failed, and `Failed` from then on.
     pub fn apply_batch(&mut self, changes: &[Change<'_>]) -> Result<(), DurableError>
         requires ready { IsReadyStore D.seen D.may_leave T.state self.old }
 
-        //= Once a batch is acknowledged, the dictionary is as all of its changes leave it, one after another, and the file stands for that, on
-        //  the disk; a batch of no changes leaves the file as it was. [with ready, nothing]
+        //= Once a batch is acknowledged, the dictionary is as all of its changes leave it, one after another, and the file stands for that,
+        //  on the disk. A batch of no changes leaves the file as it was. [with ready, nothing]
         ensures made { OnOk result (HasState T.state self.new (all_changed (T.state self.old.words) (changes_told changes.now))) }
         ensures ready { IsReadyStore D.seen D.may_leave T.state self.new }
         ensures nothing { OnOk result (changes.now ≡ [] → self.new.journal ≡ self.old.journal) }
 
-        //= A crash at any moment of a batch leaves a file that stands for the dictionary from before it, or for the one with all of its changes.
+        //= A crash at any moment of a batch leaves a file that stands for the dictionary from before it, or for the one with all of its
+        //  changes.
         ensures any_moment { CrashLeavesEither D.moment D.left_since T.state self.old self.new (all_changed (T.state self.old.words) (changes_told changes.now)) }
 
-        //= A batch in which one pair has a fault is refused. Else it is refused only where the store has failed before, for want of memory or
-        //  slots, where the record is too long or the records end too far back, or where the device failed. [with cause]
+        //= A batch in which one pair has a fault is refused. Otherwise it fails only if the store has failed before, for lack of memory or
+        //  slots, if the record is too long or the records end too far back, or if the device failed. [with cause]
         ensures faulty { IsOk result → AllByRecursion IsFaultless (changes_told changes.now) }
         ensures cause { IfErr result (IsBatchCause D.faults self.old self.new (changes_told changes.now)) }
 
-        //= After an error of the device the store has failed and the dictionary has all of a batch; after any other, the dictionary, the file
-        //  and the store are as they were.
+        //= After an error of the device the store has failed and the dictionary has all of a batch. After any other, the dictionary, the
+        //  file and the store are as they were.
         ensures err { IfErr result (LeavesStore T.state self.old self.new (all_changed (T.state self.old.words) (changes_told changes.now))) }
     {
         if self.failed {

@@ -11,7 +11,7 @@ use std::alloc::Allocator;
 
 /// A dictionary that a store keeps: a [`Trie`] of any layout and any limit of slots.
 pub trait Words: Drop {
-    /// The state that its answers come from.
+    /// The state that its results come from.
     ghost state: { Self → State };
 
     /// Stores a value at a key, and returns the value that the key held before, if it held one.
@@ -19,8 +19,8 @@ pub trait Words: Drop {
     /// # Errors
     /// The pair's first fault, or `Memory` or `SlotLimit`. Then it is as it was.
     fn put(&mut self, key: &[u8], value: i32) -> Result<Option<i32>, CedarError>
-        //= The trait of dictionaries that a store keeps: what its calls do to the state, in the words of a dictionary's own calls. [with held,
-        //  sound, in_range]
+        //= The trait of dictionaries that a store keeps: what its calls do to the state, in the words of a dictionary's own calls. [with
+        //  held, sound, in_range]
         ensures updated { IsPut (state self.old) (state self.new) key.now value (outcome result) }
         ensures held { IfOk result (λ held. held ≡ number_at (state self.old).tree key.now) }
         ensures sound { OnOk result (IsSound (state self.old).tree) }
@@ -29,7 +29,7 @@ pub trait Words: Drop {
     /// Stores a value at a key.
     ///
     /// # Errors
-    /// As of `put`; but where the key is held, memory and slots are not asked for.
+    /// As of `put`; but if the key is held, it needs no memory and no slots.
     fn put_over(&mut self, key: &[u8], value: i32) -> Result<(), CedarError>
         ensures updated { IsPut (state self.old) (state self.new) key.now value result };
 
@@ -43,7 +43,7 @@ pub trait Words: Drop {
 
     /// How many keys are held.
     fn count(&self) -> usize
-        //= Such a dictionary tells how many keys it holds; its tree is sound, and its labels ascend if it is ordered. [with sound,
+        //= Such a dictionary says how many keys it holds. Its tree is sound, and its labels ascend if it is ordered. [with sound,
         //  ascending]
         ensures entries { result ≡ length (walk (state self.now).tree) }
         ensures sound { IsSound (state self.now).tree }
@@ -52,9 +52,9 @@ pub trait Words: Drop {
     /// A journal's file in memory, in which each entry is put, one after another.
     ///
     /// # Errors
-    /// `Memory` where a request was refused, `TooLong` where the record of an entry would be too long.
+    /// `Memory` if an allocation was refused, `TooLong` if the record of an entry would be too long.
     fn image<B: Allocator + Copy>(&self, alloc: B) -> Result<Image<B>, CompactError>
-        //= Such a dictionary can be written down as a journal's file, of one record for each entry; if it is ordered, their changes make it
+        //= Such a dictionary can be written as a journal's file, of one record for each entry. If it is ordered, their changes make it
         //  again. [with length, cause]
         ensures made { (state self.now).ordered ≡ true → IfOk result (λ image. replayed new_state (payloads_of image) ≡ Some (state self.now)) }
         ensures length { IfOk result (λ image. length (image_bytes image) ≡ compacted_length (walk (state self.now).tree)) }
@@ -69,10 +69,10 @@ pub trait Made<A: Allocator>: Words {
     /// A new one, whose labels ascend.
     ///
     /// # Errors
-    /// `Memory` where a request was refused.
+    /// `Memory` if an allocation was refused.
     fn make(alloc: A) -> Result<Self, CedarError>
         requires { limit }
-        //= A dictionary that is made is a new one, or there was no memory. [with err]
+        //= A call that makes a dictionary makes a new one, or there was no memory. [with err]
         ensures new { IfOk result (λ words. Self.state words ≡ new_state) }
         ensures err { IfErr result (λ e. IsShortage e) };
 }
@@ -118,7 +118,7 @@ impl<L: Layout, const SLOTS: usize, A: Allocator + Copy> Made<A> for Trie<L, SLO
     }
 }
 
-/// Takes a put back, of a key that held this value before, or none. It takes no memory.
+/// Takes a put back, of a key that held this value before, or none. It allocates nothing.
 pub(crate) fn take_back<T: Words>(words: &mut T, key: &[u8], held: Option<i32>)
     ensures { (s : State) → IsPutOf s key.now held (T.state words.old) → (T.state words.new) ≡ s }
 {
@@ -127,7 +127,7 @@ pub(crate) fn take_back<T: Words>(words: &mut T, key: &[u8], held: Option<i32>)
             words.remove(key);
         }
         Some(value) => {
-            // A key that is held takes no memory and no slot.
+            // A key that is held needs no memory and no slot.
             let _ = words.put_over(key, value);
         }
     }

@@ -1,3 +1,4 @@
+mod LabelLemmas
 pub mod RoomLemmas
 mod SamePlaces
 mod SearchLemmas

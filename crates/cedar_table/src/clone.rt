@@ -1,4 +1,4 @@
-//! A table copied.
+//! Copies of a table.
 
 ghost use Rattle.std.specs.Prelude.{◌≡◌, IfOk};
 ghost use Rattle.cedar_table.specs.Words.{fields, places_of};
@@ -10,7 +10,7 @@ use std::alloc::{AllocError, Allocator};
 use std::marker::PhantomData;
 
 impl<L: Layout, const SLOTS: usize, A: Allocator + Copy> Clone for Table<L, SLOTS, A> {
-    //= A clone has the same fields, so that it is the same table; it may be refused for memory.
+    //= A clone has the same fields, so that it is the same table; it may fail for lack of memory.
     ghost is_clone = { λ table copy. fields copy ≡ fields table };
 
     fn clone(&self) -> Result<Self, AllocError> {
@@ -40,12 +40,12 @@ fn copied_places<A: Allocator + Copy>(places: &Places<A>) -> Result<Places<A>, A
             active: places.blocks.active,
             max_trial: places.blocks.max_trial,
         },
-        reject: copied(&places.reject)?,
+        reject: copy_of(&places.reject)?,
     })
 }
 
-/// The same items, from the same allocator.
-fn copied<T: Copy, A: Allocator + Copy>(items: &Vec<T, A>) -> Result<Vec<T, A>, AllocError>
+/// Returns the same items, from the same allocator.
+fn copy_of<T: Copy, A: Allocator + Copy>(items: &Vec<T, A>) -> Result<Vec<T, A>, AllocError>
     ensures { IfOk result (λ copy. copy.items ≡ items.now.items) }
 {
     Vec::from_slice(*items.allocator(), items)

@@ -16,4 +16,4 @@ pub use cedar_model::{
 };
 pub use cedar_slots::{BLOCK_SIZE, BlockRecord, Corrupt, NInfoRecord, NodeRecord, Shortage, Ticks};
 pub use parts::Parts;
-pub use table::{Labels, Table};
+pub use table::Table;

@@ -1,16 +1,16 @@
 //! One node of a table, read and written: its base, its owner, its slots for labels, its labels, and the node of a key.
 
-use crate::table::{Labels, Table};
+use crate::table::Table;
 use arrayvec::ArrayVec;
 use cedar_model::{Layout, Stored};
 use cedar_slots::NodeRecord;
 use std::alloc::Allocator;
 
 impl<L: Layout, const SLOTS: usize, A: Allocator> Table<L, SLOTS, A> {
-    ghost use Rattle.std.specs.Prelude.{◌<◌, ◌^◌, ◌↔◌, ◌≡◌, ◌≢◌, [], IsTrue, List, MatchOption, None, pos, Some, true, ℕ};
+    ghost use Rattle.std.specs.Prelude.{◌<◌, ◌^◌, ◌↔◌, ◌≡◌, ◌≢◌, [], IsTrue, length, List, MatchOption, None, pos, Some, true, ℕ};
     ghost use Rattle.cedar_table.specs.Words.{base_of, below, cells, ChecksAt, edit_at, empty_tree, Family, fields, FieldSet, Forest, HasNode, HasPath, Head, Held, is_value, IsAt, IsNode, IsTable, IsWellFormed, Links, node_at, Nothing, number_at, owned_slots, OwnNumber, OwnsNothing, Rebased, reduced_layout, SameFrame, size_of, TableHolds, tree_of};
 
-    /// What the base field of a node says. In the layout by default that is a base, with no test.
+    /// Returns what the base field of a node says. In the default layout that is a base, with no test.
     pub fn stored_at_node(&self, node: usize) -> Stored
         requires node_in { node < size_of (fields self.now) }
         requires says { (cells self.now).stored node ≢ Nothing }
@@ -19,7 +19,7 @@ impl<L: Layout, const SLOTS: usize, A: Allocator> Table<L, SLOTS, A> {
         L::read_node(self.base(node))
     }
 
-    /// Where a node's slots begin, and 0 if its base field says nothing of that.
+    /// Returns where a node's slots begin, or 0 if its base field doesn't say.
     pub fn base_of(&self, node: usize) -> usize
         requires { node < size_of (fields self.now) }
 
@@ -33,7 +33,7 @@ impl<L: Layout, const SLOTS: usize, A: Allocator> Table<L, SLOTS, A> {
         }
     }
 
-    /// Where a node's slots begin, and 0 if its base field has its own number. In the layout by default there is no test.
+    /// Returns where a node's slots begin, or 0 if its base field has its own number. In the default layout there is no test.
     pub(crate) fn node_base(&self, node: usize) -> usize
         requires node_in { node < size_of (fields self.now) }
         requires says { (cells self.now).stored node ≢ Nothing }
@@ -46,7 +46,7 @@ impl<L: Layout, const SLOTS: usize, A: Allocator> Table<L, SLOTS, A> {
         }
     }
 
-    /// The slot for a label below a node.
+    /// Returns the slot for a label below a node.
     pub fn child_slot(&self, node: usize, label: u8) -> usize
         requires { node < size_of (fields self.now) }
         ensures { result ≡ below (cells self.now) node label }
@@ -54,7 +54,7 @@ impl<L: Layout, const SLOTS: usize, A: Allocator> Table<L, SLOTS, A> {
         self.base_of(node) ^ usize::from(label)
     }
 
-    /// The slot for a label below a slot that is known to be a node's.
+    /// Returns the slot for a label below a slot that is known to be a node's.
     pub fn slot_below(&self, node: usize, label: u8) -> usize
         requires node_in { node < size_of (fields self.now) }
         requires says { (cells self.now).stored node ≢ Nothing }
@@ -63,7 +63,7 @@ impl<L: Layout, const SLOTS: usize, A: Allocator> Table<L, SLOTS, A> {
         self.node_base(node) ^ usize::from(label)
     }
 
-    /// The owner of a held slot that isn't the root's.
+    /// Returns the owner of a held slot that isn't the root's.
     pub fn owner(&self, slot: usize) -> usize
         requires slot_in { slot < size_of (fields self.now) }
         requires owned { (c : ℕ) × ((cells self.now).check slot ≡ pos c) }
@@ -72,7 +72,7 @@ impl<L: Layout, const SLOTS: usize, A: Allocator> Table<L, SLOTS, A> {
         self.places.slots.nodes.at(slot).check as usize
     }
 
-    /// Whether a slot belongs to an owner. The read isn't counted.
+    /// Returns whether a slot belongs to an owner. The read isn't counted.
     pub fn is_owned_by(&self, slot: usize, owner: usize) -> bool
         requires slot_in { slot < size_of (fields self.now) }
         requires owner_in { owner < size_of (fields self.now) }
@@ -81,7 +81,7 @@ impl<L: Layout, const SLOTS: usize, A: Allocator> Table<L, SLOTS, A> {
         self.places.slots.nodes.at(slot).check == owner as i32
     }
 
-    /// Whether a slot other than the root's is free.
+    /// Returns whether a slot other than the root's is free.
     pub fn is_free_slot(&self, slot: usize) -> bool
         requires slot_in { slot < size_of (fields self.now) }
         requires not_root { slot ≢ 0 }
@@ -90,8 +90,8 @@ impl<L: Layout, const SLOTS: usize, A: Allocator> Table<L, SLOTS, A> {
         self.places.slots.nodes.at(slot).check < 0
     }
 
-    /// Whether a node has a slot for its number. Only a node that names no first label can have one, so the check of that
-    /// slot, which mostly lies far off, is seldom read.
+    /// Returns whether a node has a slot for its number. Only a node that names no first label can have one, so the check of that
+    /// slot, which is mostly far away, is seldom read.
     pub fn has_number_slot(&self, node: usize) -> bool
         requires node_in { node < size_of (fields self.now) }
         requires not_root { node ≢ 0 }
@@ -104,7 +104,7 @@ impl<L: Layout, const SLOTS: usize, A: Allocator> Table<L, SLOTS, A> {
         self.is_owned_by(self.node_base(node), node)
     }
 
-    /// The first label of a node's chain, which begins after its number's slot, if it has one.
+    /// Returns the first label of a node's chain, which begins after its number's slot, if it has one.
     pub fn first_label(&self, node: usize) -> u8
         requires node_in { node < size_of (fields self.now) }
         requires not_root { node ≢ 0 }
@@ -117,8 +117,9 @@ impl<L: Layout, const SLOTS: usize, A: Allocator> Table<L, SLOTS, A> {
         self.child(node)
     }
 
-    /// The label 0 alone if the node has a slot for its number, and else no label.
-    fn number_label(&self, node: usize) -> Labels
+    /// Returns the label 0 alone if the node has a slot for its number, and otherwise no label.
+    fn number_label<const MOST: usize>(&self, node: usize) -> ArrayVec<u8, MOST>
+        requires some { 0 < MOST }
         requires node_in { node < size_of (fields self.now) }
         requires not_root { node ≢ 0 }
         requires node { IsNode (size_of (fields self.now)) (cells self.now) node }
@@ -132,25 +133,42 @@ impl<L: Layout, const SLOTS: usize, A: Allocator> Table<L, SLOTS, A> {
         labels
     }
 
-    /// The labels under which a node owns slots: 0 first, if it has a slot for its number, and then along its chain. It
-    /// takes no memory.
-    pub fn labels_of(&self, node: usize) -> Labels
+    /// Returns the labels under which a node owns slots, if there are no more than `MOST`: 0 first, if it has a slot for its number,
+    /// and then those along its chain. It allocates nothing, and reads no more of a longer chain.
+    pub fn labels_of<const MOST: usize>(&self, node: usize) -> Option<ArrayVec<u8, MOST>>
+        requires some { 0 < MOST }
         requires node_in { node < size_of (fields self.now) }
         requires not_root { node ≢ 0 }
         requires node { IsNode (size_of (fields self.now)) (cells self.now) node }
-        ensures { (h : Head) (ls : List ℕ) → Family (size_of (fields self.now)) (cells self.now) node h ls → result.items ≡ owned_slots h ls }
+        ensures { (h : Head) (ls : List ℕ) → Family (size_of (fields self.now)) (cells self.now) node h ls → MatchOption result (MOST < length (owned_slots h ls)) (λ labels. labels.items ≡ owned_slots h ls) }
     {
         let mut labels = self.number_label(node);
         let base = self.base_of(node);
         let mut label = self.first_label(node);
         while label != 0 {
+            if labels.len() == MOST {
+                return None;
+            }
             labels.push(label);
             label = self.sibling(base ^ usize::from(label));
         }
-        labels
+        Some(labels)
     }
 
-    /// The slot of a key's node, if there is one.
+    /// Returns the labels under which a node owns slots, in the same order, however many they are.
+    pub fn all_labels_of(&self, node: usize) -> ArrayVec<u8, 256>
+        requires node_in { node < size_of (fields self.now) }
+        requires not_root { node ≢ 0 }
+        requires node { IsNode (size_of (fields self.now)) (cells self.now) node }
+        ensures { (h : Head) (ls : List ℕ) → Family (size_of (fields self.now)) (cells self.now) node h ls → result.items ≡ owned_slots h ls }
+    {
+        match self.labels_of(node) {
+            Some(labels) => labels,
+            None => unreachable!(),
+        }
+    }
+
+    /// Returns the slot of a key's node, if there is one.
     pub fn node_of(&self, key: &[u8]) -> Option<usize>
         requires { IsWellFormed SLOTS (fields self.now) }
         ensures { MatchOption result ((number_at (tree_of (fields self.now)) key.now ≡ None) × (node_at (tree_of (fields self.now)) key.now ≡ empty_tree)) (λ s. (s < size_of (fields self.now)) × HasPath (tree_of (fields self.now)) key.now × IsAt (cells self.now) key.now s) }

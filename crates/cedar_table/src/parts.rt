@@ -1,4 +1,4 @@
-//! A table as its parts: it is made of them when it is loaded, and gives them when it is saved.
+//! A table as its parts: it is made from them when it is loaded, and returns them when it is saved.
 
 ghost use Rattle.std.specs.Prelude.{◌*◌, ◌≡◌, ◌≤◌, length};
 ghost use Rattle.cedar_table.specs.Words.{blank_block, blank_info, blank_node, fields, padded, parts_fields, places_of, Shaped, size_of};
@@ -11,7 +11,7 @@ use cedar_slots::{
 use std::alloc::Allocator;
 use std::marker::PhantomData;
 
-/// What a table is made of. `size` is how many slots are in use.
+/// What a table is made from. `size` is how many slots are in use.
 #[derive(Drop)]
 pub struct Parts<A: Allocator> {
     pub ordered: bool,
@@ -33,8 +33,8 @@ impl<L: Layout, const SLOTS: usize, A: Allocator> Table<L, SLOTS, A> {
         requires shaped { Shaped (parts_fields L.kind parts).places }
         requires rejects { length parts.reject.items ≡ 257 }
 
-        //= `from_records` makes the table of some parts, field by field; `node_records` and its kin give what stands in memory, and all else
-        //  is blank. [also node_records.all.some, info_records.all.some, block_records.all.some, reject_values]
+        //= `from_records` makes the table from some parts, field by field; `node_records` and calls like it return what is in memory, and
+        //  all else is blank. [also node_records.all.some, info_records.all.some, block_records.all.some, reject_values]
         ensures { fields result ≡ parts_fields L.kind parts }
     {
         Table {
@@ -59,9 +59,9 @@ impl<L: Layout, const SLOTS: usize, A: Allocator> Table<L, SLOTS, A> {
         }
     }
 
-    /// Slots, blocks and reject values together, to be tested.
+    /// Returns slots, blocks and reject values together, to be tested.
     pub fn places(&self) -> &Places<A>
-        //= `places` gives slots, blocks and reject values, whose sizes are those of a table. [with shaped, rejects]
+        //= `places` returns slots, blocks and reject values, whose sizes are those of a table. [with shaped, rejects]
         ensures places { places_of result.now ≡ (fields self.now).places }
         ensures shaped { Shaped (fields self.now).places }
         ensures rejects { length (fields self.now).places.reject ≡ 257 }
@@ -69,7 +69,7 @@ impl<L: Layout, const SLOTS: usize, A: Allocator> Table<L, SLOTS, A> {
         &self.places
     }
 
-    /// The slots that stand in memory, to be written out: those in use, and maybe more. All others are blank.
+    /// Returns the slots that are in memory, to be written out: those in use, and maybe more. All others are blank.
     pub fn node_records(&self) -> &[NodeRecord]
         ensures all { (fields self.now).places.slots.nodes ≡ padded blank_node (length (fields self.now).places.slots.nodes) result.now }
         ensures some { size_of (fields self.now) ≤ length result.now }
@@ -77,7 +77,7 @@ impl<L: Layout, const SLOTS: usize, A: Allocator> Table<L, SLOTS, A> {
         self.places.slots.nodes.front()
     }
 
-    /// The labels of the slots that stand in memory, to be written out. All others are blank.
+    /// Returns the labels of the slots that are in memory, to be written out. All others are blank.
     pub fn info_records(&self) -> &[NInfoRecord]
         ensures all { (fields self.now).places.slots.infos ≡ padded blank_info (length (fields self.now).places.slots.infos) result.now }
         ensures some { size_of (fields self.now) ≤ length result.now }
@@ -85,7 +85,7 @@ impl<L: Layout, const SLOTS: usize, A: Allocator> Table<L, SLOTS, A> {
         self.places.slots.infos.front()
     }
 
-    /// The blocks that stand in memory, to be written out. All others are blank.
+    /// Returns the blocks that are in memory, to be written out. All others are blank.
     pub fn block_records(&self) -> &[BlockRecord]
         ensures all { (fields self.now).places.blocks.records ≡ padded blank_block (length (fields self.now).places.blocks.records) result.now }
         ensures some { size_of (fields self.now) ≤ 256 * length result.now }
@@ -93,7 +93,7 @@ impl<L: Layout, const SLOTS: usize, A: Allocator> Table<L, SLOTS, A> {
         self.places.blocks.records.front()
     }
 
-    /// All reject values, to be written out.
+    /// Returns all reject values, to be written out.
     pub fn reject_values(&self) -> &[i16]
         ensures { result.now ≡ (fields self.now).places.reject }
     {

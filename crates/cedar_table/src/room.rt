@@ -1,4 +1,4 @@
-//! Room for blocks that are still to come into use.
+//! Room for blocks that are not in use yet.
 
 ghost use Rattle.std.specs.Prelude.{◌*◌, ◌+◌, ◌<◌, ◌^◌, ◌≡◌, ◌≤◌, IfErr, length, OnErr, OnOk};
 ghost use Rattle.cedar_table.specs.Words.{blocks_after, capacity_of, cells, fields, Grown, IsWellFormed, LacksBlocks, marks, SameSettings, size_of, tree_of};
@@ -8,7 +8,7 @@ use cedar_model::Layout;
 use cedar_slots::{BLOCK_SIZE, Shortage};
 use std::alloc::Allocator;
 
-/// How many blocks a table of `blocks` has once `more` than the `active` ones are in use: it doubles until they have room.
+/// Returns how many blocks a table of `blocks` has once `more` than the `active` ones are in use: it doubles until they have room.
 fn doubled_for(blocks: usize, active: usize, more: usize) -> usize
     requires some { 0 < blocks }
     requires active { active ≤ blocks }
@@ -24,14 +24,14 @@ fn doubled_for(blocks: usize, active: usize, more: usize) -> usize
 }
 
 impl<L: Layout, const SLOTS: usize, A: Allocator> Table<L, SLOTS, A> {
-    /// Asks for the memory of `blocks` blocks more than are in use. The table doubles until they have room, as it would if they came
-    /// into use one after another; where they have room, nothing is asked for.
+    /// Allocates the memory for `blocks` more blocks than are in use. The table doubles until they have room, as it would if they came
+    /// into use one after another. If they have room, it allocates nothing.
     pub fn try_reserve(&mut self, blocks: usize) -> Result<(), Shortage>
         requires { IsWellFormed SLOTS (fields self.old) }
 
         //= `try_reserve` of n blocks leaves room for them in a table whose slots, tree, marks and settings are the same, and which has as
-        //  many blocks as if n had come into use; a refused one leaves the table, and says what it lacks. [with grown, cells, tree, marks,
-        //  settings, capacity, spare, enough, refused, unchanged]
+        //  many blocks as if n had come into use; a refused one leaves the table as it was, and says what it lacks. [with grown, cells,
+        //  tree, marks, settings, capacity, spare, enough, refused, unchanged]
         ensures well_formed { IsWellFormed SLOTS (fields self.new) }
         ensures grown { Grown (fields self.old).places (fields self.new).places }
         ensures cells { cells self.new ≡ cells self.old }

@@ -10,7 +10,7 @@ impl<L: Layout, const SLOTS: usize, A: Allocator> Table<L, SLOTS, A> {
     ghost use Rattle.std.specs.Prelude.{◌+◌, ◌<◌, ◌↔◌, ◌≡◌, ◌≤◌, false, IsTrue, length, MatchOption, OnSome, pos};
     ghost use Rattle.cedar_table.specs.Words.{cells, exact, fields, has_label, IsWellFormed, size_of, Stands, subtree, Tree, tree_of};
 
-    /// Whether a slot belongs to an owner: one comparison of a check field with a slot's number.
+    /// Returns whether a slot belongs to an owner: one comparison of a check field with a slot's number.
     pub(crate) fn belongs<C: Ledger>(&self, slot: usize, owner: usize, ticks: &mut Ticks<C>) -> bool
         requires slot_in { slot < size_of (fields self.now) }
         requires owner_in { owner < size_of (fields self.now) }
@@ -21,13 +21,13 @@ impl<L: Layout, const SLOTS: usize, A: Allocator> Table<L, SLOTS, A> {
         check == owner as i32
     }
 
-    /// The slot of a node's child under a label.
+    /// Returns the slot of a node's child under a label.
     pub fn follow<C: Ledger>(&self, node: usize, label: u8, ticks: &mut Ticks<C>) -> Option<usize>
         requires node_in { node < size_of (fields self.now) }
         requires node { (t : Tree) × Stands (size_of (fields self.now)) (cells self.now) node t }
 
-        //= `follow` answers the child's slot under a label or that there is none, `number` a node's number; each counts one comparison at
-        //  most. [with cost; also number]
+        //= `follow` returns the slot of the child under a label, or that there is none, `number` a node's number; each counts one
+        //  comparison at most. [with cost; also number]
         ensures answer { (t : Tree) → Stands (size_of (fields self.now)) (cells self.now) node t → MatchOption result (has_label t.children label ≡ false) (λ s. (s < size_of (fields self.now)) × Stands (size_of (fields self.now)) (cells self.now) s (subtree t.children label)) }
         ensures cost { ticks.new ≤ ticks.old + 1 }
         ensures found { OnSome result (ticks.new ≡ ticks.old + 1) }
@@ -46,7 +46,7 @@ impl<L: Layout, const SLOTS: usize, A: Allocator> Table<L, SLOTS, A> {
         }
     }
 
-    /// The number of a node.
+    /// Returns the number of a node.
     pub fn number<C: Ledger>(&self, node: usize, ticks: &mut Ticks<C>) -> Option<i32>
         requires node_in { node < size_of (fields self.now) }
         requires node { (t : Tree) × Stands (size_of (fields self.now)) (cells self.now) node t }
@@ -67,8 +67,8 @@ impl<L: Layout, const SLOTS: usize, A: Allocator> Table<L, SLOTS, A> {
         }
     }
 
-    /// The number of a node. The read isn't counted. A node that names a first label has none, so the slot that its number would
-    /// have, which mostly lies far off, is seldom read.
+    /// Returns the number of a node. The read isn't counted. A node that names a first label has none, so the slot that its number would
+    /// have, which is mostly far away, is seldom read.
     #[inline(always)]
     pub fn number_of(&self, node: usize) -> Option<i32>
         requires node_in { node < size_of (fields self.now) }
@@ -91,7 +91,7 @@ impl<L: Layout, const SLOTS: usize, A: Allocator> Table<L, SLOTS, A> {
         }
     }
 
-    /// The number of a key, and the key's length. It takes no memory.
+    /// Returns the number of a key, and the key's length. It allocates nothing.
     pub fn exact_match_search_counted<C: Ledger>(
         &self,
         key: &[u8],
@@ -99,7 +99,7 @@ impl<L: Layout, const SLOTS: usize, A: Allocator> Table<L, SLOTS, A> {
     ) -> Option<(i32, usize)>
         requires { IsWellFormed SLOTS (fields self.now) }
 
-        //= `exact_match_search_counted` on a well-formed table answers `exact` of its tree.
+        //= `exact_match_search_counted` on a well-formed table returns `exact` of its tree.
         ensures answer { result ≡ exact (tree_of (fields self.now)) key.now }
 
         //= It counts at most one comparison of a check field more than the key has bytes, and a hit at least one for each byte. [with

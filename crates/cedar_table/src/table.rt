@@ -3,15 +3,11 @@
 ghost use Rattle.std.specs.Prelude.{◌*◌, ◌+◌, ◌-◌, ◌/◌, ◌<◌, ◌^◌, ◌↔◌, ◌≡◌, ◌≤◌, ◌≤ℤ◌, ◌⊎◌, count_by, IfErr, IfOk, IsTrue, length, negsuc, OnErr, pos, ℕ};
 ghost use Rattle.cedar_slots.specs.Words.{places_of, Shaped};
 
-use arrayvec::ArrayVec;
 use cedar_model::{Layout, Stored};
 use cedar_slots::{BLOCK_SIZE, BlockRecord, NInfoRecord, NodeRecord, Places, Shortage, Ticks};
 use std::alloc::Allocator;
 use std::marker::PhantomData;
 use std::sync::ledger::Ledger;
-
-/// The labels of one node, and 0 for its number: as many as there can be, so that a set of labels takes no memory.
-pub type Labels = ArrayVec<u8, 256>;
 
 /// A double-array trie's table. It has up to `SLOTS` slots, in blocks of 256: the root, the slots that others
 /// own, and free ones.
@@ -36,7 +32,7 @@ impl<L: Layout, const SLOTS: usize, A: Allocator> Table<L, SLOTS, A> {
         requires tried { pos 1 ≤ℤ max_trial }
         requires limit { IsSlotLimit SLOTS }
 
-        //= A new table is well-formed and stands for the empty tree; the root alone is held. [with tree, bare]
+        //= A new table is well-formed and stands for the empty tree; only the root is held. [with tree, bare]
         ensures well_formed { IfOk result (λ table. IsWellFormed SLOTS (fields table)) }
         ensures tree { IfOk result (λ table. tree_of (fields table) ≡ empty_tree) }
         ensures sound { IfOk result (λ table. IsTable SLOTS (fields table).places) }
@@ -49,7 +45,7 @@ impl<L: Layout, const SLOTS: usize, A: Allocator> Table<L, SLOTS, A> {
         ensures entries { IfOk result (λ table. (fields table).entries ≡ 0) }
         ensures bare { IfOk result (λ table. (s : ℕ) → Held (cells table) s → s ≡ 0) }
 
-        //= It is refused for memory alone.
+        //= It fails only for lack of memory.
         ensures refused { IfErr result (λ error. error ≡ Memory) }
     {
         let root = NodeRecord {
@@ -64,7 +60,7 @@ impl<L: Layout, const SLOTS: usize, A: Allocator> Table<L, SLOTS, A> {
         })
     }
 
-    /// Where the table's memory comes from.
+    /// Returns the table's allocator.
     pub fn allocator(&self) -> A
     where
         A: Copy,
@@ -86,8 +82,8 @@ impl<L: Layout, const SLOTS: usize, A: Allocator> Table<L, SLOTS, A> {
         ensures base { (cells self.new).base slot ≡ base }
         ensures stored { (cells self.new).stored slot ≡ reading L.kind base }
 
-        //= Calls that make no block leave how many slots are in use and there are, order, entries and `max_trial`. [also push_e_node,
-        //  write_node, write_info; by SameFrame]
+        //= Calls that make no block keep the number of slots in use, the number of slots, the order, the entries and `max_trial`. [also
+        //  push_e_node, write_node, write_info; by SameFrame]
         ensures frame { SameFrame (fields self.old) (fields self.new) }
     {
         let node = NodeRecord {
@@ -170,7 +166,7 @@ impl<L: Layout, const SLOTS: usize, A: Allocator> Table<L, SLOTS, A> {
         self.places.add_block(SLOTS)
     }
 
-    /// A free slot outside block 0. A block is made only where there is none.
+    /// Returns a free slot outside block 0. A block is made only if there is none.
     pub fn find_place(&mut self) -> Result<usize, Shortage>
         requires { IsTable SLOTS (fields self.old).places }
         ensures sound { IsTable SLOTS (fields self.new).places }
@@ -184,8 +180,8 @@ impl<L: Layout, const SLOTS: usize, A: Allocator> Table<L, SLOTS, A> {
         self.places.find_place(SLOTS)
     }
 
-    /// A base outside block 0 from which each label's slot is free: in an open block, as far as rejections and trials
-    /// allow a search, else in a new block. What a search learns of blocks is kept, also where it is refused.
+    /// Returns a base outside block 0 from which each label's slot is free: in an open block, as far as rejections and trials
+    /// allow a search, otherwise in a new block. What a search learns about blocks is kept, even if it is refused.
     pub fn find_places(&mut self, labels: &[u8]) -> Result<usize, Shortage>
         requires sound { IsTable SLOTS (fields self.old).places }
         requires some { 0 < length labels.now }
@@ -201,7 +197,7 @@ impl<L: Layout, const SLOTS: usize, A: Allocator> Table<L, SLOTS, A> {
         self.places.find_places(labels, SLOTS)
     }
 
-    /// A base from which there is room for all labels. A single label goes where the first free slot is. The move
+    /// Returns a base from which there is room for all labels. A single label goes where the first free slot is. The move
     /// of a set makes a block here or not at all.
     #[inline(always)]
     pub fn place_for(&mut self, labels: &[u8]) -> Result<usize, Shortage>
@@ -227,31 +223,31 @@ impl<L: Layout, const SLOTS: usize, A: Allocator> Table<L, SLOTS, A> {
         self.find_places(labels)
     }
 
-    /// How many slots are in use, free ones among them.
+    /// Returns how many slots are in use, including free ones.
     pub fn size(&self) -> usize
-        //= `size`, `capacity`, `spare_blocks`, `entries`, `ordered`, `max_trial`, the heads, and single fields are what they say. [also
-        //  capacity, spare_blocks, entries, ordered, max_trial, full_head, closed_head, open_head, block, reject, base, stored, sibling,
-        //  child]
+        //= `size`, `capacity`, `spare_blocks`, `entries`, `ordered`, `max_trial`, the heads, and single fields return what their names say.
+        //  [also capacity, spare_blocks, entries, ordered, max_trial, full_head, closed_head, open_head, block, reject, base, stored,
+        //  sibling, child]
         ensures { result ≡ size_of (fields self.now) }
     {
         BLOCK_SIZE * self.places.blocks.active
     }
 
-    /// How many slots there are, in use or not.
+    /// Returns how many slots there are, in use or not.
     pub fn capacity(&self) -> usize
         ensures { result ≡ capacity_of (fields self.now) }
     {
         BLOCK_SIZE * self.places.blocks.records.len()
     }
 
-    /// How many blocks can be put into use before the table has to grow.
+    /// Returns how many blocks can be put into use before the table has to grow.
     pub fn spare_blocks(&self) -> usize
         ensures { result ≡ (capacity_of (fields self.now) - size_of (fields self.now)) / 256 }
     {
         self.places.blocks.records.len() - self.places.blocks.active
     }
 
-    /// How many slots are held, the root among them: what the blocks count as free is taken from all slots in use.
+    /// Returns how many slots are held, including the root: all slots in use less those that the blocks count as free.
     pub fn used_node_slots(&self) -> usize
         requires { IsTable SLOTS (fields self.now).places }
 
@@ -262,29 +258,29 @@ impl<L: Layout, const SLOTS: usize, A: Allocator> Table<L, SLOTS, A> {
         self.places.used_slots()
     }
 
-    /// How many keys the table is said to have.
+    /// Returns the stated number of keys.
     pub fn entries(&self) -> usize
         ensures { result ≡ (fields self.now).entries }
     {
         self.entries
     }
 
-    /// Sets how many keys the table is said to have, as whoever puts keys into it by its slots has to. No slot changes.
+    /// Sets the stated number of keys, as whoever puts keys into the table by its slots has to. No slot changes.
     pub fn set_entries(&mut self, entries: usize)
-        //= `set_entries` sets how many keys the table is said to have, and nothing else.
+        //= `set_entries` sets the stated number of keys, and nothing else.
         ensures { fields self.new ≡ record { layout = (fields self.old).layout; ordered = (fields self.old).ordered; entries = entries; places = (fields self.old).places } }
     {
         self.entries = entries;
     }
 
-    /// Whether the labels of each node ascend.
+    /// Returns whether the labels of each node ascend.
     pub fn ordered(&self) -> bool
         ensures { result ≡ (fields self.now).ordered }
     {
         self.ordered
     }
 
-    /// How many failed searches close a block.
+    /// Returns how many failed searches close a block.
     pub fn max_trial(&self) -> i32
         ensures { result ≡ (fields self.now).places.blocks.max_trial }
     {
@@ -298,21 +294,21 @@ impl<L: Layout, const SLOTS: usize, A: Allocator> Table<L, SLOTS, A> {
         self.places.blocks.full_head
     }
 
-    /// The first closed block, or 0.
+    /// Returns the first closed block, or 0.
     pub fn closed_head(&self) -> i32
         ensures { result ≡ (fields self.now).places.blocks.closed_head }
     {
         self.places.blocks.closed_head
     }
 
-    /// The first open block, or 0.
+    /// Returns the first open block, or 0.
     pub fn open_head(&self) -> i32
         ensures { result ≡ (fields self.now).places.blocks.open_head }
     {
         self.places.blocks.open_head
     }
 
-    /// The record of a block, in use or not.
+    /// Returns the record of a block, in use or not.
     pub fn block(&self, block: usize) -> BlockRecord
         requires { 256 * block < capacity_of (fields self.now) }
         ensures { result ≡ block_at (fields self.now).places.blocks.records block }
@@ -320,7 +316,7 @@ impl<L: Layout, const SLOTS: usize, A: Allocator> Table<L, SLOTS, A> {
         self.places.blocks.records.read(block)
     }
 
-    /// How many labels at least find no place in a block with `free` free slots.
+    /// Returns the number of labels from which on a set finds no place in a block with `free` free slots.
     pub fn reject(&self, free: usize) -> i16
         requires { free ≤ 256 }
         ensures { result ≡ reject_at (fields self.now).places.reject free }
@@ -328,7 +324,7 @@ impl<L: Layout, const SLOTS: usize, A: Allocator> Table<L, SLOTS, A> {
         self.places.reject[free]
     }
 
-    /// The base field of a slot in use.
+    /// Returns the base field of a slot in use.
     pub fn base(&self, slot: usize) -> i32
         requires { slot < size_of (fields self.now) }
         ensures { result ≡ (cells self.now).base slot }
@@ -336,7 +332,7 @@ impl<L: Layout, const SLOTS: usize, A: Allocator> Table<L, SLOTS, A> {
         self.places.slots.nodes.at(slot).base
     }
 
-    /// What the base field of a node says.
+    /// Returns what the base field of a node says.
     pub fn stored(&self, node: usize) -> Stored
         requires { node < size_of (fields self.now) }
         ensures { result ≡ (cells self.now).stored node }
@@ -344,7 +340,7 @@ impl<L: Layout, const SLOTS: usize, A: Allocator> Table<L, SLOTS, A> {
         L::read_base(self.base(node))
     }
 
-    /// The check field of a slot in use. The read is counted.
+    /// Returns the check field of a slot in use. The read is counted.
     pub fn check<C: Ledger>(&self, slot: usize, ticks: &mut Ticks<C>) -> i32
         requires { slot < size_of (fields self.now) }
         ensures field { result ≡ check_at (fields self.now).places.slots.nodes slot }
@@ -355,7 +351,7 @@ impl<L: Layout, const SLOTS: usize, A: Allocator> Table<L, SLOTS, A> {
         self.places.slots.nodes.at(slot).check
     }
 
-    /// Whether a slot in use is held: it is the root, or its check field names an owner. The read is counted.
+    /// Returns whether a slot in use is held: it is the root, or its check field names an owner. The read is counted.
     pub fn is_held<C: Ledger>(&self, slot: usize, ticks: &mut Ticks<C>) -> bool
         requires { slot < size_of (fields self.now) }
         ensures held { IsTrue result ↔ Held (cells self.now) slot }
@@ -365,7 +361,7 @@ impl<L: Layout, const SLOTS: usize, A: Allocator> Table<L, SLOTS, A> {
         slot == 0 || check >= 0
     }
 
-    /// The label after a slot's in its chain, or 0.
+    /// Returns the label after a slot's in its chain, or 0.
     pub fn sibling(&self, slot: usize) -> u8
         requires { slot < size_of (fields self.now) }
         ensures { result ≡ (cells self.now).sibling slot }
@@ -373,7 +369,7 @@ impl<L: Layout, const SLOTS: usize, A: Allocator> Table<L, SLOTS, A> {
         self.places.slots.infos.at(slot).sibling
     }
 
-    /// The label that begins a node's chain, or 0.
+    /// Returns the label that begins a node's chain, or 0.
     pub fn child(&self, slot: usize) -> u8
         requires { slot < size_of (fields self.now) }
         ensures { result ≡ (cells self.now).child slot }

@@ -9,17 +9,17 @@ pub fn paths_go_on()
     ensures { (t : Tree) (w : List ℕ) (l : ℕ) → node_at t (w ++ l ∷ []) ≡ subtree (node_at t w).children l }
 {}
 
-/// The node that a leaf was taken from lacks its label, and the node whose number was dropped has none; they are as they
-/// were otherwise.
+/// The node that a leaf was taken from lacks its label, and the node whose number was dropped has none. Otherwise they are as they
+/// were.
 pub fn cut_nodes_stay()
-    //= The node that a leaf was taken from lacks its label, and is as it was otherwise.
+    //= The node that a leaf was taken from lacks its label, and is otherwise as it was.
     ensures leaf { (t : Tree) (w : List ℕ) (l : ℕ) → HasPath t w → node_at (without_leaf t w l) w ≡ record { number = (node_at t w).number; children = without (node_at t w).children l } }
 
-    //= The node whose number was dropped has none, and is as it was otherwise.
+    //= The node whose number was dropped has none, and is otherwise as it was.
     ensures number { (t : Tree) (l : ℕ) (path : List ℕ) → HasPath t (l ∷ path) → node_at (without_number t (l ∷ path)) (l ∷ path) ≡ record { number = None; children = (node_at t (l ∷ path)).children } }
 {}
 
-/// Labels that ascend still do without a leaf, and without a number.
+/// Ascending labels still ascend without a leaf, and without a number.
 pub fn edits_stay_ascending()
     //= Ascending labels still ascend without a leaf, and without a number. [with number]
     ensures leaf { (t : Tree) (w : List ℕ) (l : ℕ) → IsAscending t.children → IsAscending (without_leaf t w l).children }

@@ -1,5 +1,5 @@
-//! The labelled tree that a dictionary answers from: definitions for contracts, and their laws. The statements of the
-//! laws stand in specs/Statements.antt.
+//! The labelled tree that a dictionary's results come from: definitions for contracts, and their laws. The statements of the
+//! laws are in specs/Statements.antt.
 #![tactic(auto)]
 
 ghost use Rattle.cedar_tree.specs.Statements.{PutIsReadBack, PutStaysLocal, CutIsReadBack, CutStaysLocal, LaterPutStands, HeldPutChangesNothing, MissedCutChangesNothing, CutUndoesPut, CutForgetsPut, PutKeepsSound, CutKeepsSound, PutKeepsPassing, CutKeepsPassing, FoundPasses, PutKeepsAscending, CutKeepsAscending, WalkHasHeld, WalkHasEachOnce, PutKeepsOtherEntries, CutKeepsOtherEntries, KeysComeBeforeExtensions, FrontHasHeld, FrontAscends, PredictHasHeld, PredictIsPartOfWalk, PredictIsWalkOfNode, PredictOfNothingIsWalk, PrefixesHaveFronts, PrefixesHaveNoOther, PutCountsEntries, CutCountsEntries, PutCountsPrefixes, CutCountsPrefixes, PutCountsSlots, CutCountsSlots, MissingAreBareFronts, NodesAreFronts, HeldMissesNone, CutMissesMore, WalkAscends, OneTree, BuiltIsSound, BuiltIsAscending, BuiltPasses, BuiltHoldsLast, SortedPairsHaveTree, PairsHaveOneTree, EntriesAreKeys, EntriesMakeTree};
@@ -19,22 +19,22 @@ pub fn put_is_read_back()
     //= What was put is read back at its path.
     ensures there { PutIsReadBack }
 
-    //= A put leaves the number at each other path.
+    //= A put keeps the number at each other path.
     ensures elsewhere { PutStaysLocal }
 {}
 
-/// A cut number is held no longer, and each other path's number stays.
+/// A cut number is no longer held, and each other path's number stays.
 pub fn cut_is_read_back()
     //= After a cut of a sound tree nothing is at its path.
     ensures there { CutIsReadBack }
 
-    //= A cut of a sound tree leaves the number at each other path.
+    //= A cut of a sound tree keeps the number at each other path.
     ensures elsewhere { CutStaysLocal }
 {}
 
-/// Of two puts at a path the later one stands.
+/// Of two puts at a path the later one counts.
 pub fn later_put_stands()
-    //= Of two puts at a path the later one stands.
+    //= Of two puts at a path the later one counts.
     ensures { LaterPutStands }
 {}
 
@@ -47,12 +47,12 @@ pub fn nothing_changes()
     ensures cut { MissedCutChangesNothing }
 {}
 
-/// A put of a path that isn't held is taken back by a cut; of any path, what is left is as without the put.
+/// A cut undoes a put of a path that isn't held; of any path, what is left is as without the put.
 pub fn cut_undoes_put()
-    //= A cut takes back a put of a path that wasn't held, in a sound tree.
+    //= A cut undoes a put of a path that wasn't held, in a sound tree.
     ensures new { CutUndoesPut }
 
-    //= After a cut of a sound tree it is as if the put at that path had not been.
+    //= After a cut of a sound tree it is as if there had been no put at that path.
     ensures any { CutForgetsPut }
 {}
 
@@ -65,10 +65,10 @@ pub fn soundness_is_kept()
     ensures cut { CutKeepsSound }
 {}
 
-/// Where each number passes a test, this stays so after a put of one that passes and after a cut, and each number
+/// If each number passes a test, this stays so after a put of one that passes and after a cut, and each number
 /// that is found passes.
 pub fn numbers_keep_passing()
-    //= Where all numbers pass a test, they do so after a put of one that passes, and after a cut. [with cut]
+    //= If all numbers pass a test, they do so after a put of one that passes, and after a cut. [with cut]
     ensures put { PutKeepsPassing }
     ensures cut { CutKeepsPassing }
 
@@ -83,7 +83,7 @@ pub fn labels_stay_ascending()
     ensures cut { CutKeepsAscending }
 {}
 
-/// The walk has just the number that is held at a path, once.
+/// The walk has exactly the number that is held at a path, once.
 pub fn walk_is_map()
     //= The walk of a sound tree has an entry exactly if it is held.
     ensures has { WalkHasHeld }
@@ -92,12 +92,12 @@ pub fn walk_is_map()
     ensures once { WalkHasEachOnce }
 {}
 
-/// A cut takes the entry at its path out of the walk, and a put leaves those at other paths, in their order.
+/// A cut removes the entry at its path from the walk, and a put keeps those at other paths, in their order.
 pub fn other_entries_stay()
-    //= A put leaves the entries at other paths, in their order (sound tree, path of labels).
+    //= A put keeps the entries at other paths, in their order (sound tree, path of labels).
     ensures put { PutKeepsOtherEntries }
 
-    //= A cut takes the entry at its path out of the walk, and no other (sound tree).
+    //= A cut removes the entry at its path from the walk, and no other (sound tree).
     ensures cut { CutKeepsOtherEntries }
 {}
 
@@ -107,7 +107,7 @@ pub fn keys_come_before_extensions()
     ensures { KeysComeBeforeExtensions }
 {}
 
-/// The prefix walk has v at n just where the first n + 1 bytes are held with v, and its places ascend: so it has
+/// The prefix walk has v at n exactly if the first n + 1 bytes are held with v, and its places ascend: so it has
 /// each once.
 pub fn front_is_exact()
     //= `front` has v at n exactly if the first n + 1 bytes of the query are held with v.
@@ -117,13 +117,13 @@ pub fn front_is_exact()
     ensures ascends { FrontAscends }
 {}
 
-/// Predicted are just the numbers that are held at a query or behind it, each with the number of bytes behind it, in
+/// The predictions are exactly the numbers that are held at a query or after it, each with the number of bytes after it, in
 /// the order of the walk; for the empty query that is the whole walk.
 pub fn predict_is_part_of_walk()
     //= `predict` of a sound tree has v with m exactly if some key of m bytes more than the query begins with it and holds v.
     ensures has { PredictHasHeld }
 
-    //= The predictions are some of the walk, in its order.
+    //= The predictions are part of the walk, in its order.
     ensures part { PredictIsPartOfWalk }
 
     //= They are the walk of the query's node (sound tree).
@@ -133,26 +133,26 @@ pub fn predict_is_part_of_walk()
     ensures whole { PredictOfNothingIsWalk }
 {}
 
-/// The prefixes are just the fronts of keys but the empty one, each once.
+/// `prefixes` has each prefix of a key but the empty one, once.
 pub fn prefixes_are_fronts()
-    //= The prefixes of a sound tree have each nonempty front of a key once.
+    //= The prefixes of a sound tree have each nonempty prefix of a key once.
     ensures fronts { PrefixesHaveFronts }
 
     //= They have no other path.
     ensures no_other { PrefixesHaveNoOther }
 {}
 
-/// A put adds an entry where its path isn't held, and a cut takes away the one that is.
+/// A put adds an entry if its path isn't held, and a cut removes the one that is.
 pub fn walk_counts()
-    //= A put adds an entry just where its path isn't held; a cut takes one away just where it is. [with cut]
+    //= A put adds an entry exactly if its path isn't held; a cut removes one exactly if it is. [with cut]
     ensures put { PutCountsEntries }
     ensures cut { CutCountsEntries }
 {}
 
-/// A put adds a prefix for each node of its path that the tree doesn't have, and a cut takes those away that it
+/// A put adds a prefix for each node of its path that the tree doesn't have, and a cut removes those that it
 /// leaves bare.
 pub fn prefix_counts()
-    //= A put adds a prefix for each node of its path that is missing; a cut takes away those that it leaves bare. [with cut]
+    //= A put adds a prefix for each node of its path that is missing; a cut removes those that it leaves bare. [with cut]
     ensures put { PutCountsPrefixes }
     ensures cut { CutCountsPrefixes }
 {}
@@ -165,23 +165,23 @@ pub fn slot_counts()
     ensures cut { CutCountsSlots }
 {}
 
-/// The missing nodes of a path are the fronts that lead to no node, which are those that no key begins with. None of a
-/// path that is held is missing, and after a cut those are missing too that it left bare.
+/// The missing nodes of a path are the prefixes that lead to no node, which are those that no key begins with. No node of a
+/// held path is missing, and after a cut those that it left bare are missing too.
 pub fn missing_nodes_are_counted()
-    //= The missing nodes of a path are its fronts that lead to no node (sound tree).
+    //= The missing nodes of a path are its prefixes that lead to no node (sound tree).
     ensures fronts { MissingAreBareFronts }
 
     //= A nonempty path leads to a node exactly if some key begins with it (sound tree).
     ensures nodes { NodesAreFronts }
 
-    //= Of a path that is held no node is missing.
+    //= No node of a held path is missing.
     ensures held { HeldMissesNone }
 
-    //= After a cut those nodes are missing too that it left bare (sound tree).
+    //= After a cut those nodes that it left bare are missing too (sound tree).
     ensures cut { CutMissesMore }
 {}
 
-/// The paths of the walk ascend where the labels do.
+/// The paths of the walk ascend if the labels do.
 pub fn walk_ascends()
     //= The paths of the walk ascend by bytes if the labels ascend.
     ensures { WalkAscends }
@@ -193,7 +193,7 @@ pub fn one_tree()
     ensures { OneTree }
 {}
 
-/// The tree that some pairs make is sound where their paths are keys, its labels ascend, its numbers pass a test where
+/// The tree that some pairs make is sound if their paths are keys. Its labels ascend, its numbers pass a test if
 /// those of the pairs do, and at each path it holds what the last pair with it has.
 pub fn asc_is_built()
     //= The tree of pairs at keys is sound.
@@ -209,7 +209,7 @@ pub fn asc_is_built()
     ensures holds { BuiltHoldsLast }
 {}
 
-/// Pairs whose paths are keys and ascend by bytes have one tree, with labels in ascending order and just these
+/// Pairs whose paths are keys and ascend by bytes have one tree, with labels in ascending order and exactly these
 /// entries: the one that putting them one after another makes.
 pub fn sorted_pairs_have_one_tree()
     //= Pairs whose paths are keys and ascend by bytes have a tree: the one that putting them in order makes.
@@ -219,7 +219,7 @@ pub fn sorted_pairs_have_one_tree()
     ensures unique { PairsHaveOneTree }
 {}
 
-/// The entries of a sound tree are at keys, and they make the tree again where its labels ascend.
+/// The entries of a sound tree are at keys, and they make the tree again if its labels ascend.
 pub fn entries_make_the_tree()
     //= The entries of a sound tree are at keys.
     ensures keys { EntriesAreKeys }

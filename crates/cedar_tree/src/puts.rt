@@ -1,12 +1,12 @@
-//! Laws of a tree that grows by bare leaves along a path, and of how they are taken back.
+//! Laws of a tree that grows by bare leaves along a path, and of how they are removed again.
 
 ghost use Rattle.std.specs.Prelude.{◌++◌, ◌∷◌, ◌≡◌, [], Bool, false, List, true, ℕ};
 ghost use Rattle.cedar_tree.specs.Words.{cut, empty_tree, has_label, HasPath, is_bare, IsAscending, IsSoundBelow, node_at, number_at, Tree, with_leaf};
 
-/// A new leaf stands at the end of its path, has neither number nor child, brings no number, and keeps ascending labels
+/// A new leaf is at the end of its path, has neither number nor child, brings no number, and keeps ascending labels
 /// ascending.
 pub fn leaf_stands_at_its_path()
-    //= A new leaf stands at the end of its path and is bare. [with bare]
+    //= A new leaf is at the end of its path and is bare. [with bare]
     ensures path { (t : Tree) (ordered : Bool) (w : List ℕ) (l : ℕ) → HasPath t w → has_label (node_at t w).children l ≡ false → HasPath (with_leaf t ordered w l) (w ++ l ∷ []) }
     ensures bare { (t : Tree) (ordered : Bool) (w : List ℕ) (l : ℕ) → HasPath t w → has_label (node_at t w).children l ≡ false → node_at (with_leaf t ordered w l) (w ++ l ∷ []) ≡ empty_tree }
 
@@ -15,10 +15,10 @@ pub fn leaf_stands_at_its_path()
     ensures ascending { (t : Tree) (w : List ℕ) (l : ℕ) → HasPath t w → has_label (node_at t w).children l ≡ false → IsAscending t.children → IsAscending (with_leaf t true w l).children }
 {}
 
-/// A cut from a new leaf upwards is as if it had never come; a cut beyond a bare node is one of that node; and in a tree
-/// whose nodes have a number or a child each a cut changes nothing where there is no node.
+/// A cut from a new leaf upwards is as if the leaf had never been added; a cut beyond a bare node is one of that node; and in a
+/// tree whose nodes have a number or a child each, a cut changes nothing if there is no node.
 pub fn cut_takes_leaves_back()
-    //= A cut from a new leaf upwards is as if it had never come.
+    //= A cut from a new leaf upwards is as if the leaf had never been added.
     ensures leaf { (t : Tree) (ordered : Bool) (w : List ℕ) (l : ℕ) (rest : List ℕ) → HasPath t w → has_label (node_at t w).children l ≡ false
         → cut (with_leaf t ordered w l) (w ++ l ∷ rest) ≡ cut t (w ++ l ∷ rest) }
 

@@ -3,42 +3,42 @@
 ghost use Rattle.std.specs.Prelude.{◌+◌, ◌-◌, ◌<◌, ◌∷◌, ◌≡◌, ◌≤◌, [], false, length, List, map, Option, option_map, slice_index, take, ℕ, ℤ};
 ghost use Rattle.cedar_tree.specs.Words.{behind, child, cons_option, empty_tree, Forest, forwards, front, front_from, has_label, IsSoundBelow, node_at, node_up, none, number_at, predict, subtree, Tree, visited_entries, visits_after, visits_left, walk};
 
-/// A walk over all nodes goes on to the first child of its node, or else to the sibling after it, or else to the one after the
-/// nearest node above that has one; and then it is where the walk from there on is what it has left.
+/// A walk over all nodes goes on to the first child of its node, or otherwise to the sibling after it, or otherwise to the one after
+/// the nearest node above that has one. The walk from there on is then what it has left.
 pub fn walks_go_on()
-    //= A walk over all nodes goes on to the first child, else to the next sibling, else to the one after the nearest node above that has
-    //  one (among siblings with distinct labels). [with leaf, right, up]
+    //= A walk over all nodes goes on to the first child, otherwise to the next sibling, otherwise to the one after the nearest node above
+    //  that has one (among siblings with distinct labels). [with leaf, right, up]
     ensures down { (t : Tree) (up : List ℕ) (l : ℕ) (n : Option ℤ) (below : Forest) (rest : Forest) → (node_up t up).children ≡ child l n below rest → visits_left t up ≡ (forwards (l ∷ up), n) ∷ visits_left t (l ∷ up) }
     ensures leaf { (t : Tree) (up : List ℕ) → (node_up t up).children ≡ none → visits_left t up ≡ visits_after t up }
     ensures right { (t : Tree) (up : List ℕ) (l : ℕ) (m : ℕ) (n : Option ℤ) (below : Forest) (rest : Forest) → IsSoundBelow (node_up t up).children → behind (node_up t up).children l ≡ child m n below rest → visits_after t (l ∷ up) ≡ (forwards (m ∷ up), n) ∷ visits_left t (m ∷ up) }
     ensures up { (t : Tree) (up : List ℕ) (l : ℕ) → behind (node_up t up).children l ≡ none → visits_after t (l ∷ up) ≡ visits_after t up }
 {}
 
-/// From the root on a walk over all nodes comes to all entries, in their order; from the node of a query on to what is predicted
+/// From the root on, a walk over all nodes visits all entries, in their order; from the node of a query on, what is predicted
 /// for it.
 pub fn walks_begin()
-    //= From the root on it comes to all entries in their order.
+    //= From the root on it visits all entries in their order.
     ensures entries { (t : Tree) → walk t ≡ visited_entries (([], t.number) ∷ visits_left t []) }
 
-    //= From the node of a query on it comes to what is predicted for it (sound tree).
+    //= From the node of a query on it visits what is predicted for it (sound tree).
     ensures predicted { (t : Tree) (q : List ℕ) → IsSoundBelow t.children → predict t q ≡ map (λ entry. (entry.1, length entry.0)) (visited_entries (([], (node_at t q).number) ∷ visits_left (node_at t q) [])) }
 
-    //= The node at the end of a climbed path is that of the path turned round.
+    //= The node at the end of a climbed path is that of the path reversed.
     ensures nodes { (t : Tree) (up : List ℕ) → node_up t up ≡ node_at t (forwards up) }
 {}
 
-/// The prefix walk goes on a byte at a time, and ends where no node is reached.
+/// The prefix walk goes on a byte at a time, and ends if no node is reached.
 pub fn front_goes_on()
     //= The prefix walk goes on a byte at a time and ends at the query's end. [with more, node, ends]
     ensures begins { (t : Tree) (q : List ℕ) → front_from t q 0 ≡ front t q }
     ensures more { (t : Tree) (q : List ℕ) (n : ℕ) → n < length q → front_from t q n ≡ cons_option (option_map (λ v. (v, n)) (number_at t (take (n + 1) q))) (front_from t q (n + 1)) }
     ensures node { (t : Tree) (q : List ℕ) (n : ℕ) → n < length q → node_at t (take (n + 1) q) ≡ subtree (node_at t (take n q)).children (slice_index q n) }
 
-    //= It ends where no node is reached, and then the query has none. [with gone]
+    //= It ends if no node is reached, and then the query has none. [with gone]
     ensures off { (t : Tree) (q : List ℕ) (n : ℕ) → n < length q → has_label (node_at t (take n q)).children (slice_index q n) ≡ false → front_from t q n ≡ [] }
     ensures gone { (t : Tree) (q : List ℕ) (n : ℕ) → n < length q → has_label (node_at t (take n q)).children (slice_index q n) ≡ false → node_at t q ≡ empty_tree }
 
-    //= It has no more answers left than the query has bytes left.
+    //= It has no more results left than the query has bytes left.
     ensures few { (t : Tree) (q : List ℕ) (n : ℕ) → length (front_from t q n) ≤ length q - n }
     ensures ends { (t : Tree) (q : List ℕ) → front_from t q (length q) ≡ [] }
 {}

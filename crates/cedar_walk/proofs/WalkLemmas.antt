@@ -9,3 +9,4 @@ pub mod Since
 pub mod Ranges
 pub mod Last
 pub mod Keys
+pub mod Waiting

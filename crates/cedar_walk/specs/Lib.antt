@@ -7,3 +7,4 @@ pub mod Ranges
 pub mod RangePlaces
 pub mod Ends
 pub mod Keys
+pub mod Pending

@@ -11,7 +11,8 @@ pub use Rattle.cedar_walk.specs.Batch.{AreLanes, IsLane, keys_of}
 pub use Rattle.cedar_walk.specs.Ends.{GoesPast, IsLastNumber, IsOnLastWay}
 pub use Rattle.cedar_walk.specs.Fronts.{front_length, IsNextFront, IsOnQuery}
 pub use Rattle.cedar_walk.specs.Keys.{KeyGoesOn}
+pub use Rattle.cedar_walk.specs.Pending.{GoesKeeping, IsPending, kept_behind, NoneLeft}
 pub use Rattle.cedar_walk.specs.RangePlaces.{AboveFrom, BeginsAtFirst, IsReached, left_above}
 pub use Rattle.cedar_walk.specs.Ranges.{entries_since}
 pub use Rattle.cedar_walk.specs.Visits.{ComesToFirst, FindsNumber, first_sibling_label, GoesToNode, GoesToNumber, GoesToPlace, IsBelow}
-pub use Rattle.cedar_walk.specs.Visits.{IsNumberedBelow, label_after, left_after, left_at, path_to}
+pub use Rattle.cedar_walk.specs.Visits.{IsNumberedBelow, label_after, left_after, left_at, owner_of, path_to}

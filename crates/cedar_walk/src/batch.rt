@@ -12,7 +12,7 @@ use std::sync::ledger::Ledger;
 /// How many keys go in step.
 const LANES: usize = 16;
 
-/// How many bytes of each key are passed in step: about as many as a word has. What is left of longer keys is passed key by key.
+/// How many bytes of each key are passed in step: about as many as a word has. The rest of longer keys is passed key by key.
 const STEPS: usize = 9;
 
 /// Passes one more byte of a key, if there is one.
@@ -53,7 +53,7 @@ fn pass_each<L: Layout, const SLOTS: usize, A: Allocator, C: Ledger>(
     }
 }
 
-/// What the rest of a key leads to.
+/// Returns what the rest of a key leads to.
 #[inline(always)]
 fn end_lane<L: Layout, const SLOTS: usize, A: Allocator, C: Ledger>(
     table: &Table<L, SLOTS, A>,
@@ -75,7 +75,7 @@ fn end_lane<L: Layout, const SLOTS: usize, A: Allocator, C: Ledger>(
     Some((value, key.len()))
 }
 
-/// The numbers of as many keys as there are lanes at most, and the keys' lengths.
+/// Looks up the numbers of at most as many keys as there are lanes, and the keys' lengths.
 fn search_in_step<L: Layout, const SLOTS: usize, A: Allocator, C: Ledger>(
     table: &Table<L, SLOTS, A>,
     keys: &[&[u8]],
@@ -96,8 +96,8 @@ fn search_in_step<L: Layout, const SLOTS: usize, A: Allocator, C: Ledger>(
     }
 }
 
-/// The numbers of some keys, and the keys' lengths, as far as there is room for answers; what is behind these stays. It takes
-/// no memory.
+/// Looks up the numbers of some keys, and the keys' lengths, as far as there is room for answers; what comes after these stays. It
+/// allocates nothing.
 pub fn exact_match_search_batch<L: Layout, const SLOTS: usize, A: Allocator, C: Ledger>(
     table: &Table<L, SLOTS, A>,
     keys: &[&[u8]],
@@ -107,7 +107,7 @@ pub fn exact_match_search_batch<L: Layout, const SLOTS: usize, A: Allocator, C: 
     requires { IsWellFormed SLOTS (fields table.now) }
 
     //= `exact_match_search_batch` of some keys, on a well-formed table: each answer is `exact` of its tree and its key, for as many keys as
-    //  there are places for answers; places behind the last key stay. Nothing is said of its count.
+    //  there are places for answers; places after the last key stay. Nothing is said about its count.
     ensures { answers.new ≡ map (exact (tree_of (fields table.now))) (take (length answers.old) (keys_of keys.now)) ++ drop (length keys.now) answers.old }
 {
     let count = keys.len().min(answers.len());

@@ -10,8 +10,8 @@ use cedar_model::Layout;
 use cedar_table::Table;
 use std::alloc::Allocator;
 
-/// Where the way to the last node of a walk goes on from a node: to the sibling after it, or else to its first child. So it passes all
-/// children of a node, and nothing below any of them but the last.
+/// Returns where the path to the last node of a walk goes on from a node: to the sibling after it, or otherwise to its first child. So
+/// it passes all children of a node, and nothing below any of them but the last.
 #[inline(always)]
 fn place_nearer<L: Layout, const SLOTS: usize, A: Allocator>(
     table: &Table<L, SLOTS, A>,
@@ -33,13 +33,13 @@ fn place_nearer<L: Layout, const SLOTS: usize, A: Allocator>(
     None
 }
 
-/// The last node with a number of a walk from the root. It takes no memory.
+/// Returns the last node with a number of a walk from the root. It allocates nothing.
 pub fn last_numbered<L: Layout, const SLOTS: usize, A: Allocator>(
     table: &Table<L, SLOTS, A>,
 ) -> Option<Numbered>
     requires { IsWellFormed SLOTS (fields table.now) }
 
-    //= `last_numbered`: the last node with a number of a walk from the root, or that there is none.
+    //= `last_numbered` returns the last node with a number of a walk from the root, or that there is none.
     ensures { MatchOption result (walk (tree_of (fields table.now)) ≡ []) (IsLastNumber (fields table.now)) }
 {
     let label = first_child(table, 0);

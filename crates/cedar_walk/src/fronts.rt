@@ -1,4 +1,4 @@
-//! The next front of a query that is held.
+//! The next held prefix of a query.
 
 ghost use Rattle.std.specs.Prelude.{◌*◌, ◌+◌, ◌-◌, ◌<◌, ◌≤◌, length, MatchOption};
 ghost use Rattle.cedar_walk.specs.Words.{fields, front_length, IsNextFront, IsOnQuery, IsWellFormed, tree_of};
@@ -9,10 +9,10 @@ use cedar_table::Table;
 use std::alloc::Allocator;
 use std::sync::ledger::Ledger;
 
-/// A front of a query that is held.
+/// A held prefix of a query.
 #[derive(Clone, Copy, Debug, PartialEq, Eq)]
 pub struct Front {
-    /// How many bytes the front has.
+    /// How many bytes the prefix has.
     pub len: usize,
     /// The slot of its node.
     pub slot: usize,
@@ -20,8 +20,8 @@ pub struct Front {
     pub number: i32,
 }
 
-/// The next front of a query that is held, behind the first `place` bytes, which lead to `node`. Each byte costs two comparisons
-/// of a check field at most. It takes no memory.
+/// Returns the next held prefix of a query after the first `place` bytes, which lead to `node`. Each byte costs at most two
+/// comparisons of a check field. It allocates nothing.
 pub fn next_held_front<L: Layout, const SLOTS: usize, A: Allocator, C: Ledger>(
     table: &Table<L, SLOTS, A>,
     query: &[u8],
@@ -32,11 +32,11 @@ pub fn next_held_front<L: Layout, const SLOTS: usize, A: Allocator, C: Ledger>(
     requires well_formed { IsWellFormed SLOTS (fields table.now) }
     requires on { IsOnQuery (fields table.now) query.now place node }
 
-    //= `next_held_front` gives the next front of a query that is held, or that none is left. [with on]
+    //= `next_held_front` returns the next held prefix of a query, or that none is left. [with on]
     ensures answer { IsNextFront (tree_of (fields table.now)) query.now place result }
     ensures on { MatchOption result (place ≤ length query.now) (λ front. (place < front.len) × IsOnQuery (fields table.now) query.now front.len front.slot) }
 
-    //= It counts two comparisons at most for each byte that it looks at.
+    //= It counts at most two comparisons for each byte that it looks at.
     ensures cost { ticks.new ≤ ticks.old + 2 * (front_length query.now result - place) }
 {
     let mut slot = node;

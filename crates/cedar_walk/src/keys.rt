@@ -1,5 +1,5 @@
-//! A walk from number to number that keeps the key of its node: so an item of it costs the labels in which its key differs from the
-//! one before, and no climb to the node where the walk began.
+//! A walk from number to number that keeps the key of its node. So an item costs the labels in which its key differs from the one
+//! before, and no climb to the node where the walk began.
 
 ghost use Rattle.std.specs.Prelude.{◌≡◌, ◌≢◌, ◌≤◌, IfOk, length, List, MatchOption, ℕ};
 ghost use Rattle.cedar_walk.specs.Words.{cells, fields, FindsNumber, GoesToNumber, IsBelow, IsNumberedBelow, IsWellFormed, KeyGoesOn};
@@ -9,7 +9,7 @@ use cedar_model::Layout;
 use cedar_table::Table;
 use std::alloc::{AllocError, Allocator};
 
-/// `numbered_from`, which writes the labels on the way down behind the key of the node where it begins.
+/// Does what `numbered_from` does, and writes the labels on the way down after the key of the node where it begins.
 #[inline(always)]
 fn numbered_from_with_key<L: Layout, const SLOTS: usize, A: Allocator, B: Allocator>(
     table: &Table<L, SLOTS, A>,
@@ -39,9 +39,9 @@ fn numbered_from_with_key<L: Layout, const SLOTS: usize, A: Allocator, B: Alloca
     })
 }
 
-/// `numbered_after`, which keeps a key in step: whose last `depth` bytes were the path to the one node, it ends in the path to the other,
-/// and the bytes in front of that stay. Where no node is left, all of the key stays. It fails where a request for memory is refused; then
-/// the key may hold anything, and `numbered_after` and `write_path` give what this call would have.
+/// Does what `numbered_after` does, and keeps a key in step: its last `depth` bytes were the path to the one node, it then ends in the
+/// path to the other, and the bytes before that stay. If no node is left, all of the key stays. It fails if an allocation fails. Then
+/// the key may hold anything, and `numbered_after` and `write_path` return what this call would have.
 #[inline(always)]
 pub fn numbered_after_with_key<L: Layout, const SLOTS: usize, A: Allocator, B: Allocator>(
     table: &Table<L, SLOTS, A>,
@@ -53,7 +53,8 @@ pub fn numbered_after_with_key<L: Layout, const SLOTS: usize, A: Allocator, B: A
     requires below { (start : List ℕ) × IsNumberedBelow (fields table.now) start depth node }
     requires room { depth ≤ length key.old.items }
 
-    //= `numbered_after_with_key`: the node that `numbered_after` gives, and its key, where the key was that of the node before. [with key]
+    //= `numbered_after_with_key` returns the node that `numbered_after` returns, and its key, if the key was that of the node before. [with
+    //  key]
     ensures found { IfOk result (GoesToNumber (fields table.now) depth node) }
     ensures key { IfOk result (λ found. MatchOption found (key.new.items ≡ key.old.items) (KeyGoesOn (fields table.now) depth node key.old.items key.new.items)) }
 {

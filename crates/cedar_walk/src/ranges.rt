@@ -1,4 +1,4 @@
-//! Walks over a range of keys: the first entry at a key or after it, and the path of a node that a walk has come to.
+//! Walks over a range of keys: the first entry at or after a key, and the path of a node that a walk has reached.
 
 ghost use Rattle.std.specs.Prelude.{◌++◌, ◌-◌, ◌<◌, ◌∷◌, ◌≡◌, ◌≤◌, ◌⊎◌, [], length, List, take, true, ℕ};
 ghost use Rattle.cedar_walk.specs.Words.{AboveFrom, BeginsAtFirst, below, cells, ComesToFirst, entries_since, fields, IsAt, IsBelow, IsReached, IsWellFormed, left_above, node_at, path_to, tree_of};
@@ -17,7 +17,7 @@ pub(crate) struct Reached {
     depth: usize,
 }
 
-/// The label of a node below the one above it: a slot is its owner's base with this label.
+/// Returns the label of a node below the one above it: a slot is its owner's base with this label.
 #[inline(always)]
 fn label_below<L: Layout, const SLOTS: usize, A: Allocator>(
     table: &Table<L, SLOTS, A>,
@@ -31,7 +31,7 @@ fn label_below<L: Layout, const SLOTS: usize, A: Allocator>(
     (table.base_of(above) ^ node) as u8
 }
 
-/// Writes the last labels on the way to a node, `depth` of them, behind the front of a key, by climbing: so a walk holds no path.
+/// Writes the last `depth` labels on the way to a node over the end of a key, after its prefix, by climbing: so a walk holds no path.
 pub fn write_path<L: Layout, const SLOTS: usize, A: Allocator>(
     table: &Table<L, SLOTS, A>,
     node: usize,
@@ -54,7 +54,7 @@ pub fn write_path<L: Layout, const SLOTS: usize, A: Allocator>(
     }
 }
 
-/// Goes along a key as far as its bytes lead to nodes.
+/// Follows a key as far as its bytes lead to nodes.
 fn way_along<L: Layout, const SLOTS: usize, A: Allocator>(
     table: &Table<L, SLOTS, A>,
     key: &[u8],
@@ -77,7 +77,7 @@ fn way_along<L: Layout, const SLOTS: usize, A: Allocator>(
     Reached { slot, depth }
 }
 
-/// The label of a node's first child above a label, or 0.
+/// Returns the label of a node's first child above a label, or 0.
 fn child_above<L: Layout, const SLOTS: usize, A: Allocator>(
     table: &Table<L, SLOTS, A>,
     node: usize,
@@ -99,8 +99,8 @@ fn child_above<L: Layout, const SLOTS: usize, A: Allocator>(
     next
 }
 
-/// Where a walk goes on below a node, behind a label under which it has no child: to the first child above that label, or else as
-/// a walk does that is through with all below the node.
+/// Returns where a walk goes on below a node, after a label under which it has no child: to the first child above that label, or
+/// otherwise as a walk does that has finished all below the node.
 fn place_above<L: Layout, const SLOTS: usize, A: Allocator>(
     table: &Table<L, SLOTS, A>,
     node: usize,
@@ -119,7 +119,7 @@ fn place_above<L: Layout, const SLOTS: usize, A: Allocator>(
     next_after(table, node, depth)
 }
 
-/// The first entry at a key or after it by bytes, of a table whose labels ascend. It takes no memory.
+/// Returns the first entry at or after a key by bytes, in a table whose labels ascend. It allocates nothing.
 pub fn first_since<L: Layout, const SLOTS: usize, A: Allocator>(
     table: &Table<L, SLOTS, A>,
     key: &[u8],

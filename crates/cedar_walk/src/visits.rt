@@ -7,7 +7,7 @@ use cedar_model::{Layout, Stored};
 use cedar_table::Table;
 use std::alloc::Allocator;
 
-/// A node that a walk comes to.
+/// A node that a walk visits.
 #[derive(Clone, Copy, Debug, PartialEq, Eq)]
 pub struct Visited {
     /// The node's slot.
@@ -20,7 +20,7 @@ pub struct Visited {
     pub number: Option<i32>,
 }
 
-/// A node with a number that a walk comes to.
+/// A node with a number that a walk visits.
 #[derive(Clone, Copy, Debug, PartialEq, Eq)]
 pub struct Numbered {
     /// The node's slot.
@@ -31,8 +31,8 @@ pub struct Numbered {
     pub number: i32,
 }
 
-/// Where a walk comes to, before anything is read of the node there: its slot, how many labels it is below the node where the walk
-/// began, and the last of these.
+/// A place that a walk reaches, before anything of the node there is read: its slot, how many labels it is below the node where the
+/// walk began, and the last of these.
 #[derive(Clone, Copy)]
 pub(crate) struct Place {
     pub(crate) slot: usize,
@@ -40,7 +40,7 @@ pub(crate) struct Place {
     pub(crate) label: u8,
 }
 
-/// The label of a node's first child, or 0.
+/// Returns the label of a node's first child, or 0.
 #[inline(always)]
 pub(crate) fn first_child<L: Layout, const SLOTS: usize, A: Allocator>(
     table: &Table<L, SLOTS, A>,
@@ -49,7 +49,7 @@ pub(crate) fn first_child<L: Layout, const SLOTS: usize, A: Allocator>(
     requires well_formed { IsWellFormed SLOTS (fields table.now) }
     requires at { (w : List ℕ) × IsAt (cells table.now) w node }
 
-    //= `first_child`, `next_sibling`: the label of the first child, of the sibling after a node, or 0. [also next_sibling]
+    //= `first_child` and `next_sibling` return the label of the first child, and of the sibling after a node, or 0. [also next_sibling]
     ensures { (w : List ℕ) → IsAt (cells table.now) w node → result ≡ first_sibling_label (node_at (tree_of (fields table.now)) w).children }
 {
     // Most nodes name their first label, and neither the root nor one with a number does.
@@ -63,7 +63,7 @@ pub(crate) fn first_child<L: Layout, const SLOTS: usize, A: Allocator>(
     table.first_label(node)
 }
 
-/// The label of the sibling after a node, or 0.
+/// Returns the label of the sibling after a node, or 0.
 #[inline(always)]
 pub(crate) fn next_sibling<L: Layout, const SLOTS: usize, A: Allocator>(
     table: &Table<L, SLOTS, A>,
@@ -76,7 +76,7 @@ pub(crate) fn next_sibling<L: Layout, const SLOTS: usize, A: Allocator>(
     table.sibling(node)
 }
 
-/// The node above a node.
+/// Returns the node above a node.
 #[inline(always)]
 pub(crate) fn parent<L: Layout, const SLOTS: usize, A: Allocator>(
     table: &Table<L, SLOTS, A>,
@@ -85,14 +85,14 @@ pub(crate) fn parent<L: Layout, const SLOTS: usize, A: Allocator>(
     requires well_formed { IsWellFormed SLOTS (fields table.now) }
     requires at { (w : List ℕ) × (l : ℕ) × IsAt (cells table.now) (w ++ l ∷ []) node }
 
-    //= `parent`: the slot of the node above. [with check]
+    //= `parent` returns the slot of the node above. [with check]
     ensures above { (w : List ℕ) (l : ℕ) → IsAt (cells table.now) (w ++ l ∷ []) node → IsAt (cells table.now) w result }
     ensures check { (cells table.now).check node ≡ pos result }
 {
     table.owner(node)
 }
 
-/// The number of a node that is known to have one: where the layout keeps each in a slot of its own there is no test.
+/// Returns the number of a node that is known to have one: if the layout keeps each in a slot of its own, there is no test.
 #[inline(always)]
 pub(crate) fn number_held<L: Layout, const SLOTS: usize, A: Allocator>(
     table: &Table<L, SLOTS, A>,
@@ -109,7 +109,7 @@ pub(crate) fn number_held<L: Layout, const SLOTS: usize, A: Allocator>(
     }
 }
 
-/// The label of the first child of a node that is known to have a number, or 0. It is the sibling of the number's slot.
+/// Returns the label of the first child of a node that is known to have a number, or 0. It is the sibling of the number's slot.
 #[inline(always)]
 pub(crate) fn label_after_number<L: Layout, const SLOTS: usize, A: Allocator>(
     table: &Table<L, SLOTS, A>,
@@ -126,7 +126,7 @@ pub(crate) fn label_after_number<L: Layout, const SLOTS: usize, A: Allocator>(
     }
 }
 
-/// The child of a node under a label that it has.
+/// Returns the child of a node under a label that it has.
 #[inline(always)]
 pub(crate) fn child_under<L: Layout, const SLOTS: usize, A: Allocator>(
     table: &Table<L, SLOTS, A>,
@@ -147,8 +147,8 @@ pub(crate) fn child_under<L: Layout, const SLOTS: usize, A: Allocator>(
     }
 }
 
-/// The next node of a walk that is through with all below a node: the sibling after it, or the one after the nearest node above
-/// it that has one, short of the node `depth` labels above, where the walk began.
+/// Returns the next node of a walk that has finished all below a node: the sibling after it, or the one after the nearest node
+/// above it that has one, short of the node `depth` labels above, where the walk began.
 #[inline(always)]
 pub(crate) fn next_after<L: Layout, const SLOTS: usize, A: Allocator>(
     table: &Table<L, SLOTS, A>,
@@ -173,8 +173,8 @@ pub(crate) fn next_after<L: Layout, const SLOTS: usize, A: Allocator>(
     None
 }
 
-/// Where a walk goes on that has been at a node, whose first child has this label: to that child, or else to the sibling after the
-/// node, or else to the one after the nearest node above it that has one.
+/// Returns where a walk goes on that has been at a node whose first child has this label: to that child, or otherwise to the
+/// sibling after the node, or otherwise to the one after the nearest node above it that has one.
 #[inline(always)]
 pub(crate) fn place_after<L: Layout, const SLOTS: usize, A: Allocator>(
     table: &Table<L, SLOTS, A>,
@@ -193,8 +193,9 @@ pub(crate) fn place_after<L: Layout, const SLOTS: usize, A: Allocator>(
     next_after(table, node, depth)
 }
 
-/// The next node of a walk that has been at a node, `depth` labels below the one where it began, and not yet below it: its first
-/// child, or else the sibling after it, or else the one after the nearest node above it that has one. It takes no memory.
+/// Returns the next node of a walk that has been at a node, `depth` labels below the one where it began, and not yet below it: its
+/// first child, or otherwise the sibling after it, or otherwise the one after the nearest node above it that has one. It allocates
+/// nothing.
 #[inline(always)]
 pub fn node_after<L: Layout, const SLOTS: usize, A: Allocator>(
     table: &Table<L, SLOTS, A>,
@@ -204,7 +205,7 @@ pub fn node_after<L: Layout, const SLOTS: usize, A: Allocator>(
     requires well_formed { IsWellFormed SLOTS (fields table.now) }
     requires below { (start : List ℕ) × IsBelow (cells table.now) start depth node }
 
-    //= `node_after`: the next node of a walk that has been at a node, with its number, or that nothing is left.
+    //= `node_after` returns the next node of a walk that has been at a node, with its number, or that nothing is left.
     ensures { GoesToNode (fields table.now) depth node result }
 {
     let label = first_child(table, node);
@@ -217,9 +218,9 @@ pub fn node_after<L: Layout, const SLOTS: usize, A: Allocator>(
     })
 }
 
-/// The first node with a number of those that begin at a node other than the root, `depth` labels below the one where the walk
-/// began, and go on below it. A node that names a first label has no number, and each other one has: nothing else is asked on the
-/// way down.
+/// Returns the first node with a number of those that begin at a node other than the root, `depth` labels below the one where the
+/// walk began, and go on below it. A node that names a first label has no number, and each other one has one: nothing else is
+/// tested on the way down.
 #[inline(always)]
 pub(crate) fn numbered_from<L: Layout, const SLOTS: usize, A: Allocator>(
     table: &Table<L, SLOTS, A>,
@@ -246,8 +247,8 @@ pub(crate) fn numbered_from<L: Layout, const SLOTS: usize, A: Allocator>(
     }
 }
 
-/// The next node with a number of a walk that has been at one, `depth` labels below the node where it began, and not yet below
-/// it. It takes no memory.
+/// Returns the next node with a number of a walk that has been at one, `depth` labels below the node where it began, and not yet
+/// below it. It allocates nothing.
 #[inline(always)]
 pub fn numbered_after<L: Layout, const SLOTS: usize, A: Allocator>(
     table: &Table<L, SLOTS, A>,
@@ -257,7 +258,7 @@ pub fn numbered_after<L: Layout, const SLOTS: usize, A: Allocator>(
     requires well_formed { IsWellFormed SLOTS (fields table.now) }
     requires below { (start : List ℕ) × IsNumberedBelow (fields table.now) start depth node }
 
-    //= `numbered_after`: the next node with a number of a walk that has been at one, or that none is left.
+    //= `numbered_after` returns the next node with a number of a walk that has been at one, or that none is left.
     ensures { GoesToNumber (fields table.now) depth node result }
 {
     let label = label_after_number(table, node);
@@ -265,14 +266,14 @@ pub fn numbered_after<L: Layout, const SLOTS: usize, A: Allocator>(
     Some(numbered_from(table, place.slot, place.depth))
 }
 
-/// The first node with a number of those that begin at a query's node, and go on below it.
+/// Returns the first node with a number of those that begin at a query's node, and go on below it.
 pub fn first_numbered<L: Layout, const SLOTS: usize, A: Allocator>(
     table: &Table<L, SLOTS, A>,
     query: &[u8],
 ) -> Option<Numbered>
     requires { IsWellFormed SLOTS (fields table.now) }
 
-    //= `first_numbered`: the first node with a number at or below a query's node, or that there is none.
+    //= `first_numbered` returns the first node with a number at or below a query's node, or that there is none.
     ensures { ComesToFirst (fields table.now) query.now (walk (node_at (tree_of (fields table.now)) query.now)) result }
 {
     let node = table.node_of(query)?;

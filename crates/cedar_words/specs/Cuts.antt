@@ -28,10 +28,6 @@ abbrev pub cost_by : (ℕ → ℕ) → List Token → ℕ
 cost_by unknown [] = 0
 cost_by unknown (t ∷ tokens) = price (unknown t.0) t.2 + cost_by unknown tokens
 
--- what they cost where each such byte costs the same
-abbrev pub cost_of : ℕ → List Token → ℕ
-cost_of unknown tokens = cost_by (λ _. unknown) tokens
-
 -- what a byte without a number costs at a place, so that a character costs once: nothing where it goes on with a character of UTF-8
 abbrev pub character_price : ℕ → List ℕ → ℕ → ℕ
 character_price unknown text place = if nat_le 128 (slice_index_or text place 0) then (if nat_le 192 (slice_index_or text place 0) then unknown else 0) else unknown

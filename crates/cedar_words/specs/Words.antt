@@ -1,5 +1,5 @@
 -- The words that the public clauses cite, from one place: a caller's crate takes them from here, and so do this crate's own sources.
-pub use Rattle.cedar_words.specs.Cuts.{character_price, cost_by, cost_of, HasOneCheapest, IsAhead, IsCheapest, IsCheapestBy, IsCut}
+pub use Rattle.cedar_words.specs.Cuts.{character_price, cost_by, HasOneCheapest, IsAhead, IsCheapest, IsCheapestBy, IsCut}
 pub use Rattle.cedar_words.specs.Cuts.{IsLeastCapped}
 pub use Rattle.cedar_words.specs.Spots.{IsKeyIn, IsLeftmost, keywords_from, keywords_in, keywords_of, Spot, spots_at, spots_from}
 pub use Rattle.cedar_words.specs.Spots.{spots_left}

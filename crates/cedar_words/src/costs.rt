@@ -6,7 +6,7 @@ ghost use Rattle.cedar_words.specs.Words.{AreCosts, AreMarks, AreWithin, best_cu
 use cedarwood::{Layout, PrefixIter, Trie, Walked};
 use std::alloc::{AllocError, Allocator};
 
-/// The first token of a cheapest cut of some bytes, and what the whole of that cut costs, or 2^64 - 1 where it costs more.
+/// The first token of a cheapest cut of some bytes, and what the whole of that cut costs, or 2^64 - 1 if it costs more.
 #[derive(Clone, Copy)]
 struct Step {
     cost: u64,
@@ -77,10 +77,10 @@ impl<'a, T: Walked> NextFront for PrefixIter<'a, T> {
 
 /// A dictionary, as cheapest cuts see it.
 trait FirstStep {
-    /// The labelled tree that the answers come from.
+    /// The labelled tree that the results come from.
     ghost tree: { Self → Tree };
 
-    /// The first step over some bytes, where it is known what fewer of their last bytes cost: none, one, and so on up to all but one.
+    /// The first step over some bytes, if it is known what fewer of their last bytes cost: none, one, and so on up to all except one.
     fn first_step(&self, rest: &[u8], unknown: u32, later: &[u64]) -> Step
         requires some { 0 < length rest.now }
         requires later { length later.now ≡ length rest.now }
@@ -143,7 +143,7 @@ fn cheaper(first: Step, second: Step) -> Step
     }
 }
 
-/// What tells later of a step, in one byte: 0 one byte without a value, 255 nothing, and else how many bytes its key has.
+/// What is kept of a step, in one byte: 0 says one byte without a value, 255 nothing, and any other number how many bytes its key has.
 fn mark_of(step: Step) -> u8
     ensures { IsMark step result }
 {
@@ -164,7 +164,7 @@ fn mark_of(step: Step) -> u8
 struct Known<B: Allocator> {
     // What they cost.
     costs: Vec<u64, B>,
-    // What tells of the first step over them.
+    // What says the first step over them.
     marks: Vec<u8, B>,
 }
 
@@ -192,8 +192,8 @@ fn costs_of<T: FirstStep, P: BytePrice, B: Allocator + Copy>(
     Ok(Known { costs, marks })
 }
 
-/// The first token of a cheapest cut of what is left of a text from a place on. A mark tells its bytes, and its value is what they cost
-/// more than what is behind them. Where that tells nothing, the step is looked for once more.
+/// The first token of a cheapest cut of what is left of a text from a place on. A mark says how many bytes it has, and its value is what
+/// they cost more than what follows them. If the mark says nothing, the step is looked for once more.
 fn token_at<T: FirstStep, P: BytePrice>(
     trie: &T,
     text: &[u8],
@@ -261,17 +261,17 @@ fn cut_by<T: FirstStep, P: BytePrice, B: Allocator + Copy>(
 }
 
 /// Cuts a text into keys and single bytes so that they cost the least together: a key costs its value, and a byte without a value costs
-/// `unknown`, also where it is a key. It returns for each token where it begins, how many bytes it has, and its value if it has one. Of
-/// cuts that cost the same it is the one with the longer token where they first differ, and with a key rather than a byte. So one
-/// dictionary and text have one answer, in both layouts.
+/// `unknown`, even if it is a key. It returns for each token where it begins, how many bytes it has, and its value if it has one. Of cuts
+/// that cost the same it is the one with the longer token where they first differ, and with a key rather than a byte. So one dictionary and
+/// text have one result, in both layouts.
 ///
 /// A sum above 2^64 - 1 counts as 2^64 - 1. The least sum of a text of fewer than 2^32 bytes is below that.
 ///
-/// It asks for nine bytes for each byte of the text and nine more, by two requests, and gives them back when it ends; the answer grows as
+/// It allocates nine bytes for each byte of the text and nine more, in two allocations, and frees them when it ends; the result grows as
 /// any vector does. Each place costs a prefix walk.
 ///
 /// # Errors
-/// `AllocError` where a request for memory is refused.
+/// `AllocError` if an allocation is refused.
 ///
 /// ```
 /// cedar.build(&[("a", 5), ("ab", 6), ("bcd", 1)])?;
@@ -285,24 +285,24 @@ pub fn cheapest<L: Layout, const SLOTS: usize, A: Allocator + Copy, B: Allocator
     unknown: u32,
 ) -> Result<Vec<(usize, usize, Option<i32>), B>, AllocError>
     //= The tokens by cost are a cut of the text: each begins where the one before it ended, the first at 0, and the last one ends with the
-    //  text; each is a key with its value, or one byte without a value.
+    //  text. Each is a key with its value, or one byte without a value.
     ensures cut { IfOk result (λ tokens. IsCut trie.now.state.tree text.now tokens.items) }
 
     //= No cut of a text of fewer than 2^32 bytes costs less. Of those that cost as little it is the one with the longer token where lengths
-    //  first differ, which has each key that the other has before. [by IsCheapest]
+    //  first differ, which has each key that the other has before that. [by IsCheapest]
     ensures least { length text.now < 2 ^ 32 → IfOk result (λ tokens. IsCheapest trie.now.state.tree unknown text.now tokens.items) }
 
-    //= No cut of any text costs less, where sums above 2^64 - 1 count as 2^64 - 1.
+    //= No cut of any text costs less, if sums above 2^64 - 1 count as 2^64 - 1.
     ensures capped { IfOk result (λ tokens. IsLeastCapped trie.now.state.tree (λ _. unknown) text.now tokens.items) }
 {
     cut_by(alloc, trie, text, &EachByte { cost: unknown })
 }
 
-/// Cuts a text as `cheapest` does, where an unknown character of UTF-8 costs `unknown` once: a byte without a value that goes on with a
+/// Cuts a text as `cheapest` does, but an unknown character of UTF-8 costs `unknown` once: a byte without a value that continues a
 /// character, 128 to 191, costs nothing. Each byte is still a token of its own.
 ///
 /// # Errors
-/// `AllocError` where a request for memory is refused.
+/// `AllocError` if an allocation is refused.
 ///
 /// ```
 /// cedar.build(&[("网", 9), ("ab", 30)])?;
@@ -325,11 +325,11 @@ pub fn cheapest_by_characters<
     //= By characters the tokens by cost are a cut of the text too.
     ensures cut { IfOk result (λ tokens. IsCut trie.now.state.tree text.now tokens.items) }
 
-    //= No cut of a text of fewer than 2^32 bytes costs less, where a byte without a value that goes on with a character costs nothing. It
-    //  comes first among those that cost as little. [by IsCheapestBy, character_price]
+    //= No cut of a text of fewer than 2^32 bytes costs less, if a byte without a value that continues a character costs nothing. It comes
+    //  first among those that cost as little. [by IsCheapestBy, character_price]
     ensures least { length text.now < 2 ^ 32 → IfOk result (λ tokens. IsCheapestBy trie.now.state.tree (character_price unknown text.now) text.now tokens.items) }
 
-    //= By characters too no cut of any text costs less, where sums above 2^64 - 1 count as 2^64 - 1.
+    //= By characters too no cut of any text costs less, if sums above 2^64 - 1 count as 2^64 - 1.
     ensures capped { IfOk result (λ tokens. IsLeastCapped trie.now.state.tree (character_price unknown text.now) text.now tokens.items) }
 {
     cut_by(alloc, trie, text, &EachCharacter { cost: unknown })

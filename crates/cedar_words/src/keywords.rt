@@ -10,8 +10,8 @@ use std::alloc::{AllocError, Allocator};
 use std::iter::FusedIterator;
 use std::marker::Model;
 
-/// The keywords of a text in their order: for each where it begins, how many bytes it has, and its value. It takes no memory, and a
-/// clone goes on from the same place.
+/// The keywords of a text in their order: for each where it begins, how many bytes it has, and its value. It allocates nothing, and a clone
+/// goes on from the same place.
 ///
 /// A contract sees the keywords that are left.
 #[derive(Drop)]
@@ -26,7 +26,7 @@ impl<'a, T: LongestPrefix> Model for Keywords<'a, T> {
 }
 
 /// Finds the keywords of a text, leftmost longest: of the keys that begin first the longest, and so on from its end. Bytes that no key
-/// begins with are passed. It returns an iterator, which borrows the dictionary and the text and takes no memory.
+/// begins with are passed. It returns an iterator, which borrows the dictionary and the text and allocates nothing.
 ///
 /// ```
 /// cedar.build(&[("he", 1), ("her", 2), ("ero", 3)])?;
@@ -47,8 +47,8 @@ pub fn leftmost_longest<'a, L: Layout, const SLOTS: usize, A: Allocator + Copy>(
     }
 }
 
-/// Finds the keywords of a text from a place on, as `leftmost_longest` does. From the end of a keyword on they are those that come behind
-/// it; from a place inside one others may be found. From a place behind the text's end there are none.
+/// Finds the keywords of a text from a place on, as `leftmost_longest` does. From the end of a keyword on they are those that come after
+/// it; from a place inside one others may be found. From a place after the text's end there are none.
 ///
 /// ```
 /// cedar.build(&[("he", 1), ("her", 2), ("ero", 3)])?;
@@ -82,7 +82,7 @@ fn next_keyword<T: LongestPrefix>(tokens: &mut Segments<'_, T>) -> Option<(usize
 }
 
 impl<'a, T: LongestPrefix> Clone for Keywords<'a, T> {
-    //= Keywords that have ended stay so, and a clone goes on from the same place. [with is_infallible; by FusedIterator]
+    //= Keywords that have ended stay ended, and a clone goes on from the same place. [with is_infallible; by FusedIterator]
     ghost is_clone = { λ it copy. copy ≡ it };
 
     ghost is_infallible = { λ _. ⊤ };

@@ -1,4 +1,4 @@
-//! All keys that stand in a text.
+//! All keys in a text.
 
 ghost use Rattle.std.specs.Prelude.{◌-◌, ◌≡◌, ◌≤◌, drop, length, List, ⊤};
 ghost use Rattle.cedar_words.specs.Words.{AreWithin, front, item_count, Spot, spots_at, spots_from, spots_left, Tree, YieldsFirst};
@@ -9,12 +9,12 @@ use std::alloc::{AllocError, Allocator};
 use std::iter::FusedIterator;
 use std::marker::Model;
 
-/// What walks over the keys that a text begins with: any dictionary. The matches of a text ask for nothing else.
+/// What walks over the keys that a text begins with: any dictionary. The matches of a text need nothing else.
 pub trait Fronts: Walked {
-    /// The labelled tree that the answers come from.
+    /// The labelled tree that the results come from.
     ghost fronts_of: { Self → Tree };
 
-    /// The keys that a text begins with, the shortest first. It takes no memory.
+    /// The keys that a text begins with, the shortest first. It allocates nothing.
     ///
     /// ```
     /// cedar.build(&[("he", 1), ("her", 2), ("ero", 3)])?;
@@ -23,7 +23,7 @@ pub trait Fronts: Walked {
     /// assert_eq!(rt; fronts.next(), Some((2, 2)));
     /// ```
     fn fronts<'a>(&'a self, text: &'a [u8]) -> PrefixIter<'a, Self>
-        //= The walks of which matches are made have the keys that a text begins with.
+        //= The walks that matches are made of have the keys that a text begins with.
         ensures { result.rest ≡ front (fronts_of self.now) text.now };
 }
 
@@ -35,8 +35,8 @@ impl<L: Layout, const SLOTS: usize, A: Allocator + Copy> Fronts for Trie<L, SLOT
     }
 }
 
-/// All keys that stand in a text, place after place, and at each the shortest first: for each where it begins, how many bytes it has, and
-/// its value. They may overlap. It takes no memory, and a clone goes on from the same place.
+/// All keys in a text, place after place, and at each the shortest first: for each where it begins, how many bytes it has, and its value.
+/// They may overlap. It allocates nothing, and a clone goes on from the same place.
 ///
 /// A contract sees those that are left.
 #[derive(Drop)]
@@ -56,8 +56,8 @@ impl<'a, T: Fronts> Model for AllMatches<'a, T> {
     ghost invariant = { λ it. (it.place ≤ length it.text.now) × AreWithin (length it.text.now - it.place) it.walk.rest };
 }
 
-/// Finds all keys that stand in a text: place after place, and at each the shortest first. It returns an iterator, which borrows the
-/// dictionary and the text and takes no memory.
+/// Finds all keys in a text: place after place, and at each the shortest first. It returns an iterator, which borrows the dictionary and
+/// the text and allocates nothing.
 ///
 /// ```
 /// cedar.build(&[("he", 1), ("her", 2), ("ero", 3)])?;
@@ -78,8 +78,8 @@ pub fn matches<'a, L: Layout, const SLOTS: usize, A: Allocator + Copy>(
     matches_from(trie, text, 0)
 }
 
-/// Finds the keys that stand in a text from a place on, as `matches` does: those that begin there or behind it. From a place behind the
-/// end there are none.
+/// Finds the keys in a text from a place on, as `matches` does: those that begin there or after it. From a place after the end there are
+/// none.
 ///
 /// ```
 /// cedar.build(&[("he", 1), ("her", 2), ("ero", 3)])?;
@@ -92,7 +92,7 @@ pub fn matches_from<'a, L: Layout, const SLOTS: usize, A: Allocator + Copy>(
     text: &'a [u8],
     place: usize,
 ) -> AllMatches<'a, Trie<L, SLOTS, A>>
-    //= The matches from a place on are the keys that begin there or behind it.
+    //= The matches from a place on are the keys that begin there or after it.
     ensures { result ≡ spots_from trie.now.state.tree place (drop place text.now) }
 {
     let start = place.min(text.len());
@@ -104,7 +104,7 @@ pub fn matches_from<'a, L: Layout, const SLOTS: usize, A: Allocator + Copy>(
     }
 }
 
-/// The next key at this place, or at the first place behind it where one begins.
+/// The next key at this place, or at the first place after it where one begins.
 fn next_match<'a, T: Fronts>(
     trie: &'a T,
     text: &'a [u8],
@@ -128,7 +128,7 @@ fn next_match<'a, T: Fronts>(
 }
 
 impl<'a, T: Fronts> Clone for AllMatches<'a, T> {
-    //= Matches that have ended stay so, and a clone goes on from the same place. [with is_infallible; by FusedIterator]
+    //= Matches that have ended stay ended, and a clone goes on from the same place. [with is_infallible; by FusedIterator]
     ghost is_clone = { λ it copy. copy ≡ it };
 
     ghost is_infallible = { λ _. ⊤ };

@@ -4,6 +4,7 @@ use Rattle.std.proofs.lemmas.Bool.{cases_lt}
 use Rattle.std.proofs.lemmas.List.{drop_all, drop-drop, drop-set-lt, get_or-map, length-map, take-append-drop, take_all, take_more, take_more_set}
 use Rattle.std.specs.Borrow.{Bor}
 use Rattle.cedar_walk.specs.Batch.{keys_of}
+use Rattle.cedar_walk.proofs.WalkLemmas.Lanes.{key_count}
 use Rattle.cedar_tree.specs.Queries.{Entry}
 use Rattle.cedar_tree.specs.State.{State}
 use Rattle.cedar_tree.specs.Tree.{number_at}
@@ -89,9 +90,6 @@ sizes_of s t (k ∷ ks) answers h =
     (later.0 ∙ first.size.0, later.1 ∙ first.size.1, later.2 ∙ first.max_trial)
 
 -- ---- erasures, a key at a time
-
-key_count : (keys : List (Bor (List ℕ))) → length (keys_of keys) ≡ length keys
-key_count keys = length-map keys (λ (k : Bor (List ℕ)). k.now)
 
 -- the key at an index is erased, and answered
 pub erasure_more : (s t u : Dictionary) (keys : List (Bor (List ℕ))) (answers : List Bool) (i : ℕ) (d : Bor (List ℕ)) (held : Bool) → i < length keys → i < length answers

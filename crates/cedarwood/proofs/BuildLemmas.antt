@@ -1,6 +1,6 @@
 -- What a build leaves, by the updates that it is made of.
 use Rattle.std.proofs.Common.{◌≡◌, ℕ, suc, ◌+◌, ◌<◌, ◌≤◌, ℤ, inl, inr, List, [], ◌∷◌, length, map, take, drop, get_or, Option, Some, None, IfSome, IsSome, Result, Ok, Err, OnOk, IfErr, refl, sym, ap, subst, ◌∙◌, arith, false, true}
-use Rattle.std.proofs.lemmas.List.{at_drop_more, drop_all, drop_more}
+use Rattle.std.proofs.lemmas.List.{drop_all, drop_more}
 use Rattle.cedar_tree.specs.Tree.{number_at}
 use Rattle.cedar_tree.specs.Queries.{Entry}
 use Rattle.cedar_tree.specs.State.{State}
@@ -8,19 +8,12 @@ use Rattle.cedarwood.specs.declared.error.CedarError.{CedarError}
 use Rattle.cedarwood.specs.Builds.{all_stored, first_fault, IsBuild, IsRefusedBuild}
 use Rattle.cedar_model.specs.Table.Layouts.{LayoutKind}
 use Rattle.cedarwood.specs.Dictionary.{Dictionary}
-use Rattle.cedarwood.specs.Fault.{fault, or_else}
+use Rattle.cedarwood.specs.Fault.{fault}
 use Rattle.cedarwood.specs.Updates.{IsUpdate}
 use Rattle.cedarwood.proofs.FaultLemmas.{key_part}
 
 ok_no_err : {X : Type 0} (x : X) (e : CedarError) → ◌≡◌ {A = Result X CedarError} (Ok x) (Err e) → ⊥
 ok_no_err x e h = cc
-
--- ---- the test
-
--- the first fault from an index on is that of its pair, or one of the later pairs
-pub fault_step : {X : Type 0} (f : X → Entry) (ps : List X) (i : ℕ) (d : X) → i < length ps
-    → first_fault (map f (drop i ps)) ≡ or_else (fault (f (get_or ps i d)).0 (f (get_or ps i d)).1) (first_fault (map f (drop (i + 1) ps)))
-fault_step {X} f ps i d h = at_drop_more (λ (xs : List X). first_fault (map f xs)) ps i d h
 
 -- ---- the updates
 

@@ -18,11 +18,14 @@ use Rattle.cedar_model.specs.Edit.Steps.{SameModes}
 use Rattle.cedar_model.specs.Meaning.Marks.{HasMark, marks, MarksCut}
 use Rattle.cedar_model.specs.Meaning.WellFormed.{IsWellFormed, tree_of}
 use Rattle.cedar_model.specs.Table.TableFields.{capacity_of, Fields, size_of}
-use Rattle.cedar_model.proofs.UpdateLemmas.MarkedTree.{marked_held}
+use Rattle.cedar_model.proofs.UpdateLemmas.Erasure.{unheld_same}
+use Rattle.cedar_model.proofs.UpdateLemmas.MarkedTree.{marked_held, marks_cut}
 use Rattle.cedar_walk.specs.declared.visits.Numbered.{Numbered}
 use Rattle.cedar_walk.specs.Ranges.{behind_path, entries_with}
 use Rattle.cedar_walk.specs.Visits.{ComesToNumber, left_at, path_to}
 use Rattle.cedar_walk.proofs.WalkLemmas.Prefixed.{entries_with_node}
+use Rattle.cedarwood.specs.declared.erasing.Found.{Found}
+use Rattle.cedarwood.specs.Batches.{IsErasure, IsFound}
 use Rattle.cedarwood.specs.Dictionary.{some_numbers}
 use Rattle.cedarwood.specs.Erasures.{all_erased, entries_without, erased_under, IsCleared, IsErasedUnder, MarksCutUnder}
 use Rattle.cedarwood.specs.OnTable.{dictionary_of}
@@ -268,3 +271,34 @@ cleared slots T U q n whole well e =
       size = e.size;
       max_trial = e.max_trial;
     }
+
+-- ---- a key that was found, and is erased without being looked up again
+
+-- to erase a key that isn't held changes nothing
+pub unheld : (slots : ℕ) (T : Fields) (key : List ℕ) → IsWellFormed slots T → number_at (tree_of T) key ≡ None → IsErasure (dictionary_of T) (dictionary_of T) key false
+unheld slots T key well none =
+    let same = unheld_same slots T key well none in
+    record {
+      answer = (λ h. absurd (false≢true h), λ h. absurd (false≢true (sym (ap is_some none) ∙ h)));
+      state = ap (λ (t : Tree). record { tree = t; ordered = T.ordered }) same;
+      marks = marks_cut slots T T key well well same (λ w m _ k. k);
+      marked = is_marked slots T well;
+      size = (refl, refl);
+      max_trial = refl;
+    }
+
+-- the number of a key that was found is held
+pub found_is_held : (T : Fields) (key : List ℕ) (found : Found) → IsFound (dictionary_of T) key found → is_some (number_at (tree_of T) key) ≡ true
+found_is_held T key found is = ap is_some is.value
+
+-- once it is cut away, the key is erased
+pub erased_found : (slots : ℕ) (T U : Fields) (key : List ℕ) (found : Found) → IsFound (dictionary_of T) key found → IsWellFormed slots U → tree_of U ≡ cut (tree_of T) key
+    → MarksCut (marks T) (marks U) key → size_of U ≡ size_of T → capacity_of U ≡ capacity_of T → SameModes T U → IsErasure (dictionary_of T) (dictionary_of U) key true
+erased_found slots T U key found is well tree cut_mark size capacity modes = record {
+  answer = (λ _. found_is_held T key found is, λ _. refl);
+  state = λ i. record { tree = tree i; ordered = modes.ordered i };
+  marks = cut_mark;
+  marked = is_marked slots U well;
+  size = (size, capacity);
+  max_trial = modes.max_trial;
+}

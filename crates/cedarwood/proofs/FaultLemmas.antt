@@ -1,8 +1,8 @@
 -- What a pair without a fault is.
-use Rattle.std.proofs.Common.{Bool, ltb, ◌≡◌, ℕ, suc, not, ◌+◌, ◌<◌, ◌≤◌, true, false, cond, ◌==◌, List, [], ◌∷◌, length, get_or, ℤ, Option, Some, None, IfSome, Result, Ok, Err, position, option_map, refl, arith}
-use Rattle.std.proofs.lemmas.Bool.{eqb-false, ltb-false}
-use Rattle.std.specs.List.{position_or_len}
-use Rattle.cedar_tree.specs.Tree.{IsPath, IsKey}
+use Rattle.std.proofs.Common.{◌≡◌, ℕ, ◌<◌, ◌==◌, List, [], ◌∷◌, get_or, ℤ, Option, Some, None, IfSome, Result, Ok, Err, position, option_map, refl}
+use Rattle.cedar_tree.specs.Tree.{IsKey}
+use Rattle.cedar_tree.proofs.EntryLemmas.Keys.{path_without_nul}
+use Rattle.cedar_tree.proofs.GeneralLemmas.{position-None}
 use Rattle.cedarwood.specs.declared.error.CedarError.{CedarError}
 use Rattle.cedarwood.specs.declared.error.CedarError.TheVariants.{EmptyKey, NulByte}
 use Rattle.cedarwood.specs.Fault.{key_fault, value_fault, fault, or_else, IsInRange}
@@ -25,26 +25,6 @@ key_part (Some e) b h = absurd (some_or_none e h)
 pub in_range_of : (key : List ℕ) (v : ℤ) → fault key v ≡ None → IsInRange v
 in_range_of key v h = (key_part (key_fault key) (value_fault v) h).1
 
--- nothing passes a test: its first place is past the end
-position-None : {X : Type 0} (p : X → Bool) (xs : List X) → position p xs ≡ None → length xs ≤ position_or_len p xs
-position-None p xs h =
-    (elim (ltb (position_or_len p xs) (length xs)) as (λ t. ltb (position_or_len p xs) (length xs) ≡ t → cond t (Some (position_or_len p xs)) None ≡ None → length xs ≤ position_or_len p xs) [
-      | true ↦ λ e k. absurd (some_or_none (position_or_len p xs) k)
-      | false ↦ λ e k. ltb-false (position_or_len p xs) (length xs) e
-    ]) refl h
-
-path_of : (key : List ℕ) → length key ≤ position_or_len (λ c. c == 0) key → ((i : ℕ) → get_or key i 0 < 256) → IsPath key
-path_of [] h bytes = tt
-path_of (b ∷ key) h bytes =
-    (elim (b == 0) as (λ t. (b == 0) ≡ t → length (b ∷ key) ≤ cond (not t) (1 + position_or_len (λ c. c == 0) key) 0 → IsPath (b ∷ key)) [
-      | true ↦ λ e k. absurd (omega arith)
-      | false ↦ λ e k.
-          let here : b < 256 = bytes 0 in
-          let some : (b ≡ 0 → ⊥) = eqb-false b 0 e in
-          let rest : length key ≤ position_or_len (λ c. c == 0) key = omega arith in
-          (omega arith, here, path_of key rest (λ i. bytes (suc i)))
-    ]) refl h
-
 not_mapped : (f : ℕ → CedarError) (o : Option ℕ) → option_map f o ≡ None → o ≡ None
 not_mapped f None h = refl
 not_mapped f (Some n) h = absurd (some_or_none (f n) h)
@@ -53,4 +33,4 @@ not_mapped f (Some n) h = absurd (some_or_none (f n) h)
 pub key_of : (key : List ℕ) (v : ℤ) → fault key v ≡ None → ((i : ℕ) → get_or key i 0 < 256) → IsKey key
 key_of [] v h bytes = absurd (some_or_none EmptyKey (key_part (key_fault []) (value_fault v) h).0)
 key_of (b ∷ key) v h bytes =
-    path_of (b ∷ key) (position-None (λ c. c == 0) (b ∷ key) (not_mapped NulByte (position (λ c. c == 0) (b ∷ key)) (key_part (key_fault (b ∷ key)) (value_fault v) h).0)) bytes
+    path_without_nul (b ∷ key) (position-None (λ c. c == 0) (b ∷ key) (not_mapped NulByte (position (λ c. c == 0) (b ∷ key)) (key_part (key_fault (b ∷ key)) (value_fault v) h).0)) bytes

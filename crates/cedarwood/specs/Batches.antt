@@ -1,11 +1,15 @@
 -- What a batch of updates or of erasures answers, and what it leaves.
-use Rattle.std.specs.Prelude.{◌≡◌, ◌↔◌, ℕ, ◌<◌, pos, Bool, IsTrue, List, [], ◌∷◌, fold, get_or, is_some, length, take, IsSome, Result, Ok, Err}
+use Rattle.std.specs.Prelude.{◌≡◌, ◌↔◌, ℕ, ◌<◌, pos, Bool, IsTrue, List, [], ◌∷◌, fold, get_or, is_some, length, Some, take, IsSome, Result, Ok, Err}
 use Rattle.cedar_tree.specs.Queries.{Entry}
 use Rattle.cedar_tree.specs.State.{State, erased}
 use Rattle.cedar_tree.specs.Tree.{number_at}
+use Rattle.cedar_model.specs.Edit.NodeEdits.{IsAt}
 use Rattle.cedar_model.specs.Meaning.Marks.{MarksCut}
+use Rattle.cedar_model.specs.Meaning.WellFormed.{cells_in}
+use Rattle.cedar_model.specs.Table.TableFields.{size_of}
 use Rattle.cedar_model.specs.Table.Layouts.{LayoutKind}
 use Rattle.cedarwood.specs.declared.batches.RefusedPair.{RefusedPair}
+use Rattle.cedarwood.specs.declared.erasing.Found.{Found}
 use Rattle.cedarwood.specs.Builds.{IsBuild}
 use Rattle.cedarwood.specs.Dictionary.{Dictionary, IsMarked}
 use Rattle.cedarwood.specs.Updates.{IsUpdate}
@@ -34,6 +38,12 @@ pub record IsErasure (before after : Dictionary) (key : List ℕ) (held : Bool) 
   pub marked : IsMarked after
   pub size : (after.size ≡ before.size) × (after.capacity ≡ before.capacity)
   pub max_trial : after.max_trial ≡ before.max_trial
+
+-- a key is held, and this is its node
+pub record IsFound (d : Dictionary) (key : List ℕ) (found : Found) : Type 0 where
+  pub value : number_at d.state.tree key ≡ Some found.value
+  pub inside : found.slot < size_of d.table
+  pub at : IsAt (cells_in d.table) key found.slot
 
 -- the keys are erased one after another, each from the dictionary that the one before it left
 abbrev pub IsErasures : Dictionary → Dictionary → List (List ℕ) → List Bool → Type 0

@@ -26,9 +26,12 @@ IsRangePlace T start (Some next) = IsNumberedBelow T start next.depth next.slot
 abbrev pub entries_between : Tree → List ℕ → List ℕ → List Entry
 entries_between t from to = filter (λ e. is_lt (slice_cmp nat_cmp e.0 to)) (entries_since t from)
 
--- what is given of them: all, or nothing where labels don't ascend
+-- what is given of a range: all its entries, or nothing where labels don't ascend
+abbrev pub GivesRange : State → List Entry → Option (List Entry) → Type 0
+GivesRange s range given = MatchOption given (s.ordered ≡ false) (λ entries. (s.ordered ≡ true) × (entries ≡ range))
+
 abbrev pub GivesBetween : State → List ℕ → List ℕ → Option (List Entry) → Type 0
-GivesBetween s from to given = MatchOption given (s.ordered ≡ false) (λ entries. (s.ordered ≡ true) × (entries ≡ entries_between s.tree from to))
+GivesBetween s from to given = GivesRange s (entries_between s.tree from to) given
 
 -- the paths that a walk gives: all where it has no bound, and else those before the bound by bytes
 abbrev pub precedes_end : Option (List ℕ) → List ℕ → Bool

@@ -2,8 +2,10 @@
 use Rattle.std.specs.Prelude.{◌≡◌, ◌==◌, cond, ℕ, ◌<◌, ◌≤◌, ℤ, List, [], ◌∷◌, length, map, MatchOption, Option}
 use Rattle.cedar_tree.specs.Queries.{Entry, predict}
 use Rattle.cedar_tree.specs.Walks.{visited_entries}
+use Rattle.cedar_walk.specs.declared.pending.PendingSibling.{PendingSibling}
 use Rattle.cedar_walk.specs.declared.visits.Numbered.{Numbered}
 use Rattle.cedar_walk.specs.Fronts.{IsOnQuery}
+use Rattle.cedar_walk.specs.Pending.{IsPending}
 use Rattle.cedar_model.specs.Table.TableFields.{Fields}
 use Rattle.cedar_walk.specs.Visits.{IsBelow, IsNumberedBelow, left_at, path_to}
 use Rattle.cedar_model.specs.Meaning.WellFormed.{cells_in, IsWellFormed, tree_of}
@@ -26,15 +28,15 @@ predicted_from T query Start = predict (tree_of T) query
 predicted_from T query (Node slot depth) = answers_of (visited_entries (left_at T query depth slot))
 predicted_from T query End = []
 
--- it stands at a node with a number below its query
-abbrev pub IsPredictPlace : Fields → List ℕ → PredictPlace → Type 0
-IsPredictPlace T query Start = Unit {0}
-IsPredictPlace T query (Node slot depth) = IsNumberedBelow T query depth slot
-IsPredictPlace T query End = Unit {0}
+-- it stands at a node with a number below its query, and keeps siblings that are right for it
+abbrev pub IsPredictPlace : Fields → List ℕ → PredictPlace → List PendingSibling → Type 0
+IsPredictPlace T query Start siblings = Unit {0}
+IsPredictPlace T query (Node slot depth) siblings = IsNumberedBelow T query depth slot × IsPending T siblings depth slot
+IsPredictPlace T query End siblings = Unit {0}
 
 -- from a place the walk comes to a node with a number: its answer is the first of those left
-pub record GoesOnTo (T : Fields) (query : List ℕ) (place : PredictPlace) (next : Numbered) : Type 0 where
-  pub stands : IsPredictPlace T query (Node next.slot next.depth)
+pub record GoesOnTo (T : Fields) (query : List ℕ) (place : PredictPlace) (siblings : List PendingSibling) (next : Numbered) : Type 0 where
+  pub stands : IsPredictPlace T query (Node next.slot next.depth) siblings
   pub rest : predicted_from T query place ≡ (next.number, next.depth) ∷ predicted_from T query (Node next.slot next.depth)
 
 -- the entries that a walk over all keys has left, where it has been at slot s, at the end of the path `key`, and `left` entries are

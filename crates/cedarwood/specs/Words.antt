@@ -21,10 +21,11 @@ pub use Rattle.cedar_tree.specs.Walks.{front_from, visited_entries}
 pub use Rattle.cedar_walk.specs.Batch.{keys_of}
 pub use Rattle.cedar_walk.specs.Fronts.{front_length, IsNextFront, IsOnQuery}
 pub use Rattle.cedar_walk.specs.Keys.{KeyGoesOn}
+pub use Rattle.cedar_walk.specs.Pending.{IsPending}
 pub use Rattle.cedar_walk.specs.Ranges.{entries_since, entries_with, longest_front}
 pub use Rattle.cedar_walk.specs.Visits.{ComesTo, ComesToFirst, ComesToNumber, GoesToNode, GoesToNumber, IsBelow, IsNumberedBelow, left_at, path_to}
 pub use Rattle.cedar_walk.specs.declared.visits.Numbered.{Numbered}
-pub use Rattle.cedarwood.specs.Batches.{held_in_turn, IsErasure, IsErasures, IsUpdates, keys_erased, pair_at, StopsAt}
+pub use Rattle.cedarwood.specs.Batches.{held_in_turn, IsErasure, IsErasures, IsFound, IsUpdates, keys_erased, pair_at, StopsAt}
 pub use Rattle.cedarwood.specs.Blanks.{IsBlankOf}
 pub use Rattle.cedarwood.specs.Builds.{all_stored, first_fault, IsBuild, IsRefusedBuild, outcome}
 pub use Rattle.cedarwood.specs.Cursors.{Cursor, cursor_code, cursor_left, FindsNext, IsAtEnd, IsCursorEnd, IsCursorPlace, IsShortOf}
@@ -38,7 +39,7 @@ pub use Rattle.cedarwood.specs.Loading.{LacksByPath, LoadAnswers, LoadedFilesSav
 pub use Rattle.cedarwood.specs.Making.{default_settings, IsEmpty, IsNew, IsRenewed, IsSorted, IsSortedBuild}
 pub use Rattle.cedarwood.specs.Memory.{CedarFitsInMemory, ReducedFitsInMemory}
 pub use Rattle.cedarwood.specs.OnTable.{dictionary_of, IsOnTable}
-pub use Rattle.cedarwood.specs.RangeWalks.{bounded, entries_between, GivesBetween, IsEnd, IsRangePlace}
+pub use Rattle.cedarwood.specs.RangeWalks.{bounded, entries_between, GivesBetween, GivesRange, IsEnd, IsRangePlace}
 pub use Rattle.cedarwood.specs.Room.{LacksRoom}
 pub use Rattle.cedarwood.specs.Saving.{FailsToSave, FailsToWrite, PassesAgain}
 pub use Rattle.cedarwood.specs.Shown.{entry_error_text, error_text, refused_pair_text, shown_text}
@@ -62,3 +63,4 @@ pub use Rattle.std.specs.Mem.{FitsInMemory}
 pub use Rattle.std.specs.Ordering.{is_lt, nat_cmp, ordering_then}
 pub use Rattle.std.specs.Prelude.{[], IfErr, IfOk, IsTrue, length, map, MatchResult, OnOk, Some}
 pub use Rattle.std.specs.declared.cmp.Ordering.TheVariants.{Less}
+pub use Rattle.std.specs.Prelude.{IfOk}

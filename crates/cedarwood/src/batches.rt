@@ -14,17 +14,17 @@ pub(crate) const LANES: usize = 16;
 //= `==` of two refusals is their equality. [by PartialEq]
 #[derive(Clone, Debug, Drop, PartialEq, Eq)]
 pub struct RefusedPair {
-    /// The place of the pair, counted from 0.
+    /// The index of the pair, counted from 0.
     pub index: usize,
-    /// What the pair's own update answers.
+    /// The error of the pair's own update.
     pub error: CedarError,
 }
 
 impl<L: Layout, const SLOTS: usize, A: Allocator + Copy> Trie<L, SLOTS, A> {
-    /// Stores some pairs as [`Trie::update_bytes`] does one after another: a key's last value stands.
+    /// Stores some pairs as [`Trie::update_bytes`] does one after another: the last value of a key counts.
     ///
-    /// A few keys are looked up in step before they are stored, so that their waits for memory can overlap where the table is large and
-    /// the keys come in no order.
+    /// A few keys are looked up in step before they are stored, so that their waits for memory can overlap if the table is large and the
+    /// keys come in no order.
     ///
     /// ```
     /// let pairs: [(&[u8], i32); 2] = [(b"ten", 2), (b"net", 7)];
@@ -33,17 +33,17 @@ impl<L: Layout, const SLOTS: usize, A: Allocator + Copy> Trie<L, SLOTS, A> {
     /// ```
     ///
     /// # Errors
-    /// As [`Trie::update_bytes`] of the first pair that is refused, with the place of that pair. The pairs before it are stored, it and
-    /// those behind it aren't.
+    /// As [`Trie::update_bytes`] of the first pair that is refused, with the index of that pair. The pairs before it are stored, it and
+    /// those after it aren't.
     pub fn update_batch(&mut self, pairs: &[(&[u8], i32)]) -> Result<(), RefusedPair>
-        //= `update_batch` is as many updates, one after another, of which a refused one is the last and is told with its place. [by IsUpdates]
+        //= `update_batch` does as many updates, one after another. A refused one is the last and is reported with its index. [by IsUpdates]
         ensures updates { IsUpdates L.kind SLOTS self.old self.new (entries_of pairs.now) result }
 
-        //= So all pairs are stored in turn, or those before the refused one. [with refused]
+        //= So it stores all pairs in turn, or those before the refused one. [with refused]
         ensures stored { OnOk result (self.new.state ≡ all_stored self.old.state (entries_of pairs.now)) }
         ensures refused { IfErr result (λ refusal. self.new.state ≡ all_stored self.old.state (take refusal.index (entries_of pairs.now))) }
 
-        //= `max_trial` stays.
+        //= `max_trial` doesn't change.
         ensures max_trial { self.new.max_trial ≡ self.old.max_trial }
     {
         for index in 0..pairs.len() {
@@ -68,11 +68,11 @@ impl<L: Layout, const SLOTS: usize, A: Allocator + Copy> Trie<L, SLOTS, A> {
         self.exact_match_search_batch(&keys[..count], &mut [None; LANES]);
     }
 
-    /// Removes some keys as [`Trie::erase_bytes`] does one after another: `answers[i]` becomes whether `keys[i]` was held then, for as
-    /// many keys as there is room for. Keys without room stay, and so do answers behind the last key. It takes no memory.
+    /// Removes some keys as [`Trie::erase_bytes`] does one after another: `answers[i]` becomes whether `keys[i]` was held then, for as many
+    /// keys as there are places. Keys without a place stay, and so do places after the last key. It allocates nothing.
     ///
-    /// A few keys are looked up in step before they are removed, so that their waits for memory can overlap where the table is large and
-    /// the keys come in no order.
+    /// A few keys are looked up in step before they are removed, so that their waits for memory can overlap if the table is large and the
+    /// keys come in no order.
     ///
     /// ```
     /// cedar.update_bytes(b"net", 7)?;
@@ -82,15 +82,15 @@ impl<L: Layout, const SLOTS: usize, A: Allocator + Copy> Trie<L, SLOTS, A> {
     /// assert_eq!(rt; answers, [true, false]);
     /// ```
     pub fn erase_batch(&mut self, keys: &[&[u8]], answers: &mut [bool])
-        //= `erase_batch` is as many erasures, one after another, of as many keys as there are places for answers. [by IsErasures]
+        //= `erase_batch` does as many erasures, one after another, for as many keys as there are places for results. [by IsErasures]
         ensures erasures { IsErasures self.old self.new (take (length answers.old) (keys_of keys.now)) (take (length keys.now) answers.new) }
 
-        //= So each answer is whether its key was held after the erasures before it, and places behind the last key stay; the tree is then
-        //  what is left after all of these. [with after]
+        //= So each result is whether its key was held after the erasures before it. Places after the last key don't change. The tree is
+        //  then what is left after all of these erasures. [with after]
         ensures answers { answers.new ≡ held_in_turn self.old.state (take (length answers.old) (keys_of keys.now)) ++ drop (length keys.now) answers.old }
         ensures after { self.new.state ≡ keys_erased self.old.state (take (length answers.old) (keys_of keys.now)) }
 
-        //= It leaves the slots in use, those there are, and `max_trial`. [with max_trial]
+        //= It doesn't change the slots in use, the slots that there are, and `max_trial`. [with max_trial]
         ensures size { (self.new.size ≡ self.old.size) × (self.new.capacity ≡ self.old.capacity) }
         ensures max_trial { self.new.max_trial ≡ self.old.max_trial }
     {

@@ -10,7 +10,7 @@ use std::alloc::Allocator;
 use std::convert::AsSlice;
 
 impl<L: Layout, const SLOTS: usize, A: Allocator + Copy> Trie<L, SLOTS, A> {
-    /// Stores some pairs, one after another: a key's last value stands. All are tested first. A few keys are looked up in step before
+    /// Stores some pairs, one after another: the last value of a key counts. All are tested first. A few keys are looked up in step before
     /// they are stored, as by [`Trie::update_batch`].
     ///
     /// ```
@@ -20,23 +20,23 @@ impl<L: Layout, const SLOTS: usize, A: Allocator + Copy> Trie<L, SLOTS, A> {
     /// ```
     ///
     /// # Errors
-    /// The fault of the first pair that has one, as of [`Trie::update_bytes`]; then nothing has changed. Without one, `Memory`
-    /// where a request was refused and `SlotLimit` where the limit of slots allows no further block: then the pairs before the
-    /// refused one are stored.
+    /// The fault of the first pair that has one, as of [`Trie::update_bytes`]; then nothing has changed. Without one, `Memory` if an
+    /// allocation was refused and `SlotLimit` if the limit of slots allows no further block: then the pairs before the refused one are
+    /// stored.
     pub fn build_bytes(&mut self, pairs: &[(&[u8], i32)]) -> Result<(), CedarError>
-        //= A build answers the fault of the first pair that has one, and then nothing has changed. [with unchanged; also build]
+        //= A build returns the fault of the first pair that has one, and then nothing has changed. [with unchanged; also build]
         ensures faulty { IfSome (first_fault (entries_of pairs.now)) (λ e. result ≡ Err e) }
         ensures unchanged { IsSome (first_fault (entries_of pairs.now)) → self.new ≡ self.old }
 
-        //= Else it is as many updates, one after another, of which a refused one is the last. [also build; by IsBuild]
+        //= Otherwise it does as many updates, one after another, and a refused one is the last. [also build; by IsBuild]
         ensures updates { first_fault (entries_of pairs.now) ≡ None → IsBuild L.kind SLOTS self.old (entries_of pairs.now) result self.new }
 
-        //= So all pairs are stored in turn; or it is refused for memory or slots, as an update is, and the pairs before one whose key isn't
-        //  held then are stored. [with refused; also build; by IsRefusedBuild]
+        //= So it stores all pairs in turn; or it fails for lack of memory or slots, as an update does, and the pairs before one whose key
+        //  isn't held then are stored. [with refused; also build; by IsRefusedBuild]
         ensures stored { OnOk result (self.new.state ≡ all_stored self.old.state (entries_of pairs.now)) }
         ensures refused { first_fault (entries_of pairs.now) ≡ None → IfErr result (IsRefusedBuild SLOTS self.old self.new (entries_of pairs.now)) }
 
-        //= `max_trial` stays. [also build]
+        //= `max_trial` doesn't change. [also build]
         ensures max_trial { self.new.max_trial ≡ self.old.max_trial }
     {
         self.store_all(pairs)

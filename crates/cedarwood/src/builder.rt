@@ -15,7 +15,7 @@ use std::alloc::Allocator;
 /// let builder = CedarBuilder::new().ordered(false).max_trial(3)?;
 /// let cedar = builder.build(rt.alloc())?;
 /// ```
-//= `==` of two builders is their equality, and a caller can prove by it. [by PartialEq]
+//= `==` of two builders is their equality, and a caller's proof can use it. [by PartialEq]
 #[derive(Clone, Copy, Debug, PartialEq, Eq)]
 pub struct CedarBuilder {
     pub(crate) ordered: bool,
@@ -60,8 +60,8 @@ impl CedarBuilder {
         }
     }
 
-    /// Sets how many failed searches close a block. More of them may pack the slots closer, for more time; no
-    /// answer depends on it, as long as nothing is refused for memory or slots.
+    /// Sets how many failed searches close a block. More of them may pack the slots closer, for more time; no result depends on it, as long
+    /// as nothing is refused for memory or slots.
     ///
     /// ```
     /// assert!(rt; CedarBuilder::new().max_trial(0).is_err());
@@ -69,12 +69,12 @@ impl CedarBuilder {
     /// ```
     ///
     /// # Errors
-    /// `InvalidMaxTrial` where the number is 0 or less.
+    /// `InvalidMaxTrial` if the number is 0 or less.
     pub fn max_trial(self, max_trial: i32) -> Result<Self, CedarError>
         ensures ordered { IfOk result (λ builder. builder.ordered ≡ self.ordered) }
         ensures max_trial { IfOk result (λ builder. builder.max_trial ≡ max_trial) }
 
-        //= A `max_trial` is taken exactly if it is 1 or more, and else refused with it. [with tested]
+        //= A `max_trial` is accepted exactly if it is 1 or more, and otherwise refused with an error that has it. [with tested]
         ensures refused { IfErr result (λ e. e ≡ CedarError.InvalidMaxTrial max_trial) }
         ensures tested { IsOk result ↔ (pos 1 ≤ℤ max_trial) }
     {
@@ -87,7 +87,7 @@ impl CedarBuilder {
         })
     }
 
-    /// An empty dictionary with these settings. It takes its memory from `alloc`.
+    /// An empty dictionary with these settings. It allocates from `alloc`.
     ///
     /// ```
     /// let builder = CedarBuilder::new().max_trial(3)?;
@@ -96,10 +96,10 @@ impl CedarBuilder {
     /// ```
     ///
     /// # Errors
-    /// `Memory` where a request was refused.
+    /// `Memory` if an allocation was refused.
     pub fn build<A: Allocator + Copy>(self, alloc: A) -> Result<Cedar<A>, CedarError>
-        //= A new dictionary is empty and unmarked, has these settings and 256 slots; it is refused for memory alone. [also with, Trie::new,
-        //  build_reduced; by IsNew, tree, unmarked, ordered, max_trial, size]
+        //= A new dictionary is empty and unmarked, has these settings and 256 slots; making it fails only with `Memory`. [also with,
+        //  Trie::new, build_reduced; by IsNew, tree, unmarked, ordered, max_trial, size]
         ensures made { IsNew self result }
 
         // For calls on it in a function that is generic in the allocator.
@@ -114,7 +114,7 @@ impl CedarBuilder {
         }
     }
 
-    /// A dictionary of some pairs, whose keys ascend by bytes, with these settings. It takes its memory from `alloc`.
+    /// A dictionary of some pairs, whose keys ascend by bytes, with these settings. It allocates from `alloc`.
     ///
     /// ```
     /// let pairs: [(&[u8], i32); 2] = [(b"net", 7), (b"ten", 2)];
@@ -123,9 +123,9 @@ impl CedarBuilder {
     /// ```
     ///
     /// # Errors
-    /// The first fault of the input: each pair's own of `EmptyKey`, `NulByte` and `InvalidValue`, in this order, and then
-    /// `DuplicateKey` or `KeysNotSorted` where its key isn't above the one before it. Without one, `Memory` where a request
-    /// was refused, and `SlotLimit` where the limit of slots allows no further block.
+    /// The first fault of the input: each pair's own of `EmptyKey`, `NulByte` and `InvalidValue`, in this order, and then `DuplicateKey` or
+    /// `KeysNotSorted` if its key isn't above the one before it. Without one, `Memory` if an allocation was refused, and `SlotLimit` if the
+    /// limit of slots allows no further block.
     pub fn from_sorted_bytes<A: Allocator + Copy>(
         self,
         alloc: A,
@@ -184,7 +184,7 @@ impl CedarBuilder {
     /// ```
     ///
     /// # Errors
-    /// `Memory` where a request was refused.
+    /// `Memory` if an allocation was refused.
     pub fn build_reduced<A: Allocator + Copy>(self, alloc: A) -> Result<ReducedCedar<A>, CedarError>
         ensures made { IsNew self result }
         ensures fits { IfOk result (λ _. ReducedFitsInMemory A.row A.Allocator) }
@@ -259,7 +259,7 @@ impl CedarBuilder {
 }
 
 impl Default for CedarBuilder {
-    //= `default` gives the settings of `new`.
+    //= `default` returns the settings of `new`.
     ghost is_default = { λ builder. (builder.ordered ≡ true) × (builder.max_trial ≡ pos 1) };
 
     fn default() -> Self {

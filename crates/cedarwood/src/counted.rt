@@ -1,4 +1,4 @@
-//! Calls whose steps are counted, made with counts of their own, which nothing reads.
+//! Calls whose steps are counted, called with counts of their own that nothing reads.
 
 ghost use Rattle.std.specs.Prelude.{◌++◌, ◌≡◌, drop, IfSome, length, map, None, take, ℕ};
 ghost use Rattle.cedarwood.specs.Words.{exact, Fields, IsBlankOf, IsLimit, IsSound, keys_of, LayoutKind, LoadsBy, TellsBreaks, Tree, value_fault};
@@ -8,7 +8,7 @@ use cedar_walk::exact_match_search_batch;
 use std::alloc::Allocator;
 use std::sync::ledger::{Blank, Ledger};
 
-/// A dictionary whose calls count their steps: any [`Trie`]. A ledger for a count is picked where no type that is passed has a const
+/// A dictionary whose calls count their steps: any [`Trie`]. A ledger for a count is picked if no type that is passed has a const
 /// parameter: so a count isn't made in the trie's own call, but in a function over this trait.
 pub(crate) trait Counted<A: Allocator + Copy> {
     ghost kind: { LayoutKind };

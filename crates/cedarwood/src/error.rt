@@ -14,30 +14,30 @@ use std::alloc::AllocError;
 pub enum CedarError {
     /// A key to store has no byte.
     EmptyKey,
-    /// A key to store holds byte 0.
+    /// A key to store has a byte 0.
     NulByte {
-        /// Where the first one stands, counted in bytes from 0.
+        /// The position of the first one, counted in bytes from 0.
         position: usize,
     },
     /// A value to store is below 0 or above 2147483645.
     InvalidValue {
         value: i32,
     },
-    /// A setting of how often a block may fail to fit a set of labels is 0 or less.
+    /// The setting `max_trial` is 0 or less.
     InvalidMaxTrial {
         value: i32,
     },
     /// A sorted input repeats a key.
     DuplicateKey {
-        /// The place of the second of the two, counted from 0.
+        /// The index of the second of the two, counted from 0.
         index: usize,
     },
     /// A sorted input isn't sorted.
     KeysNotSorted {
-        /// The place of the smaller key, counted from 0.
+        /// The index of the smaller key, counted from 0.
         index: usize,
     },
-    /// A request for memory was refused.
+    /// An allocation was refused.
     Memory,
     /// No slot is left, and the limit of slots allows no further block of them.
     SlotLimit,
@@ -52,7 +52,7 @@ impl From<AllocError> for CedarError {
 }
 
 impl From<Shortage> for CedarError {
-    //= What a table lacked is told as itself: memory as `Memory`, slots as `SlotLimit`.
+    //= What a table lacked is reported as it is: memory as `Memory`, slots as `SlotLimit`.
     ghost from_gives = { λ shortage error. error ≡ told shortage };
 
     fn from(shortage: Shortage) -> CedarError {

@@ -17,7 +17,7 @@ pub struct MemoryStats {
     pub used_node_slots: usize,
     /// How many slots there are, in use or not.
     pub node_capacity: usize,
-    /// How many bytes the slots, the blocks and the reject values take.
+    /// How many bytes slots, blocks and reject values take.
     pub allocated_bytes: usize,
 }
 
@@ -30,7 +30,7 @@ impl<L: Layout, const SLOTS: usize, A: Allocator + Copy> Trie<L, SLOTS, A> {
     /// ```
     #[must_use]
     pub fn allocated_bytes(&self) -> usize
-        //= `allocated_bytes` is ten bytes a slot, twenty a block and 514.
+        //= `allocated_bytes` returns ten bytes a slot, plus twenty a block, plus 514.
         ensures { result ≡ 10 * self.now.capacity + 20 * (self.now.capacity / 256) + 514 }
     {
         let capacity = self.table.capacity();
@@ -46,7 +46,7 @@ impl<L: Layout, const SLOTS: usize, A: Allocator + Copy> Trie<L, SLOTS, A> {
     /// ```
     #[must_use]
     pub fn memory_stats(&self) -> MemoryStats
-        //= `memory_stats` has these four figures. [with used, used_by_default, capacity, bytes]
+        //= `memory_stats` returns these four figures. [with used, used_by_default, capacity, bytes]
         ensures entries { result.entries ≡ length (walk self.now.state.tree) }
         ensures used { result.used_node_slots ≡ 1 + length (prefixes self.now.state.tree) + length (walk self.now.marked) }
         ensures used_by_default { L.kind ≡ default_layout → result.used_node_slots ≡ used self.now.state.tree }

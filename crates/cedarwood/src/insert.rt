@@ -1,4 +1,4 @@
-//! A value stored, and the one before it answered.
+//! A value stored, and the one before it returned.
 
 ghost use Rattle.std.specs.Prelude.{◌≡◌, IfOk, IfSome, None, OnOk};
 ghost use Rattle.cedarwood.specs.Words.{IsSound, IsUpdate, number_at, outcome, value_fault};
@@ -19,7 +19,7 @@ impl<L: Layout, const SLOTS: usize, A: Allocator + Copy> Trie<L, SLOTS, A> {
     /// # Errors
     /// As [`Trie::update_bytes`]: after an error the dictionary holds what it held.
     pub fn insert_bytes(&mut self, key: &[u8], value: i32) -> Result<Option<i32>, CedarError>
-        //= An insert is an update, and answers the value that the key held before. [with held; also insert]
+        //= An insert is an update, and returns the value that the key held before. [with held; also insert]
         ensures updated { IsUpdate L.kind SLOTS self.old self.new key.now value (outcome result) }
         ensures held { IfOk result (λ held. held ≡ number_at self.old.state.tree key.now) }
 

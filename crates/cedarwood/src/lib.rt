@@ -1,8 +1,8 @@
 //! A mutable dictionary from byte strings to whole numbers.
 //!
-//! A key is a nonempty byte string without byte 0, a value a whole number from [`MIN_VALUE`] to
-//! [`MAX_VALUE`]. All lengths and positions count bytes. Whatever calls are made, every answer is that of
-//! one labelled tree, which the contracts carry from call to call: `run_calls` of `cedar_calls` says so of any list of calls.
+//! A key is a nonempty byte string without byte 0, a value a whole number from [`MIN_VALUE`] to [`MAX_VALUE`]. All lengths and positions
+//! count bytes. Whatever calls are made, every result is that of one labelled tree, which the contracts carry from call to call:
+//! `run_calls` of `cedar_calls` says so of any list of calls.
 //!
 //! ```
 //! let mut cedar = Cedar::new(rt.alloc())?;
@@ -12,7 +12,7 @@
 //! ```
 //!
 //! In the examples `rt` is the program's runtime, `cedar` a new [`Cedar`] if it isn't made there, `saved` the bytes that a save of it
-//! wrote, and `files` where such a file lies by the name `words.cedar`. `blank`, `ticks`, `asked` and `reads` are for counts, whose
+//! wrote, and `files` the place of such a file by the name `words.cedar`. `blank`, `ticks`, `asked` and `reads` are for counts, whose
 //! ledgers are `C` and `D`. `examples/calls.txt` has the lines of each example in tests, and `tests/run` runs them.
 #![tactic(auto)]
 
@@ -44,11 +44,12 @@ pub use cedar_format::{
     CedarPersistenceError, Source, Watched, one_table_for_its_bytes, well_formed_tables_pass,
 };
 pub use cedar_table::{DefaultLayout, Layout, ReducedLayout, Ticks};
-// Laws of the tree that all answers come from, for whoever proves something of a dictionary's callers.
+// Laws of the tree that all results come from, for whoever proves something of a dictionary's callers.
 pub use cedar_tree::{
     cut_undoes_put, front_is_exact, keys_come_before_extensions, predict_is_part_of_walk,
     walk_ascends, walk_is_map,
 };
+pub use erasing::Found;
 pub use error::CedarError;
 pub use figures::MemoryStats;
 pub use laws::{
@@ -65,7 +66,7 @@ pub use queries::ranged::RangeEntries;
 pub use queries::walked::Walked;
 pub use trie::{Cedar, ReducedCedar, Trie};
 
-/// How many bytes a load may ask of memory, if nothing else is said.
+/// How many bytes a load may allocate, if no other limit is given.
 pub const DEFAULT_LOAD_MEMORY_LIMIT: usize = 536870912;
 
 /// The least value that can be stored.

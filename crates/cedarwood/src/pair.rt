@@ -29,14 +29,14 @@ fn check_key(key: &[u8]) -> Result<(), CedarError>
     }
 }
 
-/// Where a key's first byte 0 stands.
+/// The position of a key's first byte 0.
 fn nul_position(key: &[u8]) -> Option<usize>
     ensures { result ≡ position (λ byte. byte == 0) key.now }
 {
     key.iter().position(|byte| *byte == 0)
 }
 
-/// Tests that a number can be stored.
+/// Tests that a value can be stored.
 fn check_value(value: i32) -> Result<(), CedarError>
     ensures faulty { IfSome (value_fault value) (λ e. result ≡ Err e) }
     ensures sound { value_fault value ≡ None → IsOk result }

@@ -1,4 +1,4 @@
-//! Memory asked for ahead, so that updates needn't ask for it.
+//! Memory allocated ahead, so that updates needn't allocate.
 
 ghost use Rattle.std.specs.Prelude.{◌*◌, ◌+◌, ◌-◌, ◌<◌, ◌≡◌, ◌≤◌, Err, IfErr, IsOk, OnErr, OnOk};
 ghost use Rattle.cedarwood.specs.Words.{capacity_after, LacksRoom};
@@ -7,9 +7,9 @@ use crate::{CedarError, Layout, Trie};
 use std::alloc::Allocator;
 
 impl<L: Layout, const SLOTS: usize, A: Allocator> Trie<L, SLOTS, A> {
-    /// Asks for the memory of `blocks` blocks more than are in use, so that an update of a key of as many bytes, or of several keys of
-    /// as many bytes together, can't be refused. The slots double until there is room, as they would if these blocks came into use
-    /// one after another; while `spare_blocks()` is at least `blocks`, nothing changes.
+    /// Allocates ahead for `blocks` blocks more than are in use, so that an update of a key of as many bytes, or of several keys of as many
+    /// bytes together, can't be refused. The slots double until there is room, as they would if these blocks came into use one after
+    /// another; while `spare_blocks()` is at least `blocks`, nothing changes.
     ///
     /// ```
     /// cedar.try_reserve(3)?;
@@ -17,31 +17,31 @@ impl<L: Layout, const SLOTS: usize, A: Allocator> Trie<L, SLOTS, A> {
     /// ```
     ///
     /// # Errors
-    /// `SlotLimit` where the limit of slots doesn't allow so many blocks, else `Memory` where a request was refused. After an error
+    /// `SlotLimit` if the limit of slots doesn't allow so many blocks, otherwise `Memory` if an allocation was refused. After an error
     /// nothing has changed.
     pub fn try_reserve(&mut self, blocks: usize) -> Result<(), CedarError>
-        //= `try_reserve` of n blocks changes nothing of state, marks, settings and slots in use. [with marked, max_trial, size]
+        //= `try_reserve` of n blocks doesn't change state, marks, settings and slots in use. [with marked, max_trial, size]
         ensures state { self.new.state ≡ self.old.state }
         ensures marked { self.new.marked ≡ self.old.marked }
         ensures max_trial { self.new.max_trial ≡ self.old.max_trial }
         ensures size { self.new.size ≡ self.old.size }
 
-        //= After it the slots are as many as if n blocks had come into use.
+        //= After it there are as many slots as if n blocks had come into use.
         ensures capacity { OnOk result (self.new.capacity ≡ capacity_after blocks self.old.size self.old.capacity) }
 
         //= It leaves n blocks spare.
         ensures spare { OnOk result (256 * blocks ≤ self.new.capacity - self.new.size) }
 
-        //= Where n blocks are spare already, it changes nothing and isn't refused. [with asks_nothing]
+        //= If n blocks are spare already, it changes nothing and doesn't fail. [with asks_nothing]
         ensures enough { 256 * blocks ≤ self.old.capacity - self.old.size → self.new ≡ self.old }
         ensures asks_nothing { 256 * blocks ≤ self.old.capacity - self.old.size → IsOk result }
 
-        //= It is refused with `SlotLimit` exactly where the limit doesn't allow so many slots, and with `Memory` only where the slots have
-        //  to double and may. [with refused; by LacksRoom]
+        //= It fails with `SlotLimit` exactly if the limit doesn't allow so many slots, and with `Memory` only if the slots have to double
+        //  and may. [with refused; by LacksRoom]
         ensures limit { SLOTS < self.old.size + 256 * blocks → result ≡ Err CedarError.SlotLimit }
         ensures refused { IfErr result (LacksRoom SLOTS self.old blocks) }
 
-        //= After a refusal nothing has changed.
+        //= After a failure nothing has changed.
         ensures unchanged { OnErr result (self.new ≡ self.old) }
     {
         self.table.try_reserve(blocks).map_err(CedarError::from)

@@ -9,7 +9,7 @@ use crate::{CedarError, Layout, Trie};
 use cedar_walk::Numbered;
 use std::alloc::{AllocError, Allocator};
 
-/// The nodes of all entries, in the order of the walk.
+/// The nodes of all entries, in iteration order.
 fn entry_places<T: Walked, A: Allocator>(
     trie: &T,
     entries: usize,
@@ -27,7 +27,7 @@ fn entry_places<T: Walked, A: Allocator>(
     Ok(places)
 }
 
-/// Puts the entry at a place of another dictionary into one. Its key is written into a buffer.
+/// Stores the entry at a place of another dictionary in one. Its key is written into a buffer.
 fn put_entry<T: Walked, L: Layout, const SLOTS: usize, A: Allocator + Copy>(
     trie: &mut Trie<L, SLOTS, A>,
     from: &T,
@@ -43,9 +43,9 @@ fn put_entry<T: Walked, L: Layout, const SLOTS: usize, A: Allocator + Copy>(
 }
 
 impl<L: Layout, const SLOTS: usize, A: Allocator + Copy> Trie<L, SLOTS, A> {
-    /// Gives back the memory that growth and erasures have left: all entries are put into a new table, which takes the place of the
-    /// present one unless it has more slots. Keys, values, their order and the settings stay. While it runs there are both tables, a
-    /// list of 24 bytes for each entry, and a buffer of the length of the longest key.
+    /// Frees memory that growth and erasures have left unused: all entries are put into a new table, which replaces the present one unless
+    /// it has more slots. Keys, values, their order and the settings stay. While it runs, there are both tables, a list of 24 bytes for
+    /// each entry, and a buffer of the length of the longest key.
     ///
     /// ```
     /// cedar.update("a key of many bytes", 7)?;
@@ -55,16 +55,17 @@ impl<L: Layout, const SLOTS: usize, A: Allocator + Copy> Trie<L, SLOTS, A> {
     /// ```
     ///
     /// # Errors
-    /// `Memory` where a request was refused, and `SlotLimit` where the limit of slots allows no further block of the new table. After
-    /// an error nothing has changed.
+    /// `Memory` if an allocation was refused, and `SlotLimit` if the limit of slots allows no further block of the new table. After an
+    /// error nothing has changed.
     pub fn shrink_to_fit(&mut self) -> Result<(), CedarError>
-        //= `shrink_to_fit` leaves tree, order and `max_trial`, and never more slots than there were. [by IsShrunk, state, max_trial, capacity]
-        //= It puts a rebuilt dictionary in the place of the present one, unless that has more slots; a rebuilt one has at most one block for
-        //  each byte of a key, beside the first one. [by rebuilt, IsRebuilt, size]
-        //= In a rebuilt one of the reduced layout just the numbers of keys that begin longer ones have slots of their own. [by marks,
+        //= `shrink_to_fit` doesn't change tree, order and `max_trial`, and never leaves more slots than there were. [by IsShrunk, state,
+        //  max_trial, capacity]
+        //= It replaces the present dictionary by a rebuilt one, unless that has more slots. A rebuilt one has at most one block for each
+        //  byte of a key, beside the first one. [by rebuilt, IsRebuilt, size]
+        //= In a rebuilt one of the reduced layout exactly the numbers of keys that begin longer ones have slots of their own. [by marks,
         //  SortedMarks]
-        //= It is refused for memory, or for slots where 256 times the bytes of all keys are the limit or more; then nothing has changed. [by
-        //  refused, unchanged, LacksPlaces]
+        //= It fails for lack of memory, or for lack of slots if 256 times the bytes of all keys are the limit or more. Then nothing has
+        //  changed. [by refused, unchanged, LacksPlaces]
         ensures { IsShrunk L.kind SLOTS self.old self.new result }
     {
         let made = self.rebuilt()?;
@@ -75,7 +76,7 @@ impl<L: Layout, const SLOTS: usize, A: Allocator + Copy> Trie<L, SLOTS, A> {
         Ok(())
     }
 
-    /// The same dictionary in a table of its own, of which each entry was put anew.
+    /// The same dictionary in a new table, into which each entry was put.
     fn rebuilt(&self) -> Result<Self, CedarError>
         ensures { MatchResult result (IsRebuilt L.kind self.now) (LacksPlaces SLOTS (walk self.now.state.tree)) }
     {
@@ -88,8 +89,8 @@ impl<L: Layout, const SLOTS: usize, A: Allocator + Copy> Trie<L, SLOTS, A> {
         with_entries(alloc, builder, self, &places)
     }
 
-    /// Puts the entries at some places of another dictionary into this one, from the last one to the first: so each node gets its labels
-    /// in the order that they have there, also where a new label goes before the other ones. Their keys are written into a buffer.
+    /// Stores the entries at some places of another dictionary in this one, from the last one to the first: so each node gets its labels in
+    /// the order that they have there, even if a new label goes before the other ones. Their keys are written into a buffer.
     fn put_entries<T: Walked>(
         &mut self,
         from: &T,

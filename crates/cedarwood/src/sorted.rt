@@ -45,7 +45,7 @@ fn check_behind<K: AsSlice<u8>>(
     check_order(before, key, index)
 }
 
-/// Whether a number can be stored.
+/// Whether a value can be stored.
 fn is_in_range(value: i32) -> bool
     ensures { IsTrue result → IsInRange value }
 {
@@ -124,8 +124,8 @@ fn check_order(before: &[u8], key: &[u8], index: usize) -> Result<(), CedarError
 }
 
 impl<L: Layout, const SLOTS: usize, A: Allocator + Copy> Trie<L, SLOTS, A> {
-    /// A dictionary of some pairs, whose keys ascend by bytes, with the settings of a builder. Keys are bytes or texts. It takes no
-    /// memory before all pairs are tested.
+    /// A dictionary of some pairs, whose keys ascend by bytes, with the settings of a builder. Keys are bytes or texts. It allocates
+    /// nothing before all pairs are tested.
     pub(crate) fn from_sorted_keys<K: AsSlice<u8>>(
         alloc: A,
         builder: CedarBuilder,

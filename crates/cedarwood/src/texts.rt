@@ -7,8 +7,8 @@ use std::error::Error;
 use std::fmt;
 
 impl fmt::Display for CedarError {
-    //= The text of each error is known byte by byte, with its numbers in decimal digits. [also EntryError,
-    //  RefusedPair; by error_text, entry_error_text, refused_pair_text]
+    //= The text of each error is given byte by byte, with its numbers in decimal digits. [also EntryError, RefusedPair; by error_text,
+    //  entry_error_text, refused_pair_text]
     ghost output = { λ error. Some (error_text error) };
 
     fn fmt<W: fmt::Write>(&self, f: &mut fmt::Formatter<W>) -> fmt::Result {

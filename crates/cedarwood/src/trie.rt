@@ -15,19 +15,18 @@ use std::sync::ledger::{Blank, Ledger};
 /// A mutable dictionary from byte strings to whole numbers, kept as a double-array trie of `SLOTS` slots at most (a
 /// power of two from 256 to 2^30).
 ///
-/// A contract sees its state, the labelled tree that its answers come from and whether the labels of each node ascend; the
-/// tree with just those numbers that have slots of their own; how many failed searches close a block; how many slots are in
-/// use and there are; and the table, which is what a file has of it.
+/// A contract sees its state, the labelled tree that its results come from and whether the labels of each node ascend; the tree with only
+/// those numbers that have slots of their own; how many failed searches close a block; how many slots are in use, and how many there are;
+/// and the table, which is what a file has of it.
 #[derive(Drop)]
 pub struct Trie<L: Layout, const SLOTS: usize, A: Allocator> {
     pub(crate) table: Table<L, SLOTS, A>,
 }
 
-/// The dictionary by default: a number takes a slot of its own, and there may be 2^30 slots.
+/// The default dictionary: a value takes a slot of its own, and there may be 2^30 slots.
 pub type Cedar<A> = Trie<DefaultLayout, 1073741824, A>;
 
-/// The dictionary of fewer slots: the number of a key stands in its node's own slot, until a longer key goes
-/// through that node.
+/// The dictionary of the reduced layout: the value of a key is kept in its node's own slot, until a longer key goes through that node.
 pub type ReducedCedar<A> = Trie<ReducedLayout, 1073741824, A>;
 
 impl<L: Layout, const SLOTS: usize, A: Allocator> Model for Trie<L, SLOTS, A> {
@@ -52,7 +51,7 @@ impl<L: Layout, const SLOTS: usize, A: Allocator> Model for Trie<L, SLOTS, A> {
 }
 
 impl<A: Allocator + Copy> Trie<DefaultLayout, 1073741824, A> {
-    /// An empty dictionary, whose labels ascend. It takes its memory from `alloc`.
+    /// An empty dictionary, whose labels ascend. It allocates from `alloc`.
     ///
     /// ```
     /// let cedar = Cedar::new(rt.alloc())?;
@@ -60,11 +59,11 @@ impl<A: Allocator + Copy> Trie<DefaultLayout, 1073741824, A> {
     /// ```
     ///
     /// # Errors
-    /// `Memory` where a request was refused.
+    /// `Memory` if an allocation was refused.
     pub fn new(alloc: A) -> Result<Self, CedarError>
         ensures made { IsNew default_settings result }
 
-        //= The type of the dictionary that was made fits in memory: calls on it in functions over any allocator ask for that. [also
+        //= The type of the dictionary that was made fits in memory: calls on it in functions over any allocator require that. [also
         //  from_sorted_bytes, from_sorted, CedarBuilder::build, CedarBuilder::from_sorted_bytes, CedarBuilder::from_sorted,
         //  CedarBuilder::build_reduced, CedarBuilder::from_sorted_bytes_reduced, CedarBuilder::from_sorted_reduced, from_pairs_bytes,
         //  from_pairs, CedarBuilder::from_pairs_bytes, CedarBuilder::from_pairs, CedarBuilder::from_pairs_bytes_reduced,
@@ -74,7 +73,7 @@ impl<A: Allocator + Copy> Trie<DefaultLayout, 1073741824, A> {
         Self::builder().build(alloc)
     }
 
-    /// A dictionary of some pairs, whose keys ascend by bytes, with the settings by default. It takes its memory from `alloc`.
+    /// A dictionary of some pairs, whose keys ascend by bytes, with the default settings. It allocates from `alloc`.
     ///
     /// ```
     /// let pairs: [(&[u8], i32); 2] = [(b"net", 7), (b"ten", 2)];
@@ -85,20 +84,20 @@ impl<A: Allocator + Copy> Trie<DefaultLayout, 1073741824, A> {
     /// # Errors
     /// As [`CedarBuilder::from_sorted_bytes`].
     pub fn from_sorted_bytes(alloc: A, pairs: &[(&[u8], i32)]) -> Result<Self, CedarError>
-        //= A sorted input's first fault is answered: a pair's own, else that its key repeats the one before or is smaller. [also
+        //= A sorted build returns its input's first fault: a pair's own, otherwise that its key repeats the one before or is smaller. [also
         //  from_sorted, from_sorted_bytes_with, from_sorted_with, CedarBuilder::from_sorted_bytes, CedarBuilder::from_sorted,
         //  CedarBuilder::from_sorted_bytes_reduced, CedarBuilder::from_sorted_reduced; by IsSortedBuild, faulty]
-        //= Else, unless it is refused, the dictionary's tree is the pairs' one tree with ascending labels, whatever the order is set to.
+        //= Otherwise, unless it fails, the dictionary's tree is the pairs' one tree with ascending labels, whatever the order is set to.
         //  [also from_sorted, from_sorted_bytes_with, from_sorted_with, CedarBuilder::from_sorted_bytes, CedarBuilder::from_sorted,
         //  CedarBuilder::from_sorted_bytes_reduced, CedarBuilder::from_sorted_reduced; by tree, asc]
-        //= Its settings are the builder's; it makes one block at most for each distinct nonempty prefix, beside the first. [also
+        //= Its settings are the builder's. It makes at most one block for each distinct nonempty prefix, beside the first. [also
         //  from_sorted, from_sorted_bytes_with, from_sorted_with, CedarBuilder::from_sorted_bytes, CedarBuilder::from_sorted,
         //  CedarBuilder::from_sorted_bytes_reduced, CedarBuilder::from_sorted_reduced; by ordered, max_trial, size]
-        //= By default each number has a slot of its own; in the reduced layout just those do whose keys begin longer ones. [also
+        //= By default each number has a slot of its own; in the reduced layout exactly those do whose keys begin longer ones. [also
         //  from_sorted, from_sorted_bytes_with, from_sorted_with, CedarBuilder::from_sorted_bytes, CedarBuilder::from_sorted,
         //  CedarBuilder::from_sorted_bytes_reduced, CedarBuilder::from_sorted_reduced; by marks, SortedMarks]
-        //= It is refused for memory, or for slots where 256 times the number of these prefixes is the limit or more. [also from_sorted,
-        //  from_sorted_bytes_with, from_sorted_with, CedarBuilder::from_sorted_bytes, CedarBuilder::from_sorted,
+        //= It fails for lack of memory, or for lack of slots if 256 times the number of these prefixes is the limit or more. [also
+        //  from_sorted, from_sorted_bytes_with, from_sorted_with, CedarBuilder::from_sorted_bytes, CedarBuilder::from_sorted,
         //  CedarBuilder::from_sorted_bytes_reduced, CedarBuilder::from_sorted_reduced; by refused]
         ensures built { IsSortedBuild default_layout 1073741824 default_settings (entries_of pairs.now) result }
         ensures fits { IfOk result (λ _. CedarFitsInMemory A.row A.Allocator) }
@@ -122,7 +121,7 @@ impl<A: Allocator + Copy> Trie<DefaultLayout, 1073741824, A> {
         Self::builder().from_sorted(alloc, pairs)
     }
 
-    /// The settings by default.
+    /// The default settings.
     ///
     /// ```
     /// let cedar = Cedar::<Global>::builder().build(rt.alloc())?;
@@ -136,7 +135,7 @@ impl<A: Allocator + Copy> Trie<DefaultLayout, 1073741824, A> {
 }
 
 impl<A: Allocator + Copy> Trie<ReducedLayout, 1073741824, A> {
-    /// An empty dictionary of fewer slots, whose labels ascend. It takes its memory from `alloc`.
+    /// An empty dictionary of the reduced layout, whose labels ascend. It allocates from `alloc`.
     ///
     /// ```
     /// let small = ReducedCedar::new(rt.alloc())?;
@@ -144,7 +143,7 @@ impl<A: Allocator + Copy> Trie<ReducedLayout, 1073741824, A> {
     /// ```
     ///
     /// # Errors
-    /// `Memory` where a request was refused.
+    /// `Memory` if an allocation was refused.
     pub fn new(alloc: A) -> Result<Self, CedarError>
         ensures made { IsNew default_settings result }
         ensures fits { IfOk result (λ _. ReducedFitsInMemory A.row A.Allocator) }
@@ -152,7 +151,7 @@ impl<A: Allocator + Copy> Trie<ReducedLayout, 1073741824, A> {
         Self::builder().build_reduced(alloc)
     }
 
-    /// A dictionary of some pairs, whose keys ascend by bytes, with the settings by default. It takes its memory from `alloc`.
+    /// A dictionary of some pairs, whose keys ascend by bytes, with the default settings. It allocates from `alloc`.
     ///
     /// ```
     /// let pairs: [(&[u8], i32); 2] = [(b"net", 7), (b"ten", 2)];
@@ -185,7 +184,7 @@ impl<A: Allocator + Copy> Trie<ReducedLayout, 1073741824, A> {
         Self::builder().from_sorted_reduced(alloc, pairs)
     }
 
-    /// The settings by default.
+    /// The default settings.
     ///
     /// ```
     /// let small = ReducedCedar::<Global>::builder().build_reduced(rt.alloc())?;
@@ -199,7 +198,7 @@ impl<A: Allocator + Copy> Trie<ReducedLayout, 1073741824, A> {
 }
 
 impl<L: Layout, const SLOTS: usize, A: Allocator + Copy> Trie<L, SLOTS, A> {
-    /// An empty dictionary with the settings of a builder, of any layout and limit of slots. It takes its memory from `alloc`.
+    /// An empty dictionary with the settings of a builder, of any layout and limit of slots. It allocates from `alloc`.
     ///
     /// ```
     /// let small = Trie::<DefaultLayout, 512, Global>::with(rt.alloc(), CedarBuilder::new())?;
@@ -207,7 +206,7 @@ impl<L: Layout, const SLOTS: usize, A: Allocator + Copy> Trie<L, SLOTS, A> {
     /// ```
     ///
     /// # Errors
-    /// `Memory` where a request was refused.
+    /// `Memory` if an allocation was refused.
     pub fn with(alloc: A, builder: CedarBuilder) -> Result<Self, CedarError>
         requires limit { IsLimit SLOTS }
         ensures made { IsNew builder result }
@@ -217,9 +216,8 @@ impl<L: Layout, const SLOTS: usize, A: Allocator + Copy> Trie<L, SLOTS, A> {
         })
     }
 
-    /// A dictionary of some pairs, whose keys ascend by bytes, with the settings of a builder, of any layout and limit of
-    /// slots. Each node gets all of its slots at once. Its labels ascend at first, whatever the settings. It takes its memory from
-    /// `alloc`.
+    /// A dictionary of some pairs, whose keys ascend by bytes, with the settings of a builder, of any layout and limit of slots. Each node
+    /// gets all of its slots at once. Its labels ascend at first, whatever the settings. It allocates from `alloc`.
     ///
     /// ```
     /// let builder = CedarBuilder::new();
@@ -229,9 +227,9 @@ impl<L: Layout, const SLOTS: usize, A: Allocator + Copy> Trie<L, SLOTS, A> {
     /// ```
     ///
     /// # Errors
-    /// The first fault of the input: each pair's own of `EmptyKey`, `NulByte` and `InvalidValue`, in this order, and then
-    /// `DuplicateKey` or `KeysNotSorted` where its key isn't above the one before it. Without one, `Memory` where a request
-    /// was refused, and `SlotLimit` where the limit of slots allows no further block.
+    /// The first fault of the input: each pair's own of `EmptyKey`, `NulByte` and `InvalidValue`, in this order, and then `DuplicateKey` or
+    /// `KeysNotSorted` if its key isn't above the one before it. Without one, `Memory` if an allocation was refused, and `SlotLimit` if the
+    /// limit of slots allows no further block.
     pub fn from_sorted_bytes_with(
         alloc: A,
         builder: CedarBuilder,
@@ -264,8 +262,8 @@ impl<L: Layout, const SLOTS: usize, A: Allocator + Copy> Trie<L, SLOTS, A> {
         Self::from_sorted_keys(alloc, builder, pairs)
     }
 
-    /// Puts an empty dictionary with the settings of a builder in the place of this one. It takes its memory from `alloc`, now and
-    /// as it grows; that of the present one goes back to where it came from.
+    /// Replaces this dictionary by an empty one with the settings of a builder. It allocates from `alloc`, now and as it grows; the memory
+    /// of the present one is freed by the allocator that it came from.
     ///
     /// ```
     /// cedar.update("net", 7)?;
@@ -274,9 +272,9 @@ impl<L: Layout, const SLOTS: usize, A: Allocator + Copy> Trie<L, SLOTS, A> {
     /// ```
     ///
     /// # Errors
-    /// `Memory` where a request was refused. Then this one stays.
+    /// `Memory` if an allocation was refused. Then this one is as it was.
     pub fn renew(&mut self, alloc: A, builder: CedarBuilder) -> Result<(), CedarError>
-        //= `renew` puts an empty dictionary with the settings of a builder in the place of the present one, which stays after a refusal.
+        //= `renew` replaces the present dictionary by an empty one with the settings of a builder. After a failure the present one stays.
         //  [by IsRenewed]
         ensures made { IsRenewed builder self.old self.new result }
     {
@@ -286,7 +284,7 @@ impl<L: Layout, const SLOTS: usize, A: Allocator + Copy> Trie<L, SLOTS, A> {
         Ok(())
     }
 
-    /// Stores a value at a key, in place of the value that the key holds, if it holds one.
+    /// Stores a value at a key, and replaces the value that the key holds, if any.
     ///
     /// ```
     /// cedar.update_bytes(b"net", 7)?;
@@ -294,27 +292,27 @@ impl<L: Layout, const SLOTS: usize, A: Allocator + Copy> Trie<L, SLOTS, A> {
     /// ```
     ///
     /// # Errors
-    /// The pair's first fault of `EmptyKey`, `NulByte` and `InvalidValue`, in this order; `Memory` where the
-    /// key isn't held and a request was refused, `SlotLimit` where the limit of slots allows no further block. After an
-    /// error the dictionary holds what it held. A key that is held takes no memory.
+    /// The pair's first fault of `EmptyKey`, `NulByte` and `InvalidValue`, in this order; `Memory` if the key isn't held and an allocation
+    /// was refused, `SlotLimit` if the limit of slots allows no further block. After an error the dictionary holds what it held. An update
+    /// of a key that is held allocates nothing.
     pub fn update_bytes(&mut self, key: &[u8], value: i32) -> Result<(), CedarError>
-        //= An update answers the pair's first fault, and else stores the value: the tree is then `put` of the old one. [also update; by
-        //  faulty, ok]
+        //= An update returns the pair's first fault, and otherwise stores the value: the tree is then `put` of the old one. [also update;
+        //  by faulty, ok]
         //= After any refusal tree and order are the old ones. [also update; by err]
         //= After a fault nothing has changed. [also update; by unchanged]
-        //= Without a fault it is refused only for memory or slots, and only where the key isn't held. [also update; by refused]
-        //= Memory is wanted only where all slots are in use and there may be more, slots only where all that may be are in use. [also
+        //= Without a fault it is refused only for lack of memory or slots, and only if the key isn't held. [also update; by refused]
+        //= It lacks memory only if all slots are in use and there may be more, and slots only if all that there may be are in use. [also
         //  update; by memory, limit]
-        //= A key of n bytes makes n blocks at most, and fewer if it is refused. [also update; by blocks]
+        //= An update of a key of n bytes makes at most n blocks, and fewer if it is refused. [also update; by blocks]
         //= So it isn't refused while n blocks are spare. [also update; by spare]
-        //= Over a held key no block is made. [also update; by over]
-        //= A key of one new byte makes a block, or is refused, only in the default layout, and only where the slots in use and the root's
-        //  children are together as many as the tree's slots and 255. They are so where no slot outside block 0 is free. [also update; by
-        //  one_byte]
-        //= `max_trial` stays. [also update, erase_bytes.max_trial, erase.max_trial; by max_trial]
-        //= In the reduced layout an update of a new key marks its held proper fronts, and the key if it is a front of a held one; what was
-        //  marked stays. Over a held key the marks stay. [also update; by marks, MarksPut]
-        //= A refused update leaves the marks, and so the used slots. [also update; by marks_stay, err]
+        //= An update of a held key makes no block. [also update; by over]
+        //= An update of a key of one new byte makes a block, or is refused, only in the default layout, and only if the slots in use and
+        //  the root's children are together as many as the tree's slots and 255. They are if no slot outside block 0 is free. [also update;
+        //  by one_byte]
+        //= `max_trial` doesn't change. [also update, erase_bytes.max_trial, erase.max_trial; by max_trial]
+        //= In the reduced layout an update of a new key marks its held proper prefixes, and the key if it is a prefix of a held one. What
+        //  was marked stays marked. An update of a held key doesn't change the marks. [also update; by marks, MarksPut]
+        //= A refused update doesn't change the marks, and so not the used slots. [also update; by marks_stay, err]
         ensures updated { IsUpdate L.kind SLOTS self.old self.new key.now value result }
     {
         match self.insert_bytes(key, value) {
@@ -336,7 +334,7 @@ impl<L: Layout, const SLOTS: usize, A: Allocator + Copy> Trie<L, SLOTS, A> {
         self.update_bytes(key.as_bytes(), value)
     }
 
-    /// Removes a key, and says whether it was held. It takes no memory.
+    /// Removes a key, and returns whether it was held. It allocates nothing.
     ///
     /// ```
     /// cedar.update_bytes(b"net", 7)?;
@@ -344,12 +342,12 @@ impl<L: Layout, const SLOTS: usize, A: Allocator + Copy> Trie<L, SLOTS, A> {
     /// assert!(rt; !cedar.erase_bytes(b"net"));
     /// ```
     pub fn erase_bytes(&mut self, key: &[u8]) -> bool
-        //= `erase_bytes` and `erase` say whether the key was held; the tree is then `cut` of the old one. [with after; also erase]
+        //= `erase_bytes` and `erase` return whether the key was held. The tree is then `cut` of the old one. [with after; also erase]
         ensures answer { IsTrue result ↔ IsSome (number_at self.old.state.tree key.now) }
         ensures after { self.new.state ≡ erased self.old.state key.now }
 
-        //= `erase_bytes` and `erase` leave the slots in use and those there are, and take away the key's mark alone. [with size; also
-        //  erase]
+        //= `erase_bytes` and `erase` don't change the slots in use and the slots that there are. They remove only the key's mark. [with
+        //  size; also erase]
         ensures marks { MarksCut self.old.marked self.new.marked key.now }
         ensures marked { IsMarked self.new }
         ensures size { (self.new.size ≡ self.old.size) × (self.new.capacity ≡ self.old.capacity) }
@@ -376,8 +374,8 @@ impl<L: Layout, const SLOTS: usize, A: Allocator + Copy> Trie<L, SLOTS, A> {
         self.erase_bytes(key.as_bytes())
     }
 
-    /// The value at a key and the key's length in bytes, or None where the key isn't held. It takes no memory. Each
-    /// comparison of a check field is counted: one more than the key has bytes, at most.
+    /// The value at a key and the key's length in bytes, or None if the key isn't held. It allocates nothing. It counts each comparison of
+    /// a check field: at most one more than the key has bytes.
     ///
     /// ```
     /// cedar.update("net", 7)?;
@@ -399,8 +397,8 @@ impl<L: Layout, const SLOTS: usize, A: Allocator + Copy> Trie<L, SLOTS, A> {
         self.table.exact_match_search_counted(key, ticks)
     }
 
-    /// The value at a key and the key's length in bytes, or None where the key isn't held: so `is_some()` of the answer says whether
-    /// it is. It takes no memory.
+    /// The value at a key and the key's length in bytes, or None if the key isn't held: so `is_some()` says whether it is. It allocates
+    /// nothing.
     ///
     /// ```
     /// cedar.update_bytes(b"net", 7)?;
@@ -408,8 +406,8 @@ impl<L: Layout, const SLOTS: usize, A: Allocator + Copy> Trie<L, SLOTS, A> {
     /// assert_eq!(rt; cedar.exact_match_search_bytes(b"ne"), None);
     /// ```
     pub fn exact_match_search_bytes(&self, key: &[u8]) -> Option<(i32, usize)>
-        //= A look-up is `exact` of the tree; so it depends on the tree and the key alone, and not on `max_trial`. [also exact_match_search,
-        //  exact_match_search_counted]
+        //= A look-up returns `exact` of the tree. So it depends on the tree and the key alone, and not on `max_trial`. [also
+        //  exact_match_search, exact_match_search_counted]
         ensures answer { result ≡ exact self.now.state.tree key.now }
 
         //= A value that is found is in range, and the tree is sound. [with in_range; also exact_match_search, exact_match_search_counted]
@@ -441,14 +439,14 @@ impl<L: Layout, const SLOTS: usize, A: Allocator + Copy> Trie<L, SLOTS, A> {
     /// ```
     #[must_use]
     pub fn len(&self) -> usize
-        //= `len` is the number of entries, `is_empty` that there is none. [also is_empty]
+        //= `len` returns the number of entries, `is_empty` whether there is none. [also is_empty]
         ensures count { result ≡ length (walk self.now.state.tree) }
 
-        //= The tree of marks has all nodes of the tree and some of its numbers, so that it is known once it is known which keys have marks.
-        //  [also update_bytes.updated, update.updated, erase_bytes.marked, erase.marked; by IsMarked, marked]
+        //= The tree of marks has all nodes of the tree and some of its numbers, so that it follows from the keys that have marks. [also
+        //  update_bytes.updated, update.updated, erase_bytes.marked, erase.marked; by IsMarked, marked]
         //= Every dictionary is valid: its tree is sound, its labels ascend if it is ordered, its marks are some of its numbers, its values
-        //  are in range; the slots in use are whole blocks, and no more than there are; these are 256 times a power of two, and no more
-        //  than the limit. [by IsValid]
+        //  are in range. The slots in use are whole blocks, and no more than there are. There are 256 times a power of two slots, and no
+        //  more than the limit. [by IsValid]
         ensures valid { IsValid SLOTS self.now }
     {
         self.table.entries()
@@ -467,8 +465,8 @@ impl<L: Layout, const SLOTS: usize, A: Allocator + Copy> Trie<L, SLOTS, A> {
         self.len() == 0
     }
 
-    /// How many slots are held: one for the root, one for each distinct nonempty prefix of keys, and one for each key whose
-    /// number has a slot of its own, which by default is each.
+    /// How many slots are held: one for the root, one for each distinct nonempty prefix of keys, and one for each key whose value has a
+    /// slot of its own, as each has by default.
     ///
     /// ```
     /// cedar.update("net", 7)?;
@@ -477,7 +475,7 @@ impl<L: Layout, const SLOTS: usize, A: Allocator + Copy> Trie<L, SLOTS, A> {
     #[must_use]
     pub fn used_node_slots(&self) -> usize
         //= The used slots follow from tree and marks.
-        //= `used_node_slots` is one, plus the distinct nonempty prefixes of keys, plus the numbers that have slots of their own.
+        //= `used_node_slots` returns one, plus the distinct nonempty prefixes of keys, plus the numbers that have slots of their own.
         ensures marked { result ≡ 1 + length (prefixes self.now.state.tree) + length (walk self.now.marked) }
 
         //= In the default layout it is one, plus the prefixes, plus the entries.
@@ -496,13 +494,14 @@ impl<L: Layout, const SLOTS: usize, A: Allocator + Copy> Trie<L, SLOTS, A> {
     /// ```
     #[must_use]
     pub fn node_capacity(&self) -> usize
-        //= `node_capacity` is the number of slots, `spare_blocks` the blocks that are there and not in use. [also spare_blocks]
+        //= `node_capacity` returns the number of slots, `spare_blocks` the number of blocks that are there and not in use. [also
+        //  spare_blocks]
         ensures { result ≡ self.now.capacity }
     {
         self.table.capacity()
     }
 
-    /// How many blocks of 256 slots can come into use before memory is asked for.
+    /// How many blocks of 256 slots can come into use before memory is allocated.
     ///
     /// ```
     /// assert_eq!(rt; cedar.spare_blocks(), 0);
@@ -521,8 +520,8 @@ impl<L: Layout, const SLOTS: usize, A: Allocator + Copy> Trie<L, SLOTS, A> {
     /// cedar.stands_on_its_table();
     /// ```
     pub fn stands_on_its_table(&self)
-        //= What a contract sees of a dictionary is what its table says: the table is well-formed, and tree, order, marks, `max_trial` and
-        //  sizes are those of it. [by IsOnTable]
+        //= What a contract sees of a dictionary is what its table holds: the table is well-formed, and tree, order, marks, `max_trial` and
+        //  sizes are those of the table. [by IsOnTable]
         ensures { IsOnTable SLOTS self.now }
     {
         let _ = &self.table;

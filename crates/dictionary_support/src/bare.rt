@@ -1,6 +1,6 @@
-//! Calls of a dictionary and of the plain tree without their clauses. A test has nothing to prove of what they answer, and
-//! each statement behind a call carries what its clauses say: so their contracts are met here alone.
-ghost use Rattle.cedar_slots.specs.Places.{IsSlotLimit};
+//! Calls of a dictionary and of the plain tree without their clauses. A test has nothing to prove about what they return, and
+//! each statement after a call carries what its clauses say: so their contracts are met here alone.
+ghost use Rattle.cedarwood.specs.Words.{IsSlotLimit};
 
 use cedar_words::LongestPrefix;
 use cedarwood::{CedarBuilder, CedarError, CedarPersistenceError, Layout, Trie};
@@ -11,8 +11,8 @@ use std::rt::Files;
 /// A dictionary of 2^30 slots at most, over an allocator that refuses or not.
 pub type Full<L, A> = Trie<L, 1073741824, A>;
 
-/// A dictionary without a key.
-pub fn made<L: Layout, const SLOTS: usize, A: Allocator + Copy>(
+/// Makes a dictionary without a key.
+pub fn make<L: Layout, const SLOTS: usize, A: Allocator + Copy>(
     alloc: A,
     ordered: bool,
 ) -> Result<Trie<L, SLOTS, A>, CedarError>
@@ -21,13 +21,13 @@ pub fn made<L: Layout, const SLOTS: usize, A: Allocator + Copy>(
     Trie::with(alloc, CedarBuilder::new().ordered(ordered))
 }
 
-/// A dictionary without a key, whose labels ascend, of 2^30 slots at most.
+/// Makes a dictionary without a key, whose labels ascend, of 2^30 slots at most.
 #[tactic(auto, using(cedarwood::proofs::DictionaryLemmas::default_limit))]
 pub fn empty<L: Layout>(alloc: Global) -> Result<Full<L, Global>, CedarError> {
-    made(alloc, true)
+    make(alloc, true)
 }
 
-/// A dictionary of some pairs, whose keys ascend.
+/// Makes a dictionary of some pairs, whose keys ascend.
 pub fn of_sorted<L: Layout, const SLOTS: usize, A: Allocator + Copy>(
     alloc: A,
     ordered: bool,
@@ -38,7 +38,7 @@ pub fn of_sorted<L: Layout, const SLOTS: usize, A: Allocator + Copy>(
     Trie::from_sorted_bytes_with(alloc, CedarBuilder::new().ordered(ordered), pairs)
 }
 
-/// A dictionary of some pairs, whose keys are texts and ascend.
+/// Makes a dictionary of some pairs, whose keys are texts and ascend.
 pub fn of_sorted_texts<L: Layout, const SLOTS: usize, A: Allocator + Copy>(
     alloc: A,
     ordered: bool,
@@ -58,7 +58,7 @@ pub fn update<L: Layout, const SLOTS: usize, A: Allocator + Copy>(
     trie.update_bytes(key, value)
 }
 
-/// Stores a pair, and answers the number that the key had.
+/// Stores a pair, and returns the number that the key had.
 pub fn insert<L: Layout, const SLOTS: usize, A: Allocator + Copy>(
     trie: &mut Trie<L, SLOTS, A>,
     key: &[u8],
@@ -82,7 +82,7 @@ pub fn build<L: Layout, const SLOTS: usize, A: Allocator + Copy>(
     trie.build_bytes(pairs)
 }
 
-/// Erases a key, and says whether it was held.
+/// Erases a key, and returns whether it was held.
 pub fn erase<L: Layout, const SLOTS: usize, A: Allocator + Copy>(
     trie: &mut Trie<L, SLOTS, A>,
     key: &[u8],
@@ -90,36 +90,36 @@ pub fn erase<L: Layout, const SLOTS: usize, A: Allocator + Copy>(
     trie.erase_bytes(key)
 }
 
-/// The number of a key, and the key's length.
-pub fn found<L: Layout, const SLOTS: usize, A: Allocator + Copy>(
+/// Returns the number of a key, and the key's length.
+pub fn find<L: Layout, const SLOTS: usize, A: Allocator + Copy>(
     trie: &Trie<L, SLOTS, A>,
     key: &[u8],
 ) -> Option<(i32, usize)> {
     trie.exact_match_search_bytes(key)
 }
 
-/// How many keys are held, and how many slots used.
+/// Returns how many keys are held, and how many slots used.
 pub fn counts<L: Layout, const SLOTS: usize, A: Allocator + Copy>(
     trie: &Trie<L, SLOTS, A>,
 ) -> (usize, usize) {
     (trie.len(), trie.used_node_slots())
 }
 
-/// How many slots there are, and how many blocks to spare.
+/// Returns how many slots there are, and how many blocks are spare.
 pub fn room<L: Layout, const SLOTS: usize, A: Allocator + Copy>(
     trie: &Trie<L, SLOTS, A>,
 ) -> (usize, usize) {
     (trie.node_capacity(), trie.spare_blocks())
 }
 
-/// A copy.
-pub fn copied<L: Layout, const SLOTS: usize, A: Allocator + Copy>(
+/// Returns a copy.
+pub fn copy<L: Layout, const SLOTS: usize, A: Allocator + Copy>(
     trie: &Trie<L, SLOTS, A>,
 ) -> Result<Trie<L, SLOTS, A>, AllocError> {
     trie.clone()
 }
 
-/// The keys that a query begins with.
+/// Returns the keys that a query begins with.
 pub fn fronts<L: Layout, const SLOTS: usize, A: Allocator + Copy>(
     trie: &Trie<L, SLOTS, A>,
     query: &[u8],
@@ -127,7 +127,7 @@ pub fn fronts<L: Layout, const SLOTS: usize, A: Allocator + Copy>(
     trie.common_prefix_search_bytes(query)
 }
 
-/// The keys that begin with a query.
+/// Returns the keys that begin with a query.
 pub fn below<L: Layout, const SLOTS: usize, A: Allocator + Copy>(
     trie: &Trie<L, SLOTS, A>,
     query: &[u8],
@@ -135,7 +135,7 @@ pub fn below<L: Layout, const SLOTS: usize, A: Allocator + Copy>(
     trie.common_prefix_predict_bytes(query)
 }
 
-/// The longest key that a text begins with.
+/// Returns the longest key that a text begins with.
 pub fn longest<L: Layout, const SLOTS: usize, A: Allocator + Copy>(
     trie: &Trie<L, SLOTS, A>,
     text: &[u8],
@@ -177,7 +177,7 @@ pub fn put(
     tree.put(alloc, ordered, key, value)
 }
 
-/// Takes a key from a tree, and says whether it was there.
+/// Removes a key from a tree, and returns whether it was there.
 pub fn cut(tree: &mut PlainTree<Global>, key: &[u8]) -> bool {
     tree.cut(key)
 }

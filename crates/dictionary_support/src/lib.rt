@@ -1,5 +1,5 @@
 //! For tests of the dictionary and its files: calls without their clauses, and what a test sees of a dictionary or of
-//! a load. What compares may end the process, which no library may: so each crate of tests has that itself.
+//! a load. Code that compares may end the process, which no library may: so each crate of tests has that itself.
 #![tactic(auto)]
 
 pub mod bare;

@@ -1,11 +1,11 @@
 //! What a dictionary holds, and how it is saved and loaded.
-ghost use Rattle.cedar_slots.specs.Places.{IsSlotLimit};
+ghost use Rattle.cedarwood.specs.Words.{IsSlotLimit};
 
 use cedarwood::{CedarPersistenceError, Layout, Source, Trie, Watched};
 use std::alloc::{AllocError, Allocator, Global};
 
 /// The keys' values in the order of the walk, each with its key's length, and how many slots are used. The values are
-/// distinct in each test, so they say which keys are held.
+/// distinct in each test, so they show which keys are held.
 #[derive(Debug, PartialEq, Eq, Drop)]
 pub struct State {
     pub held: Vec<(i32, usize)>,
@@ -25,8 +25,8 @@ pub fn state_of<L: Layout, const SLOTS: usize, A: Allocator + Copy>(
     })
 }
 
-/// The bytes of a saved dictionary.
-pub fn saved<L: Layout, const SLOTS: usize, A: Allocator + Copy>(
+/// Returns the bytes of a saved dictionary.
+pub fn save_bytes<L: Layout, const SLOTS: usize, A: Allocator + Copy>(
     alloc: Global,
     trie: &Trie<L, SLOTS, A>,
 ) -> Result<Vec<u8>, CedarPersistenceError> {
@@ -35,8 +35,8 @@ pub fn saved<L: Layout, const SLOTS: usize, A: Allocator + Copy>(
     Ok(writer.into_inner())
 }
 
-/// The dictionary of what a reader gives.
-pub fn loaded<L: Layout, const SLOTS: usize, A: Allocator + Copy, S: Source>(
+/// Returns the dictionary of what a reader gives.
+pub fn load_bytes<L: Layout, const SLOTS: usize, A: Allocator + Copy, S: Source>(
     alloc: A,
     reader: &mut S,
 ) -> Result<Trie<L, SLOTS, A>, CedarPersistenceError>
@@ -45,24 +45,24 @@ pub fn loaded<L: Layout, const SLOTS: usize, A: Allocator + Copy, S: Source>(
     Trie::load_from_reader(alloc, reader)
 }
 
-/// Whether these are the bytes of the saved dictionary.
+/// Returns whether these are the bytes of the saved dictionary.
 pub fn saves<L: Layout, const SLOTS: usize, A: Allocator + Copy>(
     alloc: Global,
     trie: &Trie<L, SLOTS, A>,
     bytes: &[u8],
 ) -> Result<bool, CedarPersistenceError> {
-    Ok(saved(alloc, trie)?.as_slice() == bytes)
+    Ok(save_bytes(alloc, trie)?.as_slice() == bytes)
 }
 
-/// Whether what is saved of a dictionary loads, to one that saves the same bytes.
+/// Returns whether what is saved of a dictionary loads as one that saves the same bytes.
 pub fn loads_again<L: Layout, const SLOTS: usize, A: Allocator + Copy>(
     alloc: Global,
     trie: &Trie<L, SLOTS, A>,
 ) -> Result<bool, CedarPersistenceError>
     requires { IsSlotLimit SLOTS }
 {
-    let bytes = saved(alloc, trie)?;
+    let bytes = save_bytes(alloc, trie)?;
     let mut reader = Watched::new(bytes.as_slice());
-    let again = loaded::<L, SLOTS, Global, Watched<&[u8]>>(alloc, &mut reader)?;
+    let again = load_bytes::<L, SLOTS, Global, Watched<&[u8]>>(alloc, &mut reader)?;
     saves(alloc, &again, &bytes)
 }

@@ -1,7 +1,7 @@
-//! What a load answers, as tests compare it.
+//! What a load returns, as tests compare it.
 use cedarwood::CedarPersistenceError;
 
-/// What a load answers, but for the place of a fault in a table.
+/// What a load returns, except the place of a fault in a table.
 #[derive(Clone, Copy, PartialEq, Eq, Debug)]
 pub enum Verdict {
     Loads,
@@ -19,7 +19,7 @@ pub enum Verdict {
     Io,
 }
 
-fn refused(error: &CedarPersistenceError) -> Verdict {
+fn refusal_of(error: &CedarPersistenceError) -> Verdict {
     match error {
         CedarPersistenceError::Truncated => Verdict::Truncated,
         CedarPersistenceError::InvalidMagic => Verdict::Magic,
@@ -50,22 +50,22 @@ fn refused(error: &CedarPersistenceError) -> Verdict {
     }
 }
 
-/// A load's answer, and the number of its elements where memory was refused, else 0.
+/// A load's result, and the number of its elements if memory was refused, otherwise 0.
 pub type Answer = (Verdict, usize);
 
-/// What loads.
+/// What a load that succeeds returns.
 pub const LOADS: Answer = (Verdict::Loads, 0);
 
-/// What a load answered that was refused.
+/// Returns what a load returned that was refused.
 pub fn refusal(error: &CedarPersistenceError) -> Answer {
     let requested = match error {
         CedarPersistenceError::AllocationFailed { requested } => *requested,
         _ => 0,
     };
-    (refused(error), requested)
+    (refusal_of(error), requested)
 }
 
-/// What a load answered.
+/// Returns what a load returned.
 pub fn answer_of<X>(answer: &Result<X, CedarPersistenceError>) -> Answer {
     match answer {
         Ok(_) => LOADS,

@@ -1,9 +1,9 @@
-//! Calls on a dictionary that take memory, each request of which is refused in turn.
-ghost use Rattle.cedar_slots.specs.Places.{IsSlotLimit};
+//! Calls on a dictionary that allocate, each allocation of which is refused in turn.
+ghost use Rattle.cedarwood.specs.Words.{IsSlotLimit};
 
 use cedarwood::{CedarError, DefaultLayout, Layout, ReducedLayout, Trie};
 use dictionary_support::bare::{
-    Full, below, build, copied, counts, fronts, insert, made, shrink, update,
+    Full, below, build, copy, counts, fronts, insert, make, shrink, update,
 };
 use dictionary_support::state::{State, loads_again, state_of};
 use std::alloc::{Allocator, Global};
@@ -14,13 +14,13 @@ use test_support::Refusing;
 // What is held before each call.
 const BEFORE: [(&[u8], i32); 4] = [(b"z", 1), (b"x", 2), (b"a", 3), (b"ab", 4)];
 
-// A key that fits no block, and goes on from one that is held.
+// A key that fits in no block, and goes on from one that is held.
 const LONG: [u8; 600] = [b'a'; 600];
 
-// Pairs that take more blocks than there are, the second key with a value in the place of another.
+// Pairs that take more blocks than there are, the second key with a value that replaces another.
 const PAIRS: [(&[u8], i32); 4] = [(b"bb", 5), (b"z", 6), (&LONG, 7), (b"zz", 8)];
 
-// A call, each of which asks for memory at least once.
+// A call, each of which allocates at least once.
 #[derive(Clone, Copy, Debug)]
 enum Attempt {
     Update,
@@ -42,22 +42,22 @@ const ATTEMPTS: [Attempt; 7] = [
     Attempt::Shrink,
 ];
 
-fn begun<L: Layout, const SLOTS: usize, A: Allocator + Copy>(
+fn begin<L: Layout, const SLOTS: usize, A: Allocator + Copy>(
     alloc: A,
     ordered: bool,
 ) -> Result<Trie<L, SLOTS, A>, CedarError>
     requires { IsSlotLimit SLOTS }
 {
-    let mut trie = made(alloc, ordered)?;
+    let mut trie = make(alloc, ordered)?;
     build(&mut trie, &BEFORE)?;
     Ok(trie)
 }
 
-// How many keys a copy has.
+// Returns how many keys a copy has.
 fn count_copied<L: Layout, const SLOTS: usize, A: Allocator + Copy>(
     trie: &Trie<L, SLOTS, A>,
 ) -> Result<usize, CedarError> {
-    match copied(trie) {
+    match copy(trie) {
         Ok(copy) => Ok(copy.len()),
         Err(_) => Err(CedarError::Memory),
     }
@@ -75,7 +75,7 @@ fn count_predicted<L: Layout, const SLOTS: usize, A: Allocator + Copy>(
     Ok(below(trie, b"")?.len())
 }
 
-// Makes a call, and answers how many keys were held then, copied or found.
+// Makes a call, and returns how many keys were then held, copied or found.
 fn make_attempt<L: Layout, const SLOTS: usize, A: Allocator + Copy>(
     trie: &mut Trie<L, SLOTS, A>,
     what: Attempt,
@@ -94,7 +94,7 @@ fn make_attempt<L: Layout, const SLOTS: usize, A: Allocator + Copy>(
     Ok(counts(trie).0)
 }
 
-// How many keys are held, copied or found where the call succeeds.
+// Returns how many keys are held, copied or found if the call succeeds.
 fn answer(what: Attempt) -> usize {
     match what {
         Attempt::Update | Attempt::Insert => 5,
@@ -114,7 +114,7 @@ fn update_front<L: Layout, const SLOTS: usize, A: Allocator + Copy>(
     Ok(())
 }
 
-// Whether this is what is held once the first pairs of a build are stored, one by one.
+// Returns whether this is what is held once the first pairs of a build are stored, one by one.
 #[tactic(auto, using(cedarwood::proofs::DictionaryLemmas::default_limit))]
 fn is_after_pairs<L: Layout>(
     alloc: Global,
@@ -122,12 +122,12 @@ fn is_after_pairs<L: Layout>(
     count: usize,
     left: &State,
 ) -> Result<bool, Fail> {
-    let mut trie: Full<L, Global> = begun(alloc, ordered)?;
+    let mut trie: Full<L, Global> = begin(alloc, ordered)?;
     update_front(&mut trie, count)?;
     Ok(state_of(alloc, &trie)? == *left)
 }
 
-// Whether this is what is held after so many of a build's pairs, or after a front of these.
+// Returns whether this is what is held after so many of a build's pairs, or after a prefix of these.
 fn is_after_some<L: Layout>(
     alloc: Global,
     ordered: bool,
@@ -142,7 +142,7 @@ fn is_after_some<L: Layout>(
     Ok(false)
 }
 
-// Whether what is held is what was held before the call, or a front of the pairs more where the call is a build, and its
+// Returns whether what is held is what was held before the call, or a prefix of the pairs more if the call is a build, and its
 // saved bytes load.
 fn is_left<L: Layout, const SLOTS: usize, A: Allocator + Copy>(
     alloc: Global,
@@ -157,7 +157,7 @@ fn is_left<L: Layout, const SLOTS: usize, A: Allocator + Copy>(
     Ok(is_after_some::<L>(alloc, ordered, most, &left)? && loads_again(alloc, trie)?)
 }
 
-// Whether the call succeeds, and what is then held loads.
+// Returns whether the call succeeds, and what is then held loads.
 fn succeeds<L: Layout, const SLOTS: usize, A: Allocator + Copy>(
     alloc: Global,
     trie: &mut Trie<L, SLOTS, A>,
@@ -168,8 +168,8 @@ fn succeeds<L: Layout, const SLOTS: usize, A: Allocator + Copy>(
     Ok(make_attempt(trie, what) == Ok(answer(what)) && loads_again(alloc, trie)?)
 }
 
-// Makes a call with some requests refused, and says whether it answered want of memory. If it did, what was held stays and its saved
-// bytes load; else it has done all it does (a list that is refused the room for many may grow by one). Either way the same call then
+// Makes a call with some requests refused, and returns whether it reported a lack of memory. If it did, what was held stays and its saved
+// bytes load; otherwise it has done all it does (a list that is refused the room for many may grow by one). Either way the same call then
 // succeeds.
 #[tactic(auto, using(cedarwood::proofs::DictionaryLemmas::default_limit))]
 fn is_refused<L: Layout>(
@@ -180,7 +180,7 @@ fn is_refused<L: Layout>(
     refused: (u64, u64),
 ) -> Result<bool, Fail> {
     let memory = Refusing::new(alloc);
-    let mut trie: Full<L, &Refusing<Global>> = begun(&memory, ordered)?;
+    let mut trie: Full<L, &Refusing<Global>> = begin(&memory, ordered)?;
     memory.refuse(refused.0, refused.1);
     let outcome = make_attempt(&mut trie, what);
     let is_met = memory.requests() >= refused.0;
@@ -200,12 +200,12 @@ fn is_refused<L: Layout>(
     Ok(is_short)
 }
 
-// A call with some requests refused, and the next one, have to answer as they should.
+// Expects a call with some requests refused, and the next one, to return what they should.
 fn expect(rt: &impl Abort, holds: (bool, bool), what: Attempt, refused: (u64, u64)) {
     assert!(rt; holds == (true, true), "{what:?} at {refused:?}");
 }
 
-// How many requests of a call there are: each is refused alone, and with all that come after it.
+// Returns how many requests a call makes: each is refused alone, and with all that come after it.
 fn requests_of<L: Layout>(
     rt: &impl Abort,
     alloc: Global,

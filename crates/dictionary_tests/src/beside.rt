@@ -45,7 +45,7 @@ enum Keys {
     FewLabels,
     // One to three of all bytes but 0.
     AllBytes,
-    // A word, or a front of one.
+    // A word, or a prefix of one.
     Words,
 }
 
@@ -57,7 +57,7 @@ struct Plan {
     keys: Keys,
 }
 
-// A dictionary, the tree that it has to answer from, and where the sequence of keys has come to.
+// A dictionary, the tree that it has to agree with, and where the sequence of keys is.
 #[derive(Drop)]
 struct Beside<L: Layout> {
     trie: Full<L, Global>,
@@ -65,7 +65,7 @@ struct Beside<L: Layout> {
     seed: u32,
 }
 
-// The next key.
+// Returns the next key.
 fn key(alloc: Global, seed: &mut u32, keys: Keys) -> Result<Vec<u8>, AllocError> {
     let mut key = Vec::new(alloc);
     match keys {
@@ -88,7 +88,7 @@ fn key(alloc: Global, seed: &mut u32, keys: Keys) -> Result<Vec<u8>, AllocError>
     Ok(key)
 }
 
-// Erases all keys that begin with a prefix of both, and says whether they were as many.
+// Erases all keys that begin with a prefix from both, and returns whether they were equally many.
 fn erase_prefix<L: Layout>(
     alloc: Global,
     both: &mut Beside<L>,
@@ -104,7 +104,7 @@ fn erase_prefix<L: Layout>(
     Ok(both.trie.erase_prefix_bytes(prefix) == held.len())
 }
 
-// One call on both, and whether they answered the same.
+// Makes one call on both, and returns whether they returned the same.
 fn call<L: Layout>(alloc: Global, both: &mut Beside<L>, plan: Plan) -> Result<bool, AllocError> {
     let key = key(alloc, &mut both.seed, plan.keys)?;
     let number = next(&mut both.seed);
@@ -121,7 +121,7 @@ fn call<L: Layout>(alloc: Global, both: &mut Beside<L>, plan: Plan) -> Result<bo
     Ok(agreed && both.tree.exact(&key) == both.trie.exact_match_search_bytes(&key))
 }
 
-// Whether each of some pairs is found.
+// Returns whether each of some pairs is found.
 fn finds_all<L: Layout>(trie: &Full<L, Global>, pairs: &[(Vec<u8>, i32)]) -> bool {
     for (key, value) in pairs {
         if trie.exact_match_search_bytes(key) != Some((*value, key.len())) {
@@ -131,7 +131,7 @@ fn finds_all<L: Layout>(trie: &Full<L, Global>, pairs: &[(Vec<u8>, i32)]) -> boo
     true
 }
 
-// Whether both hold the same, in as many slots as the tree takes or, where a number may stand in its node's own slot,
+// Returns whether both hold the same, in as many slots as the tree takes or, if a number may be in its node's own slot,
 // in as many as the tree has nodes, and at most one more for each number.
 fn agree<L: Layout>(alloc: Global, both: &Beside<L>) -> Result<bool, AllocError> {
     let entries = both.tree.walk(alloc)?;
@@ -140,7 +140,7 @@ fn agree<L: Layout>(alloc: Global, both: &Beside<L>) -> Result<bool, AllocError>
     Ok(same_len && same_empty && finds_all(&both.trie, &entries) && fits(alloc, both)?)
 }
 
-// Whether each number has a slot of its own, or in the reduced layout so many as its nodes leave open.
+// Returns whether each number has a slot of its own, or in the reduced layout so many as its nodes leave open.
 fn fits<L: Layout>(alloc: Global, both: &Beside<L>) -> Result<bool, AllocError> {
     let used = both.trie.used_node_slots();
     let most = both.tree.used(alloc)?;
@@ -151,7 +151,7 @@ fn fits<L: Layout>(alloc: Global, both: &Beside<L>) -> Result<bool, AllocError> 
     Ok(prefixes < used && used <= most)
 }
 
-// One call on both, and every 200 calls a comparison of all that they hold.
+// Makes one call on both, and every 200 calls compares all that they hold.
 fn holds_on<L: Layout>(
     alloc: Global,
     both: &mut Beside<L>,
@@ -169,7 +169,7 @@ fn expect(rt: &impl Abort, holds: bool, turn: u32, plan: Plan) {
     assert!(rt; holds, "call {turn} of {plan:?}");
 }
 
-// Mixed calls.
+// Makes mixed calls.
 fn make_calls<L: Layout>(
     rt: &impl Abort,
     alloc: Global,
@@ -191,7 +191,7 @@ fn erase_each<L: Layout>(rt: &impl Abort, trie: &mut Full<L, Global>, pairs: &[(
     }
 }
 
-// Each key is erased, and the root's slot is left.
+// Erases each key; the root's slot is left.
 fn erase_all<L: Layout>(
     rt: &impl Abort,
     alloc: Global,
@@ -208,7 +208,7 @@ fn built<L: Layout>(alloc: Global, builder: CedarBuilder) -> Result<Full<L, Glob
     Trie::with(alloc, builder)
 }
 
-fn begun<L: Layout>(alloc: Global, plan: Plan) -> Result<Beside<L>, Fail> {
+fn begin<L: Layout>(alloc: Global, plan: Plan) -> Result<Beside<L>, Fail> {
     let builder = CedarBuilder::new()
         .ordered(plan.ordered)
         .max_trial(plan.max_trial)?;
@@ -231,11 +231,11 @@ fn run_on<L: Layout>(
 }
 
 fn run<L: Layout>(rt: &impl Abort, alloc: Global, plan: Plan) -> Result<(), Fail> {
-    let mut both = begun::<L>(alloc, plan)?;
+    let mut both = begin::<L>(alloc, plan)?;
     run_on(rt, alloc, &mut both, plan)
 }
 
-// Each source of keys, where one failed search closes a block, and where three do.
+// Each source of keys, if one failed search closes a block, and if three do.
 fn each_source<L: Layout>(rt: &impl Abort, alloc: Global, ordered: bool) -> Result<(), Fail> {
     for keys in [Keys::FewLabels, Keys::AllBytes, Keys::Words] {
         for max_trial in [1, 3] {

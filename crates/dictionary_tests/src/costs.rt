@@ -1,4 +1,4 @@
-//! A text cut at least cost, where each request for memory is refused in turn.
+//! A text cut at least cost, with each allocation refused in turn.
 
 use cedar_words::cheapest;
 use cedarwood::{DefaultLayout, Layout, ReducedLayout};
@@ -26,7 +26,7 @@ const WANTED: [(usize, usize, Option<i32>); 10] = [
     (11, 1, None),
 ];
 
-// Whether the text is cut, as it should be.
+// Returns whether the text is cut, as it should be.
 fn is_cut<L: Layout>(memory: &Refusing<Global>, trie: &Full<L, Global>) -> bool {
     match cheapest(memory, trie, TEXT, 10) {
         Ok(tokens) => tokens.as_slice() == WANTED.as_slice(),
@@ -34,7 +34,7 @@ fn is_cut<L: Layout>(memory: &Refusing<Global>, trie: &Full<L, Global>) -> bool 
     }
 }
 
-// The text is cut just where no request was refused.
+// Expects the text to be cut exactly if no request was refused.
 fn expect_refused<L: Layout>(rt: &impl Abort, memory: &Refusing<Global>, trie: &Full<L, Global>) {
     for earlier in 0..8 {
         memory.refuse(earlier + 1, earlier + 1);

@@ -1,10 +1,10 @@
-//! What tests compare again and again. Each comparison in a test makes its proof longer with all that the test holds, a call
-//! of these hardly.
+//! Comparisons that tests make again and again. Each comparison in a test makes its proof longer with all that the test holds; a call
+//! of these hardly does.
 use cedarwood::{Layout, Trie};
 use std::alloc::Allocator;
 use std::process::Abort;
 
-/// So many keys have to be held, and so many slots used.
+/// Expects this many keys to be held, and this many slots used.
 pub(crate) fn expect_counts<L: Layout, const SLOTS: usize, A: Allocator + Copy>(
     rt: &impl Abort,
     trie: &Trie<L, SLOTS, A>,
@@ -14,7 +14,7 @@ pub(crate) fn expect_counts<L: Layout, const SLOTS: usize, A: Allocator + Copy>(
     assert!(rt; (trie.len(), trie.used_node_slots()) == (keys, slots));
 }
 
-/// A key is erased, and has to have been held or not.
+/// Erases a key, and expects it to have been held or not.
 pub(crate) fn expect_erased<L: Layout, const SLOTS: usize, A: Allocator + Copy>(
     rt: &impl Abort,
     trie: &mut Trie<L, SLOTS, A>,

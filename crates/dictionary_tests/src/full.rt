@@ -1,14 +1,14 @@
 //! Dictionaries whose slots are all in use: a refused key leaves them as they were, and they can be emptied and filled again.
-ghost use Rattle.cedar_slots.specs.Places.{IsSlotLimit};
+ghost use Rattle.cedarwood.specs.Words.{IsSlotLimit};
 
 use cedarwood::{CedarError, DefaultLayout, Layout, ReducedLayout, Trie};
-use dictionary_support::bare::{counts, erase, found, made, room, update};
-use dictionary_support::state::{loads_again, saved};
+use dictionary_support::bare::{counts, erase, find, make, room, update};
+use dictionary_support::state::{loads_again, save_bytes};
 use std::alloc::Global;
 use std::process::Abort;
 use std::test::Fail;
 
-// Stores each key of one byte, and says whether all were stored.
+// Stores each key of one byte, and returns whether all were stored.
 fn fill<L: Layout, const SLOTS: usize>(trie: &mut Trie<L, SLOTS, Global>) -> bool {
     let mut are_stored = true;
     for byte in 0..255u8 {
@@ -17,7 +17,7 @@ fn fill<L: Layout, const SLOTS: usize>(trie: &mut Trie<L, SLOTS, Global>) -> boo
     are_stored
 }
 
-// Block 0's count in a file: free slots, and one for the root.
+// Returns block 0's count in a file: free slots, and one for the root.
 fn first_count(file: &[u8], slots: usize) -> Option<u8> {
     file.get(slots.wrapping_mul(10).wrapping_add(96)).copied()
 }
@@ -31,11 +31,11 @@ fn expect_filled<L: Layout, const SLOTS: usize>(
 ) -> Result<(), Fail> {
     assert!(rt; fill(trie));
     assert!(rt; (counts(trie), room(trie).1) == ((255, used), 0));
-    assert!(rt; first_count(&saved(alloc, trie)?, SLOTS) == Some(1));
+    assert!(rt; first_count(&save_bytes(alloc, trie)?, SLOTS) == Some(1));
     Ok(())
 }
 
-// A key more is refused, and leaves all as it was. A value in the place of another isn't.
+// One more key is refused, and leaves everything as it was. A value that replaces another isn't refused.
 fn expect_full<L: Layout, const SLOTS: usize>(
     rt: &impl Abort,
     alloc: Global,
@@ -48,7 +48,7 @@ fn expect_full<L: Layout, const SLOTS: usize>(
     assert!(rt; counts(trie) == (255, used));
     assert!(rt; loads_again(alloc, trie)?);
     assert!(rt; update(trie, &[2], 9).is_ok());
-    assert!(rt; found(trie, &[2]) == Some((9, 1)));
+    assert!(rt; find(trie, &[2]) == Some((9, 1)));
     Ok(())
 }
 
@@ -77,7 +77,7 @@ fn expect_twice<L: Layout, const SLOTS: usize>(
 ) -> Result<(), Fail>
     requires { IsSlotLimit SLOTS }
 {
-    let trie = &mut made::<L, SLOTS, Global>(alloc, ordered)?;
+    let trie = &mut make::<L, SLOTS, Global>(alloc, ordered)?;
     for _ in 0..2 {
         expect_filled(rt, alloc, trie, used)?;
         expect_full(rt, alloc, trie, used)?;

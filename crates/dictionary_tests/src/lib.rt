@@ -1,4 +1,4 @@
-//! Tests of the dictionary that are proved: long runs beside the plain tree, and hostile use: memory that is refused at each request,
+//! Tests of the dictionary that are proved: long runs beside the plain tree, and hostile use: allocations that fail, each in turn,
 //! tables with no slot left, and keys of a million bytes. Each answer is the one that is named, what was held stays, and the same call
 //! then succeeds.
 #![tactic(auto)]

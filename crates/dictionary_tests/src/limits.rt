@@ -1,8 +1,8 @@
 //! Mixed calls on dictionaries of few slots beside the plain tree, most of the time with no slot left.
-ghost use Rattle.cedar_slots.specs.Places.{IsSlotLimit};
+ghost use Rattle.cedarwood.specs.Words.{IsSlotLimit};
 
 use cedarwood::{CedarError, DefaultLayout, Layout, ReducedLayout, Trie};
-use dictionary_support::bare::{cut, erase, made, put, room, update};
+use dictionary_support::bare::{cut, erase, make, put, room, update};
 use dictionary_support::sequence::next;
 use dictionary_support::state::{loads_again, state_of};
 use plain_tree::PlainTree;
@@ -15,8 +15,8 @@ const CALLS: u32 = 5000;
 
 const TURN: u32 = 1500;
 
-// A dictionary, the tree that it has to answer from, and the tree of those keys whose numbers have slots of their own where
-// a number may stand in its node's own slot.
+// A dictionary, the tree that it has to agree with, and the tree of those keys whose numbers have slots of their own if
+// a number may be in its node's own slot.
 #[derive(Drop)]
 struct Beside<L: Layout, const SLOTS: usize> {
     trie: Trie<L, SLOTS, Global>,
@@ -24,11 +24,11 @@ struct Beside<L: Layout, const SLOTS: usize> {
     marked: PlainTree<Global>,
     ordered: bool,
     seed: u32,
-    // How many calls were refused for want of slots.
+    // How many calls failed for lack of slots.
     refused: u32,
 }
 
-// A key of one to six of four bytes, of one to three of all bytes, or of one byte eight to forty times.
+// Returns a key of one to six of four bytes, of one to three of all bytes, or of one byte eight to forty times.
 fn key(alloc: Global, seed: &mut u32) -> Result<Vec<u8>, AllocError> {
     let mut key = Vec::new(alloc);
     let (most, labels) = match next(seed) % 8 {
@@ -46,12 +46,12 @@ fn is_held(tree: &PlainTree<Global>, key: &[u8]) -> bool {
     tree.number_at(key).is_some()
 }
 
-// Whether a key or a longer one is held.
+// Returns whether a key or a longer one is held.
 fn goes_on(alloc: Global, tree: &PlainTree<Global>, key: &[u8]) -> Result<bool, AllocError> {
     Ok(!tree.predict(alloc, key)?.is_empty())
 }
 
-// A new key moves the numbers of the held fronts into slots, and its own is in one if longer keys are held.
+// A new key moves the numbers of the held prefixes into slots, and its own is in one if longer keys are held.
 fn mark(
     alloc: Global,
     tree: &PlainTree<Global>,
@@ -86,7 +86,7 @@ fn put_both<L: Layout, const SLOTS: usize>(
     put(alloc, &mut both.tree, both.ordered, key, value)
 }
 
-// Whether a dictionary is right to refuse a key: only for want of slots, where all are in use, and never one that is held.
+// Returns whether a dictionary is right to refuse a key: only for lack of slots, if all are in use, and never one that is held.
 fn is_right<L: Layout, const SLOTS: usize>(
     both: &Beside<L, SLOTS>,
     key: &[u8],
@@ -95,7 +95,7 @@ fn is_right<L: Layout, const SLOTS: usize>(
     *error == CedarError::SlotLimit && room(&both.trie) == (SLOTS, 0) && !is_held(&both.tree, key)
 }
 
-// Stores a pair in both, and says whether the dictionary is right to do so or to refuse it.
+// Stores a pair in both, and returns whether the dictionary is right to do so or to refuse it.
 fn store<L: Layout, const SLOTS: usize>(
     alloc: Global,
     both: &mut Beside<L, SLOTS>,
@@ -114,13 +114,13 @@ fn store<L: Layout, const SLOTS: usize>(
     }
 }
 
-// Erases a key from both, and says whether they answered the same.
+// Erases a key from both, and returns whether they returned the same.
 fn erase_both<L: Layout, const SLOTS: usize>(both: &mut Beside<L, SLOTS>, key: &[u8]) -> bool {
     cut(&mut both.marked, key);
     cut(&mut both.tree, key) == erase(&mut both.trie, key)
 }
 
-// One of the held keys, if there is one.
+// Returns one of the held keys, if there is one.
 fn held_key(
     alloc: Global,
     tree: &PlainTree<Global>,
@@ -134,7 +134,7 @@ fn held_key(
     Ok(key)
 }
 
-// One call on both, and whether they answered the same.
+// Makes one call on both, and returns whether they returned the same.
 fn call<L: Layout, const SLOTS: usize>(
     alloc: Global,
     both: &mut Beside<L, SLOTS>,
@@ -150,8 +150,8 @@ fn call<L: Layout, const SLOTS: usize>(
     Ok(erase_both(both, &key) && erase_both(both, &held))
 }
 
-// How many slots the keys take: one for the root, one for each node, and those of the numbers.
-fn used<L: Layout, const SLOTS: usize>(
+// Returns how many slots the keys take: one for the root, one for each node, and those of the numbers.
+fn used_slots<L: Layout, const SLOTS: usize>(
     alloc: Global,
     both: &Beside<L, SLOTS>,
     keys: usize,
@@ -165,18 +165,18 @@ fn used<L: Layout, const SLOTS: usize>(
     Ok(nodes.wrapping_add(numbers).wrapping_add(1))
 }
 
-// Whether both hold the same in the same order and in as many slots.
+// Returns whether both hold the same in the same order and in equally many slots.
 fn hold_same<L: Layout, const SLOTS: usize>(
     alloc: Global,
     both: &Beside<L, SLOTS>,
 ) -> Result<bool, AllocError> {
     let state = state_of(alloc, &both.trie)?;
     let held = both.tree.predict(alloc, b"")?;
-    let used = used(alloc, both, state.len)?;
+    let used = used_slots(alloc, both, state.len)?;
     Ok(state.len == held.len() && state.used == used && state.held == held)
 }
 
-// Whether both hold the same, and what is saved loads.
+// Returns whether both hold the same, and what is saved loads.
 fn agree<L: Layout, const SLOTS: usize>(
     alloc: Global,
     both: &Beside<L, SLOTS>,
@@ -186,14 +186,14 @@ fn agree<L: Layout, const SLOTS: usize>(
     Ok(hold_same(alloc, both)? && loads_again(alloc, &both.trie)?)
 }
 
-fn begun<L: Layout, const SLOTS: usize>(
+fn begin<L: Layout, const SLOTS: usize>(
     alloc: Global,
     ordered: bool,
 ) -> Result<Beside<L, SLOTS>, CedarError>
     requires { IsSlotLimit SLOTS }
 {
     Ok(Beside {
-        trie: made(alloc, ordered)?,
+        trie: make(alloc, ordered)?,
         tree: PlainTree::new(alloc),
         marked: PlainTree::new(alloc),
         ordered,
@@ -202,7 +202,7 @@ fn begun<L: Layout, const SLOTS: usize>(
     })
 }
 
-// One call on both, after which they have to agree.
+// Makes one call on both, after which they have to agree.
 fn expect_call<L: Layout, const SLOTS: usize>(
     rt: &impl Abort,
     alloc: Global,
@@ -223,7 +223,7 @@ fn run<L: Layout, const SLOTS: usize>(
 ) -> Result<(), Fail>
     requires { IsSlotLimit SLOTS }
 {
-    let both = &mut begun::<L, SLOTS>(alloc, ordered)?;
+    let both = &mut begin::<L, SLOTS>(alloc, ordered)?;
     for turn in 0..CALLS {
         expect_call(rt, alloc, both, turn)?;
     }

@@ -2,10 +2,10 @@
 use cedar_words::segment;
 use cedarwood::{CedarError, CedarPersistenceError, DefaultLayout, Entries, Layout, ReducedLayout};
 use dictionary_support::bare::{
-    Full, below, build, copied, counts, erase, found, fronts, insert, load_at_path, longest,
+    Full, below, build, copy, counts, erase, find, fronts, insert, load_at_path, longest,
     of_sorted, save_at_path, update,
 };
-use dictionary_support::state::{loads_again, saved};
+use dictionary_support::state::{loads_again, save_bytes};
 use std::alloc::{AllocError, Global};
 use std::cell::Cell;
 use std::process::Abort;
@@ -16,7 +16,7 @@ const LEN: usize = 1_000_000;
 
 const HALF: usize = 500_000;
 
-// A text of so many letters.
+// Returns a text of this many letters.
 fn long_key(alloc: Global) -> Result<Vec<u8>, AllocError> {
     let mut key = Vec::new(alloc);
     let mut seed = 7u32;
@@ -34,11 +34,11 @@ fn half(key: &[u8]) -> &[u8] {
 type Long<L> = Full<L, Global>;
 
 #[tactic(auto, using(cedarwood::proofs::DictionaryLemmas::default_limit))]
-fn begun<L: Layout>(alloc: Global, key: &[u8]) -> Result<Long<L>, CedarError> {
+fn begin<L: Layout>(alloc: Global, key: &[u8]) -> Result<Long<L>, CedarError> {
     of_sorted(alloc, true, &[(half(key), 1), (key, 2)])
 }
 
-// Whether an answer is a list of these two.
+// Returns whether an answer is a list of these two.
 fn are(found: Result<Vec<(i32, usize)>, CedarError>, wanted: [(i32, usize); 2]) -> bool {
     match found {
         Ok(found) => found.as_slice() == wanted.as_slice(),
@@ -53,14 +53,14 @@ fn is_next<L: Layout>(entries: &mut Entries<'_, Long<L>, Global>, wanted: &[u8])
     }
 }
 
-// Whether the entries are the half and the key.
+// Returns whether the entries are the half and the key.
 fn are_entries<L: Layout>(trie: &Long<L>, key: &[u8]) -> Result<bool, CedarError> {
     let mut entries = trie.entries()?;
     let are_both = is_next(&mut entries, half(key)) && is_next(&mut entries, key);
     Ok(are_both && entries.is_empty() && entries.next().is_none())
 }
 
-// How long the first entry's text is.
+// Returns how long the first entry's text is.
 fn text_len<L: Layout>(trie: &Long<L>) -> Result<usize, CedarError> {
     let mut texts = trie.entries_str()?;
     match texts.next() {
@@ -81,7 +81,7 @@ fn expect_found<L: Layout>(
     trie: &Long<L>,
     key: &[u8],
 ) -> Result<(), Fail> {
-    assert!(rt; found(trie, key) == Some((2, LEN)));
+    assert!(rt; find(trie, key) == Some((2, LEN)));
     assert!(rt; longest(trie, half(key)) == Some((1, HALF - 1)));
     assert!(rt; are(fronts(trie, key), [(1, HALF - 1), (2, LEN - 1)]));
     assert!(rt; are(below(trie, half(key)), [(1, 0), (2, HALF)]));
@@ -92,7 +92,7 @@ fn expect_found<L: Layout>(
     Ok(())
 }
 
-// The two keys erased, stored again one by one and in a list.
+// Erases the two keys, and stores them again one by one and in a list.
 fn expect_changes<L: Layout>(rt: &impl Abort, trie: &mut Long<L>, key: &[u8]) {
     let were_held = (erase(trie, half(key)), erase(trie, key), erase(trie, key));
     assert!(rt; were_held == (true, true, false));
@@ -128,15 +128,15 @@ fn expect_files<L: Layout>(
     key: &[u8],
 ) -> Result<(), Fail> {
     assert!(rt; loads_again(alloc, trie)?);
-    let copy = copied(trie)?;
-    let bytes = saved(alloc, &copy)?;
+    let copy = copy(trie)?;
+    let bytes = save_bytes(alloc, &copy)?;
     let again = through_path(rt, alloc, &copy, &bytes)?;
     expect_found(rt, alloc, &again, key)
 }
 
 fn expect_each_call<L: Layout>(rt: &impl Abort, alloc: Global, used: usize) -> Result<(), Fail> {
     let key = long_key(alloc)?;
-    let mut trie = begun::<L>(alloc, &key)?;
+    let mut trie = begin::<L>(alloc, &key)?;
     assert!(rt; counts(&trie) == (2, used));
     expect_found(rt, alloc, &trie, &key)?;
     expect_files(rt, alloc, &trie, &key)?;

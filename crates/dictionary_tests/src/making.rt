@@ -1,8 +1,8 @@
-//! Dictionaries that are made, new ones and of sorted pairs, each request refused in turn.
-ghost use Rattle.cedar_slots.specs.Places.{IsSlotLimit};
+//! Dictionaries that are made, new ones and from sorted pairs, each allocation refused in turn.
+ghost use Rattle.cedarwood.specs.Words.{IsSlotLimit};
 
 use cedarwood::{CedarError, DefaultLayout, Layout, ReducedLayout, Trie};
-use dictionary_support::bare::{Full, counts, made, of_sorted, of_sorted_texts};
+use dictionary_support::bare::{Full, counts, make, of_sorted, of_sorted_texts};
 use dictionary_support::state::loads_again;
 use std::alloc::{Allocator, Global};
 use std::process::Abort;
@@ -20,7 +20,7 @@ enum Making {
     Texts,
 }
 
-fn begun<L: Layout, const SLOTS: usize, A: Allocator + Copy>(
+fn begin<L: Layout, const SLOTS: usize, A: Allocator + Copy>(
     alloc: A,
     what: Making,
     ordered: bool,
@@ -28,20 +28,20 @@ fn begun<L: Layout, const SLOTS: usize, A: Allocator + Copy>(
     requires { IsSlotLimit SLOTS }
 {
     match what {
-        Making::New => made(alloc, ordered),
+        Making::New => make(alloc, ordered),
         Making::Bytes => of_sorted(alloc, ordered, &PAIRS),
         Making::Texts => of_sorted_texts(alloc, ordered, &TEXTS),
     }
 }
 
-// How many keys a dictionary has that was made.
+// Returns how many keys a dictionary has that was made.
 fn count_made<L: Layout, const SLOTS: usize, A: Allocator + Copy>(
     made: Result<Trie<L, SLOTS, A>, CedarError>,
 ) -> Result<usize, CedarError> {
     Ok(counts(&made?).0)
 }
 
-// How many keys a dictionary has, if what it saves loads.
+// Returns how many keys a dictionary has, if what it saves loads.
 fn count_if_loads<L: Layout, const SLOTS: usize, A: Allocator + Copy>(
     alloc: Global,
     trie: &Trie<L, SLOTS, A>,
@@ -52,7 +52,7 @@ fn count_if_loads<L: Layout, const SLOTS: usize, A: Allocator + Copy>(
     Ok(if loads { Some(counts(trie).0) } else { None })
 }
 
-// Makes a dictionary with one request refused, and says whether it asked so often. The same call then succeeds.
+// Makes a dictionary with one request refused, and returns whether it made this many requests. The same call then succeeds.
 #[tactic(auto, using(cedarwood::proofs::DictionaryLemmas::default_limit))]
 fn is_refused<L: Layout>(
     rt: &impl Abort,
@@ -63,10 +63,10 @@ fn is_refused<L: Layout>(
 ) -> Result<bool, Fail> {
     let memory = Refusing::new(alloc);
     memory.refuse(request, request);
-    let outcome = count_made(begun::<L, 1073741824, &Refusing<Global>>(&memory, what, ordered));
+    let outcome = count_made(begin::<L, 1073741824, &Refusing<Global>>(&memory, what, ordered));
     let is_refused = memory.requests() >= request;
     memory.refuse_none();
-    let trie: Full<L, &Refusing<Global>> = begun(&memory, what, ordered)?;
+    let trie: Full<L, &Refusing<Global>> = begin(&memory, what, ordered)?;
     let held = count_if_loads(alloc, &trie)?;
     let is_right = if is_refused {
         outcome == Err(CedarError::Memory)
@@ -77,12 +77,12 @@ fn is_refused<L: Layout>(
     Ok(is_refused)
 }
 
-// A call with a request refused has to answer as it should, and what the next one makes to load.
+// Expects a call with a request refused to return what it should, and what the next one makes to load.
 fn expect(rt: &impl Abort, holds: bool, what: Making, request: u64) {
     assert!(rt; holds, "{what:?} at {request}");
 }
 
-// How many requests it makes, each of which was refused.
+// Returns how many requests it makes, each of which was refused.
 fn requests_of<L: Layout>(
     rt: &impl Abort,
     alloc: Global,
@@ -97,7 +97,7 @@ fn requests_of<L: Layout>(
     Ok(40)
 }
 
-// Texts ask as often as the same keys as bytes.
+// Texts make as many requests as the same keys as bytes.
 fn refuse_each<L: Layout>(rt: &impl Abort, alloc: Global) -> Result<(), Fail> {
     for ordered in [true, false] {
         let new = requests_of::<L>(rt, alloc, Making::New, ordered)?;

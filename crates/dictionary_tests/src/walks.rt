@@ -1,11 +1,11 @@
-//! Walks over all entries, each request of which is refused in turn.
-ghost use Rattle.cedar_slots.specs.Places.{IsSlotLimit};
+//! Walks over all entries, each allocation of which is refused in turn.
+ghost use Rattle.cedarwood.specs.Words.{IsSlotLimit};
 
 use cedarwood::{
     CedarError, DefaultLayout, Entries, EntryError, Layout, ReducedLayout, Trie, Utf8Entries,
     Walked,
 };
-use dictionary_support::bare::{Full, build, made};
+use dictionary_support::bare::{Full, build, make};
 use std::alloc::{Allocator, Global};
 use std::process::Abort;
 use std::test::Fail;
@@ -18,20 +18,20 @@ const PAIRS: [(&[u8], i32); 3] = [(b"a", 1), (b"ab", 1), (b"abc", 1)];
 // What a walk gives next.
 #[derive(Clone, Copy, Debug, PartialEq, Eq)]
 enum Next {
-    // The key that is wanted.
+    // The wanted key.
     Wanted,
-    // Want of memory.
+    // A lack of memory.
     Short,
     Nothing,
     Other,
 }
 
-fn begun<L: Layout, const SLOTS: usize, A: Allocator + Copy>(
+fn begin<L: Layout, const SLOTS: usize, A: Allocator + Copy>(
     alloc: A,
 ) -> Result<Trie<L, SLOTS, A>, CedarError>
     requires { IsSlotLimit SLOTS }
 {
-    let mut trie = made(alloc, true)?;
+    let mut trie = make(alloc, true)?;
     build(&mut trie, &PAIRS)?;
     Ok(trie)
 }
@@ -69,7 +69,7 @@ fn next_text<T: Walked, A: Allocator + Copy>(
     }
 }
 
-// Whether a walk says that so many keys are left.
+// Returns whether a walk says that this many keys are left.
 fn says_left<T: Walked, A: Allocator + Copy>(keys: &Entries<'_, T, A>, left: usize) -> bool {
     let is_len = keys.len() == left && keys.is_empty() == (left == 0);
     is_len && keys.size_hint() == (0, Some(left))
@@ -82,7 +82,7 @@ fn says_texts_left<T: Walked, A: Allocator + Copy>(
     texts.size_hint() == (0, Some(left))
 }
 
-// A walk says how many keys are left, and gives the one that is wanted or want of memory.
+// Expects a walk to say how many keys are left, and to give the wanted one or a lack of memory.
 fn expect_next(rt: &impl Abort, says_left: bool, next: Next) {
     assert!(rt;
         says_left && (next == Next::Wanted || next == Next::Short),
@@ -90,12 +90,12 @@ fn expect_next(rt: &impl Abort, says_left: bool, next: Next) {
     );
 }
 
-// A walk that is over says so, and gives nothing however often it is asked.
+// Expects a walk that is over to say so, and to give nothing however often it is called.
 fn expect_over(rt: &impl Abort, says_none_left: bool, last: (Next, Next)) {
     assert!(rt; says_none_left && last.0 == Next::Nothing && last.1 == Next::Nothing);
 }
 
-// Walks over the entries, and answers how many came before want of memory.
+// Walks over the entries, and returns how many came before a lack of memory.
 fn count_keys<T: Walked, A: Allocator + Copy>(
     rt: &impl Abort,
     keys: &mut Entries<'_, T, A>,
@@ -126,7 +126,7 @@ fn count_texts<T: Walked, A: Allocator + Copy>(
     3
 }
 
-// Want of memory, and the last entry, end a walk.
+// A lack of memory, and the last entry, end a walk.
 fn walk_keys<L: Layout, const SLOTS: usize, A: Allocator + Copy>(
     rt: &impl Abort,
     trie: &Trie<L, SLOTS, A>,
@@ -151,11 +151,11 @@ fn walk_texts<L: Layout, const SLOTS: usize, A: Allocator + Copy>(
     Ok(given)
 }
 
-// One request refused: the call answers want of memory, or the walk ends with it. A second walk gives all.
+// One request refused: the call reports a lack of memory, or the walk ends with it. A second walk gives all.
 #[tactic(auto, using(cedarwood::proofs::DictionaryLemmas::default_limit))]
 fn expect_ends<L: Layout>(rt: &impl Abort, alloc: Global, request: u64) -> Result<usize, Fail> {
     let memory = Refusing::new(alloc);
-    let trie: Full<L, &Refusing<Global>> = begun(&memory)?;
+    let trie: Full<L, &Refusing<Global>> = begin(&memory)?;
     memory.refuse(request, request);
     let given = walk_keys(rt, &trie).unwrap_or(0);
     assert!(rt;

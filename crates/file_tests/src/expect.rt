@@ -1,10 +1,10 @@
-//! What tests compare again and again. Each comparison in a test makes its proof longer with all that the test holds, a call
-//! of these hardly.
+//! Comparisons that tests make again and again. Each comparison in a test makes its proof longer with all that the test holds; a call
+//! of these hardly does.
 use cedarwood::{Layout, Trie};
 use std::alloc::Allocator;
 use std::process::Abort;
 
-/// A key has to be found with a number and its length, or not at all.
+/// Expects a key to be found with a number and its length, or not at all.
 pub(crate) fn expect_found<L: Layout, const SLOTS: usize, A: Allocator + Copy>(
     rt: &impl Abort,
     trie: &Trie<L, SLOTS, A>,
@@ -14,7 +14,7 @@ pub(crate) fn expect_found<L: Layout, const SLOTS: usize, A: Allocator + Copy>(
     assert!(rt; trie.exact_match_search_bytes(key) == wanted, "at {key:?}");
 }
 
-/// So many slots have to be there, and so many blocks to spare.
+/// Expects this many slots, and this many spare blocks.
 pub(crate) fn expect_room<L: Layout, const SLOTS: usize, A: Allocator + Copy>(
     rt: &impl Abort,
     trie: &Trie<L, SLOTS, A>,

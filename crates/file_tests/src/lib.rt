@@ -1,5 +1,5 @@
-//! Tests of files that are proved: whole files byte by byte, loads and saves by path, devices that end early, and memory that is refused
-//! at each request. Each answer is the one that is named, and what was held stays.
+//! Tests of files that are proved: whole files byte by byte, loads and saves by path, devices that end early, and allocations that fail,
+//! each in turn. Each result is the one that is named, and what was held stays.
 #![tactic(auto)]
 
 #[cfg(test)]

@@ -1,8 +1,8 @@
-//! Loads that are refused memory, by readers that give a byte a read and that fail.
+//! Loads that lack memory, by readers that give a byte a read and that fail.
 
 use cedarwood::{CedarPersistenceError, DefaultLayout, Layout, ReducedLayout, Trie, Watched};
 use dictionary_support::bare::{build, empty};
-use dictionary_support::state::{loaded, saved, saves};
+use dictionary_support::state::{load_bytes, save_bytes, saves};
 use dictionary_support::verdict::{Answer, LOADS, Verdict, refusal};
 use std::alloc::{AllocError, Allocator, Global};
 use std::process::Abort;
@@ -14,7 +14,7 @@ const PAIRS: [(&[u8], i32); 3] = [(b"a", 1), (b"ab", 2), (b"b", 3)];
 fn file_of<L: Layout>(alloc: Global) -> Result<Vec<u8>, Fail> {
     let mut trie = empty::<L>(alloc)?;
     build(&mut trie, &PAIRS)?;
-    Ok(saved(alloc, &trie)?)
+    Ok(save_bytes(alloc, &trie)?)
 }
 
 type Loading<'a, L, const SLOTS: usize> = Result<
@@ -22,10 +22,10 @@ type Loading<'a, L, const SLOTS: usize> = Result<
     CedarPersistenceError,
 >;
 
-// What a load answered, whether what loads saves the same bytes, and how many requests there were.
+// What a load returned, whether what loads saves the same bytes, and how many requests there were.
 type Loaded = (Answer, bool, u64);
 
-fn compared<L: Layout, const SLOTS: usize, A: Allocator + Copy>(
+fn compare<L: Layout, const SLOTS: usize, A: Allocator + Copy>(
     alloc: Global,
     file: &[u8],
     answer: Result<Trie<L, SLOTS, A>, CedarPersistenceError>,
@@ -37,7 +37,7 @@ fn compared<L: Layout, const SLOTS: usize, A: Allocator + Copy>(
     }
 }
 
-// A load of the first bytes of a file, a byte a read, with one request refused.
+// A load of the first bytes of a file, a byte a read, with one allocation refused.
 #[tactic(auto, using(cedarwood::proofs::DictionaryLemmas::default_limit))]
 fn load<L: Layout>(
     alloc: Global,
@@ -49,12 +49,12 @@ fn load<L: Layout>(
     let memory = Refusing::new(alloc);
     memory.refuse(request, request);
     let mut reader = Watched::new(FailingReader::new(file, comes, 1, ending));
-    let answer: Loading<'_, L, 1073741824> = loaded(&memory, &mut reader);
+    let answer: Loading<'_, L, 1073741824> = load_bytes(&memory, &mut reader);
     let requests = memory.requests();
-    compared(alloc, file, answer, requests)
+    compare(alloc, file, answer, requests)
 }
 
-// A load of a whole file has to answer this.
+// Expects this of a load of a whole file.
 fn expect<L: Layout>(
     rt: &impl Abort,
     alloc: Global,
@@ -87,7 +87,8 @@ fn each_request_of_a_load(rt: HostRuntime) -> Result<(), Fail> {
     refuse_each::<ReducedLayout>(&rt, rt.alloc())
 }
 
-// A reader that ends after each number of bytes, by itself or by a fault: nothing is asked of memory before the header came whole.
+// A reader that ends after each number of bytes, by itself or by a fault: nothing is requested from the allocator before the header has
+// come whole.
 fn cut_each<L: Layout>(rt: &impl Abort, alloc: Global) -> Result<(), Fail> {
     let file = file_of::<L>(alloc)?;
     for comes in 0..file.len() {
@@ -110,7 +111,7 @@ fn each_end_of_a_reader(rt: HostRuntime) -> Result<(), Fail> {
     cut_each::<ReducedLayout>(&rt, rt.alloc())
 }
 
-// The header of a table that needs more than the limit, without its body.
+// Returns the header of a table that needs more than the limit, without its body.
 fn large_header(alloc: Global) -> Result<Vec<u8>, AllocError> {
     let mut header = Vec::from_slice(alloc, b"CEDARW\0\0\x01\0\0\0\x01\0\x01\0\x01\0\0\0")?;
     header.extend_from_slice(&[0; 12])?;
@@ -120,19 +121,19 @@ fn large_header(alloc: Global) -> Result<Vec<u8>, AllocError> {
     Ok(header)
 }
 
-// A load of a table that is larger than is allowed, with the first request refused.
+// A load of a table that is larger than allowed, with the first allocation refused.
 #[tactic(auto, using(dictionary_support::proofs::SlotLimits::limit_256))]
 fn load_small(alloc: Global) -> Result<Loaded, Fail> {
     let file = file_of::<DefaultLayout>(alloc)?;
     let memory = Refusing::new(alloc);
     memory.refuse(1, 1);
     let mut reader = Watched::new(file.as_slice());
-    let answer: Loading<'_, DefaultLayout, 256> = loaded(&memory, &mut reader);
+    let answer: Loading<'_, DefaultLayout, 256> = load_bytes(&memory, &mut reader);
     let requests = memory.requests();
-    compared(alloc, &file, answer, requests)
+    compare(alloc, &file, answer, requests)
 }
 
-// What the header refuses is refused before anything is asked of memory.
+// What the header refuses is refused before anything is requested from the allocator.
 #[test]
 fn refusals_before_memory(rt: HostRuntime) -> Result<(), Fail> {
     let header = large_header(rt.alloc())?;

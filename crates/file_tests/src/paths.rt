@@ -1,9 +1,9 @@
-//! Loads and saves by path, over files that can't be opened, made, read, written or flushed, and without memory.
-ghost use Rattle.cedar_slots.specs.Places.{IsSlotLimit};
+//! Loads and saves by path, over files that can't be opened, created, read, written or flushed, and without memory.
+ghost use Rattle.cedarwood.specs.Words.{IsSlotLimit};
 
 use crate::files::bytes::{one_key_file, set};
 use cedarwood::{Cedar, CedarError, CedarPersistenceError, Layout, Trie};
-use dictionary_support::bare::{load_at_path, made, save_at_path, update};
+use dictionary_support::bare::{load_at_path, make, save_at_path, update};
 use dictionary_support::verdict::{Answer, Verdict, answer_of};
 use std::alloc::{AllocError, Allocator, Global};
 use std::cell::Cell;
@@ -11,13 +11,13 @@ use std::process::Abort;
 use std::test::Fail;
 use test_support::{FakeFiles, FilePlan, FileUse, Refusing};
 
-// A file that goes well.
+// A file whose calls all succeed.
 const GOOD: FilePlan = FilePlan {
     room: 5762,
     ..FilePlan::GOOD
 };
 
-// One that can't be opened, or made.
+// One that can't be opened, or created.
 const CLOSED: FilePlan = FilePlan {
     opens: false,
     ..GOOD
@@ -57,25 +57,25 @@ const SAVED: FileUse = FileUse {
     ..FileUse::NONE
 };
 
-// What one has done whose rename failed: it has removed the file.
+// What a save has done whose rename failed: it has removed the file.
 const NOT_MOVED: FileUse = FileUse {
     removed: 1,
     ..SAVED
 };
 
-// The same where the file can't be synced: it isn't renamed.
+// The same if the file can't be synced: it isn't renamed.
 const NOT_SYNCED: FileUse = FileUse {
     moves: 0,
     ..NOT_MOVED
 };
 
-// The same where it can't be flushed.
+// The same if it can't be flushed.
 const NOT_FLUSHED: FileUse = FileUse {
     syncs: 0,
     ..NOT_SYNCED
 };
 
-// A load of the file of one key, with one request for memory refused, and what was done with the file.
+// A load of the file of one key, with one allocation refused, and what was done with the file.
 #[tactic(auto, using(cedarwood::proofs::DictionaryLemmas::default_limit))]
 fn load(alloc: Global, plan: FilePlan, refused: u64) -> Result<(Answer, FileUse), AllocError> {
     let file = one_key_file(alloc)?;
@@ -116,7 +116,7 @@ fn loads(rt: HostRuntime) -> Result<(), Fail> {
     expect_loads(&rt, rt.alloc())
 }
 
-// The buffer is asked for once the file is open, and then the four lists.
+// The buffer is allocated once the file is open, and then the four lists.
 fn expect_short_loads(rt: &impl Abort, alloc: Global) -> Result<(), Fail> {
     for (request, elements) in [(1, 8192), (2, 512), (3, 512), (4, 2), (5, 257)] {
         expect_load(rt, alloc, GOOD, request, (Verdict::Memory, elements))?;
@@ -129,18 +129,18 @@ fn loads_without_memory(rt: HostRuntime) -> Result<(), Fail> {
     expect_short_loads(&rt, rt.alloc())
 }
 
-// The dictionary of the key `a` with 7.
+// Returns the dictionary of the key `a` with 7.
 fn one_key<L: Layout, const SLOTS: usize, A: Allocator + Copy>(
     alloc: A,
 ) -> Result<Trie<L, SLOTS, A>, CedarError>
     requires { IsSlotLimit SLOTS }
 {
-    let mut trie = made(alloc, true)?;
+    let mut trie = make(alloc, true)?;
     update(&mut trie, b"a", 7)?;
     Ok(trie)
 }
 
-// A save of that dictionary in a minor version, with one request for memory refused, and what was done with the file.
+// A save of that dictionary in a minor version, with one allocation refused, and what was done with the file.
 #[tactic(auto, using(cedarwood::proofs::DictionaryLemmas::default_limit))]
 fn save(
     alloc: Global,
@@ -212,7 +212,7 @@ fn expect_faults(rt: &impl Abort, alloc: Global) -> Result<(), Fail> {
     Ok(())
 }
 
-// The new file's name is asked for first, and the buffer once the file is made, which is then removed. The name is `a.cedar.new`.
+// The new file's name is allocated first, and the buffer once the file is created, which is then removed. The name is `a.cedar.new`.
 fn expect_short_save(rt: &impl Abort, alloc: Global, minor: u8) -> Result<(), Fail> {
     let (answer, uses) = save(alloc, minor, GOOD, 1)?;
     assert!(rt;

@@ -7,7 +7,7 @@ use cedarwood::CedarError;
 use std::alloc::{AllocError, AllocFailed};
 use std::fmt;
 
-/// What can be asked of the program.
+/// How the program is called.
 const USAGE: &str =
     "append PATH COUNT, rewrite PATH COUNT, list PATH, change PATH FIRST COUNT, batch PATH FIRST COUNT SIZE, \
     entries PATH or len PATH";
@@ -19,9 +19,9 @@ pub(crate) enum Fault {
     Memory,
     Disk,
     Foreign,
-    /// This record isn't the one that was written as the one of its number.
+    /// The record of this number isn't the one that was written.
     Broken(u64),
-    /// A record is no change of a dictionary.
+    /// A record isn't a change of a dictionary.
     Corrupt,
     /// The store failed before.
     Failed,

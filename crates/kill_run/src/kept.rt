@@ -1,14 +1,13 @@
 //! What is kept on the disk: the records 0, 1 and so on of a journal.
 
-ghost use Rattle.std.specs.Prelude.{IfOk, OnOk};
-ghost use Rattle.cedar_journal.specs.Words.{IsSettled, Only};
+ghost use Rattle.cedar_journal.specs.Words.{IfOk, IsSettled, OnOk, Only};
 
 use crate::fault::Fault;
 use cedar_disk::ReplaceDevice;
 use cedar_journal::{Device, Extent, Frame, HEADER_LEN, Journal, extent_of, first_payload};
 use std::alloc::{AllocError, Global};
 
-/// Opens what is on a device, and looks whether each record is the one of its number. Returns how many there are too.
+/// Opens what is on a device, and tests whether each record is the one of its number. Also returns how many there are.
 pub(crate) fn open<D: Device + Drop>(device: D, alloc: Global) -> Result<(Journal<D>, u64), Fault>
     requires restarted { Only (D.seen device) (D.may_leave device) }
     ensures settled { IfOk result (λ kept. IsSettled D.seen D.may_leave kept.0.device kept.0.end) }
@@ -41,7 +40,7 @@ pub(crate) fn put<D: Device>(
     Ok(())
 }
 
-/// Puts a device's own bytes in its place.
+/// Replaces a device's bytes with the same bytes.
 pub(crate) fn rewrite<D: ReplaceDevice + Drop>(device: D, alloc: Global) -> Result<(), Fault> {
     let mut device = device;
     let bytes = device.read(alloc)?;
@@ -51,7 +50,7 @@ pub(crate) fn rewrite<D: ReplaceDevice + Drop>(device: D, alloc: Global) -> Resu
     }
 }
 
-/// How many records stand in a journal's file, each of which has to be the one of its number.
+/// Returns how many records a journal's file has, each of which has to be the one of its number.
 fn records(alloc: Global, file: &[u8]) -> Result<u64, Fault> {
     let mut rest = file.get(HEADER_LEN..).unwrap_or_default();
     let mut count = 0;
@@ -66,7 +65,7 @@ fn records(alloc: Global, file: &[u8]) -> Result<u64, Fault> {
     Ok(count)
 }
 
-/// Looks whether a payload is that of a number.
+/// Tests whether a payload is that of a number.
 fn expect(alloc: Global, found: &[u8], number: u64) -> Result<(), Fault> {
     let wanted = payload(alloc, number)?;
     if found == wanted.as_slice() {
@@ -76,7 +75,7 @@ fn expect(alloc: Global, found: &[u8], number: u64) -> Result<(), Fault> {
     }
 }
 
-/// The payload of the record of a number: the number, and up to 60 bytes that it tells.
+/// Returns the payload of the record of a number: the number, and up to 60 bytes that it determines.
 fn payload(alloc: Global, number: u64) -> Result<Vec<u8>, AllocError> {
     let mut payload = Vec::new(alloc);
     payload.extend_from_slice(&number.to_le_bytes())?;

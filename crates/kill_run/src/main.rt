@@ -52,7 +52,7 @@ fn answer(rt: &HostRuntime) -> Result<(), Fault> {
     }
 }
 
-/// The arguments as texts.
+/// Returns the arguments as texts.
 fn texts(alloc: Global, words: &[String]) -> Result<Vec<&str>, AllocError> {
     words.iter().map(|word| word.as_str()).collect(alloc)
 }
@@ -64,7 +64,7 @@ fn number(text: &str) -> Result<u64, Fault> {
     }
 }
 
-/// Appends so many records, numbered from those that are there on, and prints each number once the record is acknowledged.
+/// Appends `count` records, numbered on from those that are there, and prints each number once the record is acknowledged.
 fn append(rt: &HostRuntime, path: &str, count: u64) -> Result<(), Fault> {
     append_to(rt, FileDevice::open(rt, rt.alloc(), path)?, count)
 }
@@ -81,7 +81,7 @@ fn append_to<D: Device + Drop>(rt: &HostRuntime, device: D, count: u64) -> Resul
     Ok(())
 }
 
-/// Puts the file's own bytes in its place so many times, and prints a number for each.
+/// Replaces the file's bytes with the same bytes `count` times, and prints a number for each.
 fn rewrite_often(rt: &HostRuntime, path: &str, count: u64) -> Result<(), Fault> {
     for turn in 0..count {
         rewrite(FileDevice::open(rt, rt.alloc(), path)?, rt.alloc())?;
@@ -96,7 +96,7 @@ fn list(rt: &HostRuntime, path: &str) -> Result<(), Fault> {
     print(rt, count)
 }
 
-/// Makes so many changes in a dictionary, numbered from a number on, and prints each number once the change is acknowledged.
+/// Makes `count` changes in a dictionary, numbered from `first` on, and prints each number once the change is acknowledged.
 fn change(rt: &HostRuntime, path: &str, first: u64, count: u64) -> Result<(), Fault> {
     change_on(rt, FileDevice::open(rt, rt.alloc(), path)?, first, count)
 }
@@ -127,7 +127,7 @@ struct Turns {
 }
 
 impl Turns {
-    /// So many changes, from a number on, so many of them as one.
+    /// Returns `changes` changes, from the number `first` on, in batches of `size`.
     fn of(first: u64, changes: u64, size: u64) -> Turns {
         let size = size.max(1);
         Turns {
@@ -138,7 +138,8 @@ impl Turns {
     }
 }
 
-/// Makes batches of changes in a dictionary, whose file is made short by this rule, and prints how many changes are acknowledged, each time.
+/// Makes batches of changes in a dictionary, whose file is compacted by this rule, and prints each time how many changes are
+/// acknowledged.
 fn batch(rt: &HostRuntime, path: &str, turns: Turns, compaction: Compaction) -> Result<(), Fault> {
     batch_on(
         rt,

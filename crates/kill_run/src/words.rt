@@ -11,19 +11,19 @@ use std::alloc::{AllocError, Global};
 /// How many keys there are.
 const KEYS: u64 = 997;
 
-/// The greatest value and one more.
+/// One more than the greatest value.
 const VALUES: u64 = 2_147_483_646;
 
-/// The file is made short so often that many kills come while it is.
+/// The file is compacted so often that many kills come during it.
 pub(crate) const OFTEN: Compaction = Compaction::Beyond {
     factor: 2,
     spare: 1024,
 };
 
-/// After so many changes it is made short in any case.
+/// After how many changes it is compacted in any case.
 const TURNS: u64 = 101;
 
-/// Opens the dictionary on a device, whose file is made short by this rule.
+/// Opens the dictionary on a device, whose file is compacted by this rule.
 pub(crate) fn open<D: ReplaceDevice + Drop>(
     device: D,
     alloc: Global,
@@ -51,7 +51,7 @@ pub(crate) fn change<D: ReplaceDevice>(
     ensures { OnOk result (IsReady D.seen D.may_leave store.new.journal.device store.new.journal.end (store.new.words.state) store.new.failed) }
 {
     let key = key(alloc, number)?;
-    match numbered(number, key.as_str()) {
+    match change_of(number, key.as_str()) {
         Change::Erase { key } => {
             store.erase_bytes(key)?;
         }
@@ -63,7 +63,7 @@ pub(crate) fn change<D: ReplaceDevice>(
     Ok(())
 }
 
-/// Makes the changes of so many numbers as one.
+/// Makes `count` changes as one, numbered from `first` on.
 pub(crate) fn change_together<D: ReplaceDevice>(
     store: &mut CedarStore<Global, D>,
     alloc: Global,
@@ -82,19 +82,19 @@ pub(crate) fn change_together<D: ReplaceDevice>(
     Ok(())
 }
 
-/// The changes of the numbers from one on, of which these are the keys.
+/// Returns the changes of the numbers from `first` on, which have these keys.
 fn all_numbered(alloc: Global, first: u64, keys: &[String]) -> Result<Vec<Change<'_>>, AllocError> {
     let mut changes = Vec::new(alloc);
     let mut number = first;
     for key in keys {
-        changes.push(numbered(number, key.as_str()))?;
+        changes.push(change_of(number, key.as_str()))?;
         number = number.saturating_add(1);
     }
     Ok(changes)
 }
 
-/// The change of a number, whose key this is: each fifth one erases it, each other one stores a value there.
-fn numbered(number: u64, key: &str) -> Change<'_> {
+/// Returns the change of a number, which has this key: each fifth one erases it, each other one stores a value there.
+fn change_of(number: u64, key: &str) -> Change<'_> {
     let key = key.as_bytes();
     if number % 5 == 4 {
         Change::Erase { key }
@@ -104,7 +104,7 @@ fn numbered(number: u64, key: &str) -> Change<'_> {
     }
 }
 
-/// The key that the change of a number is about: the number of the key, and up to 22 letters behind it.
+/// Returns the key that the change of a number is about: the number of the key, and up to 22 letters after it.
 fn key(alloc: Global, number: u64) -> Result<String, Fault> {
     let of = number % KEYS * 619 % KEYS;
     let mut key = format!(in alloc; "{of}")?;

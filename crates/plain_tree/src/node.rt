@@ -26,7 +26,7 @@ impl<A: Allocator> Model for Node<A> {
 }
 
 impl<A: Allocator> Node<A> {
-    /// A node with neither number nor child.
+    /// Makes a node with neither number nor child.
     pub fn new(alloc: A, label: u8) -> Self
         ensures { result ≡ (label, empty_tree) }
     {
@@ -44,21 +44,21 @@ impl<A: Allocator> Node<A> {
     }
 }
 
-/// Where the child with a label stands.
+/// Returns the index of the child with a label.
 fn position<A: Allocator>(children: &[Node<A>], label: u8) -> Option<usize>
     ensures { result ≡ position (λ child. child.0 == label) children.now }
 {
     children.iter().position(|child| child.label == label)
 }
 
-/// Where the first child with a greater label stands.
+/// Returns the index of the first child with a greater label.
 fn first_above<A: Allocator>(children: &[Node<A>], label: u8) -> Option<usize>
     ensures { result ≡ position (λ child. nat_lt label child.0) children.now }
 {
     children.iter().position(|child| label < child.label)
 }
 
-/// Where a new label goes: before the first greater one if ordered, else first.
+/// Returns where a new label goes: before the first greater one if ordered, otherwise first.
 fn place<A: Allocator>(children: &[Node<A>], ordered: bool, label: u8) -> usize
     ensures { result ≡ place_of ordered children.now label }
 {
@@ -68,7 +68,7 @@ fn place<A: Allocator>(children: &[Node<A>], ordered: bool, label: u8) -> usize
     first_above(children, label).unwrap_or(children.len())
 }
 
-/// The number at a path below a node.
+/// Returns the number at a path below a node.
 pub fn number_at<A: Allocator>(node: &Node<A>, path: &[u8]) -> Option<i32>
     ensures { result ≡ number_at node.now.1 path.now }
 {
@@ -79,7 +79,7 @@ pub fn number_at<A: Allocator>(node: &Node<A>, path: &[u8]) -> Option<i32>
     number_at(&node.children[at], rest)
 }
 
-/// A node under a label with nothing below it but a path and a number at its end.
+/// Makes a node under a label with nothing below it but a path and a number at its end.
 fn branch<A: Allocator + Copy>(
     alloc: A,
     label: u8,
@@ -99,7 +99,7 @@ fn branch<A: Allocator + Copy>(
     Ok(node)
 }
 
-/// Stores a number at a path below a node. Where memory is refused, the node stays as it was.
+/// Stores a number at a path below a node. If memory is lacking, the node stays as it was.
 pub fn put<A: Allocator + Copy>(
     alloc: A,
     node: &mut Node<A>,
@@ -126,7 +126,7 @@ pub fn put<A: Allocator + Copy>(
     }
 }
 
-/// Takes the number at a path away, and each node on it that is then bare. Says whether there was one.
+/// Removes the number at a path, and each node on it that is then bare. Returns whether there was one.
 pub fn cut<A: Allocator>(node: &mut Node<A>, path: &[u8]) -> bool
     ensures answer { result ≡ is_some (number_at node.old.1 path.now) }
     ensures after { node.new ≡ (node.old.0, cut node.old.1 path.now) }
@@ -144,7 +144,7 @@ pub fn cut<A: Allocator>(node: &mut Node<A>, path: &[u8]) -> bool
     held
 }
 
-/// A path with one more label.
+/// Returns a path with one more label.
 fn longer<A: Allocator>(alloc: A, path: &[u8], label: u8) -> Result<Vec<u8, A>, AllocError>
     ensures { IfOk result (λ below. below.items ≡ path.now ++ label ∷ []) }
 {

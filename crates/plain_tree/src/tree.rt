@@ -22,7 +22,7 @@ impl<A: Allocator> Model for PlainTree<A> {
 }
 
 impl<A: Allocator + Copy> PlainTree<A> {
-    /// A tree with neither number nor child.
+    /// Makes a tree with neither number nor child.
     pub fn new(alloc: A) -> Self
         //= A new tree is empty.
         ensures { result ≡ empty_tree }
@@ -32,16 +32,16 @@ impl<A: Allocator + Copy> PlainTree<A> {
         }
     }
 
-    /// The number at a path.
+    /// Returns the number at a path.
     pub fn number_at(&self, path: &[u8]) -> Option<i32>
-        //= `number_at` and `exact` answer by the definitions, and can't be refused. [also exact]
+        //= `number_at` and `exact` return what the definitions say, and can't fail. [also exact]
         ensures { result ≡ number_at self.now path.now }
     {
         node::number_at(&self.root, path)
     }
 
     /// Stores a number at a path. A new label goes to its ascending place among its siblings if ordered,
-    /// and else first.
+    /// and otherwise first.
     pub fn put(
         &mut self,
         alloc: A,
@@ -49,7 +49,7 @@ impl<A: Allocator + Copy> PlainTree<A> {
         path: &[u8],
         number: i32,
     ) -> Result<(), AllocError>
-        //= `put` (ordered or not) and `cut` make the trees of these names; `cut` says whether the path was held. [also cut.answer.after]
+        //= `put` (ordered or not) and `cut` make the trees of these names; `cut` returns whether the path was held. [also cut.answer.after]
         ensures ok { OnOk result (self.new ≡ put self.old ordered path.now number) }
 
         //= A refused put leaves the tree as it was; over a held path none is refused. [with held]
@@ -59,7 +59,7 @@ impl<A: Allocator + Copy> PlainTree<A> {
         node::put(alloc, &mut self.root, ordered, path, number)
     }
 
-    /// Takes the number at a path away, and each node on it that is then bare. Says whether there was one.
+    /// Removes the number at a path, and each node on it that is then bare. Returns whether there was one.
     pub fn cut(&mut self, path: &[u8]) -> bool
         ensures answer { result ≡ is_some (number_at self.old path.now) }
         ensures after { self.new ≡ cut self.old path.now }
@@ -67,10 +67,10 @@ impl<A: Allocator + Copy> PlainTree<A> {
         node::cut(&mut self.root, path)
     }
 
-    /// Each path that has a number, with it: a node's before its children's, children in their order.
+    /// Returns each path that has a number, with it: a node's before its children's, children in their order.
     pub fn walk(&self, alloc: A) -> Result<Vec<(Vec<u8, A>, i32), A>, AllocError>
-        //= `walk`, `len`, `front`, `predict`, `prefixes` and `used` are the definitions, unless memory is refused. [also len, front,
-        //  predict, prefixes, used]
+        //= `walk`, `len`, `front`, `predict`, `prefixes` and `used` return what the definitions say, unless memory is lacking. [also len,
+        //  front, predict, prefixes, used]
         ensures { IfOk result (λ entries. vector_entries entries.items ≡ walk self.now) }
     {
         let mut entries = Vec::new(alloc);
@@ -78,14 +78,14 @@ impl<A: Allocator + Copy> PlainTree<A> {
         Ok(entries)
     }
 
-    /// How many paths have a number.
+    /// Returns how many paths have a number.
     pub fn len(&self, alloc: A) -> Result<usize, AllocError>
         ensures { IfOk result (λ count. count ≡ length (walk self.now)) }
     {
         Ok(self.walk(alloc)?.len())
     }
 
-    /// The number at a query, and the query's length.
+    /// Returns the number at a query, and the query's length.
     pub fn exact(&self, query: &[u8]) -> Option<(i32, usize)>
         ensures { result ≡ exact self.now query.now }
     {
@@ -93,7 +93,7 @@ impl<A: Allocator + Copy> PlainTree<A> {
         Some((number, query.len()))
     }
 
-    /// The number at each nonempty front of a query that has one, and the place of that front's last byte.
+    /// Returns the number at each nonempty prefix of a query that has one, and the place of that prefix's last byte.
     pub fn front(&self, alloc: A, query: &[u8]) -> Result<Vec<(i32, usize), A>, AllocError>
         ensures { IfOk result (λ found. found.items ≡ front self.now query.now) }
     {
@@ -106,7 +106,7 @@ impl<A: Allocator + Copy> PlainTree<A> {
         Ok(found)
     }
 
-    /// The number at each path that begins with a query, and how many bytes follow the query there.
+    /// Returns the number at each path that begins with a query, and how many bytes follow the query there.
     pub fn predict(&self, alloc: A, query: &[u8]) -> Result<Vec<(i32, usize), A>, AllocError>
         ensures { IfOk result (λ found. found.items ≡ predict self.now query.now) }
     {
@@ -120,7 +120,7 @@ impl<A: Allocator + Copy> PlainTree<A> {
         Ok(found)
     }
 
-    /// The paths of the nodes below the root.
+    /// Returns the paths of the nodes below the root.
     pub fn prefixes(&self, alloc: A) -> Result<Vec<Vec<u8, A>, A>, AllocError>
         ensures { IfOk result (λ paths. paths_of paths.items ≡ prefixes self.now) }
     {
@@ -129,7 +129,7 @@ impl<A: Allocator + Copy> PlainTree<A> {
         Ok(paths)
     }
 
-    /// How many slots the tree takes: one for the root, one for each prefix and one for each number.
+    /// Returns how many slots the tree takes: one for the root, one for each prefix and one for each number.
     pub fn used(&self, alloc: A) -> Result<usize, AllocError>
         ensures { IfOk result (λ count. count ≡ used self.now) }
     {

@@ -1,6 +1,6 @@
 -- Some slot limits.
 use Rattle.std.proofs.Common.{refl, arith}
-use Rattle.cedar_slots.specs.Places.{IsSlotLimit}
+use Rattle.cedarwood.specs.Words.{IsSlotLimit}
 
 pub limit_256 : IsSlotLimit 256
 limit_256 = record { power = (0, refl); most = omega arith }

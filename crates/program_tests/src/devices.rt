@@ -1,4 +1,4 @@
-//! What a script leaves where a device gives little at a time, or fails.
+//! What a script leaves if a device gives little at a time, or fails.
 use crate::runs::{
     ALL, Ended, Limits, ROWS, answers, expect_ended, held_after, run_alone, script, whole_lines,
 };
@@ -7,7 +7,7 @@ use std::process::Abort;
 use std::test::Fail;
 use test_support::Ending;
 
-// What the first rows leave has to be held, and these of the reader and the writer to have failed.
+// Expects what the first rows leave to be held, and the reader and the writer to have failed or not.
 fn expect_left(rt: &impl Abort, ended: &Ended, rows: usize, failed: (bool, bool)) {
     assert!(rt; (ended.held, ended.failed) == (held_after(rows), failed));
 }
@@ -88,7 +88,7 @@ const READ_FAULTS: [Limits; 3] = [
     },
 ];
 
-// At each byte of the script, and at its end: the lines that came with their newline are answered, and no other.
+// At each byte of the script, and at its end: the lines that came with their newline have answers, and no other.
 #[test]
 fn a_read_fault_leaves_the_lines_that_came(rt: HostRuntime) -> Result<(), Fail> {
     let alloc = rt.alloc();

@@ -1,5 +1,5 @@
 //! Dictionaries of either layout, without a key.
-ghost use Rattle.cedar_slots.specs.Places.{IsSlotLimit};
+ghost use Rattle.cedarwood.specs.Words.{IsSlotLimit};
 
 use cedarwood::{CedarBuilder, CedarError, Layout, Trie};
 use std::alloc::Allocator;
@@ -7,7 +7,7 @@ use std::alloc::Allocator;
 /// A dictionary of 2^30 slots at most, over an allocator that refuses or not.
 pub(crate) type Full<L, A> = Trie<L, 1073741824, A>;
 
-/// One with these settings, of some number of slots at most.
+/// Makes one with these settings, of at most some number of slots.
 pub(crate) fn built<L: Layout, const SLOTS: usize, A: Allocator + Copy>(
     alloc: A,
     builder: CedarBuilder,
@@ -17,7 +17,7 @@ pub(crate) fn built<L: Layout, const SLOTS: usize, A: Allocator + Copy>(
     Trie::with(alloc, builder)
 }
 
-/// One with the settings by default.
+/// Makes one with the default settings.
 pub(crate) fn empty<L: Layout, const SLOTS: usize, A: Allocator + Copy>(
     alloc: A,
 ) -> Result<Trie<L, SLOTS, A>, CedarError>

@@ -1,4 +1,4 @@
-//! Tests of the program, of scripts and of lists of calls: devices that fail, memory that is refused, slots that run out.
+//! Tests of the program, of scripts and of lists of calls: devices that fail, allocations that fail, slots that run out.
 //! Each form of a line, options and statuses are stored runs of the program, in the repository's folder `examples/cases`.
 #![tactic(auto)]
 

@@ -1,16 +1,16 @@
 //! Lists of calls, made without their clauses.
-ghost use Rattle.cedar_slots.specs.Places.{IsSlotLimit};
+ghost use Rattle.cedarwood.specs.Words.{IsSlotLimit};
 
 use cedar_calls::{Answer, Call, Change, Question, run_calls};
 use cedarwood::{Layout, Trie};
 use std::alloc::{AllocError, Allocator};
 
-/// A change of one of the dictionaries.
+/// Returns a change of one of the dictionaries.
 pub(crate) fn change(index: usize, change: Change<'_>) -> Call<'_> {
     Call::Change { index, change }
 }
 
-/// A question to one of them.
+/// Returns a question to one of them.
 pub(crate) fn ask(index: usize, question: Question<'_>) -> Call<'_> {
     Call::Ask { index, question }
 }

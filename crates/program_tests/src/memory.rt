@@ -1,7 +1,7 @@
-//! What is left where memory is refused, and what needs none.
+//! What is left if an allocation fails, and what needs none.
 use crate::layouts::empty;
 use crate::runs::{
-    ALL, Ended, ROWS, answers, expect_ended, held, held_after, run, script, whole_lines,
+    ALL, Ended, ROWS, answers, expect_ended, held_after, holdings_of, run, script, whole_lines,
 };
 use cedar_cli::ScriptError;
 use cedarwood::{Cedar, CedarError};
@@ -10,7 +10,7 @@ use std::process::Abort;
 use std::test::Fail;
 use test_support::Refusing;
 
-// A run with one request refused: the lines that were answered are finished, the next one did nothing, and a
+// A run with one request refused: the lines that have answers are finished, the next one did nothing, and a
 // second run from that line on ends as if nothing had been refused.
 #[derive(Drop)]
 struct Resumed {
@@ -35,7 +35,7 @@ fn run_refused(alloc: Global, request: u64) -> Result<Resumed, CedarError> {
     };
     let requests = refusing.requests();
     let finished = whole_lines(&first.written);
-    let is_left_as_finished = held(&cedar) == held_after(finished);
+    let is_left_as_finished = holdings_of(&cedar) == held_after(finished);
     refusing.refuse_none();
     let Ok(second) = run(
         alloc,
@@ -52,11 +52,11 @@ fn run_refused(alloc: Global, request: u64) -> Result<Resumed, CedarError> {
         first,
         is_left_as_finished,
         second,
-        is_left_whole: held(&cedar) == held_after(ROWS.len()),
+        is_left_whole: holdings_of(&cedar) == held_after(ROWS.len()),
     })
 }
 
-// The lines of a script after its first ones.
+// Returns the lines of a script after its first ones.
 fn lines_from(script: &[u8], count: usize) -> &[u8] {
     let mut rest = script;
     for _ in 0..count {

@@ -1,5 +1,5 @@
-//! The program: its statuses, and what it says on its errors' writer.
-ghost use Rattle.cedar_slots.specs.Places.{IsSlotLimit};
+//! The program: its statuses, and what it writes to its errors' writer.
+ghost use Rattle.cedarwood.specs.Words.{IsSlotLimit};
 
 use cedar_cli::{DONE, FAULT, REFUSED, USAGE, run_program};
 use cedarwood::Watched;
@@ -24,7 +24,7 @@ struct Faults {
     room: usize,
     // The number of the flush that fails, or 0.
     flush: u64,
-    // The number of the request for memory that is refused, or 0.
+    // The number of the allocation that fails, or 0.
     request: u64,
 }
 
@@ -54,7 +54,7 @@ struct Left {
 
 type Writer<'a> = Watched<FlushCounter<FailingWriter<'a>>>;
 
-// The program's call, of which nothing is said here.
+// The program's call, about which nothing is said here.
 fn call<const SLOTS: usize>(
     refusing: &Refusing<Global>,
     rt: &HostRuntime,
@@ -68,7 +68,7 @@ fn call<const SLOTS: usize>(
     run_program::<SLOTS, _, _, _, _, _>(refusing, rt, arguments, reader, writer, errors)
 }
 
-// Runs the program on the script, with these bytes for what is written and told.
+// Runs the program on the script, with these bytes for what it writes and reports.
 fn run_into<const SLOTS: usize>(
     rt: &HostRuntime,
     arguments: &[&str],
@@ -108,7 +108,7 @@ fn run_into<const SLOTS: usize>(
     }
 }
 
-// Runs the program on the script within so many slots. The writer of errors takes `errors_room` bytes.
+// Runs the program on the script within this many slots. The writer of errors takes `errors_room` bytes.
 fn run_within<const SLOTS: usize>(
     rt: &HostRuntime,
     arguments: &[&str],
@@ -138,7 +138,7 @@ fn run(
     run_within::<1073741824>(rt, arguments, faults, errors_room)
 }
 
-// A run has to end with this status, and to have written and told this.
+// Expects a run to end with this status, and to have written and reported this.
 fn expect_left(rt: &impl Abort, left: &Left, status: u8, written: &str, told: &str) {
     assert!(rt; left.marks.status == status);
     expect_bytes(rt, &left.written, written);
@@ -163,12 +163,12 @@ fn expect_run(
     Ok(left.marks)
 }
 
-// No device may have failed, and there have to be so many flushes.
+// Expects no device to have failed, and so many flushes.
 fn expect_no_fault(rt: &impl Abort, marks: Marks, flushes: u64) {
     assert!(rt; (marks.is_fault, marks.flushes) == (false, flushes));
 }
 
-// Nothing is read, written or flushed, also where the writer of errors fails.
+// Nothing is read, written or flushed, even if the writer of errors fails.
 fn expect_usage(rt: &impl Abort, host: &HostRuntime, arguments: &[&str]) -> Result<(), Fail> {
     let faults = Faults {
         reader: Ending::Fault,
@@ -183,7 +183,7 @@ fn expect_usage(rt: &impl Abort, host: &HostRuntime, arguments: &[&str]) -> Resu
     Ok(())
 }
 
-// Wrong arguments ask for no memory.
+// Wrong arguments allocate nothing.
 #[test]
 fn wrong_arguments(rt: HostRuntime) -> Result<(), Fail> {
     expect_usage(&rt, &rt, &["--unordered", "--unordered"])?;
@@ -191,7 +191,7 @@ fn wrong_arguments(rt: HostRuntime) -> Result<(), Fail> {
     Ok(())
 }
 
-// With one block of slots the first key's number has no place, which is told. In the reduced layout it needs none.
+// With one block of slots the first key's number has no place, which is reported. In the reduced layout it needs none.
 #[tactic(auto, using(crate::proofs::Limits::limit_256))]
 #[test]
 fn out_of_slots(rt: HostRuntime) -> Result<(), Fail> {
@@ -202,8 +202,8 @@ fn out_of_slots(rt: HostRuntime) -> Result<(), Fail> {
     Ok(())
 }
 
-// What is written and told, and how many flushes there are, where one device fails. After a fault of the
-// script what was answered is still flushed.
+// What is written and reported, and how many flushes there are, if one device fails. After a fault of the
+// script the answers so far are still flushed.
 const CASES: [(Faults, &str, &str, u64); 7] = [
     (
         Faults {
@@ -234,7 +234,7 @@ const CASES: [(Faults, &str, &str, u64); 7] = [
         "cedar: write fault\n",
         3,
     ),
-    // The fault that came first is told.
+    // The fault that came first is reported.
     (
         Faults {
             reader: Ending::Fault,
@@ -247,7 +247,7 @@ const CASES: [(Faults, &str, &str, u64); 7] = [
     ),
 ];
 
-// The status is the same where the writer of errors fails too, at once or in mid-line.
+// The status is the same if the writer of errors fails too, at once or in mid-line.
 fn expect_fault(
     rt: &impl Abort,
     host: &HostRuntime,
@@ -271,7 +271,7 @@ fn faults_of_devices(rt: HostRuntime) -> Result<(), Fail> {
     Ok(())
 }
 
-// What was written begins the answers, and the error is told.
+// What was written begins the answers, and the error is reported.
 fn expect_memory(rt: &impl Abort, host: &HostRuntime, request: u64) -> Result<(), Fail> {
     let faults = Faults { request, ..NONE };
     let left = run(host, &[], faults, 128)?;
@@ -284,7 +284,7 @@ fn expect_memory(rt: &impl Abort, host: &HostRuntime, request: u64) -> Result<()
     Ok(())
 }
 
-// The same where the error can't be told.
+// The same if the error can't be reported.
 fn expect_silence(rt: &impl Abort, host: &HostRuntime, request: u64) -> Result<(), Fail> {
     let faults = Faults { request, ..NONE };
     let silenced = run(host, &[], faults, 0)?;
@@ -292,7 +292,7 @@ fn expect_silence(rt: &impl Abort, host: &HostRuntime, request: u64) -> Result<(
     Ok(())
 }
 
-// Each request refused in turn. Where none is, the script comes in one read, and the next read finds its end: two flushes, and one
+// Each request refused in turn. If none is, the script comes in one read, and the next read finds its end: two flushes, and one
 // after the run.
 #[test]
 fn refused_memory(rt: HostRuntime) -> Result<(), Fail> {

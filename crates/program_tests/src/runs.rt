@@ -1,4 +1,4 @@
-//! Runs of scripts over devices that fail where they are told to, and one script to run.
+//! Runs of scripts over devices that fail at the points that a test sets, and one script to run.
 use crate::layouts::empty;
 use cedar_cli::{ScriptError, run_script};
 use cedarwood::{Cedar, CedarError, Layout, Trie, Watched};
@@ -32,7 +32,7 @@ pub(crate) const ROWS: [Row; 12] = [
     ("+ 62 5", "ok\n", [Some((4, 1)), None, Some((5, 1))]),
 ];
 
-/// The lines of all rows.
+/// Returns the lines of all rows.
 pub(crate) fn script(alloc: Global) -> Result<Vec<u8>, AllocError> {
     let mut script = Vec::new(alloc);
     for (line, _, _) in ROWS {
@@ -41,7 +41,7 @@ pub(crate) fn script(alloc: Global) -> Result<Vec<u8>, AllocError> {
     Ok(script)
 }
 
-/// The answers of the first rows.
+/// Returns the answers of the first rows.
 pub(crate) fn answers(alloc: Global, count: usize) -> Result<Vec<u8>, AllocError> {
     let mut answers = Vec::new(alloc);
     for (_, answer, _) in ROWS.iter().take(count) {
@@ -50,7 +50,7 @@ pub(crate) fn answers(alloc: Global, count: usize) -> Result<Vec<u8>, AllocError
     Ok(answers)
 }
 
-/// What is held once the first rows are finished.
+/// Returns what is held once the first rows are finished.
 pub(crate) fn held_after(count: usize) -> Holdings {
     let mut held = [None; 3];
     for (_, _, later) in ROWS.iter().take(count) {
@@ -59,8 +59,8 @@ pub(crate) fn held_after(count: usize) -> Holdings {
     held
 }
 
-/// What a dictionary holds.
-pub(crate) fn held<L: Layout, const SLOTS: usize, A: Allocator + Copy>(
+/// Returns what a dictionary holds.
+pub(crate) fn holdings_of<L: Layout, const SLOTS: usize, A: Allocator + Copy>(
     cedar: &Trie<L, SLOTS, A>,
 ) -> Holdings {
     [
@@ -70,7 +70,7 @@ pub(crate) fn held<L: Layout, const SLOTS: usize, A: Allocator + Copy>(
     ]
 }
 
-/// How many lines have come whole.
+/// Returns how many lines have come whole.
 pub(crate) fn whole_lines(bytes: &[u8]) -> usize {
     bytes.iter().filter(|byte| **byte == b'\n').count()
 }
@@ -78,13 +78,13 @@ pub(crate) fn whole_lines(bytes: &[u8]) -> usize {
 /// Where the devices of a run end, and how.
 #[derive(Clone, Copy)]
 pub(crate) struct Limits {
-    /// The reader gives so many bytes of the script.
+    /// How many bytes of the script the reader gives.
     pub comes: usize,
     pub reader_ending: Ending,
-    /// The writer takes so many bytes.
+    /// How many bytes the writer takes.
     pub room: usize,
     pub writer_ending: Ending,
-    /// A read gives at most so many bytes, and a write takes so many.
+    /// How many bytes a read gives at most, and a write takes.
     pub most_read: usize,
     pub most_written: usize,
 }
@@ -137,7 +137,7 @@ pub(crate) fn run<L: Layout, const SLOTS: usize, A: Allocator + Copy>(
         outcome,
         written,
         failed,
-        held: held(cedar),
+        held: holdings_of(cedar),
     })
 }
 
@@ -154,7 +154,7 @@ pub(crate) fn run_alone(alloc: Global, script: &[u8], limits: Limits) -> Result<
 /// A script with its answers.
 pub(crate) type Script = (&'static str, &'static str);
 
-/// A run has to end so, and to have written this.
+/// Expects a run to end so, and to have written this.
 pub(crate) fn expect_ended(
     rt: &impl Abort,
     ended: &Ended,

@@ -1,5 +1,5 @@
-//! Scripts on dictionaries of few slots, where a line finds none.
-ghost use Rattle.cedar_slots.specs.Places.{IsSlotLimit};
+//! Scripts on dictionaries of few slots, in which a line finds none.
+ghost use Rattle.cedarwood.specs.Words.{IsSlotLimit};
 
 use crate::layouts::built;
 use crate::runs::{ALL, Holdings, expect_ended, run};
@@ -9,7 +9,7 @@ use std::alloc::{AllocError, Global};
 use std::process::Abort;
 use std::test::Fail;
 
-// What is left where a line finds no slot: the answers of the lines before it, how many keys and used slots there are,
+// What is left if a line finds no slot: the answers of the lines before it, how many keys and used slots there are,
 // and what is held.
 #[derive(Clone, Copy)]
 struct Left {
@@ -40,7 +40,7 @@ fn expect_left<L: Layout, const SLOTS: usize>(
     Ok(())
 }
 
-// Two lines, one that stores a key of 300 bytes, and a look-up of `a`.
+// Returns two lines, one that stores a key of 300 bytes, and a look-up of `a`.
 fn before_a_long_key(alloc: Global) -> Result<Vec<u8>, AllocError> {
     let mut script = Vec::from_slice(alloc, b"+ 61 1\n+ 6162 2\n+ ")?;
     for _ in 0..300 {
@@ -50,8 +50,8 @@ fn before_a_long_key(alloc: Global) -> Result<Vec<u8>, AllocError> {
     Ok(script)
 }
 
-// By default the first key's number has no place outside block 0. In the reduced layout it stands in its node's own slot, and stays there
-// where no label comes below the node.
+// By default the first key's number has no place outside block 0. In the reduced layout it is in its node's own slot, and stays there
+// if no label comes below the node.
 #[tactic(auto, using(crate::proofs::Limits::limit_256))]
 #[test]
 fn one_block(rt: HostRuntime) -> Result<(), Fail> {

@@ -1,4 +1,4 @@
-//! The lines that walk, where memory is refused: the fronts of a query, the keys that begin with it, and all entries.
+//! The lines that walk, with allocations refused: the prefixes of a query, the keys that begin with it, and all entries.
 use crate::layouts::empty;
 use crate::runs::{ALL, run};
 use cedar_cli::ScriptError;
@@ -12,7 +12,7 @@ const WALKS: &str = "+ 61 1\n+ 6162 2\n*\n< 6162\n> 61\n#\n";
 
 const WALKED: &str = "ok\nok\n61 1\n6162 2\nend\n1:0 2:1\n1:0 2:1\n2 5\n";
 
-// Runs the walks, and tells how many requests for memory were made, of which one is refused, and what was written.
+// Runs the walks, and returns how many allocations were requested, of which one is refused, and what was written.
 #[tactic(auto, using(cedarwood::proofs::DictionaryLemmas::default_limit))]
 fn run_refusing(
     alloc: Global,
@@ -25,7 +25,7 @@ fn run_refusing(
     }
 }
 
-// A run has to end well where no request was refused, and else with a front of the answers.
+// Expects a run to end well if no request was refused, and otherwise with a prefix of the answers.
 fn expect_front(rt: &impl Abort, outcome: Result<(), ScriptError>, written: &[u8], is_whole: bool) {
     assert!(rt; outcome.is_ok() == is_whole);
     assert!(rt; WALKED.as_bytes().starts_with(written));

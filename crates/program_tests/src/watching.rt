@@ -9,7 +9,7 @@ use std::process::Abort;
 use std::test::Fail;
 use test_support::{Ending, FailingReader, FailingWriter, FlushCounter};
 
-// A read has to give so many bytes, or none where it fails, and the reader to have failed or not.
+// Expects a read to give this many bytes, or none if it fails, and the reader to have failed or not.
 fn expect_read<R: Read>(
     rt: &impl Abort,
     reader: &mut Watched<R>,
@@ -21,7 +21,7 @@ fn expect_read<R: Read>(
     assert!(rt; reader.failed() == failed);
 }
 
-// A reader is remembered as failed from its first fault on; the end of the input is none.
+// A reader is remembered as failed from its first fault on; the end of the input isn't one.
 #[test]
 fn a_reader(rt: HostRuntime) {
     let mut ends = Watched::new(FailingReader::new(b"abc", 3, 2, Ending::Quiet));
@@ -36,7 +36,7 @@ fn a_reader(rt: HostRuntime) {
     assert!(rt; inside.read(&mut [0u8; 4]).is_err());
 }
 
-// A write has to take so many bytes, or none where it fails, and the writer to have failed or not.
+// Expects a write to take this many bytes, or none if it fails, and the writer to have failed or not.
 fn expect_write<W: Write>(
     rt: &impl Abort,
     writer: &mut Watched<W>,
@@ -65,7 +65,7 @@ fn a_writer(rt: HostRuntime) {
     }
 }
 
-// A flush has to succeed or not, and the writer to have failed or not.
+// Expects a flush to succeed or not, and the writer to have failed or not.
 fn expect_flush<W: Write>(rt: &impl Abort, writer: &mut Watched<W>, is_ok: bool, failed: bool) {
     assert!(rt; writer.flush().is_ok() == is_ok);
     assert!(rt; writer.failed() == failed);
@@ -83,7 +83,7 @@ fn a_flush(rt: HostRuntime) {
     assert!(rt; writer.into_inner().flushes() == 3);
 }
 
-// What a script leaves whose flush of one number fails, where the reader gives a byte a read.
+// What a script leaves whose flush of one number fails, with a reader that gives a byte a read.
 #[derive(Drop)]
 struct Unflushed {
     outcome: Result<(), ScriptError>,
@@ -119,7 +119,7 @@ fn run_unflushed(alloc: Global, script: &[u8], flush: u64) -> Result<Unflushed, 
     })
 }
 
-// A run has to have ended at the failed flush, after so many, and to have written this, with more to read or not.
+// Expects a run to have ended at the failed flush, after so many, and to have written this, with more to read or not.
 fn expect_left(rt: &impl Abort, left: &Unflushed, flushes: u64, written: &[u8], has_more: bool) {
     let devices = (left.failed, left.flushes, left.has_more_to_read);
     assert!(rt; left.outcome == Err(ScriptError::Write));

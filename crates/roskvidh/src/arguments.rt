@@ -1,9 +1,9 @@
-//! What the program can be asked for, and how it tells of that.
+//! What the program can do, and how it describes that.
 
 use clap::{Arg, ArgAction, Command, value_parser};
 use std::alloc::{AllocError, Global};
 
-/// The version, as `--version` tells it.
+/// The version, as `--version` prints it.
 const VERSION: &str = "0.1.0";
 
 const ABOUT: &str =
@@ -428,7 +428,7 @@ fn text_file<'a>(alloc: Global) -> Arg<'a> {
         .help("The text. Without one, or with -, it is standard input")
 }
 
-/// Whether it is told how far a list or a text is read.
+/// Whether it is reported how far a list or a text is read.
 fn progress<'a>(alloc: Global) -> Arg<'a> {
     flag(
         alloc,
@@ -437,7 +437,7 @@ fn progress<'a>(alloc: Global) -> Arg<'a> {
     )
 }
 
-/// How much memory a load may ask for.
+/// How much memory a load may allocate.
 fn limit<'a>(alloc: Global) -> Arg<'a> {
     Arg::new(alloc, "limit")
         .long("limit")

@@ -11,13 +11,13 @@ use std::io::{BufRead, Read, Write};
 use std::rt::Files;
 use word_lists::{LineFault, LineFaults, sorted_list, store_lines};
 
-/// Tells of lines on standard error, and counts them.
+/// Reports lines on standard error, and counts them.
 #[derive(Drop)]
 struct Teller<'a, E> {
     errors: &'a mut Watched<E>,
-    /// What the list is named.
+    /// The name of the list.
     name: &'a str,
-    /// How many lines were told.
+    /// How many lines were reported.
     told: u64,
 }
 
@@ -28,7 +28,7 @@ impl<'a, E: Write> LineFaults for Teller<'a, E> {
     }
 }
 
-/// Tells of a line of a list with this name, and what it is.
+/// Reports a line of a list with this name, and what it is.
 pub(crate) fn tell_line<E: Write>(
     errors: &mut Watched<E>,
     name: &str,
@@ -41,7 +41,7 @@ pub(crate) fn tell_line<E: Write>(
     let _ = errors.write_all(b"\n");
 }
 
-/// What a line is told to be.
+/// What is reported of a line.
 fn words_for(fault: LineFault) -> &'static str {
     match fault {
         LineFault::EmptyWord => "no word, passed over",
@@ -51,7 +51,7 @@ fn words_for(fault: LineFault) -> &'static str {
     }
 }
 
-/// Stores the entries of a word list, and tells of its lines that are none of their own.
+/// Stores the entries of a word list, and reports its lines that are no entries of their own.
 pub(crate) fn store_list<'m, L: Layout, R: BufRead, E: Write>(
     alloc: Global,
     trie: &mut Trie<L, SLOTS, Global>,

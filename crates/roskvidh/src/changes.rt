@@ -1,4 +1,4 @@
-//! Dictionaries that are changed: a list's entries stored, its words taken out, another dictionary's entries stored, or only the file's
+//! Dictionaries that are changed: a list's entries stored, its words removed, another dictionary's entries stored, or only the file's
 //! format and layout.
 
 use crate::build::{empty, store_list};
@@ -15,7 +15,7 @@ use std::io::{BufRead, Read, Write};
 use std::rt::Files;
 use word_lists::{erase_lines, store_entries};
 
-/// Changes a dictionary, and saves it. False where a word to take out wasn't held.
+/// Changes a dictionary, and saves it. Returns false if a word to remove wasn't held.
 pub(crate) fn change<'m, F: Files + Copy + Drop, R: Read + Drop, M: Meter + Drop, E: Write>(
     alloc: Global,
     files: &F,
@@ -68,7 +68,7 @@ fn change_loaded<'m, L: Layout, F: Files, R: Read + Drop, M: Meter + Drop, E: Wr
     Ok(all)
 }
 
-/// Makes a change in a dictionary, but that of its layout. False where a word to take out wasn't held.
+/// Makes a change in a dictionary, except that of its layout. Returns false if a word to remove wasn't held.
 pub(crate) fn change_words<'m, L: Layout, F: Files, R: Read + Drop, M: Meter + Drop, E: Write>(
     alloc: Global,
     files: &F,
@@ -95,7 +95,7 @@ pub(crate) fn change_words<'m, L: Layout, F: Files, R: Read + Drop, M: Meter + D
     }
 }
 
-/// Takes the words of a list out of a dictionary, and says whether all were held.
+/// Removes the words of a list from a dictionary, and returns whether all were held.
 fn remove<'m, L: Layout, R: BufRead>(
     alloc: Global,
     trie: &mut Trie<L, SLOTS, Global>,

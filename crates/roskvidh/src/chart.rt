@@ -72,8 +72,8 @@ fn write_bar<'m, W: Write>(
     }
 }
 
-/// The bar of a count, beside the greatest one: a sign for each word where all have room so, and else a part of the greatest bar, rounded
-/// up.
+/// The bar of a count, beside the greatest one: a sign for each word if all have room then, and otherwise a part of the greatest bar,
+/// rounded up.
 fn bar_of(count: u64, most: u64) -> &'static str {
     let signs = if most <= WIDTH {
         count

@@ -31,7 +31,7 @@ pub(crate) enum Kind {
     Store,
 }
 
-/// Opens a dictionary's file, and says what it is.
+/// Opens a dictionary's file, and returns what it is.
 pub(crate) fn open<'m, F: Files>(
     alloc: Global,
     files: &F,
@@ -50,7 +50,7 @@ pub(crate) fn open<'m, F: Files>(
     }
 }
 
-/// What a file is, by its first bytes. Nothing is taken from the reader.
+/// What a file is, by its first bytes. Nothing is consumed from the reader.
 fn kind_of<R: BufRead>(reader: &mut R) -> Result<Kind, CedarPersistenceError> {
     let head = reader.fill_buf()?;
     Ok(if first_payload(head) == Some(MAGIC.as_slice()) {
@@ -75,7 +75,7 @@ pub(crate) fn load<'m, L: Layout, R: Read + Drop>(
     }
 }
 
-/// Loads a dictionary of the default layout, or makes the one that a store's file stands for. A store's file stays as it is.
+/// Loads a dictionary of the default layout, or makes the one that a store's file stands for. A store's file doesn't change.
 pub(crate) fn load_default<'m, R: Read + Drop>(
     alloc: Global,
     dictionary: Dictionary<'m>,

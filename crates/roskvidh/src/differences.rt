@@ -9,8 +9,8 @@ use std::io::Write;
 use std::rt::Files;
 use word_lists::write_lacking;
 
-/// Writes the entries of a first dictionary that a second one doesn't hold, behind `-`, and then those of the second that the first
-/// doesn't, behind `+`. Returns whether there is none.
+/// Writes the entries of a first dictionary that a second one doesn't hold, after `-`, and then those of the second that the first doesn't,
+/// after `+`. Returns whether there is none.
 pub(crate) fn diff<'m, F: Files, W: Write>(
     alloc: Global,
     files: &F,
@@ -28,7 +28,7 @@ pub(crate) fn diff<'m, F: Files, W: Write>(
     }
 }
 
-/// The same, where the first one is loaded.
+/// The same, if the first one is loaded.
 fn diff_from<'m, L: Layout, F: Files, W: Write>(
     alloc: Global,
     files: &F,
@@ -46,7 +46,7 @@ fn diff_from<'m, L: Layout, F: Files, W: Write>(
     }
 }
 
-/// The same, where both are.
+/// The same, if both are.
 fn write_diff<'m, L: Layout, M: Layout, W: Write>(
     alloc: Global,
     first: &Trie<L, SLOTS, Global>,

@@ -1,4 +1,4 @@
-//! Stores that are changed: a list's entries stored, or its words taken out, as one change, of which a crash leaves all or none.
+//! Stores that are changed: a list's entries stored, or its words removed, as one change, of which a crash leaves all or none.
 
 ghost use Rattle.roskvidh.specs.Words.{IfOk, IsReady, Only};
 
@@ -19,14 +19,14 @@ use std::rt::Files;
 /// The dictionary of a store.
 type Words = Trie<DefaultLayout, SLOTS, Global>;
 
-/// A word whose number a change sets, or None where it is taken out.
+/// A word whose number a change sets, or None if it is removed.
 #[derive(Drop)]
 struct Changed {
     word: Vec<u8>,
     number: Option<i32>,
 }
 
-/// Makes a change in the store at a path, which is made where it is missing or empty. False where a word to take out wasn't held.
+/// Makes a change in the store at a path, which is made if it is missing or empty. Returns false if a word to remove wasn't held.
 pub(crate) fn change_store<'m, F: Files + Copy + Drop, R: Read + Drop, M: Meter + Drop, E: Write>(
     alloc: Global,
     files: &F,
@@ -80,7 +80,7 @@ fn open_store<'m, D: ReplaceDevice + Drop>(
     }
 }
 
-/// What has to be changed in a dictionary so that it holds what another one does. What is taken out stands last.
+/// What has to be changed in a dictionary so that it holds what another one does. What is removed comes last.
 fn changes_between<'m>(
     alloc: Global,
     before: &Words,

@@ -1,4 +1,4 @@
-//! Why the program did not do what it was asked for.
+//! Why the program did not do what the arguments say.
 
 use cedar_store::DurableError;
 use cedarwood::{CedarPersistenceError, Watched};
@@ -7,10 +7,10 @@ use std::io;
 use std::io::{ErrorKind, Write};
 use word_lists::{ListError, StoreError};
 
-/// What standard input is named in messages.
+/// The name of standard input in messages.
 const STANDARD_INPUT: &str = "standard input";
 
-/// Why the program did not do what it was asked for.
+/// Why the program did not do what the arguments say.
 #[derive(Debug, Drop)]
 pub(crate) enum Fault<'m> {
     /// A dictionary can't be loaded from this path.
@@ -21,7 +21,7 @@ pub(crate) enum Fault<'m> {
     Store(&'m str, DurableError),
     /// A list or a text can't be read from this path, or from standard input.
     Read(Option<&'m str>, io::Error),
-    /// A list has bad or repeated lines, which were told.
+    /// A list has bad or repeated lines, which were reported.
     Strict(Option<&'m str>),
     /// The dictionary of this path isn't in the order of bytes.
     Unordered(&'m str),
@@ -55,12 +55,12 @@ pub(crate) fn store_fault<'m>(path: Option<&'m str>, error: StoreError) -> Fault
     }
 }
 
-/// What the path of an input is named in messages.
+/// The name of an input's path in messages.
 pub(crate) fn name_of(path: Option<&str>) -> &str {
     path.unwrap_or(STANDARD_INPUT)
 }
 
-/// Tells of a fault on standard error.
+/// Reports a fault on standard error.
 pub(crate) fn tell<E: Write>(errors: &mut Watched<E>, fault: Fault<'_>) {
     let _ = match fault {
         Fault::Load(path, error) => writeln!(errors, "roskvidh: {path}: {error}"),

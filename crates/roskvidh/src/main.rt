@@ -1,4 +1,4 @@
-//! The program `roskvidh`: dictionaries made of word lists, looked into, and texts cut and scanned by them.
+//! The program `roskvidh`: dictionaries made of word lists and queried, and texts cut and scanned by them.
 #![tactic(auto)]
 
 mod arguments;
@@ -47,7 +47,7 @@ fn main(rt: HostRuntime) -> ExitCode {
     }
 }
 
-/// Does what the arguments ask for. To a terminal each line is written as soon as it is whole.
+/// Does what the arguments say. To a terminal each line is written as soon as it is whole.
 fn answer(rt: &HostRuntime, matches: &ArgMatches<'_>) -> ExitCode {
     let output = rt.stdout();
     let status = if output.is_terminal() {
@@ -64,7 +64,7 @@ fn answer(rt: &HostRuntime, matches: &ArgMatches<'_>) -> ExitCode {
     ExitCode::from(status)
 }
 
-/// Does what the arguments ask for, with its answers to this output.
+/// Does what the arguments say, with its results to this output.
 fn answer_to<W: Write + Drop>(rt: &HostRuntime, matches: &ArgMatches<'_>, output: W) -> u8 {
     let mut writer = Watched::new(output);
     let mut errors = Watched::new(rt.stderr());
@@ -85,7 +85,7 @@ fn answer_to<W: Write + Drop>(rt: &HostRuntime, matches: &ArgMatches<'_>, output
     )
 }
 
-/// Tells why nothing was done.
+/// Reports why nothing was done.
 fn tell(rt: &HostRuntime, message: &[u8], status: u8) -> ExitCode {
     let mut errors = Watched::new(rt.stderr());
     let _ = errors.write_all(message);

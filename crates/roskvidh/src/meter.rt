@@ -1,9 +1,9 @@
-//! How far a list or a text is read, told on standard error while it is at work for more than a second.
+//! How far a list or a text is read, reported on standard error while the program is at work for more than a second.
 
 use std::io::Write;
 use std::time::{Clock, Duration};
 
-/// How many milliseconds pass between two times that it is told.
+/// How many milliseconds pass between two reports.
 const TOLD_AFTER: u128 = 1000;
 
 /// What counts the bytes that are read.
@@ -12,25 +12,25 @@ pub(crate) trait Meter {
     fn count(&mut self, bytes: usize);
 }
 
-/// Tells each second how much is read.
+/// Reports each second how much is read.
 #[derive(Drop)]
 pub(crate) struct Progress<'c, C, E> {
     clock: &'c C,
     errors: E,
     /// Whether lines are written anew in one place.
     in_place: bool,
-    /// Whether anything is told.
+    /// Whether anything is reported.
     is_told: bool,
     /// How many bytes are read.
     read: u64,
-    /// When it was last told, or the first byte came.
+    /// When it was last reported, or the first byte came.
     told: Option<Duration>,
-    /// Whether a line stands on the terminal.
+    /// Whether a line is on the terminal.
     stands: bool,
 }
 
 impl<'c, C: Clock, E: Write> Progress<'c, C, E> {
-    /// One that tells or doesn't: on a terminal in one place, or else a line each time.
+    /// One that reports or doesn't: on a terminal in one place, or otherwise a line each time.
     pub(crate) fn new(
         clock: &'c C,
         errors: E,
@@ -48,7 +48,7 @@ impl<'c, C: Clock, E: Write> Progress<'c, C, E> {
         }
     }
 
-    /// Whether a second has passed since it was told.
+    /// Whether a second has passed since the last report.
     fn is_due(&mut self) -> bool {
         let Ok(now) = self.clock.monotonic() else {
             return false;
@@ -62,7 +62,7 @@ impl<'c, C: Clock, E: Write> Progress<'c, C, E> {
         }
     }
 
-    /// Tells how much is read.
+    /// Reports how much is read.
     fn tell(&mut self) {
         let read = self.read / 1048576;
         let _ = if self.in_place {
@@ -73,7 +73,7 @@ impl<'c, C: Clock, E: Write> Progress<'c, C, E> {
         };
     }
 
-    /// Takes the line from the terminal.
+    /// Removes the line from the terminal.
     fn clear(&mut self) {
         if self.stands {
             self.stands = false;

@@ -1,4 +1,4 @@
-//! What is asked of a dictionary alone.
+//! Queries of a dictionary alone.
 
 use crate::chart::write_chart;
 use crate::dictionary::{Kind, SLOTS};
@@ -11,7 +11,7 @@ use word_lists::{
     read_word, write_drawing, write_fronts, write_next_entries, write_number, write_tree,
 };
 
-/// Answers a query, and says whether something was found: of words that are looked up, all of them.
+/// Runs a query, and returns whether something was found: of words that are looked up, all of them.
 pub(crate) fn answer<'m, L: Layout, W: Write>(
     alloc: Global,
     trie: &Trie<L, SLOTS, Global>,
@@ -63,7 +63,7 @@ pub(crate) fn answer<'m, L: Layout, W: Write>(
     }
 }
 
-/// Shows the words that begin with a prefix as a tree, and says whether there is one.
+/// Shows the words that begin with a prefix as a tree, and returns whether there is one.
 fn show<'m, L: Layout, W: Write>(
     alloc: Global,
     trie: &Trie<L, SLOTS, Global>,
@@ -80,7 +80,7 @@ fn show<'m, L: Layout, W: Write>(
     Ok(shown?)
 }
 
-/// Tells of what kind a file is that was loaded.
+/// Writes of what kind a file is that was loaded.
 fn check<'m, L: Layout, W: Write>(
     trie: &Trie<L, SLOTS, Global>,
     dictionary: Dictionary<'m>,
@@ -125,7 +125,7 @@ fn write_figures<'m, L: Layout, W: Write>(
     Ok(())
 }
 
-/// What a kind of file is named.
+/// The name of a kind of file.
 fn kind_name(kind: Kind) -> &'static str {
     match kind {
         Kind::Default => "default layout",
@@ -134,7 +134,7 @@ fn kind_name(kind: Kind) -> &'static str {
     }
 }
 
-/// What a layout is named.
+/// The name of a layout.
 fn layout_name<L: Layout>() -> &'static str {
     if L::keeps_numbers() {
         "reduced"
@@ -143,7 +143,7 @@ fn layout_name<L: Layout>() -> &'static str {
     }
 }
 
-/// What the order of a dictionary is named.
+/// The name of a dictionary's order.
 fn order_name<L: Layout>(trie: &Trie<L, SLOTS, Global>) -> &'static str {
     if trie.entries_from_bytes(&[]).is_some() {
         "ordered"
@@ -152,7 +152,7 @@ fn order_name<L: Layout>(trie: &Trie<L, SLOTS, Global>) -> &'static str {
     }
 }
 
-/// Looks words up, and says whether all are held.
+/// Looks words up, and returns whether all are held.
 fn get<'m, L: Layout, W: Write>(
     trie: &Trie<L, SLOTS, Global>,
     words: &[&str],
@@ -167,7 +167,7 @@ fn get<'m, L: Layout, W: Write>(
     Ok(all)
 }
 
-/// Lists the entries whose words begin with a prefix, so many at most, and says how many these are.
+/// Lists the entries whose words begin with a prefix, so many at most, and returns how many these are.
 fn list_under<'m, L: Layout, W: Write>(
     alloc: Global,
     trie: &Trie<L, SLOTS, Global>,

@@ -14,7 +14,7 @@ use std::io::{Read, Write};
 use std::rt::Files;
 use word_lists::{list_lines, read_word, write_replaced};
 
-/// What stands in the second column of each line, one text behind another.
+/// What is in the second column of each line, one text after another.
 #[derive(Drop)]
 struct Texts {
     bytes: Vec<u8>,
@@ -42,7 +42,7 @@ impl Texts {
     }
 }
 
-/// Writes a text with the words of a list replaced by what stands behind them in its lines.
+/// Writes a text with the words of a list replaced by what is after them in its lines.
 pub(crate) fn replace<'m, F: Files, R: Read + Drop, M: Meter + Drop, W: Write, E: Write>(
     alloc: Global,
     files: &F,
@@ -66,7 +66,7 @@ pub(crate) fn replace<'m, F: Files, R: Read + Drop, M: Meter + Drop, W: Write, E
     Ok(())
 }
 
-/// Stores the word of each line of a list, with the number of the line, and tells of lines that have none to store. What they are replaced
+/// Stores the word of each line of a list, with the number of the line, and reports lines that have none to store. What they are replaced
 /// by has the same numbers.
 fn store_words<'m, E: Write>(
     alloc: Global,
@@ -96,7 +96,8 @@ fn store_words<'m, E: Write>(
     Ok(texts)
 }
 
-/// Stores the word of a line with this number, and what it is replaced by, and says what is wrong with the line. An empty one has neither.
+/// Stores the word of a line with this number, and what it is replaced by, and returns what is wrong with the line. An empty one has
+/// neither.
 fn store_word<'m>(
     words: &mut Trie<DefaultLayout, SLOTS, Global>,
     line: &[u8],

@@ -1,9 +1,9 @@
-//! What the arguments ask for.
+//! What the arguments say.
 
 use cedarwood::DEFAULT_LOAD_MEMORY_LIMIT;
 use clap::ArgMatches;
 
-/// What the arguments ask for.
+/// What the arguments say.
 #[derive(Clone, Copy, Debug)]
 pub(crate) enum Request<'m> {
     Build(Build<'m>),
@@ -19,7 +19,7 @@ pub(crate) enum Request<'m> {
 pub(crate) struct Replace<'m> {
     /// The list of the words and what each is replaced by.
     pub list: &'m str,
-    /// The text's path; standard input where there is none.
+    /// The text's path; standard input if there is none.
     pub text: Option<&'m str>,
     /// Whether a bad line or a repeated word ends it before the text is read.
     pub strict: bool,
@@ -41,7 +41,7 @@ pub(crate) struct Change<'m> {
     pub output: &'m str,
     /// Whether it is saved in format 1.0.
     pub old_format: bool,
-    /// Whether it is a store, which is made where the file is missing or empty.
+    /// Whether it is a store, which is made if the file is missing or empty.
     pub is_store: bool,
 }
 
@@ -50,7 +50,7 @@ pub(crate) struct Change<'m> {
 pub(crate) enum How<'m> {
     /// The entries of a list are stored.
     Add(List<'m>),
-    /// The words of a list are taken out.
+    /// The words of a list are removed.
     Remove(Option<&'m str>),
     /// The entries of another dictionary are stored.
     Merge(Dictionary<'m>),
@@ -61,7 +61,7 @@ pub(crate) enum How<'m> {
 /// A word list.
 #[derive(Clone, Copy, Debug)]
 pub(crate) struct List<'m> {
-    /// Its path; standard input where there is none.
+    /// Its path; standard input if there is none.
     pub path: Option<&'m str>,
     /// Whether a bad line or a repeated word leaves no file.
     pub strict: bool,
@@ -81,16 +81,16 @@ pub(crate) struct Build<'m> {
 #[derive(Clone, Copy, Debug)]
 pub(crate) struct Dictionary<'m> {
     pub path: &'m str,
-    /// How many bytes of memory a load may ask for.
+    /// How many bytes a load may allocate.
     pub limit: usize,
 }
 
-/// What is asked of a dictionary alone.
+/// A query of a dictionary alone.
 #[derive(Clone, Copy, Debug)]
 pub(crate) enum Query<'m> {
     Get(&'m [&'m str]),
     Prefixes(&'m str),
-    /// The words that begin so, so many at most if that is said.
+    /// The words that begin so, so many at most if a limit is given.
     Complete(&'m str, Option<u64>),
     /// Whether the file is well-formed, and of what kind it is.
     Check,
@@ -103,10 +103,10 @@ pub(crate) enum Query<'m> {
     Show(&'m str, bool),
 }
 
-/// What is asked of a dictionary and a text.
+/// A query of a dictionary and a text.
 #[derive(Clone, Copy, Debug)]
 pub(crate) struct Reading<'m> {
-    /// The text's path; standard input where there is none.
+    /// The text's path; standard input if there is none.
     pub text: Option<&'m str>,
     pub task: Task<'m>,
 }
@@ -116,17 +116,17 @@ pub(crate) struct Reading<'m> {
 pub(crate) enum Task<'m> {
     /// Cut it, with this sign between words.
     Cut(&'m str),
-    /// Cut it so that it costs the least, where a character that no word has costs this much.
+    /// Cut it so that it costs the least, if a character that no word has costs this much.
     CutCheapest(u32, &'m str),
-    /// Find all words that stand in it.
+    /// Find all words that occur in it.
     Scan,
     /// Find those that don't overlap.
     ScanLongest,
-    /// Write the lines in which those stand, with each of them marked.
+    /// Write the lines in which those occur, with each of them marked.
     ScanMarked,
 }
 
-/// What the arguments ask for; None if the command is none of the program's, which no parse gives.
+/// What the arguments say; None if the command is none of the program's, which no parse gives.
 pub(crate) fn request_of<'m, 'a>(matches: &'m ArgMatches<'a>) -> Option<Request<'m>> {
     let (name, asked) = matches.subcommand()?;
     match name {
@@ -262,8 +262,8 @@ fn replace_of<'m, 'a>(asked: &'m ArgMatches<'a>) -> Option<Replace<'m>> {
     })
 }
 
-/// Whether it is told how far a list or a text is read: where that is asked for; and else on a terminal, unless somebody types the text
-/// there or reads the answers.
+/// Whether it is reported how far a list or a text is read: if the arguments say so; and otherwise on a terminal, unless somebody types the
+/// text there or reads the results.
 pub(crate) fn tells_progress(
     matches: &ArgMatches<'_>,
     request: Request<'_>,
@@ -278,7 +278,7 @@ pub(crate) fn tells_progress(
     terminals.errors && !(is_typed && terminals.input) && !(is_answered && terminals.output)
 }
 
-/// Whether a list or a text comes from standard input, and whether it is answered on standard output; None where none is read.
+/// Whether a list or a text comes from standard input, and whether the results go to standard output; None if none is read.
 fn reads(request: Request<'_>) -> Option<(bool, bool)> {
     match request {
         Request::Build(asked) => Some((asked.list.path.is_none(), false)),

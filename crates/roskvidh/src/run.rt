@@ -18,19 +18,19 @@ use std::io::{Read, Write};
 use std::rt::Files;
 use std::time::Clock;
 
-/// The status of a run that did all it was asked for.
+/// The status of a run that did all that the arguments say.
 pub(crate) const DONE: u8 = 0;
 
-/// The status where nothing was found.
+/// The status if nothing was found.
 pub(crate) const NOT_FOUND: u8 = 1;
 
-/// The status where the arguments are wrong.
+/// The status if the arguments are wrong.
 pub(crate) const USAGE: u8 = 2;
 
-/// The status where a file can't be read or written, or memory or slots ran out.
+/// The status if a file can't be read or written, or memory or slots ran out.
 pub(crate) const FILES: u8 = 3;
 
-/// Does what the arguments ask for, and says the status to end with. A closed pipe ends it without a word.
+/// Does what the arguments say, and returns the status to end with. A closed pipe ends it without a word.
 pub(crate) fn run<F: Files + Clock + Copy + Drop, R: Read + Drop, W: Write, E: Write + Drop>(
     alloc: Global,
     files: &F,
@@ -53,7 +53,7 @@ pub(crate) fn run<F: Files + Clock + Copy + Drop, R: Read + Drop, W: Write, E: W
     end_request(alloc, files, request, source, writer, errors)
 }
 
-/// Does what is asked for, and says the status to end with.
+/// Does what the arguments say, and returns the status to end with.
 fn end_request<F: Files + Copy + Drop, R: Read + Drop, M: Meter + Drop, W: Write, E: Write>(
     alloc: Global,
     files: &F,
@@ -74,7 +74,7 @@ fn end_request<F: Files + Copy + Drop, R: Read + Drop, M: Meter + Drop, W: Write
     }
 }
 
-/// Does what is asked for, and flushes what was written. False where nothing was found.
+/// Does what the arguments say, and flushes what was written. Returns false if nothing was found.
 fn answer_request<'m, F: Files + Copy + Drop, R: Read + Drop, M: Meter + Drop, W: Write, E: Write>(
     alloc: Global,
     files: &F,
@@ -107,7 +107,7 @@ fn answer_request<'m, F: Files + Copy + Drop, R: Read + Drop, M: Meter + Drop, W
     }
 }
 
-/// Answers a query from a dictionary's file.
+/// Runs a query on a dictionary's file.
 fn ask<'m, F: Files, W: Write>(
     alloc: Global,
     files: &F,

@@ -11,7 +11,7 @@ use word_lists::{
     write_matches,
 };
 
-/// Reads a text, and writes it cut, or the words that stand in it. False where there was none to find.
+/// Reads a text, and writes it cut, or the words that occur in it. Returns false if there was none to find.
 pub(crate) fn read_text<'m, L: Layout, R: BufRead, W: Write>(
     alloc: Global,
     trie: &Trie<L, SLOTS, Global>,
@@ -33,7 +33,7 @@ pub(crate) fn read_text<'m, L: Layout, R: BufRead, W: Write>(
     Ok(found)
 }
 
-/// Reads the next line, with its byte 10, in place of what the buffer held. False where there is none.
+/// Reads the next line, with its byte 10, into the buffer instead of what that held. Returns false if there is none.
 pub(crate) fn next_line<'m, R: BufRead>(
     text: &mut R,
     path: Option<&'m str>,
@@ -46,7 +46,7 @@ pub(crate) fn next_line<'m, R: BufRead>(
     }
 }
 
-/// Writes what is asked for of a line. False where no word was found in it.
+/// Writes the result of the task for a line. Returns false if no word was found in it.
 fn answer_line<L: Layout, W: Write>(
     alloc: Global,
     trie: &Trie<L, SLOTS, Global>,

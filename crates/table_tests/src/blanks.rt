@@ -1,12 +1,12 @@
-//! A list of which only a front stands in memory, called as its crate's own code calls it.
+//! A list of which only a prefix is in memory, called as its crate's own code calls it.
 
 use cedar_slots::{NodeRecord, Padded};
 use std::alloc::{AllocError, Global};
 use std::process::Abort;
 use std::test::Fail;
 
-/// A list of two nodes that stand in memory, and `more` blanks behind them.
-fn grown(alloc: Global, more: usize) -> Result<Padded<NodeRecord, Global>, AllocError> {
+/// Returns a list of two nodes that are in memory, and `more` blanks after them.
+fn grow(alloc: Global, more: usize) -> Result<Padded<NodeRecord, Global>, AllocError> {
     let node = NodeRecord { base: 1, check: 2 };
     let mut nodes = Padded::of(vec![in alloc; node; 2]?);
     nodes.reserve(more)?;
@@ -14,19 +14,19 @@ fn grown(alloc: Global, more: usize) -> Result<Padded<NodeRecord, Global>, Alloc
     Ok(nodes)
 }
 
-/// So many items have to be there, and so many of them in memory.
+/// Expects this many items, and this many of them in memory.
 fn sizes_are(rt: &impl Abort, nodes: &Padded<NodeRecord, Global>, len: usize, used: usize) {
     assert!(rt; (nodes.len(), nodes.used(), nodes.front().len()) == (len, used, used));
 }
 
-/// An item has to have this base.
+/// Expects an item to have this base.
 fn base_is(rt: &impl Abort, nodes: &Padded<NodeRecord, Global>, index: usize, base: i32) {
     assert!(rt; nodes.read(index).base == base);
 }
 
 #[test]
 fn blanks_are_written_when_they_are_wanted(rt: HostRuntime) -> Result<(), Fail> {
-    let mut nodes = grown(rt.alloc(), 6)?;
+    let mut nodes = grow(rt.alloc(), 6)?;
     sizes_are(&rt, &nodes, 8, 2);
     base_is(&rt, &nodes, 1, 1);
     base_is(&rt, &nodes, 7, 0);

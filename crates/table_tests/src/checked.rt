@@ -15,7 +15,7 @@ use std::test::Fail;
 
 type Small = Table<DefaultLayout, 1024, Global>;
 
-/// The part of the table, the place and the reason of a fault, and none in a table that stands for a tree.
+/// Returns the part of the table, the place and the reason of a fault, or none for a table that stands for a tree.
 fn fault<C: Ledger>(
     table: &Small,
     ticks: &mut Ticks<C>,
@@ -39,7 +39,7 @@ fn put_all(table: &mut Small, keys: &[&[u8]]) -> Result<(), Shortage>
     Ok(())
 }
 
-/// A table of some keys.
+/// Makes a table of some keys.
 fn table_of(alloc: Global, ordered: bool, keys: &[&[u8]]) -> Result<Small, Shortage>
     ensures { IfOk result (λ table. IsWellFormed 1024 (fields table)) }
 {
@@ -85,14 +85,14 @@ fn set_info<C: Ledger>(
     table.write_info(slot, NInfoRecord { sibling, child });
 }
 
-/// The table has to have no fault.
+/// Expects the table to have no fault.
 fn is_sound<C: Ledger>(rt: &impl Abort, table: &Small, ticks: &mut Ticks<C>)
     requires { IsTable 1024 (fields table.now).places }
 {
     assert!(rt; fault(table, ticks) == None);
 }
 
-/// The table has to have this fault.
+/// Expects the table to have this fault.
 fn is_faulty<C: Ledger>(
     rt: &impl Abort,
     table: &Small,

@@ -1,4 +1,4 @@
-//! Records that nobody has vouched for: those of tables, and the same with one field changed.
+//! Untrusted records: those of tables, and the same with one field changed.
 
 ghost use Rattle.std.specs.Prelude.{◌<◌, ◌≡◌, IsTrue};
 ghost use Rattle.table_tests.specs.Words.{default_layout, IsFitting, parts_fields};
@@ -16,7 +16,7 @@ use std::test::Fail;
 
 type Small = Table<DefaultLayout, 1024, Global>;
 
-/// A copy of a table's records.
+/// Returns a copy of a table's records.
 fn parts_of(table: &Small, alloc: Global) -> Result<Parts<Global>, AllocError> {
     let mut parts = Parts {
         ordered: table.ordered(),
@@ -42,7 +42,7 @@ fn parts_of(table: &Small, alloc: Global) -> Result<Parts<Global>, AllocError> {
     Ok(parts)
 }
 
-/// Whether the sizes of some parts are those of a table of up to 1024 slots.
+/// Returns whether the sizes of some parts are those of a table of up to 1024 slots.
 fn is_fitting(parts: &Parts<Global>) -> bool
     ensures { IsTrue result → IsFitting (parts_fields default_layout parts.now).places }
 {
@@ -62,7 +62,7 @@ fn is_fitting(parts: &Parts<Global>) -> bool
     true
 }
 
-/// What a check says of some parts: the section of its fault, or `ok`, or `shape` where their sizes are wrong.
+/// Returns what a check says of some parts: the section of its fault, or `ok`, or `shape` if their sizes are wrong.
 fn section<C: Ledger>(parts: Parts<Global>, ticks: &mut Ticks<C>) -> &'static str {
     if !is_fitting(&parts) {
         return "shape";
@@ -149,10 +149,10 @@ fn set_block(parts: &mut Parts<Global>, field: Field, index: usize, value: i32) 
     }
 }
 
-/// A field, the slot, block or reject value that it is of, what it is set to, and what a check answers then.
+/// A field, the slot, block or reject value that it is of, what it is set to, and what a check returns then.
 type Row = (Field, usize, i32, &'static str);
 
-/// Each row sets one field of the table's records, and says what a check answers then.
+/// Each row sets one field of the table's records, and says what a check returns then.
 fn each_change<C: Ledger>(
     rt: &impl Abort,
     table: &Small,
@@ -222,7 +222,7 @@ fn a_new_table(rt: HostRuntime) -> Result<(), Fail> {
     changed_new_table::<Brand>(&rt, rt.alloc(), Blank::new(1))
 }
 
-// One field each, where two blocks are full and one is open.
+// One field each of a table in which two blocks are full and one is open.
 const LISTS: [Row; 21] = [
     (Field::FullHead, 0, 1, "block-lists"),
     (Field::FullHead, 0, 0, "block-lists"),
@@ -258,13 +258,13 @@ fn changed_lists<C: Ledger>(rt: &impl Abort, alloc: Global, blank: Blank) -> Res
     each_change(rt, &table, &LISTS, alloc, ticks)
 }
 
-/// One field changed where two blocks are full and one is open.
+/// One field changed of a table in which two blocks are full and one is open.
 #[test]
 fn lists_of_blocks(rt: HostRuntime) -> Result<(), Fail> {
     changed_lists::<Brand>(&rt, rt.alloc(), Blank::new(1))
 }
 
-// One field each, where a block has two free slots.
+// One field each of a table in which a block has two free slots.
 const TWO_FREE: [Row; 4] = [
     (Field::EHead, 1, 400, "ok"),
     (Field::Check, 300, -300, "free-list"),
@@ -272,7 +272,7 @@ const TWO_FREE: [Row; 4] = [
     (Field::Next, 1, 2, "block-lists"),
 ];
 
-// One field each, where a block has one free slot.
+// One field each of a table in which a block has one free slot.
 const ONE_LEFT: [Row; 4] = [
     (Field::ClosedHead, 0, 0, "block-lists"),
     (Field::OpenHead, 0, 1, "block-lists"),
@@ -302,7 +302,7 @@ fn closed_blocks(rt: HostRuntime) -> Result<(), Fail> {
     closed_lists::<Brand>(&rt, rt.alloc(), Blank::new(1))
 }
 
-// One field each, where block 0 has no free slot.
+// One field each of a table in which block 0 has no free slot.
 const FULL_FIRST: [Row; 5] = [
     (Field::EHead, 0, 0, "ok"),
     (Field::EHead, 0, i32::MIN, "ok"),

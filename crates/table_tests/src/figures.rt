@@ -11,7 +11,7 @@ use std::process::Abort;
 use std::sync::ledger::{Blank, Ledger};
 use std::test::Fail;
 
-/// The heads of the full, the closed and the open list have to be these.
+/// Expects these heads of the full, the closed and the open list.
 fn heads_are<const SLOTS: usize>(
     rt: &impl Abort,
     table: &Table<DefaultLayout, SLOTS, Global>,
@@ -20,7 +20,7 @@ fn heads_are<const SLOTS: usize>(
     assert!(rt; heads(table) == wanted);
 }
 
-/// A block's record has to have these fields.
+/// Expects a block's record to have these fields.
 fn block_is<const SLOTS: usize>(
     rt: &impl Abort,
     table: &Table<DefaultLayout, SLOTS, Global>,
@@ -30,7 +30,7 @@ fn block_is<const SLOTS: usize>(
     assert!(rt; block(table, number) == Some(wanted));
 }
 
-/// A slot's node record has to have these fields.
+/// Expects a slot's node record to have these fields.
 fn node_is<const SLOTS: usize, C: Ledger>(
     rt: &impl Abort,
     table: &Table<DefaultLayout, SLOTS, Global>,
@@ -41,7 +41,7 @@ fn node_is<const SLOTS: usize, C: Ledger>(
     assert!(rt; node(table, slot, ticks) == Some(wanted));
 }
 
-/// There have to be so many slots, in use or not, and held, and so many blocks to spare.
+/// Expects this many slots, in use or not, and held, and this many spare blocks.
 fn room_is<const SLOTS: usize>(
     rt: &impl Abort,
     table: &Table<DefaultLayout, SLOTS, Global>,
@@ -59,7 +59,7 @@ fn room_is<const SLOTS: usize>(
     assert!(rt; found == (capacity, held, spare));
 }
 
-/// Labels have to find their places from this base on.
+/// Expects labels to find their places from this base on.
 fn finds<const SLOTS: usize>(
     rt: &impl Abort,
     table: &mut Table<DefaultLayout, SLOTS, Global>,
@@ -155,7 +155,7 @@ fn block_of_root<C: Ledger>(rt: &impl Abort, alloc: Global, blank: Blank) -> Res
     Ok(())
 }
 
-/// The first block, in which the root stands, is physically full, and free again.
+/// The first block, which has the root, is physically full, and free again.
 #[test]
 fn the_first_block(rt: HostRuntime) -> Result<(), Fail> {
     block_of_root::<Brand>(&rt, rt.alloc(), Blank::new(1))

@@ -1,4 +1,4 @@
-//! Keys put and erased, where a test of the bytes allows it.
+//! Keys put and erased, if a test of the bytes allows it.
 
 ghost use Rattle.std.specs.Prelude.{◌==◌, ◌≡◌, IsTrue, position};
 ghost use Rattle.table_tests.specs.Words.{fields, IsKey, IsWellFormed};
@@ -8,21 +8,21 @@ use cedar_table::{DefaultLayout, Shortage, Table};
 use std::alloc::Global;
 use std::process::Abort;
 
-/// Whether some bytes are a key: one or more, and no byte 0.
+/// Returns whether some bytes are a key: one or more, and no byte 0.
 pub fn is_key(bytes: &[u8]) -> bool
     ensures { IsTrue result → IsKey bytes.now }
 {
     !bytes.is_empty() && nul_position(bytes).is_none()
 }
 
-/// Where the first byte 0 stands.
+/// Returns where the first byte 0 is.
 fn nul_position(bytes: &[u8]) -> Option<usize>
     ensures { result ≡ position (λ byte. byte == 0) bytes.now }
 {
     bytes.iter().position(|byte| *byte == 0)
 }
 
-/// Puts a number of two digits at some bytes, where they are a key; elsewhere it does nothing.
+/// Puts a number of two digits at some bytes, if they are a key; otherwise it does nothing.
 pub fn put<const SLOTS: usize>(
     table: &mut Table<DefaultLayout, SLOTS, Global>,
     key: &[u8],

@@ -1,4 +1,4 @@
-//! Growth that is refused memory.
+//! Growth that lacks memory.
 
 ghost use Rattle.std.specs.Prelude.{◌<◌, ◌≡◌};
 ghost use Rattle.table_tests.specs.Words.{fields, IsTable};
@@ -14,7 +14,7 @@ use test_support::Refusing;
 
 type Refused<'a> = Table<DefaultLayout, 1024, &'a Refusing<Global>>;
 
-/// A block more has to be answered so.
+/// Expects this result of one more block.
 fn adds(rt: &impl Abort, table: &mut Refused<'_>, wanted: Result<usize, Shortage>)
     requires { IsTable 1024 (fields table.old).places }
     ensures { IsTable 1024 (fields table.new).places }
@@ -22,7 +22,7 @@ fn adds(rt: &impl Abort, table: &mut Refused<'_>, wanted: Result<usize, Shortage
     assert!(rt; table.add_block() == wanted);
 }
 
-/// A growth of which one request is refused leaves every field as it was.
+/// A growth of which one allocation fails leaves every field as it was.
 fn one_request<C: Ledger>(
     rt: &impl Abort,
     alloc: Global,
@@ -44,7 +44,7 @@ fn one_request<C: Ledger>(
     Ok(())
 }
 
-/// Blocks are added up to the limit, and the last one, which is spare, without a request.
+/// Adds blocks up to the limit, and the last one, which is spare, without an allocation.
 fn up_to_the_limit(rt: &impl Abort, memory: &Refusing<Global>, table: &mut Refused<'_>)
     requires { IsTable 1024 (fields table.old).places }
 {
@@ -75,7 +75,7 @@ fn each_request<C: Ledger>(rt: &impl Abort, alloc: Global, blank: Blank) -> Resu
     Ok(())
 }
 
-/// Each request of a growth is refused in turn, which leaves every field as it was; a spare block needs none.
+/// Each allocation of a growth fails in turn, which leaves every field as it was; a spare block needs none.
 #[test]
 fn refused_memory(rt: HostRuntime) -> Result<(), Fail> {
     each_request::<Brand>(&rt, rt.alloc(), Blank::new(1))

@@ -13,7 +13,7 @@ use std::test::Fail;
 
 type Small = Table<DefaultLayout, 4096, Global>;
 
-/// Notes that `slot` is held, and tells whether it was not.
+/// Notes that `slot` is held, and returns whether it was not.
 fn note(held: &mut [bool], slot: usize) -> bool {
     match held.get_mut(slot) {
         Some(place) if !*place => {
@@ -36,7 +36,7 @@ fn place_one<C: Ledger>(table: &mut Small, held: &mut [bool], ticks: &mut Ticks<
     }
 }
 
-/// Takes the places of two labels, where there are any.
+/// Takes the places of two labels, if there are any.
 fn place_two<C: Ledger>(
     table: &mut Small,
     held: &mut [bool],
@@ -80,7 +80,7 @@ fn turn<C: Ledger>(table: &mut Small, held: &mut [bool], slot: usize, ticks: &mu
     }
 }
 
-/// Does what a number says, and tells whether the table answered as the set did.
+/// Does what a number says, and returns whether the table did as the set.
 fn step<C: Ledger>(table: &mut Small, held: &mut [bool], number: u32, ticks: &mut Ticks<C>) -> bool
     requires { IsTable 4096 (fields table.old).places }
     ensures { IsTable 4096 (fields table.new).places }
@@ -98,7 +98,7 @@ fn step<C: Ledger>(table: &mut Small, held: &mut [bool], number: u32, ticks: &mu
     }
 }
 
-/// Whether the held slots are just those of the set.
+/// Returns whether the held slots are exactly those of the set.
 fn agree<C: Ledger>(table: &Small, held: &[bool], ticks: &mut Ticks<C>) -> bool
     requires { IsTable 4096 (fields table.now).places }
 {
@@ -133,7 +133,7 @@ fn beside_a_set<C: Ledger>(rt: &impl Abort, alloc: Global, blank: Blank) -> Resu
     Ok(())
 }
 
-/// 100,000 slots or pairs of slots are placed, taken and given back, and the set tells each time which are held.
+/// 100,000 slots or pairs of slots are placed, taken and given back, and the set says each time which are held.
 #[test]
 fn a_long_run(rt: HostRuntime) -> Result<(), Fail> {
     beside_a_set::<Brand>(&rt, rt.alloc(), Blank::new(1))

@@ -1,4 +1,4 @@
-//! Slots taken and given back, where a test of the table allows it.
+//! Slots taken and given back, if a test of the table allows it.
 
 ghost use Rattle.table_tests.specs.Words.{fields, IsTable};
 
@@ -7,7 +7,7 @@ use std::alloc::{AllocError, Allocator, Global};
 use std::process::Abort;
 use std::sync::ledger::Ledger;
 
-/// Takes `slot` for `owner` if it is free, and tells whether it was.
+/// Takes `slot` for `owner` if it is free, and returns whether it was.
 pub fn take<const SLOTS: usize, A: Allocator, C: Ledger>(
     table: &mut Table<DefaultLayout, SLOTS, A>,
     slot: usize,
@@ -29,7 +29,7 @@ pub fn take<const SLOTS: usize, A: Allocator, C: Ledger>(
     true
 }
 
-/// Gives `slot` back if it is held and not the root, and tells whether it was.
+/// Gives `slot` back if it is held and not the root, and returns whether it was.
 pub fn give<const SLOTS: usize, A: Allocator, C: Ledger>(
     table: &mut Table<DefaultLayout, SLOTS, A>,
     slot: usize,
@@ -103,7 +103,7 @@ pub fn take_some<const SLOTS: usize, A: Allocator>(
     Ok(())
 }
 
-/// The two fields of a slot's node record.
+/// Returns the two fields of a slot's node record.
 pub fn node<const SLOTS: usize, A: Allocator, C: Ledger>(
     table: &Table<DefaultLayout, SLOTS, A>,
     slot: usize,
@@ -117,7 +117,7 @@ pub fn node<const SLOTS: usize, A: Allocator, C: Ledger>(
     Some((node.base, node.check))
 }
 
-/// The fields of a block's record.
+/// Returns the fields of a block's record.
 pub fn block<const SLOTS: usize, A: Allocator>(
     table: &Table<DefaultLayout, SLOTS, A>,
     block: usize,
@@ -136,14 +136,14 @@ pub fn block<const SLOTS: usize, A: Allocator>(
     ))
 }
 
-/// The heads of the full, the closed and the open list.
+/// Returns the heads of the full, the closed and the open list.
 pub fn heads<const SLOTS: usize, A: Allocator>(
     table: &Table<DefaultLayout, SLOTS, A>,
 ) -> (i32, i32, i32) {
     (table.full_head(), table.closed_head(), table.open_head())
 }
 
-/// The fields of one slot, at the end of a list.
+/// Appends the fields of one slot to a list.
 fn push_slot<const SLOTS: usize, A: Allocator, C: Ledger>(
     all: &mut Vec<i64>,
     table: &Table<DefaultLayout, SLOTS, A>,
@@ -159,7 +159,7 @@ fn push_slot<const SLOTS: usize, A: Allocator, C: Ledger>(
     Ok(())
 }
 
-/// The fields of one block, at the end of a list.
+/// Appends the fields of one block to a list.
 fn push_block<const SLOTS: usize, A: Allocator>(
     all: &mut Vec<i64>,
     table: &Table<DefaultLayout, SLOTS, A>,
@@ -170,7 +170,7 @@ fn push_block<const SLOTS: usize, A: Allocator>(
     all.extend_from_slice(&[reject as i64, trial as i64, e_head as i64])
 }
 
-/// All fields of a table, slot by slot and block by block.
+/// Returns all fields of a table, slot by slot and block by block.
 pub fn all_fields<const SLOTS: usize, A: Allocator, C: Ledger>(
     table: &Table<DefaultLayout, SLOTS, A>,
     alloc: Global,

@@ -1,4 +1,4 @@
-//! A file system with one file, whose calls fail where they are told to.
+//! A file system with one file, whose calls fail at the points that a test sets.
 
 use crate::device::{Ending, FailingReader};
 use std::alloc::Allocator;
@@ -11,7 +11,7 @@ use std::rt::Files;
 /// What the file's calls do.
 #[derive(Clone, Copy, Debug)]
 pub struct FilePlan {
-    /// Whether it can be opened, or made.
+    /// Whether it can be opened, or created.
     pub opens: bool,
     /// How many bytes are read or written before a fault.
     pub room: usize,
@@ -24,7 +24,7 @@ pub struct FilePlan {
 }
 
 impl FilePlan {
-    /// All calls go well.
+    /// All calls succeed.
     pub const GOOD: FilePlan = FilePlan {
         opens: true,
         room: usize::MAX,
@@ -37,15 +37,15 @@ impl FilePlan {
 /// What was done with the file.
 #[derive(Clone, Copy, Debug, PartialEq, Eq)]
 pub struct FileUse {
-    /// How often it was opened to be read, and to be written.
+    /// How often it was opened for reading, and for writing.
     pub opened: u32,
     pub made: u32,
     /// How many bytes were written, and whether they are those that were expected.
     pub written: usize,
     pub as_expected: bool,
-    /// How many flushes there were, the failed ones too.
+    /// How many flushes there were, including the failed ones.
     pub flushes: u32,
-    /// How often it was synced and renamed, the failed calls too, and removed.
+    /// How often it was synced and renamed, including the failed calls, and removed.
     pub syncs: u32,
     pub moves: u32,
     pub removed: u32,
@@ -65,7 +65,7 @@ impl FileUse {
     };
 }
 
-/// A file system with one file, at whatever path. It is read as some bytes; what is written to it is compared with them.
+/// A file system with one file, at any path. It is read as some bytes; what is written to it is compared with them.
 #[derive(Clone, Copy)]
 pub struct FakeFiles<'a> {
     bytes: &'a [u8],
@@ -98,7 +98,7 @@ fn done_if(works: bool) -> io::Result<()> {
 }
 
 impl<'a> FakeFiles<'a> {
-    /// A file of these bytes, or for them, which goes by the plan and notes its uses.
+    /// Makes a file of these bytes, or for them, which follows the plan and notes its uses.
     pub fn new(bytes: &'a [u8], plan: FilePlan, uses: &'a Cell<FileUse>) -> FakeFiles<'a> {
         FakeFiles { bytes, plan, uses }
     }

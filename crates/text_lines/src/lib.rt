@@ -1,2 +1,3 @@
-//! Lines of text, as the script language and word lists read and write them: definitions alone, which the contracts of both cite.
+//! Lines of text, as the script language and word lists read and write them: definitions that the contracts of both cite, and
+//! lemmas on them.
 #![tactic(auto)]

@@ -1,3 +1,4 @@
 pub mod Counts
 pub mod Keywords
+pub mod Pages
 pub mod Words

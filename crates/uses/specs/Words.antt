@@ -1,5 +1,6 @@
 -- The words of these callers' clauses, from one place: their own, and those of the libraries.
 pub use Rattle.cedar_words.specs.Words.{IsCheapest, keywords_in, segments}
-pub use Rattle.cedarwood.specs.Words.{all_stored, CedarFitsInMemory, Consumes, device_of, entries_of, entries_since, entries_with, exact, IsBlankOf, IsSlotLimit, IsVersion, number_at, stored, table_bytes}
+pub use Rattle.cedarwood.specs.Words.{all_stored, CedarFitsInMemory, device_of, entries_of, entries_with, exact, IsBlankOf, IsSlotLimit, number_at, stored}
 pub use Rattle.uses.specs.Counts.{count_of, one_more}
 pub use Rattle.uses.specs.Keywords.{HasKeyword}
+pub use Rattle.uses.specs.Pages.{IsPage, ReadsTable}

@@ -9,7 +9,7 @@ use std::alloc::{AllocError, Allocator, Global};
 /// The first entries whose keys begin with a text, `most` at most.
 ///
 /// # Errors
-/// `Memory` where there is none for the answer or a key.
+/// `Memory` if there is none for the result or a key.
 pub fn complete<L: Layout, const SLOTS: usize, A: Allocator + Copy>(
     words: &Trie<L, SLOTS, A>,
     alloc: Global,

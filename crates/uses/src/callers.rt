@@ -31,7 +31,7 @@ impl<const SLOTS: usize, A: Allocator + Copy> Lexicon<SLOTS, A> {
     /// An empty one.
     ///
     /// # Errors
-    /// `Memory` where a request was refused.
+    /// `Memory` if an allocation was refused.
     pub fn new(alloc: A) -> Result<Self, CedarError>
         requires { IsSlotLimit SLOTS }
     {
@@ -41,14 +41,14 @@ impl<const SLOTS: usize, A: Allocator + Copy> Lexicon<SLOTS, A> {
 
     /// Whether it has a word.
     pub fn has(&self, word: &str) -> bool
-        //= A lexicon has a word exactly if its dictionary holds it; a dictionary has no more slots than its limit. [also slots]
+        //= A lexicon has a word exactly if its dictionary holds it. A dictionary has no more slots than its limit. [also slots]
         ensures { IsTrue result ↔ IsSome (number_at self.now.words.state.tree word.now) }
     {
         self.words.exact_match_search(word).is_some()
     }
 }
 
-/// How many slots a dictionary has: what holds of each dictionary is told by `len`.
+/// How many slots a dictionary has. A proof knows from `len` what holds of each dictionary.
 pub fn slots<L: Layout, const SLOTS: usize, A: Allocator + Copy>(trie: &Trie<L, SLOTS, A>) -> usize
     ensures { result ≤ SLOTS }
 {

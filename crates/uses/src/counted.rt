@@ -10,7 +10,7 @@ use std::sync::ledger::{Blank, Ledger};
 
 /// What a key holds.
 pub fn search(cedar: &Cedar<Global>, key: &[u8]) -> Option<(i32, usize)>
-    //= A counted search answers `exact`.
+    //= A counted search returns `exact`.
     ensures { result ≡ exact cedar.now.state.tree key.now }
 {
     search_in::<Brand>(cedar, key, Blank::new(1))

@@ -1,4 +1,4 @@
-//! How often each word comes.
+//! How often each word occurs.
 
 ghost use Rattle.std.specs.Prelude.{◌≡◌, IfOk, List, OnOk, option_map, ℕ};
 ghost use Rattle.uses.specs.Words.{count_of, number_at, one_more, stored};
@@ -6,12 +6,12 @@ ghost use Rattle.uses.specs.Words.{count_of, number_at, one_more, stored};
 use cedarwood::{Cedar, CedarError, Layout, MAX_VALUE, Trie};
 use std::alloc::{Allocator, Global};
 
-/// A dictionary that has how often each word comes, up to the greatest value.
+/// A dictionary that has how often each word occurs, up to the greatest value.
 ///
 /// # Errors
 /// Those of an update: a word may be empty or have a byte 0, and memory or slots may run out.
 pub fn count(alloc: Global, words: &[&str]) -> Result<Cedar<Global>, CedarError>
-    //= Each word holds how often it comes among some words, up to the greatest value, and no other word holds anything.
+    //= Each word holds how often it occurs among some words, up to the greatest value, and no other word holds anything.
     ensures { IfOk result (λ counts. (word : List ℕ) → number_at counts.state.tree word ≡ count_of word words.now) }
 {
     let mut counts = Cedar::new(alloc)?;

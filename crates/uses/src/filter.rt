@@ -7,7 +7,7 @@ use cedar_words::leftmost_longest;
 use cedarwood::{Cedar, Layout, Trie};
 use std::alloc::{AllocError, Allocator, Global};
 
-/// Whether a key stands anywhere in a text. It takes no memory.
+/// Whether a key occurs anywhere in a text. It allocates nothing.
 pub fn has_keyword<L: Layout, const SLOTS: usize, A: Allocator + Copy>(
     keywords: &Trie<L, SLOTS, A>,
     text: &[u8],
@@ -27,10 +27,10 @@ pub fn has_keyword<L: Layout, const SLOTS: usize, A: Allocator + Copy>(
     false
 }
 
-/// The keywords of a text, none of which overlap: for each its place, its length and its value.
+/// The keywords of a text, none of which overlap: for each its start, its length and its value.
 ///
 /// # Errors
-/// No memory for the answer.
+/// No memory for the result.
 pub fn keywords_of(
     alloc: Global,
     keywords: &Cedar<Global>,

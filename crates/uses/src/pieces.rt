@@ -7,10 +7,10 @@ use cedar_words::segment;
 use cedarwood::{Layout, Trie};
 use std::alloc::{AllocError, Allocator, Global};
 
-/// The tokens of a text, each as bytes of it. That each lies within the text is `tokens_lie_within`.
+/// The tokens of a text, each as bytes of it. That each is within the text is `tokens_lie_within`.
 ///
 /// # Errors
-/// No memory for the answer.
+/// No memory for the result.
 pub fn pieces_of<'a, L: Layout, const SLOTS: usize, A: Allocator + Copy>(
     words: &Trie<L, SLOTS, A>,
     alloc: Global,

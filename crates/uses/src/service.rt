@@ -1,4 +1,4 @@
-//! A dictionary that a service answers from.
+//! A dictionary that a service reads.
 
 ghost use Rattle.std.specs.Prelude.{◌≡◌, OnErr, OnOk};
 ghost use Rattle.uses.specs.Words.{all_stored, entries_of};
@@ -6,11 +6,11 @@ ghost use Rattle.uses.specs.Words.{all_stored, entries_of};
 use cedarwood::{CedarError, Layout, Trie};
 use std::alloc::Allocator;
 
-/// Stores some pairs in a dictionary, one after another: all of them, or none. So a service goes on with what it had where memory
-/// runs out in between, or where a pair has a fault.
+/// Stores some pairs in a dictionary, one after another: all of them, or none. So a service goes on with what it had if memory runs out in
+/// between, or if a pair has a fault.
 ///
 /// # Errors
-/// Those of a build; also `Memory` where there is none for the copy that is made first.
+/// Those of a build; also `Memory` if there is none for the copy that is made first.
 pub fn publish<L: Layout, const SLOTS: usize, A: Allocator + Copy>(
     live: &mut Trie<L, SLOTS, A>,
     pairs: &[(&str, i32)],

@@ -79,13 +79,13 @@ fn words(rt: HostRuntime) -> Result<(), Fail> {
     expect_none(&rt, rt.alloc())
 }
 
-fn saved(alloc: Global, words: &Cedar<Global>) -> Result<Vec<u8>, CedarPersistenceError> {
+fn save_bytes(alloc: Global, words: &Cedar<Global>) -> Result<Vec<u8>, CedarPersistenceError> {
     let mut writer = Watched::new(Vec::new(alloc));
     words.save_to_writer(&mut writer)?;
     Ok(writer.into_inner())
 }
 
-fn loaded(alloc: Global, file: &[u8]) -> Result<Tokenizer, CedarPersistenceError> {
+fn load_bytes(alloc: Global, file: &[u8]) -> Result<Tokenizer, CedarPersistenceError> {
     Tokenizer::load(alloc, &mut Watched::new(file))
 }
 
@@ -120,8 +120,8 @@ fn expect_pieces(rt: &impl Abort, alloc: Global, tokenizer: &Tokenizer) -> Resul
 #[test]
 fn tokens(rt: HostRuntime) -> Result<(), Fail> {
     let counts = count(rt.alloc(), &["net", "nets"])?;
-    let file = saved(rt.alloc(), &counts)?;
-    let tokenizer = loaded(rt.alloc(), &file)?;
+    let file = save_bytes(rt.alloc(), &counts)?;
+    let tokenizer = load_bytes(rt.alloc(), &file)?;
     expect_tokens(&rt, rt.alloc(), &tokenizer)?;
     expect_cheap_tokens(&rt, rt.alloc(), &tokenizer)?;
     expect_keywords(&rt, rt.alloc(), &tokenizer.words)?;
@@ -138,7 +138,7 @@ fn is_published(live: &mut Live<'_>, pairs: &[(&str, i32)]) -> bool {
     publish(live, pairs).is_ok()
 }
 
-// Each request is refused in turn, till there are no more: so long the dictionary keeps what it had.
+// Each allocation is refused in turn, until there are no more: until then the dictionary keeps what it had.
 fn expect_kept(rt: &impl Abort, memory: &Refusing<Global>, live: &mut Live<'_>) {
     for refused in 0..8 {
         memory.refuse(refused + 1, refused + 1);
@@ -157,7 +157,7 @@ fn expect_fault(rt: &impl Abort, live: &mut Live<'_>) {
     expect_len(rt, live, 3);
 }
 
-// Where any request for memory is refused, or a pair has a fault, the dictionary keeps what it had.
+// If any allocation is refused, or a pair has a fault, the dictionary keeps what it had.
 #[test]
 fn updates(rt: HostRuntime) -> Result<(), Fail> {
     let memory = Refusing::new(rt.alloc());

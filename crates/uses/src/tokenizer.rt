@@ -1,7 +1,7 @@
 //! Texts cut into words by a dictionary that was saved.
 
-ghost use Rattle.std.specs.Prelude.{◌<◌, ◌^◌, ◌≡◌, IfOk, length, ℕ};
-ghost use Rattle.uses.specs.Words.{Consumes, device_of, IsCheapest, IsVersion, segments, table_bytes};
+ghost use Rattle.std.specs.Prelude.{◌<◌, ◌^◌, ◌≡◌, IfOk, length};
+ghost use Rattle.uses.specs.Words.{device_of, IsCheapest, ReadsTable, segments};
 
 use cedar_words::{cheapest, segment};
 use cedarwood::{Cedar, CedarPersistenceError, Watched};
@@ -23,17 +23,17 @@ impl Tokenizer {
         alloc: Global,
         file: &mut Watched<R>,
     ) -> Result<Tokenizer, CedarPersistenceError>
-        //= A tokenizer takes just the bytes of its dictionary's table.
-        ensures { IfOk result (λ it. (version : ℕ) × IsVersion version × Consumes (R.remaining (device_of file.old)) (R.remaining (device_of file.new)) (table_bytes version it.words.table)) }
+        //= A tokenizer reads exactly the bytes of its dictionary's table.
+        ensures { IfOk result (λ it. ReadsTable (R.remaining (device_of file.old)) (R.remaining (device_of file.new)) it.words.table) }
     {
         let words = Cedar::load_from_reader(alloc, file)?;
         Ok(Tokenizer { words })
     }
 
-    /// The words of a text in their order: for each its place, its length, and its value if the dictionary has it.
+    /// The words of a text in their order: for each its start, its length, and its value if the dictionary has it.
     ///
     /// # Errors
-    /// No memory for the answer.
+    /// No memory for the result.
     pub fn cut(
         &self,
         alloc: Global,
@@ -45,10 +45,10 @@ impl Tokenizer {
         segment(&self.words, text.as_bytes()).collect(alloc)
     }
 
-    /// The words of a text whose values add up to the least, where a byte of no word costs as much as is said.
+    /// The words of a text whose values have the least sum, if a byte of no word costs `unknown`.
     ///
     /// # Errors
-    /// No memory for the answer.
+    /// No memory for the result.
     pub fn cut_by_cost(
         &self,
         alloc: Global,

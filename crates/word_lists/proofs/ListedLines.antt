@@ -5,7 +5,7 @@ use Rattle.std.proofs.lemmas.List.{map-append}
 use Rattle.std.specs.Prelude.{ltb, IfSome}
 use Rattle.std.specs.Io.BufRead.{DropsThrough, drop_through, take_through}
 use Rattle.cedar_tree.specs.State.{State}
-use Rattle.word_lists.specs.Stored.{Adds, AreFirstLines, OnKnown, TakesLines, TakesNext, Told, absent_of, line_absent, line_held, line_erased, line_stored, line_told, lines_absent, lines_erased, lines_in, lines_stored, lines_told, told_one}
+use Rattle.word_lists.specs.Stored.{Adds, AreFirstLines, OnKnown, TakesLines, TakesNext, Told, line_absent, line_erased, line_stored, line_told, lines_absent, lines_erased, lines_in, lines_stored, lines_told, told_one}
 use Rattle.text_lines.specs.Lines.{onto_first}
 use Rattle.word_lists.specs.Texts.{body_of}
 
@@ -200,11 +200,3 @@ absent_step s u came line body n m text so_far before step =
     let one : m ≡ line_absent (lines_erased s came) (body_of line) = step ∙ ap (λ b. line_absent u b) text ∙ ap (λ x. line_absent x (body_of line)) so_far in
     let both = absent_push s came line in
     omega (arith, before, one, both)
-
--- a line has one word at most that isn't held
-pub absent_within : (s : State) (line : List ℕ) → line_absent s line ≤ 1
-absent_within s line =
-    elim (line_held s line) as (λ held. absent_of held ≤ 1) [
-      | true ↦ omega arith
-      | false ↦ omega arith
-    ]

@@ -1,7 +1,6 @@
 -- The lines of a list without faults, and the pairs that they store.
-use Rattle.std.proofs.Common.{◌≡◌, ◌<◌, ◌+◌, ◌-◌, zero, suc, take, drop, ℕ, ℤ, List, [], ◌∷◌, ◌++◌, true, false, ◌&&◌, ◌==◌, Option, Some, None, IfSome, cond, refl, sym, ap, ◌∙◌, arith, length, get_or}
+use Rattle.std.proofs.Common.{◌≡◌, ◌<◌, ◌+◌, ◌-◌, zero, suc, take, drop, ℕ, List, [], ◌∷◌, ◌++◌, true, false, ◌&&◌, ◌==◌, Option, Some, None, IfSome, cond, refl, sym, ap, ◌∙◌, arith, length, get_or}
 use Rattle.std.specs.Prelude.{Result, Ok, Err}
-use Rattle.std.specs.List.{before_first}
 use Rattle.std.specs.Io.BufRead.{drop_through, take_through}
 use Rattle.hex.specs.Hex.{decode_sized}
 use Rattle.cedar_tree.specs.Queries.{Entry, asc}
@@ -18,9 +17,8 @@ use Rattle.cedarwood.specs.declared.error.CedarError.{CedarError}
 use Rattle.std.specs.Cmp.Lexicographic.{slice_cmp}
 use Rattle.std.specs.Ordering.{nat_cmp}
 use Rattle.word_lists.specs.Reading.{bytes_behind, first_read, named_of, read_as}
-use Rattle.word_lists.specs.Stored.{is_tab, line_stored, lines_stored, number_of_line, pairs_stored, stored_by, stored_with, word_of}
+use Rattle.word_lists.specs.Stored.{line_stored, lines_stored, pairs_stored, stored_by}
 use Rattle.word_lists.specs.Texts.{body_of}
-use Rattle.word_lists.proofs.Figures.{filled_test}
 use Rattle.word_lists.proofs.ListedLines.{stored_push}
 
 -- ---- a word without a backslash
@@ -39,13 +37,6 @@ read_plain (b ∷ text) h =
     ∙ ap (λ l. b ∷ l) (read_plain text (λ i low. h (suc i) (omega (arith, low))))
 
 -- ---- a line
-
--- a line whose word stands for itself stores it with its number
-pub plain_stored : (s : State) (number : ℕ) (line word : List ℕ) (v : ℤ) → 0 < length line → word ≡ before_first is_tab line → number_of_line number line ≡ Some v → read_as word ≡ word
-    → line_stored s number line ≡ stored_by (fault word v) s word v
-plain_stored s number line word v some is numbered plain =
-    ap (λ f. cond f (stored_with (number_of_line number line) s (word_of line)) s) (filled_test line some)
-    ∙ ap (λ o. stored_with o s (word_of line)) numbered ∙ ap (λ x. stored_by (fault x v) s x v) (ap read_as (sym is) ∙ plain)
 
 -- ---- pairs
 

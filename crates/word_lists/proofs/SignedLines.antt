@@ -9,7 +9,7 @@ use Rattle.cedar_tree.specs.Tree.{Tree}
 use Rattle.cedarwood.specs.Builds.{all_stored}
 use Rattle.text_lines.specs.Written.{AppendsFront, WritesFront}
 use Rattle.word_lists.specs.Lines.{holds_entry, lacking, signed_line, signed_lines}
-use Rattle.word_lists.proofs.Bytes.{front_after, front_more}
+use Rattle.text_lines.proofs.Bytes.{front_after, front_more}
 
 -- entries that are stored, and one more
 pub stored_more : (s : State) (came : List Entry) (e : Entry) → all_stored s (came ++ e ∷ []) ≡ stored (all_stored s came) e.0 e.1

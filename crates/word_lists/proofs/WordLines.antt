@@ -7,7 +7,7 @@ use Rattle.text_lines.specs.Written.{WritesFront}
 use Rattle.hex.specs.Hex.{encode_lower}
 use Rattle.word_lists.specs.Lines.{byte_text, entry_line, entry_lines, escaped, is_plain, word_text}
 use Rattle.std.specs.Fmt.{signed_decimal}
-use Rattle.word_lists.proofs.Bytes.{Appends-append, front_after, front_more}
+use Rattle.text_lines.proofs.Bytes.{Appends-append, front_after, front_more}
 
 pub escaped-append : (t : Bool) (a b : List ℕ) → escaped t (a ++ b) ≡ escaped t a ++ escaped t b
 escaped-append t [] b = refl

@@ -136,6 +136,10 @@ lines_told s number [] = []
 lines_told s number (line ∷ lines) =
     told_one number (body_of line) (line_told s number (body_of line)) ++ lines_told (line_stored s number (body_of line)) (number + 1) lines
 
+-- and what is told of a whole list
+abbrev pub list_told : State → List ℕ → List Told
+list_told s list = lines_told s 1 (lines_in list)
+
 -- the state without a line's word
 abbrev pub line_erased : State → List ℕ → State
 line_erased s line = if is_filled line then erased s (word_of line) else s

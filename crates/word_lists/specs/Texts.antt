@@ -2,7 +2,7 @@
 use Rattle.std.specs.Prelude.{ℕ, ℤ, ◌+◌, ◌-◌, ◌^◌, ◌<◌, ltb, nat_le, Bool, ◌==◌, ◌&&◌, ◌||◌, not, if◌then◌else◌, Option, Some, None, List, [], ◌∷◌, ◌++◌, map, length, take, drop, get_or, is_some, decimal, codes, int_le, pos, unsigned_abs}
 use Rattle.cedar_tree.specs.Queries.{Entry, front}
 use Rattle.cedar_tree.specs.Tree.{Tree}
-use Rattle.cedar_words.specs.Words.{IsCheapestBy, IsCut, IsLeastCapped, Spot, Token, character_price, keywords_in, segments}
+use Rattle.cedar_words.specs.Words.{IsCheapestBy, IsCut, IsLeastCapped, Spot, Token, character_price, keywords_in, segments, spots_from}
 use Rattle.std.specs.Borrow.{Bor}
 use Rattle.word_lists.specs.declared.cut.Style.{Style}
 use Rattle.word_lists.specs.declared.cut.Style.TheVariants.{Parted, Marked, Replaced}
@@ -157,3 +157,10 @@ spot_line number text s = tab_field number ++ (tab_field (1 + characters (take s
 abbrev pub spot_lines : ℕ → List ℕ → List Spot → List ℕ
 spot_lines number text [] = []
 spot_lines number text (s ∷ spots) = spot_line number text s ++ spot_lines number text spots
+
+-- those of all words that stand in a line, and those of its keywords
+abbrev pub match_lines : Tree → ℕ → List ℕ → List ℕ
+match_lines tree number line = spot_lines number (body_of line) (spots_from tree 0 (body_of line))
+
+abbrev pub keyword_lines : Tree → ℕ → List ℕ → List ℕ
+keyword_lines tree number line = spot_lines number (body_of line) (keywords_in tree (body_of line))

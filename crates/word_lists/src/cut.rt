@@ -11,9 +11,9 @@ use cedarwood::{Layout, Trie, Watched};
 use std::alloc::Allocator;
 use std::io::Write;
 
-/// Writes a line with a sign between its tokens: at each place the longest key that begins there, or else one byte. A byte without a
-/// number that goes on with a character of UTF-8 isn't parted from what stands before it. The bytes that end the line, byte 10 and a byte
-/// 13 before it, are written behind them. It takes no memory.
+/// Writes a line with a sign between its tokens: at each place the longest key that begins there, or otherwise one byte. A byte without a
+/// number that continues a character of UTF-8 isn't parted from what is before it. The bytes that end the line, byte 10 and a byte 13
+/// before it, are written after them. It allocates nothing.
 ///
 /// ```
 /// cedar.build(&[("he", 1), ("hero", 2)])?;
@@ -23,14 +23,14 @@ use std::io::Write;
 /// ```
 ///
 /// # Errors
-/// `Write` where the writer failed. Then a beginning of the line is written, and not all.
+/// `Write` if the writer failed. Then a beginning of the line is written, and not all.
 pub fn write_cut<L: Layout, const SLOTS: usize, A: Allocator + Copy, W: Write>(
     writer: &mut Watched<W>,
     trie: &Trie<L, SLOTS, A>,
     line: &[u8],
     sign: &[u8],
 ) -> Result<(), ListError>
-    //= A cut that is `Ok` wrote the tokens of the line, with a sign between them, and the bytes that end it.
+    //= A cut that returns `Ok` wrote the tokens of the line, with a sign between them, and the bytes that end it.
     ensures ok { OnOk result (Writes W.contents writer.old writer.new (greedy_line trie.now.state.tree sign.now line.now)) }
 
     //= One that fails wrote a beginning of that, and not all; a call of the writer failed. [with faults]
@@ -140,8 +140,8 @@ fn write_token<W: Write>(
     }
 }
 
-/// Writes a line as [`write_cut`] does, by its cheapest cut: a key costs its number, and a character that no key has this much. It asks for
-/// memory for the tokens.
+/// Writes a line as [`write_cut`] does, by its cheapest cut: a key costs its number, and a character that no key has this much. It
+/// allocates memory for the tokens.
 ///
 /// ```
 /// cedar.build(&[("he", 1), ("hero", 2), ("ro", 0)])?;
@@ -151,7 +151,7 @@ fn write_token<W: Write>(
 /// ```
 ///
 /// # Errors
-/// `Write` where the writer failed, `Memory` where a request was refused.
+/// `Write` if the writer failed, `Memory` if an allocation was refused.
 pub fn write_cheapest_cut<L: Layout, const SLOTS: usize, A: Allocator + Copy, W: Write>(
     alloc: A,
     writer: &mut Watched<W>,
@@ -160,15 +160,15 @@ pub fn write_cheapest_cut<L: Layout, const SLOTS: usize, A: Allocator + Copy, W:
     unknown: u32,
     sign: &[u8],
 ) -> Result<(), ListError>
-    //= A cut by cost that is `Ok` wrote the tokens of a cheapest cut of the line, with a sign between them, and the bytes that end it. Of a
-    //  line of fewer than 2^32 bytes there is only one such cut. [by IsCheapestCut]
+    //= A cut by cost that returns `Ok` wrote the tokens of a cheapest cut of the line, with a sign between them, and the bytes that end it.
+    //  Of a line of fewer than 2^32 bytes there is only one such cut. [by IsCheapestCut]
     ensures ok { OnOk result (OnCheapestLine trie.now.state.tree unknown sign.now line.now (Writes W.contents writer.old writer.new)) }
 
     //= One that fails with `Write` wrote a beginning of that, and not all; with `Memory` it wrote nothing. [with memory]
     ensures err { result ≡ Err ListError.Write → OnCheapestLine trie.now.state.tree unknown sign.now line.now (BreaksOff W.contents writer.old writer.new) }
     ensures memory { result ≡ Err ListError.Memory → writer.new ≡ writer.old }
 
-    //= It fails with `Write` only where a call of the writer failed; with `Memory`, and where it is `Ok`, none did.
+    //= It fails with `Write` only if a call of the writer failed. With `Memory`, and if it returns `Ok`, none did.
     ensures faults { LinesOrFails (has_failed writer.old) (has_failed writer.new) result }
 {
     let Ok(tokens) = cheapest_by_characters(alloc, trie, body(line), unknown) else {
@@ -193,7 +193,7 @@ fn write_parted<W: Write>(
     write_whole(writer, part(text, token.0, token.1))
 }
 
-/// What stands before a token: the sign, or nothing.
+/// What comes before a token: the sign, or nothing.
 fn parting<'a>(text: &[u8], sign: &'a [u8], token: (usize, usize, Option<i32>)) -> &'a [u8]
     ensures { result.now ≡ parting sign.now text.now token }
 {
@@ -204,7 +204,7 @@ fn parting<'a>(text: &[u8], sign: &'a [u8], token: (usize, usize, Option<i32>)) 
     }
 }
 
-/// Whether a sign stands before a token.
+/// Whether a sign comes before a token.
 fn is_parted(text: &[u8], token: (usize, usize, Option<i32>)) -> bool
     ensures { result ≡ is_parted text.now token }
 {

@@ -28,7 +28,7 @@ impl<'a, T: Walked> NextFront for PrefixIter<'a, T> {
     }
 }
 
-/// Writes the line of each word that a text begins with, the shortest first, and returns whether there is one. It takes no memory.
+/// Writes the line of each word that a text begins with, the shortest first, and returns whether there is one. It allocates nothing.
 ///
 /// ```
 /// cedar.build(&[("ne", 1), ("net", 7), ("ten", 2)])?;
@@ -38,16 +38,16 @@ impl<'a, T: Walked> NextFront for PrefixIter<'a, T> {
 /// ```
 ///
 /// # Errors
-/// `Write` where the writer failed. Then a beginning of the lines is written, and not all.
+/// `Write` if the writer failed. Then a beginning of the lines is written, and not all.
 pub fn write_fronts<L: Layout, const SLOTS: usize, A: Allocator + Copy, W: Write>(
     writer: &mut Watched<W>,
     trie: &Trie<L, SLOTS, A>,
     text: &[u8],
 ) -> Result<bool, ListError>
-    //= A list of the words that a text begins with, where it is `Ok`, wrote the line of each, the shortest first, and nothing else.
+    //= A list of the words that a text begins with, if it returns `Ok`, wrote the line of each, the shortest first, and nothing else.
     ensures ok { OnOk result (Writes W.contents writer.old writer.new (entry_lines (fronts_of trie.now.state.tree text.now))) }
 
-    //= It tells whether there is one.
+    //= It returns whether there is one.
     ensures any { IfOk result (λ any. any ≡ ltb 0 (length (fronts_of trie.now.state.tree text.now))) }
 
     //= One that fails wrote a beginning of these lines, and not all; a call of the writer failed. [with faults]

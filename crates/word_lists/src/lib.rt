@@ -1,7 +1,7 @@
 //! Lists of words: what a dictionary of words holds, written as lines that a person reads.
 //!
-//! A line is a word, a tab, its number and byte 10. A word's byte stands as it is, but for byte 9, byte 10 and the backslash, which stand as
-//! `\x` and two hexadecimal digits in lower case; so does each byte from 128 on of a word that isn't UTF-8.
+//! A line is a word, a tab, its number and byte 10. A word's byte is written as it is, except byte 9, byte 10 and the backslash, which are
+//! written as `\x` and two hexadecimal digits in lower case; so is each byte from 128 on of a word that isn't UTF-8.
 #![tactic(auto)]
 
 mod cut;

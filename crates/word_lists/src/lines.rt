@@ -1,7 +1,7 @@
 //! The lines of a word list, stored in a dictionary.
 
 ghost use Rattle.std.specs.Prelude.{◌<◌, ◌∷◌, ◌≡◌, ◌≤◌, [], Err, IfErr, IfOk, IfSome, is_some, length, List, ltb, None, OnErr, OnOk, Option, option_map};
-ghost use Rattle.word_lists.specs.Words.{absent_of, Adds, before_first, ErasesFirstLines, fault, figures_number, figures_of, is_tab, line_absent, line_erased, line_refusal, line_stored, line_told, lines_absent, lines_erased, lines_in, lines_stored, lines_told, Memory, number_at, number_with, OnKnown, own_line_number, position, stored_by, StoresFirstLines, TakesNext, Told, told_by, told_one, want_of};
+ghost use Rattle.word_lists.specs.Words.{absent_of, Adds, before_first, ErasesFirstLines, fault, figures_number, figures_of, is_tab, line_absent, line_erased, line_refusal, line_stored, line_told, lines_absent, lines_erased, lines_in, lines_stored, list_told, Memory, number_at, number_with, OnKnown, own_line_number, position, stored_by, StoresFirstLines, TakesNext, Told, told_by, told_one, want_of};
 
 use crate::parts::body;
 use crate::read::read_word;
@@ -29,7 +29,7 @@ pub enum LineFault {
 pub enum StoreError {
     /// The reader failed.
     Read(io::Error),
-    /// A request for memory was refused.
+    /// An allocation was refused.
     Memory,
     /// No slot is left in the dictionary.
     SlotLimit,
@@ -43,9 +43,9 @@ impl From<AllocError> for StoreError {
     }
 }
 
-/// What is told of lines that are no entries of their own.
+/// What is reported of lines that are no entries of their own.
 pub trait LineFaults {
-    /// What it was told, line after line, if that is known: the number of each line, its bytes and its fault.
+    /// What it heard, line after line, if that is known: the number of each line, its bytes and its fault.
     ghost told: { Self → Option (List Told) } = { λ _. None };
 
     /// Hears of a line: its number, counted from 1, its bytes without those that end it, and what is wrong with it.
@@ -58,27 +58,26 @@ pub trait LineFaults {
 /// word.
 ///
 /// # Errors
-/// `Read` where the reader failed, `Memory` where a request was refused, `SlotLimit` where no slot is left. Then the lines before are
-/// stored.
+/// `Read` if the reader failed, `Memory` if an allocation was refused, `SlotLimit` if no slot is left. Then the lines before are stored.
 pub fn store_lines<L: Layout, const SLOTS: usize, A: Allocator + Copy, R: BufRead, F: LineFaults>(
     alloc: A,
     trie: &mut Trie<L, SLOTS, A>,
     reader: &mut R,
     faults: &mut F,
 ) -> Result<(), StoreError>
-    //= A list that is stored `Ok` stored each line of what the reader had left, in order: its word, as its text before the first tab reads,
-    //  has the number in figures behind the tab, or else the line's own; where that is known, and is fewer than 2^63 bytes. Empty lines and
-    //  those that have a fault store nothing. [by lines_stored, line_stored, lines_in]
+    //= A list that is stored with `Ok` stored each line of what the reader had left, in order, if that is known and is fewer than 2^63
+    //  bytes: its word, as its text before the first tab reads, has the number in figures after the tab, or otherwise the line's own. Empty
+    //  lines and those that have a fault store nothing. [by lines_stored, line_stored, lines_in]
     ensures ok { OnOk result (OnKnown (R.remaining reader.old) (λ input. trie.new.state ≡ lines_stored trie.old.state 1 (lines_in input))) }
 
-    //= It told of just the lines that are no entries of their own, each once and in order, and of each why: no number, a fault of word or
-    //  number, or a word that was held. [by lines_told, line_told]
-    ensures told { OnOk result (OnKnown (R.remaining reader.old) (λ input. Adds (F.told faults.old) (F.told faults.new) (lines_told trie.old.state 1 (lines_in input)))) }
+    //= It reported exactly the lines that are no entries of their own, each once and in order, and each with the reason: no number, a fault
+    //  of word or number, or a word that was held. [by lines_told, line_told]
+    ensures told { OnOk result (OnKnown (R.remaining reader.old) (λ input. Adds (F.told faults.old) (F.told faults.new) (list_told trie.old.state input))) }
 
-    //= One that fails stored and told of the first lines, and of no other.
+    //= One that fails stored and reported the first lines, and no other.
     ensures err { OnErr result (StoresFirstLines (R.remaining reader.old) trie.old.state trie.new.state (F.told faults.old) (F.told faults.new)) }
 
-    //= It fails with `SlotLimit` only where all slots that there may be are in use.
+    //= It fails with `SlotLimit` only if all slots that there may be are in use.
     ensures limit { result ≡ Err StoreError.SlotLimit → trie.new.size ≡ SLOTS }
 {
     let mut line = Vec::new(alloc);
@@ -93,7 +92,7 @@ pub fn store_lines<L: Layout, const SLOTS: usize, A: Allocator + Copy, R: BufRea
     Ok(())
 }
 
-/// Reads the next line, with the byte 10 that ends it, in place of what the buffer held. False where there is none.
+/// Reads the next line, with the byte 10 that ends it, into the buffer instead of what that held. Returns false if there is none.
 fn next_line<A: Allocator, R: BufRead>(
     reader: &mut R,
     line: &mut Vec<u8, A>,
@@ -125,7 +124,7 @@ fn read_error(error: io::Error) -> StoreError
     }
 }
 
-/// Stores a line, which has this number, and tells of it if it is no entry of its own.
+/// Stores a line, which has this number, and reports it if it is no entry of its own.
 fn pass_line<L: Layout, const SLOTS: usize, A: Allocator + Copy, F: LineFaults>(
     trie: &mut Trie<L, SLOTS, A>,
     line: &[u8],
@@ -180,13 +179,13 @@ fn store_word<L: Layout, const SLOTS: usize, A: Allocator + Copy>(
     ensures limit { result ≡ Err StoreError.SlotLimit → trie.new.size ≡ SLOTS }
 {
     match trie.insert_bytes(word, value) {
-        Ok(held) => Ok(repeated(held)),
+        Ok(held) => Ok(repeat_fault(held)),
         Err(error) => refusal(error),
     }
 }
 
-/// What is told of a word that held a number before, or none.
-fn repeated(held: Option<i32>) -> Option<LineFault>
+/// What is reported of a word that held a number before, or none.
+fn repeat_fault(held: Option<i32>) -> Option<LineFault>
     ensures { result ≡ told_by None (is_some held) }
 {
     match held {
@@ -207,7 +206,7 @@ fn refusal(error: CedarError) -> Result<Option<LineFault>, StoreError>
     }
 }
 
-/// What a refused update says of the dictionary, where its key and its value have no fault.
+/// What a refused update says of the dictionary, if its key and its value have no fault.
 pub(crate) fn store_error(error: CedarError) -> StoreError
     ensures { result ≡ want_of error }
 {
@@ -222,20 +221,20 @@ pub(crate) fn store_error(error: CedarError) -> StoreError
 /// held.
 ///
 /// # Errors
-/// `Read` where the reader failed, `Memory` where a request was refused. Then the words of the lines before are taken out.
+/// `Read` if the reader failed, `Memory` if an allocation was refused. Then the words of the lines before are taken out.
 pub fn erase_lines<L: Layout, const SLOTS: usize, A: Allocator + Copy, R: BufRead>(
     alloc: A,
     trie: &mut Trie<L, SLOTS, A>,
     reader: &mut R,
 ) -> Result<u64, StoreError>
-    //= Lines that are erased `Ok`: the word of each line of what the reader had left is taken out, and no other, where that
-    //  is known and is fewer than 2^63 bytes. [by lines_erased, line_erased]
+    //= An erasure of lines that returns `Ok` removed the word of each line of what the reader had left, and no other, if that is known and
+    //  is fewer than 2^63 bytes. [by lines_erased, line_erased]
     ensures ok { OnOk result (OnKnown (R.remaining reader.old) (λ input. trie.new.state ≡ lines_erased trie.old.state (lines_in input))) }
 
-    //= The answer is how many lines have a word that wasn't held once those of the lines before were taken out. [by lines_absent]
+    //= It returns how many lines have a word that wasn't held once those of the lines before were removed. [by lines_absent]
     ensures absent { IfOk result (λ absent. OnKnown (R.remaining reader.old) (λ input. absent ≡ lines_absent trie.old.state (lines_in input))) }
 
-    //= Where it fails, the words of the first lines are taken out, and no other; it never fails with `SlotLimit`. [with no_slots]
+    //= If it fails, the words of the first lines are removed, and no other. It never fails with `SlotLimit`. [with no_slots]
     ensures err { OnErr result (ErasesFirstLines (R.remaining reader.old) trie.old.state trie.new.state) }
     ensures no_slots { IfErr result (λ e. e ≡ StoreError.SlotLimit → ⊥) }
 {
@@ -253,7 +252,7 @@ pub fn erase_lines<L: Layout, const SLOTS: usize, A: Allocator + Copy, R: BufRea
     Ok(absent)
 }
 
-/// Takes the word of a line out of a dictionary, and answers how many words weren't held: none or one. An empty line has none.
+/// Takes the word of a line out of a dictionary, and returns how many words weren't held: none or one. An empty line has none.
 fn erase_line<L: Layout, const SLOTS: usize, A: Allocator + Copy>(
     trie: &mut Trie<L, SLOTS, A>,
     line: &[u8],
@@ -271,7 +270,7 @@ fn erase_line<L: Layout, const SLOTS: usize, A: Allocator + Copy>(
     Ok(absent_of(trie.erase_bytes(word)))
 }
 
-/// How many words weren't held, where it is known whether one was.
+/// How many words weren't held, if it is known whether one was.
 fn absent_of(held: bool) -> u64
     ensures absent { result ≡ absent_of held }
     ensures one { result ≤ 1 }
@@ -279,7 +278,7 @@ fn absent_of(held: bool) -> u64
     if held { 0 } else { 1 }
 }
 
-/// What stands before the first tab of a line, and what behind it; the whole line, and None, where there is none.
+/// What is before the first tab of a line, and what is after it; the whole line, and None, if there is none.
 pub(crate) fn split_line(line: &[u8]) -> (&[u8], Option<&[u8]>)
     ensures word { result.0.now ≡ before_first is_tab line.now }
     ensures figures { option_map (λ text. text.now) result.1 ≡ figures_of line.now }

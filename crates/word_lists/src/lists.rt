@@ -1,4 +1,4 @@
-//! The lines of a dictionary's entries. They take no memory but the walk's own.
+//! The lines of a dictionary's entries. They allocate nothing but what the walk does.
 
 ghost use Rattle.std.specs.Prelude.{◌<◌, ◌∷◌, ◌≡◌, [], drop, IfErr, IfOk, length, MatchOption, min, OnErr, OnOk, take};
 ghost use Rattle.word_lists.specs.Words.{BreaksOff, entry_lines, has_failed, LinesOrFails, Writes};
@@ -12,19 +12,19 @@ use std::io::Write;
 /// Writes the line of each entry that a walk has left, in its order. What is taken of memory is one key's buffer at a time.
 ///
 /// # Errors
-/// `Write` where the writer failed, `Memory` where a request for a key's buffer was refused. Then a beginning of the lines is written, and
+/// `Write` if the writer failed, `Memory` if the allocation of a key's buffer was refused. Then a beginning of the lines is written, and
 /// not all.
 pub fn write_entries<T: Walked, A: Allocator + Copy, W: Write>(
     writer: &mut Watched<W>,
     mut entries: RangeEntries<'_, T, A>,
 ) -> Result<(), ListError>
-    //= A list of entries that is `Ok` wrote the line of each entry of the walk, in its order, and nothing else.
+    //= A list of entries that returns `Ok` wrote the line of each entry of the iteration, in its order, and nothing else.
     ensures ok { OnOk result (Writes W.contents writer.old writer.new (entry_lines entries.entry)) }
 
     //= One that fails wrote a beginning of these lines, and not all.
     ensures err { OnErr result (BreaksOff W.contents writer.old writer.new (entry_lines entries.entry)) }
 
-    //= It fails with `Write` only where a call of the writer failed; with `Memory`, and where it is `Ok`, none did.
+    //= It fails with `Write` only if a call of the writer failed. With `Memory`, and if it returns `Ok`, none did.
     ensures faults { LinesOrFails (has_failed writer.old) (has_failed writer.new) result }
 {
     while let Some(entry) = entries.next() {
@@ -36,8 +36,8 @@ pub fn write_entries<T: Walked, A: Allocator + Copy, W: Write>(
     Ok(())
 }
 
-/// Writes the lines of the next entries of a walk, so many at most, and returns how many it wrote. Each key is written into a buffer, in
-/// place of what that held: memory is asked for only where the buffer is too short.
+/// Writes the lines of the next entries of an iteration, so many at most, and returns how many it wrote. Each key is written into a buffer,
+/// instead of what that held: memory is allocated only if the buffer is too short.
 ///
 /// ```
 /// cedar.build(&[("net", 7), ("ten", 2)])?;
@@ -55,18 +55,18 @@ pub fn write_next_entries<T: Walked, A: Allocator + Copy, B: Allocator, W: Write
     most: u64,
     key: &mut Vec<u8, B>,
 ) -> Result<u64, ListError>
-    //= A list of the next entries that is `Ok` wrote the lines of the first entries of the walk, so many at most, in its order, and nothing
-    //  else; it tells how many these are. [with count]
+    //= A list of the next entries that returns `Ok` wrote the lines of the first entries of the iteration, so many at most, in its order,
+    //  and nothing else. It returns how many these are. [with count]
     ensures ok { OnOk result (Writes W.contents writer.old writer.new (entry_lines (take most entries.old))) }
     ensures count { IfOk result (λ count. count ≡ min most (length entries.old)) }
 
-    //= The walk goes on behind them.
+    //= The iteration goes on after them.
     ensures rest { OnOk result (entries.new ≡ drop most entries.old) }
 
     //= One that fails wrote a beginning of these lines, and not all.
     ensures err { OnErr result (BreaksOff W.contents writer.old writer.new (entry_lines (take most entries.old))) }
 
-    //= It fails with `Write` only where a call of the writer failed; with `Memory`, and where it is `Ok`, none did.
+    //= It fails with `Write` only if a call of the writer failed. With `Memory`, and if it returns `Ok`, none did.
     ensures faults { LinesOrFails (has_failed writer.old) (has_failed writer.new) result }
 {
     let mut left = most;

@@ -9,19 +9,19 @@ use cedarwood::{Layout, Trie, Watched};
 use std::alloc::Allocator;
 use std::io::Write;
 
-/// Writes the line of a word that the dictionary holds, and nothing for another one. Returns whether it is held. It takes no memory.
+/// Writes the line of a word that the dictionary holds, and nothing for another one. Returns whether it is held. It allocates nothing.
 ///
 /// # Errors
-/// `Write` where the writer failed. Then a beginning of the line is written, and not all.
+/// `Write` if the writer failed. Then a beginning of the line is written, and not all.
 pub fn write_number<L: Layout, const SLOTS: usize, A: Allocator + Copy, W: Write>(
     writer: &mut Watched<W>,
     trie: &Trie<L, SLOTS, A>,
     word: &[u8],
 ) -> Result<bool, ListError>
-    //= A look-up that is `Ok` wrote the line of a word that is held, and nothing for another one.
+    //= A look-up that returns `Ok` wrote the line of a word that is held, and nothing for another one.
     ensures ok { OnOk result (Writes W.contents writer.old writer.new (found_line word.now (number_at trie.now.state.tree word.now))) }
 
-    //= It tells whether the word is held.
+    //= It returns whether the word is held.
     ensures held { IfOk result (λ held. held ≡ is_some (number_at trie.now.state.tree word.now)) }
 
     //= One that fails wrote a beginning of that line, and not all; a call of the writer failed. [with faults]

@@ -11,8 +11,8 @@ use cedarwood::{Layout, Trie, Watched};
 use std::alloc::Allocator;
 use std::io::Write;
 
-/// Writes a line in which keywords stand, each of them in the colour of a match, as `grep` marks one; of a line without one it writes
-/// nothing. The keywords are those of [`crate::write_keywords`]. Returns whether there is one. It takes no memory.
+/// Writes a line in which keywords occur, each of them in the colour of a match, as `grep` marks one. Of a line without one it writes
+/// nothing. The keywords are those of [`crate::write_keywords`]. Returns whether there is one. It allocates nothing.
 ///
 /// ```
 /// cedar.build(&[("he", 1), ("her", 2), ("ero", 3)])?;
@@ -22,17 +22,17 @@ use std::io::Write;
 /// ```
 ///
 /// # Errors
-/// `Write` where the writer failed. Then a beginning of the line is written, and not all.
+/// `Write` if the writer failed. Then a beginning of the line is written, and not all.
 pub fn write_marked<L: Layout, const SLOTS: usize, A: Allocator + Copy, W: Write>(
     writer: &mut Watched<W>,
     trie: &Trie<L, SLOTS, A>,
     line: &[u8],
 ) -> Result<bool, ListError>
-    //= A line with marks, where it is `Ok`, was written whole, each keyword between the signs of a colour, if it has one, and else not at
-    //  all. [by marked_line]
+    //= A line with marks, if the call returns `Ok`, was written whole, each keyword between the signs of a colour, if it has one, and
+    //  otherwise not at all. [by marked_line]
     ensures ok { OnOk result (Writes W.contents writer.old writer.new (marked_line trie.now.state.tree line.now)) }
 
-    //= It tells whether there is a keyword.
+    //= It returns whether there is a keyword.
     ensures any { IfOk result (λ any. any ≡ ltb 0 (length (keywords_in trie.now.state.tree (body_of line.now)))) }
 
     //= One that fails wrote a beginning of that, and not all; a call of the writer failed. [with faults]
@@ -46,7 +46,7 @@ pub fn write_marked<L: Layout, const SLOTS: usize, A: Allocator + Copy, W: Write
     Ok(true)
 }
 
-/// Whether a keyword stands in a text.
+/// Whether a text has a keyword.
 fn has_keyword<L: Layout, const SLOTS: usize, A: Allocator + Copy>(
     trie: &Trie<L, SLOTS, A>,
     text: &[u8],
@@ -87,8 +87,8 @@ fn write_mark<W: Write>(writer: &mut Watched<W>, word: &[u8]) -> Result<(), List
     write_whole(writer, b"\x1b[m\x1b[K")
 }
 
-/// Writes a line with each of its keywords replaced by the line of a list that has its number, counted from 1; one whose number has no
-/// line stays as it is, and so does the text between them. The keywords are those of [`crate::write_keywords`]. It takes no memory.
+/// Writes a line with each of its keywords replaced by the line of a list that has its number, counted from 1; one whose number has no line
+/// stays as it is, and so does the text between them. The keywords are those of [`crate::write_keywords`]. It allocates nothing.
 ///
 /// ```
 /// cedar.build(&[("he", 1), ("hero", 2), ("ro", 3)])?;
@@ -98,15 +98,15 @@ fn write_mark<W: Write>(writer: &mut Watched<W>, word: &[u8]) -> Result<(), List
 /// ```
 ///
 /// # Errors
-/// `Write` where the writer failed. Then a beginning of the line is written, and not all.
+/// `Write` if the writer failed. Then a beginning of the line is written, and not all.
 pub fn write_replaced<L: Layout, const SLOTS: usize, A: Allocator + Copy, W: Write>(
     writer: &mut Watched<W>,
     trie: &Trie<L, SLOTS, A>,
     line: &[u8],
     lines: &[&[u8]],
 ) -> Result<(), ListError>
-    //= A line with its keywords replaced, where it is `Ok`, was written with the list's line of each keyword's number in its place, and
-    //  the rest as it is. [by replaced_line, replacement]
+    //= A line with its keywords replaced, if the call returns `Ok`, was written with the list's line of each keyword's number instead of
+    //  the keyword, and the rest as it is. [by replaced_line, replacement]
     ensures ok { OnOk result (Writes W.contents writer.old writer.new (replaced_line trie.now.state.tree lines.now line.now)) }
 
     //= One that fails wrote a beginning of that, and not all; a call of the writer failed. [with faults]
@@ -149,7 +149,7 @@ fn replacement<'a>(lines: &[&'a [u8]], number: i32, own: &'a [u8]) -> &'a [u8]
     line_at(lines, number as usize - 1, own)
 }
 
-/// The line at a place of a list, or else the word itself.
+/// The line at a place of a list, or otherwise the word itself.
 fn line_at<'a>(lines: &[&'a [u8]], place: usize, own: &'a [u8]) -> &'a [u8]
     ensures { result.now ≡ line_at lines.now place own.now }
 {

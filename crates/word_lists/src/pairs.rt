@@ -11,8 +11,8 @@ use cedarwood::{Layout, RangeEntries, Trie, Walked, Watched};
 use std::alloc::Allocator;
 use std::io::Write;
 
-/// Stores the entries that a walk has left in a dictionary, one after another. Each key is written into a buffer, in place of what that
-/// held.
+/// Stores the entries that an iteration has left in a dictionary, one after another. Each key is written into a buffer, instead of what
+/// that held.
 ///
 /// ```
 /// let mut more = Cedar::new(rt.alloc())?;
@@ -24,7 +24,7 @@ use std::io::Write;
 /// ```
 ///
 /// # Errors
-/// `Memory` where a request was refused, `SlotLimit` where no slot is left. Then the entries before are stored.
+/// `Memory` if an allocation was refused, `SlotLimit` if no slot is left. Then the entries before are stored.
 pub fn store_entries<
     L: Layout,
     const SLOTS: usize,
@@ -37,14 +37,14 @@ pub fn store_entries<
     mut entries: RangeEntries<'_, T, B>,
     key: &mut Vec<u8, C>,
 ) -> Result<(), StoreError>
-    //= Entries that are stored `Ok` are all stored, one after another, and nothing else.
+    //= Entries that are stored with `Ok` are all stored, one after another, and nothing else.
     ensures ok { OnOk result (trie.new.state ≡ all_stored trie.old.state entries.entry) }
 
-    //= Where that fails, for memory or slots, the first entries are stored, and not all. [with want]
+    //= If that fails, for lack of memory or slots, the first entries are stored, and not all. [with want]
     ensures err { OnErr result (StoresFirst trie.old.state trie.new.state entries.entry) }
     ensures want { IfErr result IsWant }
 
-    //= It fails with `SlotLimit` only where all slots that there may be are in use; `max_trial` stays. [with max_trial]
+    //= It fails with `SlotLimit` only if all slots that there may be are in use. `max_trial` doesn't change. [with max_trial]
     ensures limit { result ≡ Err StoreError.SlotLimit → trie.new.size ≡ SLOTS }
     ensures max_trial { trie.new.max_trial ≡ trie.old.max_trial }
 {
@@ -86,8 +86,8 @@ fn next_stored<T: Walked, B: Allocator + Copy, C: Allocator>(
     }
 }
 
-/// Writes the line of each entry that a walk has left and another dictionary doesn't hold with the same number, behind a sign. Returns
-/// whether there is one. Each key is written into a buffer, in place of what that held.
+/// Writes the line of each entry that an iteration has left and another dictionary doesn't hold with the same number, after a sign. Returns
+/// whether there is one. Each key is written into a buffer, instead of what that held.
 ///
 /// ```
 /// let mut more = Cedar::new(rt.alloc())?;
@@ -100,7 +100,7 @@ fn next_stored<T: Walked, B: Allocator + Copy, C: Allocator>(
 /// ```
 ///
 /// # Errors
-/// `Write` where the writer failed, `Memory` where a request for a key was refused.
+/// `Write` if the writer failed, `Memory` if the allocation of a key was refused.
 pub fn write_lacking<
     L: Layout,
     const SLOTS: usize,
@@ -116,18 +116,19 @@ pub fn write_lacking<
     other: &Trie<L, SLOTS, A>,
     key: &mut Vec<u8, C>,
 ) -> Result<bool, ListError>
-    //= A list of the entries that another dictionary lacks, where it is `Ok`, wrote the line of each entry of the walk that the other one
-    //  doesn't hold with the same number, behind the sign and in the walk's order, and nothing else. [by lacking, signed_lines]
+    //= A list of the entries that another dictionary lacks, if it returns `Ok`, wrote the line of each entry of the iteration that the
+    //  other one doesn't hold with the same number, after the sign and in the iteration's order, and nothing else. [by lacking,
+    //  signed_lines]
     ensures ok { OnOk result (Writes W.contents writer.old writer.new (signed_lines sign.now (lacking other.now.state.tree entries.entry))) }
 
-    //= It tells whether there is one.
+    //= It returns whether there is one.
     ensures any { IfOk result (λ any. any ≡ ltb 0 (length (lacking other.now.state.tree entries.entry))) }
 
-    //= One that fails wrote a beginning of these lines, and not all where the writer failed. [with broken]
+    //= One that fails wrote a beginning of these lines, and not all if the writer failed. [with broken]
     ensures err { OnErr result (WritesUpTo W.contents writer.old writer.new (signed_lines sign.now (lacking other.now.state.tree entries.entry))) }
     ensures broken { result ≡ Err ListError.Write → BreaksOff W.contents writer.old writer.new (signed_lines sign.now (lacking other.now.state.tree entries.entry)) }
 
-    //= It fails with `Write` only where a call of the writer failed; with `Memory`, and where it is `Ok`, none did.
+    //= It fails with `Write` only if a call of the writer failed. With `Memory`, and if it returns `Ok`, none did.
     ensures faults { LinesOrFails (has_failed writer.old) (has_failed writer.new) result }
 {
     let mut any = false;
@@ -137,7 +138,7 @@ pub fn write_lacking<
     Ok(any)
 }
 
-/// Writes the line of an entry that a dictionary doesn't hold with the same number, behind a sign. Returns whether it wrote it.
+/// Writes the line of an entry that a dictionary doesn't hold with the same number, after a sign. Returns whether it wrote it.
 fn write_unless_held<L: Layout, const SLOTS: usize, A: Allocator + Copy, W: Write>(
     writer: &mut Watched<W>,
     sign: &[u8],
@@ -171,7 +172,7 @@ fn holds<L: Layout, const SLOTS: usize, A: Allocator + Copy>(
     }
 }
 
-/// Writes the line of an entry behind a sign.
+/// Writes the line of an entry after a sign.
 fn write_signed<W: Write>(
     writer: &mut Watched<W>,
     sign: &[u8],

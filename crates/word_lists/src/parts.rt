@@ -70,7 +70,7 @@ pub(crate) fn goes_on(byte: u8) -> bool
     128 <= byte && byte < 192
 }
 
-/// How many characters begin before a place, where it is known how many begin before another one. From that on they are counted.
+/// How many characters begin before a place, if it is known how many begin before another one. From that on they are counted.
 pub(crate) fn characters_before(text: &[u8], known: (usize, usize), place: usize) -> usize
     requires { known.1 ≡ characters (take known.0 text.now) }
     ensures all { result ≡ characters (take place text.now) }
@@ -102,7 +102,7 @@ pub(crate) fn characters_begun(byte: u8) -> usize
     if goes_on(byte) { 0 } else { 1 }
 }
 
-/// The byte at a place, or 0 behind the end.
+/// The byte at a place, or 0 after the end.
 pub(crate) fn byte_at(text: &[u8], place: usize) -> u8
     ensures { result ≡ get_or text.now place 0 }
 {
@@ -117,7 +117,7 @@ pub(crate) fn byte_at(text: &[u8], place: usize) -> u8
 /// ```
 ///
 /// # Errors
-/// Where a request for memory was refused.
+/// If an allocation was refused.
 pub fn list_lines<'a, A: Allocator>(
     alloc: A,
     text: &'a [u8],

@@ -5,8 +5,8 @@ ghost use Rattle.word_lists.specs.Words.{decode_sized, first_read, named_of, rea
 
 use std::alloc::{AllocError, Allocator};
 
-/// Reads a word from a text into a buffer, in place of what that held: `\x` and two hexadecimal digits of either case are the byte that
-/// they name, and every other byte stands for itself. After a refused request the buffer may hold anything.
+/// Reads a word from a text into a buffer, instead of what that held: `\x` and two hexadecimal digits of either case are the byte that they
+/// name, and every other byte stands for itself. After a refused allocation the buffer may hold anything.
 ///
 /// ```
 /// let mut word = Vec::new(rt.alloc());
@@ -15,7 +15,7 @@ use std::alloc::{AllocError, Allocator};
 /// ```
 ///
 /// # Errors
-/// Where a request for memory was refused.
+/// If an allocation was refused.
 pub fn read_word<A: Allocator>(text: &[u8], word: &mut Vec<u8, A>) -> Result<(), AllocError>
     //= A word is read as the bytes that its text stands for.
     ensures { IfOk result (λ _. word.new.items ≡ read_as text.now) }
@@ -43,7 +43,7 @@ fn first_byte(text: &[u8]) -> (u8, usize)
     }
 }
 
-/// The byte that two digits name behind `\x`, and the four bytes that name it; or the backslash alone, where they are no digits.
+/// The byte that two digits name after `\x`, and the four bytes that name it; or the backslash alone, if they are no digits.
 fn named_byte(high: u8, low: u8) -> (u8, usize)
     ensures named { result ≡ named_of (decode_sized (high ∷ low ∷ []) 1) }
     ensures some { 0 < result.1 }

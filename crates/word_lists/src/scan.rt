@@ -1,7 +1,7 @@
-//! The words that stand in a text, a line each.
+//! The words that occur in a text, a line each.
 
 ghost use Rattle.std.specs.Prelude.{◌++◌, ◌+◌, ◌∷◌, ◌≡◌, ◌≤◌, [], IfOk, length, List, ltb, MatchOption, OnErr, OnOk, take};
-ghost use Rattle.word_lists.specs.Words.{body_of, BreaksOff, characters, entry_line, has_failed, keywords_in, Spot, spot_line, spot_lines, spots_from, tab_field, word_text, Writes, WritesOrFails};
+ghost use Rattle.word_lists.specs.Words.{body_of, BreaksOff, characters, entry_line, has_failed, keyword_lines, keywords_in, match_lines, Spot, spot_line, spot_lines, spots_from, tab_field, word_text, Writes, WritesOrFails};
 
 use crate::parts::{body, characters_before, part};
 use crate::word::{ROOM, finds_room, put_entry, put_field, write_entry};
@@ -38,9 +38,9 @@ impl<'a, T: LongestPrefix> Spots for Keywords<'a, T> {
     }
 }
 
-/// Writes a line for each word that stands in a line of a text: the line's number, the column, the word and its number, with tabs between
-/// them. A column counts characters from 1: bytes that don't go on with a character of UTF-8. Words may overlap. Returns whether there is
-/// one. It takes no memory.
+/// Writes a line for each word that occurs in a line of a text: the line's number, the column, the word and its number, with tabs between
+/// them. A column counts characters from 1: bytes that don't continue a character of UTF-8. Words may overlap. Returns whether there is
+/// one. It allocates nothing.
 ///
 /// ```
 /// cedar.build(&[("he", 1), ("her", 2), ("ero", 3)])?;
@@ -50,30 +50,30 @@ impl<'a, T: LongestPrefix> Spots for Keywords<'a, T> {
 /// ```
 ///
 /// # Errors
-/// `Write` where the writer failed. Then a beginning of the lines is written, and not all.
+/// `Write` if the writer failed. Then a beginning of the lines is written, and not all.
 pub fn write_matches<L: Layout, const SLOTS: usize, A: Allocator + Copy, W: Write>(
     writer: &mut Watched<W>,
     trie: &Trie<L, SLOTS, A>,
     line: &[u8],
     number: u64,
 ) -> Result<bool, ListError>
-    //= A scan that is `Ok` wrote a line for each key that stands in the text's line, place after place and at each the shortest first, and
-    //  nothing else.
-    ensures ok { OnOk result (Writes W.contents writer.old writer.new (spot_lines number (body_of line.now) (spots_from trie.now.state.tree 0 (body_of line.now)))) }
+    //= A scan that returns `Ok` wrote a line for each key that occurs in the text's line, place after place and at each the shortest first,
+    //  and nothing else.
+    ensures ok { OnOk result (Writes W.contents writer.old writer.new (match_lines trie.now.state.tree number line.now)) }
 
-    //= It tells whether there is one. [also write_keywords]
+    //= It returns whether there is one. [also write_keywords]
     ensures any { IfOk result (λ any. any ≡ ltb 0 (length (spots_from trie.now.state.tree 0 (body_of line.now)))) }
 
     //= One that fails wrote a beginning of these lines, and not all; a call of the writer failed. [with faults; also write_keywords]
-    ensures err { OnErr result (BreaksOff W.contents writer.old writer.new (spot_lines number (body_of line.now) (spots_from trie.now.state.tree 0 (body_of line.now)))) }
+    ensures err { OnErr result (BreaksOff W.contents writer.old writer.new (match_lines trie.now.state.tree number line.now)) }
     ensures faults { WritesOrFails ListError.Write (has_failed writer.old) (has_failed writer.new) result }
 {
     let text = body(line);
     write_spots(writer, text, number, &mut matches(trie, text))
 }
 
-/// Writes the lines of the words that don't overlap, as [`write_matches`] does: of those that begin first the longest, and so on behind
-/// its end.
+/// Writes the lines of the words that don't overlap, as [`write_matches`] does: of those that begin first the longest, and so on after its
+/// end.
 ///
 /// ```
 /// cedar.build(&[("he", 1), ("her", 2), ("ero", 3)])?;
@@ -90,10 +90,10 @@ pub fn write_keywords<L: Layout, const SLOTS: usize, A: Allocator + Copy, W: Wri
     line: &[u8],
     number: u64,
 ) -> Result<bool, ListError>
-    //= One of the longest words alone wrote a line for each keyword: of the keys that begin first the longest, and so on from its end.
-    ensures ok { OnOk result (Writes W.contents writer.old writer.new (spot_lines number (body_of line.now) (keywords_in trie.now.state.tree (body_of line.now)))) }
+    //= A scan for the longest words alone wrote a line for each keyword: of the keys that begin first the longest, and so on from its end.
+    ensures ok { OnOk result (Writes W.contents writer.old writer.new (keyword_lines trie.now.state.tree number line.now)) }
     ensures any { IfOk result (λ any. any ≡ ltb 0 (length (keywords_in trie.now.state.tree (body_of line.now)))) }
-    ensures err { OnErr result (BreaksOff W.contents writer.old writer.new (spot_lines number (body_of line.now) (keywords_in trie.now.state.tree (body_of line.now)))) }
+    ensures err { OnErr result (BreaksOff W.contents writer.old writer.new (keyword_lines trie.now.state.tree number line.now)) }
     ensures faults { WritesOrFails ListError.Write (has_failed writer.old) (has_failed writer.new) result }
 {
     let text = body(line);
@@ -148,7 +148,7 @@ fn write_spot<W: Write>(
     write_entry(writer, word, value)
 }
 
-/// Writes the line of a short word, whose bytes stand as they are, at once.
+/// Writes the line of a short word, whose bytes are written as they are, at once.
 fn write_short<W: Write>(
     writer: &mut Watched<W>,
     line: u64,

@@ -20,8 +20,8 @@ enum Shape {
     Drawn,
 }
 
-/// Writes the entries that a walk has left as a tree in text, a line each: the word, a tab and its number, where blanks stand in place of
-/// the characters that it shares with the word before it. Returns whether there is one. Memory holds two words.
+/// Writes the entries that an iteration has left as a tree in text, a line each: the word, a tab and its number, with blanks instead of the
+/// characters that it shares with the word before it. Returns whether there is one. Memory holds two words.
 ///
 /// ```
 /// cedar.build(&[("net", 7), ("network", 3), ("new", 4)])?;
@@ -31,7 +31,7 @@ enum Shape {
 /// ```
 ///
 /// # Errors
-/// `Write` where the writer failed, `Memory` where a request for a word was refused. Then a beginning of the lines is written, and not all.
+/// `Write` if the writer failed, `Memory` if the allocation of a word was refused. Then a beginning of the lines is written, and not all.
 pub fn write_tree<T: Walked, A: Allocator + Copy, B: Allocator + Copy, W: Write>(
     alloc: B,
     writer: &mut Watched<W>,
@@ -40,7 +40,7 @@ pub fn write_tree<T: Walked, A: Allocator + Copy, B: Allocator + Copy, W: Write>
     write_entries_as(alloc, writer, Shape::Indented, &mut entries)
 }
 
-/// Writes the entries that a walk has left as a drawing in the language of Graphviz: a node for each front of a word, by edges of a byte
+/// Writes the entries that a walk has left as a drawing in the language of Graphviz: a node for each prefix of a word, by edges of a byte
 /// each, and a number at the node of each word. Returns whether there is one. Memory holds two words.
 ///
 /// # Errors
@@ -77,7 +77,7 @@ fn write_entries_as<T: Walked, A: Allocator + Copy, B: Allocator + Copy, W: Writ
     Ok(any)
 }
 
-/// Writes what is shown of an entry behind another word.
+/// Writes what is shown of an entry after another word.
 fn write_shown<W: Write>(
     writer: &mut Watched<W>,
     shape: Shape,
@@ -138,7 +138,7 @@ fn write_blanks<W: Write>(
     Ok(())
 }
 
-/// How many columns a byte takes as it is written: none where it goes on with a character, and four of `\x` and two digits.
+/// How many columns a byte takes as it is written: none if it continues a character, and four of `\x` and two digits.
 fn columns_of(text: bool, byte: u8) -> usize {
     if is_plain(text, byte) {
         characters_begun(byte)
@@ -147,7 +147,7 @@ fn columns_of(text: bool, byte: u8) -> usize {
     }
 }
 
-/// Writes the nodes of an entry behind its first bytes, each with the edge to it, and its number.
+/// Writes the nodes of an entry after its first bytes, each with the edge to it, and its number.
 fn write_drawn<W: Write>(
     writer: &mut Watched<W>,
     key: &[u8],

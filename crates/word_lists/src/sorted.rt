@@ -9,8 +9,8 @@ use cedarwood::{CedarBuilder, CedarError, Layout, Trie, sorted_is_stored_in_turn
 use memchr::memchr;
 use std::alloc::{AllocError, Allocator};
 
-/// A dictionary of the lines of a list, made at once. None where the words don't ascend, a line has a fault, or a word has a backslash:
-/// such a list is one for [`crate::store_lines`]. Memory holds a pair for each line.
+/// A dictionary of the lines of a list, made at once. None if the words don't ascend, a line has a fault, or a word has a backslash: such a
+/// list is one for [`crate::store_lines`]. Memory holds a pair for each line.
 ///
 /// ```
 /// let made: Option<Cedar<_>> = sorted_list(rt.alloc(), b"net\t7\nten\n")?;
@@ -18,7 +18,7 @@ use std::alloc::{AllocError, Allocator};
 /// ```
 ///
 /// # Errors
-/// `Memory` where a request was refused.
+/// `Memory` if an allocation was refused.
 pub fn sorted_list<L: Layout, const SLOTS: usize, A: Allocator + Copy>(
     alloc: A,
     list: &[u8],
@@ -40,7 +40,7 @@ pub fn sorted_list<L: Layout, const SLOTS: usize, A: Allocator + Copy>(
     }
 }
 
-/// The pairs of a list, or None where a line has no number, or a word with a backslash. An empty line has no pair.
+/// The pairs of a list, or None if a line has no number, or a word with a backslash. An empty line has no pair.
 fn plain_pairs<'a, A: Allocator>(
     alloc: A,
     list: &'a [u8],
@@ -62,7 +62,7 @@ fn plain_pairs<'a, A: Allocator>(
     Ok(Some(pairs))
 }
 
-/// Adds the pair of a line, which has this number, unless it is empty. False where it has none.
+/// Adds the pair of a line, which has this number, unless it is empty. False if it has none.
 fn push_line<'a, A: Allocator>(
     pairs: &mut Vec<(&'a [u8], i32), A>,
     line: &'a [u8],
@@ -80,7 +80,7 @@ fn push_line<'a, A: Allocator>(
     Ok(true)
 }
 
-/// The word of a line that has this number, and its number; None where it has none, or a backslash.
+/// The word of a line that has this number, and its number; None if it has none, or a backslash.
 fn plain_pair(line: &[u8], number: u64) -> Option<(&[u8], i32)>
     requires { 0 < length line.now }
     ensures { IfSome result (λ pair. (s : State) → line_stored s number line.now ≡ stored_by (fault pair.0.now pair.1) s pair.0.now pair.1) }

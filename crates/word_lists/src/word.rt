@@ -1,7 +1,7 @@
-//! A word as a person reads it. It takes no memory.
+//! A word as a person reads it. It allocates nothing.
 //!
-//! A short word's line is put together before it is written, so that the writer is called once. Room is filled from its end: what is put
-//! stands before the bytes from a place on, and its own place is returned.
+//! A short word's line is put together before it is written, so that the writer is called once. Room is filled from its end: what is put is
+//! before the bytes from a place on, and its own place is returned.
 
 ghost use Rattle.std.specs.Prelude.{◌≡◌, ◌≤◌, ◌++◌, ◌+◌, ◌∷◌, ◌<◌, decimal, drop, IsTrue, length, OnErr, OnOk};
 ghost use Rattle.word_lists.specs.Words.{BreaksOff, byte_text, entry_line, escaped, has_failed, is_plain, is_utf8, signed_decimal, tab_field, word_text, Writes, WritesOrFails};
@@ -32,7 +32,7 @@ pub(crate) fn write_entry<W: Write>(
     write_line(writer, b"\t", figures.format(number).as_bytes())
 }
 
-/// Whether a word is short, and its bytes stand as they are: its line is then put together and written at once.
+/// Whether a word is short, and its bytes are written as they are: its line is then put together and written at once.
 pub(crate) fn finds_room(word: &[u8]) -> bool
     ensures plain { IsTrue result → word_text word.now ≡ word.now }
     ensures short { IsTrue result → length word.now ≤ 64 }
@@ -81,7 +81,7 @@ pub(crate) fn write_bytes<W: Write>(
     Ok(())
 }
 
-/// Whether all of some bytes stand as they are, as in most words: they are then written at once.
+/// Whether all of some bytes are written as they are, as in most words: they are then written at once.
 fn are_plain(text: bool, bytes: &[u8]) -> bool
     ensures { IsTrue result → escaped text bytes.now ≡ bytes.now }
 {
@@ -109,7 +109,7 @@ fn write_byte<W: Write>(writer: &mut Watched<W>, text: bool, byte: u8) -> Result
     write_whole(writer, &digits)
 }
 
-/// Whether a byte stands as it is.
+/// Whether a byte is written as it is.
 pub(crate) fn is_plain(text: bool, byte: u8) -> bool
     ensures { result ≡ is_plain text byte }
 {
@@ -122,7 +122,7 @@ pub(crate) const ROOM: usize = 128;
 /// How many bytes a word may have for its line to find room.
 pub(crate) const SHORT: usize = 64;
 
-/// Puts the line of a word, whose bytes stand as they are, and of its number at the end.
+/// Puts the line of a word, whose bytes are written as they are, and of its number at the end.
 pub(crate) fn put_entry(room: &mut [u8; ROOM], word: &[u8], number: i32) -> usize
     requires plain { word_text word.now ≡ word.now }
     requires short { length word.now ≤ 64 }

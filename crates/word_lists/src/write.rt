@@ -11,7 +11,7 @@ use std::io::Write;
 pub enum ListError {
     /// The writer failed.
     Write,
-    /// A request for memory was refused.
+    /// An allocation was refused.
     Memory,
 }
 

@@ -1,4 +1,4 @@
-//! A label added to a node, and one taken away.
+//! A label added to a node, and one removed.
 
 ghost use Rattle.std.specs.Prelude.{◌++◌, ◌<◌, ◌∷◌, ◌≡◌, ◌≢◌, [], List, MatchOption, None, pos, ℕ};
 ghost use Rattle.cedar_edit.specs.Words.{AddsLabel, AddsLeaf, base_of, below, cells, cells_besides, ComesBehind, EditsNode, fields, Forest, GoesBehind, HasChain, HasNode, Held, InRange, IsAt, IsNodeOf, IsTable, LeadsTo, Node, Removes, SameFrame, SeeksBehind, SeeksPlace, SetsChild, SetsSibling, size_of, without};
@@ -8,7 +8,7 @@ use cedar_slots::BLOCK_SIZE;
 use cedar_table::Table;
 use std::alloc::Allocator;
 
-/// The last slot of the chain from `start` on before `label` comes.
+/// Returns the last slot of the chain from `start` on before `label` comes.
 fn last_before<L: Layout, const SLOTS: usize, A: Allocator>(
     table: &Table<L, SLOTS, A>,
     node: usize,
@@ -29,8 +29,8 @@ fn last_before<L: Layout, const SLOTS: usize, A: Allocator>(
     unreachable!()
 }
 
-/// The slot that a new label goes behind, unless it begins the node's chain: the first slot of an ordered chain
-/// whose next label is greater, or else the slot before all labels.
+/// Returns the slot that a new label goes after, unless the label begins the node's chain: the first slot of an ordered chain
+/// whose next label is greater, or otherwise the slot before all labels.
 #[inline(always)]
 fn slot_before<L: Layout, const SLOTS: usize, A: Allocator>(
     table: &Table<L, SLOTS, A>,
@@ -53,8 +53,8 @@ fn slot_before<L: Layout, const SLOTS: usize, A: Allocator>(
 }
 
 /// Takes the slot of `label` below `node`, and returns it. The new leaf goes to its ascending place if the table
-/// is ordered, and before all others if not, behind the slot of the node's number. The node has a base, unless it is the root,
-/// and its slot for the label is free.
+/// is ordered. If not, it goes before all others, after the slot of the node's number. The node has a base, unless it is the
+/// root, and its slot for the label is free.
 pub(crate) fn add_label<L: Layout, const SLOTS: usize, A: Allocator>(
     table: &mut Table<L, SLOTS, A>,
     node: usize,
@@ -69,7 +69,7 @@ pub(crate) fn add_label<L: Layout, const SLOTS: usize, A: Allocator>(
     ensures sound { IsTable SLOTS (fields table.new).places }
     ensures slot { result ≡ below (cells table.new) node label }
 
-    //= `add_label`, `remove_label`, `set_number`, `drop_number` change one node's own slots; the tree is changed at that node alone. [with
+    //= `add_label`, `remove_label`, `set_number`, `drop_number` change one node's own slots; the tree changes only at that node. [with
     //  tree; also remove_label.removed.tree, set_number.set.tree, drop_number.dropped.tree]
     ensures added { AddsLabel (size_of (fields table.old)) (fields table.old).ordered (cells table.old) (cells table.new) node label }
     ensures tree { AddsLeaf (size_of (fields table.old)) (fields table.old).ordered (cells table.old) (fields table.new) node label }
@@ -77,8 +77,8 @@ pub(crate) fn add_label<L: Layout, const SLOTS: usize, A: Allocator>(
     ensures paths { (w : List ℕ) (s : ℕ) → IsAt (cells table.old) w s → IsAt (cells table.new) w s }
     ensures root_check { (cells table.new).check 0 ≡ (cells table.old).check 0 }
 
-    //= Calls that make no block leave how many slots are in use and there are, order, entries and `max_trial`. [also remove_label,
-    //  set_number, drop_number, trim; by SameFrame]
+    //= Calls that make no block keep the number of slots in use, the number of slots, the order, the entries and `max_trial`. [also
+    //  remove_label, set_number, drop_number, trim; by SameFrame]
     ensures frame { SameFrame (fields table.old) (fields table.new) }
 {
     let slot = table.slot_below(node, label);
@@ -117,7 +117,7 @@ pub(crate) fn add_reserved<L: Layout, const SLOTS: usize, A: Allocator>(
     slot
 }
 
-/// The slot whose chain goes on with `label`, unless the node's own slot leads to it.
+/// Returns the slot whose chain goes on with `label`, unless the node's own slot leads to it.
 fn slot_to<L: Layout, const SLOTS: usize, A: Allocator>(
     table: &Table<L, SLOTS, A>,
     node: usize,
@@ -146,7 +146,7 @@ fn slot_to<L: Layout, const SLOTS: usize, A: Allocator>(
     unreachable!()
 }
 
-/// Makes `next` follow the slot `before`, or else begin the chain of `node`.
+/// Makes `next` follow the slot `before`, or otherwise begin the chain of `node`.
 fn lead_to<L: Layout, const SLOTS: usize, A: Allocator>(
     table: &mut Table<L, SLOTS, A>,
     before: Option<usize>,

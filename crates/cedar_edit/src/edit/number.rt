@@ -1,4 +1,4 @@
-//! A node's number set, and taken away.
+//! A node's number set, and dropped.
 
 ghost use Rattle.std.specs.Prelude.{◌<◌, ◌≡◌, ◌⊎◌, None, pos, Some};
 ghost use Rattle.cedar_edit.specs.Words.{below, cells, cells_besides, DropsNumber, EditsNode, fields, Forest, HasNode, Held, InRange, IsNodeOf, IsTable, SameFrame, SetsNumber, size_of};
@@ -8,7 +8,7 @@ use cedar_slots::NodeRecord;
 use cedar_table::Table;
 use std::alloc::Allocator;
 
-/// Sets the number of a node that has a base: over the one in its slot, or else in its slot for one, which is free.
+/// Sets the number of a node that has a base: over the one in its slot, or otherwise in its slot for one, which is free.
 #[inline(always)]
 pub(crate) fn set_number<L: Layout, const SLOTS: usize, A: Allocator>(
     table: &mut Table<L, SLOTS, A>,

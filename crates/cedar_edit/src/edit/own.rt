@@ -1,4 +1,4 @@
-//! Numbers in the base fields of their own nodes: in a layout that keeps them there, that of each node which owns no slot.
+//! Numbers in the base fields of their own nodes: in a layout that keeps them there, the number of each node that owns no slot.
 
 ghost use Rattle.std.specs.Prelude.{◌<◌, ◌↔◌, ◌≡◌, ◌≢◌, is_some, IsTrue, List, None, OnOk, pos, ℕ};
 ghost use Rattle.cedar_edit.specs.Words.{AtBase, base_of, below, cells, EditsNode, fields, FieldSet, Forest, HasNode, IsAt, IsTable, KeepsOtherMarks, MayMakeBlock, node_at, OwnNumber, OwnsNothing, reduced_layout, root_of, SameFrame, size_of, TableHolds};
@@ -9,7 +9,7 @@ use cedar_slots::Shortage;
 use cedar_table::Table;
 use std::alloc::Allocator;
 
-/// Whether a node below the root owns no slot and keeps its number, if it gets one, in its own base field.
+/// Returns whether a node below the root owns no slot and keeps its number, if it gets one, in its own base field.
 pub(crate) fn keeps_own<L: Layout, const SLOTS: usize, A: Allocator>(
     table: &Table<L, SLOTS, A>,
     node: usize,
@@ -20,7 +20,7 @@ pub(crate) fn keeps_own<L: Layout, const SLOTS: usize, A: Allocator>(
     L::keeps_numbers() && table.base_of(node) == 0
 }
 
-/// Whether a node has a number, in its own base field or in a slot.
+/// Returns whether a node has a number, in its own base field or in a slot.
 pub(crate) fn has_number<L: Layout, const SLOTS: usize, A: Allocator>(
     table: &Table<L, SLOTS, A>,
     node: usize,
@@ -37,7 +37,7 @@ pub(crate) fn has_number<L: Layout, const SLOTS: usize, A: Allocator>(
     }
 }
 
-/// Drops the number that a node keeps in its own base field. The node has no base then.
+/// Drops the number that a node keeps in its own base field. The node then has no base.
 pub(crate) fn drop_own_number<L: Layout, const SLOTS: usize, A: Allocator>(
     table: &mut Table<L, SLOTS, A>,
     node: usize,
@@ -55,8 +55,8 @@ pub(crate) fn drop_own_number<L: Layout, const SLOTS: usize, A: Allocator>(
     table.set_base(node, 0);
 }
 
-/// Moves a number from its node's own base field into a slot, so that labels can be added below the node. Where memory
-/// or slots are refused, all slots are as before.
+/// Moves a number from its node's own base field into a slot, so that labels can be added below the node. If memory
+/// or slots are lacking, all slots are as before.
 pub(crate) fn move_number<L: Layout, const SLOTS: usize, A: Allocator>(
     table: &mut Table<L, SLOTS, A>,
     node: usize,

@@ -1,4 +1,4 @@
-//! A key taken away, and nodes that are left with neither number nor child.
+//! A key erased, and nodes that are left with neither number nor child.
 
 ghost use Rattle.std.specs.Prelude.{◌<◌, ◌↔◌, ◌≡◌, is_some, IsTrue, List, None, true, ℕ};
 ghost use Rattle.cedar_edit.specs.Words.{capacity_of, cells, cut, edit_at, fields, Forest, HasNode, is_bare, IsAt, IsTable, IsWellFormed, KeepsMarks, KeepsOtherMarks, LosesLeaf, marks, MarksCut, node_at, number_at, root_of, SameFrame, SameModes, size_of, TableHolds, TellsBare, tree_after_trim, tree_of};
@@ -10,7 +10,7 @@ use cedar_model::{Layout, Stored};
 use cedar_table::Table;
 use std::alloc::Allocator;
 
-/// Whether a node has neither number nor child and isn't the root.
+/// Returns whether a node has neither number nor child and isn't the root.
 fn is_bare<L: Layout, const SLOTS: usize, A: Allocator>(
     table: &Table<L, SLOTS, A>,
     node: usize,
@@ -30,7 +30,7 @@ fn is_bare<L: Layout, const SLOTS: usize, A: Allocator>(
     }
 }
 
-/// Whether a node's chain has one label, that of `slot`, and no number's slot before it.
+/// Returns whether a node's chain has one label, that of `slot`, and no number's slot before it.
 fn has_one_label<L: Layout, const SLOTS: usize, A: Allocator>(
     table: &Table<L, SLOTS, A>,
     node: usize,
@@ -44,8 +44,8 @@ fn has_one_label<L: Layout, const SLOTS: usize, A: Allocator>(
     table.child(node) == label && table.sibling(slot) == 0
 }
 
-/// Takes away a node below the root that has neither number nor child. Answers the node above it, and whether that has
-/// neither now and isn't the root: its labels say so before, so that the slot of its number needn't be read.
+/// Removes a node below the root that has neither number nor child. Returns the node above it, and whether that now has
+/// neither and isn't the root. Its labels show this beforehand, so the slot of its number needn't be read.
 fn remove_bare<L: Layout, const SLOTS: usize, A: Allocator>(
     table: &mut Table<L, SLOTS, A>,
     node: usize,
@@ -63,15 +63,15 @@ fn remove_bare<L: Layout, const SLOTS: usize, A: Allocator>(
     ensures frame { SameFrame (fields table.old) (fields table.new) }
 {
     let owner = table.owner(node);
-    // The step from a base to a slot turns a slot into its label too.
+    // The step from a base to a slot also turns a slot into its label.
     let label = (table.base_of(owner) ^ node) as u8;
     let is_last = has_one_label(table, owner, node, label);
     remove_label(table, owner, label);
     (owner, is_last)
 }
 
-/// Takes away a node that has neither number nor child, and then each node above it that is left so. The root stays,
-/// and any other node with a number or a child.
+/// Removes a node that has neither number nor child, and then each node above it that is left so. The root stays,
+/// and so does any other node with a number or a child.
 pub(crate) fn trim<L: Layout, const SLOTS: usize, A: Allocator>(
     table: &mut Table<L, SLOTS, A>,
     node: usize,
@@ -81,7 +81,7 @@ pub(crate) fn trim<L: Layout, const SLOTS: usize, A: Allocator>(
     requires node { (f : Forest) × HasNode (fields table.old) f node }
     ensures sound { IsTable SLOTS (fields table.new).places }
 
-    //= `trim` takes a bare node away and each node above it that then is bare, and keeps all marks. [with marks]
+    //= `trim` removes a bare node and each node above it that then is bare, and keeps all marks. [with marks]
     ensures tree { (f : Forest) (w : List ℕ) → TableHolds (fields table.old) f → IsAt (cells table.old) w node
         → TableHolds (fields table.new) (tree_after_trim (root_of f) w).children }
     ensures marks { KeepsMarks (cells table.old) (cells table.new) }
@@ -97,7 +97,7 @@ pub(crate) fn trim<L: Layout, const SLOTS: usize, A: Allocator>(
     }
 }
 
-/// Drops the number of a node, wherever it stands.
+/// Drops the number of a node, wherever it is kept.
 fn drop_any_number<L: Layout, const SLOTS: usize, A: Allocator>(
     table: &mut Table<L, SLOTS, A>,
     node: usize,
@@ -120,8 +120,8 @@ fn drop_any_number<L: Layout, const SLOTS: usize, A: Allocator>(
     }
 }
 
-/// Takes away the number of a node that has one, and then each node that is left with neither number nor child. It takes
-/// no memory.
+/// Removes the number of a node that has one, and then each node that is left with neither number nor child. It allocates
+/// nothing.
 #[inline(always)]
 pub fn erase_at<L: Layout, const SLOTS: usize, A: Allocator>(
     table: &mut Table<L, SLOTS, A>,
@@ -145,8 +145,8 @@ pub fn erase_at<L: Layout, const SLOTS: usize, A: Allocator>(
     table.set_entries(table.entries() - 1);
 }
 
-/// Takes a key's number away, and then each node that is left with neither number nor child. Answers whether the key
-/// was held. It takes no memory.
+/// Removes a key's number, and then each node that is left with neither number nor child. Returns whether the key
+/// was held. It allocates nothing.
 pub fn erase<L: Layout, const SLOTS: usize, A: Allocator>(
     table: &mut Table<L, SLOTS, A>,
     key: &[u8],
@@ -157,14 +157,14 @@ pub fn erase<L: Layout, const SLOTS: usize, A: Allocator>(
     ensures well_formed { IsWellFormed SLOTS (fields table.new) }
     ensures tree { tree_of (fields table.new) ≡ cut (tree_of (fields table.old)) key.now }
 
-    //= Where the key has a node, each other number stands as it did; of the marks just the key's is taken away. [with marks_cut]
+    //= If the key has a node, each other number stays as it was; of the marks exactly the key's is removed. [with marks_cut]
     ensures marks { (s : ℕ) → IsAt (cells table.old) key.now s → KeepsOtherMarks (cells table.old) (cells table.new) s }
     ensures marks_cut { MarksCut (marks (fields table.old)) (marks (fields table.new)) key.now }
 
-    //= It says whether the key was held, and can't be refused.
+    //= It returns whether the key was held, and can't fail.
     ensures held { result ≡ is_some (number_at (tree_of (fields table.old)) key.now) }
 
-    //= The slots in use and those that there are stay as many. [with capacity; also erase_at]
+    //= The number of slots in use and the number of slots stay the same. [with capacity; also erase_at]
     ensures size { size_of (fields table.new) ≡ size_of (fields table.old) }
     ensures capacity { capacity_of (fields table.new) ≡ capacity_of (fields table.old) }
     ensures modes { SameModes (fields table.old) (fields table.new) }

@@ -1,4 +1,4 @@
-//! Keys put and taken away.
+//! Keys put and erased.
 
 pub(crate) mod erase;
 pub(crate) mod put;

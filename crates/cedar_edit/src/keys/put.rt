@@ -11,7 +11,7 @@ use cedar_slots::Shortage;
 use cedar_table::Table;
 use std::alloc::Allocator;
 
-/// The slot of the last node that a key leads to, and how many of its labels lead there.
+/// Returns the slot of the last node that a key leads to, and how many of its labels lead there.
 fn known_front<L: Layout, const SLOTS: usize, A: Allocator>(
     table: &Table<L, SLOTS, A>,
     key: &[u8],
@@ -33,8 +33,8 @@ fn known_front<L: Layout, const SLOTS: usize, A: Allocator>(
     (node, key.len())
 }
 
-/// Goes along a key from the root, adds the nodes that it lacks as bare leaves, and returns the slot of its node. Where
-/// memory or slots are refused, the leaves are taken back.
+/// Follows a key from the root, adds the missing nodes as bare leaves, and returns the slot of the key's node. If memory
+/// or slots are lacking, it removes the leaves again.
 fn walk_in<L: Layout, const SLOTS: usize, A: Allocator>(
     table: &mut Table<L, SLOTS, A>,
     key: &[u8],
@@ -59,8 +59,8 @@ fn walk_in<L: Layout, const SLOTS: usize, A: Allocator>(
     Ok(node)
 }
 
-/// Puts the number `value` at a key, none of whose proper fronts keeps its number in its node's own base field, and returns the
-/// number there before. Where memory or slots are refused, the tree is as before.
+/// Puts the number `value` at a key, none of whose proper prefixes keeps its number in its node's own base field. Returns the
+/// number that was there before. If memory or slots are lacking, the tree is as before.
 fn put_along<L: Layout, const SLOTS: usize, A: Allocator>(
     table: &mut Table<L, SLOTS, A>,
     key: &[u8],
@@ -96,9 +96,10 @@ fn put_along<L: Layout, const SLOTS: usize, A: Allocator>(
     Ok(held)
 }
 
-/// Puts the number `value` at a key, and returns the number there before, if the key was held. Where memory or slots are
-/// refused, the tree is as before, though blocks may have come. An update of a key of n bytes makes n blocks at most, and tries no further one; over a number none is made; and a
-/// new first byte alone makes one only where no slot outside block 0 is free.
+/// Puts the number `value` at a key, and returns the number that was there before, if the key was held. If memory or slots are
+/// lacking, the tree is as before, though blocks may have been made. An update of a key of n bytes makes n blocks at most, and
+/// tries to make no further one. Over a number it makes none. A new first byte alone makes one only if no slot outside block 0
+/// is free.
 pub fn update<L: Layout, const SLOTS: usize, A: Allocator>(
     table: &mut Table<L, SLOTS, A>,
     key: &[u8],
@@ -111,42 +112,42 @@ pub fn update<L: Layout, const SLOTS: usize, A: Allocator>(
     //= The table is well-formed after an update, also after a refusal.
     ensures well_formed { IsWellFormed SLOTS (fields table.new) }
 
-    //= `update` of a key with a value in range, on any well-formed table, however it came about: the tree is then `put` of the old one, in
+    //= `update` of a key with a value in range, on any well-formed table, however it was made: the tree is then `put` of the old one, in
     //  the table's order.
     ensures put { OnOk result (tree_of (fields table.new) ≡ put (tree_of (fields table.old)) (fields table.old).ordered key.now value) }
 
-    //= It answers the number that the key held before, or that there was none.
+    //= It returns the number that the key held before, or that there was none.
     ensures held { IfOk result (λ held. held ≡ number_at (tree_of (fields table.old)) key.now) }
 
     //= After a refusal the tree is the old one.
     ensures taken_back { OnErr result (tree_of (fields table.new) ≡ tree_of (fields table.old)) }
 
-    //= It is refused for memory only where all blocks are in use and there may be more, for slots only where there may not.
+    //= It fails for lack of memory only if all blocks are in use and there may be more, for lack of slots only if there may not be more.
     ensures refused { IfErr result (λ error. MayRefuse (fields table.new).places SLOTS error) }
 
-    //= A key of n bytes makes n blocks at most, and fewer than n if it is refused.
+    //= A key of n bytes makes n blocks at most, and fewer than n if the update fails.
     ensures blocks { MakesAtMost (length key.now) (fields table.old) (fields table.new) result }
 
-    //= Over a number no block is made and nothing is refused.
+    //= Over a number it makes no block and doesn't fail.
     ensures over { is_some (number_at (tree_of (fields table.old)) key.now) ≡ true → TakesNoBlock (fields table.old) (fields table.new) result }
 
-    //= A new first byte alone makes a block, or is refused, only in the default layout and only where no slot outside block 0 is free.
+    //= A new first byte alone makes a block, or fails, only in the default layout and only if no slot outside block 0 is free.
     ensures one_byte { TakesNewByte (fields table.old) (fields table.new) key.now result }
 
-    //= After a refusal each number stands where it stood, in a slot or in its node's own base field. [with marks_stay]
-    //= So as many slots are held then as before. [with marks_stay; by slots_stay]
+    //= After a refusal each number is where it was, in a slot or in its node's own base field. [with marks_stay]
+    //= So as many slots are then held as before. [with marks_stay; by slots_stay]
     ensures marks { OnErr result (KeepsMarks (cells table.old) (cells table.new)) }
     ensures marks_stay { OnErr result (marks (fields table.new) ≡ marks (fields table.old)) }
 
-    //= Over a number, each number stands as it did; else the number of each held proper front of the key has a slot, and each other number
-    //  stands as it did. [by over, fronts, others]
-    //= A new key's number has a slot if the key is a front of a held one; in the reduced layout only then. [by new]
+    //= Over a number, each number stays as it was; otherwise the number of each held proper prefix of the key has a slot, and each other
+    //  number stays as it was. [by over, fronts, others]
+    //= A new key's number has a slot if the key is a prefix of a held one; in the reduced layout only then. [by new]
     ensures new_marks { OnOk result (PutsMarks (fields table.old) (fields table.new) key.now) }
 
     //= The tree of marks says the same in the reduced layout.
     ensures marks_put { OnOk result (PutsInMarks (fields table.old) (fields table.new) key.now) }
 
-    //= Order and `max_trial` stay. [also erase]
+    //= The order and `max_trial` stay the same. [also erase]
     ensures modes { SameModes (fields table.old) (fields table.new) }
 {
     let moved = make_way(table, key)?;

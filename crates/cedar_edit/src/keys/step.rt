@@ -1,4 +1,4 @@
-//! One step of an update: to the child under a label, which is added where there is none, or to the number.
+//! One step of an update: to the child under a label, which is added if there is none, or to the number.
 
 ghost use Rattle.std.specs.Prelude.{◌<◌, ◌≡◌, ◌≢◌, ◌⊎◌, IfOk, IsTrue, OnOk, pos, Some, true, ℤ};
 ghost use Rattle.cedar_edit.specs.Words.{AtBase, base_of, below, cells, EditsNode, fields, Forest, HasNode, Held, is_value, IsTable, LacksNumberSlot, MayMakeBlock, OwnNumber, Placed, PutsInBase, PutsInSlot, PutsMark, size_of, StepsTo, TableHolds, TakesFreeSlot, TakesNoBlock, WantsRoom, WantsSlot};
@@ -12,8 +12,8 @@ use cedar_slots::Shortage;
 use cedar_table::Table;
 use std::alloc::Allocator;
 
-/// Gives a leaf that has no base yet the first one: where the first free slot is that of `label`. A block is made only
-/// where no slot outside block 0 is free.
+/// Gives a leaf that has no base yet its first one: where the first free slot is that of `label`. A block is made only
+/// if no slot outside block 0 is free.
 fn first_base<L: Layout, const SLOTS: usize, A: Allocator>(
     table: &mut Table<L, SLOTS, A>,
     node: usize,
@@ -35,7 +35,7 @@ fn first_base<L: Layout, const SLOTS: usize, A: Allocator>(
     Ok(())
 }
 
-/// Whether a slot that the base of a node below the root has for a label is held. A leaf may have no base yet.
+/// Returns whether a slot that the base of a node below the root has for a label is held. A leaf may have no base yet.
 fn is_taken<L: Layout, const SLOTS: usize, A: Allocator>(
     table: &Table<L, SLOTS, A>,
     node: usize,
@@ -54,8 +54,7 @@ fn is_taken<L: Layout, const SLOTS: usize, A: Allocator>(
 }
 
 /// Gives a node below the root a base, if it has none yet, so that its slot for a label which it doesn't own yet is
-/// free. That slot isn't held where it has a base. A block is made only for a first
-/// base.
+/// free. If it has a base, that slot isn't held. A block is made only for a first base.
 fn room_for<L: Layout, const SLOTS: usize, A: Allocator>(
     table: &mut Table<L, SLOTS, A>,
     node: usize,
@@ -93,7 +92,7 @@ fn add_over<L: Layout, const SLOTS: usize, A: Allocator>(
     Ok(add_reserved(table, node, label))
 }
 
-/// Sets the number of a node where another node owns the slot for it.
+/// Sets the number of a node when another node owns the slot for it.
 fn put_over<L: Layout, const SLOTS: usize, A: Allocator>(
     table: &mut Table<L, SLOTS, A>,
     node: usize,
@@ -110,9 +109,9 @@ fn put_over<L: Layout, const SLOTS: usize, A: Allocator>(
     Ok(())
 }
 
-/// Goes from a node to its child under a label, and returns the child's slot. Where there is no such child, it is added
-/// as a leaf without number: at its ascending place if the table is ordered, and first if not. Where memory or
-/// slots are refused, all slots are as before.
+/// Goes from a node to its child under a label, and returns the child's slot. If there is no such child, it is added
+/// as a leaf without number: at its ascending place if the table is ordered, and first if not. If memory or
+/// slots are lacking, all slots are as before.
 pub(crate) fn follow_or_add<L: Layout, const SLOTS: usize, A: Allocator>(
     table: &mut Table<L, SLOTS, A>,
     node: usize,
@@ -128,12 +127,12 @@ pub(crate) fn follow_or_add<L: Layout, const SLOTS: usize, A: Allocator>(
     //= `follow_or_add` goes to a node's child or adds it as a bare leaf, at its ascending place or first.
     ensures stepped { IfOk result (StepsTo (fields table.old) (fields table.new) node label) }
 
-    //= Where it is refused, all slots are as before; it makes one block at most; at the root it makes none and isn't refused. [with
-    //  at_root; by MayMakeBlock]
-    //= Calls that make one block at most leave order, entries and `max_trial`. [also put_number; by MayMakeBlock, MayAddBlock]
+    //= If it fails, all slots are as before; it makes one block at most; at the root it makes none and doesn't fail. [with at_root; by
+    //  MayMakeBlock]
+    //= Calls that make one block at most keep the order, the entries and `max_trial`. [also put_number; by MayMakeBlock, MayAddBlock]
     ensures step { MayMakeBlock SLOTS (fields table.old) (fields table.new) result }
 
-    //= To a child that is there it makes no block, isn't refused and changes no slot. [with stays]
+    //= If the child is there, it makes no block, doesn't fail and changes no slot. [with stays]
     ensures owned { (cells table.old).check (below (cells table.old) node label) ≡ pos node → TakesNoBlock (fields table.old) (fields table.new) result }
     ensures stays { (cells table.old).check (below (cells table.old) node label) ≡ pos node → cells table.new ≡ cells table.old }
     ensures at_root { node ≡ 0 → TakesNoBlock (fields table.old) (fields table.new) result }
@@ -149,8 +148,8 @@ pub(crate) fn follow_or_add<L: Layout, const SLOTS: usize, A: Allocator>(
     Ok(add_label(table, node, label))
 }
 
-/// Sets the number of a node below the root in a slot, over the one that it has there. Where memory or slots are
-/// refused, all slots are as before.
+/// Sets the number of a node below the root in a slot, over the one that it has there. If memory or slots are
+/// lacking, all slots are as before.
 fn put_in_slot<L: Layout, const SLOTS: usize, A: Allocator>(
     table: &mut Table<L, SLOTS, A>,
     node: usize,
@@ -181,8 +180,8 @@ fn put_in_slot<L: Layout, const SLOTS: usize, A: Allocator>(
     Ok(())
 }
 
-/// Sets the number of a node below the root, over the one that it has: in its own base field, where the layout keeps that
-/// of a node which owns no slot, and else in a slot. Where memory or slots are refused, all slots are as before.
+/// Sets the number of a node below the root, over the one that it has: in its own base field, if the layout keeps it there for a
+/// node that owns no slot, and otherwise in a slot. If memory or slots are lacking, all slots are as before.
 pub(crate) fn put_number<L: Layout, const SLOTS: usize, A: Allocator>(
     table: &mut Table<L, SLOTS, A>,
     node: usize,
@@ -195,16 +194,15 @@ pub(crate) fn put_number<L: Layout, const SLOTS: usize, A: Allocator>(
     requires value { is_value value ≡ true }
     ensures sound { IsTable SLOTS (fields table.new).places }
 
-    //= `put_number` sets a node's number; where it is refused, all slots are as before; it makes one block at most. [with step; by
-    //  MayMakeBlock]
+    //= `put_number` sets a node's number; if it fails, all slots are as before; it makes one block at most. [with step; by MayMakeBlock]
     ensures set { OnOk result (EditsNode (size_of (fields table.old)) (cells table.old) (fields table.new) node (λ _. Some value) (λ u. u)) }
 
-    //= In the reduced layout the number of a node without base comes into its own base field, and else into a slot. [with marks_own]
+    //= In the reduced layout the number of a node without base goes into its own base field, and otherwise into a slot. [with marks_own]
     ensures marks { OnOk result (PutsInSlot (fields table.old) (fields table.new) node) }
     ensures marks_own { OnOk result (PutsInBase (fields table.old) (fields table.new) node) }
     ensures step { MayMakeBlock SLOTS (fields table.old) (fields table.new) result }
 
-    //= Over a number it makes no block and isn't refused. [with own]
+    //= Over a number it makes no block and doesn't fail. [with own]
     ensures owned { (cells table.old).check (below (cells table.old) node 0) ≡ pos node → TakesNoBlock (fields table.old) (fields table.new) result }
     ensures own { (v : ℤ) → (cells table.old).stored node ≡ OwnNumber v → TakesNoBlock (fields table.old) (fields table.new) result }
     ensures leaf { (cells table.old).stored node ≡ AtBase 0 → TakesNoBlock (fields table.old) (fields table.new) result ⊎ LacksNumberSlot (fields table.old) }

@@ -1,4 +1,4 @@
-//! A number that is in the way of a new label: it moves from its node's own base field into a slot, and back where the
+//! A number that is in the way of a new label: it moves from its node's own base field into a slot, and back if the
 //! label is refused.
 
 ghost use Rattle.std.specs.Prelude.{◌<◌, ◌≡◌, IfErr, IfOk, is_some, length, List, MatchOption, None, OnErr, OnOk, pos, Some, take, true, ℕ};
@@ -11,7 +11,7 @@ use cedar_slots::Shortage;
 use cedar_table::Table;
 use std::alloc::Allocator;
 
-/// How long the proper front of a key is whose node keeps its number in its own base field, if there is one.
+/// Returns the length of the proper prefix of a key whose node keeps its number in its own base field, if there is one.
 fn own_front<L: Layout, const SLOTS: usize, A: Allocator>(
     table: &Table<L, SLOTS, A>,
     key: &[u8],
@@ -34,7 +34,7 @@ fn own_front<L: Layout, const SLOTS: usize, A: Allocator>(
     None
 }
 
-/// Moves the number of a key from its node's own base field into a slot. Where memory or slots are refused, all is as
+/// Moves the number of a key from its node's own base field into a slot. If memory or slots are lacking, everything is as
 /// before.
 fn move_out<L: Layout, const SLOTS: usize, A: Allocator>(
     table: &mut Table<L, SLOTS, A>,
@@ -61,7 +61,7 @@ fn move_out<L: Layout, const SLOTS: usize, A: Allocator>(
     Ok(())
 }
 
-/// The number of a node that owns the slot for it and no other.
+/// Returns the number of a node that owns the slot for it and no other.
 fn lone_number<L: Layout, const SLOTS: usize, A: Allocator>(
     table: &Table<L, SLOTS, A>,
     node: usize,
@@ -97,8 +97,8 @@ fn move_in<L: Layout, const SLOTS: usize, A: Allocator>(table: &mut Table<L, SLO
     table.set_own_number(node, value);
 }
 
-/// Moves the number of a key's front that is in the way of the next label, and returns the front's length. Where
-/// memory or slots are refused, all is as before.
+/// Moves the number of a key's prefix that is in the way of the next label, and returns the prefix's length. If
+/// memory or slots are lacking, everything is as before.
 pub(crate) fn make_way<L: Layout, const SLOTS: usize, A: Allocator>(
     table: &mut Table<L, SLOTS, A>,
     key: &[u8],
@@ -128,7 +128,7 @@ pub(crate) fn make_way<L: Layout, const SLOTS: usize, A: Allocator>(
     Ok(Some(length))
 }
 
-/// Puts the number back that was moved for a key.
+/// Puts back the number that was moved for a key.
 pub(crate) fn close_way<L: Layout, const SLOTS: usize, A: Allocator>(
     table: &mut Table<L, SLOTS, A>,
     key: &[u8],

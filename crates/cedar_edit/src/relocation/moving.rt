@@ -72,7 +72,7 @@ fn repoint<L: Layout, const SLOTS: usize, A: Allocator>(
     repoint_chain(table, from, first, to);
 }
 
-/// Makes `to` the owner of all that `from` owns, the slot of its owner's label `label`. Nothing belongs to the
+/// Makes `to` the owner of all that `from` owns, which is the slot of its owner's label `label`. Nothing belongs to the
 /// slot of a number.
 fn repoint_under<L: Layout, const SLOTS: usize, A: Allocator>(
     table: &mut Table<L, SLOTS, A>,
@@ -91,7 +91,7 @@ fn repoint_under<L: Layout, const SLOTS: usize, A: Allocator>(
 }
 
 /// Copies what the slot `from` has, which `owner` owns under `label`, to the free slot `to`. The slot `from` is held
-/// as before, but no part of the tree any more.
+/// as before, but is no longer part of the tree.
 fn copy_slot<L: Layout, const SLOTS: usize, A: Allocator>(
     table: &mut Table<L, SLOTS, A>,
     from: usize,
@@ -155,7 +155,7 @@ fn pass_slot<L: Layout, const SLOTS: usize, A: Allocator>(
     move_slot(table, from, to, owner, label);
 }
 
-/// Takes a free slot to be reserved, once it is time and if it isn't reserved yet. It is held in the root's name.
+/// Takes a free slot to be reserved, once it is time and if it isn't reserved yet. The slot is held in the root's name.
 fn reserve<L: Layout, const SLOTS: usize, A: Allocator>(
     table: &mut Table<L, SLOTS, A>,
     slot: usize,
@@ -176,7 +176,7 @@ fn reserve<L: Layout, const SLOTS: usize, A: Allocator>(
     true
 }
 
-/// Whether a new label goes before one that a node owns: the lower one first if the table is ordered, and if not,
+/// Returns whether a new label goes before one that a node owns: the lower one first if the table is ordered, and if not,
 /// the new one before all but the 0 of a number.
 pub(crate) fn goes_before<L: Layout, const SLOTS: usize, A: Allocator>(
     table: &Table<L, SLOTS, A>,
@@ -192,7 +192,7 @@ pub(crate) fn goes_before<L: Layout, const SLOTS: usize, A: Allocator>(
     }
 }
 
-/// Moves the slots that `parent` owns, those of `labels`, to the base `base`: one after the other, each
+/// Moves the slots that `parent` owns, those of `labels`, to the base `base`: one after another, each
 /// with all that it has, so that the chains are as they were. The old slot `wanted` is kept back for another node,
 /// and the others are given back.
 pub(crate) fn relocate_around<L: Layout, const SLOTS: usize, A: Allocator>(
@@ -223,8 +223,9 @@ pub(crate) fn relocate_around<L: Layout, const SLOTS: usize, A: Allocator>(
     table.set_base(parent, base);
 }
 
-/// Moves the slots that `parent` owns, those of `labels`, to the base `new_base`, one after the other. The slot
+/// Moves the slots that `parent` owns, those of `labels`, to the base `new_base`, one after another. The slot
 /// there for a new label is taken when its turn among them comes, and kept back for it.
+#[inline(always)]
 pub(crate) fn relocate_with<L: Layout, const SLOTS: usize, A: Allocator>(
     table: &mut Table<L, SLOTS, A>,
     parent: usize,

@@ -1,5 +1,5 @@
-//! Room for a new label below a node: one of two sets of slots is moved to another base, and the slot for the label is
-//! kept back meanwhile.
+//! Room for a new label below a node: one of two sets of slots is moved to another base, and meanwhile the slot for the
+//! label is kept back.
 
 ghost use Rattle.std.specs.Prelude.{◌<◌, ◌≡◌, ◌≢◌, ◌≤◌, bit_xor, IfOk, length, List, OnOk, pos, ℕ};
 ghost use Rattle.cedar_edit.specs.Words.{Among, below, cells, ChainsRest, fields, IsNode, IsTable, MayMakeBlock, MovesForLabel, OwnsLabels, Reserves, SetReserved, size_of, StandsBelow, TellsLonger, WantsSlot, with_label};
@@ -8,11 +8,12 @@ use crate::relocation::moving::{goes_before, relocate_around, relocate_with};
 use arrayvec::ArrayVec;
 use cedar_model::Layout;
 use cedar_slots::Shortage;
-use cedar_table::{Labels, Table};
+use cedar_table::Table;
 use std::alloc::Allocator;
 
 /// Moves the slots that `node` owns, those of `labels`, to a base from which there is room for `wanted`
-/// too, and keeps the slot there for the new label back. Where no room is found the tree is as it was, slot by slot.
+/// too, and keeps back the slot there for the new label. If no room is found, the tree is as it was, slot by slot.
+#[inline(always)]
 fn move_set_with<L: Layout, const SLOTS: usize, A: Allocator>(
     table: &mut Table<L, SLOTS, A>,
     node: usize,
@@ -37,7 +38,8 @@ fn move_set_with<L: Layout, const SLOTS: usize, A: Allocator>(
 }
 
 /// Moves the slots that `node` owns, those of `labels`, to another base, and keeps back the one of them that
-/// another node wants. Where no room is found the tree is as it was, slot by slot.
+/// another node wants. If no room is found, the tree is as it was, slot by slot.
+#[inline(always)]
 fn move_set_around<L: Layout, const SLOTS: usize, A: Allocator>(
     table: &mut Table<L, SLOTS, A>,
     node: usize,
@@ -58,7 +60,7 @@ fn move_set_around<L: Layout, const SLOTS: usize, A: Allocator>(
     Ok(base)
 }
 
-/// The second label of the slots that a node owns, its number's label being 0, or 0 where there is none.
+/// Returns the second label of the slots that a node owns, its number's label being 0, or 0 if there is none.
 fn second_label<L: Layout, const SLOTS: usize, A: Allocator>(
     table: &Table<L, SLOTS, A>,
     node: usize,
@@ -79,7 +81,7 @@ fn second_label<L: Layout, const SLOTS: usize, A: Allocator>(
     table.sibling(base ^ usize::from(first))
 }
 
-/// Whether one node owns more slots than another that owns some. Both sets are walked in step, so no more of the
+/// Returns whether one node owns more slots than another that owns some. Both sets are read in step, so no more of the
 /// longer one is read than the other has.
 fn is_longer<L: Layout, const SLOTS: usize, A: Allocator>(
     table: &Table<L, SLOTS, A>,
@@ -105,13 +107,14 @@ fn is_longer<L: Layout, const SLOTS: usize, A: Allocator>(
     left != 0
 }
 
-/// The labels that a node owns with a new one at its place among them. It takes no memory.
-fn labels_with<L: Layout, const SLOTS: usize, A: Allocator>(
+/// Returns the labels that a node owns with a new one at its place among them, for which `MOST` leaves room. It allocates
+/// nothing.
+fn labels_with<const MOST: usize, L: Layout, const SLOTS: usize, A: Allocator>(
     table: &Table<L, SLOTS, A>,
     labels: &[u8],
     label: u8,
-) -> Labels
-    requires few { length labels.now < 256 }
+) -> ArrayVec<u8, MOST>
+    requires few { length labels.now < MOST }
     ensures { result.items ≡ with_label (fields table.now).ordered label labels.now }
 {
     let mut wanted = ArrayVec::new();
@@ -129,7 +132,49 @@ fn labels_with<L: Layout, const SLOTS: usize, A: Allocator>(
     wanted
 }
 
-/// Moves the slots that `node` owns to a base from which there is room for a new label too, and keeps that one back.
+/// Moves the slots that `node` owns, those of `labels`, to a base from which there is room for a new label too, and keeps
+/// that one back. The labels in `wanted` are those and the new one.
+#[inline(always)]
+fn move_labels_with<L: Layout, const SLOTS: usize, A: Allocator>(
+    table: &mut Table<L, SLOTS, A>,
+    node: usize,
+    labels: &[u8],
+    wanted: &[u8],
+    label: u8,
+) -> Result<(), Shortage>
+    requires node { StandsBelow SLOTS (fields table.old) node }
+    requires owned { OwnsLabels (size_of (fields table.old)) (cells table.old) node labels.now }
+    requires absent { (cells table.old).check (below (cells table.old) node label) ≢ pos node }
+    requires wanted { wanted.now ≡ with_label (fields table.old).ordered label labels.now }
+    ensures sound { IsTable SLOTS (fields table.new).places }
+    ensures moved { OnOk result (MovesForLabel (fields table.old) (fields table.new) node label) }
+    ensures step { MayMakeBlock SLOTS (fields table.old) (fields table.new) result }
+{
+    move_set_with(table, node, labels, wanted, label)?;
+    Ok(())
+}
+
+/// Does what `move_with` does, however many slots the node owns. Its two lists of 256 labels are zeroed at its start, so it
+/// is no part of its callers.
+#[inline(never)]
+fn move_many_with<L: Layout, const SLOTS: usize, A: Allocator>(
+    table: &mut Table<L, SLOTS, A>,
+    node: usize,
+    label: u8,
+) -> Result<(), Shortage>
+    requires node { StandsBelow SLOTS (fields table.old) node }
+    requires absent { (cells table.old).check (below (cells table.old) node label) ≢ pos node }
+    ensures sound { IsTable SLOTS (fields table.new).places }
+    ensures moved { OnOk result (MovesForLabel (fields table.old) (fields table.new) node label) }
+    ensures step { MayMakeBlock SLOTS (fields table.old) (fields table.new) result }
+{
+    let labels = table.all_labels_of(node);
+    let wanted: ArrayVec<u8, 256> = labels_with(table, &labels, label);
+    move_labels_with(table, node, &labels, &wanted, label)
+}
+
+/// Moves the slots that `node` owns to a base from which there is room for a new label too, and keeps that one back. Most
+/// sets have up to 16 labels, and are listed in an array of that length.
 fn move_with<L: Layout, const SLOTS: usize, A: Allocator>(
     table: &mut Table<L, SLOTS, A>,
     node: usize,
@@ -141,10 +186,28 @@ fn move_with<L: Layout, const SLOTS: usize, A: Allocator>(
     ensures moved { OnOk result (MovesForLabel (fields table.old) (fields table.new) node label) }
     ensures step { MayMakeBlock SLOTS (fields table.old) (fields table.new) result }
 {
-    let labels = table.labels_of(node);
-    let wanted = labels_with(table, &labels, label);
-    move_set_with(table, node, &labels, &wanted, label)?;
-    Ok(())
+    if let Some(labels) = table.labels_of::<16>(node) {
+        let wanted: ArrayVec<u8, 17> = labels_with(table, &labels, label);
+        return move_labels_with(table, node, &labels, &wanted, label);
+    }
+    move_many_with(table, node, label)
+}
+
+/// Does what `move_away` does, however many slots the node owns.
+#[inline(never)]
+fn move_many_away<L: Layout, const SLOTS: usize, A: Allocator>(
+    table: &mut Table<L, SLOTS, A>,
+    node: usize,
+    slot: usize,
+) -> Result<usize, Shortage>
+    requires node { StandsBelow SLOTS (fields table.old) node }
+    requires mine { (cells table.old).check slot ≡ pos node }
+    ensures sound { IsTable SLOTS (fields table.new).places }
+    ensures moved { IfOk result (λ base. (ls : List ℕ) × SetReserved (fields table.old) (fields table.new) node base slot ls ls) }
+    ensures step { MayMakeBlock SLOTS (fields table.old) (fields table.new) result }
+{
+    let labels = table.all_labels_of(node);
+    move_set_around(table, node, &labels, slot)
 }
 
 /// Moves the slots that `node` owns, of which `slot` is one, to another base, and returns that. The slot is kept back.
@@ -159,12 +222,14 @@ fn move_away<L: Layout, const SLOTS: usize, A: Allocator>(
     ensures moved { IfOk result (λ base. (ls : List ℕ) × SetReserved (fields table.old) (fields table.new) node base slot ls ls) }
     ensures step { MayMakeBlock SLOTS (fields table.old) (fields table.new) result }
 {
-    let labels = table.labels_of(node);
-    move_set_around(table, node, &labels, slot)
+    if let Some(labels) = table.labels_of::<16>(node) {
+        return move_set_around(table, node, &labels, slot);
+    }
+    move_many_away(table, node, slot)
 }
 
-/// Keeps the slot back that the node's base has for a label, where another node owns it, and returns where the node
-/// is then. That owner's set of slots is moved, or the node's own set where the owner's is longer. Where no room is
+/// Keeps back the slot that the node's base has for a label and that another node owns, and returns where the node
+/// is then. It moves that owner's set of slots, or the node's own set if the owner's is longer. If no room is
 /// found, all slots are as before.
 pub(crate) fn resolve<L: Layout, const SLOTS: usize, A: Allocator>(
     table: &mut Table<L, SLOTS, A>,
@@ -174,10 +239,10 @@ pub(crate) fn resolve<L: Layout, const SLOTS: usize, A: Allocator>(
     requires { WantsSlot SLOTS (fields table.old) node label }
     ensures sound { IsTable SLOTS (fields table.new).places }
 
-    //= Where another node owns a wanted slot, room is made: the tree stays, and the node's slot for the new label is kept back for it.
+    //= If another node owns a wanted slot, room is made: the tree stays, and the node's slot for the new label is kept back for it.
     ensures reserved { IfOk result (Reserves (fields table.old) (fields table.new) node label) }
 
-    //= Where no room is found for it, all slots are as before; it makes one block at most. [by MayMakeBlock]
+    //= If no room is found for it, all slots are as before; it makes one block at most. [by MayMakeBlock]
     ensures step { MayMakeBlock SLOTS (fields table.old) (fields table.new) result }
 {
     let slot = table.child_slot(node, label);

@@ -1,6 +1,6 @@
-//! Whether the blocks are in the lists that their counts name, where nobody has vouched for them.
+//! Tests of whether untrusted blocks are in the lists that their counts name.
 //!
-//! A list is walked like a ring of free slots: from its head for as many steps as it is to have blocks, each step to a
+//! A list is walked like a ring of free slots: from its head for as many steps as it must have blocks, each step to a
 //! block that belongs there and names the one before it. The walk along the full list begins and ends at block 0.
 
 ghost use Rattle.std.specs.Prelude.{◌*◌, ◌+◌, ◌<◌, ◌≡◌, ◌≢◌, ◌≤ℤ◌, ◌≤◌, length, OkIff, pos, true};
@@ -10,7 +10,7 @@ use cedar_slots::{BlockRecord, BlockType, Blocks, Corrupt, Counts, Ticks};
 use std::alloc::Allocator;
 use std::sync::ledger::Ledger;
 
-/// The record of a block. The read is counted.
+/// Returns the record of a block. The read is counted.
 pub(crate) fn read_block<A: Allocator, C: Ledger>(
     blocks: &Blocks<A>,
     block: usize,
@@ -24,7 +24,7 @@ pub(crate) fn read_block<A: Allocator, C: Ledger>(
     blocks.records.read(block)
 }
 
-/// What a block counts. The read is counted.
+/// Returns the counts of a block. The read is counted.
 fn read_counts<A: Allocator, C: Ledger>(
     blocks: &Blocks<A>,
     block: usize,
@@ -43,7 +43,7 @@ fn read_counts<A: Allocator, C: Ledger>(
     }
 }
 
-/// Whether what a search for places may read in `block` is in range.
+/// Tests whether what a search for places may read in `block` is in range.
 fn check_range<A: Allocator, C: Ledger>(
     blocks: &Blocks<A>,
     block: usize,
@@ -66,7 +66,7 @@ fn check_range<A: Allocator, C: Ledger>(
     Ok(())
 }
 
-/// Whether what a search for places may read is in range in all blocks in use.
+/// Tests whether what a search for places may read is in range in all blocks in use.
 pub(crate) fn check_ranges<A: Allocator, C: Ledger>(
     blocks: &Blocks<A>,
     reads: &mut Ticks<C>,
@@ -82,7 +82,7 @@ pub(crate) fn check_ranges<A: Allocator, C: Ledger>(
     Ok(())
 }
 
-/// Whether `block` is one of those that a list's ring is to have.
+/// Returns whether `block` is one of those that a list's ring must have.
 fn belongs_in<A: Allocator, C: Ledger>(
     blocks: &Blocks<A>,
     list: BlockType,
@@ -103,7 +103,7 @@ fn belongs_in<A: Allocator, C: Ledger>(
     blocks.list_of(counts) == list
 }
 
-/// How many blocks a list's ring is to have.
+/// Returns how many blocks a list's ring must have.
 fn count_ring<A: Allocator, C: Ledger>(
     blocks: &Blocks<A>,
     list: BlockType,
@@ -122,7 +122,7 @@ fn count_ring<A: Allocator, C: Ledger>(
     count
 }
 
-/// The block after `block` in the ring of a list.
+/// Returns the block after `block` in the ring of a list.
 fn follow_list<A: Allocator, C: Ledger>(
     blocks: &Blocks<A>,
     list: BlockType,
@@ -148,7 +148,7 @@ fn follow_list<A: Allocator, C: Ledger>(
     Ok(next)
 }
 
-/// Whether the `count` blocks that a list's ring is to have are in a ring, of which `first` is one.
+/// Tests whether the `count` blocks that a list's ring must have are in a ring, of which `first` is one.
 fn check_cycle<A: Allocator, C: Ledger>(
     blocks: &Blocks<A>,
     list: BlockType,
@@ -172,7 +172,7 @@ fn check_cycle<A: Allocator, C: Ledger>(
     Ok(())
 }
 
-/// Whether the full blocks are in the full list, whose ring block 0 closes.
+/// Tests whether the full blocks are in the full list, whose ring block 0 closes.
 fn check_full_list<A: Allocator, C: Ledger>(
     blocks: &Blocks<A>,
     reads: &mut Ticks<C>,
@@ -188,7 +188,7 @@ fn check_full_list<A: Allocator, C: Ledger>(
     check_cycle(blocks, BlockType::Full, 0, count, reads)
 }
 
-/// Whether the blocks that the closed or the open list is to have are in it.
+/// Tests whether the blocks that the closed or the open list must have are in it.
 fn check_list<A: Allocator, C: Ledger>(
     blocks: &Blocks<A>,
     list: BlockType,
@@ -213,7 +213,7 @@ fn check_list<A: Allocator, C: Ledger>(
     check_cycle(blocks, list, head as usize, count, reads)
 }
 
-/// Whether each block in use but block 0 is in the list that its counts name, and in no other.
+/// Tests whether each block in use but block 0 is in the list that its counts name, and in no other.
 pub(crate) fn check_lists<A: Allocator, C: Ledger>(
     blocks: &Blocks<A>,
     reads: &mut Ticks<C>,

@@ -1,4 +1,4 @@
-//! Whether a table that comes from a file has its slots, rings, blocks and lists as they must be.
+//! Tests of whether a table from a file has its slots, rings, blocks and lists as they must be.
 
 ghost use Rattle.std.specs.Prelude.{◌*◌, ◌+◌, ◌-◌, ◌<◌, ◌≡◌, ◌≤ℤ◌, ◌≤◌, length, List, OkIff, pos, ℕ};
 ghost use Rattle.cedar_file.specs.Words.{BlankBlocks, BlankSlots, blocks_of, FreeBlock, HasFree, IsPowerOfTwo, places_of, reject_at, Rejects, Shaped, Sound};
@@ -9,7 +9,7 @@ use cedar_slots::{BLOCK_SIZE, BlockRecord, Corrupt, Places, Ticks, reserved};
 use std::alloc::Allocator;
 use std::sync::ledger::Ledger;
 
-/// Whether the free slots of `block` are in one ring, as its record counts them.
+/// Tests whether the free slots of `block` are in one ring, as its record counts them.
 fn check_block<A: Allocator, C: Ledger>(
     places: &Places<A>,
     block: usize,
@@ -38,15 +38,15 @@ fn check_block<A: Allocator, C: Ledger>(
     check_ring(&places.slots, block, head, count, reads)
 }
 
-/// Whether the free slots of each block in use are in one ring.
+/// Tests whether the free slots of each block in use are in one ring.
 fn check_rings<A: Allocator, C: Ledger>(
     places: &Places<A>,
     reads: &mut Ticks<C>,
 ) -> Result<(), Corrupt>
     requires { Shaped (places_of places.now) }
 
-    //= The test of rings is `Ok` exactly if each block in use has its ring, the test of lists exactly if each list is linked of just the
-    //  blocks that are to stand in it. [also check_lists]
+    //= The test of rings is `Ok` exactly if each block in use has its ring, the test of lists exactly if each list links exactly the blocks
+    //  that belong in it. [also check_lists]
     ensures answer { OkIff result (HasFree (places_of places.now)) tt }
     ensures cost { reads.new ≤ reads.old + 1026 * places.now.blocks.active }
 {
@@ -56,7 +56,7 @@ fn check_rings<A: Allocator, C: Ledger>(
     Ok(())
 }
 
-/// The reject value for `free` free slots. The read is counted.
+/// Returns the reject value for `free` free slots. The read is counted.
 fn read_reject<A: Allocator, C: Ledger>(
     places: &Places<A>,
     free: usize,
@@ -70,7 +70,7 @@ fn read_reject<A: Allocator, C: Ledger>(
     places.reject[free]
 }
 
-/// Whether each reject value is in range.
+/// Tests whether each reject value is in range.
 fn check_rejects<A: Allocator, C: Ledger>(
     places: &Places<A>,
     reads: &mut Ticks<C>,
@@ -88,7 +88,7 @@ fn check_rejects<A: Allocator, C: Ledger>(
     Ok(())
 }
 
-/// Whether each slot that is not in use is blank.
+/// Tests whether each slot that is not in use is blank.
 fn check_idle_slots<A: Allocator, C: Ledger>(
     places: &Places<A>,
     reads: &mut Ticks<C>,
@@ -107,7 +107,7 @@ fn check_idle_slots<A: Allocator, C: Ledger>(
     Ok(())
 }
 
-/// Whether each block that is not in use is blank.
+/// Tests whether each block that is not in use is blank.
 fn check_idle_blocks<A: Allocator, C: Ledger>(
     places: &Places<A>,
     reads: &mut Ticks<C>,
@@ -124,7 +124,7 @@ fn check_idle_blocks<A: Allocator, C: Ledger>(
     Ok(())
 }
 
-/// Whether slots, rings, blocks, lists and reject values are as they must be.
+/// Tests whether slots, rings, blocks, lists and reject values are as they must be.
 pub(crate) fn check_sound<A: Allocator, C: Ledger>(
     places: &Places<A>,
     reads: &mut Ticks<C>,
@@ -134,8 +134,8 @@ pub(crate) fn check_sound<A: Allocator, C: Ledger>(
     requires rejects { length places.now.reject.items ≡ 257 }
     requires tried { pos 1 ≤ℤ places.now.blocks.max_trial }
 
-    //= `check_sound` tests slots, blocks and reject values that nobody has vouched for, of the right sizes and with `max_trial` above 0:
-    //  `Ok` exactly if they are `Sound`.
+    //= `check_sound` tests untrusted slots, blocks and reject values of the right sizes and with `max_trial` above 0: `Ok` exactly if they
+    //  are `Sound`.
     ensures answer { OkIff result (Sound (places_of places.now)) tt }
 
     //= It counts at most five reads of records for each slot and 512 more.

@@ -1,4 +1,4 @@
-//! Whether the free slots of a block are in one ring, where nobody has vouched for the slots.
+//! Tests of whether the free slots of a block are in one ring, for untrusted slots.
 //!
 //! A ring is walked from its head for as many steps as the block has free slots. Each step goes to a free slot of the
 //! block that names the slot before it, so no slot is met twice unless the walk comes back to the head. If it doesn't
@@ -11,7 +11,7 @@ use cedar_slots::{BLOCK_SIZE, Corrupt, NInfoRecord, NodeRecord, Slots, Ticks};
 use std::alloc::Allocator;
 use std::sync::ledger::Ledger;
 
-/// The node record of a slot. The read is counted.
+/// Returns the node record of a slot. The read is counted.
 pub(crate) fn read_node<A: Allocator, C: Ledger>(
     slots: &Slots<A>,
     slot: usize,
@@ -25,7 +25,7 @@ pub(crate) fn read_node<A: Allocator, C: Ledger>(
     slots.nodes.read(slot)
 }
 
-/// The labels of a slot. The read is counted.
+/// Returns the labels of a slot. The read is counted.
 pub(crate) fn read_info<A: Allocator, C: Ledger>(
     slots: &Slots<A>,
     slot: usize,
@@ -39,7 +39,7 @@ pub(crate) fn read_info<A: Allocator, C: Ledger>(
     slots.infos.read(slot)
 }
 
-/// Whether a slot is free.
+/// Returns whether a slot is free.
 pub(crate) fn read_free<A: Allocator, C: Ledger>(
     slots: &Slots<A>,
     slot: usize,
@@ -53,7 +53,7 @@ pub(crate) fn read_free<A: Allocator, C: Ledger>(
     slot != 0 && node.check < 0
 }
 
-/// How many slots of `block` are free, if none of them has a label.
+/// Returns how many slots of `block` are free, if none of them has a label.
 pub(crate) fn count_free<A: Allocator, C: Ledger>(
     slots: &Slots<A>,
     block: usize,
@@ -79,7 +79,7 @@ pub(crate) fn count_free<A: Allocator, C: Ledger>(
     Ok(count)
 }
 
-/// The free slot after the free slot `slot` of `block`.
+/// Returns the free slot after the free slot `slot` of `block`.
 fn follow_ring<A: Allocator, C: Ledger>(
     slots: &Slots<A>,
     block: usize,
@@ -106,7 +106,7 @@ fn follow_ring<A: Allocator, C: Ledger>(
     Ok(next)
 }
 
-/// Whether the `count` free slots of `block` are in a ring, of which `head` is one.
+/// Tests whether the `count` free slots of `block` are in a ring, of which `head` is one.
 pub(crate) fn check_ring<A: Allocator, C: Ledger>(
     slots: &Slots<A>,
     block: usize,

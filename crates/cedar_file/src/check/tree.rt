@@ -1,4 +1,4 @@
-//! Whether the held slots of a table stand for a tree.
+//! Tests of whether the held slots of a table stand for a tree.
 
 ghost use Rattle.std.specs.Prelude.{◌*◌, ◌+◌, ◌/◌, ◌<◌, ◌^◌, ◌↔◌, ◌≡◌, ◌≢◌, ◌≤◌, count_by, IfOk, IsTrue, MatchOption, OnErr, OnOk, pos, ℕ};
 ghost use Rattle.cedar_file.specs.Words.{AtBase, base_in, base_of, block_at, cells, ComesBackIn, fields, GoesDown, GoesOn, GoesUp, HasRoom, is_held, is_value, IsTable, IsWellFormed, LooksLikeRoot, MeetsNode, OwnNumber, range_with_len, reading, size_of, StepsDown, StepsUp, walk_start};
@@ -15,21 +15,21 @@ pub(crate) struct Walk {
     /// The node below which the walk goes on, and where the slots of that node begin.
     node: usize,
     base: usize,
-    /// The label of its child that comes next, or 0 where all that is below the node was met.
+    /// The label of its child that comes next, or 0 if all that is below the node was met.
     label: u8,
     /// How many slots were met, and how many numbers.
     met: usize,
     numbers: usize,
 }
 
-/// Whether a key may have this number.
+/// Returns whether a key may have this number.
 fn is_in_range(value: i32) -> bool
     ensures { result ≡ is_value value }
 {
     (0..=2147483645).contains(&value)
 }
 
-/// Whether a check field names this owner.
+/// Returns whether a check field names this owner.
 fn names(check: i32, owner: usize) -> bool
     requires { owner < 2 ^ 31 }
     ensures { IsTrue result ↔ (check ≡ pos owner) }
@@ -37,7 +37,7 @@ fn names(check: i32, owner: usize) -> bool
     check == owner as i32
 }
 
-/// The record of a slot in use. The read is counted.
+/// Returns the record of a slot in use. The read is counted.
 fn read_node<L: Layout, const SLOTS: usize, A: Allocator, C: Ledger>(
     table: &Table<L, SLOTS, A>,
     slot: usize,
@@ -54,7 +54,7 @@ fn read_node<L: Layout, const SLOTS: usize, A: Allocator, C: Ledger>(
     NodeRecord { base, check }
 }
 
-/// The labels of a slot in use. The read is counted.
+/// Returns the labels of a slot in use. The read is counted.
 fn read_info<L: Layout, const SLOTS: usize, A: Allocator, C: Ledger>(
     table: &Table<L, SLOTS, A>,
     slot: usize,
@@ -71,7 +71,7 @@ fn read_info<L: Layout, const SLOTS: usize, A: Allocator, C: Ledger>(
     NInfoRecord { sibling, child }
 }
 
-/// The owner that a check field names, if that is a slot in use.
+/// Returns the owner that a check field names, if that is a slot in use.
 fn owner_named<L: Layout, const SLOTS: usize, A: Allocator>(
     table: &Table<L, SLOTS, A>,
     check: i32,
@@ -88,7 +88,7 @@ fn owner_named<L: Layout, const SLOTS: usize, A: Allocator>(
     Some(owner)
 }
 
-/// Where the slots of a node with this base field begin, and 0 if it says nothing of that.
+/// Returns where the slots of a node with this base field begin, or 0 if it doesn't say.
 fn base_in<L: Layout>(field: i32) -> usize
     ensures { result ≡ base_in (reading L.kind field) }
 {
@@ -251,7 +251,7 @@ fn go_up<L: Layout, const SLOTS: usize, A: Allocator, C: Ledger>(
     };
     let base = base_in::<L>(read_node(table, owner, reads).base);
     let label = read_info(table, walk.node, reads).sibling;
-    // The step from a base to a slot turns a slot into its label too.
+    // The step from a base to a slot also turns a slot into its label.
     if table.ordered() && label != 0 && usize::from(label) <= base ^ walk.node {
         return Err(Corrupt::siblings(owner, "ordered sibling chain is not sorted"));
     }
@@ -285,7 +285,7 @@ fn go_on<L: Layout, const SLOTS: usize, A: Allocator, C: Ledger>(
     go_up(table, walk, reads)
 }
 
-/// Where a walk begins, if the root's slot looks like it.
+/// Returns where a walk begins, if the root's slot looks like it.
 fn begin_walk<L: Layout, const SLOTS: usize, A: Allocator, C: Ledger>(
     table: &Table<L, SLOTS, A>,
     reads: &mut Ticks<C>,
@@ -314,7 +314,7 @@ fn begin_walk<L: Layout, const SLOTS: usize, A: Allocator, C: Ledger>(
     })
 }
 
-/// Walks over the whole tree. Each node is come to once and left once: a walk of more steps goes round in a chain of
+/// Walks over the whole tree. Each node is entered once and left once: a walk of more steps goes round in a chain of
 /// labels.
 fn walk_tree<L: Layout, const SLOTS: usize, A: Allocator, C: Ledger>(
     table: &Table<L, SLOTS, A>,
@@ -337,7 +337,7 @@ fn walk_tree<L: Layout, const SLOTS: usize, A: Allocator, C: Ledger>(
     Err(Corrupt::siblings(walk.node, "sibling chain contains a cycle"))
 }
 
-/// The record of a block in use. The read is counted.
+/// Returns the record of a block in use. The read is counted.
 fn read_block<L: Layout, const SLOTS: usize, A: Allocator, C: Ledger>(
     table: &Table<L, SLOTS, A>,
     block: usize,
@@ -351,7 +351,7 @@ fn read_block<L: Layout, const SLOTS: usize, A: Allocator, C: Ledger>(
     table.block(block)
 }
 
-/// How many slots are held, by what the blocks count as free. Each block's record is a counted read.
+/// Returns how many slots are held, by what the blocks count as free. Each block's record is a counted read.
 fn count_held<L: Layout, const SLOTS: usize, A: Allocator, C: Ledger>(
     table: &Table<L, SLOTS, A>,
     reads: &mut Ticks<C>,
@@ -367,9 +367,9 @@ fn count_held<L: Layout, const SLOTS: usize, A: Allocator, C: Ledger>(
     1 + table.size() - free
 }
 
-/// Whether the held slots stand for a tree: just those of its nodes and numbers, with values in range, labels in their
-/// order and as many entries as the table says. A slot is met once on the walk over the nodes, since it has one owner:
-/// so if as many were met as are held, these are all. It takes no memory.
+/// Tests whether the held slots stand for a tree: they are exactly those of its nodes and numbers, with values in range, labels
+/// in their order and as many entries as the table says. A slot is met once on the walk over the nodes, since it has one owner:
+/// so if as many were met as are held, these are all. It allocates nothing.
 pub fn check_tree<L: Layout, const SLOTS: usize, A: Allocator, C: Ledger>(
     table: &Table<L, SLOTS, A>,
     reads: &mut Ticks<C>,

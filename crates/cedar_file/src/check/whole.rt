@@ -1,4 +1,4 @@
-//! Whether a table that comes from a file has its slots, rings, blocks and lists as they must be, and stands for a tree.
+//! Tests of whether a table from a file has its slots, rings, blocks and lists as they must be, and stands for a tree.
 
 ghost use Rattle.std.specs.Prelude.{◌*◌, ◌+◌, ◌≤ℤ◌, ◌≤◌, length, OkIff, pos};
 ghost use Rattle.cedar_file.specs.Words.{capacity_of, fields, IsPowerOfTwo, IsSlotLimit, IsTable, IsWellFormed};
@@ -10,9 +10,9 @@ use cedar_table::{Layout, Table};
 use std::alloc::Allocator;
 use std::sync::ledger::Ledger;
 
-/// Whether slots, rings, blocks and lists that nobody has vouched for are those of a table. The sizes and `max_trial`
-/// are tested before, and what the held slots stand for isn't tested. It takes no memory, and reads at most five records
-/// a slot and 512 more.
+/// Tests whether untrusted slots, rings, blocks and lists are those of a table. The sizes and `max_trial` are tested
+/// before, and what the held slots stand for isn't tested. It allocates nothing, and reads at most five records a slot
+/// and 512 more.
 pub fn check_places<L: Layout, const SLOTS: usize, A: Allocator, C: Ledger>(
     table: &Table<L, SLOTS, A>,
     reads: &mut Ticks<C>,
@@ -30,8 +30,8 @@ pub fn check_places<L: Layout, const SLOTS: usize, A: Allocator, C: Ledger>(
     check_sound(table.places(), reads)
 }
 
-/// Whether records that nobody has vouched for are those of a well-formed table. The sizes and `max_trial` are tested
-/// before. It takes no memory, and reads at most sixteen records a slot and 1024 more.
+/// Tests whether untrusted records are those of a well-formed table. The sizes and `max_trial` are tested before. It
+/// allocates nothing, and reads at most sixteen records a slot and 1024 more.
 pub fn check_well_formed<L: Layout, const SLOTS: usize, A: Allocator, C: Ledger>(
     table: &Table<L, SLOTS, A>,
     reads: &mut Ticks<C>,

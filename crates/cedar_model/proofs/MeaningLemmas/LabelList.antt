@@ -85,12 +85,6 @@ owned_split (valued v) ls = refl
 owned_split (own v) ls = refl
 owned_split top ls = refl
 
-pub owned_few : (h : Head) → length (owned_slots h []) ≤ 1
-owned_few plain = omega arith
-owned_few (valued v) = omega arith
-owned_few (own v) = omega arith
-owned_few top = omega arith
-
 -- whether a node has a number's slot, by its head
 pub number_there : (size : ℕ) (T : Cells) (s x : ℕ) (h : Head) (ls : List ℕ) → (s ≡ 0 → ⊥) → x ≡ below T s 0 → T.check x ≡ pos s → Family size T s h ls → 0 ∷ [] ≡ owned_slots h []
 number_there size T s x plain ls z at o f =

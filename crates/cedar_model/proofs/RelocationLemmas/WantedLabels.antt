@@ -48,13 +48,6 @@ pub record BeforeLabel (o : Bool) (l : ℕ) (labels items : List ℕ) (i : ℕ) 
 pub writing_none : (o : Bool) (l : ℕ) (labels items : List ℕ) → items ≡ [] → Writing o l labels items 0 false
 writing_none o l labels items e = record { listed = ap (λ v. v ++ with_label o l labels) (sym e); few = omega (arith, ap length e) }
 
-few_one : (i n : ℕ) (placed : Bool) → n ≤ i + cond placed 1 0 → n ≤ i + 1
-few_one i n true h = h
-few_one i n false h = omega arith
-
-pub writing_few : (o : Bool) (l : ℕ) (labels items : List ℕ) (i : ℕ) (placed : Bool) → i < length labels → length labels < 256 → BeforeLabel o l labels items i placed → length items < 256
-writing_few o l labels items i placed h few w = omega (arith, few_one i (length items) placed w.few)
-
 -- the new label is written
 pub put_new : (o : Bool) (l : ℕ) (labels items more : List ℕ) (i : ℕ) (placed now t : Bool) → i < length labels → placed ≡ false → t ≡ goes_before o l (get_or labels i 0) → t ≡ true → more ≡ items ++ l ∷ [] → now ≡ true → Writing o l labels items i placed → BeforeLabel o l labels more i now
 put_new o l labels items more i placed now t h before test goes is placed_now w =
@@ -124,11 +117,6 @@ written o l x labels items more i placed at is w =
     }
 
 -- ---- all labels are written
-
-pub all_few : (o : Bool) (l : ℕ) (labels items : List ℕ) (i : ℕ) (placed : Bool) → i ≤ length labels → length labels < 256 → placed ≡ false → Writing o l labels items i placed → length items < 256
-all_few o l labels items i placed upto few before w =
-    let short : length items ≤ i + cond false 1 0 = subst (λ p. length items ≤ i + cond p 1 0) before w.few in
-    omega (arith, short)
 
 pub all_placed : (o : Bool) (l : ℕ) (labels items : List ℕ) (i : ℕ) (placed : Bool) → length labels ≤ i → placed ≡ true → Writing o l labels items i placed → items ≡ with_label o l labels
 all_placed o l labels items i placed done before w =

@@ -11,8 +11,8 @@ use std::marker::Brand;
 use std::sync::ledger::{Blank, Ledger};
 
 impl<L: Layout, const SLOTS: usize, A: Allocator + Copy> Trie<L, SLOTS, A> {
-    /// Loads the dictionary that was saved. It takes its memory from `alloc`. The bytes that are asked of memory are counted, and the
-    /// records that are read to test the table.
+    /// Loads the dictionary that was saved. It allocates from `alloc`. It counts the bytes that it allocates, and the records that it reads
+    /// to test the table.
     ///
     /// ```
     /// let mut file = Watched::new(saved);
@@ -20,9 +20,9 @@ impl<L: Layout, const SLOTS: usize, A: Allocator + Copy> Trie<L, SLOTS, A> {
     /// ```
     ///
     /// # Errors
-    /// The first refusal of the header and of the input's length, if there is one; `CorruptData` where the bytes are of no
-    /// well-formed table; `AllocationFailed` with the number of elements where a request was refused, once the header has
-    /// passed; `Io` where the reader failed, which bytes in memory never do.
+    /// The first fault of the header and of the input's length, if there is one; `CorruptData` if the bytes are of no well-formed table;
+    /// `AllocationFailed` with the number of elements if an allocation was refused, once the header has passed; `Io` if the reader failed,
+    /// which bytes in memory never do.
     pub fn load_counted<S: Source, C: Ledger, D: Ledger>(
         alloc: A,
         reader: &mut S,
@@ -32,24 +32,24 @@ impl<L: Layout, const SLOTS: usize, A: Allocator + Copy> Trie<L, SLOTS, A> {
     ) -> Result<Self, CedarPersistenceError>
         requires limit { IsLimit SLOTS }
 
-        //= A dictionary is loaded only from just the bytes of its table in one of the versions, and the table is well-formed, also where
+        //= A dictionary is loaded only from exactly the bytes of its table in one of the versions, and the table is well-formed, even if
         //  the reader fails. [also load_from_reader_with_limit, load_from_reader; by LoadsBy, bytes, formed]
-        //= From a reader that tells its bytes and doesn't fail, and so from any bytes in memory: the answer is the first refusal of header
-        //  and length; else the dictionary whose table the bytes are in one of the versions, or that they are of no well-formed table in
-        //  any; or, once the header has passed, that a list found no room. [also load_from_reader_with_limit, load_from_reader; by answer,
-        //  LoadAnswers]
-        //= `Io` is answered only where the reader failed, now or before, and so never from bytes in memory. [also
+        //= From a reader whose bytes are known and that doesn't fail, and so from any bytes in memory, a load returns the first refusal of
+        //  header and length. Otherwise it returns the dictionary whose table the bytes are in one of the versions, or that they are of no
+        //  well-formed table in any; or, once the header has passed, that a list found no room. [also load_from_reader_with_limit,
+        //  load_from_reader; by answer, LoadAnswers]
+        //= A load returns `Io` only if the reader failed, now or before, and so never from bytes in memory. [also
         //  load_from_reader_with_limit, load_from_reader; by io]
-        //= Want of memory is answered only with the number of elements of one of the four lists of a header that has passed, also where the
+        //= Lack of memory is reported only with the number of elements of one of the four lists of a header that has passed, even if the
         //  reader fails. [also load_from_reader_with_limit, load_from_reader; by lacks, LacksNoMore]
         ensures loads { LoadsBy (λ trie. trie.table) L.kind SLOTS memory_limit (S.remaining reader.old) (S.remaining reader.new) (S.failed reader.new) result }
 
-        //= Where a read was broken off, neither a dictionary nor `Truncated` is the answer. [also load_from_reader_with_limit,
+        //= If a read was broken off, a load returns neither a dictionary nor `Truncated`. [also load_from_reader_with_limit,
         //  load_from_reader; by TellsBreaks]
         ensures told { TellsBreaks (S.broken reader.old) (S.broken reader.new) result }
 
-        //= By its counts, before the header has passed nothing is asked of memory and no record is read for the table's test; then at most
-        //  the need, and sixteen reads a slot and 1024 more. [with reads]
+        //= By its counts, before the header has passed it allocates nothing and reads no record for the table's test. Then it allocates at
+        //  most the need, and makes at most sixteen reads a slot and 1024 more. [with reads]
         ensures asked { CountsWithin (layout_byte L.kind) SLOTS memory_limit (S.remaining reader.old) need asked.old asked.new }
         ensures reads { CountsWithin (layout_byte L.kind) SLOTS memory_limit (S.remaining reader.old) (λ h. 16 * h.capacity + 1024) reads.old reads.new }
     {
@@ -57,7 +57,7 @@ impl<L: Layout, const SLOTS: usize, A: Allocator + Copy> Trie<L, SLOTS, A> {
         Ok(Trie { table })
     }
 
-    /// Loads the dictionary that was saved, if that asks for `memory_limit` bytes at most. It takes its memory from `alloc`. A reader is
+    /// Loads the dictionary that was saved, if it needs at most `memory_limit` bytes of memory. It allocates from `alloc`. A reader is
     /// handed over in a `Watched`, and bytes in memory as they are.
     ///
     /// ```
@@ -86,7 +86,7 @@ impl<L: Layout, const SLOTS: usize, A: Allocator + Copy> Trie<L, SLOTS, A> {
         )
     }
 
-    /// `load_from_reader_with_limit` with the limit by default, 2^29 bytes.
+    /// `load_from_reader_with_limit` with the default limit, 2^29 bytes.
     ///
     /// ```
     /// let mut file = Watched::new(saved);

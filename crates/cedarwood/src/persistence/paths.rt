@@ -11,21 +11,21 @@ use std::io::BufReader;
 use std::rt::Files;
 
 impl<L: Layout, const SLOTS: usize, A: Allocator + Copy> Trie<L, SLOTS, A> {
-    /// Writes the dictionary's file as `save_to_writer` does, and puts it in the place of the one at `path`. It is written to a file
-    /// beside that, `path` with `.new` behind it, through a buffer of 8192 bytes, flushed and synced to the disk, and then renamed.
-    /// So after an error the old file is as it was, and no new one is left if it could be removed; a file of that name that was
-    /// there is lost. The name and the buffer are from the dictionary's own allocator.
+    /// Writes the dictionary's file as `save_to_writer` does, and replaces the one at `path` by it. It is written to a file beside that,
+    /// `path` with `.new` after it, through a buffer of 8192 bytes, flushed and synced to the disk, and then renamed. So after an error the
+    /// old file is as it was, and the new one is removed if that is possible; a file that had that name before is lost. Name and buffer are
+    /// allocated from the dictionary's own allocator.
     ///
-    /// Where `path` leads to something other than a file, such as a pipe or a device, that is written to as it is. A link is replaced
-    /// by the file.
+    /// If `path` leads to something other than a file, such as a pipe or a device, that is written to as it is. A link is replaced by the
+    /// file.
     ///
     /// ```
     /// cedar.save_to_path(files, "words.cedar")?;
     /// ```
     ///
     /// # Errors
-    /// `Io` where a call on a file failed; `AllocationFailed` with the length of the new name, which is asked for first, or with 8192
-    /// where there is no memory for the buffer, which is asked for once the file is made.
+    /// `Io` if a call on a file failed; `AllocationFailed` with the length of the new name, which is allocated first, or with 8192 if there
+    /// is no memory for the buffer, which is allocated once the file is made.
     pub fn save_to_path<F: Files>(&self, files: &F, path: &str) -> Result<(), CedarPersistenceError>
         //= A save to a path fails with `Io`, with `AllocationFailed` of the 8192 bytes of its buffer, or with that of the new file's name,
         //  four bytes longer than the path. [also save_v1_0_to_path]
@@ -58,8 +58,8 @@ impl<L: Layout, const SLOTS: usize, A: Allocator + Copy> Trie<L, SLOTS, A> {
         self.save_file(files, path, FULL_MINOR)
     }
 
-    /// Loads the dictionary that was saved in a file, through a buffer of 8192 bytes, if its table asks for `memory_limit` bytes at most.
-    /// Table and buffer take their memory from `alloc`.
+    /// Loads the dictionary that was saved in a file, through a buffer of 8192 bytes, if its table needs at most `memory_limit` bytes of
+    /// memory. It allocates table and buffer from `alloc`.
     ///
     /// ```
     /// let again = Cedar::load_from_path_with_limit(rt.alloc(), files, "words.cedar", 1048576)?;
@@ -67,8 +67,8 @@ impl<L: Layout, const SLOTS: usize, A: Allocator + Copy> Trie<L, SLOTS, A> {
     /// ```
     ///
     /// # Errors
-    /// As `load_from_reader_with_limit`; also `Io` where the file can't be opened, and then `AllocationFailed` with 8192 where there is
-    /// no memory for the buffer. Want of memory otherwise is that of a list of a file whose header has passed.
+    /// As `load_from_reader_with_limit`; also `Io` if the file can't be opened, and then `AllocationFailed` with 8192 if there is no memory
+    /// for the buffer. Any other `AllocationFailed` is for a list of a file whose header has passed.
     pub fn load_from_path_with_limit<F: Files>(
         alloc: A,
         files: &F,
@@ -77,10 +77,10 @@ impl<L: Layout, const SLOTS: usize, A: Allocator + Copy> Trie<L, SLOTS, A> {
     ) -> Result<Self, CedarPersistenceError>
         requires limit { IsLimit SLOTS }
 
-        //= A load by path that succeeds gives a well-formed table. [also load_from_path]
+        //= A load by path that succeeds returns a well-formed table. [also load_from_path]
         ensures formed { IfOk result (λ trie. IsWellFormed SLOTS trie.table) }
 
-        //= In a load by path want of memory is of the buffer's 8192 bytes, or of one of the four lists of a header that has passed, under
+        //= In a load by path, lack of memory is of the buffer's 8192 bytes, or of one of the four lists of a header that has passed, under
         //  the limit that the load was given. [also load_from_path; by LacksByPath]
         ensures lacks { IfErr result (LacksByPath (layout_byte L.kind) SLOTS memory_limit) }
     {
@@ -90,7 +90,7 @@ impl<L: Layout, const SLOTS: usize, A: Allocator + Copy> Trie<L, SLOTS, A> {
         Self::load_from_reader_with_limit(alloc, &mut reader, memory_limit)
     }
 
-    /// `load_from_path_with_limit` with the limit by default, 2^29 bytes.
+    /// `load_from_path_with_limit` with the default limit, 2^29 bytes.
     ///
     /// ```
     /// let again = Cedar::load_from_path(rt.alloc(), files, "words.cedar")?;

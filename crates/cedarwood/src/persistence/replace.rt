@@ -11,14 +11,14 @@ use std::io::{BufWriter, Write};
 use std::rt::Files;
 use std::{fs, io};
 
-/// How many bytes a buffer of a file holds.
+/// How many bytes a buffer of a file has.
 const BUFFER_LEN: usize = 8192;
 
-/// What stands behind the name of a file while it is written.
+/// The suffix of a file's name while it is written.
 const SUFFIX: &str = ".new";
 
 impl<L: Layout, const SLOTS: usize, A: Allocator + Copy> Trie<L, SLOTS, A> {
-    /// Puts the dictionary's file in a minor version of the format in the place of what is at `path`.
+    /// Replaces what is at `path` by the dictionary's file in a minor version of the format.
     pub(crate) fn save_file<F: Files>(
         &self,
         files: &F,
@@ -97,7 +97,7 @@ fn name_beside<A: Allocator>(alloc: A, path: &str) -> Result<String<A>, CedarPer
     }
 }
 
-/// The path with the suffix behind it, in one request.
+/// The path with the suffix, in one allocation.
 fn with_suffix<A: Allocator>(alloc: A, path: &str) -> Result<String<A>, AllocError> {
     let mut name = String::with_capacity(alloc, path.len() + SUFFIX.len())?;
     name.push_str(path)?;
@@ -105,7 +105,8 @@ fn with_suffix<A: Allocator>(alloc: A, path: &str) -> Result<String<A>, AllocErr
     Ok(name)
 }
 
-/// Renames the new file to the name of the old one if it was written whole, and else removes it. The error that is returned is the first one.
+/// Renames the new file to the name of the old one if it was written whole, and otherwise removes it. The error that is returned is the
+/// first one.
 fn put_in_place<F: Files>(
     files: &F,
     new: &str,
@@ -133,7 +134,7 @@ fn rename<F: Files>(files: &F, from: &str, to: &str) -> Result<(), CedarPersiste
     Ok(())
 }
 
-/// A buffer is refused only where memory is.
+/// A buffer is refused only if memory is.
 pub(crate) fn no_buffer(_error: io::Error) -> CedarPersistenceError
     ensures { result ≡ AllocationFailed 8192 }
 {

@@ -1,4 +1,4 @@
-//! The walks of a dictionary: the prefix walk and the prediction, as iterators and collected, and all entries.
+//! The iterations of a dictionary: the prefix walk and the prediction, as iterators and collected, and all entries.
 
 ghost use Rattle.std.specs.Prelude.{◌≡◌, IfErr, IfOk, length};
 ghost use Rattle.cedarwood.specs.Words.{front, IsBlankOf, predict, walk};
@@ -12,8 +12,8 @@ use std::alloc::Allocator;
 use std::sync::ledger::{Blank, Ledger};
 
 impl<L: Layout, const SLOTS: usize, A: Allocator + Copy> Trie<L, SLOTS, A> {
-    /// The fronts of a query that are held, shortest first: for each the value, and one less than the bytes of the front. The walk
-    /// borrows the dictionary and the query, and takes no memory.
+    /// The keys that a query begins with, shortest first: for each its value, and one less than its bytes. The iterator borrows the
+    /// dictionary and the query, and allocates nothing.
     ///
     /// ```
     /// cedar.build(&[("ne", 1), ("net", 7)])?;
@@ -48,8 +48,7 @@ impl<L: Layout, const SLOTS: usize, A: Allocator + Copy> Trie<L, SLOTS, A> {
         self.common_prefix_iter_bytes(query.as_bytes())
     }
 
-    /// `common_prefix_iter_bytes`, with a count of the comparisons of a check field that the walk makes: never more than twice as
-    /// many as the query has bytes.
+    /// `common_prefix_iter_bytes`, and counts its comparisons of a check field: never more than twice as many as the query has bytes.
     ///
     /// ```
     /// cedar.update("net", 7)?;
@@ -71,7 +70,7 @@ impl<L: Layout, const SLOTS: usize, A: Allocator + Copy> Trie<L, SLOTS, A> {
         CountedPrefixIter::new(self.common_prefix_iter_bytes(query), blank)
     }
 
-    /// What `common_prefix_iter_bytes` gives, in a vector, whose memory is from the dictionary's own allocator.
+    /// The items of `common_prefix_iter_bytes` in a vector from the dictionary's own allocator.
     ///
     /// ```
     /// cedar.build(&[("ne", 1), ("net", 7)])?;
@@ -80,12 +79,12 @@ impl<L: Layout, const SLOTS: usize, A: Allocator + Copy> Trie<L, SLOTS, A> {
     /// ```
     ///
     /// # Errors
-    /// `Memory` where a request was refused.
+    /// `Memory` if an allocation was refused.
     pub fn common_prefix_search_bytes(
         &self,
         query: &[u8],
     ) -> Result<Vec<(i32, usize), A>, CedarError>
-        //= The vectors of prefix walks and of predictions have these lists, and are refused for memory alone. [with refused; also
+        //= The vectors of prefix walks and of predictions have these lists, and fail only with `Memory`. [with refused; also
         //  common_prefix_predict_bytes, common_prefix_search, common_prefix_predict]
         ensures found { IfOk result (λ found. found.items ≡ front self.now.state.tree query.now) }
         ensures refused { IfErr result (λ e. e ≡ CedarError.Memory) }
@@ -105,7 +104,7 @@ impl<L: Layout, const SLOTS: usize, A: Allocator + Copy> Trie<L, SLOTS, A> {
     /// ```
     ///
     /// # Errors
-    /// `Memory` where a request was refused.
+    /// `Memory` if an allocation was refused.
     pub fn common_prefix_search(&self, query: &str) -> Result<Vec<(i32, usize), A>, CedarError>
         ensures found { IfOk result (λ found. found.items ≡ front self.now.state.tree query.now) }
         ensures refused { IfErr result (λ e. e ≡ CedarError.Memory) }
@@ -113,8 +112,8 @@ impl<L: Layout, const SLOTS: usize, A: Allocator + Copy> Trie<L, SLOTS, A> {
         self.common_prefix_search_bytes(query.as_bytes())
     }
 
-    /// The keys that begin with a query, each before its extensions and in the order of the walk: for each the value, and how many
-    /// bytes follow the query. The walk borrows the dictionary and the query, and takes no memory.
+    /// The keys that begin with a query, each before its extensions and in iteration order: for each the value, and how many bytes follow
+    /// the query. The iterator borrows the dictionary and the query, and allocates nothing.
     ///
     /// ```
     /// cedar.build(&[("ne", 1), ("net", 7)])?;
@@ -146,7 +145,7 @@ impl<L: Layout, const SLOTS: usize, A: Allocator + Copy> Trie<L, SLOTS, A> {
         self.common_prefix_predict_iter_bytes(query.as_bytes())
     }
 
-    /// What `common_prefix_predict_iter_bytes` gives, in a vector, whose memory is from the dictionary's own allocator.
+    /// The items of `common_prefix_predict_iter_bytes` in a vector from the dictionary's own allocator.
     ///
     /// ```
     /// cedar.build(&[("ne", 1), ("net", 7)])?;
@@ -155,7 +154,7 @@ impl<L: Layout, const SLOTS: usize, A: Allocator + Copy> Trie<L, SLOTS, A> {
     /// ```
     ///
     /// # Errors
-    /// `Memory` where a request was refused.
+    /// `Memory` if an allocation was refused.
     pub fn common_prefix_predict_bytes(
         &self,
         query: &[u8],
@@ -178,7 +177,7 @@ impl<L: Layout, const SLOTS: usize, A: Allocator + Copy> Trie<L, SLOTS, A> {
     /// ```
     ///
     /// # Errors
-    /// `Memory` where a request was refused.
+    /// `Memory` if an allocation was refused.
     pub fn common_prefix_predict(&self, query: &str) -> Result<Vec<(i32, usize), A>, CedarError>
         ensures found { IfOk result (λ found. found.items ≡ predict self.now.state.tree query.now) }
         ensures refused { IfErr result (λ e. e ≡ CedarError.Memory) }
@@ -186,8 +185,7 @@ impl<L: Layout, const SLOTS: usize, A: Allocator + Copy> Trie<L, SLOTS, A> {
         self.common_prefix_predict_bytes(query.as_bytes())
     }
 
-    /// All keys with their values, in the order of the walk. Each key is copied for its item, in memory of the dictionary's own
-    /// allocator.
+    /// All keys with their values, in iteration order. Each key is copied for its item, into memory of the dictionary's own allocator.
     ///
     /// ```
     /// cedar.build(&[("net", 7), ("ten", 2)])?;
@@ -197,10 +195,10 @@ impl<L: Layout, const SLOTS: usize, A: Allocator + Copy> Trie<L, SLOTS, A> {
     /// ```
     ///
     /// # Errors
-    /// `Memory` where a request was refused.
+    /// `Memory` if an allocation was refused.
     pub fn entries(&self) -> Result<Entries<'_, Self, A>, CedarError>
-        //= `entries` gives the walk of the tree, an item a call; call and items may be refused for memory alone, and a refused item is the
-        //  last one. [with refused; also Entries.next_gives]
+        //= `entries` gives the walk of the tree, an item a call. Call and items may fail only with `Memory`, and a failed item is the last
+        //  one. [with refused; also Entries.next_gives]
         ensures entries { IfOk result (λ entries. entries ≡ walk self.now.state.tree) }
         ensures refused { IfErr result (λ e. e ≡ CedarError.Memory) }
     {
@@ -217,13 +215,13 @@ impl<L: Layout, const SLOTS: usize, A: Allocator + Copy> Trie<L, SLOTS, A> {
     /// ```
     ///
     /// # Errors
-    /// `Memory` where a request was refused.
+    /// `Memory` if an allocation was refused.
     pub fn entries_str(&self) -> Result<Utf8Entries<'_, Self, A>, CedarError>
-        //= `entries_str` gives the same as text: a key that isn't UTF-8 gives an error in its place, and the walk goes on behind it. [also
-        //  Utf8Entries.next_gives]
+        //= `entries_str` gives the same as text. A key that isn't UTF-8 gives an error instead of its item, and the iteration goes on after
+        //  it. [also Utf8Entries.next_gives]
         ensures entries { IfOk result (λ entries. entries ≡ walk self.now.state.tree) }
 
-        //= `entries_str` is refused for memory alone.
+        //= `entries_str` fails only with `Memory`.
         ensures refused { IfErr result (λ e. e ≡ CedarError.Memory) }
     {
         Ok(Utf8Entries::new(self.entries()?))

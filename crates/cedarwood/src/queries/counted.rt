@@ -10,7 +10,7 @@ use std::iter::FusedIterator;
 use std::marker::Model;
 use std::sync::ledger::{Blank, Ledger};
 
-/// A prefix walk that holds a count of the comparisons of a check field that it has made.
+/// A prefix walk that counts its comparisons of a check field.
 ///
 /// A contract sees the items that are left, the count, and how many bytes the query has.
 #[derive(Drop)]

@@ -10,28 +10,28 @@ use cedar_walk::Numbered;
 use std::alloc::{AllocError, Allocator};
 use std::marker::Model;
 
-/// Where a cursor stands.
+/// Where a cursor is.
 #[derive(Clone, Copy)]
 pub(crate) enum CursorPlace {
     /// Before this node, whose key isn't written yet.
     Before(Numbered),
-    /// It has been at this node, which has a number, so many labels below the node where the walk began, and the key is the node's.
+    /// It has been at this node, which has a number and is so many labels below the node where the walk began. The key is the node's.
     At { slot: usize, depth: usize },
     /// Nothing is left.
     End,
 }
 
-/// The entries of a range one after another, each with its key lent from a buffer that the cursor holds. From one key to the next only
-/// the bytes in which they differ are written: so an entry costs less than by [`RangeEntries::next_into`].
+/// The entries of a range one after another, each with its key lent from a buffer of the cursor's. From one key to the next only the bytes
+/// in which they differ are written: so an entry costs less than by [`RangeEntries::next_into`].
 ///
 /// A contract sees the key that it holds, and the entries that are left.
 #[derive(Drop)]
 pub struct EntryCursor<'a, T: Walked, A: Allocator> {
     trie: &'a T,
-    // What all keys begin with, and where the walk below that stands.
+    // What all keys begin with, and where the walk below that is.
     start: &'a [u8],
     place: CursorPlace,
-    // The node of the first entry behind the range, and what the range ends before: contracts read this.
+    // The node of the first entry after the range, and what the range ends before: contracts read this.
     end: Option<Numbered>,
     to: Option<&'a [u8]>,
     key: Vec<u8, A>,
@@ -51,7 +51,7 @@ impl<'a, T: Walked, A: Allocator> Model for EntryCursor<'a, T, A> {
         × IsRangePlace (T.shown it.trie.now) it.start.now it.end × IsCursorEnd (T.shown it.trie.now) it.start.now (option_map (λ to. to.now) it.to) it.place it.end };
 }
 
-/// The place of a walk that is to come to a node next.
+/// The place of a walk that comes to a node next.
 fn before(next: Option<Numbered>) -> CursorPlace
     ensures { result ≡ place_before next }
 {
@@ -111,8 +111,8 @@ fn short_of(found: Option<Numbered>, end: Option<Numbered>) -> Option<Numbered>
 }
 
 impl<'a, T: Walked, A: Allocator> EntryCursor<'a, T, A> {
-    /// Goes to the next entry, and returns its value: None where no entry is left. Its key is [`EntryCursor::key`] until the next call.
-    /// After a refused request the cursor stands where it stood, and the call can be made again.
+    /// Goes to the next entry, and returns its value: None if no entry is left. Its key is [`EntryCursor::key`] until the next call. After
+    /// a refused allocation the cursor is where it was, and the call can be made again.
     ///
     /// ```
     /// cedar.build(&[("ne", 1), ("net", 7)])?;
@@ -125,11 +125,11 @@ impl<'a, T: Walked, A: Allocator> EntryCursor<'a, T, A> {
     /// ```
     ///
     /// # Errors
-    /// `Memory` where an entry is left and a request was refused.
+    /// `Memory` if an entry is left and an allocation was refused.
     #[inline]
     pub fn advance(&mut self) -> Result<Option<i32>, CedarError>
-        //= A cursor over the entries of a range gives the next one a call, whose key it holds then; where that is refused for memory, the
-        //  cursor stands where it stood. [with refused]
+        //= A cursor over the entries of a range gives the next one each call, and then holds its key. If that fails with `Memory`, the
+        //  cursor is where it was. [with refused]
         ensures found { IfOk result (λ found. MatchOption found ((self.old.left ≡ []) × (self.new.left ≡ [])) (λ value. self.old.left ≡ (self.new.key, value) ∷ self.new.left)) }
         ensures refused { IfErr result (λ e. (e ≡ CedarError.Memory) × (self.new.left ≡ self.old.left) × (0 < length self.old.left)) }
     {
@@ -162,8 +162,8 @@ impl<'a, T: Walked, A: Allocator> EntryCursor<'a, T, A> {
         }
     }
 
-    /// The key of the entry that [`EntryCursor::advance`] gave last. Before the first one it is empty; behind the last one, and after a
-    /// refused request, it may hold anything.
+    /// The key of the entry that [`EntryCursor::advance`] gave last. It is empty before the first one; after the last one, and after a
+    /// refused allocation, it may hold anything.
     ///
     /// ```
     /// cedar.build(&[("net", 7), ("ten", 2)])?;
@@ -180,8 +180,8 @@ impl<'a, T: Walked, A: Allocator> EntryCursor<'a, T, A> {
 }
 
 impl<'a, T: Walked, A: Allocator + Copy> RangeEntries<'a, T, A> {
-    /// A cursor over the entries that are left, whose buffer for keys is memory of the dictionary's own allocator. It asks for none before
-    /// the first entry.
+    /// A cursor over the entries that are left, whose buffer for keys comes from the dictionary's own allocator. It allocates nothing
+    /// before the first entry.
     ///
     /// ```
     /// cedar.build(&[("net", 7), ("ten", 2)])?;

@@ -9,9 +9,9 @@ use cedar_walk::last_numbered;
 use std::alloc::Allocator;
 
 impl<L: Layout, const SLOTS: usize, A: Allocator + Copy> Trie<L, SLOTS, A> {
-    /// The first key in the order of the walk, with its value, or None of an empty dictionary. Where labels ascend it is the least key by
-    /// bytes. It goes down from the root once. The key is written in memory of the dictionary's own allocator;
-    /// [`Trie::first_into`] writes it into a buffer of the caller.
+    /// The first key in iteration order, with its value, or None if the dictionary is empty. If labels ascend, it is the least key by
+    /// bytes. It goes down from the root once. The key is written into memory of the dictionary's own allocator; [`Trie::first_into`]
+    /// writes it into a buffer of the caller.
     ///
     /// ```
     /// cedar.build(&[("ten", 2), ("net", 7)])?;
@@ -20,12 +20,12 @@ impl<L: Layout, const SLOTS: usize, A: Allocator + Copy> Trie<L, SLOTS, A> {
     /// ```
     ///
     /// # Errors
-    /// `Memory` where there is an entry and a request was refused.
+    /// `Memory` if there is an entry and an allocation was refused.
     pub fn first(&self) -> Result<Option<(Vec<u8, A>, i32)>, CedarError>
-        //= `first` gives the first entry of the walk, and None exactly if there is none. [also first_into; by first_entry]
+        //= `first` returns the first entry of the walk, and None exactly if there is none. [also first_into; by first_entry]
         ensures found { IfOk result (λ found. MatchOption found (walk self.now.state.tree ≡ []) (λ entry. first_entry self.now.state.tree ≡ Some (entry.0.items, entry.1))) }
 
-        //= `first` and `last` are refused for memory alone, and only where there is an entry. [also first_into, last, last_into]
+        //= `first` and `last` fail only with `Memory`, and only if there is an entry. [also first_into, last, last_into]
         ensures refused { IfErr result (λ e. (e ≡ CedarError.Memory) × (0 < length (walk self.now.state.tree))) }
     {
         let mut key = Vec::new(self.table.allocator());
@@ -36,8 +36,8 @@ impl<L: Layout, const SLOTS: usize, A: Allocator + Copy> Trie<L, SLOTS, A> {
         }
     }
 
-    /// `first`, with its key written into a buffer in place of what that held. Returns the key's value, or None of an empty dictionary.
-    /// After a refused request the buffer may hold anything.
+    /// `first`, with its key written into a buffer instead of what that held. Returns the key's value, or None if the dictionary is empty.
+    /// After a refused allocation the buffer may hold anything.
     ///
     /// ```
     /// cedar.build(&[("ten", 2), ("net", 7)])?;
@@ -47,7 +47,7 @@ impl<L: Layout, const SLOTS: usize, A: Allocator + Copy> Trie<L, SLOTS, A> {
     /// ```
     ///
     /// # Errors
-    /// `Memory` where there is an entry and a request was refused.
+    /// `Memory` if there is an entry and an allocation was refused.
     pub fn first_into<B: Allocator>(&self, key: &mut Vec<u8, B>) -> Result<Option<i32>, CedarError>
         ensures found { IfOk result (λ found. MatchOption found (walk self.now.state.tree ≡ []) (λ value. first_entry self.now.state.tree ≡ Some (key.new.items, value))) }
         ensures refused { IfErr result (λ e. (e ≡ CedarError.Memory) × (0 < length (walk self.now.state.tree))) }
@@ -55,9 +55,9 @@ impl<L: Layout, const SLOTS: usize, A: Allocator + Copy> Trie<L, SLOTS, A> {
         self.entries_with_prefix_bytes(&[]).next_into(key)
     }
 
-    /// The last key in the order of the walk, with its value, or None of an empty dictionary. Where labels ascend it is the greatest key
-    /// by bytes. It goes down from the root once, at each node to the last child: past 255 children at most. The key is written in
-    /// memory of the dictionary's own allocator; [`Trie::last_into`] writes it into a buffer of the caller.
+    /// The last key in iteration order, with its value, or None if the dictionary is empty. If labels ascend, it is the greatest key by
+    /// bytes. It goes down from the root once, at each node to the last child: past at most 255 children. The key is written into memory of
+    /// the dictionary's own allocator; [`Trie::last_into`] writes it into a buffer of the caller.
     ///
     /// ```
     /// cedar.build(&[("ten", 2), ("net", 7)])?;
@@ -66,9 +66,9 @@ impl<L: Layout, const SLOTS: usize, A: Allocator + Copy> Trie<L, SLOTS, A> {
     /// ```
     ///
     /// # Errors
-    /// `Memory` where there is an entry and a request was refused.
+    /// `Memory` if there is an entry and an allocation was refused.
     pub fn last(&self) -> Result<Option<(Vec<u8, A>, i32)>, CedarError>
-        //= `last` gives the last entry of the walk, and None exactly if there is none. [also last_into; by last_entry]
+        //= `last` returns the last entry of the walk, and None exactly if there is none. [also last_into; by last_entry]
         ensures found { IfOk result (λ found. MatchOption found (walk self.now.state.tree ≡ []) (λ entry. last_entry self.now.state.tree ≡ Some (entry.0.items, entry.1))) }
         ensures refused { IfErr result (λ e. (e ≡ CedarError.Memory) × (0 < length (walk self.now.state.tree))) }
     {
@@ -80,8 +80,8 @@ impl<L: Layout, const SLOTS: usize, A: Allocator + Copy> Trie<L, SLOTS, A> {
         }
     }
 
-    /// `last`, with its key written into a buffer in place of what that held. Returns the key's value, or None of an empty dictionary.
-    /// After a refused request the buffer may hold anything.
+    /// `last`, with its key written into a buffer instead of what that held. Returns the key's value, or None if the dictionary is empty.
+    /// After a refused allocation the buffer may hold anything.
     ///
     /// ```
     /// cedar.build(&[("ten", 2), ("net", 7)])?;
@@ -91,7 +91,7 @@ impl<L: Layout, const SLOTS: usize, A: Allocator + Copy> Trie<L, SLOTS, A> {
     /// ```
     ///
     /// # Errors
-    /// `Memory` where there is an entry and a request was refused.
+    /// `Memory` if there is an entry and an allocation was refused.
     pub fn last_into<B: Allocator>(&self, key: &mut Vec<u8, B>) -> Result<Option<i32>, CedarError>
         ensures found { IfOk result (λ found. MatchOption found (walk self.now.state.tree ≡ []) (λ value. last_entry self.now.state.tree ≡ Some (key.new.items, value))) }
         ensures refused { IfErr result (λ e. (e ≡ CedarError.Memory) × (0 < length (walk self.now.state.tree))) }

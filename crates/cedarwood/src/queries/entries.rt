@@ -9,8 +9,8 @@ use std::alloc::{AllocError, Allocator};
 use std::iter::FusedIterator;
 use std::marker::Model;
 
-/// All keys with their values, each key before its extensions and in the order of the walk. Each key is copied for its item; where a
-/// request for memory is refused, the error is the last item.
+/// All keys with their values, each key before its extensions and in iteration order. Each key is copied for its item; if an allocation is
+/// refused, the error is the last item.
 ///
 /// A contract sees the entries that are left.
 #[derive(Drop)]
@@ -77,7 +77,7 @@ impl<'a, T: Walked, A: Allocator + Copy> Entries<'a, T, A> {
     /// ```
     #[must_use]
     pub fn len(&self) -> usize
-        //= `len` of entries is how many are still to come, none after a refused item; the size hint is from 0 to that. [also is_empty,
+        //= `len` of entries is how many are still to come, which is 0 after a failed item. The size hint is from 0 to that. [also is_empty,
         //  size_hint.hint, Utf8Entries::size_hint.hint]
         ensures { result ≡ length self.now }
     {
@@ -162,11 +162,11 @@ fn next_copied<T: Walked, A: Allocator + Copy>(
 pub enum EntryError {
     /// The key isn't UTF-8.
     Utf8,
-    /// A request for memory was refused.
+    /// An allocation was refused.
     Memory,
 }
 
-/// `Entries` with keys as text. A key that isn't UTF-8 gives an error in its place, and the walk goes on.
+/// `Entries` with keys as text. A key that isn't UTF-8 gives an error instead of its item, and the iteration goes on.
 ///
 /// A contract sees the entries that are left.
 #[derive(Drop)]

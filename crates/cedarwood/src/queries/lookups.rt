@@ -7,7 +7,7 @@ use crate::{Layout, Trie};
 use std::alloc::Allocator;
 
 impl<L: Layout, const SLOTS: usize, A: Allocator + Copy> Trie<L, SLOTS, A> {
-    /// The value at a key, or None where the key isn't held. It takes no memory.
+    /// The value at a key, or None if the key isn't held. It allocates nothing.
     ///
     /// ```
     /// cedar.update_bytes(b"net", 7)?;
@@ -15,7 +15,7 @@ impl<L: Layout, const SLOTS: usize, A: Allocator + Copy> Trie<L, SLOTS, A> {
     /// assert_eq!(rt; cedar.get_bytes(b"ne"), None);
     /// ```
     pub fn get_bytes(&self, key: &[u8]) -> Option<i32>
-        //= `get` is the number at the key, `contains_key` whether there is one. [also get, contains_key_bytes, contains_key]
+        //= `get` returns the value at the key, `contains_key` whether there is one. [also get, contains_key_bytes, contains_key]
         ensures { result ≡ number_at self.now.state.tree key.now }
     {
         let (value, _) = self.exact_match_search_bytes(key)?;
@@ -34,7 +34,7 @@ impl<L: Layout, const SLOTS: usize, A: Allocator + Copy> Trie<L, SLOTS, A> {
         self.get_bytes(key.as_bytes())
     }
 
-    /// Whether a key is held. It takes no memory.
+    /// Whether a key is held. It allocates nothing.
     ///
     /// ```
     /// cedar.update_bytes(b"net", 7)?;
@@ -59,8 +59,8 @@ impl<L: Layout, const SLOTS: usize, A: Allocator + Copy> Trie<L, SLOTS, A> {
         self.contains_key_bytes(key.as_bytes())
     }
 
-    /// The longest key that a text begins with: its value, and how many bytes it has. None where the text begins with no key. It goes
-    /// along the text once, and takes no memory.
+    /// The longest key that a text begins with: its value, and how many bytes it has. None if the text begins with no key. It goes along
+    /// the text once, and allocates nothing.
     ///
     /// ```
     /// cedar.build(&[("ne", 1), ("net", 7)])?;
@@ -68,8 +68,8 @@ impl<L: Layout, const SLOTS: usize, A: Allocator + Copy> Trie<L, SLOTS, A> {
     /// assert_eq!(rt; cedar.longest_match_bytes(b"ten"), None);
     /// ```
     pub fn longest_match_bytes(&self, text: &[u8]) -> Option<(i32, usize)>
-        //= `longest_match` is the last of `front`, with the length of that front in bytes: above 0, and the text's at most. [with within;
-        //  also longest_match; by longest_front]
+        //= `longest_match` returns the last of `front`, with the length of that prefix in bytes: above 0, and at most the text's length.
+        //  [with within; also longest_match; by longest_front]
         ensures longest { result ≡ longest_front self.now.state.tree text.now }
         ensures within { IfSome result (λ found. (0 < found.1) × (found.1 ≤ length text.now)) }
     {

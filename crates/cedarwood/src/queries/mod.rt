@@ -1,4 +1,4 @@
-//! What a dictionary answers: exact searches, prefix walks, predictions and entries.
+//! Queries of a dictionary: exact searches, prefix walks, predictions and entries.
 
 mod batch;
 mod calls;

@@ -1,15 +1,15 @@
-//! The prediction: the numbers of all keys that begin with a query.
+//! The prediction: the values of all keys that begin with a query.
 
 ghost use Rattle.std.specs.Prelude.{◌≡◌, [], IfSome, List, MatchOption, None, ℕ, ℤ, ⊤};
 ghost use Rattle.cedarwood.specs.Words.{GoesOnTo, IsPredictPlace, IsWellFormed, IsWithinCount, item_count, predict, predicted_from, tree_of, UpTo, YieldsFirst};
 
 use crate::queries::walked::Walked;
-use cedar_walk::Numbered;
+use cedar_walk::{Numbered, PendingSiblings};
 use std::alloc::AllocError;
 use std::iter::FusedIterator;
 use std::marker::Model;
 
-/// Where the walk stands.
+/// Where the walk is.
 #[derive(Clone, Copy)]
 pub(crate) enum PredictPlace {
     /// The query's node hasn't been looked for.
@@ -20,8 +20,9 @@ pub(crate) enum PredictPlace {
     End,
 }
 
-/// The keys that begin with a query, each before its extensions and in the order of the walk: for each the value, and how many bytes
-/// follow the query. It takes no memory, and a clone goes on from the same place.
+/// The keys that begin with a query, each before its extensions and in iteration order: for each the value, and how many bytes follow the
+/// query. It allocates nothing, and a clone goes on from the same place. The iterator is of 248 bytes, most of which are the next nodes to
+/// which it has still to come: so it mostly reads nothing of the nodes above.
 ///
 /// A contract sees the items that are left.
 #[derive(Drop)]
@@ -29,6 +30,7 @@ pub struct PrefixPredictIter<'a, T: Walked> {
     trie: &'a T,
     query: &'a [u8],
     place: PredictPlace,
+    siblings: PendingSiblings,
 }
 
 impl<'a, T: Walked> Model for PrefixPredictIter<'a, T> {
@@ -36,7 +38,7 @@ impl<'a, T: Walked> Model for PrefixPredictIter<'a, T> {
 
     ghost view = { λ it. predicted_from (T.shown it.trie.now) it.query.now it.place };
 
-    ghost invariant = { λ it. IsWellFormed T.slots (T.shown it.trie.now) × IsPredictPlace (T.shown it.trie.now) it.query.now it.place };
+    ghost invariant = { λ it. IsWellFormed T.slots (T.shown it.trie.now) × IsPredictPlace (T.shown it.trie.now) it.query.now it.place it.siblings };
 }
 
 impl<'a, T: Walked> PrefixPredictIter<'a, T> {
@@ -49,20 +51,26 @@ impl<'a, T: Walked> PrefixPredictIter<'a, T> {
             trie,
             query,
             place: PredictPlace::Start,
+            siblings: PendingSiblings::new(),
         }
     }
 }
 
-/// The node with a number that a walk comes to next.
+/// The node with a number that a walk comes to next, and the siblings that it keeps from there on.
 #[inline(always)]
-fn numbered_next<T: Walked>(trie: &T, query: &[u8], place: PredictPlace) -> Option<Numbered>
+fn numbered_next<T: Walked>(
+    trie: &T,
+    query: &[u8],
+    place: PredictPlace,
+    siblings: &mut PendingSiblings,
+) -> Option<Numbered>
     requires well_formed { IsWellFormed T.slots (T.shown trie.now) }
-    requires place { IsPredictPlace (T.shown trie.now) query.now place }
-    ensures { MatchOption result (predicted_from (T.shown trie.now) query.now place ≡ []) (GoesOnTo (T.shown trie.now) query.now place) }
+    requires place { IsPredictPlace (T.shown trie.now) query.now place siblings.old }
+    ensures { MatchOption result (predicted_from (T.shown trie.now) query.now place ≡ []) (GoesOnTo (T.shown trie.now) query.now place siblings.new) }
 {
     match place {
-        PredictPlace::Start => trie.first_numbered(query),
-        PredictPlace::Node { slot, depth } => trie.next_numbered(slot, depth),
+        PredictPlace::Start => trie.first_with_pending(query, siblings),
+        PredictPlace::Node { slot, depth } => trie.next_with_pending(slot, depth, siblings),
         PredictPlace::End => None,
     }
 }
@@ -77,6 +85,7 @@ impl<'a, T: Walked> Clone for PrefixPredictIter<'a, T> {
             trie: self.trie,
             query: self.query,
             place: self.place,
+            siblings: self.siblings.clone()?,
         })
     }
 }
@@ -90,7 +99,7 @@ impl<'a, T: Walked> Iterator for PrefixPredictIter<'a, T> {
 
     #[inline(always)]
     fn next(&mut self) -> Option<(i32, usize)> {
-        let Some(next) = numbered_next(self.trie, self.query, self.place) else {
+        let Some(next) = numbered_next(self.trie, self.query, self.place, &mut self.siblings) else {
             self.place = PredictPlace::End;
             return None;
         };

@@ -1,4 +1,4 @@
-//! The prefix walk: the numbers of the fronts of a query that are held.
+//! The prefix walk: the values of the keys that a query begins with.
 
 ghost use Rattle.std.specs.Prelude.{◌*◌, ◌+◌, ◌-◌, ◌≡◌, ◌≤◌, IfSome, length, Some, ⊤};
 ghost use Rattle.cedarwood.specs.Words.{front, front_from, IsBlankOf, IsPrefixPlace, IsWellFormed, IsWithinCount, item_count, MakesProgress, prefix_walk_code, PrefixWalk, tree_of, UpTo, YieldsFirst};
@@ -10,8 +10,8 @@ use std::iter::FusedIterator;
 use std::marker::{Brand, Model};
 use std::sync::ledger::{Blank, Ledger};
 
-/// The fronts of a query that are held, shortest first: for each the value, and one less than the bytes of the front. It takes no
-/// memory, and a clone goes on from the same place.
+/// The keys that a query begins with, shortest first: for each its value, and one less than its bytes. It allocates nothing, and a clone
+/// goes on from the same place.
 ///
 /// A contract sees the items that are left, how many bytes of the query are still to be looked at, and how many it has.
 #[derive(Drop)]
@@ -53,8 +53,8 @@ impl<'a, T: Walked> PrefixIter<'a, T> {
         }
     }
 
-    /// The next item. Each comparison of a check field is counted, two for a byte of the query at most: so a whole walk makes at most
-    /// twice as many as the query has bytes.
+    /// The next item. It counts each comparison of a check field, at most two for a byte of the query: so a whole walk makes at most twice
+    /// as many as the query has bytes.
     ///
     /// ```
     /// cedar.update("net", 7)?;
@@ -86,7 +86,7 @@ impl<'a, T: Walked> PrefixIter<'a, T> {
 }
 
 impl<'a, T: Walked> Clone for PrefixIter<'a, T> {
-    //= A clone of a prefix walk or a prediction goes on from the same place and can't be refused; what has ended stays so. [with
+    //= A clone of a prefix walk or a prediction goes on from the same place and can't fail. What has ended stays ended. [with
     //  is_infallible; also PrefixPredictIter; by FusedIterator]
     ghost is_clone = { λ it copy. copy ≡ it };
 

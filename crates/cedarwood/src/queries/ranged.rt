@@ -1,7 +1,7 @@
 //! The entries of a range of keys: those that begin with a prefix, those from a key on, and those between two keys.
 
 ghost use Rattle.std.specs.Prelude.{◌++◌, ◌<◌, ◌↔◌, ◌∷◌, ◌≡◌, [], false, IfErr, IfOk, IfSome, IsTrue, length, List, MatchOption, MatchResult, option_map, Some, true};
-ghost use Rattle.cedarwood.specs.Words.{bounded, entries_between, entries_since, entries_with, Entry, GivesBetween, is_lt, IsEnd, IsNumberedBelow, IsRangePlace, IsWellFormed, IsWithinCount, item_count, Memory, nat_cmp, Numbered, path_to, slice_cmp, tree_of, UpTo};
+ghost use Rattle.cedarwood.specs.Words.{bounded, entries_between, entries_since, entries_with, Entry, GivesBetween, GivesRange, is_lt, IsEnd, IsNumberedBelow, IsRangePlace, IsWellFormed, IsWithinCount, item_count, Memory, nat_cmp, Numbered, path_to, slice_cmp, tree_of, UpTo};
 
 use crate::queries::walked::Walked;
 use crate::{CedarError, Layout, Trie};
@@ -11,8 +11,8 @@ use std::cmp::Ordering;
 use std::iter::FusedIterator;
 use std::marker::Model;
 
-/// The entries at the keys of a range, each key before its extensions and in the order of the walk. Each key is written for its item
-/// by climbing from its node: so the walk itself holds no memory. Where a request for memory is refused, the error is the last item.
+/// The entries at the keys of a range, each key before its extensions and in iteration order. Each key is written for its item by climbing
+/// from its node: so the iteration itself needs no memory. If an allocation is refused, the error is the last item.
 ///
 /// A contract sees the entries that are left.
 #[derive(Drop)]
@@ -21,7 +21,7 @@ pub struct RangeEntries<'a, T: Walked, A: Allocator + Copy> {
     // What all keys begin with, and the node of the first entry that is to come, so many labels below that.
     pub(crate) start: &'a [u8],
     pub(crate) next: Option<Numbered>,
-    // The node of the first entry behind the range: so no key is compared.
+    // The node of the first entry after the range: so no key is compared.
     pub(crate) end: Option<Numbered>,
     // What the range ends before, if it has an end: contracts read it.
     pub(crate) to: Option<&'a [u8]>,
@@ -37,7 +37,7 @@ impl<'a, T: Walked, A: Allocator + Copy> Model for RangeEntries<'a, T, A> {
         × IsEnd (T.shown it.trie.now) it.start.now (option_map (λ to. to.now) it.to) it.next it.end };
 }
 
-/// Gives a buffer a length. Bytes that it holds stay, and only those that it lacks are set to 0: all are written over.
+/// Gives a buffer a length. The bytes that it has stay, and only new ones are set to 0: all are written over.
 fn set_len<A: Allocator>(buffer: &mut Vec<u8, A>, len: usize) -> Result<(), AllocError>
     ensures { IfOk result (λ _. length buffer.new.items ≡ len) }
 {
@@ -48,7 +48,7 @@ fn set_len<A: Allocator>(buffer: &mut Vec<u8, A>, len: usize) -> Result<(), Allo
     Ok(())
 }
 
-/// Writes the key of a node into a buffer, in place of what that held: a path, and then the labels below it.
+/// Writes the key of a node into a buffer instead of what that held: a path, and then the labels below it.
 pub(crate) fn write_key<T: Walked, A: Allocator>(
     trie: &T,
     start: &[u8],
@@ -149,8 +149,8 @@ impl<'a, T: Walked, A: Allocator + Copy> RangeEntries<'a, T, A> {
         }
     }
 
-    /// Writes the next key into a buffer, in place of what that held, and returns the key's value: None where no entry is left. So many
-    /// keys take the memory of one buffer. After a refused request the walk stands where it stood, and the buffer may hold anything.
+    /// Writes the next key into a buffer instead of what that held, and returns the key's value: None if no entry is left. So one buffer
+    /// serves for many keys. After a refused allocation the iteration is where it was, and the buffer may hold anything.
     ///
     /// ```
     /// cedar.build(&[("ne", 1), ("net", 7)])?;
@@ -165,13 +165,12 @@ impl<'a, T: Walked, A: Allocator + Copy> RangeEntries<'a, T, A> {
     /// ```
     ///
     /// # Errors
-    /// `Memory` where a request was refused.
+    /// `Memory` if an allocation was refused.
     pub fn next_into<B: Allocator>(
         &mut self,
         key: &mut Vec<u8, B>,
     ) -> Result<Option<i32>, CedarError>
-        //= An item's key can be written into a buffer instead; where that is refused for memory, the walk stands where it stood. [with
-        //  refused]
+        //= An item's key can be written into a buffer instead. If that fails with `Memory`, the iteration is where it was. [with refused]
         ensures found { IfOk result (λ found. MatchOption found ((self.old ≡ []) × (self.new ≡ [])) (λ value. self.old ≡ (key.new.items, value) ∷ self.new)) }
         ensures refused { IfErr result (λ e. (e ≡ CedarError.Memory) × (self.new ≡ self.old) × (0 < length self.old)) }
     {
@@ -217,7 +216,7 @@ impl<'a, T: Walked, A: Allocator + Copy> Iterator for RangeEntries<'a, T, A> {
         ensures lower { IsWithinCount result.0 (item_count (λ (rest : List Entry). rest) self.now) }
         ensures upper { IfSome result.1 (UpTo (item_count (λ (rest : List Entry). rest) self.now)) }
 
-        //= The size hint of such a walk is from 0 on.
+        //= The size hint of such an iteration is from 0 on.
         ensures hint { result ≡ (0, None) }
     {
         (0, None)
@@ -227,9 +226,9 @@ impl<'a, T: Walked, A: Allocator + Copy> Iterator for RangeEntries<'a, T, A> {
 impl<'a, T: Walked, A: Allocator + Copy> FusedIterator for RangeEntries<'a, T, A> {}
 
 impl<L: Layout, const SLOTS: usize, A: Allocator + Copy> Trie<L, SLOTS, A> {
-    /// The entries at keys that begin with a prefix, each key before its extensions and in the order of the walk. Nothing outside the
-    /// prefix's node is walked over. Each key is written for its item, in memory of the dictionary's own allocator;
-    /// [`RangeEntries::next_into`] writes it into a buffer of the caller.
+    /// The entries at keys that begin with a prefix, each key before its extensions and in iteration order. It visits nothing outside the
+    /// prefix's node. Each key is written for its item, into memory of the dictionary's own allocator; [`RangeEntries::next_into`] writes
+    /// it into a buffer of the caller.
     ///
     /// ```
     /// cedar.build(&[("net", 7), ("ten", 2)])?;
@@ -238,8 +237,8 @@ impl<L: Layout, const SLOTS: usize, A: Allocator + Copy> Trie<L, SLOTS, A> {
     /// assert_eq!(rt; (key.as_slice(), value), (b"ten".as_slice(), 2));
     /// ```
     pub fn entries_with_prefix_bytes<'a>(&'a self, prefix: &'a [u8]) -> RangeEntries<'a, Self, A>
-        //= `entries_with_prefix` gives the entries of the walk whose keys begin with the prefix, in its order, an item a call; an item may
-        //  be refused for memory alone, and a refused one is the last. [also entries_with_prefix, RangeEntries.next_gives; by entries_with]
+        //= `entries_with_prefix` gives the entries of the walk whose keys begin with the prefix, in its order, an item a call. An item may
+        //  fail only with `Memory`, and a failed one is the last. [also entries_with_prefix, RangeEntries.next_gives; by entries_with]
         ensures { result ≡ entries_with self.now.state.tree prefix.now }
     {
         RangeEntries::with_prefix(self, prefix, self.table.allocator())
@@ -257,8 +256,8 @@ impl<L: Layout, const SLOTS: usize, A: Allocator + Copy> Trie<L, SLOTS, A> {
         self.entries_with_prefix_bytes(prefix.as_bytes())
     }
 
-    /// The entries at a key and at those after it by bytes, in ascending order; None of a dictionary whose labels don't ascend. It looks
-    /// the key up once, and walks over no entry before it. Keys are written as those of [`Trie::entries_with_prefix_bytes`].
+    /// The entries at a key and at those after it by bytes, in ascending order; None if the dictionary's labels don't ascend. It looks the
+    /// key up once, and visits no entry before it. Keys are written as those of [`Trie::entries_with_prefix_bytes`].
     ///
     /// ```
     /// cedar.build(&[("net", 7), ("ten", 2)])?;
@@ -267,9 +266,9 @@ impl<L: Layout, const SLOTS: usize, A: Allocator + Copy> Trie<L, SLOTS, A> {
     /// assert_eq!(rt; (key.as_slice(), value), (b"ten".as_slice(), 2));
     /// ```
     pub fn entries_from_bytes<'a>(&'a self, key: &'a [u8]) -> Option<RangeEntries<'a, Self, A>>
-        //= `entries_from` gives likewise the entries at the key and after it by bytes, and None exactly if the order is not ascending.
-        //  [also entries_from, RangeEntries.next_gives; by entries_since]
-        ensures { MatchOption result (self.now.state.ordered ≡ false) (λ entries. (self.now.state.ordered ≡ true) × (entries ≡ entries_since self.now.state.tree key.now)) }
+        //= `entries_from` gives the entries at the key and after it by bytes in the same way, and returns None exactly if the order isn't
+        //  ascending. [also entries_from, RangeEntries.next_gives; by entries_since]
+        ensures { GivesRange self.now.state (entries_since self.now.state.tree key.now) result }
     {
         if !self.table.ordered() {
             return None;
@@ -285,13 +284,13 @@ impl<L: Layout, const SLOTS: usize, A: Allocator + Copy> Trie<L, SLOTS, A> {
     /// assert_eq!(rt; entries.count(), 2);
     /// ```
     pub fn entries_from<'a>(&'a self, key: &'a str) -> Option<RangeEntries<'a, Self, A>>
-        ensures { MatchOption result (self.now.state.ordered ≡ false) (λ entries. (self.now.state.ordered ≡ true) × (entries ≡ entries_since self.now.state.tree key.now)) }
+        ensures { GivesRange self.now.state (entries_since self.now.state.tree key.now) result }
     {
         self.entries_from_bytes(key.as_bytes())
     }
 
-    /// The entries at the keys from `from` on and before `to` by bytes, in ascending order; None of a dictionary whose labels don't
-    /// ascend. It looks both keys up once, and walks over no entry outside.
+    /// The entries at the keys from `from` on and before `to` by bytes, in ascending order; None if the dictionary's labels don't ascend.
+    /// It looks both keys up once, and visits no entry outside.
     ///
     /// ```
     /// cedar.build(&[("net", 7), ("ten", 2)])?;
@@ -299,8 +298,8 @@ impl<L: Layout, const SLOTS: usize, A: Allocator + Copy> Trie<L, SLOTS, A> {
     /// assert_eq!(rt; entries.count(), 1);
     /// ```
     pub fn range_bytes<'a>(&'a self, from: &[u8], to: &'a [u8]) -> Option<RangeEntries<'a, Self, A>>
-        //= `range` gives likewise those of them before another key, none where that isn't above the first, and None exactly if the order is
-        //  not ascending. [also range, RangeEntries.next_gives; by entries_between]
+        //= `range` gives those of them before another key in the same way, and no entry if that key isn't above the first. It returns None
+        //  exactly if the order isn't ascending. [also range, RangeEntries.next_gives; by entries_between]
         ensures { GivesBetween self.now.state from.now to.now result }
     {
         if self.table.ordered() {

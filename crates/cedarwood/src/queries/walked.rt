@@ -1,25 +1,26 @@
-//! What walks that are under way ask of a dictionary.
+//! What walks that are under way read of a dictionary.
 
-ghost use Rattle.std.specs.Prelude.{◌*◌, ◌++◌, ◌+◌, ◌-◌, ◌<◌, ◌≡◌, ◌≤◌, [], IfOk, length, List, MatchOption, take, true, ℕ};
-ghost use Rattle.cedarwood.specs.Words.{cells_in, ComesToFirst, entries_since, Fields, front_length, GoesToNode, GoesToNumber, IsBelow, IsNextFront, IsNumberedBelow, IsOnQuery, IsWellFormed, KeyGoesOn, node_at, path_to, tree_of, walk};
+ghost use Rattle.std.specs.Prelude.{◌*◌, ◌++◌, ◌+◌, ◌-◌, ◌<◌, ◌≡◌, ◌≤◌, [], IfOk, IfSome, length, List, MatchOption, take, true, ℕ};
+ghost use Rattle.cedarwood.specs.Words.{cells_in, ComesToFirst, entries_since, Fields, front_length, GoesToNode, GoesToNumber, IsBelow, IsNextFront, IsNumberedBelow, IsOnQuery, IsPending, IsWellFormed, KeyGoesOn, node_at, path_to, tree_of, walk};
 
 use crate::{Layout, Ticks, Trie};
 use cedar_walk::{
-    Front, Numbered, Visited, first_numbered, first_since, next_held_front, node_after,
-    numbered_after, numbered_after_with_key, write_path,
+    Front, Numbered, PendingSiblings, Visited, first_numbered, first_since, first_with_pending,
+    next_held_front, node_after, numbered_after, numbered_after_with_key,
+    numbered_after_with_pending, write_path,
 };
 use std::alloc::{AllocError, Allocator};
 use std::sync::ledger::Ledger;
 
-/// A dictionary, as its walks see it: any [`Trie`]. A walk knows it by this trait alone, since a call on a type with a const
-/// parameter asks for the size of that type, of which a borrow says nothing.
+/// A dictionary, as its walks see it: any [`Trie`]. A walk knows it by this trait alone, since a call on a type with a const parameter
+/// needs the size of that type, of which a borrow says nothing.
 pub trait Walked {
     /// How many slots it may have, and the table that it is kept in.
     ghost slots: { ℕ };
 
     ghost shown: { Self → Fields };
 
-    /// The next front of a query that is held.
+    /// The next prefix of a query that is held.
     fn next_front<C: Ledger>(
         &self,
         query: &[u8],
@@ -30,7 +31,7 @@ pub trait Walked {
         requires well_formed { IsWellFormed slots (shown self.now) }
         requires on { IsOnQuery (shown self.now) query.now place node }
 
-        //= What a walk asks of a dictionary is answered from its table. [with on, cost; also first_numbered, first_since, next_numbered,
+        //= What a walk reads of a dictionary comes from its table. [with on, cost; also first_numbered, first_since, next_numbered,
         //  next_node, write_path]
         ensures answer { IsNextFront (tree_of (shown self.now)) query.now place result }
         ensures on { MatchOption result (place ≤ length query.now) (λ front. (place < front.len) × IsOnQuery (shown self.now) query.now front.len front.slot) }
@@ -47,8 +48,30 @@ pub trait Walked {
         requires below { (start : List ℕ) × IsNumberedBelow (shown self.now) start depth node }
         ensures { GoesToNumber (shown self.now) depth node result };
 
+    /// The first node with a number of those that begin at a query's node, and go on below it, with the siblings that a walk from there
+    /// keeps. What was kept before is forgotten.
+    fn first_with_pending(&self, query: &[u8], siblings: &mut PendingSiblings) -> Option<Numbered>
+        requires { IsWellFormed slots (shown self.now) }
+
+        //= A walk that keeps siblings gets the same nodes, and keeps those that are right for the node. [with kept; also next_with_pending]
+        ensures found { ComesToFirst (shown self.now) query.now (walk (node_at (tree_of (shown self.now)) query.now)) result }
+        ensures kept { IfSome result (λ next. IsPending (shown self.now) siblings.new next.depth next.slot) };
+
+    /// The next node with a number of a walk that has been at one, and keeps siblings.
+    fn next_with_pending(
+        &self,
+        node: usize,
+        depth: usize,
+        siblings: &mut PendingSiblings,
+    ) -> Option<Numbered>
+        requires well_formed { IsWellFormed slots (shown self.now) }
+        requires below { (start : List ℕ) × IsNumberedBelow (shown self.now) start depth node }
+        requires kept { IsPending (shown self.now) siblings.old depth node }
+        ensures found { GoesToNumber (shown self.now) depth node result }
+        ensures kept { IfSome result (λ next. IsPending (shown self.now) siblings.new next.depth next.slot) };
+
     /// The next node with a number of a walk that has been at one, with a key that is kept in step: it ended in the path to the one node,
-    /// and ends in that to the other. Where a request for memory is refused, the key may hold anything.
+    /// and ends in that to the other. If an allocation is refused, the key may hold anything.
     fn next_with_key<B: Allocator>(
         &self,
         node: usize,
@@ -59,7 +82,7 @@ pub trait Walked {
         requires below { (start : List ℕ) × IsNumberedBelow (shown self.now) start depth node }
         requires room { depth ≤ length key.old.items }
 
-        //= A walk whose key is kept in step is told the same node, and ends its key in that node's path. [with key]
+        //= A walk whose key is kept in step gets the same node, and ends its key in that node's path. [with key]
         ensures found { IfOk result (GoesToNumber (shown self.now) depth node) }
         ensures key { IfOk result (λ found. MatchOption found (key.new.items ≡ key.old.items) (KeyGoesOn (shown self.now) depth node key.old.items key.new.items)) };
 
@@ -75,7 +98,7 @@ pub trait Walked {
         requires ordered { (shown self.now).ordered ≡ true }
         ensures { ComesToFirst (shown self.now) [] (entries_since (tree_of (shown self.now)) key.now) result };
 
-    /// Writes the last labels on the way to a node, `depth` of them, behind the front of a key.
+    /// Writes the last labels on the way to a node, `depth` of them, after the first bytes of a key.
     fn write_path(&self, node: usize, depth: usize, key: &mut [u8])
         requires well_formed { IsWellFormed slots (shown self.now) }
         requires below { (start : List ℕ) × IsBelow (cells_in (shown self.now)) start depth node }
@@ -106,6 +129,21 @@ impl<L: Layout, const SLOTS: usize, A: Allocator + Copy> Walked for Trie<L, SLOT
     #[inline(always)]
     fn next_numbered(&self, node: usize, depth: usize) -> Option<Numbered> {
         numbered_after(&self.table, node, depth)
+    }
+
+    #[inline(always)]
+    fn first_with_pending(&self, query: &[u8], siblings: &mut PendingSiblings) -> Option<Numbered> {
+        first_with_pending(&self.table, query, siblings)
+    }
+
+    #[inline(always)]
+    fn next_with_pending(
+        &self,
+        node: usize,
+        depth: usize,
+        siblings: &mut PendingSiblings,
+    ) -> Option<Numbered> {
+        numbered_after_with_pending(&self.table, node, depth, siblings)
     }
 
     #[inline(always)]

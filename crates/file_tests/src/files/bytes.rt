@@ -8,7 +8,7 @@ use std::alloc::{AllocError, Global};
 use std::process::Abort;
 use std::test::Fail;
 
-/// The bytes of a dictionary saved in format 1.0.
+/// Returns the bytes of a dictionary saved in format 1.0.
 pub fn saved_v1_0<L: Layout>(
     alloc: Global,
     trie: &Full<L, Global>,
@@ -18,8 +18,8 @@ pub fn saved_v1_0<L: Layout>(
     Ok(writer.into_inner())
 }
 
-/// The bytes of a saved dictionary.
-pub fn saved<L: Layout>(
+/// Returns the bytes of a saved dictionary.
+pub fn save_bytes<L: Layout>(
     alloc: Global,
     trie: &Full<L, Global>,
 ) -> Result<Vec<u8>, CedarPersistenceError> {
@@ -28,7 +28,7 @@ pub fn saved<L: Layout>(
     Ok(writer.into_inner())
 }
 
-/// The dictionary of some bytes in memory, read as of a layout.
+/// Returns the dictionary of some bytes in memory, read as of a layout.
 #[tactic(auto, using(cedarwood::proofs::DictionaryLemmas::default_limit))]
 pub fn loaded_as<L: Layout>(
     alloc: Global,
@@ -37,21 +37,22 @@ pub fn loaded_as<L: Layout>(
     Trie::load_from_reader(alloc, &mut &bytes[..])
 }
 
-/// The dictionary of some bytes.
-pub fn loaded(alloc: Global, bytes: &[u8]) -> Result<Cedar<Global>, CedarPersistenceError> {
+/// Returns the dictionary of some bytes.
+pub fn load_bytes(alloc: Global, bytes: &[u8]) -> Result<Cedar<Global>, CedarPersistenceError> {
     loaded_as::<DefaultLayout>(alloc, bytes)
 }
 
-/// The dictionary of the first bytes.
+/// Returns the dictionary of the first bytes.
 pub fn loaded_front(
     alloc: Global,
     bytes: &[u8],
     len: usize,
 ) -> Result<Cedar<Global>, CedarPersistenceError> {
-    loaded(alloc, &bytes[..len.min(bytes.len())])
+    load_bytes(alloc, &bytes[..len.min(bytes.len())])
 }
 
-/// Stores a pair. Of what the dictionary then holds nothing is said: so a test that stores pairs doesn't carry the clauses of the call.
+/// Stores a pair. Nothing is said about what the dictionary then holds: so a test that stores pairs doesn't carry the clauses of the
+/// call.
 pub fn put<L: Layout>(
     trie: &mut Full<L, Global>,
     key: &[u8],
@@ -60,7 +61,7 @@ pub fn put<L: Layout>(
     trie.update_bytes(key, value)
 }
 
-/// Bytes have to be these.
+/// Expects bytes to be these.
 pub fn expect_bytes(rt: &impl Abort, found: &[u8], wanted: &[u8]) {
     assert!(rt; found == wanted);
 }
@@ -72,7 +73,7 @@ pub fn set(file: &mut [u8], at: usize, byte: u8) {
     }
 }
 
-/// The header of a file with these heads and sizes.
+/// Returns the header of a file with these heads and sizes.
 fn header(
     alloc: Global,
     open_head: i32,
@@ -117,7 +118,7 @@ fn put_rejects(bytes: &mut Vec<u8>) -> Result<(), AllocError> {
     Ok(())
 }
 
-/// The file of a new dictionary in format 1.0.
+/// Returns the file of a new dictionary in format 1.0.
 pub fn empty_file(alloc: Global) -> Result<Vec<u8>, AllocError> {
     let mut bytes = header(alloc, 0, 256, 0)?;
     put_node(&mut bytes, 0, -1)?;
@@ -132,7 +133,7 @@ pub fn empty_file(alloc: Global) -> Result<Vec<u8>, AllocError> {
     Ok(bytes)
 }
 
-// The nodes of the first block of that file, in which `a` has the slot 97.
+// Appends the nodes of the first block of that file, in which `a` has the slot 97.
 fn put_first_nodes(bytes: &mut Vec<u8>) -> Result<(), AllocError> {
     put_node(bytes, 0, -1)?;
     put_node(bytes, -255, -2)?;
@@ -148,7 +149,7 @@ fn put_first_nodes(bytes: &mut Vec<u8>) -> Result<(), AllocError> {
     put_node(bytes, -254, -1)
 }
 
-// The nodes of its second block, whose first slot holds the number.
+// Appends the nodes of its second block, whose first slot holds the number.
 fn put_second_nodes(bytes: &mut Vec<u8>) -> Result<(), AllocError> {
     put_node(bytes, 7, 97)?;
     put_node(bytes, -511, -258)?;
@@ -158,7 +159,7 @@ fn put_second_nodes(bytes: &mut Vec<u8>) -> Result<(), AllocError> {
     put_node(bytes, -510, -257)
 }
 
-// Its labels, its blocks and what they reject.
+// Appends its labels, its blocks and what they reject.
 fn put_rest(bytes: &mut Vec<u8>) -> Result<(), AllocError> {
     bytes.extend_from_slice(&[97])?;
     bytes.extend_from_slice(&[0; 1023])?;
@@ -167,7 +168,7 @@ fn put_rest(bytes: &mut Vec<u8>) -> Result<(), AllocError> {
     put_rejects(bytes)
 }
 
-/// The file of the key `a` with 7 in format 1.0.
+/// Returns the file of the key `a` with 7 in format 1.0.
 pub fn one_key_file(alloc: Global) -> Result<Vec<u8>, AllocError> {
     let mut bytes = header(alloc, 1, 512, 1)?;
     put_first_nodes(&mut bytes)?;
@@ -176,7 +177,8 @@ pub fn one_key_file(alloc: Global) -> Result<Vec<u8>, AllocError> {
     Ok(bytes)
 }
 
-/// A dictionary whose slots are all in use has to save as this file of format 1.0, and in format 1.1 as the same but for the version.
+/// Expects a dictionary whose slots are all in use to save as this file of format 1.0, and in format 1.1 as the same except the
+/// version.
 pub fn expect_saved<L: Layout>(
     rt: &impl Abort,
     alloc: Global,
@@ -186,11 +188,11 @@ pub fn expect_saved<L: Layout>(
     let mut wanted = Vec::from_slice(alloc, file)?;
     assert!(rt; saved_v1_0(alloc, trie)? == wanted);
     set(&mut wanted, 10, 1);
-    assert!(rt; saved(alloc, trie)? == wanted);
+    assert!(rt; save_bytes(alloc, trie)? == wanted);
     Ok(())
 }
 
-/// A file whose slots are all in use has to load in either version, to so many used slots and this at `a`.
+/// Expects a file whose slots are all in use to load in either version, to this many used slots and this at `a`.
 pub fn expect_loaded<L: Layout>(
     rt: &impl Abort,
     alloc: Global,
@@ -228,7 +230,7 @@ fn one_key(rt: HostRuntime) -> Result<(), Fail> {
 
 const PAIRS: [(&[u8], i32); 3] = [(b"b", 1), (b"a", 2), (b"c", 3)];
 
-// A dictionary with no setting as by default.
+// Returns a dictionary with no default setting.
 fn with_settings(alloc: Global) -> Result<Cedar<Global>, CedarError> {
     let builder = CedarBuilder::new().ordered(false).max_trial(3)?;
     builder.build(alloc)
@@ -247,16 +249,16 @@ fn expect_pairs(rt: &impl Abort, cedar: &Cedar<Global>) {
     }
 }
 
-// A file has to have these settings in its header.
+// Expects a file to have these settings in its header.
 fn expect_settings(rt: &impl Abort, file: &[u8]) {
     assert!(rt; (file.get(14), file.get(16)) == (Some(&0), Some(&3)));
 }
 
-// A file has to load to the dictionary of the pairs, which saves as the same bytes.
+// Expects a file to load to the dictionary of the pairs, which saves as the same bytes.
 fn expect_kept(rt: &impl Abort, alloc: Global, file: &[u8]) -> Result<(), Fail> {
-    let again = loaded(alloc, file)?;
+    let again = load_bytes(alloc, file)?;
     expect_pairs(rt, &again);
-    let bytes = saved(alloc, &again)?;
+    let bytes = save_bytes(alloc, &again)?;
     expect_bytes(rt, &bytes, file);
     Ok(())
 }
@@ -266,12 +268,12 @@ fn expect_kept(rt: &impl Abort, alloc: Global, file: &[u8]) -> Result<(), Fail> 
 fn settings_are_kept(rt: HostRuntime) -> Result<(), Fail> {
     let mut cedar = with_settings(rt.alloc())?;
     put_pairs(&mut cedar)?;
-    let file = saved(rt.alloc(), &cedar)?;
+    let file = save_bytes(rt.alloc(), &cedar)?;
     expect_settings(&rt, &file);
     expect_kept(&rt, rt.alloc(), &file)
 }
 
-// A key of four bytes for each number, none of which is 0.
+// Returns a key of four bytes for each number, none of which is 0.
 fn key_of(number: u32) -> [u8; 4] {
     let mut key = number.wrapping_mul(2654435761).to_be_bytes();
     for byte in &mut key {
@@ -294,12 +296,12 @@ fn put_more(cedar: &mut Cedar<Global>) -> Result<(), CedarError> {
     Ok(())
 }
 
-fn reloaded(alloc: Global, cedar: &Cedar<Global>) -> Result<Cedar<Global>, CedarPersistenceError> {
-    let file = saved(alloc, cedar)?;
-    loaded(alloc, &file)
+fn reload(alloc: Global, cedar: &Cedar<Global>) -> Result<Cedar<Global>, CedarPersistenceError> {
+    let file = save_bytes(alloc, cedar)?;
+    load_bytes(alloc, &file)
 }
 
-// Two dictionaries have to hold as many keys, and to save as the same bytes.
+// Expects two dictionaries to hold equally many keys, and to save as the same bytes.
 fn expect_same(
     rt: &impl Abort,
     alloc: Global,
@@ -307,13 +309,13 @@ fn expect_same(
     other: &Cedar<Global>,
 ) -> Result<(), Fail> {
     assert!(rt; one.len() == other.len());
-    let bytes = saved(alloc, one)?;
-    let others = saved(alloc, other)?;
+    let bytes = save_bytes(alloc, one)?;
+    let others = save_bytes(alloc, other)?;
     expect_bytes(rt, &bytes, &others);
     Ok(())
 }
 
-// They have to be the same, and to stay so as both get more keys.
+// Expects them to be the same, and to stay so as both get more keys.
 fn expect_same_later(
     rt: &impl Abort,
     alloc: Global,
@@ -326,12 +328,12 @@ fn expect_same_later(
     expect_same(rt, alloc, one, other)
 }
 
-// A dictionary of some thousand keys goes on as the saved one: the same calls leave the same bytes.
+// A dictionary of thousands of keys goes on as the saved one: the same calls leave the same bytes.
 #[test]
 fn many_keys(rt: HostRuntime) -> Result<(), Fail> {
     let mut cedar = Cedar::new(rt.alloc())?;
     put_thousands(&mut cedar)?;
-    let mut again = reloaded(rt.alloc(), &cedar)?;
+    let mut again = reload(rt.alloc(), &cedar)?;
     expect_same_later(&rt, rt.alloc(), &mut cedar, &mut again)
 }
 
@@ -342,7 +344,7 @@ fn put_below(cedar: &mut Cedar<Global>) -> Result<(), CedarError> {
     Ok(())
 }
 
-// Further keys have to fit, and what was held has to stay.
+// Expects further keys to fit, and what was held to stay.
 fn expect_more(rt: &impl Abort, cedar: &mut Cedar<Global>) -> Result<(), CedarError> {
     for label in 1..=255u8 {
         put(cedar, &[97, label, 97], 2)?;
@@ -351,7 +353,7 @@ fn expect_more(rt: &impl Abort, cedar: &mut Cedar<Global>) -> Result<(), CedarEr
     Ok(())
 }
 
-// Both versions of a dictionary's file have to be these.
+// Expects both versions of a dictionary's file to be these.
 fn expect_files(
     rt: &impl Abort,
     alloc: Global,
@@ -359,14 +361,14 @@ fn expect_files(
     short: &[u8],
     long: &[u8],
 ) -> Result<(), Fail> {
-    let found = saved(alloc, cedar)?;
+    let found = save_bytes(alloc, cedar)?;
     expect_bytes(rt, &found, short);
     let found = saved_v1_0(alloc, cedar)?;
     expect_bytes(rt, &found, long);
     Ok(())
 }
 
-// A file has to load to the table of which these are the files of both versions, with a block to spare, and further keys then fit.
+// Expects a file to load to the table of which these are the files of both versions, with a spare block, and further keys to fit then.
 fn expect_spare(
     rt: &impl Abort,
     alloc: Global,
@@ -374,7 +376,7 @@ fn expect_spare(
     short: &[u8],
     long: &[u8],
 ) -> Result<(), Fail> {
-    let mut again = loaded(alloc, file)?;
+    let mut again = load_bytes(alloc, file)?;
     expect_room(rt, &again, 1024, 1);
     expect_files(rt, alloc, &again, short, long)?;
     expect_more(rt, &mut again)?;
@@ -386,7 +388,7 @@ fn expect_spare(
 fn spare_blocks_are_left_out(rt: HostRuntime) -> Result<(), Fail> {
     let mut cedar = Cedar::new(rt.alloc())?;
     put_below(&mut cedar)?;
-    let short = saved(rt.alloc(), &cedar)?;
+    let short = save_bytes(rt.alloc(), &cedar)?;
     let long = saved_v1_0(rt.alloc(), &cedar)?;
     assert!(&rt; (short.len(), long.len()) == (8342, 10922));
     expect_spare(&rt, rt.alloc(), &short, &short, &long)?;

@@ -1,10 +1,10 @@
-//! Writers that fail, and memory that is refused.
+//! Writers that fail, and allocations that fail.
 use cedarwood::{Cedar, CedarPersistenceError, Watched};
 use std::alloc::{AllocError, Global};
 use std::test::Fail;
 use test_support::{Ending, FailingWriter, Refusing};
 
-// A save into so many bytes, with each request for memory refused: whether it was `Io`, and whether the writer failed.
+// A save into this many bytes, with each allocation refused: whether it was `Io`, and whether the writer failed.
 fn save(alloc: Global, room: usize) -> Result<(bool, bool, u64), AllocError> {
     let memory = Refusing::new(alloc);
     let Ok(cedar) = Cedar::new(&memory) else {

@@ -1,4 +1,4 @@
-//! Files: whole ones byte by byte, each refusal, devices that fail and memory that is refused.
+//! Files: whole ones byte by byte, each refusal, devices that fail and allocations that fail.
 
 pub mod bytes;
 mod devices;

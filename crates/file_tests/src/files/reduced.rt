@@ -1,5 +1,5 @@
 //! Files of the reduced layout.
-use crate::files::bytes::{empty_file, expect_loaded, expect_saved, loaded_as, saved, set};
+use crate::files::bytes::{empty_file, expect_loaded, expect_saved, loaded_as, save_bytes, set};
 use cedarwood::{Cedar, CedarPersistenceError, DefaultLayout, Layout, ReducedLayout};
 use dictionary_support::bare::empty;
 use std::alloc::{AllocError, Global};
@@ -15,7 +15,7 @@ fn set_node(file: &mut [u8], slot: usize, base: i32, check: i32) {
     }
 }
 
-// The file of the key `a` with 7, which stands in the node's own slot.
+// Returns the file of the key `a` with 7, which is in the node's own slot.
 fn one_key_file(alloc: Global) -> Result<Vec<u8>, AllocError> {
     let mut file = empty_file(alloc)?;
     for (at, byte) in [(13, 1), (80, 1), (2136, 97), (2656, 255), (2657, 0)] {
@@ -37,7 +37,7 @@ fn one_key(rt: HostRuntime) -> Result<(), Fail> {
     expect_loaded::<ReducedLayout>(&rt, rt.alloc(), &file, 2, Some((7, 1)))
 }
 
-// The layout that a load asks for, and that of the file, if they aren't the same.
+// Returns the layout that a load wants, and that of the file, if they aren't the same.
 fn mismatch<L: Layout>(alloc: Global, file: &[u8]) -> Option<(u8, u8)> {
     match loaded_as::<L>(alloc, file) {
         Err(CedarPersistenceError::LayoutMismatch { expected, found }) => Some((expected, found)),
@@ -47,11 +47,11 @@ fn mismatch<L: Layout>(alloc: Global, file: &[u8]) -> Option<(u8, u8)> {
 
 fn saved_new(alloc: Global) -> Result<Vec<u8>, Fail> {
     let cedar = Cedar::new(alloc)?;
-    let file = saved(alloc, &cedar)?;
+    let file = save_bytes(alloc, &cedar)?;
     Ok(file)
 }
 
-// A file of one layout is none of the other.
+// A file of one layout isn't one of the other.
 #[test]
 fn the_other_layout(rt: HostRuntime) -> Result<(), Fail> {
     let file = one_key_file(rt.alloc())?;

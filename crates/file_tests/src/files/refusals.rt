@@ -1,12 +1,12 @@
 //! Files that are refused, in the order of the steps of a load.
-use crate::files::bytes::{empty_file, loaded, loaded_front, set};
+use crate::files::bytes::{empty_file, load_bytes, loaded_front, set};
 use cedarwood::{Cedar, CedarPersistenceError, Watched};
 use std::alloc::{AllocError, Global};
 use std::test::Fail;
 
 fn has_more(alloc: Global, file: &[u8]) -> bool {
     matches!(
-        loaded(alloc, file),
+        load_bytes(alloc, file),
         Err(CedarPersistenceError::TrailingData)
     )
 }
@@ -18,7 +18,7 @@ fn is_cut(alloc: Global, file: &[u8], len: usize) -> bool {
     )
 }
 
-// A byte too many, and one too few where the number of trials is at fault too.
+// A byte too many, and one too few if the number of trials is at fault too.
 #[test]
 fn the_length(rt: HostRuntime) -> Result<(), Fail> {
     let mut file = empty_file(rt.alloc())?;
@@ -29,7 +29,7 @@ fn the_length(rt: HostRuntime) -> Result<(), Fail> {
     Ok(())
 }
 
-// What a load within so many bytes would have needed, and the limit, if it was too low.
+// Returns what a load within this many bytes would have needed, and the limit, if it was too low.
 #[tactic(auto, using(cedarwood::proofs::DictionaryLemmas::default_limit))]
 fn beyond(alloc: Global, file: &[u8], limit: usize) -> Option<(usize, usize)> {
     match Cedar::load_from_reader_with_limit(alloc, &mut Watched::new(file), limit) {
@@ -48,9 +48,9 @@ fn the_limit(rt: HostRuntime) -> Result<(), Fail> {
     Ok(())
 }
 
-// What the first 88 bytes of a file of 2048 slots, 1280 of them in use, answer: the length of its lists of slots is 256 times
-// `slots`. The header's field that is refused, or none where the header passes and the lists are missed.
-fn listed(
+// Reads the first 88 bytes of a file of 2048 slots, 1280 of them in use: the length of its lists of slots is 256 times `slots`. Returns
+// the header's field that is refused, or none if the header passes and the lists are missing.
+fn read_lists(
     alloc: Global,
     minor: u8,
     slots: u8,
@@ -86,7 +86,7 @@ fn the_lists(rt: HostRuntime) -> Result<(), Fail> {
         (1, 5, 8, Some(("state_lengths", 8))),
     ];
     for (minor, slots, blocks, refused) in cases {
-        assert!(rt; listed(rt.alloc(), minor, slots, blocks)? == refused);
+        assert!(rt; read_lists(rt.alloc(), minor, slots, blocks)? == refused);
     }
     Ok(())
 }

@@ -26,7 +26,7 @@ fn calls() -> [Call<'static>; 8] {
     ]
 }
 
-// Whether an entry was answered, and this one.
+// Returns whether the answer is an entry, and this one.
 fn is_entry(answer: &Answer<Global>, wanted: (&[u8], i32)) -> bool {
     match answer {
         Answer::Replied(Reply::End(Ok(Some((key, value))))) => {

@@ -22,7 +22,7 @@ fn calls_before() -> [Call<'static>; 3] {
     ]
 }
 
-// Its file is loaded beside it, and bytes that are no file are refused.
+// Its file is loaded beside it, and bytes that aren't a file are refused.
 fn calls_after(bytes: &[u8]) -> [Call<'_>; 3] {
     let limit = DEFAULT_LOAD_MEMORY_LIMIT;
     [

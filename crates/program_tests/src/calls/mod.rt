@@ -1,4 +1,4 @@
-//! Lists of calls: that their calls succeed with memory at hand, and answers at values made by hand.
+//! Lists of calls: their calls succeed with memory at hand, and have the answers that were made by hand.
 
 mod ends;
 mod files;

@@ -9,7 +9,7 @@ use std::test::Fail;
 
 const PAIRS: [(&[u8], i32); 3] = [(b"a", 3), (b"ab", 4), (b"b", 5)];
 
-// One dictionary is asked whose labels ascend, and one whose labels don't.
+// Queries one dictionary whose labels ascend, and one whose labels don't.
 fn calls() -> [Call<'static>; 11] {
     let settings = CedarBuilder::new();
     let pairs = &PAIRS;
@@ -43,8 +43,8 @@ fn calls() -> [Call<'static>; 11] {
     ]
 }
 
-// What was answered as entries.
-fn listed(answer: &Answer<Global>) -> &[(Vec<u8>, i32)] {
+// Returns the answer's entries.
+fn entries_of(answer: &Answer<Global>) -> &[(Vec<u8>, i32)] {
     match answer {
         Answer::Replied(Reply::Entries(Ok(found)) | Reply::Range(Ok(Some(found)))) => found,
         _ => &[],
@@ -52,7 +52,7 @@ fn listed(answer: &Answer<Global>) -> &[(Vec<u8>, i32)] {
 }
 
 fn expect_listed(rt: &impl Abort, answer: &Answer<Global>, wanted: &[(&[u8], i32)]) {
-    let found = listed(answer);
+    let found = entries_of(answer);
     assert!(rt; found.len() == wanted.len());
     for ((key, value), (wanted_key, wanted_value)) in found.iter().zip(wanted) {
         assert!(rt; key.as_slice() == *wanted_key && value == wanted_value);

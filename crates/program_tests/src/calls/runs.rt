@@ -6,7 +6,7 @@ use std::alloc::Global;
 use std::process::Abort;
 use std::test::Fail;
 
-// What was answered as pairs: an exact search's, a prefix walk's or a prediction's.
+// Returns the answer's pairs: those of an exact search, a prefix walk or a prediction.
 fn pairs(answer: &Answer<Global>) -> &[(i32, usize)] {
     match answer {
         Answer::Replied(Reply::Exact(Some(found))) => std::slice::from_ref(found),
@@ -15,12 +15,12 @@ fn pairs(answer: &Answer<Global>) -> &[(i32, usize)] {
     }
 }
 
-// Whether a further dictionary was made.
+// Returns whether a further dictionary was made.
 pub(crate) fn is_made(answer: &Answer<Global>) -> bool {
     matches!(answer, Answer::Made(Ok(())) | Answer::Loaded(Ok(())))
 }
 
-// What was answered of several keys at once.
+// Returns the answer for several keys at once.
 fn batch(answer: &Answer<Global>) -> &[Option<(i32, usize)>] {
     match answer {
         Answer::Replied(Reply::Batch(Ok(found))) => found,

@@ -11,7 +11,7 @@ use std::test::Fail;
 
 const LEN: usize = 1_000_000;
 
-// A line of a key whose digits are `61` each time.
+// Appends a line of a key whose digits are `61` each time.
 fn push_line(script: &mut Vec<u8>, command: &[u8], value: &[u8]) -> Result<(), AllocError> {
     script.extend_from_slice(command)?;
     for _ in 0..LEN {
@@ -20,7 +20,7 @@ fn push_line(script: &mut Vec<u8>, command: &[u8], value: &[u8]) -> Result<(), A
     script.extend_from_slice(value)
 }
 
-// Each form of a line with such a key.
+// Returns each form of a line with such a key.
 fn script_of(alloc: Global) -> Result<Vec<u8>, AllocError> {
     let mut script = Vec::from_slice(alloc, b"+ 61 1\n")?;
     push_line(&mut script, b"+ ", b" 2\n")?;
@@ -30,7 +30,7 @@ fn script_of(alloc: Global) -> Result<Vec<u8>, AllocError> {
     Ok(script)
 }
 
-// What a script is answered.
+// Returns the answers to a script.
 fn answers_to<L: Layout>(
     alloc: Global,
     trie: &mut Full<L, Global>,

@@ -1,5 +1,5 @@
-//! Lists of calls, each request of which is refused in turn.
-ghost use Rattle.cedar_slots.specs.Places.{IsSlotLimit};
+//! Lists of calls, each allocation of which is refused in turn.
+ghost use Rattle.cedarwood.specs.Words.{IsSlotLimit};
 
 use crate::hostile::state::{state_of, update};
 use crate::layouts::built;
@@ -11,15 +11,15 @@ use std::process::Abort;
 use std::test::Fail;
 use test_support::Refusing;
 
-// A key that fits no block.
+// A key that fits in no block.
 const LONG: [u8; 600] = [b'a'; 600];
 
-// An update of the one dictionary.
+// Returns an update of the one dictionary.
 fn update_call(key: &[u8], value: i32) -> Call<'_> {
     change(0, Change::Update { key, value })
 }
 
-// Updates that make blocks, a new beginning in their midst, and a question whose answer is collected.
+// Updates that make blocks, a new beginning in the middle of them, and a question whose answer is collected.
 fn calls() -> [Call<'static>; 6] {
     let settings = CedarBuilder::new().ordered(false);
     [
@@ -32,7 +32,7 @@ fn calls() -> [Call<'static>; 6] {
     ]
 }
 
-// Whether a call was refused for want of memory.
+// Returns whether a call failed for lack of memory.
 fn is_short<A: Allocator>(answer: &Answer<A>) -> bool {
     match answer {
         Answer::Changed(
@@ -46,7 +46,7 @@ fn is_short<A: Allocator>(answer: &Answer<A>) -> bool {
     }
 }
 
-// One dictionary with one key.
+// Returns one dictionary with one key.
 pub(crate) fn one<L: Layout, const SLOTS: usize, A: Allocator + Copy>(
     alloc: A,
 ) -> Result<Tries<L, SLOTS, A>, Fail>
@@ -78,7 +78,7 @@ fn replay<L: Layout, const SLOTS: usize, A: Allocator>(
     Ok(refused)
 }
 
-// Whether two lists hold one dictionary each, which save and list the same.
+// Returns whether two lists hold one dictionary each, which save and list the same.
 fn are_alike<L: Layout, const SLOTS: usize, A: Allocator + Copy>(
     alloc: Global,
     tries: &[Trie<L, SLOTS, A>],
@@ -90,7 +90,7 @@ fn are_alike<L: Layout, const SLOTS: usize, A: Allocator + Copy>(
     Ok(state_of(alloc, trie)? == state_of(alloc, other)?)
 }
 
-// Makes the calls with one request refused, and says whether they asked so often. If they did: either no call was made, or
+// Makes the calls with one request refused, and returns whether they made this many requests. If they did: either no call was made, or
 // one of them was refused and the others made as if it were not among them.
 #[tactic(auto, using(cedarwood::proofs::DictionaryLemmas::default_limit))]
 fn is_refused<L: Layout>(rt: &impl Abort, alloc: Global, request: u64) -> Result<bool, Fail> {

@@ -42,7 +42,7 @@ fn text_of(alloc: Global, is_answer: bool, count: usize) -> Result<Vec<u8>, Fail
     Ok(text)
 }
 
-// How many rows have their whole answers in so many bytes.
+// Returns how many rows have their whole answers in this many bytes.
 fn rows_within(room: usize) -> usize {
     let mut left = room;
     for (row, (_, answer)) in ROWS.iter().enumerate() {
@@ -61,7 +61,7 @@ struct Left {
     state: State,
 }
 
-// A run of the first rows on a new dictionary, whose writer takes so many bytes, a few at a time, and then ends.
+// A run of the first rows on a new dictionary, whose writer takes this many bytes, a few at a time, and then ends.
 #[tactic(auto, using(cedarwood::proofs::DictionaryLemmas::default_limit))]
 fn run<L: Layout>(alloc: Global, rows: usize, room: usize, ending: Ending) -> Result<Left, Fail> {
     let script = text_of(alloc, false, rows)?;
@@ -77,7 +77,7 @@ fn run<L: Layout>(alloc: Global, rows: usize, room: usize, ending: Ending) -> Re
     Ok(Left { ended, state })
 }
 
-// A run whose writer takes so many bytes has to end by its fault, to have written the bytes before it, and to leave what it should.
+// Expects a run whose writer takes this many bytes to end by its fault, to have written the bytes before it, and to leave what it should.
 fn expect_cut<L: Layout>(
     rt: &impl Abort,
     alloc: Global,
@@ -130,8 +130,8 @@ fn each_byte_of_the_answers(rt: HostRuntime) -> Result<(), Fail> {
     fail_each::<ReducedLayout>(&rt, rt.alloc())
 }
 
-// A line that never ends, behind two that do, where the requests from one on are refused: the run ends for want of memory, and the finished lines
-// stand.
+// A line that never ends, after two that do, with the requests from one on refused: the run ends for lack of memory, and the finished
+// lines count.
 #[tactic(auto, using(cedarwood::proofs::DictionaryLemmas::default_limit))]
 fn run_endless(alloc: Global, refused: u64) -> Result<(Result<(), ScriptError>, State), Fail> {
     let memory = Refusing::new(alloc);

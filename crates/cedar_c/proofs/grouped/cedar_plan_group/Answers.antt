@@ -1,4 +1,4 @@
-use Rattle.std.proofs.Common.{◌≡◌, length, take, drop, arith, length-drop}
+use Rattle.std.proofs.Common.{take, drop, arith, length-drop}
 use Rattle.std.proofs.lemmas.List.{length-take-le}
 use Rattle.cedar_c.proofs.GroupLemmas.{is_group}
 use Rattle.cedar_c.proofs.grouped.cedar_plan_group.Goals as goal

@@ -1,4 +1,3 @@
-use Rattle.std.proofs.Common.{length, take, drop}
 use Rattle.cedar_c.proofs.GroupLemmas.{framed_there}
 use Rattle.cedar_c.proofs.grouped.frame_group.Goals as goal
 

@@ -1,4 +1,4 @@
-use Rattle.std.proofs.Common.{◌≡◌, ◌≤◌, ◌-◌, ◌⊎◌, drop, length, take}
+use Rattle.std.proofs.Common.{◌≡◌, ◌≤◌, ◌-◌, ◌⊎◌, length, take}
 use Rattle.cedar_c.specs.Scans.{found_keywords, WritesPiece}
 use Rattle.cedar_c.proofs.keywords.keywords.Given as goal
 

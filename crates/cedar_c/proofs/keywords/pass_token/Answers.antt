@@ -3,7 +3,7 @@ use Rattle.cedar_words.specs.Words.{longest}
 use Rattle.cedar_c.specs.Scans.{WritesOn, found_keywords}
 use Rattle.cedar_c.specs.declared.scans.Found.{Found}
 use Rattle.cedar_c.proofs.KeywordLemmas.{byte_passed, keyword_told}
-use Rattle.cedar_c.proofs.ScanLemmas.{rest_of}
+use Rattle.cedar_words.proofs.SpotLemmas.{rest_of}
 use Rattle.cedar_c.proofs.keywords.pass_token.Goals as goal
 
 pub returns-in-Some-clause-told : goal.returns-in-Some-clause-told

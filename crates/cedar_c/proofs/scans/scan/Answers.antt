@@ -2,7 +2,8 @@ use Rattle.std.proofs.Common.{rules, inl, ◌≡◌, ◌∙◌, ◌<◌, ◌≤�
 use Rattle.std.proofs.lemmas.List.{length-drop}
 use Rattle.cedar_tree.specs.Queries.{front}
 use Rattle.cedar_c.specs.Scans.{found_spot}
-use Rattle.cedar_c.proofs.ScanLemmas.{place_told, rest_of}
+use Rattle.cedar_words.proofs.SpotLemmas.{rest_of}
+use Rattle.cedar_c.proofs.ScanLemmas.{place_told}
 use Rattle.cedar_c.proofs.scans.scan.Goals as goal
 
 pub loop-next-preserved : goal.loop-next-preserved

@@ -1,7 +1,7 @@
 use Rattle.std.specs.Prelude.{codes}
 use Rattle.cedarwood.specs.WatchedDevice.{device_of}
 use Rattle.cedar_cli.specs.Script.{pair_text}
-use Rattle.cedar_cli.proofs.Bytes.{front_more, on_err, then_err}
+use Rattle.text_lines.proofs.Bytes.{front_more, on_err, then_err}
 use Rattle.cedar_cli.proofs.answers.write_after_space.Goals as goal
 
 pub returns-in_err-write_whole-clause-err : goal.returns-in_err-write_whole-clause-err

@@ -5,7 +5,7 @@ use Rattle.std.specs.Fmt.{signed_decimal}
 use Rattle.hex.specs.Hex.{encode_lower}
 use Rattle.cedarwood.specs.WatchedDevice.{device_of}
 use Rattle.text_lines.specs.Written.{WritesFront}
-use Rattle.cedar_cli.proofs.Bytes.{front_more, then_err, on_err}
+use Rattle.text_lines.proofs.Bytes.{front_more, then_err, on_err}
 use Rattle.cedar_cli.proofs.answers.write_entry.Goals as goal
 
 pub returns-in_err-write_digits-clause-err : goal.returns-in_err-write_digits-clause-err

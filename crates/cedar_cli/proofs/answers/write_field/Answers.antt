@@ -2,7 +2,7 @@ use Rattle.std.proofs.Common.{◌≡◌, ◌++◌, ◌∙◌, ℕ, List, subst}
 use Rattle.std.specs.Prelude.{codes, decimal}
 use Rattle.cedarwood.specs.WatchedDevice.{device_of}
 use Rattle.text_lines.specs.Written.{WritesFront}
-use Rattle.cedar_cli.proofs.Bytes.{front_more, on_err}
+use Rattle.text_lines.proofs.Bytes.{front_more, on_err}
 use Rattle.cedar_cli.proofs.answers.write_field.Goals as goal
 
 pub returns-in_err-write_whole-clause-err : goal.returns-in_err-write_whole-clause-err

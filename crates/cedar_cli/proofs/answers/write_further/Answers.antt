@@ -3,7 +3,7 @@ use Rattle.std.specs.Prelude.{codes}
 use Rattle.std.specs.Io.KnownBytes.{Appends}
 use Rattle.cedarwood.specs.WatchedDevice.{device_of}
 use Rattle.cedar_cli.specs.Script.{pair_text, spaced_texts}
-use Rattle.cedar_cli.proofs.Bytes.{Appends-append, Appends-none, on_err}
+use Rattle.text_lines.proofs.Bytes.{Appends-append, Appends-none, on_err}
 use Rattle.cedar_cli.proofs.JoinedLines.{spaced_push, spaced_stopped}
 use Rattle.cedar_cli.proofs.answers.write_further.Goals as goal
 

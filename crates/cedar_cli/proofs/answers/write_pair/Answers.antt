@@ -4,7 +4,7 @@ use Rattle.std.specs.Prelude.{OnErr, codes, decimal}
 use Rattle.std.specs.Fmt.{signed_decimal}
 use Rattle.cedarwood.specs.WatchedDevice.{device_of}
 use Rattle.text_lines.specs.Written.{WritesFront}
-use Rattle.cedar_cli.proofs.Bytes.{front_more, then_err, on_err}
+use Rattle.text_lines.proofs.Bytes.{front_more, then_err, on_err}
 use Rattle.cedar_cli.proofs.answers.write_pair.Goals as goal
 
 pub returns-in_err-write_whole-clause-err : goal.returns-in_err-write_whole-clause-err

@@ -3,7 +3,7 @@ use Rattle.std.specs.Prelude.{OnErr}
 use Rattle.cedarwood.specs.WatchedDevice.{device_of}
 use Rattle.cedar_cli.specs.Script.{pair_text, spaced_texts}
 use Rattle.text_lines.specs.Written.{WritesFront}
-use Rattle.cedar_cli.proofs.Bytes.{front_more, on_err, then_err}
+use Rattle.text_lines.proofs.Bytes.{front_more, on_err, then_err}
 use Rattle.cedar_cli.proofs.JoinedLines.{joined_line}
 use Rattle.cedar_cli.proofs.answers.write_pairs.Goals as goal
 

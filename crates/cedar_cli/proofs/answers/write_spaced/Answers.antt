@@ -4,7 +4,7 @@ use Rattle.std.specs.Io.KnownBytes.{Appends}
 use Rattle.cedarwood.specs.WatchedDevice.{device_of}
 use Rattle.cedar_words.specs.Words.{Token}
 use Rattle.cedar_cli.specs.Script.{spaced_texts, token_text}
-use Rattle.cedar_cli.proofs.Bytes.{Appends-append, on_err}
+use Rattle.text_lines.proofs.Bytes.{Appends-append, on_err}
 use Rattle.cedar_cli.proofs.JoinedLines.{spaced_push, spaced_stopped}
 use Rattle.cedar_cli.proofs.answers.write_spaced.Goals as goal
 

@@ -1,7 +1,7 @@
 use Rattle.std.proofs.Common.{◌++◌}
 use Rattle.cedarwood.specs.WatchedDevice.{device_of}
 use Rattle.cedar_cli.specs.Script.{colon_field, number_text}
-use Rattle.cedar_cli.proofs.Bytes.{front_after, front_more, on_err, then_err}
+use Rattle.text_lines.proofs.Bytes.{front_after, front_more, on_err, then_err}
 use Rattle.cedar_cli.proofs.answers.write_token.Goals as goal
 
 pub returns-in_err-write_field-clause-err : goal.returns-in_err-write_field-clause-err

@@ -3,7 +3,7 @@ use Rattle.std.specs.Prelude.{codes, decimal, OnOk, OnErr}
 use Rattle.std.specs.Io.KnownBytes.{Appends}
 use Rattle.cedarwood.specs.WatchedDevice.{device_of}
 use Rattle.text_lines.specs.Written.{WritesFront}
-use Rattle.cedar_cli.proofs.Bytes.{front_more, on_err, then_err, then_ok}
+use Rattle.text_lines.proofs.Bytes.{front_more, on_err, then_err, then_ok}
 use Rattle.cedar_cli.proofs.Orders.{figures_line}
 use Rattle.cedar_cli.proofs.verbs.write_figures.Goals as goal
 

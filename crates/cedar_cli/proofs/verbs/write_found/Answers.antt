@@ -5,7 +5,7 @@ use Rattle.std.specs.Fmt.{signed_decimal}
 use Rattle.std.specs.Io.KnownBytes.{Appends}
 use Rattle.cedarwood.specs.WatchedDevice.{device_of}
 use Rattle.text_lines.specs.Written.{WritesFront}
-use Rattle.cedar_cli.proofs.Bytes.{front_more, then_ok, then_err, on_err}
+use Rattle.text_lines.proofs.Bytes.{front_more, then_ok, then_err, on_err}
 use Rattle.cedar_cli.proofs.Orders.{found_line}
 use Rattle.cedar_cli.proofs.verbs.write_found.Goals as goal
 

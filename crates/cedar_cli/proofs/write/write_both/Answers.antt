@@ -1,5 +1,5 @@
 use Rattle.cedarwood.specs.WatchedDevice.{device_of}
-use Rattle.cedar_cli.proofs.Bytes.{front_more, on_err, then_err}
+use Rattle.text_lines.proofs.Bytes.{front_more, on_err, then_err}
 use Rattle.cedar_cli.proofs.write.write_both.Goals as goal
 
 pub returns-in_err-write_whole-clause-err : goal.returns-in_err-write_whole-clause-err

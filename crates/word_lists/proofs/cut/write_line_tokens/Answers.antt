@@ -1,7 +1,8 @@
 use Rattle.std.proofs.Common.{ap}
 use Rattle.cedarwood.specs.WatchedDevice.{device_of}
 use Rattle.word_lists.specs.Texts.{body_of, ending_of, styled_text}
-use Rattle.word_lists.proofs.Bytes.{front_as, on_err, then_err_as, then_ok_as}
+use Rattle.text_lines.proofs.Bytes.{on_err}
+use Rattle.word_lists.proofs.Bytes.{front_as, then_err_as, then_ok_as}
 use Rattle.word_lists.proofs.cut.write_line_tokens.Goals as goal
 
 pub returns-in_err-write_tokens-clause-err : goal.returns-in_err-write_tokens-clause-err

@@ -1,6 +1,7 @@
 use Rattle.cedarwood.specs.WatchedDevice.{device_of}
 use Rattle.word_lists.specs.Texts.{parting, text_part}
-use Rattle.word_lists.proofs.Bytes.{front_as, on_err, then_err_as}
+use Rattle.text_lines.proofs.Bytes.{on_err}
+use Rattle.word_lists.proofs.Bytes.{front_as, then_err_as}
 use Rattle.word_lists.proofs.cut.write_parted.Goals as goal
 
 pub returns-in_err-write_whole-clause-err : goal.returns-in_err-write_whole-clause-err

@@ -3,7 +3,7 @@ use Rattle.std.specs.Io.KnownBytes.{Appends}
 use Rattle.cedarwood.specs.WatchedDevice.{device_of}
 use Rattle.cedar_words.specs.Words.{Token}
 use Rattle.word_lists.specs.Texts.{style_text, styled_text}
-use Rattle.word_lists.proofs.Bytes.{Appends-append, Appends-none, on_err}
+use Rattle.text_lines.proofs.Bytes.{Appends-append, Appends-none, on_err}
 use Rattle.word_lists.proofs.Texts.{texts_push, texts_stopped}
 use Rattle.word_lists.proofs.cut.write_tokens.Goals as goal
 

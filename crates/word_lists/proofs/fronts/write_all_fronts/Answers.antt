@@ -6,7 +6,7 @@ use Rattle.cedar_tree.specs.Queries.{Entry}
 use Rattle.cedarwood.specs.WatchedDevice.{device_of}
 use Rattle.word_lists.specs.Lines.{entry_line, entry_lines}
 use Rattle.word_lists.specs.Texts.{front_entry}
-use Rattle.word_lists.proofs.Bytes.{Appends-append, Appends-none, on_err}
+use Rattle.text_lines.proofs.Bytes.{Appends-append, Appends-none, on_err}
 use Rattle.word_lists.proofs.Texts.{some_more}
 use Rattle.word_lists.proofs.WordLines.{lines_push, lines_stopped}
 use Rattle.word_lists.proofs.fronts.write_all_fronts.Goals as goal

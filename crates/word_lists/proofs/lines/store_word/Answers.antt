@@ -4,7 +4,7 @@ use Rattle.std.specs.Prelude.{IfOk, OnOk}
 use Rattle.cedar_tree.specs.Tree.{number_at}
 use Rattle.cedarwood.specs.Fault.{fault}
 use Rattle.word_lists.specs.Stored.{line_refusal, stored_by, told_by}
-use Rattle.word_lists.proofs.Bytes.{on_err}
+use Rattle.text_lines.proofs.Bytes.{on_err}
 use Rattle.word_lists.proofs.Refusals.{refused_slots, refused_state, refused_told, stored_state, stored_told, update_err}
 use Rattle.word_lists.proofs.lines.store_word.Goals as goal
 
@@ -23,8 +23,8 @@ returns-in-Ok-clause-told g c =
     let word = c.args.word.now in
     let held = is_some (number_at c.args.trie.now.state.tree word) in
     let v = to_z w32 (of_z w32 c.args.value) in
-    subst (λ (x : ℤ). c.repeated.result ≡ told_by (fault word x) held) (to_z-of_z w32 c.args.value c.ranges.value)
-    (stored_told (fault word v) held c.repeated.result u.faulty (c.repeated.ensures ∙ ap (λ o. told_by None (is_some o)) c.in-Ok.ensures.held))
+    subst (λ (x : ℤ). c.repeat_fault.result ≡ told_by (fault word x) held) (to_z-of_z w32 c.args.value c.ranges.value)
+    (stored_told (fault word v) held c.repeat_fault.result u.faulty (c.repeat_fault.ensures ∙ ap (λ o. told_by None (is_some o)) c.in-Ok.ensures.held))
 
 pub returns-in-Err-clause-ok : goal.returns-in-Err-clause-ok
 returns-in-Err-clause-ok g c =

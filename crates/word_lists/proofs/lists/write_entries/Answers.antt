@@ -5,7 +5,7 @@ use Rattle.cedar_tree.specs.Queries.{Entry}
 use Rattle.cedarwood.specs.WatchedDevice.{device_of}
 use Rattle.text_lines.specs.Written.{WritesFront}
 use Rattle.word_lists.specs.Lines.{entry_line, entry_lines}
-use Rattle.word_lists.proofs.Bytes.{Appends-append, on_err}
+use Rattle.text_lines.proofs.Bytes.{Appends-append, on_err}
 use Rattle.word_lists.proofs.WordLines.{lines_push, lines_begun, lines_stopped}
 use Rattle.word_lists.proofs.lists.write_entries.Goals as goal
 

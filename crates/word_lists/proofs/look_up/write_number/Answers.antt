@@ -2,7 +2,7 @@ use Rattle.std.proofs.Common.{ℤ, Option, subst}
 use Rattle.cedarwood.specs.WatchedDevice.{device_of}
 use Rattle.text_lines.specs.Written.{WritesFront}
 use Rattle.word_lists.specs.Lines.{found_line}
-use Rattle.word_lists.proofs.Bytes.{on_err}
+use Rattle.text_lines.proofs.Bytes.{on_err}
 use Rattle.word_lists.proofs.look_up.write_number.Goals as goal
 
 pub returns-in_err-write_found-clause-err : goal.returns-in_err-write_found-clause-err

@@ -1,7 +1,7 @@
 use Rattle.std.proofs.Common.{◌++◌}
 use Rattle.cedarwood.specs.WatchedDevice.{device_of}
 use Rattle.word_lists.specs.Texts.{mark_on, mark_off}
-use Rattle.word_lists.proofs.Bytes.{front_after, front_more, on_err, then_err, then_ok}
+use Rattle.text_lines.proofs.Bytes.{front_after, front_more, on_err, then_err, then_ok}
 use Rattle.word_lists.proofs.marked.write_mark.Goals as goal
 
 pub returns-in_err-write_whole-clause-err : goal.returns-in_err-write_whole-clause-err

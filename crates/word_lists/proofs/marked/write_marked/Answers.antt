@@ -5,7 +5,7 @@ use Rattle.cedarwood.specs.WatchedDevice.{device_of}
 use Rattle.cedar_words.specs.Words.{Token, keywords_in, segments}
 use Rattle.text_lines.specs.Written.{WritesFront}
 use Rattle.word_lists.specs.Texts.{body_of, ending_of, marked_token, texts_of}
-use Rattle.word_lists.proofs.Bytes.{Appends-none, on_err}
+use Rattle.text_lines.proofs.Bytes.{Appends-none, on_err}
 use Rattle.word_lists.proofs.Texts.{marked_none, marked_some}
 use Rattle.word_lists.proofs.marked.write_marked.Goals as goal
 

@@ -1,4 +1,4 @@
-use Rattle.std.proofs.Common.{rules, ◌≡◌, ◌∙◌, ℤ, Option, ap, FitsSigned, w32}
+use Rattle.std.proofs.Common.{rules, ◌∙◌, ℤ, Option, ap, FitsSigned, w32}
 use Rattle.word_lists.specs.Lines.{is_number}
 use Rattle.word_lists.proofs.Figures.{same_bits}
 use Rattle.word_lists.proofs.pairs.holds.Goals as goal

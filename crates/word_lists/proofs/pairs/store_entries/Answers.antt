@@ -2,7 +2,7 @@ use Rattle.std.proofs.Common.{rules, w32, to_z, of_z, FitsSigned, ◌≡◌, ◌
 use Rattle.std.proofs.lemmas.Int.{to_z-of_z}
 use Rattle.cedar_tree.specs.Queries.{Entry}
 use Rattle.cedar_tree.specs.State.{State, stored}
-use Rattle.word_lists.proofs.Bytes.{on_err}
+use Rattle.text_lines.proofs.Bytes.{on_err}
 use Rattle.word_lists.proofs.SignedLines.{stored_more}
 use Rattle.word_lists.proofs.pairs.store_entries.Goals as goal
 

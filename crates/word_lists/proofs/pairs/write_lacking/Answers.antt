@@ -8,7 +8,7 @@ use Rattle.text_lines.specs.Written.{WritesFront}
 use Rattle.word_lists.specs.Lines.{lacking, signed_lines}
 use Rattle.word_lists.specs.declared.write.ListError.TheVariants.{Write}
 use Rattle.word_lists.proofs.Answered.{broken_lines, memory_told, starved_lines, whole_lines}
-use Rattle.word_lists.proofs.Bytes.{Appends-append, Appends-none, on_err}
+use Rattle.text_lines.proofs.Bytes.{Appends-append, Appends-none, on_err}
 use Rattle.word_lists.proofs.SignedLines.{lacking_begun, lacking_lines, lacking_some, lacking_stopped, or_all}
 use Rattle.word_lists.proofs.pairs.write_lacking.Goals as goal
 

@@ -5,7 +5,7 @@ use Rattle.std.specs.Io.KnownBytes.{Appends}
 use Rattle.cedarwood.specs.WatchedDevice.{device_of}
 use Rattle.text_lines.specs.Written.{WritesFront}
 use Rattle.word_lists.specs.Lines.{entry_line}
-use Rattle.word_lists.proofs.Bytes.{front_more, on_err, then_err, then_ok}
+use Rattle.text_lines.proofs.Bytes.{front_more, on_err, then_err, then_ok}
 use Rattle.word_lists.proofs.pairs.write_signed.Goals as goal
 
 pub returns-in_err-write_whole-clause-err : goal.returns-in_err-write_whole-clause-err

@@ -4,7 +4,7 @@ use Rattle.std.specs.Io.KnownBytes.{Appends}
 use Rattle.cedarwood.specs.WatchedDevice.{device_of}
 use Rattle.text_lines.specs.Written.{WritesFront}
 use Rattle.word_lists.specs.Lines.{holds_entry, signed_line}
-use Rattle.word_lists.proofs.Bytes.{Appends-none, on_err}
+use Rattle.text_lines.proofs.Bytes.{Appends-none, on_err}
 use Rattle.word_lists.proofs.SignedLines.{none_lacking, nothing_lacking, one_lacking, some_lacking}
 use Rattle.word_lists.proofs.pairs.write_unless_held.Goals as goal
 

@@ -1,7 +1,8 @@
 use Rattle.std.proofs.Common.{◌∷◌, ◌∙◌, []}
 use Rattle.std.specs.Prelude.{decimal}
 use Rattle.cedarwood.specs.WatchedDevice.{device_of}
-use Rattle.word_lists.proofs.Bytes.{front_as, on_err}
+use Rattle.text_lines.proofs.Bytes.{on_err}
+use Rattle.word_lists.proofs.Bytes.{front_as}
 use Rattle.word_lists.proofs.scan.write_field.Goals as goal
 
 pub returns-in_err-write_whole-clause-err : goal.returns-in_err-write_whole-clause-err

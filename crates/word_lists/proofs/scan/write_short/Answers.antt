@@ -1,10 +1,9 @@
-use Rattle.std.proofs.Common.{w32, arith, ap, ◌∙◌, ◌++◌, List, ℕ, subst}
+use Rattle.std.proofs.Common.{w32, arith, ap, ◌∙◌, List, ℕ, subst}
 use Rattle.std.proofs.lemmas.Int.{to_z-of_z}
 use Rattle.std.specs.Prelude.{OnErr}
 use Rattle.cedarwood.specs.WatchedDevice.{device_of}
 use Rattle.text_lines.specs.Written.{WritesFront}
 use Rattle.word_lists.specs.Lines.{entry_line}
-use Rattle.word_lists.specs.Texts.{tab_field}
 use Rattle.word_lists.proofs.Rooms.{fields_put}
 use Rattle.word_lists.proofs.scan.write_short.Goals as goal
 

@@ -6,7 +6,8 @@ use Rattle.std.specs.Prelude.{OnErr}
 use Rattle.text_lines.specs.Written.{WritesFront}
 use Rattle.word_lists.specs.Lines.{entry_line}
 use Rattle.word_lists.specs.Texts.{characters, tab_field, text_part}
-use Rattle.word_lists.proofs.Bytes.{front_after, front_as, front_more, on_err, then_err, then_err_as}
+use Rattle.text_lines.proofs.Bytes.{front_after, front_more, on_err, then_err}
+use Rattle.word_lists.proofs.Bytes.{front_as, then_err_as}
 use Rattle.word_lists.proofs.scan.write_spot.Goals as goal
 
 pub returns-in_err-write_field-clause-err : goal.returns-in_err-write_field-clause-err

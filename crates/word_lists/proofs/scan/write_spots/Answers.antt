@@ -3,7 +3,7 @@ use Rattle.std.specs.Io.KnownBytes.{Appends}
 use Rattle.cedarwood.specs.WatchedDevice.{device_of}
 use Rattle.cedar_words.specs.Words.{Spot}
 use Rattle.word_lists.specs.Texts.{spot_line, spot_lines}
-use Rattle.word_lists.proofs.Bytes.{Appends-append, Appends-none, on_err}
+use Rattle.text_lines.proofs.Bytes.{Appends-append, Appends-none, on_err}
 use Rattle.word_lists.proofs.Texts.{some_more, spots_push, spots_stopped}
 use Rattle.word_lists.proofs.scan.write_spots.Goals as goal
 

@@ -1,6 +1,6 @@
 use Rattle.std.proofs.Common.{rules, ◌≡◌, [], get_or, ◌∙◌}
 use Rattle.cedarwood.specs.WatchedDevice.{device_of}
-use Rattle.word_lists.proofs.Bytes.{on_err}
+use Rattle.text_lines.proofs.Bytes.{on_err}
 use Rattle.word_lists.proofs.WordLines.{bytes_more, bytes_stopped, first_byte}
 use Rattle.word_lists.proofs.word.write_bytes.Goals as goal
 

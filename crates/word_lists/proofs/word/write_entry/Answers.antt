@@ -5,7 +5,7 @@ use Rattle.std.specs.Fmt.{signed_decimal}
 use Rattle.cedarwood.specs.WatchedDevice.{device_of}
 use Rattle.text_lines.specs.Written.{WritesFront}
 use Rattle.word_lists.specs.Lines.{entry_line, word_text}
-use Rattle.word_lists.proofs.Bytes.{front_more, then_err, on_err}
+use Rattle.text_lines.proofs.Bytes.{front_more, then_err, on_err}
 use Rattle.word_lists.proofs.Rooms.{all_from}
 use Rattle.word_lists.proofs.word.write_entry.Goals as goal
 

@@ -1,6 +1,6 @@
 use Rattle.std.proofs.Common.{◌++◌, ◌∷◌, []}
 use Rattle.cedarwood.specs.WatchedDevice.{device_of}
-use Rattle.word_lists.proofs.Bytes.{front_more, front_after, then_err, on_err}
+use Rattle.text_lines.proofs.Bytes.{front_more, front_after, then_err, on_err}
 use Rattle.word_lists.proofs.write.write_line.Goals as goal
 
 pub returns-in_err-write_whole-clause-err : goal.returns-in_err-write_whole-clause-err

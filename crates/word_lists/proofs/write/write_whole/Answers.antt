@@ -1,6 +1,6 @@
 use Rattle.std.proofs.Common.{rules, ◌≡◌, ◌∙◌}
 use Rattle.cedarwood.specs.WatchedDevice.{has_failed}
-use Rattle.word_lists.proofs.Bytes.{Appends-more, unfailed_by}
+use Rattle.text_lines.proofs.Bytes.{Appends-more, unfailed_by}
 use Rattle.word_lists.proofs.write.write_whole.Goals as goal
 
 pub loop-rest-preserved : goal.loop-rest-preserved

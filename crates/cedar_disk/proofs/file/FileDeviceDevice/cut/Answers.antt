@@ -10,5 +10,5 @@ returns-in_err-admit-clause-crash g c =
 
 pub returns-clause-crash : goal.returns-clause-crash
 returns-clause-crash g c =
-    let is : calls_of c.shortened.new.self ≡ shortened c.args.len c.is_ok.result ∷ calls_of c.args.self.now.account = search rules in
-    cut_follows (calls_of c.args.self.now.account) (calls_of c.shortened.new.self) c.args.self.now.account.within c.args.len c.is_ok.result is
+    let is : calls_of c.note_cut.new.self ≡ shortened c.args.len c.is_ok.result ∷ calls_of c.args.self.now.account = search rules in
+    cut_follows (calls_of c.args.self.now.account) (calls_of c.note_cut.new.self) c.args.self.now.account.within c.args.len c.is_ok.result is

@@ -10,6 +10,6 @@ returns-in_err-admit-clause-crash g c = refused_keeps (calls_of c.args.self.now.
 
 pub returns-clause-crash : goal.returns-clause-crash
 returns-clause-crash g c =
-    let is : calls_of c.synced.new.self ≡ synced c.is_ok.result ∷ calls_of c.args.self.now.account = search rules in
+    let is : calls_of c.note_sync.new.self ≡ synced c.is_ok.result ∷ calls_of c.args.self.now.account = search rules in
     let usable : IsTrue (is_usable_after (calls_of c.args.self.now.account)) = search rules in
-    sync_keeps (calls_of c.args.self.now.account) (calls_of c.synced.new.self) c.args.self.now.account.within c.is_ok.result usable is
+    sync_keeps (calls_of c.args.self.now.account) (calls_of c.note_sync.new.self) c.args.self.now.account.within c.is_ok.result usable is

@@ -10,15 +10,15 @@ returns-in_err-admit-clause-crash g c =
 
 pub returns-in_default-clause-crash : goal.returns-in_default-clause-crash
 returns-in_default-clause-crash g c =
-    let is : calls_of c.refused.new.self ≡ refused_call ∷ calls_of c.args.self.now.account = search rules in
-    refused_write (calls_of c.args.self.now.account) (calls_of c.refused.new.self) c.args.self.now.account.within c.args.at (length c.args.bytes.now) is
+    let is : calls_of c.note_refusal.new.self ≡ refused_call ∷ calls_of c.args.self.now.account = search rules in
+    refused_write (calls_of c.args.self.now.account) (calls_of c.note_refusal.new.self) c.args.self.now.account.within c.args.at (length c.args.bytes.now) is
 
 pub returns-then-end-len-clause-crash : goal.returns-then-end-len-clause-crash
 returns-then-end-len-clause-crash g c =
-    let is : calls_of c.wrote.new.self ≡ written c.args.at c.args.bytes.now c.is_ok.result ∷ calls_of c.args.self.now.account = search rules in
-    write_follows (calls_of c.args.self.now.account) (calls_of c.wrote.new.self) c.args.self.now.account.within c.args.at c.args.bytes.now c.is_ok.result is
+    let is : calls_of c.note_write.new.self ≡ written c.args.at c.args.bytes.now c.is_ok.result ∷ calls_of c.args.self.now.account = search rules in
+    write_follows (calls_of c.args.self.now.account) (calls_of c.note_write.new.self) c.args.self.now.account.within c.args.at c.args.bytes.now c.is_ok.result is
 
 pub returns-clause-crash : goal.returns-clause-crash
 returns-clause-crash g c =
-    let is : calls_of c.extended.new.self ≡ extended c.args.at c.args.bytes.now c.is_ok-2.result ∷ calls_of c.args.self.now.account = search rules in
-    extend_follows (calls_of c.args.self.now.account) (calls_of c.extended.new.self) c.args.self.now.account.within c.args.at c.args.bytes.now c.is_ok-2.result is
+    let is : calls_of c.note_extension.new.self ≡ extended c.args.at c.args.bytes.now c.is_ok-2.result ∷ calls_of c.args.self.now.account = search rules in
+    extend_follows (calls_of c.args.self.now.account) (calls_of c.note_extension.new.self) c.args.self.now.account.within c.args.at c.args.bytes.now c.is_ok-2.result is

@@ -1,5 +1,6 @@
 use Rattle.std.proofs.Common.{rules, refl}
-use Rattle.cedar_model.proofs.RelocationLemmas.WantedLabels.{all_few, all_last, all_placed, BeforeLabel, put_before, put_later, put_new, writing_few, writing_none, written}
+use Rattle.cedar_model.proofs.RelocationLemmas.WantedLabels.{all_last, all_placed, BeforeLabel, put_before, put_later, put_new, writing_none, written}
+use Rattle.cedar_edit.proofs.WantedRoom.{room_at_end, room_before}
 use Rattle.cedar_edit.proofs.relocation.resolve.labels_with.Goals as goal
 use Rattle.cedar_edit.proofs.relocation.resolve.labels_with.Goals.{then-not-placed+then-goes_before, else-not-placed, else-not-placed-via-then-not-placed+else-goes_before, else-not-placed-via-else-not-placed}
 
@@ -8,7 +9,7 @@ loop-other-init g c = writing_none _ _ _ _ c.new-wanted.ensures
 
 pub push-requires : goal.push-requires
 push-requires g c =
-    (search rules, all_few _ _ _ _ _ _ c.loop-other.auto.other-index-end c.requires.few c.if-not-placed.true c.loop-other.invariant)
+    (search rules, room_at_end _ _ _ _ _ _ _ c.loop-other.auto.other-index-end c.requires.few c.if-not-placed.true c.loop-other.invariant)
 
 pub push-requires-in-loop-other : goal.push-requires-in-loop-other
 push-requires-in-loop-other g c =
@@ -21,7 +22,7 @@ push-requires-in-loop-other g c =
         | else-not-placed-via-else-not-placed u ↦ put_before _ _ _ _ _ _ _ _ h u.if-not-placed.false (cc) v.placed-is w
       ]
     ] in
-    (search rules, writing_few _ _ _ _ _ _ h c.requires.few next)
+    (search rules, room_before _ _ _ _ _ _ _ h c.requires.few next)
 
 pub loop-other-preserved : goal.loop-other-preserved
 loop-other-preserved g c =
@@ -38,7 +39,7 @@ loop-other-preserved g c =
 
 pub push-requires-then-not-placed-2 : goal.push-requires-then-not-placed-2
 push-requires-then-not-placed-2 g c =
-    (search rules, all_few _ _ _ _ _ _ c.loop-other.auto.other-index-end c.requires.few c.if-not-placed-2.true c.loop-other.invariant)
+    (search rules, room_at_end _ _ _ _ _ _ _ c.loop-other.auto.other-index-end c.requires.few c.if-not-placed-2.true c.loop-other.invariant)
 
 pub returns-then-not-placed-2 : goal.returns-then-not-placed-2
 returns-then-not-placed-2 g c =

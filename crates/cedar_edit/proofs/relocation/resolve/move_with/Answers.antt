@@ -1,83 +1,30 @@
-use Rattle.std.proofs.Common.{◌≡◌, ◌+◌, ◌<◌, ◌∙◌, ap, arith, length, rules, subst, sym, ℕ, List}
-use Rattle.cedar_model.specs.Meaning.Family.{Among, owned_slots}
+use Rattle.std.proofs.Common.{◌≡◌, ◌≤◌, ◌∙◌, ap, arith, length, rules, sym, ℕ}
+use Rattle.cedar_model.specs.Meaning.Family.{owned_slots}
 use Rattle.cedar_model.specs.Relocation.Renaming.{IsNode}
 use Rattle.cedar_table.specs.Table.Views.{cells, fields}
 use Rattle.cedar_model.specs.Table.TableFields.{size_of}
 use Rattle.cedar_model.specs.Relocation.Wanted.{with_label}
-use Rattle.cedar_model.proofs.RelocationLemmas.Conflict.{not_owned, owned_short}
 use Rattle.cedar_model.proofs.RelocationLemmas.Movable.{node_at_end}
-use Rattle.cedar_model.proofs.RelocationLemmas.WantedLabels.{with_length, with_new, with_old}
-use Rattle.cedar_edit.proofs.StepLemmas.{refused_step}
 use Rattle.cedar_edit.proofs.relocation.resolve.move_with.Goals as goal
 
-pub labels_of-labels-requires : goal.labels_of-labels-requires
-labels_of-labels-requires g c =
+pub labels_of-requires : goal.labels_of-requires
+labels_of-requires g c =
     let p = c.requires.node.on_path in
     let w = c.requires.node.holds in
-    (search rules, (c.requires.node.node_in, (c.requires.node.not_root, node_at_end _ (cells c.args.table.now) w.0 c.args.node p.0 w.1 p.1 p.2 c.requires.node.not_root)))
+    (search rules, (omega arith, (omega arith, (c.requires.node.node_in, (c.requires.node.not_root, node_at_end _ (cells c.args.table.now) w.0 c.args.node p.0 w.1 p.1 p.2 c.requires.node.not_root)))))
 
 pub labels_with-wanted-requires : goal.labels_with-wanted-requires
 labels_with-wanted-requires g c =
+    let few : length c.deref.result.now ≤ 16 = c.deref.ensures.1 in
+    (search rules, omega (arith, few))
+
+pub move_labels_with-requires : goal.move_labels_with-requires
+move_labels_with-requires g c =
     let T = cells c.args.table.now in
     let size : ℕ = size_of (fields c.args.table.now) in
     let p = c.requires.node.on_path in
     let w = c.requires.node.holds in
     let n : IsNode size T c.args.node = node_at_end size T w.0 c.args.node p.0 w.1 p.1 p.2 c.requires.node.not_root in
-    let labels : c.deref.result.now ≡ owned_slots n.head n.labels = c.deref.ensures.0 ∙ c.labels_of-labels.ensures n.head n.labels n.family in
-    (search rules, subst (λ v. length v < 256) (sym labels) (owned_short size T c.args.node c.args.label n.head n.labels (omega (arith, c.ranges.label)) c.requires.absent n.family))
-
-pub move_set_with-requires : goal.move_set_with-requires
-move_set_with-requires g c =
-    let T = cells c.args.table.now in
-    let size : ℕ = size_of (fields c.args.table.now) in
-    let p = c.requires.node.on_path in
-    let w = c.requires.node.holds in
-    let n : IsNode size T c.args.node = node_at_end size T w.0 c.args.node p.0 w.1 p.1 p.2 c.requires.node.not_root in
-    let ls : List ℕ = owned_slots n.head n.labels in
-    let listed : c.labels_of-labels.result.items ≡ ls = c.labels_of-labels.ensures n.head n.labels n.family in
-    let labels : c.deref-2.result.now ≡ ls = c.deref-2.ensures.0 ∙ listed in
-    let wanted : c.deref-3.result.now ≡ with_label (fields c.args.table.now).ordered c.args.label ls = c.deref-3.ensures.0 ∙ c.labels_with-wanted.ensures ∙ ap (with_label (fields c.args.table.now).ordered c.args.label) (c.deref.ensures.0 ∙ listed) in
-    let short : length ls < 256 = owned_short size T c.args.node c.args.label n.head n.labels (omega (arith, c.ranges.label)) c.requires.absent n.family in
-    let long : length (with_label (fields c.args.table.now).ordered c.args.label ls) ≡ length ls + 1 = with_length (fields c.args.table.now).ordered c.args.label ls in (
-      search rules,
-      (
-        c.requires.node,
-        (
-          record { head = n.head; labels = n.labels; family = n.family; owns = labels },
-          (
-            λ l a. subst (λ v. Among v l) (sym wanted) (with_old (fields c.args.table.now).ordered c.args.label ls l (subst (λ v. Among v l) labels a)),
-            (
-              omega (arith, ap length wanted, long),
-              (
-                omega (arith, ap length wanted, long, short),
-                (
-                  subst (λ v. Among v c.args.label) (sym wanted) (with_new (fields c.args.table.now).ordered c.args.label ls),
-                  λ a. not_owned size T c.args.node c.args.label n.head n.labels c.requires.absent n.family (subst (λ v. Among v c.args.label) labels a),
-                ),
-              ),
-            ),
-          ),
-        ),
-      ),
-    )
-
-pub returns-in_err-move_set_with-clause-step : goal.returns-in_err-move_set_with-clause-step
-returns-in_err-move_set_with-clause-step g c =
-    let step = c.in_err-move_set_with.ensures.step in
-    refused_step _ _ _ c.from_residual.result c.in_err-move_set_with.field-0.0 c.from_residual.ensures.1 step.refused step.unchanged step.growth
-
-pub returns-clause-moved : goal.returns-clause-moved
-returns-clause-moved g c =
-    let T = cells c.args.table.now in
-    let size : ℕ = size_of (fields c.args.table.now) in
-    let p = c.requires.node.on_path in
-    let w = c.requires.node.holds in
-    let n : IsNode size T c.args.node = node_at_end size T w.0 c.args.node p.0 w.1 p.1 p.2 c.requires.node.not_root in
-    let ls : List ℕ = owned_slots n.head n.labels in
-    let listed : c.labels_of-labels.result.items ≡ ls = c.labels_of-labels.ensures n.head n.labels n.family in
-    let labels : c.deref-2.result.now ≡ ls = c.deref-2.ensures.0 ∙ listed in
-    let wanted : c.deref-3.result.now ≡ with_label (fields c.args.table.now).ordered c.args.label ls = c.deref-3.ensures.0 ∙ c.labels_with-wanted.ensures ∙ ap (with_label (fields c.args.table.now).ordered c.args.label) (c.deref.ensures.0 ∙ listed) in
-    let moved = c.in_ok-move_set_with.ensures.moved in
-    let new : Among c.deref-2.result.now c.args.label → ⊥ = λ a. not_owned size T c.args.node c.args.label n.head n.labels c.requires.absent n.family (subst (λ v. Among v c.args.label) labels a) in
-    let there : Among c.deref-3.result.now c.args.label = subst (λ v. Among v c.args.label) (sym wanted) (with_new (fields c.args.table.now).ordered c.args.label ls) in
-    (c.in_ok-move_set_with.field-0, c.deref-2.result.now, c.deref-3.result.now, (moved.set.room c.args.label there new).not_first, (moved.set.room c.args.label there new).in_use, moved)
+    let labels : c.deref-in-Some.result.now ≡ owned_slots n.head n.labels = c.deref-in-Some.ensures.0 ∙ c.in-Some.ensures n.head n.labels n.family in
+    let wanted : c.deref-in-Some-2.result.now ≡ with_label (fields c.args.table.now).ordered c.args.label c.deref-in-Some.result.now = c.deref-in-Some-2.ensures.0 ∙ c.labels_with-wanted.ensures ∙ ap (with_label (fields c.args.table.now).ordered c.args.label) (c.deref.ensures.0 ∙ sym c.deref-in-Some.ensures.0) in
+    (search rules, (c.requires.node, (record { head = n.head; labels = n.labels; family = n.family; owns = labels }, (c.requires.absent, wanted))))

@@ -1,4 +1,4 @@
-use Rattle.std.proofs.Common.{◌∙◌, ap, arith, rules, to_z, of_z, w32, ℤ, FitsSigned}
+use Rattle.std.proofs.Common.{◌∙◌, ap, arith, rules, w32, ℤ, FitsSigned}
 use Rattle.std.proofs.lemmas.Int.{to_z-of_z}
 use Rattle.cedar_slots.specs.declared.records.NodeRecord.{NodeRecord}
 use Rattle.cedar_slots.specs.Slots.{blank_node}

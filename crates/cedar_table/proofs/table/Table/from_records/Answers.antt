@@ -1,6 +1,5 @@
 use Rattle.std.proofs.Common.{◌≡◌, ap, of_z, refl, rules, to_z, w32}
 use Rattle.std.specs.Prelude.{◌/◌}
-use Rattle.cedar_model.specs.Table.TableFields.{Fields}
 use Rattle.cedar_slots.specs.Places.{PlaceFields}
 use Rattle.cedar_table.proofs.SamePlaces.{same_places}
 use Rattle.cedar_table.proofs.table.Table.from_records.Goals as goal

@@ -1,0 +1,18 @@
+use Rattle.std.proofs.Common.{rules, ◌≡◌}
+use Rattle.cedar_c.proofs.builds.renew_with.Goals as goal
+
+pub returns-in-Ok : goal.returns-in-Ok
+returns-in-Ok c = record {
+  opens = record {
+    made = λ ok.
+        let ordered : c.in-Ok.settings.ordered ≡ c.args.ordered = search rules in
+        let trials : c.in-Ok.settings.max_trial ≡ c.args.max_trial = search rules in
+        (c.in-Ok.settings, ordered, trials, c.renew.ensures.made ok);
+    layout = search rules;
+    invalid = search rules;
+    faulty = search rules;
+    refused = search rules;
+    kept = search rules;
+    stays = search rules;
+  };
+}

@@ -1,0 +1,101 @@
+//! Many keys removed in one call.
+
+ghost use Rattle.std.specs.Prelude.{◌++◌, ◌+◌, ◌≡◌, drop, IfSome, length, None, option_map, set, take};
+ghost use Rattle.cedar_c.specs.Words.{capacity_in, content, dictionary_in, held_in_turn, keys_erased, layout_in, layout_of, named_keys, size_in, state_in, tree_in, trials_in, walk};
+
+use crate::any::AnyCedar;
+use crate::handle::Handle;
+use cedarwood::{Layout, Trie};
+use std::alloc::Global;
+
+/// How many keys are looked up in step before they are removed.
+const LANES: usize = 16;
+
+/// A key.
+#[repr(C)]
+#[derive(Clone, Copy)]
+pub struct Key<'a> {
+    pub key: &'a [u8],
+}
+
+/// Removes some keys, writes for as many as there is room for whether they were held, and returns how many of all were.
+fn erase_all<L: Layout, const SLOTS: usize>(
+    trie: &mut Trie<L, SLOTS, Global>,
+    keys: &[Key<'_>],
+    held: &mut [bool],
+) -> usize
+    ensures count { result + length (walk trie.new.state.tree) ≡ length (walk trie.old.state.tree) }
+    ensures held { held.new ≡ take (length held.old) (held_in_turn trie.old.state (named_keys keys.now)) ++ drop (length keys.now) held.old }
+    ensures after { trie.new.state ≡ keys_erased trie.old.state (named_keys keys.now) }
+    ensures size { (trie.new.size ≡ trie.old.size) × (trie.new.capacity ≡ trie.old.capacity) }
+    ensures max_trial { trie.new.max_trial ≡ trie.old.max_trial }
+{
+    let before = trie.len();
+    for index in 0..keys.len() {
+        if index % LANES == 0 {
+            pass_in_step(trie, &keys[index..]);
+        }
+        let was_held = trie.erase_bytes(keys[index].key);
+        tell(held, index, was_held);
+    }
+    before - trie.len()
+}
+
+/// Writes a result, if there is room for it.
+fn tell(held: &mut [bool], index: usize, was_held: bool)
+    ensures { held.new ≡ set held.old index was_held }
+{
+    if index < held.len() {
+        held[index] = was_held;
+    }
+}
+
+/// Looks up the first keys in step, as the dictionary's own `erase_batch` does, which brings to the processor what their erasures read.
+fn pass_in_step<L: Layout, const SLOTS: usize>(trie: &Trie<L, SLOTS, Global>, keys: &[Key<'_>]) {
+    let count = keys.len().min(LANES);
+    let mut lanes: [&[u8]; LANES] = [&[]; LANES];
+    for lane in 0..count {
+        lanes[lane] = keys[lane].key;
+    }
+    trie.exact_match_search_batch(&lanes[..count], &mut [None; LANES]);
+}
+
+impl AnyCedar {
+    fn erase_all(&mut self, keys: &[Key<'_>], held: &mut [bool]) -> usize
+        ensures count { result + length (walk (dictionary_in self.new).state.tree) ≡ length (walk (dictionary_in self.old).state.tree) }
+        ensures held { held.new ≡ take (length held.old) (held_in_turn (dictionary_in self.old).state (named_keys keys.now)) ++ drop (length keys.now) held.old }
+        ensures after { (dictionary_in self.new).state ≡ keys_erased (dictionary_in self.old).state (named_keys keys.now) }
+        ensures size { ((dictionary_in self.new).size ≡ (dictionary_in self.old).size) × ((dictionary_in self.new).capacity ≡ (dictionary_in self.old).capacity) }
+        ensures max_trial { (dictionary_in self.new).max_trial ≡ (dictionary_in self.old).max_trial }
+        ensures layout { layout_of self.new ≡ layout_of self.old }
+    {
+        match self {
+            AnyCedar::Default(cedar) => erase_all(cedar, keys, held),
+            AnyCedar::Reduced(cedar) => erase_all(cedar, keys, held),
+        }
+    }
+}
+
+/// Removes some keys, one after another, and returns how many of them were held. `held[i]` becomes whether `keys[i]` was held then, for as
+/// many keys as there is room for; places after the last key stay. A few keys are looked up in step before they are removed, which is
+/// faster if the table is large and the keys come in no order. It allocates nothing. On a closed handle it does nothing.
+#[unsafe(no_mangle)]
+pub extern "C" fn cedar_erase_all(handle: &mut Handle, keys: &[Key<'_>], held: &mut [bool]) -> usize
+    //= `cedar_erase_all` removes all of some keys, as erasures one after another do, and returns how many keys fewer are held. There are as
+    //  many slots as before. [with after, size]
+    ensures count { result + length (walk (tree_in handle.new)) ≡ length (walk (tree_in handle.old)) }
+
+    //= For as many keys as there is room for it writes whether each was held once those before it were removed. Places after the last key
+    //  don't change, and none does if the handle is closed. [with closed]
+    ensures held { IfSome (state_in handle.old) (λ s. held.new ≡ take (length held.old) (held_in_turn s (named_keys keys.now)) ++ drop (length keys.now) held.old) }
+    ensures closed { content handle.old ≡ None → held.new ≡ held.old }
+    ensures after { state_in handle.new ≡ option_map (λ s. keys_erased s (named_keys keys.now)) (state_in handle.old) }
+    ensures size { (size_in handle.new ≡ size_in handle.old) × (capacity_in handle.new ≡ capacity_in handle.old) }
+    ensures layout { layout_in handle.new ≡ layout_in handle.old }
+    ensures trials { trials_in handle.new ≡ trials_in handle.old }
+{
+    if !handle.is_open() {
+        return 0;
+    }
+    handle.held.lend().erase_all(keys, held)
+}

@@ -1,0 +1,37 @@
+use Rattle.std.proofs.Common.{◌++◌, rules, subst, sym}
+use Rattle.cedar_table.specs.Table.Views.{fields}
+use Rattle.cedar_walk.specs.Visits.{ComesToNumber, path_to}
+use Rattle.cedar_walk.proofs.WalkLemmas.NextNumber.{deep_not_root}
+use Rattle.cedar_walk.proofs.pending.numbered_after_with_pending.Goals as goal
+
+pub label_after_number-label-requires : goal.label_after_number-label-requires
+label_after_number-label-requires g c =
+    let held = c.requires.below in
+    (search rules, (c.requires.well_formed, (held.0 ++ path_to (fields c.args.table.now) c.args.depth c.args.node, held.1.1, held.1.0, held.1.2)))
+
+pub place_with_pending-requires : goal.place_with_pending-requires
+place_with_pending-requires g c = (search rules, (c.requires.well_formed, ((c.requires.below.0, c.requires.below.1.0), (c.label_after_number-label.ensures, c.requires.kept))))
+
+pub keep_sibling-requires : goal.keep_sibling-requires
+keep_sibling-requires g c =
+    let start = c.requires.below.0 in
+    let on = c.in_ok-place.ensures in
+    (search rules, (c.requires.well_formed, ((start, (on.leads.comes start c.requires.below.1.0).below), (on.leads.deep, (on.leads.last, on.kept)))))
+
+pub numbered_from_with_pending-requires : goal.numbered_from_with_pending-requires
+numbered_from_with_pending-requires g c =
+    let T = fields c.args.table.now in
+    let start = c.requires.below.0 in
+    let place = c.in_ok-place.place in
+    let on = c.in_ok-place.ensures in
+    let comes = on.leads.comes start c.requires.below.1.0 in
+    (search rules, (c.requires.well_formed, ((start, comes.below), (deep_not_root _ T c.requires.well_formed start place.depth place.slot comes.below on.leads.deep, c.keep_sibling.ensures))))
+
+pub returns-clause-found : goal.returns-clause-found
+returns-clause-found g c = λ start at.
+    let T = fields c.args.table.now in
+    let comes = c.in_ok-place.ensures.leads.comes start at in
+    subst (λ left. ComesToNumber T start left c.numbered_from_with_pending.result) (sym comes.entries) (c.numbered_from_with_pending.ensures.found start comes.below)
+
+pub returns-clause-kept : goal.returns-clause-kept
+returns-clause-kept g c = c.numbered_from_with_pending.ensures.kept
