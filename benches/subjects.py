@@ -50,7 +50,8 @@ def here(out, is_built):
     c = ["gcc", "-std=c11", "-O2", "-pthread", "-I", TOP / "include", "-o", rate, TOP / "tests" / "c" / "rate.c", library]
     subprocess.run([*map(str, c)], check=True)
     version = (TOP / "VERSION").read_text().strip()
-    return Subject("here", program, version, [str(TOP / "crates" / "cedar" / "out" / "cedar")], rate, most_keys=10_000_000)
+    scripts = TOP / "crates" / "cedar" / "out" / "cedar"
+    return Subject("here", program, version, [str(scripts)] if scripts.exists() else [], rate, most_keys=10_000_000)
 
 
 def peers(out, packages, wants):
