@@ -20,6 +20,7 @@ use Rattle.cedar_format.specs.Format.{header_answer, header_at}
 use Rattle.cedar_format.specs.Reading.{LacksTable}
 use Rattle.cedar_format.specs.Refusal.{Refusal, refusal, refusal_of}
 use Rattle.cedar_format.proofs.OneTable.{one_formed_table}
+use Rattle.cedarwood.specs.Batches.{held_in_turn, keys_erased}
 use Rattle.cedarwood.specs.Builds.{all_stored, first_fault}
 use Rattle.cedarwood.specs.Dictionary.{Dictionary}
 use Rattle.cedarwood.specs.Erasures.{erased_under}
@@ -29,7 +30,7 @@ use Rattle.cedarwood.specs.OnTable.{IsOnTable}
 use Rattle.cedarwood.specs.SortedInput.{fault_from}
 use Rattle.cedar_calls.specs.Agreement.{AreSameCalls, IsSameCall, IsSameChange, IsSameQuestion}
 use Rattle.cedar_calls.specs.Making.{IsLoad, Joins}
-use Rattle.cedar_calls.specs.Plain.{Said, all_said, at_state, call_says, change_says, changed_state, counted, done, found, held, listed, IsLoadless, IsMet, kept_at_fault, matched, missing, reply_says, said, said_load, selected, states_after, states_of, unless_fault, unloaded, numbered, walked, was}
+use Rattle.cedar_calls.specs.Plain.{Said, all_said, at_state, batch_says, faultless_front, held_each, call_says, change_says, changed_state, counted, done, found, held, listed, IsLoadless, IsMet, kept_at_fault, matched, missing, reply_says, said, said_load, selected, states_after, states_of, unless_fault, unloaded, numbered, walked, was}
 use Rattle.cedar_calls.specs.Replies.{in_order}
 use Rattle.cedar_calls.specs.Runs.{IsRun, IsStep}
 use Rattle.cedar_calls.specs.declared.call.Call.{Call}
@@ -60,11 +61,14 @@ change_alike s (change.Insert k v) (change.Insert l w) h = (
   ap (λ x. kept_at_fault (fault x v) s (stored s x v)) h.0 ∙ ap (λ y. kept_at_fault (fault l.now y) s (stored s l.now y)) h.1,
 )
 change_alike s (change.Erase k) (change.Erase l) h = (ap (λ x. held (is_some (number_at s.tree x))) h, ap (erased s) h)
+change_alike s (change.EraseFound k) (change.EraseFound l) h = (ap (λ x. was (number_at s.tree x)) h, ap (erased s) h)
+change_alike s (change.EraseBatch k) (change.EraseBatch l) h = (ap (λ keys. held_each (held_in_turn s keys)) h, ap (keys_erased s) h)
 change_alike s (change.ErasePrefix k) (change.ErasePrefix l) h = (ap (λ x. counted (length (entries_with s.tree x))) h, ap (erased_under s) h)
 change_alike s change.Clear change.Clear h = (refl, refl)
 change_alike s change.Shrink change.Shrink h = (refl, refl)
 change_alike s (change.Renew x) (change.Renew y) h = (refl, ap (λ o. state_with empty_tree o) h)
 change_alike s (change.Build p) (change.Build q) h = (ap (λ es. unless_fault (first_fault es) done) h, ap (λ es. kept_at_fault (first_fault es) s (all_stored s es)) h)
+change_alike s (change.UpdateBatch p) (change.UpdateBatch q) h = (ap (batch_says 0) h, ap (λ es. all_stored s (faultless_front es)) h)
 change_alike s (change.Reserve n) (change.Reserve m) h = (refl, refl)
 change_alike s c d h = absurd h
 
@@ -103,6 +107,12 @@ call_alike b ss (call.Sorted x p) (call.Sorted y q) h loadless = (
   ap (λ es. unless_fault (fault_from 0 [] es) done) h.1,
   ap (λ es. kept_at_fault (fault_from 0 [] es) ss (ss ++ state_with (asc es) x.ordered ∷ [])) h.1
       ∙ ap (λ o. kept_at_fault (fault_from 0 [] (entries_of q.now)) ss (ss ++ state_with (asc (entries_of q.now)) o ∷ [])) h.0,
+  tt,
+)
+call_alike b ss (call.Unsorted x p) (call.Unsorted y q) h loadless = (
+  ap (λ es. unless_fault (first_fault es) done) h.1,
+  ap (λ es. kept_at_fault (first_fault es) ss (ss ++ state_with (asc es) x.ordered ∷ [])) h.1
+      ∙ ap (λ o. kept_at_fault (first_fault (entries_of q.now)) ss (ss ++ state_with (asc (entries_of q.now)) o ∷ [])) h.0,
   tt,
 )
 call_alike b ss (call.Clone i) (call.Clone j) h loadless =

@@ -8,13 +8,14 @@ use Rattle.cedar_tree.proofs.EntryLemmas.Built.{is_path_itself, same_path}
 use Rattle.cedar_tree.proofs.TreeLemmas.{number_at-cut_other, number_at-cut_same, number_at-empty, number_at-put_other, number_at-put_same, sound-cut}
 use Rattle.cedar_tree.proofs.MemberLemmas.{contains_first_or_later, contains_none, either_part, into_filter, walk_from_held}
 use Rattle.cedarwood.specs.declared.error.CedarError.{CedarError}
-use Rattle.cedarwood.specs.Words.{entries_of}
+use Rattle.cedarwood.specs.Words.{entries_of, keys_of}
+use Rattle.cedarwood.specs.Batches.{keys_erased}
 use Rattle.cedarwood.specs.Builds.{all_stored, first_fault}
 use Rattle.cedarwood.specs.Erasures.{all_erased, erased_under}
 use Rattle.cedarwood.specs.Fault.{fault}
 use Rattle.cedarwood.specs.Ranges.{entries_with}
-use Rattle.cedar_calls.specs.Keys.{held_after, AreSoundAlong}
-use Rattle.cedar_calls.specs.Plain.{changed_state, kept_at_fault}
+use Rattle.cedar_calls.specs.Keys.{held_after, held_unless_among, AreSoundAlong}
+use Rattle.cedar_calls.specs.Plain.{changed_state, faultless_front, kept_at_fault}
 use Rattle.cedar_calls.specs.declared.call.Change.{Change}
 use Rattle.cedar_calls.specs.declared.call.Change.TheVariants as change
 
@@ -28,6 +29,12 @@ put_goes t ordered k v q false e = number_at-put_other t ordered k v q (apart q 
 pub cut_goes : (t : Tree) (k q : List ℕ) → IsSoundBelow t.children → (b : Bool) → is_path q k ≡ b → number_at (cut t k) q ≡ cond b None (number_at t q)
 cut_goes t k q sound true e = ap (number_at (cut t k)) (same_path q k e) ∙ number_at-cut_same t k sound
 cut_goes t k q sound false e = number_at-cut_other t k q sound (apart q k e)
+
+-- some keys erased one after another
+pub keys_go_out : (s : State) (keys : List (List ℕ)) (q : List ℕ) → IsSoundBelow s.tree.children → number_at (keys_erased s keys).tree q ≡ held_unless_among q (number_at s.tree q) keys
+keys_go_out s [] q sound = refl
+keys_go_out s (k ∷ keys) q sound =
+    keys_go_out (erased s k) keys q (sound-cut s.tree k sound) ∙ ap (λ n. held_unless_among q n keys) (cut_goes s.tree k q sound (is_path q k) refl)
 
 -- ---- entries erased one after another
 
@@ -87,11 +94,14 @@ key_goes : (s : State) (c : Change) (q : List ℕ) → IsSoundBelow s.tree.child
 key_goes s (change.Update k v) q sound = at_fault (fault k.now v) s (stored s k.now v) q (cond (is_path q k.now) (Some v) (number_at s.tree q)) (put_goes s.tree s.ordered k.now v q (is_path q k.now) refl)
 key_goes s (change.Insert k v) q sound = at_fault (fault k.now v) s (stored s k.now v) q (cond (is_path q k.now) (Some v) (number_at s.tree q)) (put_goes s.tree s.ordered k.now v q (is_path q k.now) refl)
 key_goes s (change.Erase k) q sound = cut_goes s.tree k.now q sound (is_path q k.now) refl
+key_goes s (change.EraseFound k) q sound = cut_goes s.tree k.now q sound (is_path q k.now) refl
+key_goes s (change.EraseBatch keys) q sound = keys_go_out s (keys_of keys.now) q sound
 key_goes s (change.ErasePrefix prefix) q sound = under_goes s prefix.now q sound
 key_goes s change.Clear q sound = number_at-empty q
 key_goes s change.Shrink q sound = refl
 key_goes s (change.Renew settings) q sound = number_at-empty q
 key_goes s (change.Reserve n) q sound = refl
+key_goes s (change.UpdateBatch pairs) q sound = all_go s (faultless_front (entries_of pairs.now)) q
 key_goes s (change.Build pairs) q sound = at_fault (first_fault (entries_of pairs.now)) s (all_stored s (entries_of pairs.now)) q (last_at q (number_at s.tree q) (entries_of pairs.now)) (all_go s (entries_of pairs.now) q)
 
 pub keys_go : (s : State) (changes : List Change) (q : List ℕ) → AreSoundAlong s changes

@@ -10,7 +10,7 @@ use Rattle.cedar_tree.specs.Queries.{Entry, is_path, last_at}
 use Rattle.cedar_tree.proofs.EntryLemmas.Built.{number_at-asc}
 use Rattle.cedar_tree.proofs.TreeLemmas.{number_at-empty}
 use Rattle.cedarwood.specs.declared.error.CedarError.{CedarError}
-use Rattle.cedarwood.specs.Words.{Pair, entries_of}
+use Rattle.cedarwood.specs.Words.{Pair, entries_of, keys_of}
 use Rattle.cedar_model.specs.Table.Layouts.{LayoutKind}
 use Rattle.cedar_format.specs.declared.error.CedarPersistenceError.{CedarPersistenceError}
 use Rattle.cedarwood.specs.declared.builder.CedarBuilder.{CedarBuilder}
@@ -20,6 +20,7 @@ use Rattle.cedarwood.proofs.LoadLemmas.{loaded_saves_again}
 use Rattle.cedar_calls.specs.Changes.{IsChange, IsWholeBuild}
 use Rattle.cedar_calls.specs.Keys.{if_made, numbers_at, IsHeldAfter, IsKeyRun, IsKeyStep, IsNumberInFile}
 use Rattle.cedarwood.specs.Making.{IsNew, IsSortedBuild}
+use Rattle.cedarwood.specs.Unsorted.{IsUnsortedBuild}
 use Rattle.cedar_calls.specs.Making.{IsCopy, IsLoad, Joins}
 use Rattle.cedar_calls.specs.Runs.{IsRun, IsStep}
 use Rattle.cedar_calls.specs.declared.call.Call.{Call}
@@ -30,7 +31,7 @@ use Rattle.cedar_calls.specs.declared.answer.Answer.{Answer}
 use Rattle.cedar_calls.specs.declared.answer.Answer.TheVariants as answer
 use Rattle.cedar_calls.specs.declared.answer.Changed.{Changed}
 use Rattle.cedar_calls.specs.declared.answer.Changed.TheVariants as changed
-use Rattle.cedar_calls.proofs.KeyLemmas.{all_go, cut_goes, put_goes}
+use Rattle.cedar_calls.proofs.KeyLemmas.{all_go, cut_goes, keys_go_out, put_goes}
 
 -- pairs with a fault among them aren't none
 some_pairs : (es : List Entry) (x : CedarError) → first_fault es ≡ Some x → 0 < length es
@@ -50,13 +51,16 @@ module _ (key : List ℕ) where
       let front = (h.refused same).front in
       (front.0, front.1, (λ faulty. absurd (false≢true (subst (λ o. IsSome o) same faulty))), ap (λ s. number_at s.tree key) front.2 ∙ all_go d.state (take front.0 es) key)
 
-  held_goes : (layout : LayoutKind) (slots : ℕ) (d e : Dictionary) (c : Change) (a : Changed) → IsSoundBelow d.state.tree.children → IsChange layout slots d c a e
+  held_goes : {A : Type 0} (layout : LayoutKind) (slots : ℕ) (d e : Dictionary) (c : Change) (a : Changed A) → IsSoundBelow d.state.tree.children → IsChange layout slots d c a e
       → IsHeldAfter key (number_in d) c a (number_in e)
   held_goes layout slots d e (change.Update k v) (changed.Updated (Ok x)) sound h = ap (λ s. number_at s.tree key) h.ok ∙ put_goes d.state.tree d.state.ordered k.now v key (is_path key k.now) refl
   held_goes layout slots d e (change.Update k v) (changed.Updated (Err x)) sound h = ap (λ s. number_at s.tree key) h.err
   held_goes layout slots d e (change.Insert k v) (changed.Inserted (Ok x)) sound h = ap (λ s. number_at s.tree key) h.0.ok ∙ put_goes d.state.tree d.state.ordered k.now v key (is_path key k.now) refl
   held_goes layout slots d e (change.Insert k v) (changed.Inserted (Err x)) sound h = ap (λ s. number_at s.tree key) h.0.err
   held_goes layout slots d e (change.Erase k) (changed.Erased x) sound h = ap (λ s. number_at s.tree key) h.1.state ∙ cut_goes d.state.tree k.now key sound (is_path key k.now) refl
+  held_goes layout slots d e (change.EraseFound k) (changed.ErasedFound x) sound h = ap (λ s. number_at s.tree key) h.1.state ∙ cut_goes d.state.tree k.now key sound (is_path key k.now) refl
+  held_goes layout slots d e (change.EraseBatch keys) (changed.ErasedBatch (Ok x)) sound h = ap (λ s. number_at s.tree key) h.state ∙ keys_go_out d.state (keys_of keys.now) key sound
+  held_goes layout slots d e (change.EraseBatch keys) (changed.ErasedBatch (Err x)) sound h = ap number_in h.refused.1
   held_goes layout slots d e (change.ErasePrefix prefix) (changed.ErasedPrefix n) sound h = h.held key
   held_goes layout slots d e change.Clear changed.Cleared sound h = ap (λ t. number_at t key) h.tree ∙ number_at-empty key
   held_goes layout slots d e change.Shrink (changed.Shrunk x) sound h = ap (λ s. number_at s.tree key) h.state
@@ -64,6 +68,9 @@ module _ (key : List ℕ) where
   held_goes layout slots d e (change.Renew settings) (changed.Renewed (Err x)) sound h = ap number_in h.1
   held_goes layout slots d e (change.Build pairs) (changed.Built (Ok x)) sound h = ap (λ s. number_at s.tree key) h.stored ∙ all_go d.state (entries_of pairs.now) key
   held_goes layout slots d e (change.Build pairs) (changed.Built (Err x)) sound h = refused_build layout slots d e (entries_of pairs.now) (first_fault (entries_of pairs.now)) refl x h
+  held_goes layout slots d e (change.UpdateBatch pairs) (changed.UpdatedBatch (Ok x)) sound h = ap (λ s. number_at s.tree key) h.stored ∙ all_go d.state (entries_of pairs.now) key
+  held_goes layout slots d e (change.UpdateBatch pairs) (changed.UpdatedBatch (Err x)) sound h =
+      (h.updates.within, ap (λ s. number_at s.tree key) h.refused ∙ all_go d.state (take x.index (entries_of pairs.now)) key)
   held_goes layout slots d e (change.Reserve n) (changed.Reserved x) sound h = ap (λ s. number_at s.tree key) h.state
   held_goes layout slots d e c a sound h = absurd h
 
@@ -85,6 +92,11 @@ module _ (key : List ℕ) where
       → IfOk made (λ d. number_in d ≡ last_at key None (entries_of pairs))
   sorted_number layout slots settings pairs (Ok d) h = ap (λ t. number_at t key) h.sorted.tree ∙ number_at-asc (entries_of pairs) key
   sorted_number layout slots settings pairs (Err e) h = tt
+
+  unsorted_number : (layout : LayoutKind) (slots : ℕ) (settings : CedarBuilder) (pairs : List Entry) (made : Result Dictionary CedarError) → IsUnsortedBuild layout slots settings pairs made
+      → IfOk made (λ d. number_in d ≡ last_at key None pairs)
+  unsorted_number layout slots settings pairs (Ok d) h = ap (λ t. number_at t key) h.stored.tree ∙ number_at-asc pairs key
+  unsorted_number layout slots settings pairs (Err e) h = tt
 
   copy_number : (d : Dictionary) (made : Result Dictionary CedarError) → IsCopy d made → IfOk made (λ e. number_in e ≡ number_in d)
   copy_number d (Ok e) h = ap number_in h
@@ -110,6 +122,8 @@ module _ (key : List ℕ) where
   key_step layout slots before after (call.New settings) (answer.Made r) h = joined_goes before after h.0 r None h.2 (new_number settings h.0 h.1)
   key_step layout slots before after (call.Sorted settings pairs) (answer.Made r) h =
       joined_goes before after h.0 r (last_at key None (entries_of pairs.now)) h.2 (sorted_number layout slots settings pairs.now h.0 h.1)
+  key_step layout slots before after (call.Unsorted settings pairs) (answer.Made r) h =
+      joined_goes before after h.0 r (last_at key None (entries_of pairs.now)) h.2 (unsorted_number layout slots settings (entries_of pairs.now) h.0 h.1)
   key_step layout slots before after (call.Load bytes limit) (answer.Loaded r) h = load_goes layout slots limit bytes.now before after h.0 r h.1 h.2
   key_step layout slots before after (call.Clone i) (answer.Made r) h =
       (number_in h.0, found_number before i h.0 h.1, joined_goes before after h.2.0 r (number_in h.0) h.2.2 (copy_number h.0 h.2.0 h.2.1))

@@ -1,22 +1,25 @@
 -- What a change and a reply say as far as trees go.
-use Rattle.std.proofs.Common.{◌≡◌, inl, inr, Bool, true, false, ℕ, ℤ, List, [], ◌∷◌, length, Option, Some, None, is_some, Ok, Err, IfSome, IfOk, IsSome, OnErr, ◌↔◌, refl, ap, sym, subst, ◌∙◌}
+use Rattle.std.proofs.Common.{◌≡◌, ◌+◌, ◌<◌, inl, inr, Bool, true, false, ℕ, zero, suc, ℤ, List, [], ◌∷◌, arith, length, take, Option, Some, None, is_some, Ok, Err, IfSome, IfOk, IsSome, OnErr, ◌↔◌, refl, ap, sym, subst, ◌∙◌}
+use Rattle.std.specs.List.{AllByRecursion}
 use Rattle.std.specs.declared.result.Result.{Result}
 use Rattle.cedar_tree.specs.Tree.{Tree, empty_tree, number_at}
 use Rattle.cedar_tree.specs.Queries.{Entry, used, walk}
 use Rattle.cedar_tree.specs.State.{State, stored}
+use Rattle.cedarwood.specs.declared.batches.RefusedPair.{RefusedPair}
 use Rattle.cedarwood.specs.declared.error.CedarError.{CedarError}
 use Rattle.cedarwood.specs.declared.error.CedarError.TheVariants.{Memory, SlotLimit}
 use Rattle.cedarwood.specs.Words.{entries_of}
 use Rattle.cedar_model.specs.Table.Layouts.{LayoutKind, default_layout}
-use Rattle.cedarwood.specs.Builds.{all_stored, first_fault, outcome}
+use Rattle.cedarwood.specs.Batches.{pair_at}
+use Rattle.cedarwood.specs.Builds.{all_stored, first_fault, IsBuild, outcome}
 use Rattle.cedarwood.specs.Dictionary.{Dictionary}
 use Rattle.cedarwood.specs.Fault.{fault, IsShortage}
 use Rattle.cedarwood.specs.Room.{LacksRoom}
 use Rattle.cedarwood.specs.Shrinking.{LacksPlaces}
 use Rattle.cedarwood.specs.Updates.{IsUpdate}
-use Rattle.cedar_calls.specs.Changes.{IsChange, IsWholeBuild}
+use Rattle.cedar_calls.specs.Changes.{IsChange, IsUpdatedBatch, IsWholeBuild}
 use Rattle.cedar_calls.specs.Replies.{IsReply}
-use Rattle.cedar_calls.specs.Plain.{compared, counted, done, ended, found, held, in_use, listed, matched, measured, selected, numbered, walked, was, worded, change_says, changed_state, is_none_left, IsMet, kept_at_fault, reply_says, said_change, said_reply, said_result, unless_fault}
+use Rattle.cedar_calls.specs.Plain.{batch_says, compared, counted, done, ended, faultless_front, faulty_at, found, held, held_each, in_use, listed, matched, measured, selected, numbered, walked, was, worded, change_says, changed_state, is_none_left, IsMet, kept_at_fault, refused_at, reply_says, said_batch, said_change, said_reply, said_result, unless_fault}
 use Rattle.cedar_calls.specs.declared.call.Change.{Change}
 use Rattle.cedar_calls.specs.declared.call.Change.TheVariants as change
 use Rattle.cedar_calls.specs.declared.call.Figure.TheVariants.{AllocatedBytes, Capacity, SpareBlocks, UsedSlots}
@@ -80,6 +83,67 @@ build_goes layout slots d d' es (Some e) same r h met =
 build_goes layout slots d d' es None same (Ok x) h met = (refl, h.stored)
 build_goes layout slots d d' es None same (Err e) h met = absurd (met (h.refused same).shortage)
 
+-- ---- pairs that are stored one after another
+
+-- the error of a result that has one
+abbrev error_in : CedarError → Result (Unit {0}) CedarError → CedarError
+error_in without (Ok x) = without
+error_in without (Err e) = e
+
+-- no pair has a fault
+abbrev AreFaultless : List Entry → Type 0
+AreFaultless es = AllByRecursion (λ (e : Entry). fault e.0 e.1 ≡ None) es
+
+-- an update that was accepted has no fault, and one that was refused, though not for memory or slots, has the fault that is told
+module _ (layout : LayoutKind) (slots : ℕ) (d d' : Dictionary) (key : List ℕ) (v : ℤ) where
+  accepted : (f : Option CedarError) → fault key v ≡ f → IsUpdate layout slots d d' key v (Ok tt) → f ≡ None
+  accepted None same h = refl
+  accepted (Some e) same h = absurd (none_ok e (subst (λ f. IfSome f (λ e. Ok tt ≡ Err e)) same h.faulty))
+
+  stopped : (f : Option CedarError) → fault key v ≡ f → (x : CedarError) → IsUpdate layout slots d d' key v (Err x) → (IsShortage x → ⊥) → f ≡ Some x
+  stopped None same x h met = absurd (met (h.refused same).0)
+  stopped (Some e) same x h met =
+      let told : ◌≡◌ {A = Result (Unit {0}) CedarError} (Err x) (Err e) = subst (λ f. IfSome f (λ e. ◌≡◌ {A = Result (Unit {0}) CedarError} (Err x) (Err e))) same h.faulty in
+      ap Some (sym (ap (error_in x) told))
+
+built_faultless : (layout : LayoutKind) (slots : ℕ) (d d' : Dictionary) (es : List Entry) → IsBuild layout slots d es (Ok tt) d' → AreFaultless es
+built_faultless layout slots d d' [] h = tt
+built_faultless layout slots d d' (e ∷ es) (inl h) = (accepted layout slots d h.0 e.0 e.1 (fault e.0 e.1) refl h.1, built_faultless layout slots h.0 d' es h.2)
+built_faultless layout slots d d' (e ∷ es) (inr h) = absurd (none_ok h.0 h.1)
+
+-- what such pairs say without a fault, and with the first one at an index
+faultless_says : (n : ℕ) (es : List Entry) → AreFaultless es → (batch_says n es ≡ done) × (faultless_front es ≡ es)
+faultless_says n [] h = (refl, refl)
+faultless_says n (e ∷ es) h =
+    let later = faultless_says (n + 1) es h.1 in (
+      ap (λ f. faulty_at n f (batch_says (n + 1) es)) h.0 ∙ later.0,
+      ap (λ f. kept_at_fault f [] (e ∷ faultless_front es)) h.0 ∙ ap (λ xs. e ∷ xs) later.1,
+    )
+
+fault_says : (n i : ℕ) (es : List Entry) (x : CedarError) → i < length es → AreFaultless (take i es) → fault (pair_at es i).0 (pair_at es i).1 ≡ Some x
+    → (batch_says n es ≡ refused_at (n + i) x) × (faultless_front es ≡ take i es)
+fault_says n i [] x within h faulty = absurd (omega (arith, within))
+fault_says n zero (e ∷ es) x within h faulty =
+    let here : n ≡ n + 0 = omega arith in
+    (ap (λ f. faulty_at n f (batch_says (n + 1) es)) faulty ∙ ap (λ k. refused_at k x) here, ap (λ f. kept_at_fault f [] (e ∷ faultless_front es)) faulty)
+fault_says n (suc i) (e ∷ es) x within h faulty =
+    let later = fault_says (n + 1) i es x (omega (arith, within)) h.1 faulty in
+    let there : n + 1 + i ≡ n + suc i = omega arith in (
+      ap (λ f. faulty_at n f (batch_says (n + 1) es)) h.0 ∙ later.0 ∙ ap (λ k. refused_at k x) there,
+      ap (λ f. kept_at_fault f [] (e ∷ faultless_front es)) h.0 ∙ ap (λ xs. e ∷ xs) later.1,
+    )
+
+batch_goes : (layout : LayoutKind) (slots : ℕ) (d d' : Dictionary) (es : List Entry) (r : Result (Unit {0}) RefusedPair) → IsUpdatedBatch layout slots d d' es r → IsMet (said_batch r)
+    → (said_batch r ≡ batch_says 0 es) × (d'.state ≡ all_stored d.state (faultless_front es))
+batch_goes layout slots d d' es (Ok x) h met =
+    let says = faultless_says 0 es (built_faultless layout slots d d' es h.updates) in (sym says.0, h.stored ∙ ap (all_stored d.state) (sym says.1))
+batch_goes layout slots d d' es (Err r) h met =
+    let s = h.updates.steps in
+    let pair = pair_at es r.index in
+    let faulty = stopped layout slots s.0 d' pair.0 pair.1 (fault pair.0 pair.1) refl r.error s.2 met in
+    let says = fault_says 0 r.index es r.error h.updates.within (built_faultless layout slots d s.0 (take r.index es) s.1) faulty in
+    let here : r.index ≡ 0 + r.index = omega arith in (ap (λ k. refused_at k r.error) here ∙ sym says.0, h.refused ∙ ap (all_stored d.state) (sym says.1))
+
 -- room is refused only for memory or slots
 room_short : (slots : ℕ) (d : Dictionary) (n : ℕ) (e : CedarError) → LacksRoom slots d n e → IsShortage e
 room_short slots d n Memory h = tt
@@ -91,11 +155,14 @@ places_short : (slots : ℕ) (es : List Entry) (e : CedarError) → LacksPlaces 
 places_short slots es e (inl is) = subst IsShortage (sym is) tt
 places_short slots es e (inr is) = subst IsShortage (sym is.0) tt
 
-pub change_goes : (layout : LayoutKind) (slots : ℕ) (d d' : Dictionary) (c : Change) (a : Changed) → IsChange layout slots d c a d' → IsMet (said_change a)
+pub change_goes : {A : Type 0} (layout : LayoutKind) (slots : ℕ) (d d' : Dictionary) (c : Change) (a : Changed A) → IsChange layout slots d c a d' → IsMet (said_change a)
     → (said_change a ≡ change_says d.state c) × (d'.state ≡ changed_state d.state c)
 change_goes layout slots d d' (change.Update key v) (changed.Updated r) h met = update_goes layout slots d d' key.now v (fault key.now v) refl r h met
 change_goes layout slots d d' (change.Insert key v) (changed.Inserted r) h met = insert_goes layout slots d d' key.now v (fault key.now v) refl r h.0 h.1 met
 change_goes layout slots d d' (change.Erase key) (changed.Erased b) h met = (ap held (bool_same b (is_some (number_at d.state.tree key.now)) h.0), h.1.state)
+change_goes layout slots d d' (change.EraseFound key) (changed.ErasedFound value) h met = (ap was h.0, h.1.state)
+change_goes layout slots d d' (change.EraseBatch keys) (changed.ErasedBatch (Ok v)) h met = (ap held_each h.held, h.state)
+change_goes layout slots d d' (change.EraseBatch keys) (changed.ErasedBatch (Err e)) h met = absurd (met (subst IsShortage (sym h.refused.0) tt))
 change_goes layout slots d d' (change.ErasePrefix prefix) (changed.ErasedPrefix n) h met = (ap counted h.count, h.state)
 change_goes layout slots d d' change.Clear changed.Cleared h met = (refl, state_is d'.state empty_tree d.state.ordered h.tree h.ordered)
 change_goes layout slots d d' change.Shrink (changed.Shrunk (Ok x)) h met = (refl, h.state)
@@ -103,6 +170,7 @@ change_goes layout slots d d' change.Shrink (changed.Shrunk (Err e)) h met = abs
 change_goes layout slots d d' (change.Renew settings) (changed.Renewed (Ok x)) h met = (refl, state_is d'.state empty_tree settings.ordered h.tree h.ordered)
 change_goes layout slots d d' (change.Renew settings) (changed.Renewed (Err e)) h met = absurd (met (subst IsShortage (sym h.0) tt))
 change_goes layout slots d d' (change.Build pairs) (changed.Built r) h met = build_goes layout slots d d' (entries_of pairs.now) (first_fault (entries_of pairs.now)) refl r h met
+change_goes layout slots d d' (change.UpdateBatch pairs) (changed.UpdatedBatch r) h met = batch_goes layout slots d d' (entries_of pairs.now) r h met
 change_goes layout slots d d' (change.Reserve n) (changed.Reserved (Ok x)) h met = (refl, h.state)
 change_goes layout slots d d' (change.Reserve n) (changed.Reserved (Err e)) h met = absurd (met (room_short slots d n e h.refused))
 change_goes layout slots d d' c a h met = absurd h

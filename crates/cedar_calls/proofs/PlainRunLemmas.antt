@@ -5,17 +5,19 @@ use Rattle.std.specs.declared.result.Result.{Result}
 use Rattle.std.proofs.lemmas.List.{map-append, map-set}
 use Rattle.std.proofs.lemmas.Option.{slice_get-map}
 use Rattle.cedar_tree.specs.Tree.{empty_tree}
-use Rattle.cedar_tree.specs.Queries.{asc, prefixes}
+use Rattle.cedar_tree.specs.Queries.{Entry, asc, prefixes}
 use Rattle.cedar_tree.specs.State.{State}
 use Rattle.cedarwood.specs.declared.error.CedarError.{CedarError}
 use Rattle.cedarwood.specs.declared.error.CedarError.TheVariants.{Memory, SlotLimit}
 use Rattle.cedarwood.specs.Words.{Pair, entries_of}
 use Rattle.cedar_model.specs.Table.Layouts.{LayoutKind, default_layout}
 use Rattle.cedarwood.specs.declared.builder.CedarBuilder.{CedarBuilder}
+use Rattle.cedarwood.specs.Builds.{first_fault}
 use Rattle.cedarwood.specs.Dictionary.{Dictionary}
 use Rattle.cedarwood.specs.Fault.{IsShortage}
 use Rattle.cedarwood.specs.SortedInput.{sorted_fault}
 use Rattle.cedarwood.specs.Making.{IsNew, IsSortedBuild}
+use Rattle.cedarwood.specs.Unsorted.{IsUnsortedBuild}
 use Rattle.cedar_calls.specs.Making.{IsCopy, Joins}
 use Rattle.cedar_calls.specs.Plain.{all_said, at_state, call_says, change_says, changed_state, done, IsLoadless, IsMet, kept_at_fault, missing, reply_says, run_says, said, said_result, states_after, states_left, states_of, unless_fault}
 use Rattle.cedar_calls.specs.Runs.{IsRun, IsStep}
@@ -59,6 +61,17 @@ module _ (before after : List Dictionary) (r : Result (Unit {0}) CedarError) whe
       (ap (said_result (λ _. done)) j.0, joined before after d _ j.1 (state_is d.state (asc (entries_of pairs)) settings.ordered p.sorted.tree p.sorted.ordered))
   sorted_goes layout slots settings pairs None same (Err e) p j met = absurd (met_at e j.0 met (short_of e (slots ≤ 256 * length (prefixes (asc (entries_of pairs)))) (p.refused same)))
 
+  unsorted_goes : (layout : LayoutKind) (slots : ℕ) (settings : CedarBuilder) (pairs : List Entry) (f : Option CedarError) → first_fault pairs ≡ f → (made : Result Dictionary CedarError)
+      → IsUnsortedBuild layout slots settings pairs made → Joins before made r after → IsMet (said_result (λ _. done) r)
+      → (said_result (λ _. done) r ≡ unless_fault f done)
+      × (states_of after ≡ kept_at_fault f (states_of before) (states_of before ++ record { tree = asc pairs; ordered = settings.ordered } ∷ []))
+  unsorted_goes layout slots settings pairs (Some e) same made p j met =
+      let faulty : made ≡ Err e = subst (λ f. IfSome f (λ e. made ≡ Err e)) same p.faulty in
+      let none_made : Joins before (Err e) r after = subst (λ m. Joins before m r after) faulty j in (ap (said_result (λ _. done)) none_made.0, ap states_of none_made.1)
+  unsorted_goes layout slots settings pairs None same (Ok d) p j met =
+      (ap (said_result (λ _. done)) j.0, joined before after d _ j.1 (state_is d.state (asc pairs) settings.ordered p.stored.tree p.stored.ordered))
+  unsorted_goes layout slots settings pairs None same (Err e) p j met = absurd (met_at e j.0 met (short_of e (slots ≤ 256 * length (prefixes (asc pairs))) (p.refused same)))
+
 pub found_state : (ds : List Dictionary) (i : ℕ) (d : Dictionary) → slice_get ds i ≡ Some d → slice_get (states_of ds) i ≡ Some d.state
 found_state ds i d h = slice_get-map (λ x. x.state) ds i ∙ ap (option_map (λ x. x.state)) h
 
@@ -71,6 +84,8 @@ pub step_goes : {A : Type 0} (b : Bool) (layout : LayoutKind) (slots : ℕ) (bef
 step_goes b layout slots before (call.New settings) (answer.Made r) after k h loadless met = new_goes before after r settings h.0 h.1 h.2 met
 step_goes b layout slots before (call.Sorted settings pairs) (answer.Made r) after k h loadless met =
     sorted_goes before after r layout slots settings pairs.now (sorted_fault pairs.now) refl h.0 h.1 h.2 met
+step_goes b layout slots before (call.Unsorted settings pairs) (answer.Made r) after k h loadless met =
+    unsorted_goes before after r layout slots settings (entries_of pairs.now) (first_fault (entries_of pairs.now)) refl h.0 h.1 h.2 met
 step_goes b layout slots before (call.Clone i) (answer.Made r) after k h loadless met =
     let s = found_state before i h.0 h.1 in
     let g = copy_goes before after r h.0 h.2.0 h.2.1 h.2.2 met in

@@ -19,11 +19,14 @@ abbrev pub IsSameChange : Change → Change → Type 0
 IsSameChange (change.Update k v) (change.Update l w) = (k.now ≡ l.now) × (v ≡ w)
 IsSameChange (change.Insert k v) (change.Insert l w) = (k.now ≡ l.now) × (v ≡ w)
 IsSameChange (change.Erase k) (change.Erase l) = k.now ≡ l.now
+IsSameChange (change.EraseFound k) (change.EraseFound l) = k.now ≡ l.now
+IsSameChange (change.EraseBatch k) (change.EraseBatch l) = keys_of k.now ≡ keys_of l.now
 IsSameChange (change.ErasePrefix k) (change.ErasePrefix l) = k.now ≡ l.now
 IsSameChange change.Clear change.Clear = Unit {0}
 IsSameChange change.Shrink change.Shrink = Unit {0}
 IsSameChange (change.Renew s) (change.Renew z) = s.ordered ≡ z.ordered
 IsSameChange (change.Build p) (change.Build q) = entries_of p.now ≡ entries_of q.now
+IsSameChange (change.UpdateBatch p) (change.UpdateBatch q) = entries_of p.now ≡ entries_of q.now
 IsSameChange (change.Reserve n) (change.Reserve m) = n ≡ m
 IsSameChange c d = ⊥
 
@@ -55,6 +58,7 @@ IsSameQuestion q r = ⊥
 abbrev pub IsSameCall : Call → Call → Type 0
 IsSameCall (call.New s) (call.New z) = s.ordered ≡ z.ordered
 IsSameCall (call.Sorted s p) (call.Sorted z q) = (s.ordered ≡ z.ordered) × (entries_of p.now ≡ entries_of q.now)
+IsSameCall (call.Unsorted s p) (call.Unsorted z q) = (s.ordered ≡ z.ordered) × (entries_of p.now ≡ entries_of q.now)
 IsSameCall (call.Load b m) (call.Load c n) = (b.now ≡ c.now) × (m ≡ n)
 IsSameCall (call.Clone i) (call.Clone j) = i ≡ j
 IsSameCall (call.Change i c) (call.Change j d) = (i ≡ j) × IsSameChange c d

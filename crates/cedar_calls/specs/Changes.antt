@@ -1,13 +1,15 @@
 -- What a change of a dictionary answers, and the dictionary after it.
-use Rattle.std.specs.Prelude.{◌≡◌, ℕ, ◌+◌, ◌-◌, ◌*◌, ◌<◌, ◌≤◌, List, IfErr, IfOk, IfSome, IsOk, IsSome, IsTrue, ◌↔◌, None, OnErr, OnOk, Result, Err}
+use Rattle.std.specs.Prelude.{◌≡◌, ℕ, ◌+◌, ◌-◌, ◌*◌, ◌<◌, ◌≤◌, Bool, List, IfErr, IfOk, IfSome, IsOk, IsSome, IsTrue, ◌↔◌, None, OnErr, OnOk, Result, Err, take, Vec}
 use Rattle.cedar_tree.specs.Tree.{number_at}
 use Rattle.cedar_tree.specs.Queries.{Entry}
 use Rattle.cedar_tree.specs.State.{erased}
 use Rattle.cedarwood.specs.declared.error.CedarError.{CedarError}
-use Rattle.cedarwood.specs.declared.error.CedarError.TheVariants.{SlotLimit}
-use Rattle.cedarwood.specs.Words.{entries_of}
+use Rattle.cedarwood.specs.declared.batches.RefusedPair.{RefusedPair}
+use Rattle.cedarwood.specs.declared.error.CedarError.TheVariants.{Memory, SlotLimit}
+use Rattle.cedarwood.specs.Words.{entries_of, keys_of}
 use Rattle.cedar_model.specs.Meaning.Marks.{MarksCut}
 use Rattle.cedar_model.specs.Table.Layouts.{LayoutKind}
+use Rattle.cedarwood.specs.Batches.{held_in_turn, IsErasures, IsUpdates, keys_erased}
 use Rattle.cedarwood.specs.Builds.{all_stored, first_fault, outcome, IsBuild, IsRefusedBuild}
 use Rattle.cedarwood.specs.Dictionary.{capacity_after, Dictionary}
 use Rattle.cedarwood.specs.Erasures.{IsCleared, IsErasedUnder}
@@ -36,6 +38,23 @@ pub record IsWholeBuild (layout : LayoutKind) (slots : ℕ) (before after : Dict
   pub stored : OnOk result (after.state ≡ all_stored before.state pairs)
   pub refused : first_fault pairs ≡ None → IfErr result (IsRefusedBuild slots before after pairs)
 
+-- some pairs were to be stored by updates one after another, and all are, or those before one that was refused
+pub record IsUpdatedBatch (layout : LayoutKind) (slots : ℕ) (before after : Dictionary) (pairs : List Entry) (result : Result (Unit {0}) RefusedPair) : Type 0 where
+  pub updates : IsUpdates layout slots before after pairs result
+  pub stored : OnOk result (after.state ≡ all_stored before.state pairs)
+  pub refused : IfErr result (λ refusal. after.state ≡ all_stored before.state (take refusal.index pairs))
+  pub max_trial : after.max_trial ≡ before.max_trial
+
+-- some keys were to be removed one after another: all are, and for each is said whether it was held then; or there was no memory to say so,
+-- and nothing has changed
+pub record IsErasedBatch {A : Type 0} (before after : Dictionary) (keys : List (List ℕ)) (result : Result (Vec Bool A) CedarError) : Type 0 where
+  pub erasures : IfOk result (λ held. IsErasures before after keys held.items)
+  pub held : IfOk result (λ held. held.items ≡ held_in_turn before.state keys)
+  pub state : OnOk result (after.state ≡ keys_erased before.state keys)
+  pub size : (after.size ≡ before.size) × (after.capacity ≡ before.capacity)
+  pub max_trial : after.max_trial ≡ before.max_trial
+  pub refused : IfErr result (λ e. (e ≡ Memory) × (after ≡ before))
+
 -- room for n blocks more was asked for: nothing has changed but how many slots there are, or nothing at all where n blocks were spare
 -- already or it was refused
 pub record IsReserved (slots n : ℕ) (before after : Dictionary) (result : Result (Unit {0}) CedarError) : Type 0 where
@@ -52,15 +71,18 @@ pub record IsReserved (slots n : ℕ) (before after : Dictionary) (result : Resu
   pub unchanged : OnErr result (after ≡ before)
 
 -- what a change may answer of a dictionary of this layout that may have so many slots, and the dictionary after it
-abbrev pub IsChange : LayoutKind → ℕ → Dictionary → Change → Changed → Dictionary → Type 0
+abbrev pub IsChange : {A : Type 0} → LayoutKind → ℕ → Dictionary → Change → Changed A → Dictionary → Type 0
 IsChange layout slots before (change.Update key v) (changed.Updated result) after = IsUpdate layout slots before after key.now v result
 IsChange layout slots before (change.Insert key v) (changed.Inserted result) after =
     IsUpdate layout slots before after key.now v (outcome result) × IfOk result (λ held. held ≡ number_at before.state.tree key.now)
 IsChange layout slots before (change.Erase key) (changed.Erased held) after = (IsTrue held ↔ IsSome (number_at before.state.tree key.now)) × IsErased before after key.now
+IsChange layout slots before (change.EraseFound key) (changed.ErasedFound value) after = (value ≡ number_at before.state.tree key.now) × IsErased before after key.now
+IsChange layout slots before (change.EraseBatch keys) (changed.ErasedBatch result) after = IsErasedBatch before after (keys_of keys.now) result
 IsChange layout slots before (change.ErasePrefix prefix) (changed.ErasedPrefix n) after = IsErasedUnder before after prefix.now n
 IsChange layout slots before change.Clear changed.Cleared after = IsCleared before after
 IsChange layout slots before change.Shrink (changed.Shrunk result) after = IsShrunk layout slots before after result
 IsChange layout slots before (change.Renew settings) (changed.Renewed result) after = IsRenewed settings before after result
 IsChange layout slots before (change.Build pairs) (changed.Built result) after = IsWholeBuild layout slots before after (entries_of pairs.now) result
+IsChange layout slots before (change.UpdateBatch pairs) (changed.UpdatedBatch result) after = IsUpdatedBatch layout slots before after (entries_of pairs.now) result
 IsChange layout slots before (change.Reserve n) (changed.Reserved result) after = IsReserved slots n before after result
 IsChange layout slots before c answer after = ⊥

@@ -4,7 +4,7 @@ use Rattle.std.specs.List.{starts_with}
 use Rattle.cedar_tree.specs.Tree.{number_at, IsSoundBelow}
 use Rattle.cedar_tree.specs.Queries.{is_path, last_at}
 use Rattle.cedar_tree.specs.State.{State}
-use Rattle.cedarwood.specs.Words.{entries_of}
+use Rattle.cedarwood.specs.Words.{entries_of, keys_of}
 use Rattle.cedar_model.specs.Meaning.WellFormed.{tree_of}
 use Rattle.cedar_model.specs.Table.Layouts.{LayoutKind}
 use Rattle.cedar_model.specs.Table.TableFields.{Fields}
@@ -12,7 +12,7 @@ use Rattle.cedar_format.specs.Tables.{IsTableFile}
 use Rattle.cedarwood.specs.Builds.{first_fault}
 use Rattle.cedarwood.specs.Dictionary.{Dictionary}
 use Rattle.cedarwood.specs.Fault.{fault}
-use Rattle.cedar_calls.specs.Plain.{changed_state, kept_at_fault}
+use Rattle.cedar_calls.specs.Plain.{changed_state, faultless_front, kept_at_fault}
 use Rattle.cedar_calls.specs.Runs.{IsRun}
 use Rattle.cedar_calls.specs.declared.call.Call.{Call}
 use Rattle.cedar_calls.specs.declared.call.Call.TheVariants as call
@@ -23,16 +23,24 @@ use Rattle.cedar_calls.specs.declared.answer.Answer.TheVariants as answer
 use Rattle.cedar_calls.specs.declared.answer.Changed.{Changed}
 use Rattle.cedar_calls.specs.declared.answer.Changed.TheVariants as changed
 
+-- what a key holds after the removal of some keys, of what it held before
+abbrev pub held_unless_among : List ℕ → Option ℤ → List (List ℕ) → Option ℤ
+held_unless_among key now [] = now
+held_unless_among key now (k ∷ keys) = held_unless_among key (if is_path key k then None else now) keys
+
 -- what a key holds after a change, of what it held before
 abbrev pub held_after : List ℕ → Option ℤ → Change → Option ℤ
 held_after key now (change.Update k v) = kept_at_fault (fault k.now v) now (if is_path key k.now then Some v else now)
 held_after key now (change.Insert k v) = kept_at_fault (fault k.now v) now (if is_path key k.now then Some v else now)
 held_after key now (change.Erase k) = if is_path key k.now then None else now
+held_after key now (change.EraseFound k) = if is_path key k.now then None else now
+held_after key now (change.EraseBatch keys) = held_unless_among key now (keys_of keys.now)
 held_after key now (change.ErasePrefix prefix) = if starts_with nat_eq key prefix.now then None else now
 held_after key now change.Clear = None
 held_after key now change.Shrink = now
 held_after key now (change.Renew settings) = None
 held_after key now (change.Reserve n) = now
+held_after key now (change.UpdateBatch pairs) = last_at key now (faultless_front (entries_of pairs.now))
 held_after key now (change.Build pairs) = kept_at_fault (first_fault (entries_of pairs.now)) now (last_at key now (entries_of pairs.now))
 
 -- the trees on the way are sound, as those of dictionaries are
@@ -59,10 +67,12 @@ if_made (Err e) made before = before
 
 -- what a key holds after a change that was answered so: nothing of it but of this key is read. Of a build that was refused for memory or slots
 -- some first pairs count, and of one with a fault none
-abbrev pub IsHeldAfter : List ℕ → Option ℤ → Change → Changed → Option ℤ → Type 0
+abbrev pub IsHeldAfter : {A : Type 0} → List ℕ → Option ℤ → Change → Changed A → Option ℤ → Type 0
 IsHeldAfter key now (change.Update k v) (changed.Updated result) after = after ≡ if_made result (if is_path key k.now then Some v else now) now
 IsHeldAfter key now (change.Insert k v) (changed.Inserted result) after = after ≡ if_made result (if is_path key k.now then Some v else now) now
 IsHeldAfter key now (change.Erase k) (changed.Erased held) after = after ≡ (if is_path key k.now then None else now)
+IsHeldAfter key now (change.EraseFound k) (changed.ErasedFound value) after = after ≡ (if is_path key k.now then None else now)
+IsHeldAfter key now (change.EraseBatch keys) (changed.ErasedBatch result) after = after ≡ if_made result (held_unless_among key now (keys_of keys.now)) now
 IsHeldAfter key now (change.ErasePrefix prefix) (changed.ErasedPrefix n) after = after ≡ (if starts_with nat_eq key prefix.now then None else now)
 IsHeldAfter key now change.Clear changed.Cleared after = after ≡ None
 IsHeldAfter key now change.Shrink (changed.Shrunk result) after = after ≡ now
@@ -70,6 +80,9 @@ IsHeldAfter key now (change.Renew settings) (changed.Renewed result) after = aft
 IsHeldAfter key now (change.Build pairs) (changed.Built result) after =
     MatchResult result (λ _. after ≡ last_at key now (entries_of pairs.now))
     (λ _. (n : ℕ) × (n < length (entries_of pairs.now)) × (IsSome (first_fault (entries_of pairs.now)) → n ≡ 0) × (after ≡ last_at key now (take n (entries_of pairs.now))))
+IsHeldAfter key now (change.UpdateBatch pairs) (changed.UpdatedBatch result) after =
+    MatchResult result (λ _. after ≡ last_at key now (entries_of pairs.now))
+    (λ refusal. (refusal.index < length (entries_of pairs.now)) × (after ≡ last_at key now (take refusal.index (entries_of pairs.now))))
 IsHeldAfter key now (change.Reserve n) (changed.Reserved result) after = after ≡ now
 IsHeldAfter key now c result after = ⊥
 
@@ -81,6 +94,7 @@ IsNumberInFile slots bytes key number = (version : ℕ) × (T : Fields) × IsTab
 abbrev pub IsKeyStep : {A : Type 0} → ℕ → List ℕ → List (Option ℤ) → Call → Answer A → List (Option ℤ) → Type 0
 IsKeyStep slots key before (call.New settings) (answer.Made result) after = after ≡ if_made result (before ++ None ∷ []) before
 IsKeyStep slots key before (call.Sorted settings pairs) (answer.Made result) after = after ≡ if_made result (before ++ last_at key None (entries_of pairs.now) ∷ []) before
+IsKeyStep slots key before (call.Unsorted settings pairs) (answer.Made result) after = after ≡ if_made result (before ++ last_at key None (entries_of pairs.now) ∷ []) before
 IsKeyStep slots key before (call.Load bytes limit) (answer.Loaded result) after =
     (number : Option ℤ) × OnOk result (IsNumberInFile slots bytes.now key number) × (after ≡ if_made result (before ++ number ∷ []) before)
 IsKeyStep slots key before (call.Clone i) (answer.Made result) after = (number : Option ℤ) × (slice_get before i ≡ Some number) × (after ≡ if_made result (before ++ number ∷ []) before)

@@ -1,10 +1,11 @@
 -- What runs answer as far as trees go: neither places nor bytes nor settings but the order have a part in it.
-use Rattle.std.specs.Prelude.{◌≡◌, Bool, true, false, ℕ, ℤ, List, [], ◌∷◌, ◌++◌, length, map, slice_get, slice_set, Option, option_map, Some, None, is_some, string_bytes, if◌then◌else◌, Result, Ok, Err}
+use Rattle.std.specs.Prelude.{◌≡◌, Bool, true, false, ℕ, ℤ, List, [], ◌∷◌, ◌++◌, ◌+◌, length, map, slice_get, slice_set, Option, option_map, Some, None, is_some, string_bytes, if◌then◌else◌, Result, Ok, Err}
 use Rattle.std.specs.List.{AllByRecursion}
 use Rattle.std.specs.Str.{is_utf8}
 use Rattle.cedar_tree.specs.Tree.{empty_tree, number_at}
 use Rattle.cedar_tree.specs.Queries.{Entry, asc, exact, front, predict, used, walk}
 use Rattle.cedar_tree.specs.State.{State, erased, stored}
+use Rattle.cedarwood.specs.declared.batches.RefusedPair.{RefusedPair}
 use Rattle.cedarwood.specs.declared.error.CedarError.{CedarError}
 use Rattle.cedarwood.specs.Words.{entries_of, keys_of}
 use Rattle.cedarwood.specs.Ranges.{entries_since, entries_with, longest_front}
@@ -14,6 +15,7 @@ use Rattle.cedarwood.specs.Erasures.{erased_under}
 use Rattle.cedar_model.specs.Table.Layouts.{LayoutKind, default_layout}
 use Rattle.cedar_format.specs.declared.error.CedarPersistenceError.{CedarPersistenceError}
 use Rattle.cedar_format.specs.Refusal.{Refusal, AllocationFailed, refusal_of}
+use Rattle.cedarwood.specs.Batches.{held_in_turn, keys_erased}
 use Rattle.cedarwood.specs.Builds.{all_stored, first_fault}
 use Rattle.cedarwood.specs.Dictionary.{Dictionary}
 use Rattle.cedarwood.specs.Fault.{fault, IsShortage}
@@ -39,9 +41,11 @@ pub data Said : Type 0 where
   missing : Said
   done : Said
   refused : CedarError → Said
+  refused_at : ℕ → CedarError → Said
   unloaded : Refusal → Said
   was : Option ℤ → Said
   held : Bool → Said
+  held_each : List Bool → Said
   found : Option (ℤ × ℕ) → Said
   numbered : Option ℤ → Said
   matched : List (Option (ℤ × ℕ)) → Said
@@ -59,15 +63,23 @@ abbrev pub said_result : {X : Type 0} → (X → Said) → Result X CedarError �
 said_result say (Ok x) = say x
 said_result say (Err e) = refused e
 
-abbrev pub said_change : Changed → Said
+-- which pair was refused, if one was
+abbrev pub said_batch : Result (Unit {0}) RefusedPair → Said
+said_batch (Ok x) = done
+said_batch (Err refusal) = refused_at refusal.index refusal.error
+
+abbrev pub said_change : {A : Type 0} → Changed A → Said
 said_change (changed.Updated result) = said_result (λ _. done) result
 said_change (changed.Inserted result) = said_result was result
 said_change (changed.Erased result) = held result
+said_change (changed.ErasedFound value) = was value
+said_change (changed.ErasedBatch result) = said_result (λ v. held_each v.items) result
 said_change (changed.ErasedPrefix n) = counted n
 said_change changed.Cleared = done
 said_change (changed.Shrunk result) = said_result (λ _. done) result
 said_change (changed.Renewed result) = said_result (λ _. done) result
 said_change (changed.Built result) = said_result (λ _. done) result
+said_change (changed.UpdatedBatch result) = said_batch result
 said_change (changed.Reserved result) = said_result (λ _. done) result
 
 -- how many slots are in use, where that is compared: trees alone say it in the default layout
@@ -129,6 +141,7 @@ IsLacking _ = ⊥
 -- nothing was refused for memory or slots
 abbrev pub IsMet : Said → Type 0
 IsMet (refused e) = IsShortage e → ⊥
+IsMet (refused_at n e) = IsShortage e → ⊥
 IsMet (unloaded r) = IsLacking r → ⊥
 IsMet _ = Unit {0}
 
@@ -137,10 +150,25 @@ abbrev pub unless_fault : Option CedarError → Said → Said
 unless_fault None without = without
 unless_fault (Some e) without = refused e
 
+-- the same for a pair at an index
+abbrev pub faulty_at : ℕ → Option CedarError → Said → Said
+faulty_at n None without = without
+faulty_at n (Some e) without = refused_at n e
+
 -- what is so without a fault, else what was so
 abbrev pub kept_at_fault : {X : Type 0} → Option CedarError → X → X → X
 kept_at_fault None before after = after
 kept_at_fault (Some e) before after = before
+
+-- of some pairs that are stored one after another, the first of which has this index: which one has a fault
+abbrev pub batch_says : ℕ → List Entry → Said
+batch_says n [] = done
+batch_says n (e ∷ es) = faulty_at n (fault e.0 e.1) (batch_says (n + 1) es)
+
+-- those before the one with a fault
+abbrev pub faultless_front : List Entry → List Entry
+faultless_front [] = []
+faultless_front (e ∷ es) = kept_at_fault (fault e.0 e.1) [] (e ∷ faultless_front es)
 
 abbrev pub is_none_left : List Entry → Bool
 is_none_left [] = true
@@ -151,22 +179,28 @@ abbrev pub change_says : State → Change → Said
 change_says s (change.Update key v) = unless_fault (fault key.now v) done
 change_says s (change.Insert key v) = unless_fault (fault key.now v) (was (number_at s.tree key.now))
 change_says s (change.Erase key) = held (is_some (number_at s.tree key.now))
+change_says s (change.EraseFound key) = was (number_at s.tree key.now)
+change_says s (change.EraseBatch keys) = held_each (held_in_turn s (keys_of keys.now))
 change_says s (change.ErasePrefix prefix) = counted (length (entries_with s.tree prefix.now))
 change_says s change.Clear = done
 change_says s change.Shrink = done
 change_says s (change.Renew settings) = done
 change_says s (change.Build pairs) = unless_fault (first_fault (entries_of pairs.now)) done
+change_says s (change.UpdateBatch pairs) = batch_says 0 (entries_of pairs.now)
 change_says s (change.Reserve n) = done
 
 abbrev pub changed_state : State → Change → State
 changed_state s (change.Update key v) = kept_at_fault (fault key.now v) s (stored s key.now v)
 changed_state s (change.Insert key v) = kept_at_fault (fault key.now v) s (stored s key.now v)
 changed_state s (change.Erase key) = erased s key.now
+changed_state s (change.EraseFound key) = erased s key.now
+changed_state s (change.EraseBatch keys) = keys_erased s (keys_of keys.now)
 changed_state s (change.ErasePrefix prefix) = erased_under s prefix.now
 changed_state s change.Clear = record { tree = empty_tree; ordered = s.ordered }
 changed_state s change.Shrink = s
 changed_state s (change.Renew settings) = record { tree = empty_tree; ordered = settings.ordered }
 changed_state s (change.Build pairs) = kept_at_fault (first_fault (entries_of pairs.now)) s (all_stored s (entries_of pairs.now))
+changed_state s (change.UpdateBatch pairs) = all_stored s (faultless_front (entries_of pairs.now))
 changed_state s (change.Reserve n) = s
 
 -- entries as texts, and nothing in the place of each whose key isn't UTF-8
@@ -204,6 +238,7 @@ at_state (Some s) without with_one = with_one s
 abbrev pub call_says : Bool → List State → Call → Said
 call_says by_default states (call.New settings) = done
 call_says by_default states (call.Sorted settings pairs) = unless_fault (sorted_fault pairs.now) done
+call_says by_default states (call.Unsorted settings pairs) = unless_fault (first_fault (entries_of pairs.now)) done
 call_says by_default states (call.Load bytes limit) = unsaid
 call_says by_default states (call.Clone index) = at_state (slice_get states index) missing (λ _. done)
 call_says by_default states (call.Change index change) = at_state (slice_get states index) missing (λ s. change_says s change)
@@ -213,6 +248,8 @@ abbrev pub states_after : List State → Call → List State
 states_after states (call.New settings) = states ++ record { tree = empty_tree; ordered = settings.ordered } ∷ []
 states_after states (call.Sorted settings pairs) =
     kept_at_fault (sorted_fault pairs.now) states (states ++ record { tree = asc (entries_of pairs.now); ordered = settings.ordered } ∷ [])
+states_after states (call.Unsorted settings pairs) =
+    kept_at_fault (first_fault (entries_of pairs.now)) states (states ++ record { tree = asc (entries_of pairs.now); ordered = settings.ordered } ∷ [])
 states_after states (call.Load bytes limit) = states
 states_after states (call.Clone index) = at_state (slice_get states index) states (λ s. states ++ s ∷ [])
 states_after states (call.Change index change) = at_state (slice_get states index) states (λ s. slice_set states index (changed_state s change))

@@ -5,6 +5,7 @@ use Rattle.cedarwood.specs.Dictionary.{Dictionary, IsValid}
 use Rattle.cedarwood.specs.OnTable.{IsOnTable}
 use Rattle.cedarwood.specs.Words.{entries_of}
 use Rattle.cedarwood.specs.Making.{IsNew, IsSortedBuild}
+use Rattle.cedarwood.specs.Unsorted.{IsUnsortedBuild}
 use Rattle.cedar_calls.specs.Making.{IsCopy, IsLoad, Makes}
 use Rattle.cedar_calls.specs.Changes.{IsChange}
 use Rattle.cedar_calls.specs.Replies.{IsReply}
@@ -31,6 +32,7 @@ MissesAt before index after = (slice_get before index ≡ None) × (after ≡ be
 abbrev pub IsStep : {A : Type 0} → LayoutKind → ℕ → List Dictionary → Call → Answer A → List Dictionary → Type 0
 IsStep layout slots before (call.New settings) (answer.Made result) after = Makes (IsNew settings) before result after
 IsStep layout slots before (call.Sorted settings pairs) (answer.Made result) after = Makes (IsSortedBuild layout slots settings (entries_of pairs.now)) before result after
+IsStep layout slots before (call.Unsorted settings pairs) (answer.Made result) after = Makes (IsUnsortedBuild layout slots settings (entries_of pairs.now)) before result after
 IsStep layout slots before (call.Load bytes limit) (answer.Loaded result) after = Makes (IsLoad layout slots limit bytes.now) before result after
 IsStep layout slots before (call.Clone index) (answer.Made result) after = (d : Dictionary) × (slice_get before index ≡ Some d) × Makes (IsCopy d) before result after
 IsStep layout slots before (call.Clone index) answer.Missing after = MissesAt before index after

@@ -1,6 +1,6 @@
 //! Results of calls as values.
 
-use cedarwood::{CedarError, CedarPersistenceError, MemoryStats};
+use cedarwood::{CedarError, CedarPersistenceError, MemoryStats, RefusedPair};
 use std::alloc::Allocator;
 
 /// What a call returned.
@@ -13,20 +13,24 @@ pub enum Answer<A: Allocator> {
     /// Whether a further dictionary was loaded. If so, it comes after the others.
     Loaded(Result<(), CedarPersistenceError>),
     /// What a change returned.
-    Changed(Changed),
+    Changed(Changed<A>),
     /// What a question returned.
     Replied(Reply<A>),
 }
 
 /// What a change returned.
-#[derive(Debug, PartialEq, Eq, Drop)]
-pub enum Changed {
+#[derive(Drop)]
+pub enum Changed<A: Allocator> {
     /// Whether the value was stored.
     Updated(Result<(), CedarError>),
     /// The same, with what the key held before.
     Inserted(Result<Option<i32>, CedarError>),
     /// Whether the key was held.
     Erased(bool),
+    /// What the key held.
+    ErasedFound(Option<i32>),
+    /// For each key whether it was held once those before it were removed. If there was no memory to collect this, no key was removed.
+    ErasedBatch(Result<Vec<bool, A>, CedarError>),
     /// How many keys were removed.
     ErasedPrefix(usize),
     /// No key is held any more.
@@ -37,6 +41,8 @@ pub enum Changed {
     Renewed(Result<(), CedarError>),
     /// Whether all pairs were stored.
     Built(Result<(), CedarError>),
+    /// The same, or which pair was refused. Those before it are stored.
+    UpdatedBatch(Result<(), RefusedPair>),
     /// Whether there is room for the blocks.
     Reserved(Result<(), CedarError>),
 }

@@ -17,6 +17,13 @@ pub enum Call<'a> {
         /// Keys and their values.
         pairs: &'a [(&'a [u8], i32)],
     },
+    /// Make another dictionary, of pairs in any order: the last value of a key counts.
+    Unsorted {
+        /// As of `New`.
+        settings: CedarBuilder,
+        /// Keys and their values.
+        pairs: &'a [(&'a [u8], i32)],
+    },
     /// Load another dictionary.
     Load {
         /// What was saved, or any other bytes.
@@ -54,6 +61,10 @@ pub enum Change<'a> {
     Insert { key: &'a [u8], value: i32 },
     /// Remove a key.
     Erase { key: &'a [u8] },
+    /// Find a key, and remove it where it was found.
+    EraseFound { key: &'a [u8] },
+    /// Remove some keys, one after another.
+    EraseBatch { keys: &'a [&'a [u8]] },
     /// Remove all keys that begin with a prefix.
     ErasePrefix { prefix: &'a [u8] },
     /// Remove all keys.
@@ -62,8 +73,10 @@ pub enum Change<'a> {
     Shrink,
     /// Begin anew, with these settings.
     Renew { settings: CedarBuilder },
-    /// Store some pairs.
+    /// Store some pairs, unless one of them has a fault.
     Build { pairs: &'a [(&'a [u8], i32)] },
+    /// Store some pairs one after another, up to one that is refused.
+    UpdateBatch { pairs: &'a [(&'a [u8], i32)] },
     /// Allocate ahead for so many blocks more than are in use.
     Reserve { blocks: usize },
 }

@@ -25,13 +25,13 @@ pub fn run_calls<L: Layout, const SLOTS: usize, A: Allocator + Copy>(
 
     //= Calls on any number of dictionaries, loads of any bytes among them, are a run: one result for each call, and each call begins with
     //  the dictionaries that the one before it left. [by IsRun]
-    //= A new dictionary, a sorted build, a load or a clone comes after the others. If it is refused, none was made. All others are as they
-    //  were. [by IsStep, Makes]
+    //= A new dictionary, a build of sorted or unsorted pairs, a load or a clone comes after the others. If it is refused, none was made.
+    //  All others are as they were. [by IsStep, Makes]
     //= What it is, and what it is refused with, is as the rows of `cedarwood` say of such a call. A clone fails only for lack of memory.
-    //  [by IsNew, IsSortedBuild, IsLoad, IsCopy]
+    //  [by IsNew, IsSortedBuild, IsUnsortedBuild, IsLoad, IsCopy]
     //= A dictionary that was loaded is the one that the table of its bytes holds. [by IsLoad, IsOnTable]
-    //= An update, an insert, an erasure of a key, of a prefix or of all, `renew`, a build, `try_reserve` or `shrink_to_fit` changes only
-    //  the dictionary at its index, as the rows of `cedarwood` say. [by ChangesAt, IsChange]
+    //= An update, an insert, an erasure of a key, of some keys, of a prefix or of all, `renew`, a build, a batch of updates, `try_reserve`
+    //  or `shrink_to_fit` changes only the dictionary at its index, as the rows of `cedarwood` say. [by ChangesAt, IsChange]
     //= A query changes nothing, and returns what they say. If a result is collected it may be `Memory`. [by AsksAt, IsReply]
     //= A call on a dictionary that isn't there returns `Missing`, and all are as they were. [by MissesAt]
     //= A dictionary that is changed was valid before. [by IsStep, IsValid]
@@ -64,6 +64,10 @@ fn make_call<L: Layout, const SLOTS: usize, A: Allocator + Copy>(
         Call::New { settings } => Answer::Made(join(tries, Trie::with(alloc, *settings))),
         Call::Sorted { settings, pairs } => {
             let made = Trie::from_sorted_bytes_with(alloc, *settings, pairs);
+            Answer::Made(join(tries, made))
+        }
+        Call::Unsorted { settings, pairs } => {
+            let made = Trie::from_pairs_bytes_with(alloc, *settings, pairs);
             Answer::Made(join(tries, made))
         }
         Call::Load { bytes, limit } => load(tries, alloc, bytes, *limit),

@@ -1,5 +1,6 @@
 //! Lists of calls: their calls succeed with memory at hand, and have the answers that were made by hand.
 
+mod batches;
 mod ends;
 mod files;
 mod ranges;

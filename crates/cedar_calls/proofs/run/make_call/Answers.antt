@@ -11,6 +11,12 @@ returns-in-Sorted-clause-step g c =
     subst (λ call. IsStep {A = g.row.A.Denot} g.L.Layout.kind g.row.SLOTS c.args.tries.now.items call (answer.Made c.join-in-Sorted.result) c.join-in-Sorted.new.tries.items) (sym c.in-Sorted.is)
     (m.result, m.ensures.built, c.join-in-Sorted.ensures.joins)
 
+pub returns-in-Unsorted-clause-step : goal.returns-in-Unsorted-clause-step
+returns-in-Unsorted-clause-step g c =
+    let m = c.from_pairs_bytes_with-made in
+    subst (λ call. IsStep {A = g.row.A.Denot} g.L.Layout.kind g.row.SLOTS c.args.tries.now.items call (answer.Made c.join-in-Unsorted.result) c.join-in-Unsorted.new.tries.items) (sym c.in-Unsorted.is)
+    (m.result, m.ensures.built, c.join-in-Unsorted.ensures.joins)
+
 pub returns-in-Some-clause-step : goal.returns-in-Some-clause-step
 returns-in-Some-clause-step g c =
     let found = c.in-Some.ensures.lookup in
