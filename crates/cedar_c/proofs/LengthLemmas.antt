@@ -1,11 +1,20 @@
 -- The lengths of keys that a walk finds.
-use Rattle.std.proofs.Common.{◌≡◌, ℕ, suc, ◌+◌, ◌-◌, ◌<◌, ◌≤◌, ◌^◌, List, [], ◌∷◌, ◌++◌, length, length-append, map, drop, zero, Bool, true, false, cond, ◌==◌, ◌&&◌, Option, Some, None, refl, arith}
+use Rattle.std.proofs.Common.{◌≡◌, ℕ, suc, ◌+◌, ◌-◌, ◌<◌, ◌≤◌, ◌^◌, List, [], ◌∷◌, ◌++◌, ◌*◌, length, length-append, map, drop, zero, Bool, true, false, cond, ◌==◌, ◌&&◌, Option, Some, None, refl, arith, subst, sym}
 use Rattle.std.specs.Prelude.{ℤ, nat_eq}
-use Rattle.std.specs.List.{filter, starts_with}
+use Rattle.std.specs.List.{count_by, filter, range_with_len, starts_with}
 use Rattle.std.proofs.lemmas.Bool.{false≢true}
 use Rattle.std.proofs.lemmas.List.{length-map}
 use Rattle.cedar_tree.specs.Tree.{Forest, none, child, Tree}
 use Rattle.cedar_tree.specs.Queries.{Entry, own_entry, under, walk_forest, walk, predict, prefixes_forest, prefixes}
+use Rattle.std.proofs.lemmas.List.Sums.{count_by-le-length}
+use Rattle.std.proofs.lemmas.List.FromFn.{length-range_with_len}
+use Rattle.cedar_model.specs.Table.Cells.{is_held}
+use Rattle.cedar_model.specs.Meaning.Marks.{marks}
+use Rattle.cedar_model.specs.Meaning.WellFormed.{cells_in, IsWellFormed, tree_of}
+use Rattle.cedar_model.specs.Table.TableFields.{Fields, size_of}
+use Rattle.cedar_model.proofs.MeaningLemmas.HeldCount.{count_is_marked}
+use Rattle.cedarwood.specs.Dictionary.{Dictionary}
+use Rattle.cedarwood.specs.OnTable.{IsOnTable}
 use Rattle.cedar_c.specs.Matches.{Fit, lengthened, predicted_keys}
 
 -- no entry's key has more bytes than this
@@ -98,6 +107,21 @@ predicted_whole t q = whole_keys q (walk t)
 
 pub predicted_fit : (t : Tree) (q : List ℕ) → length (prefixes t) < 2 ^ 64 → length q < 2 ^ 64 → Fit (length q) (predict t q)
 predicted_fit t q small short = fit_behind q (length (prefixes t)) (walk t) small short (within_walk t)
+
+-- each nonempty prefix of a key has a slot, and there are 2 ^ 30 at most
+prefixes_have_slots : (slots : ℕ) (T : Fields) → IsWellFormed slots T → length (prefixes (tree_of T)) < 2 ^ 64
+prefixes_have_slots slots T w =
+    let held : List ℕ = range_with_len 0 (size_of T) in
+    let named : count_by (is_held (cells_in T)) held ≡ 1 + length (prefixes (tree_of T)) + length (walk (marks T)) = count_is_marked slots T w in
+    let most : count_by (is_held (cells_in T)) held ≤ length held = count_by-le-length (is_held (cells_in T)) held in
+    let len : length held ≡ size_of T = length-range_with_len 0 (size_of T) in
+    let active : T.places.blocks.active ≤ length T.places.blocks.records = w.table.sound.shaped.blocks.active_in in
+    let within : 256 * length T.places.blocks.records ≤ slots = w.table.within in
+    let limit : slots ≤ 2 ^ 30 = w.table.limit.most in
+    omega (arith, named, most, len, active, within, limit)
+
+pub prefixes_are_few : (slots : ℕ) (d : Dictionary) → IsOnTable slots d → length (prefixes d.state.tree) < 2 ^ 64
+prefixes_are_few slots d on = subst (λ s. length (prefixes s.tree) < 2 ^ 64) (sym on.state) (prefixes_have_slots slots d.table on.formed)
 
 -- what is left of keys that fit
 pub fit_drop : (more n : ℕ) (xs : List (ℤ × ℕ)) → Fit more xs → Fit more (drop n xs)

@@ -11,6 +11,10 @@ use std::alloc::Global;
 /// How many keys are looked up in step before they are removed.
 const LANES: usize = 16;
 
+/// The most slots of a table whose keys are removed without a look-up in step before that: at ten bytes a slot such a table takes about as
+/// much memory as a processor's core has in its caches, and the look-up would take longer than the waits that it saves.
+const CACHED_SLOTS: usize = 131072;
+
 /// A key.
 #[repr(C)]
 #[derive(Clone, Copy)]
@@ -50,8 +54,12 @@ fn tell(held: &mut [bool], index: usize, was_held: bool)
     }
 }
 
-/// Looks up the first keys in step, as the dictionary's own `erase_batch` does, which brings to the processor what their erasures read.
+/// Looks up the first keys in step, as the dictionary's own `erase_batch` does, which brings to the processor what their erasures read,
+/// unless the table is small.
 fn pass_in_step<L: Layout, const SLOTS: usize>(trie: &Trie<L, SLOTS, Global>, keys: &[Key<'_>]) {
+    if trie.node_capacity() <= CACHED_SLOTS {
+        return;
+    }
     let count = keys.len().min(LANES);
     let mut lanes: [&[u8]; LANES] = [&[]; LANES];
     for lane in 0..count {
@@ -77,8 +85,8 @@ impl AnyCedar {
 }
 
 /// Removes some keys, one after another, and returns how many of them were held. `held[i]` becomes whether `keys[i]` was held then, for as
-/// many keys as there is room for; places after the last key stay. A few keys are looked up in step before they are removed, which is
-/// faster if the table is large and the keys come in no order. It allocates nothing. On a closed handle it does nothing.
+/// many keys as there is room for; places after the last key stay. If the table is large, a few keys are looked up in step before they are
+/// removed, which is faster if they come in no order. It allocates nothing. On a closed handle it does nothing.
 #[unsafe(no_mangle)]
 pub extern "C" fn cedar_erase_all(handle: &mut Handle, keys: &[Key<'_>], held: &mut [bool]) -> usize
     //= `cedar_erase_all` removes all of some keys, as erasures one after another do, and returns how many keys fewer are held. There are as

@@ -86,7 +86,7 @@ fn go_on_predictions<L: Layout, const SLOTS: usize>(
 {
     // There are no more of them than keys, and no key has more bytes than there are slots.
     let _ = trie.len();
-    let _ = trie.used_node_slots();
+    trie.stands_on_its_table();
     go_on(
         &mut trie.common_prefix_predict_iter_bytes(text),
         text.len(),

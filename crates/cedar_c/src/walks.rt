@@ -29,6 +29,7 @@ pub(crate) trait Finds {
 impl<'a, T: Walked> Finds for PrefixIter<'a, T> {
     ghost left = { λ walk. walk.rest };
 
+    #[inline(always)]
     fn next_found(&mut self) -> Option<(i32, usize)> {
         self.next()
     }
@@ -37,6 +38,7 @@ impl<'a, T: Walked> Finds for PrefixIter<'a, T> {
 impl<'a, T: Walked> Finds for PrefixPredictIter<'a, T> {
     ghost left = { λ rest. rest };
 
+    #[inline(always)]
     fn next_found(&mut self) -> Option<(i32, usize)> {
         self.next()
     }
@@ -59,6 +61,7 @@ fn fill<F: Finds>(walk: &mut F, more: usize, matches: &mut [Match]) -> usize
 }
 
 /// Writes what was found, and has `more` bytes than that, at a place, if there is this place.
+#[inline(always)]
 pub(crate) fn put_at(matches: &mut [Match], place: usize, found: (i32, usize), more: usize)
     requires { found.1 + more < 2 ^ 64 }
     ensures { (rest : List (ℤ × ℕ)) → filled_from (place + 1) matches.new rest ≡ filled_from place matches.old (longer more found ∷ rest) }
@@ -95,7 +98,7 @@ fn fill_predictions<L: Layout, const SLOTS: usize>(
 {
     // There are no more of them than keys, and no key has more bytes than there are slots.
     let _ = trie.len();
-    let _ = trie.used_node_slots();
+    trie.stands_on_its_table();
     fill(
         &mut trie.common_prefix_predict_iter_bytes(text),
         text.len(),

@@ -3,7 +3,7 @@ use Rattle.std.proofs.lemmas.List.{drop-map}
 use Rattle.cedarwood.specs.Queries.{predict, walk}
 use Rattle.cedar_tree.specs.Queries.{prefixes}
 use Rattle.cedar_c.specs.Matches.{Fit, filled_matches, lengthened, longer}
-use Rattle.cedar_c.proofs.LengthLemmas.{predicted_fit, predicted_whole}
+use Rattle.cedar_c.proofs.LengthLemmas.{predicted_fit, predicted_whole, prefixes_are_few}
 use Rattle.cedar_c.proofs.MatchLemmas.{predictions_fit}
 use Rattle.cedar_c.proofs.pages.go_on_predictions.Goals as goal
 
@@ -16,7 +16,7 @@ pub go_on-requires-clause-fit : goal.go_on-requires-clause-fit
 go_on-requires-clause-fit g c =
     let text = c.args.text.now in
     let short : length text < 2 ^ 64 = search rules in
-    let small : length (prefixes c.args.trie.now.state.tree) < 2 ^ 64 = omega (arith, c.used_node_slots.ensures.marked) in
+    let small : length (prefixes c.args.trie.now.state.tree) < 2 ^ 64 = prefixes_are_few _ c.args.trie.now c.stands_on_its_table.ensures in
     subst (Fit (length text)) (sym c.common_prefix_predict_iter_bytes.ensures) (predicted_fit c.args.trie.now.state.tree text small short)
 
 pub returns-clause-filled : goal.returns-clause-filled
