@@ -4,7 +4,8 @@ use Rattle.cedar_model.specs.Table.Layouts.{LayoutKind}
 use Rattle.cedar_model.specs.Table.TableFields.{Fields}
 use Rattle.cedar_format.specs.Format.{header_at, header_refusal, size_refusal}
 use Rattle.cedar_format.specs.Tables.{IsTableFile, table_bytes}
-use Rattle.cedar_c.specs.Layouts.{dictionary_in, layout_if, most_slots}
+use Rattle.cedarwood.specs.Limits.{most_slots}
+use Rattle.cedar_c.specs.Layouts.{dictionary_in, layout_if}
 use Rattle.cedar_c.specs.declared.any.AnyCedar.{AnyCedar}
 use Rattle.cedar_c.specs.declared.status.TheConstants.{MEMORY, FILE_TRUNCATED, FILE_MAGIC, FILE_VERSION, FILE_BYTE_ORDER, FILE_LAYOUT, FILE_HEADER, FILE_MEMORY_LIMIT, FILE_CORRUPT, FILE_TRAILING, FILE_UNREAD}
 use Rattle.cedar_format.specs.Refusal.{Refusal, first_refusal, Truncated, InvalidMagic, UnsupportedVersion, UnsupportedByteOrder, LayoutMismatch, InvalidHeader, AllocationLimitExceeded, AllocationFailed, CorruptData, TrailingData, Failed}

@@ -4,12 +4,9 @@ use Rattle.std.specs.Coded.{Coded, code_by, coded×, coded_bool}
 use Rattle.std.proofs.Common.{refl}
 use Rattle.cedar_model.specs.Table.Layouts.{LayoutKind, default_layout, reduced_layout}
 use Rattle.cedarwood.specs.Dictionary.{Dictionary, dictionary_code}
+use Rattle.cedarwood.specs.Limits.{most_slots}
 use Rattle.cedar_c.specs.declared.any.AnyCedar.{AnyCedar}
 use Rattle.cedar_c.specs.declared.any.AnyCedar.TheVariants.{Default, Reduced}
-
--- how many slots it has at most
-abbrev pub most_slots : ℕ
-most_slots = 1073741824
 
 -- so many blocks more than are in use are more than there are slots for, and may be there
 abbrev pub HasToGrow : ℕ → ℕ → ℕ → Type 0

@@ -3,10 +3,11 @@ use Rattle.std.specs.Prelude.{◌≡◌, ◌≢◌, ◌⊎◌, ◌↔◌, ◌≤
 use Rattle.cedar_format.specs.Format.{header_answer}
 use Rattle.cedar_model.specs.Table.Layouts.{LayoutKind, layout_byte}
 use Rattle.cedarwood.specs.Words.{IsEmpty, IsOnTable, IsSorted}
+use Rattle.cedarwood.specs.Limits.{most_slots}
 use Rattle.cedarwood.specs.declared.builder.CedarBuilder.{CedarBuilder}
 use Rattle.cedar_c.specs.Content.{content, layout_in}
 use Rattle.cedar_c.specs.Files.{early_refusal, file_status, IsFileOf, IsOfNoTable, TellsHeader}
-use Rattle.cedar_c.specs.Layouts.{dictionary_in, layout_of, most_slots}
+use Rattle.cedar_c.specs.Layouts.{dictionary_in, layout_of}
 use Rattle.cedar_c.specs.Pairs.{MayWantSlots, build_fault, entries_in}
 use Rattle.cedar_c.specs.Status.{TellsFault, TellsPosition}
 use Rattle.cedar_c.specs.declared.any.AnyCedar.{AnyCedar}

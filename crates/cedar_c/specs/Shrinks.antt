@@ -1,9 +1,10 @@
 -- What a call says that gives memory back.
 use Rattle.std.specs.Prelude.{◌≡◌, ℕ, Result, Ok, Err}
+use Rattle.cedarwood.specs.Limits.{most_slots}
 use Rattle.cedarwood.specs.Shrinking.{IsShrunk}
 use Rattle.cedarwood.specs.declared.error.CedarError.{CedarError}
 use Rattle.cedar_c.specs.Content.{ChangesBy}
-use Rattle.cedar_c.specs.Layouts.{dictionary_in, layout_of, most_slots}
+use Rattle.cedar_c.specs.Layouts.{dictionary_in, layout_of}
 use Rattle.cedar_c.specs.Status.{status_of}
 use Rattle.cedar_c.specs.declared.handle.Handle.{Handle}
 use Rattle.cedar_c.specs.declared.status.TheConstants.{OK}

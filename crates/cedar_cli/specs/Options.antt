@@ -5,6 +5,7 @@ use Rattle.std.specs.List.{list_all}
 use Rattle.std.specs.Str.Parse.{without_leading_plus, digits_value}
 use Rattle.cedar_tree.specs.Tree.{empty_tree}
 use Rattle.cedar_model.specs.Table.Layouts.{LayoutKind, default_layout, reduced_layout}
+use Rattle.cedarwood.specs.Limits.{default_load_limit}
 use Rattle.text_lines.specs.Lines.{is_digit, is_filled}
 use Rattle.cedar_cli.specs.View.{View}
 use Rattle.cedar_cli.specs.declared.options.Options.{Options}
@@ -50,7 +51,7 @@ asked_layout a = if a.reduced then reduced_layout else default_layout
 
 -- how many bytes of memory a load may ask for
 abbrev pub limit_or_default : Option ℕ → ℕ
-limit_or_default None = 536870912
+limit_or_default None = default_load_limit
 limit_or_default (Some n) = n
 
 abbrev pub asked_limit : Request → ℕ

@@ -1,2 +1,3 @@
+mod PutLemmas
 pub mod StepLemmas
 mod WantedRoom

@@ -1,7 +1,8 @@
 -- What the calls of this crate change of a tree, of its numbers' slots and of the blocks, each as one word.
-use Rattle.std.specs.Prelude.{◌≡◌, ◌≢◌, ◌⊎◌, ◌↔◌, ◌+◌, ◌<◌, ◌≤◌, ℕ, ℤ, bit_xor, Bool, false, IsTrue, length, List, [], ◌∷◌, MatchOption, OnErr, Option, pos, Result, Some, take, true}
-use Rattle.cedar_tree.specs.Tree.{Forest, has_label, IsAscending}
+use Rattle.std.specs.Prelude.{◌≡◌, ◌≢◌, ◌⊎◌, ◌↔◌, ◌+◌, ◌<◌, ◌≤◌, ℕ, ℤ, bit_xor, Bool, false, IfErr, IfOk, is_some, IsTrue, length, List, [], ◌∷◌, MatchOption, OnErr, OnOk, Option, pos, Result, Some, take, true}
+use Rattle.cedar_tree.specs.Tree.{Forest, has_label, IsAscending, number_at, put}
 use Rattle.cedar_tree.specs.Edits.{add_leaf, edit_at}
+use Rattle.cedar_slots.specs.Places.{MayRefuse}
 use Rattle.cedar_slots.specs.declared.shortage.Shortage.{Shortage}
 use Rattle.cedar_model.specs.Table.Cells.{Cells, NoPlace}
 use Rattle.cedar_model.specs.Table.Layouts.{default_layout, reduced_layout}
@@ -10,10 +11,10 @@ use Rattle.cedar_model.specs.Meaning.Family.{base_of, below, Family, Head, Links
 use Rattle.cedar_model.specs.Meaning.Marks.{mark, marks, MarksPut, MovesOut, PutsMark}
 use Rattle.cedar_model.specs.Meaning.Reading.{first_in}
 use Rattle.cedar_model.specs.Meaning.StandsFor.{HoldsTree}
-use Rattle.cedar_model.specs.Meaning.WellFormed.{cells_in, TableHolds, tree_of}
+use Rattle.cedar_model.specs.Meaning.WellFormed.{cells_in, IsWellFormed, TableHolds, tree_of}
 use Rattle.cedar_model.specs.Edit.NodeEdits.{GoesBehind, GoesFirst, IsAt}
 use Rattle.cedar_model.specs.Edit.Own.{LacksNode}
-use Rattle.cedar_model.specs.Edit.Steps.{MakesBlocks, root_of}
+use Rattle.cedar_model.specs.Edit.Steps.{MakesBlocks, root_of, SameModes}
 use Rattle.cedar_model.specs.Relocation.Renaming.{Renames}
 use Rattle.cedar_model.specs.Relocation.Reserved.{cells_without, SetReserved}
 use Rattle.cedar_model.specs.Relocation.Wanted.{rest_of}
@@ -68,6 +69,23 @@ LacksNumberSlot T = (T.layout ≡ default_layout) × NoPlace (size_of T) (cells_
 abbrev pub TakesNewByte : {X : Type 0} → Fields → Fields → List ℕ → Result X Shortage → Type 0
 TakesNewByte before after key result =
     (b : ℕ) → key ≡ b ∷ [] → has_label (tree_of before).children b ≡ false → TakesNoBlock before after result ⊎ LacksNumberSlot before
+
+-- ---- a key
+
+-- a key is put with a number, or the call is refused and leaves the tree as it was
+pub record PutsKey (slots : ℕ) (before after : Fields) (key : List ℕ) (value : ℤ) (result : Result (Option ℤ) Shortage) : Type 0 where
+  pub well_formed : IsWellFormed slots after
+  pub put : OnOk result (tree_of after ≡ put (tree_of before) before.ordered key value)
+  -- the answer is the number that the key held
+  pub held : IfOk result (λ number. number ≡ number_at (tree_of before) key)
+  pub taken_back : OnErr result (tree_of after ≡ tree_of before)
+  -- what there is too little of
+  pub refused : IfErr result (λ error. MayRefuse after.places slots error)
+  pub blocks : MakesAtMost (length key) before after result
+  -- over a number no block is made, and nothing is refused
+  pub over : is_some (number_at (tree_of before) key) ≡ true → TakesNoBlock before after result
+  pub one_byte : TakesNewByte before after key result
+  pub modes : SameModes before after
 
 -- ---- where numbers stand
 

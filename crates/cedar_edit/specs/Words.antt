@@ -1,7 +1,7 @@
 -- The words of clauses, from one place.
 pub use Rattle.cedar_edit.specs.Changes.{AddsLeaf, cells_besides, ChainsRest, ComesBehind, EditsNode, IsInWay, LacksLoneNumber}
 pub use Rattle.cedar_edit.specs.Changes.{LacksNumberSlot, MakesAtMost, MovesForLabel, MovesIn, MovesPrefixOut, OwnsNumberAlone, PutsInBase}
-pub use Rattle.cedar_edit.specs.Changes.{PutsInMarks, PutsInSlot, RenamesAround, TakesFreeSlot, TakesNewByte, TakesNewNode, TakesNoBlock}
+pub use Rattle.cedar_edit.specs.Changes.{PutsInMarks, PutsInSlot, PutsKey, RenamesAround, TakesFreeSlot, TakesNewNode, TakesNoBlock}
 pub use Rattle.cedar_edit.specs.Changes.{TellsLonger}
 pub use Rattle.cedar_edit.specs.Step.{MayMakeBlock}
 pub use Rattle.cedar_model.specs.Edit.Asked.{SeeksBehind, SeeksPlace}

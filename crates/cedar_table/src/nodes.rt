@@ -1,5 +1,8 @@
 //! One node of a table, read and written: its base, its owner, its slots for labels, its labels, and the node of a key.
 
+ghost use Rattle.std.specs.Prelude.{◌<◌, ◌^◌, ◌↔◌, ◌≡◌, ◌≢◌, [], IsTrue, length, List, MatchOption, None, pos, Some, true, ℕ};
+ghost use Rattle.cedar_table.specs.Words.{base_of, below, cells, ChecksAt, edit_at, empty_tree, Family, fields, FieldSet, Forest, HasNode, HasPath, Head, Held, is_value, IsAt, IsNode, IsTable, IsWellFormed, Links, node_at, Nothing, number_at, owned_slots, OwnNumber, OwnsNothing, Rebased, reduced_layout, SameFrame, size_of, TableHolds, tree_of};
+
 use crate::table::Table;
 use arrayvec::ArrayVec;
 use cedar_model::{Layout, Stored};
@@ -7,9 +10,6 @@ use cedar_slots::NodeRecord;
 use std::alloc::Allocator;
 
 impl<L: Layout, const SLOTS: usize, A: Allocator> Table<L, SLOTS, A> {
-    ghost use Rattle.std.specs.Prelude.{◌<◌, ◌^◌, ◌↔◌, ◌≡◌, ◌≢◌, [], IsTrue, length, List, MatchOption, None, pos, Some, true, ℕ};
-    ghost use Rattle.cedar_table.specs.Words.{base_of, below, cells, ChecksAt, edit_at, empty_tree, Family, fields, FieldSet, Forest, HasNode, HasPath, Head, Held, is_value, IsAt, IsNode, IsTable, IsWellFormed, Links, node_at, Nothing, number_at, owned_slots, OwnNumber, OwnsNothing, Rebased, reduced_layout, SameFrame, size_of, TableHolds, tree_of};
-
     /// Returns what the base field of a node says. In the default layout that is a base, with no test.
     pub fn stored_at_node(&self, node: usize) -> Stored
         requires node_in { node < size_of (fields self.now) }
@@ -117,22 +117,6 @@ impl<L: Layout, const SLOTS: usize, A: Allocator> Table<L, SLOTS, A> {
         self.child(node)
     }
 
-    /// Returns the label 0 alone if the node has a slot for its number, and otherwise no label.
-    fn number_label<const MOST: usize>(&self, node: usize) -> ArrayVec<u8, MOST>
-        requires some { 0 < MOST }
-        requires node_in { node < size_of (fields self.now) }
-        requires not_root { node ≢ 0 }
-        requires node { IsNode (size_of (fields self.now)) (cells self.now) node }
-        ensures { (h : Head) (ls : List ℕ) → Family (size_of (fields self.now)) (cells self.now) node h ls → result.items ≡ owned_slots h [] }
-    {
-        let mut labels = ArrayVec::new();
-        if self.has_number_slot(node) {
-            labels.push(0);
-            return labels;
-        }
-        labels
-    }
-
     /// Returns the labels under which a node owns slots, if there are no more than `MOST`: 0 first, if it has a slot for its number,
     /// and then those along its chain. It allocates nothing, and reads no more of a longer chain.
     pub fn labels_of<const MOST: usize>(&self, node: usize) -> Option<ArrayVec<u8, MOST>>
@@ -142,7 +126,7 @@ impl<L: Layout, const SLOTS: usize, A: Allocator> Table<L, SLOTS, A> {
         requires node { IsNode (size_of (fields self.now)) (cells self.now) node }
         ensures { (h : Head) (ls : List ℕ) → Family (size_of (fields self.now)) (cells self.now) node h ls → MatchOption result (MOST < length (owned_slots h ls)) (λ labels. labels.items ≡ owned_slots h ls) }
     {
-        let mut labels = self.number_label(node);
+        let mut labels = number_label(self, node);
         let base = self.base_of(node);
         let mut label = self.first_label(node);
         while label != 0 {
@@ -241,4 +225,23 @@ impl<L: Layout, const SLOTS: usize, A: Allocator> Table<L, SLOTS, A> {
         };
         self.write_node(node, record);
     }
+}
+
+/// Returns the label 0 alone if the node has a slot for its number, and otherwise no label.
+fn number_label<L: Layout, const SLOTS: usize, A: Allocator, const MOST: usize>(
+    table: &Table<L, SLOTS, A>,
+    node: usize,
+) -> ArrayVec<u8, MOST>
+    requires some { 0 < MOST }
+    requires node_in { node < size_of (fields table.now) }
+    requires not_root { node ≢ 0 }
+    requires node { IsNode (size_of (fields table.now)) (cells table.now) node }
+    ensures { (h : Head) (ls : List ℕ) → Family (size_of (fields table.now)) (cells table.now) node h ls → result.items ≡ owned_slots h [] }
+{
+    let mut labels = ArrayVec::new();
+    if table.has_number_slot(node) {
+        labels.push(0);
+        return labels;
+    }
+    labels
 }

@@ -97,9 +97,6 @@ none_is_some {X} o none some = let apart : false ≡ true = subst (λ (x : Optio
 pub fine_has_fault : {T : Type 0} (f : Option CedarError) → f ≡ None → IsSome f → T
 fine_has_fault {T} f fine some = absurd (none_is_some f fine some)
 
-pub fine_is_no_fault : {T : Type 0} (f : Option CedarError) (r : Result T CedarError) → f ≡ None → IfSome f (λ e. r ≡ Err e)
-fine_is_no_fault {T} f r fine = subst (λ (o : Option CedarError). IfSome o (λ e. r ≡ Err e)) (sym fine) tt
-
 err_ok : (P : Type 0) (r : Result (Unit {0}) CedarError) (e : CedarError) → r ≡ Err e → OnOk r P
 err_ok P r e is = subst (λ (x : Result (Unit {0}) CedarError). OnOk x P) (sym is) tt
 

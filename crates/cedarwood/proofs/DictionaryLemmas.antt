@@ -13,9 +13,7 @@ use Rattle.cedarwood.specs.declared.error.CedarError.{CedarError}
 use Rattle.cedarwood.specs.declared.error.CedarError.TheVariants.{InvalidValue}
 use Rattle.cedarwood.specs.Limits.{IsLimit}
 use Rattle.cedarwood.specs.Fault.{value_fault}
-
-some_or_none : {T : Type 0} (x : T) → ◌≡◌ {A = Option T} (Some x) None → ⊥
-some_or_none x h = cc
+use Rattle.cedarwood.proofs.FaultLemmas.{some_or_none}
 
 -- there may be 2^30 slots
 pub default_limit : IsSlotLimit 1073741824

@@ -24,6 +24,7 @@ use Rattle.cedar_walk.specs.declared.visits.Numbered.{Numbered}
 use Rattle.cedar_walk.specs.Ranges.{behind_path, entries_with}
 use Rattle.cedar_walk.specs.Visits.{ComesToNumber, left_at, path_to}
 use Rattle.cedar_walk.proofs.WalkLemmas.Prefixed.{entries_with_node}
+use Rattle.cedar_bulk.proofs.BulkLemmas.Spans.{some_none}
 use Rattle.cedarwood.specs.declared.erasing.Found.{Found}
 use Rattle.cedarwood.specs.Batches.{IsErasure, IsFound}
 use Rattle.cedarwood.specs.Dictionary.{some_numbers}
@@ -34,15 +35,12 @@ use Rattle.cedarwood.proofs.MarkedLemmas.{is_marked}
 
 -- ---- lists
 
-some_is_none : {X : Type 0} (x : X) (xs : List X) → x ∷ xs ≡ [] → ⊥
-some_is_none x xs h = cc
-
 abbrev tail_of : {X : Type 0} → List X → List X
 tail_of [] = []
 tail_of (x ∷ xs) = xs
 
 first_passes : {X : Type 0} (p : X → Bool) (xs : List X) (y : X) (ys : List X) → filter p xs ≡ y ∷ ys → p y ≡ true
-first_passes p [] y ys h = absurd (some_is_none y ys (sym h))
+first_passes p [] y ys h = absurd (some_none y ys (sym h))
 first_passes p (x ∷ xs) y ys h =
     (elim (p x) as (λ b. p x ≡ b → cond b (x ∷ filter p xs) (filter p xs) ≡ y ∷ ys → p y ≡ true) [
       | true ↦ λ e k. let same : x ≡ y = cc in subst (λ z. p z ≡ true) same e
@@ -68,7 +66,7 @@ all_fail : {X : Type 0} (p : X → Bool) (xs : List X) → filter p xs ≡ [] �
 all_fail p [] h = refl
 all_fail p (x ∷ xs) h =
     (elim (p x) as (λ b. cond b (x ∷ filter p xs) (filter p xs) ≡ [] → cond (not b) (x ∷ filter (λ y. not (p y)) xs) (filter (λ y. not (p y)) xs) ≡ x ∷ xs) [
-      | true ↦ λ k. absurd (some_is_none x (filter p xs) k)
+      | true ↦ λ k. absurd (some_none x (filter p xs) k)
       | false ↦ λ k. ap (λ r. x ∷ r) (all_fail p xs k)
     ]) h
 
@@ -85,11 +83,11 @@ parts_count p (x ∷ xs) =
 
 -- of the entries at one path there is one at most
 one_at : (p : Entry → Bool) (k : List ℕ) (o : Option ℤ) (x : Entry) (xs : List Entry) → x ∷ xs ≡ filter p (entry_at k o) → xs ≡ []
-one_at p k None x xs h = absurd (some_is_none x xs h)
+one_at p k None x xs h = absurd (some_none x xs h)
 one_at p k (Some v) x xs h =
     (elim (p (k, v)) as (λ b. x ∷ xs ≡ cond b ((k, v) ∷ []) [] → xs ≡ []) [
       | true ↦ λ e. ap tail_of e
-      | false ↦ λ e. absurd (some_is_none x xs e)
+      | false ↦ λ e. absurd (some_none x xs e)
     ]) h
 
 module _ (t : Tree) (q k : List ℕ) (v : ℤ) (rest : List Entry) (sound : IsSoundBelow t.children) (first : entries_with t q ≡ (k, v) ∷ rest) where

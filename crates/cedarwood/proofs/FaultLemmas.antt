@@ -10,7 +10,7 @@ use Rattle.cedarwood.specs.Fault.{key_fault, value_fault, fault, or_else, IsInRa
 ok_or_err : {T : Type 0} (r : Result T CedarError) (x : T) (e : CedarError) → r ≡ Ok x → r ≡ Err e → ⊥
 ok_or_err r x e p q = cc
 
-some_or_none : {T : Type 0} (x : T) → ◌≡◌ {A = Option T} (Some x) None → ⊥
+pub some_or_none : {T : Type 0} (x : T) → ◌≡◌ {A = Option T} (Some x) None → ⊥
 some_or_none x h = cc
 
 -- what was not refused has no fault

@@ -16,6 +16,7 @@ use Rattle.cedar_model.specs.Table.TableFields.{Fields}
 use Rattle.cedar_model.specs.Meaning.WellFormed.{IsWellFormed, tree_of}
 use Rattle.cedar_walk.specs.declared.visits.Numbered.{Numbered}
 use Rattle.cedar_walk.specs.Visits.{ComesToNumber, left_at, path_to}
+use Rattle.cedar_model.proofs.UpdateLemmas.AlongKey.{key_some}
 use Rattle.cedarwood.specs.declared.builder.CedarBuilder.{CedarBuilder}
 use Rattle.cedarwood.specs.declared.error.CedarError.{CedarError}
 use Rattle.cedarwood.specs.declared.error.CedarError.TheVariants.{DuplicateKey, EmptyKey, InvalidMaxTrial, InvalidValue, KeysNotSorted, Memory, NulByte, SlotLimit}
@@ -71,10 +72,6 @@ listed_all T all places next so_far ends =
     so_far ∙ ap (λ (o : Option Numbered). map (entry_of T) places ++ entries_after T o) ends ∙ append-nil (map (entry_of T) places)
 
 -- ---- an entry of a well-formed table has no fault
-
-key_some : (key : List ℕ) → IsKey key → 0 < length key
-key_some [] is = absurd is
-key_some (b ∷ key) is = omega arith
 
 pub place_fault : (slots : ℕ) (T : Fields) → IsWellFormed slots T → (place : Numbered) → IsEntryPlace T place → fault (path_to T place.depth place.slot) place.number ≡ None
 place_fault slots T well place at =

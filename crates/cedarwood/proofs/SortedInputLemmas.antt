@@ -82,7 +82,7 @@ fault_step ps i d h =
 pub after_sound : (first rest : Option CedarError) → first ≡ None → or_else first rest ≡ rest
 after_sound first rest e = ap (λ o. or_else o rest) e
 
-not_both : {X : Type 0} (r : Result X CedarError) (e : CedarError) → IsOk r → r ≡ Err e → ⊥
+pub not_both : {X : Type 0} (r : Result X CedarError) (e : CedarError) → IsOk r → r ≡ Err e → ⊥
 not_both r e ok was = let apart : false ≡ true = subst IsOk was ok in cc
 
 pub first_fault : {X : Type 0} (f rest whole : Option CedarError) (r r' : Result X CedarError) (e : CedarError) → whole ≡ or_else f rest → IfSome f (λ x. r ≡ Err x) → (f ≡ None → IsOk r) → r ≡ Err e → r ≡ r' → IfSome whole (λ x. r' ≡ Err x)

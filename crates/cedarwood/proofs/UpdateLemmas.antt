@@ -20,6 +20,7 @@ use Rattle.cedar_slots.specs.declared.shortage.Shortage.TheVariants as shortage
 use Rattle.cedarwood.specs.Fault.{fault, key_fault, value_fault, or_else, IsShortage}
 use Rattle.cedarwood.specs.Told.{told}
 use Rattle.cedarwood.proofs.GrowthLemmas.{dictionary_of, blocks_stay, grows}
+use Rattle.cedarwood.proofs.SortedInputLemmas.{not_both}
 
 -- ---- a pair with a fault
 
@@ -53,9 +54,6 @@ fault_no_shortage key v e h s = elim (first_or_other (key_fault key) (value_faul
   | inl k ↦ key_fault_no_shortage key e k s
   | inr w ↦ subst IsShortage (sym (chosen_some (int_le (pos 0) v && int_le v (pos 2147483645)) (InvalidValue v) e w)) s
 ]
-
-not_both : {X : Type 0} (r : Result X CedarError) (e : CedarError) → IsOk r → r ≡ Err e → ⊥
-not_both r e ok was = let apart : false ≡ true = subst IsOk was ok in cc
 
 -- what a refused test says: the fault, whichever it is
 pub fault_of : {X : Type 0} (f : Option CedarError) (r : Result X CedarError) (e : CedarError) → IfSome f (λ x. r ≡ Err x) → (f ≡ None → IsOk r) → r ≡ Err e → f ≡ Some e

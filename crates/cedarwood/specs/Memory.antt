@@ -7,10 +7,11 @@ use Rattle.cedar_model.specs.contracts.layout.DefaultLayout as layout
 use Rattle.cedar_model.specs.contracts.layout.DefaultLayoutLayout.TheImpl as default_layout
 use Rattle.cedar_model.specs.contracts.layout.ReducedLayout as smaller
 use Rattle.cedar_model.specs.contracts.layout.ReducedLayoutLayout.TheImpl as smaller_layout
+use Rattle.cedarwood.specs.Limits.{most_slots}
 use Rattle.cedarwood.specs.contracts.trie.Trie.{the_row}
 
 abbrev pub CedarFitsInMemory : (A : RattleType) → Ghosts A.Denot → Type 0
-CedarFitsInMemory A alloc = FitsInMemory (the_row layout.the_row (number 1073741824) A default_layout.ghosts alloc)
+CedarFitsInMemory A alloc = FitsInMemory (the_row layout.the_row (number most_slots) A default_layout.ghosts alloc)
 
 abbrev pub ReducedFitsInMemory : (A : RattleType) → Ghosts A.Denot → Type 0
-ReducedFitsInMemory A alloc = FitsInMemory (the_row smaller.the_row (number 1073741824) A smaller_layout.ghosts alloc)
+ReducedFitsInMemory A alloc = FitsInMemory (the_row smaller.the_row (number most_slots) A smaller_layout.ghosts alloc)

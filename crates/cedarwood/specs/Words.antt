@@ -34,7 +34,7 @@ pub use Rattle.cedarwood.specs.Dictionary.{AreSameFigures, capacity_after, Dicti
 pub use Rattle.cedarwood.specs.Ends.{first_entry, last_entry}
 pub use Rattle.cedarwood.specs.Erasures.{all_erased, entries_without, erased_under, IsCleared, IsErasedUnder, MarksCutUnder}
 pub use Rattle.cedarwood.specs.Fault.{fault, IsInRange, IsShortage, key_fault, value_fault}
-pub use Rattle.cedarwood.specs.Limits.{IsLimit}
+pub use Rattle.cedarwood.specs.Limits.{default_load_limit, IsLimit, most_slots}
 pub use Rattle.cedarwood.specs.Loading.{LacksByPath, LoadAnswers, LoadedFilesSaveAgain, OwnFilesLoad}
 pub use Rattle.cedarwood.specs.Making.{default_settings, IsEmpty, IsNew, IsRenewed, IsSorted, IsSortedBuild}
 pub use Rattle.cedarwood.specs.Memory.{CedarFitsInMemory, ReducedFitsInMemory}

@@ -24,7 +24,7 @@ pub struct CedarBuilder {
 }
 
 impl CedarBuilder {
-    ghost use Rattle.cedarwood.specs.Words.{CedarFitsInMemory, default_layout, entries_of, IsNew, IsSortedBuild, reduced_layout, ReducedFitsInMemory};
+    ghost use Rattle.cedarwood.specs.Words.{CedarFitsInMemory, default_layout, entries_of, IsNew, IsSortedBuild, most_slots, reduced_layout, ReducedFitsInMemory};
 
     /// Labels ascend, and one failed search closes a block.
     ///
@@ -131,7 +131,7 @@ impl CedarBuilder {
         alloc: A,
         pairs: &[(&[u8], i32)],
     ) -> Result<Cedar<A>, CedarError>
-        ensures built { IsSortedBuild default_layout 1073741824 self (entries_of pairs.now) result }
+        ensures built { IsSortedBuild default_layout most_slots self (entries_of pairs.now) result }
         ensures fits { IfOk result (λ _. CedarFitsInMemory A.row A.Allocator) }
     {
         let place: Option<Cedar<A>> = None;
@@ -160,7 +160,7 @@ impl CedarBuilder {
         alloc: A,
         pairs: &[(&str, i32)],
     ) -> Result<Cedar<A>, CedarError>
-        ensures built { IsSortedBuild default_layout 1073741824 self (entries_of pairs.now) result }
+        ensures built { IsSortedBuild default_layout most_slots self (entries_of pairs.now) result }
         ensures fits { IfOk result (λ _. CedarFitsInMemory A.row A.Allocator) }
     {
         let place: Option<Cedar<A>> = None;
@@ -213,7 +213,7 @@ impl CedarBuilder {
         alloc: A,
         pairs: &[(&[u8], i32)],
     ) -> Result<ReducedCedar<A>, CedarError>
-        ensures built { IsSortedBuild reduced_layout 1073741824 self (entries_of pairs.now) result }
+        ensures built { IsSortedBuild reduced_layout most_slots self (entries_of pairs.now) result }
         ensures fits { IfOk result (λ _. ReducedFitsInMemory A.row A.Allocator) }
     {
         let place: Option<ReducedCedar<A>> = None;
@@ -242,7 +242,7 @@ impl CedarBuilder {
         alloc: A,
         pairs: &[(&str, i32)],
     ) -> Result<ReducedCedar<A>, CedarError>
-        ensures built { IsSortedBuild reduced_layout 1073741824 self (entries_of pairs.now) result }
+        ensures built { IsSortedBuild reduced_layout most_slots self (entries_of pairs.now) result }
         ensures fits { IfOk result (λ _. ReducedFitsInMemory A.row A.Allocator) }
     {
         let place: Option<ReducedCedar<A>> = None;

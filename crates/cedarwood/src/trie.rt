@@ -1,7 +1,7 @@
 //! The dictionary and its calls.
 
 ghost use Rattle.std.specs.Prelude.{◌+◌, ◌-◌, ◌/◌, ◌↔◌, ◌≡◌, ◌≤◌, [], IfOk, IfSome, IsSome, IsTrue, length, None, pos, true};
-ghost use Rattle.cedarwood.specs.Words.{CedarFitsInMemory, default_layout, default_settings, entries_of, erased, exact, IsLimit, IsMarked, IsNew, IsOnTable, IsRenewed, IsSortedBuild, IsSound, IsUpdate, IsValid, marks, MarksCut, number_at, prefixes, reduced_layout, ReducedFitsInMemory, used, value_fault, walk};
+ghost use Rattle.cedarwood.specs.Words.{CedarFitsInMemory, default_layout, default_settings, entries_of, erased, exact, IsLimit, IsMarked, IsNew, IsOnTable, IsRenewed, IsSortedBuild, IsSound, IsUpdate, IsValid, marks, MarksCut, most_slots, number_at, prefixes, reduced_layout, ReducedFitsInMemory, used, value_fault, walk};
 
 use crate::builder::CedarBuilder;
 use crate::counted::search_uncounted;
@@ -99,7 +99,7 @@ impl<A: Allocator + Copy> Trie<DefaultLayout, 1073741824, A> {
         //= It fails for lack of memory, or for lack of slots if 256 times the number of these prefixes is the limit or more. [also
         //  from_sorted, from_sorted_bytes_with, from_sorted_with, CedarBuilder::from_sorted_bytes, CedarBuilder::from_sorted,
         //  CedarBuilder::from_sorted_bytes_reduced, CedarBuilder::from_sorted_reduced; by refused]
-        ensures built { IsSortedBuild default_layout 1073741824 default_settings (entries_of pairs.now) result }
+        ensures built { IsSortedBuild default_layout most_slots default_settings (entries_of pairs.now) result }
         ensures fits { IfOk result (λ _. CedarFitsInMemory A.row A.Allocator) }
     {
         Self::builder().from_sorted_bytes(alloc, pairs)
@@ -115,7 +115,7 @@ impl<A: Allocator + Copy> Trie<DefaultLayout, 1073741824, A> {
     /// # Errors
     /// As [`CedarBuilder::from_sorted`].
     pub fn from_sorted(alloc: A, pairs: &[(&str, i32)]) -> Result<Self, CedarError>
-        ensures built { IsSortedBuild default_layout 1073741824 default_settings (entries_of pairs.now) result }
+        ensures built { IsSortedBuild default_layout most_slots default_settings (entries_of pairs.now) result }
         ensures fits { IfOk result (λ _. CedarFitsInMemory A.row A.Allocator) }
     {
         Self::builder().from_sorted(alloc, pairs)
@@ -162,7 +162,7 @@ impl<A: Allocator + Copy> Trie<ReducedLayout, 1073741824, A> {
     /// # Errors
     /// As [`CedarBuilder::from_sorted_bytes`].
     pub fn from_sorted_bytes(alloc: A, pairs: &[(&[u8], i32)]) -> Result<Self, CedarError>
-        ensures built { IsSortedBuild reduced_layout 1073741824 default_settings (entries_of pairs.now) result }
+        ensures built { IsSortedBuild reduced_layout most_slots default_settings (entries_of pairs.now) result }
         ensures fits { IfOk result (λ _. ReducedFitsInMemory A.row A.Allocator) }
     {
         Self::builder().from_sorted_bytes_reduced(alloc, pairs)
@@ -178,7 +178,7 @@ impl<A: Allocator + Copy> Trie<ReducedLayout, 1073741824, A> {
     /// # Errors
     /// As [`CedarBuilder::from_sorted`].
     pub fn from_sorted(alloc: A, pairs: &[(&str, i32)]) -> Result<Self, CedarError>
-        ensures built { IsSortedBuild reduced_layout 1073741824 default_settings (entries_of pairs.now) result }
+        ensures built { IsSortedBuild reduced_layout most_slots default_settings (entries_of pairs.now) result }
         ensures fits { IfOk result (λ _. ReducedFitsInMemory A.row A.Allocator) }
     {
         Self::builder().from_sorted_reduced(alloc, pairs)

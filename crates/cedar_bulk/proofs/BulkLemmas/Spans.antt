@@ -67,7 +67,7 @@ abbrev later : List Entry → List Entry
 later [] = []
 later (e ∷ es) = es
 
-some_none : {X : Type 0} (x : X) (xs : List X) → x ∷ xs ≡ [] → ⊥
+pub some_none : {X : Type 0} (x : X) (xs : List X) → x ∷ xs ≡ [] → ⊥
 some_none x xs e = cc
 
 -- the pairs of the first child are those with its label

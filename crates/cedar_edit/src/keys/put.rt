@@ -1,7 +1,7 @@
 //! A key's number put.
 
-ghost use Rattle.std.specs.Prelude.{◌≡◌, ◌≤◌, [], drop, IfErr, IfOk, is_some, length, OnErr, OnOk, take, true};
-ghost use Rattle.cedar_edit.specs.Words.{cells, fields, HasWay, is_value, IsKey, IsWellFormed, KeepsMarks, MakesAtMost, marks, MayRefuse, NewMark, number_at, put, PutsInMarks, PutsMarks, SameModes, TakenBack, TakesNewByte, TakesNewNode, TakesNoBlock, tree_of, Walked};
+ghost use Rattle.std.specs.Prelude.{◌≡◌, ◌≤◌, [], drop, IfErr, IfOk, length, OnErr, OnOk, take, true};
+ghost use Rattle.cedar_edit.specs.Words.{cells, fields, HasWay, is_value, IsKey, IsWellFormed, KeepsMarks, marks, NewMark, PutsInMarks, PutsKey, PutsMarks, TakenBack, TakesNewNode, Walked};
 
 use crate::keys::erase::trim;
 use crate::keys::step::{follow_or_add, put_number};
@@ -70,18 +70,10 @@ fn put_along<L: Layout, const SLOTS: usize, A: Allocator>(
     requires key { IsKey key.now }
     requires value { is_value value ≡ true }
     requires way { HasWay (cells table.old) 0 key.now }
-    ensures well_formed { IsWellFormed SLOTS (fields table.new) }
-    ensures put { OnOk result (tree_of (fields table.new) ≡ put (tree_of (fields table.old)) (fields table.old).ordered key.now value) }
-    ensures held { IfOk result (λ held. held ≡ number_at (tree_of (fields table.old)) key.now) }
-    ensures taken_back { OnErr result (tree_of (fields table.new) ≡ tree_of (fields table.old)) }
-    ensures refused { IfErr result (λ error. MayRefuse (fields table.new).places SLOTS error) }
-    ensures blocks { MakesAtMost (length key.now) (fields table.old) (fields table.new) result }
-    ensures over { is_some (number_at (tree_of (fields table.old)) key.now) ≡ true → TakesNoBlock (fields table.old) (fields table.new) result }
-    ensures one_byte { TakesNewByte (fields table.old) (fields table.new) key.now result }
+    ensures puts { PutsKey SLOTS (fields table.old) (fields table.new) key.now value result }
     ensures marks { KeepsMarks (cells table.old) (cells table.new) }
     ensures new_mark { OnOk result (NewMark (fields table.old) (fields table.new) key.now) }
     ensures lacking { TakesNewNode (fields table.old) (fields table.new) key.now result }
-    ensures modes { SameModes (fields table.old) (fields table.new) }
 {
     let end = walk_in(table, key)?;
     let held = table.number_of(end);
@@ -109,30 +101,19 @@ pub fn update<L: Layout, const SLOTS: usize, A: Allocator>(
     requires key { IsKey key.now }
     requires value { is_value value ≡ true }
 
-    //= The table is well-formed after an update, also after a refusal.
-    ensures well_formed { IsWellFormed SLOTS (fields table.new) }
-
+    //= The table is well-formed after an update, also after a refusal. [by PutsKey, well_formed]
     //= `update` of a key with a value in range, on any well-formed table, however it was made: the tree is then `put` of the old one, in
-    //  the table's order.
-    ensures put { OnOk result (tree_of (fields table.new) ≡ put (tree_of (fields table.old)) (fields table.old).ordered key.now value) }
-
-    //= It returns the number that the key held before, or that there was none.
-    ensures held { IfOk result (λ held. held ≡ number_at (tree_of (fields table.old)) key.now) }
-
-    //= After a refusal the tree is the old one.
-    ensures taken_back { OnErr result (tree_of (fields table.new) ≡ tree_of (fields table.old)) }
-
+    //  the table's order. [by put]
+    //= It returns the number that the key held before, or that there was none. [by held]
+    //= After a refusal the tree is the old one. [by taken_back]
     //= It fails for lack of memory only if all blocks are in use and there may be more, for lack of slots only if there may not be more.
-    ensures refused { IfErr result (λ error. MayRefuse (fields table.new).places SLOTS error) }
-
-    //= A key of n bytes makes n blocks at most, and fewer than n if the update fails.
-    ensures blocks { MakesAtMost (length key.now) (fields table.old) (fields table.new) result }
-
-    //= Over a number it makes no block and doesn't fail.
-    ensures over { is_some (number_at (tree_of (fields table.old)) key.now) ≡ true → TakesNoBlock (fields table.old) (fields table.new) result }
-
-    //= A new first byte alone makes a block, or fails, only in the default layout and only if no slot outside block 0 is free.
-    ensures one_byte { TakesNewByte (fields table.old) (fields table.new) key.now result }
+    //  [by refused]
+    //= A key of n bytes makes n blocks at most, and fewer than n if the update fails. [by blocks]
+    //= Over a number it makes no block and doesn't fail. [by over]
+    //= A new first byte alone makes a block, or fails, only in the default layout and only if no slot outside block 0 is free. [by
+    //  one_byte]
+    //= The order and `max_trial` stay the same. [also erase.modes; by modes]
+    ensures puts { PutsKey SLOTS (fields table.old) (fields table.new) key.now value result }
 
     //= After a refusal each number is where it was, in a slot or in its node's own base field. [with marks_stay]
     //= So as many slots are then held as before. [with marks_stay; by slots_stay]
@@ -146,9 +127,6 @@ pub fn update<L: Layout, const SLOTS: usize, A: Allocator>(
 
     //= The tree of marks says the same in the reduced layout.
     ensures marks_put { OnOk result (PutsInMarks (fields table.old) (fields table.new) key.now) }
-
-    //= The order and `max_trial` stay the same. [also erase]
-    ensures modes { SameModes (fields table.old) (fields table.new) }
 {
     let moved = make_way(table, key)?;
     match put_along(table, key, value) {

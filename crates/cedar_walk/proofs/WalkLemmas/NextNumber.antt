@@ -82,7 +82,7 @@ one_number slots T k w v s n at other has =
 
 -- ---- a node but the root has a number or a label
 
-last_label : (j : ℕ) (v : List ℕ) → (w : List ℕ) × (l : ℕ) × (j ∷ v ≡ w ++ l ∷ [])
+pub last_label : (j : ℕ) (v : List ℕ) → (w : List ℕ) × (l : ℕ) × (j ∷ v ≡ w ++ l ∷ [])
 last_label j [] = ([], j, refl)
 last_label j (m ∷ v) = let e = last_label m v in (j ∷ e.0, e.1, ap (λ x. j ∷ x) e.2)
 

@@ -11,10 +11,7 @@ use Rattle.cedar_tree.proofs.OrderLemmas.{node_at-empty}
 use Rattle.cedar_tree.proofs.PredictLemmas.{filter-every, map-after}
 use Rattle.cedar_tree.proofs.WalkLemmas.{filter-map, eqb_turned, filter-none}
 use Rattle.cedar_walk.specs.Ranges.{behind_path, entries_with}
-
-behind_none : (es : List Entry) → es ≡ map (behind_path []) es
-behind_none [] = refl
-behind_none (e ∷ es) = ap (λ r. e ∷ r) (behind_none es)
+use Rattle.cedar_walk.proofs.WalkLemmas.Since.{behind_none}
 
 own_with : (m : ℕ) (q : List ℕ) (n : Option ℤ) → filter (λ e. starts_with nat_eq e.0 (m ∷ q)) (own_entry n) ≡ []
 own_with m q None = refl

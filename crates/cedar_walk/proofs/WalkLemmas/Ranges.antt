@@ -27,7 +27,7 @@ use Rattle.cedar_walk.specs.Visits.{ComesTo, ComesToNumber, entries_at, first_si
 use Rattle.cedar_walk.specs.Ranges.{entries_since, siblings_above}
 use Rattle.cedar_walk.specs.RangePlaces.{AboveFrom, BeginsAt, IsReached, left_above}
 use Rattle.cedar_walk.proofs.WalkLemmas.NextNode.{child_is_at, child_owned, last_of, next_label, node_stands, parent_below, up_of, way_one_more}
-use Rattle.cedar_walk.proofs.WalkLemmas.NextNumber.{number_there}
+use Rattle.cedar_walk.proofs.WalkLemmas.NextNumber.{last_label, number_there}
 use Rattle.cedar_walk.proofs.WalkLemmas.Since.{above_first, above_label, above_none, above_on, ascending_at, at_up, since_missing, since_node, since_none}
 
 -- ---- labels
@@ -106,10 +106,6 @@ module _ (slots : ℕ) (T : Fields) (k : IsWellFormed slots T) where
   ]) refl
 
 -- ---- the path of a node, from its last label to its first
-
-last_label : (j : ℕ) (v : List ℕ) → (w : List ℕ) × (l : ℕ) × (j ∷ v ≡ w ++ l ∷ [])
-last_label j [] = ([], j, refl)
-last_label j (m ∷ v) = let e = last_label m v in (j ∷ e.0, e.1, ap (λ x. j ∷ x) e.2)
 
 pub way_back : (T : Fields) (n : ℕ) (w : List ℕ) (s : ℕ) → length w ≡ n → IsAt (cells_in T) w s → path_to T n s ≡ w
 way_back T zero [] s e at = refl

@@ -27,13 +27,13 @@ since q e = is_ge (slice_cmp nat_cmp e.0 q)
 cmp_same : (l : ℕ) → nat_cmp l l ≡ Equal
 cmp_same l = rw (nat_lt_itself l, eq-eqb l l refl) refl
 
-cmp_below : (l m : ℕ) → l < m → nat_cmp l m ≡ Less
+pub cmp_below : (l m : ℕ) → l < m → nat_cmp l m ≡ Less
 cmp_below l m h = rw (ltb-from_lt l m h) refl
 
 not_lt : (l m : ℕ) → m ≤ l → ltb l m ≡ false
 not_lt l m h = (elim (ltb l m) as (λ b. ltb l m ≡ b → b ≡ false) [ true ↦ λ e. let k : l < m = ltb-true l m e in absurd (omega arith) | false ↦ λ _. refl ]) refl
 
-cmp_above : (l m : ℕ) → m < l → nat_cmp l m ≡ Greater
+pub cmp_above : (l m : ℕ) → m < l → nat_cmp l m ≡ Greater
 cmp_above l m h = rw (not_lt l m (omega arith), ne_eqb l m (λ e. omega (arith, e))) refl
 
 filter_all : {X : Type 0} (p : X → Bool) (xs : List X) → ((x : X) → p x ≡ true) → filter p xs ≡ xs

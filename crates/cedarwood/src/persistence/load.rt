@@ -1,7 +1,7 @@
 //! How a dictionary is loaded: from a watched reader, or from bytes in memory.
 
 ghost use Rattle.std.specs.Prelude.{◌*◌, ◌+◌};
-ghost use Rattle.cedarwood.specs.Words.{CountsWithin, IsLimit, layout_byte, LoadsBy, need, TellsBreaks};
+ghost use Rattle.cedarwood.specs.Words.{CountsWithin, default_load_limit, IsLimit, layout_byte, LoadsBy, need, TellsBreaks};
 
 use crate::counted::load_uncounted;
 use crate::{CedarPersistenceError, DEFAULT_LOAD_MEMORY_LIMIT, Layout, Source, Ticks, Trie};
@@ -104,7 +104,7 @@ impl<L: Layout, const SLOTS: usize, A: Allocator + Copy> Trie<L, SLOTS, A> {
         reader: &mut S,
     ) -> Result<Self, CedarPersistenceError>
         requires limit { IsLimit SLOTS }
-        ensures loads { LoadsBy (λ trie. trie.table) L.kind SLOTS 536870912 (S.remaining reader.old) (S.remaining reader.new) (S.failed reader.new) result }
+        ensures loads { LoadsBy (λ trie. trie.table) L.kind SLOTS default_load_limit (S.remaining reader.old) (S.remaining reader.new) (S.failed reader.new) result }
         ensures told { TellsBreaks (S.broken reader.old) (S.broken reader.new) result }
     {
         Self::load_from_reader_with_limit(alloc, reader, DEFAULT_LOAD_MEMORY_LIMIT)

@@ -1,6 +1,6 @@
 //! Files by their paths, through a buffer.
 
-ghost use Rattle.cedarwood.specs.Words.{FailsToSave, IfErr, IfOk, IsLimit, IsTableFile, IsWellFormed, LacksByPath, layout_byte, length, OnOk, PassesAgain, table_bytes};
+ghost use Rattle.cedarwood.specs.Words.{default_load_limit, FailsToSave, IfErr, IfOk, IsLimit, IsTableFile, IsWellFormed, LacksByPath, layout_byte, length, OnOk, PassesAgain, table_bytes};
 
 use crate::persistence::replace::no_buffer;
 use crate::{CedarPersistenceError, DEFAULT_LOAD_MEMORY_LIMIT, Layout, Trie, Watched};
@@ -106,7 +106,7 @@ impl<L: Layout, const SLOTS: usize, A: Allocator + Copy> Trie<L, SLOTS, A> {
     ) -> Result<Self, CedarPersistenceError>
         requires limit { IsLimit SLOTS }
         ensures formed { IfOk result (λ trie. IsWellFormed SLOTS trie.table) }
-        ensures lacks { IfErr result (LacksByPath (layout_byte L.kind) SLOTS 536870912) }
+        ensures lacks { IfErr result (LacksByPath (layout_byte L.kind) SLOTS default_load_limit) }
     {
         Self::load_from_path_with_limit(alloc, files, path, DEFAULT_LOAD_MEMORY_LIMIT)
     }

@@ -2,7 +2,8 @@ use Rattle.std.proofs.Common.{◌≡◌, Bool, IfSome, subst, sym}
 use Rattle.cedar_model.specs.Table.Layouts.{layout_byte}
 use Rattle.cedar_format.specs.Format.{header_answer}
 use Rattle.cedar_c.specs.Files.{early_refusal, file_status, TellsHeader}
-use Rattle.cedar_c.specs.Layouts.{layout_if, most_slots}
+use Rattle.cedarwood.specs.Limits.{most_slots}
+use Rattle.cedar_c.specs.Layouts.{layout_if}
 use Rattle.cedar_c.proofs.FileLemmas.{none_refused}
 use Rattle.cedar_c.proofs.any.AnyCedar.load_file.Goals as goal
 

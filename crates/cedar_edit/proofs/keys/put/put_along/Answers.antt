@@ -1,6 +1,6 @@
 use Rattle.std.proofs.Common.{FitsSigned, inl, inr, of_z, refl, rules, to_z, w32, subst, sym, ap, ◌∙◌, ◌+◌, arith, ◌≡◌}
 use Rattle.std.proofs.lemmas.Int.{to_z-of_z}
-use Rattle.std.specs.Prelude.{is_some, Some}
+use Rattle.std.specs.Prelude.{Err, is_some, Some}
 use Rattle.cedar_tree.specs.Tree.{number_at}
 use Rattle.cedar_tree.specs.Edits.{edit_at}
 use Rattle.cedar_model.specs.Edit.KeyWalk.{TakenBack}
@@ -14,10 +14,12 @@ use Rattle.cedar_model.proofs.UpdateLemmas.MarksAfterUpdate.{new_mark, put_keeps
 use Rattle.cedar_model.proofs.UpdateLemmas.StepAnswers.{on_refusal}
 use Rattle.cedar_model.proofs.UpdateLemmas.Ending.{entries_fit, is_put, IsPut, no_more, not_root, number_before, one_more, put_refused}
 use Rattle.cedar_model.proofs.UpdateLemmas.AlongKey.{node_walked, walked_same}
+use Rattle.cedar_edit.proofs.PutLemmas.{done_put, refused_put}
 use Rattle.cedar_edit.proofs.keys.put.put_along.Goals as goal
 
-pub returns-in_err-end-clause-one_byte : goal.returns-in_err-end-clause-one_byte
-returns-in_err-end-clause-one_byte g c = λ b e new. inr (c.in_err-end.ensures.refused.one_byte b e new)
+pub returns-in_err-end-clause-puts : goal.returns-in_err-end-clause-puts
+returns-in_err-end-clause-puts g c =
+    refused_put g.row.SLOTS (fields c.args.table.now) (fields c.walk_in.new.table) c.args.key.now c.args.value c.from_residual.result c.in_err-end.field-0.0 c.from_residual.ensures.1 c.in_err-end.ensures.refused
 
 pub number_of-held-requires : goal.number_of-held-requires
 number_of-held-requires g c =
@@ -49,26 +51,8 @@ refused g c =
     (record { table = t.sound; tree = t.tree; root_check = t.root_check; frame = t.frame; marks = t.marks })
     (λ own. (e.owned own).0) (λ v own. (e.own v own).0) (λ leaf. elim (e.leaf leaf) [ inl never ↦ absurd never.0 | inr full ↦ full ])
 
-pub returns-in-Err-clause-well_formed : goal.returns-in-Err-clause-well_formed
-returns-in-Err-clause-well_formed g c = (refused g c).well_formed
-
-pub returns-in-Err-clause-taken_back : goal.returns-in-Err-clause-taken_back
-returns-in-Err-clause-taken_back g c = (refused g c).tree
-
-pub returns-in-Err-clause-refused : goal.returns-in-Err-clause-refused
-returns-in-Err-clause-refused g c = (refused g c).refused
-
-pub returns-in-Err-clause-blocks : goal.returns-in-Err-clause-blocks
-returns-in-Err-clause-blocks g c =
-    let made = (refused g c).blocks in
-    let few = made.1 in
-    (made.0, omega (arith, few), few, made.3)
-
-pub returns-in-Err-clause-over : goal.returns-in-Err-clause-over
-returns-in-Err-clause-over g c = λ h. absurd ((refused g c).over h)
-
-pub returns-in-Err-clause-one_byte : goal.returns-in-Err-clause-one_byte
-returns-in-Err-clause-one_byte g c = λ b e new. inr ((refused g c).one_byte b e new)
+pub returns-in-Err-clause-puts : goal.returns-in-Err-clause-puts
+returns-in-Err-clause-puts g c = refused_put g.row.SLOTS (fields c.args.table.now) (fields c.trim.new.table) c.args.key.now c.args.value (Err c.in-Err.error) c.in-Err.error refl (refused g c)
 
 pub overflow_add-entries : goal.overflow_add-entries
 overflow_add-entries g c =
@@ -92,20 +76,12 @@ put_new g c =
     (record { table = e.sound; set = λ f w h at. subst (λ v. HoldsTree (size_of new) (cells_in new) (edit_at w (λ _. Some v) (λ u. u) f)) same (e.set f w h at); blocks = e.step.growth.blocks; owned = λ own. (e.owned own).1; own = λ v own. (e.own v own).1; leaf = λ is. elim (e.leaf is) [ inl none ↦ inl none.1 | inr full ↦ inr full ]; root_check = e.step.growth.root_check; settings = e.step.growth.settings })
     (ap (λ n. n + 1) c.entries.ensures ∙ one_more _ _ _ (sym (ap is_some had) ∙ c.is_none-is_new.ensures) c.if-is_new.true))
 
-pub returns-then-is_new-clause-well_formed : goal.returns-then-is_new-clause-well_formed
-returns-then-is_new-clause-well_formed g c = (put_new g c).well_formed
-
-pub returns-then-is_new-clause-put : goal.returns-then-is_new-clause-put
-returns-then-is_new-clause-put g c = (put_new g c).tree
-
-pub returns-then-is_new-clause-blocks : goal.returns-then-is_new-clause-blocks
-returns-then-is_new-clause-blocks g c = let made = (put_new g c).blocks in (made.0, made.1, tt, made.2)
-
-pub returns-then-is_new-clause-over : goal.returns-then-is_new-clause-over
-returns-then-is_new-clause-over g c = λ h. (tt, (put_new g c).over h)
-
-pub returns-then-is_new-clause-one_byte : goal.returns-then-is_new-clause-one_byte
-returns-then-is_new-clause-one_byte g c = λ b e new. elim ((put_new g c).one_byte b e new) [ inl none ↦ inl (tt, none) | inr full ↦ inr full ]
+pub returns-then-is_new-clause-puts : goal.returns-then-is_new-clause-puts
+returns-then-is_new-clause-puts g c =
+    done_put g.row.SLOTS (fields c.args.table.now) (fields c.set_entries.new.self) c.args.key.now c.args.value c.number_of-held.result
+    (number_before g.row.SLOTS (fields c.args.table.now) (fields c.walk_in.new.table) c.args.key.now c.in_ok-end.end c.requires.well_formed c.requires.key c.in_ok-end.ensures.walked c.number_of-held.result
+    (λ f w h at. c.number_of-held.ensures _ (at_node _ _ f w c.in_ok-end.end h at)))
+    (put_new g c)
 
 -- the number is put over another
 put_over : (g : _) (c : goal.Else-is_new g) → IsPut g.row.SLOTS (fields c.args.table.now) (fields c.put_number.new.table) c.args.key.now c.args.value
@@ -122,20 +98,12 @@ put_over g c =
     (record { table = e.sound; set = λ f w h at. subst (λ v. HoldsTree (size_of new) (cells_in new) (edit_at w (λ _. Some v) (λ u. u) f)) same (e.set f w h at); blocks = e.step.growth.blocks; owned = λ own. (e.owned own).1; own = λ v own. (e.own v own).1; leaf = λ is. elim (e.leaf is) [ inl none ↦ inl none.1 | inr full ↦ inr full ]; root_check = e.step.growth.root_check; settings = e.step.growth.settings })
     (no_more _ _ _ (sym (ap is_some had) ∙ c.is_none-is_new.ensures) c.if-is_new.false)
 
-pub returns-else-is_new-clause-well_formed : goal.returns-else-is_new-clause-well_formed
-returns-else-is_new-clause-well_formed g c = (put_over g c).well_formed
-
-pub returns-else-is_new-clause-put : goal.returns-else-is_new-clause-put
-returns-else-is_new-clause-put g c = (put_over g c).tree
-
-pub returns-else-is_new-clause-blocks : goal.returns-else-is_new-clause-blocks
-returns-else-is_new-clause-blocks g c = let made = (put_over g c).blocks in (made.0, made.1, tt, made.2)
-
-pub returns-else-is_new-clause-over : goal.returns-else-is_new-clause-over
-returns-else-is_new-clause-over g c = λ h. (tt, (put_over g c).over h)
-
-pub returns-else-is_new-clause-one_byte : goal.returns-else-is_new-clause-one_byte
-returns-else-is_new-clause-one_byte g c = λ b e new. elim ((put_over g c).one_byte b e new) [ inl none ↦ inl (tt, none) | inr full ↦ inr full ]
+pub returns-else-is_new-clause-puts : goal.returns-else-is_new-clause-puts
+returns-else-is_new-clause-puts g c =
+    done_put g.row.SLOTS (fields c.args.table.now) (fields c.put_number.new.table) c.args.key.now c.args.value c.number_of-held.result
+    (number_before g.row.SLOTS (fields c.args.table.now) (fields c.walk_in.new.table) c.args.key.now c.in_ok-end.end c.requires.well_formed c.requires.key c.in_ok-end.ensures.walked c.number_of-held.result
+    (λ f w h at. c.number_of-held.ensures _ (at_node _ _ f w c.in_ok-end.end h at)))
+    (put_over g c)
 
 pub returns-in_err-end-clause-lacking : goal.returns-in_err-end-clause-lacking
 returns-in_err-end-clause-lacking g c = λ reduced lacks.
@@ -174,13 +142,3 @@ returns-else-is_new-clause-marks g c = put_keeps g.row.SLOTS (fields c.args.tabl
 
 pub returns-else-is_new-clause-new_mark : goal.returns-else-is_new-clause-new_mark
 returns-else-is_new-clause-new_mark g c = new_mark g.row.SLOTS (fields c.args.table.now) (fields c.walk_in.new.table) (fields c.put_number.new.table) c.args.key.now c.in_ok-end.end c.requires.well_formed c.requires.key c.in_ok-end.ensures.walked refl (λ o. c.in_default.ensures.marks o) (λ r z. c.in_default.ensures.marks_own r z)
-
-pub returns-then-is_new-clause-held : goal.returns-then-is_new-clause-held
-returns-then-is_new-clause-held g c =
-    number_before g.row.SLOTS (fields c.args.table.now) (fields c.walk_in.new.table) c.args.key.now c.in_ok-end.end c.requires.well_formed c.requires.key c.in_ok-end.ensures.walked c.number_of-held.result
-    (λ f w h at. c.number_of-held.ensures _ (at_node _ _ f w c.in_ok-end.end h at))
-
-pub returns-else-is_new-clause-held : goal.returns-else-is_new-clause-held
-returns-else-is_new-clause-held g c =
-    number_before g.row.SLOTS (fields c.args.table.now) (fields c.walk_in.new.table) c.args.key.now c.in_ok-end.end c.requires.well_formed c.requires.key c.in_ok-end.ensures.walked c.number_of-held.result
-    (λ f w h at. c.number_of-held.ensures _ (at_node _ _ f w c.in_ok-end.end h at))

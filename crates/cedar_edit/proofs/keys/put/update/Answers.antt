@@ -5,6 +5,7 @@ use Rattle.cedar_tree.specs.Tree.{has_label, number_at, put, Tree}
 use Rattle.cedar_tree.specs.Queries.{node_at}
 use Rattle.cedar_model.specs.Table.Cells.{NoPlace}
 use Rattle.cedar_model.specs.Meaning.Marks.{KeepsMarks, mark, MovesOut}
+use Rattle.cedar_model.specs.Edit.KeyWalk.{TakenBack}
 use Rattle.cedar_model.specs.Edit.Steps.{MakesBlocks, root_of}
 use Rattle.cedar_table.specs.Table.Views.{fields}
 use Rattle.cedar_model.specs.Table.TableFields.{Fields, size_of}
@@ -19,17 +20,26 @@ use Rattle.cedar_model.proofs.UpdateLemmas.Ending.{refuses_on}
 use Rattle.cedar_model.proofs.UpdateLemmas.BlocksMade.{made_framed}
 use Rattle.cedar_model.proofs.UpdateLemmas.WayAndPut.{all_made, each_moved, fewer_made, some_or_none}
 use Rattle.cedar_model.proofs.UpdateLemmas.AlongKey.{key_some}
+use Rattle.cedar_edit.proofs.PutLemmas.{refused_put, two_bytes}
 use Rattle.cedar_edit.proofs.keys.put.update.Goals as goal
 
-pub returns-in_err-moved-clause-blocks : goal.returns-in_err-moved-clause-blocks
-returns-in_err-moved-clause-blocks g c =
+pub returns-in_err-moved-clause-puts : goal.returns-in_err-moved-clause-puts
+returns-in_err-moved-clause-puts g c =
+    let e = c.in_err-moved.ensures in
     let some = key_some c.args.key.now c.requires.key in
-    let made = c.in_err-moved.ensures.blocks in
+    let made = e.blocks in
     let few : made.0 < 1 = made.2 in
-    (made.0, omega (arith, few, some), on_refusal c.from_residual.result _ (omega (arith, few, some)), made.3)
-
-pub returns-in_err-moved-clause-one_byte : goal.returns-in_err-moved-clause-one_byte
-returns-in_err-moved-clause-one_byte g c = λ b is new. absurd (c.in_err-moved.ensures.one_byte (ap length is)).1
+    let back : TakenBack g.row.SLOTS (fields c.args.table.now) (fields c.make_way.new.table) c.args.key.now c.in_err-moved.field-0.0 = record {
+      well_formed = c.make_way.ensures.well_formed;
+      tree = c.make_way.ensures.tree;
+      refused = e.refused;
+      blocks = (made.0, omega (arith, few, some), (λ _ _. let more = two_bytes (length c.args.key.now) some (λ one. (e.one_byte one).1) in omega (arith, few, more)), made.3);
+      marks = e.stays;
+      over = λ held. (e.over held).1;
+      one_byte = λ b only new. absurd (e.one_byte (ap length only)).1;
+      modes = c.make_way.ensures.modes;
+    } in
+    refused_put g.row.SLOTS (fields c.args.table.now) (fields c.make_way.new.table) c.args.key.now c.args.value c.from_residual.result c.in_err-moved.field-0.0 c.from_residual.ensures.1 back
 
 pub put_along-requires : goal.put_along-requires
 put_along-requires g c =
@@ -39,65 +49,65 @@ put_along-requires g c =
 
 pub close_way-requires : goal.close_way-requires
 close_way-requires g c =
-    (search rules, (c.put_along.ensures.well_formed, each_moved c.in_ok-moved.moved _ (λ n is. let k = c.in_ok-moved.ensures.moved n is in (k.0, k.1))))
+    (search rules, (c.put_along.ensures.puts.well_formed, each_moved c.in_ok-moved.moved _ (λ n is. let k = c.in_ok-moved.ensures.moved n is in (k.0, k.1))))
 
-pub returns-in-Err-clause-refused : goal.returns-in-Err-clause-refused
-returns-in-Err-clause-refused g c = refuses_on (fields c.put_along.new.table) (fields c.close_way.new.table) g.row.SLOTS c.in-Err.error c.close_way.ensures.frame c.in-Err.ensures.refused
-
-pub returns-in-Err-clause-blocks : goal.returns-in-Err-clause-blocks
-returns-in-Err-clause-blocks g c =
-    let first = c.make_way.ensures.blocks in
-    let next = c.in-Err.ensures.blocks in
-    let made = fewer_made (fields c.args.table.now) (fields c.make_way.new.table) (fields c.put_along.new.table) (length c.args.key.now) c.in_ok-moved.moved c.in_ok-moved.ensures.none (first.0, first.1, first.3) (next.0, next.2, next.3)
+pub returns-in-Err-clause-puts : goal.returns-in-Err-clause-puts
+returns-in-Err-clause-puts g c =
+    let way = c.make_way.ensures in
+    let none : c.in_ok-moved.moved ≡ None → fields c.make_way.new.table ≡ fields c.args.table.now = c.in_ok-moved.ensures.none in
+    let next = c.in-Err.ensures.puts in
+    let back = c.close_way.ensures in
+    let first = way.blocks in
+    let made = fewer_made (fields c.args.table.now) (fields c.make_way.new.table) (fields c.put_along.new.table) (length c.args.key.now) c.in_ok-moved.moved none (first.0, first.1, first.3) (next.blocks.0, next.blocks.2, next.blocks.3)
     (λ n is. let k = c.in_ok-moved.ensures.moved n is in let rest = c.in-Err.ensures.lacking k.1 k.2 in (rest.0, rest.2, rest.3)) in
     let few = made.1 in
-    (made.0, omega (arith, few), few, made_framed made.0 (fields c.args.table.now) (fields c.put_along.new.table) (fields c.close_way.new.table) made.2 c.close_way.ensures.frame)
+    record {
+      well_formed = back.well_formed;
+      put = tt;
+      held = tt;
+      taken_back = back.tree ∙ next.taken_back ∙ way.tree;
+      refused = refuses_on (fields c.put_along.new.table) (fields c.close_way.new.table) g.row.SLOTS c.in-Err.error back.frame next.refused;
+      blocks = (made.0, omega (arith, few), few, made_framed made.0 (fields c.args.table.now) (fields c.put_along.new.table) (fields c.close_way.new.table) made.2 back.frame);
+      over = λ held. absurd (next.over (ap (λ (t : Tree). is_some (number_at t c.args.key.now)) way.tree ∙ held)).0;
+      one_byte = λ b is new.
+          let same : fields c.make_way.new.table ≡ fields c.args.table.now = none (c.in_ok-moved.ensures.one_byte (ap length is)).0 in
+          elim (next.one_byte b is (ap (λ (t : Tree). has_label t.children b) way.tree ∙ new)) [
+            | inl made ↦ absurd made.0
+            | inr full ↦ inr (full.0, subst (λ (T : Fields). NoPlace (size_of T) (cells_in T)) same full.1)
+          ];
+      modes = record { ordered = back.frame.settings.ordered ∙ next.modes.ordered ∙ way.modes.ordered; max_trial = back.frame.settings.max_trial ∙ next.modes.max_trial ∙ way.modes.max_trial };
+    }
 
-pub returns-in-Err-clause-over : goal.returns-in-Err-clause-over
-returns-in-Err-clause-over g c = λ held. absurd (c.in-Err.ensures.over (ap (λ (t : Tree). is_some (number_at t c.args.key.now)) c.make_way.ensures.tree ∙ held)).0
-
-pub returns-in-Err-clause-one_byte : goal.returns-in-Err-clause-one_byte
-returns-in-Err-clause-one_byte g c = λ b is new.
-    let none_moved : c.in_ok-moved.moved ≡ None = (c.in_ok-moved.ensures.one_byte (ap length is)).0 in
-    let same : fields c.make_way.new.table ≡ fields c.args.table.now = c.in_ok-moved.ensures.none none_moved in
-    elim (c.in-Err.ensures.one_byte b is (ap (λ (t : Tree). has_label t.children b) c.make_way.ensures.tree ∙ new)) [
-      | inl made ↦ absurd made.0
-      | inr full ↦ inr (full.0, subst (λ (T : Fields). NoPlace (size_of T) (cells_in T)) same full.1)
-    ]
-
-pub returns-in-Ok-clause-put : goal.returns-in-Ok-clause-put
-returns-in-Ok-clause-put g c =
+pub returns-in-Ok-clause-puts : goal.returns-in-Ok-clause-puts
+returns-in-Ok-clause-puts g c =
     let fits : FitsSigned w32 c.args.value = search rules in
-    let same : to_z w32 (of_z w32 c.args.value) ≡ c.args.value = to_z-of_z w32 c.args.value fits in
-    c.in-Ok.ensures.put ∙ ap (λ v. put (tree_of (fields c.make_way.new.table)) (fields c.make_way.new.table).ordered c.args.key.now v) same
-    ∙ ap (λ (t : Tree). put t (fields c.make_way.new.table).ordered c.args.key.now c.args.value) c.make_way.ensures.tree
-    ∙ ap (λ o. put (tree_of (fields c.args.table.now)) o c.args.key.now c.args.value) c.make_way.ensures.modes.ordered
-
-pub returns-in-Ok-clause-held : goal.returns-in-Ok-clause-held
-returns-in-Ok-clause-held g c = c.in-Ok.ensures.held ∙ ap (λ (t : Tree). number_at t c.args.key.now) c.make_way.ensures.tree
-
-pub returns-in-Ok-clause-blocks : goal.returns-in-Ok-clause-blocks
-returns-in-Ok-clause-blocks g c =
-    let first = c.make_way.ensures.blocks in
-    let next = c.in-Ok.ensures.blocks in
-    let made = all_made (fields c.args.table.now) (fields c.make_way.new.table) (fields c.put_along.new.table) (length c.args.key.now) c.in_ok-moved.moved c.in_ok-moved.ensures.none (first.0, first.1, first.3) (next.0, next.1, next.3)
+    let same_value : to_z w32 (of_z w32 c.args.value) ≡ c.args.value = to_z-of_z w32 c.args.value fits in
+    let way = c.make_way.ensures in
+    let none : c.in_ok-moved.moved ≡ None → fields c.make_way.new.table ≡ fields c.args.table.now = c.in_ok-moved.ensures.none in
+    let next = c.in-Ok.ensures.puts in
+    let first = way.blocks in
+    let made = all_made (fields c.args.table.now) (fields c.make_way.new.table) (fields c.put_along.new.table) (length c.args.key.now) c.in_ok-moved.moved none (first.0, first.1, first.3) (next.blocks.0, next.blocks.1, next.blocks.3)
     (λ n is. let k = c.in_ok-moved.ensures.moved n is in let rest = c.in-Ok.ensures.lacking k.1 k.2 in (rest.0, rest.1, rest.3)) in
-    (made.0, made.1, tt, made.2)
-
-pub returns-in-Ok-clause-over : goal.returns-in-Ok-clause-over
-returns-in-Ok-clause-over g c = λ held.
-    let none_moved : c.in_ok-moved.moved ≡ None = (c.in_ok-moved.ensures.over held).0 in
-    let same : fields c.make_way.new.table ≡ fields c.args.table.now = c.in_ok-moved.ensures.none none_moved in
-    (tt, subst (λ (T : Fields). MakesBlocks 0 T (fields c.put_along.new.table)) same (c.in-Ok.ensures.over (ap (λ (t : Tree). is_some (number_at t c.args.key.now)) c.make_way.ensures.tree ∙ held)).1)
-
-pub returns-in-Ok-clause-one_byte : goal.returns-in-Ok-clause-one_byte
-returns-in-Ok-clause-one_byte g c = λ b is new.
-    let none_moved : c.in_ok-moved.moved ≡ None = (c.in_ok-moved.ensures.one_byte (ap length is)).0 in
-    let same : fields c.make_way.new.table ≡ fields c.args.table.now = c.in_ok-moved.ensures.none none_moved in
-    elim (c.in-Ok.ensures.one_byte b is (ap (λ (t : Tree). has_label t.children b) c.make_way.ensures.tree ∙ new)) [
-      | inl made ↦ inl (tt, subst (λ (T : Fields). MakesBlocks 0 T (fields c.put_along.new.table)) same made.1)
-      | inr full ↦ inr (full.0, subst (λ (T : Fields). NoPlace (size_of T) (cells_in T)) same full.1)
-    ]
+    record {
+      well_formed = next.well_formed;
+      put = next.put ∙ ap (λ v. put (tree_of (fields c.make_way.new.table)) (fields c.make_way.new.table).ordered c.args.key.now v) same_value
+          ∙ ap (λ (t : Tree). put t (fields c.make_way.new.table).ordered c.args.key.now c.args.value) way.tree
+          ∙ ap (λ o. put (tree_of (fields c.args.table.now)) o c.args.key.now c.args.value) way.modes.ordered;
+      held = next.held ∙ ap (λ (t : Tree). number_at t c.args.key.now) way.tree;
+      taken_back = tt;
+      refused = tt;
+      blocks = (made.0, made.1, tt, made.2);
+      over = λ held.
+          let same : fields c.make_way.new.table ≡ fields c.args.table.now = none (c.in_ok-moved.ensures.over held).0 in
+          (tt, subst (λ (T : Fields). MakesBlocks 0 T (fields c.put_along.new.table)) same (next.over (ap (λ (t : Tree). is_some (number_at t c.args.key.now)) way.tree ∙ held)).1);
+      one_byte = λ b is new.
+          let same : fields c.make_way.new.table ≡ fields c.args.table.now = none (c.in_ok-moved.ensures.one_byte (ap length is)).0 in
+          elim (next.one_byte b is (ap (λ (t : Tree). has_label t.children b) way.tree ∙ new)) [
+            | inl made ↦ inl (tt, subst (λ (T : Fields). MakesBlocks 0 T (fields c.put_along.new.table)) same made.1)
+            | inr full ↦ inr (full.0, subst (λ (T : Fields). NoPlace (size_of T) (cells_in T)) same full.1)
+          ];
+      modes = record { ordered = next.modes.ordered ∙ way.modes.ordered; max_trial = next.modes.max_trial ∙ way.modes.max_trial };
+    }
 
 pub returns-in_err-moved-clause-marks : goal.returns-in_err-moved-clause-marks
 returns-in_err-moved-clause-marks g c = on_refusal c.from_residual.result _ c.in_err-moved.ensures.stays
@@ -108,7 +118,7 @@ returns-in-Err-clause-marks g c =
     let mid = fields c.make_way.new.table in
     let after = fields c.put_along.new.table in
     let last = fields c.close_way.new.table in
-    let well = c.put_along.ensures.well_formed in
+    let well = c.put_along.ensures.puts.well_formed in
     elim (some_or_none c.in_ok-moved.moved) [
       | inl none_moved ↦
           let same : mid ≡ T = c.in_ok-moved.ensures.none none_moved in
@@ -117,7 +127,7 @@ returns-in-Err-clause-marks g c =
       | inr some ↦
           let u = take some.0 c.args.key.now in
           let k = c.in_ok-moved.ensures.moves some.0 some.1 in
-          let tree : tree_of after ≡ tree_of T = c.in-Err.ensures.taken_back ∙ c.make_way.ensures.tree in
+          let tree : tree_of after ≡ tree_of T = c.in-Err.ensures.puts.taken_back ∙ c.make_way.ensures.tree in
           moved_back (cells_in T) (cells_in mid) (cells_in after) (cells_in last) (root_of (tree_of T).children) u c.requires.well_formed.stands.root well.stands.root k c.in-Err.ensures.marks
           (λ s at is. c.close_way.ensures.here some.0 some.1 s at is
           (childless_first (size_of after) (cells_in after) (tree_of after).children u s well.stands at (λ z. root_unmarked (size_of after) (cells_in after) (tree_of after).children true well.stands (ap (mark (cells_in after)) (sym z) ∙ is))
@@ -138,8 +148,8 @@ returns-in-Ok-clause-new_marks g c =
 
 pub returns-in-Ok-clause-marks_put : goal.returns-in-Ok-clause-marks_put
 returns-in-Ok-clause-marks_put g c = λ reduced.
-    marks_put g.row.SLOTS (fields c.args.table.now) (fields c.put_along.new.table) c.args.key.now c.args.value c.requires.well_formed c.in-Ok.ensures.well_formed (key_some c.args.key.now c.requires.key) reduced
-    (returns-in-Ok-clause-put g c) (returns-in-Ok-clause-new_marks g c)
+    marks_put g.row.SLOTS (fields c.args.table.now) (fields c.put_along.new.table) c.args.key.now c.args.value c.requires.well_formed c.in-Ok.ensures.puts.well_formed (key_some c.args.key.now c.requires.key) reduced
+    (returns-in-Ok-clause-puts g c).put (returns-in-Ok-clause-new_marks g c)
 
 pub returns-in_err-moved-clause-marks_stay : goal.returns-in_err-moved-clause-marks_stay
 returns-in_err-moved-clause-marks_stay g c =
@@ -148,4 +158,4 @@ returns-in_err-moved-clause-marks_stay g c =
 pub returns-in-Err-clause-marks_stay : goal.returns-in-Err-clause-marks_stay
 returns-in-Err-clause-marks_stay g c =
     marks_stay g.row.SLOTS (fields c.args.table.now) (fields c.close_way.new.table) c.requires.well_formed c.close_way.ensures.well_formed
-    (c.close_way.ensures.tree ∙ c.in-Err.ensures.taken_back ∙ c.make_way.ensures.tree) (returns-in-Err-clause-marks g c)
+    (c.close_way.ensures.tree ∙ c.in-Err.ensures.puts.taken_back ∙ c.make_way.ensures.tree) (returns-in-Err-clause-marks g c)

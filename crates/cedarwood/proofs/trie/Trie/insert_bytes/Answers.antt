@@ -61,7 +61,7 @@ returns-clause-updated g c =
     let r = c.update.result in
     let key = c.args.key.now in
     let slots = g.row.SLOTS in
-    let u = c.update.ensures in
+    let u = c.update.ensures.puts in
     let made = u.blocks in
     let v : ℤ = to_z w32 (of_z w32 c.args.value) in
     let fits : FitsSigned w32 c.args.value = search rules in
@@ -73,9 +73,9 @@ returns-clause-updated g c =
       ok = on_ok_out _ r (stored_is slots old new d is r key c.args.value v same u.modes u.put);
       err = on_err_out _ r (state_stays slots old new d is r key u.modes u.taken_back);
       by_default = on_ok_out _ r (always_on_ok r (all_marked slots new u.well_formed));
-      marks = on_ok_out _ r (marks_follow slots old new d is r key _ u.marks_put);
+      marks = on_ok_out _ r (marks_follow slots old new d is r key _ c.update.ensures.marks_put);
       marked = on_ok_out _ r (always_on_ok r (is_marked slots new u.well_formed));
-      marks_stay = on_err_out _ r (marks_remain slots old new d is r key u.marks_stay);
+      marks_stay = on_err_out _ r (marks_remain slots old new d is r key c.update.ensures.marks_stay);
       refused = λ _. if_err_out _ r (is_refused slots old new d is r key u.over);
       memory = λ was. let why = why_refused _ r Memory u.refused (memory_out r was) in (omega (arith, why), omega (arith, why));
       limit = λ was. let why = why_refused _ r SlotLimit u.refused (limit_out r was) in omega (arith, why);
@@ -83,15 +83,15 @@ returns-clause-updated g c =
       spare = λ room _. is_ok_out r (is_spare slots old new d is r key made.0 u.well_formed.table.within u.refused made.2 made.3 room);
       over = over_held slots old new d is r key u.over;
       one_byte = λ b first absent _. is_ok_or_out _ _ r (at_one_byte slots old new d is r key c.self.invariant b (u.one_byte b first) absent);
-      max_trial = search rules;
+      max_trial = search (rules, u.modes.max_trial);
     })
 
 pub returns-clause-held : goal.returns-clause-held
 returns-clause-held g c =
     answer_handed_on (λ held. held ≡ number_at c.args.self.now.state.tree c.args.key.now) c.update.result c.map_err.result c.map_err.ensures.cases
-    (subst (λ (d : Dictionary). IfOk c.update.result (λ held. held ≡ number_at d.state.tree c.args.key.now)) c.self.view_is c.update.ensures.held)
+    (subst (λ (d : Dictionary). IfOk c.update.result (λ held. held ≡ number_at d.state.tree c.args.key.now)) c.self.view_is c.update.ensures.puts.held)
 
 pub returns-clause-in_range : goal.returns-clause-in_range
 returns-clause-in_range g c =
     answer_handed_on (λ held. IfSome held (λ v. value_fault v ≡ None)) c.update.result c.map_err.result c.map_err.ensures.cases
-    (answer_has (λ held. IfSome held (λ v. value_fault v ≡ None)) _ c.update.result c.update.ensures.held (held_in_range g.row.SLOTS (fields c.self.inside.table) c.args.key.now c.self.invariant))
+    (answer_has (λ held. IfSome held (λ v. value_fault v ≡ None)) _ c.update.result c.update.ensures.puts.held (held_in_range g.row.SLOTS (fields c.self.inside.table) c.args.key.now c.self.invariant))

@@ -3,15 +3,16 @@ use Rattle.std.proofs.lemmas.Int.{to_z-of_z}
 use Rattle.std.proofs.lemmas.Result.{err_from_is_err_and}
 use Rattle.cedar_tree.specs.Queries.{Entry}
 use Rattle.cedarwood.specs.Builds.{first_fault}
-use Rattle.cedarwood.proofs.BuildLemmas.{fine_has_fault, fine_is_no_fault, none_left, refused_here, stored_more, update_at}
+use Rattle.cedarwood.proofs.BuildLemmas.{fine_has_fault, none_left, refused_here, stored_more, update_at}
 use Rattle.cedarwood.proofs.FaultLemmas.{no_fault}
+use Rattle.cedarwood.proofs.SortedInputLemmas.{faultless}
 use Rattle.cedarwood.proofs.trie.Trie.store_all.Goals as goal
 
 pub returns-in_err-update_bytes-clause-faulty : goal.returns-in_err-update_bytes-clause-faulty
 returns-in_err-update_bytes-clause-faulty g c =
     let f : g.row.K.Denot × ℤ → Entry = λ p. (g.K.AsSlice.items p.0, p.1) in
     let fine : first_fault (map f c.args.pairs.now) ≡ None = no_fault (first_fault (map f c.args.pairs.now)) c.check_pairs.result tt c.check_pairs.ensures.faulty c.in_ok-check_pairs.was in
-    fine_is_no_fault (first_fault (map f c.args.pairs.now)) c.from_residual-in_err-update_bytes.result fine
+    faultless (first_fault (map f c.args.pairs.now)) c.from_residual-in_err-update_bytes.result fine
 
 pub returns-in_err-update_bytes-clause-unchanged : goal.returns-in_err-update_bytes-clause-unchanged
 returns-in_err-update_bytes-clause-unchanged g c =
