@@ -10,6 +10,10 @@ use std::convert::AsSlice;
 /// How many keys are looked up in step before they are changed.
 pub(crate) const LANES: usize = 16;
 
+/// The most slots of a table whose keys are changed without a look-up in step before that: at ten bytes a slot such a table takes about as
+/// much memory as the caches of a processor's core hold, and the look-up would cost more than the waits that it saves.
+pub const CACHED_SLOTS: usize = 131072;
+
 /// Which pair of a batch was refused, and why. Those before it are stored.
 //= `==` of two refusals is their equality. [by PartialEq]
 #[derive(Clone, Debug, Drop, PartialEq, Eq)]
@@ -23,8 +27,8 @@ pub struct RefusedPair {
 impl<L: Layout, const SLOTS: usize, A: Allocator + Copy> Trie<L, SLOTS, A> {
     /// Stores some pairs as [`Trie::update_bytes`] does one after another: the last value of a key counts.
     ///
-    /// A few keys are looked up in step before they are stored, so that their waits for memory can overlap if the table is large and the
-    /// keys come in no order.
+    /// If the table has more than [`CACHED_SLOTS`](crate::CACHED_SLOTS) slots, a few keys are looked up in step before they are stored, so
+    /// that their waits for memory can overlap if the keys come in no order.
     ///
     /// ```
     /// let pairs: [(&[u8], i32); 2] = [(b"ten", 2), (b"net", 7)];
@@ -58,8 +62,11 @@ impl<L: Layout, const SLOTS: usize, A: Allocator + Copy> Trie<L, SLOTS, A> {
         Ok(())
     }
 
-    /// Looks up the keys of the first pairs in step, which brings to the processor what their updates read.
+    /// Looks up the keys of the first pairs in step, which brings to the processor what their updates read, unless the table is small.
     pub(crate) fn pass_in_step<K: AsSlice<u8>>(&self, pairs: &[(K, i32)]) {
+        if self.node_capacity() <= CACHED_SLOTS {
+            return;
+        }
         let count = pairs.len().min(LANES);
         let mut keys: [&[u8]; LANES] = [&[]; LANES];
         for lane in 0..count {
@@ -71,8 +78,8 @@ impl<L: Layout, const SLOTS: usize, A: Allocator + Copy> Trie<L, SLOTS, A> {
     /// Removes some keys as [`Trie::erase_bytes`] does one after another: `answers[i]` becomes whether `keys[i]` was held then, for as many
     /// keys as there are places. Keys without a place stay, and so do places after the last key. It allocates nothing.
     ///
-    /// A few keys are looked up in step before they are removed, so that their waits for memory can overlap if the table is large and the
-    /// keys come in no order.
+    /// If the table has more than [`CACHED_SLOTS`](crate::CACHED_SLOTS) slots, a few keys are looked up in step before they are removed, so
+    /// that their waits for memory can overlap if the keys come in no order.
     ///
     /// ```
     /// cedar.update_bytes(b"net", 7)?;
@@ -95,8 +102,10 @@ impl<L: Layout, const SLOTS: usize, A: Allocator + Copy> Trie<L, SLOTS, A> {
         ensures max_trial { self.new.max_trial ≡ self.old.max_trial }
     {
         let count = keys.len().min(answers.len());
+        // Nothing that an erasure does makes slots.
+        let is_large = self.node_capacity() > CACHED_SLOTS;
         for index in 0..count {
-            if index % LANES == 0 {
+            if is_large && index % LANES == 0 {
                 self.exact_match_search_batch(&keys[index..count], &mut [None; LANES]);
             }
             answers[index] = self.erase_bytes(keys[index]);

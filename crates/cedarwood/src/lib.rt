@@ -38,7 +38,7 @@ mod texts;
 mod trie;
 mod unsorted;
 
-pub use batches::RefusedPair;
+pub use batches::{CACHED_SLOTS, RefusedPair};
 pub use builder::CedarBuilder;
 pub use cedar_format::{
     CedarPersistenceError, Source, Watched, one_table_for_its_bytes, well_formed_tables_pass,
