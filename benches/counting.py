@@ -29,10 +29,10 @@ def costs(path):
 
 
 def count_measures(subject, folder, names, out):
-    """For each measure of a subject the instructions and misses of an operation. Only calls of `measured` are counted, and a profile is
-    written at each call of `measure_ends`, in the order of the lines."""
+    """The lines of a subject, and for each measure the instructions and misses of an operation. Only functions whose names have `measured` in
+    them are counted, and a profile is written at each call of the one whose name ends in `measure_ends`, in the order of the lines."""
     profile = profile_of(out, subject, folder.name)
-    calls = ["--toggle-collect=*measured*", "--dump-before=measure_ends", f"--callgrind-out-file={profile}"]
+    calls = ["--toggle-collect=*measured*", "--dump-before=*measure_ends", f"--callgrind-out-file={profile}"]
     before = ["valgrind", "-q", "--tool=callgrind", *CACHES, "--dump-line=no", *calls]
     lines = [line for line in measure(subject, folder, 1, names, before) if line.measure not in ("file", "resident")]
     counted = {}
@@ -41,7 +41,7 @@ def count_measures(subject, folder, names, out):
         if instructions == 0:
             raise Wrong(f"callgrind counted nothing for {line.measure} of {subject.name}")
         counted[line.measure] = (instructions / line.operations, misses / line.operations)
-    return counted
+    return lines, counted
 
 
 def count_script(subject, script, out):

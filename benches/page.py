@@ -3,26 +3,30 @@
 the pictures in docs/pictures, of the rows in benches/results. With --check it writes nothing, and fails where they aren't what the rows
 give, or where rows don't belong together."""
 
+import re
 import sys
 from pathlib import Path
 
 import pictures
 import rows
-from measures import DICTIONARY, LATENCIES, SCRIPTS, SIZES, THREADS
-from tables import SUBJECTS, Table, number
+from measures import DICTIONARY, LATENCIES, MOST_IN_ROUNDS, SCRIPTS, SIZES, THREADS, WORKLOADS, sizes_of_growth
+from tables import Table, number
 
 TOP = Path(__file__).resolve().parent.parent
 PAGE = TOP / "docs" / "MEASUREMENTS.md"
 PICTURES = TOP / "docs" / "pictures"
 BEGIN, END = "<!-- made by benches/page.py of benches/results: begin -->", "<!-- made by benches/page.py of benches/results: end -->"
-WORKLOADS = ("words", "random", "long")
 
 PYTHON = """Nanoseconds of the processor a step, its loop in Python included, by the median of the rounds; behind it how many times as long as
 `roskvidh`. Memory is by how much a process grows that makes the dictionary."""
 
-# The table of README.md: its head, the measures of its rows, and the subjects of its columns.
+# The workload that the tables of README.md and docs/PERFORMANCE.md are of.
+COUNTED = "words_small"
+# The table of README.md: its head, the measures of its rows, the subjects of its columns behind the first, and the sentence above it, which
+# says how the first one is called.
 README_HEAD = "| | here | cedarwood 0.6.1 | Judy | hash map |"
-README_COLUMNS = ("here", "cedarwood", "judy", "unordered_map")
+README_COLUMNS = ("cedarwood", "judy", "unordered_map")
+README_CALLED = re.compile(r"Called from (Rattle|C), with")
 README_ROWS = {
     "look up a held key, in no order": "hit",
     "look up an absent key": "miss",
@@ -34,10 +38,11 @@ README_ROWS = {
     "load a file": "load",
 }
 # The table of docs/PERFORMANCE.md, of which each row may name a measure.
-COSTS_HEAD = "| call | instructions | misses | grows with |"
+COSTS_HEAD = "| call | from Rattle | misses | from C | misses | grows with |"
 COSTS_ROWS = {
     "exact look-up of a held key, in no order": "hit",
     "exact look-up of an absent key": "miss",
+    "`exact_match_search_batch`, each held key": "hit_batch",
     "`update` of a new key, sorted order": "update_sorted",
     "`update` of a new key, in no order": "update_shuffled",
     "`update_batch`, each key in no order": "update_all",
@@ -46,7 +51,8 @@ COSTS_ROWS = {
     "prefix walk, each start of a character in a text": "prefix_walk",
     "`segment`, each byte of the text": "segment",
     "prediction, each result": "prediction",
-    "entries in pages, each key": "entries",
+    "`entries`, each key; from C in pages": "entries",
+    "all entries, each key lent by a cursor": "entries_lent",
     "`from_sorted_bytes`, each key": "sorted_build",
     "`from_pairs_bytes`, each key in no order": "unsorted_build",
     "save in 1.1, each key": "save",
@@ -63,10 +69,6 @@ GROWN = (
 )
 
 
-def sizes_of_growth(given):
-    return sorted({int(row.workload.partition("_")[2]) for row in given if row.workload.startswith("random_")})
-
-
 def growth_lines(table, given):
     made = []
     for measure, what in GROWN:
@@ -77,7 +79,8 @@ def growth_lines(table, given):
     if not made:
         return []
     sizes = sizes_of_growth(given)
-    return [f"| figure | subject | {' | '.join(f'{size:,} keys' for size in sizes)} |", "|---" * (len(sizes) + 2) + "|", *made, ""]
+    once = [f"More than {MOST_IN_ROUNDS:,} keys were measured in one round.", ""] if sizes[-1] > MOST_IN_ROUNDS else []
+    return [*once, f"| figure | subject | {' | '.join(f'{size:,} keys' for size in sizes)} |", "|---" * (len(sizes) + 2) + "|", *made, ""]
 
 
 def wrapped(text, width=140):
@@ -94,17 +97,23 @@ def wrapped(text, width=140):
 
 def introduction(table, notes, given):
     subjects = "; ".join(f"`{name}`: {notes.get(name, '?')}" for name in table.subjects)
-    kind = "" if notes["kind"] == "whole" else ", small workloads of `./bench --quick`"
-    told = f"Commit {given[0].commit}, {notes['date']}, {given[0].machine}{kind}. Subjects: {subjects}."
+    told = f"Commit {given[0].commit}, {notes['date']}, {given[0].machine}. Subjects: {subjects}."
     if table.has_times:
         told += f" Times are of the processor, medians of {notes['rounds']} rounds in turn, with the least and the greatest behind them;"
         told += f" the load average was {notes['load']} at most."
     else:
         told += " It has no times: the machine had other work to do."
     if table.has_counts:
-        told += " Counts are callgrind's, instructions and behind the stroke misses of a last cache of 1 MiB."
+        told += " Counts are callgrind's, of the small workloads: instructions, and behind the stroke misses of a last cache of 1 MiB."
     told += " `-`: it has no such call, or wasn't asked."
     return wrapped(told)
+
+
+def compared_on(table, notes):
+    """On which words the subjects are compared: counts are of the small workload, times of the whole one where that was timed."""
+    counted, timed = (notes.get(first, notes.get(other)) for first, other in (("words_small", "words"), ("words", "words_small")))
+    told = [f"Instructions: {counted}."] if table.has_counts else []
+    return wrapped(" ".join([*told, f"Times: {timed}."] if table.has_times else told))
 
 
 def block():
@@ -114,9 +123,9 @@ def block():
         return ["", "Nothing has been stored yet: `./bench --store` stores what it measures.", ""]
     table = Table(given)
     made = ["", *introduction(table, notes, given), ""]
-    compared = table.times_as_fast("words")
+    compared = table.times_as_fast()
     if compared:
-        made += ["### How many times as fast as the original crate, on the words and scripts", "", *compared]
+        made += ["### How many times as fast as the original crate, on the words and scripts", "", *compared_on(table, notes), "", *compared]
     for workload in WORKLOADS:
         counts = table.lines(workload, DICTIONARY, table.count)
         times = table.lines(workload, (*DICTIONARY, *SIZES, *THREADS, *LATENCIES), table.time)
@@ -124,9 +133,10 @@ def block():
             made += [f"### {notes.get(workload, workload)}", ""]
         made += ["Instructions / misses, an operation:", "", *counts] if counts else []
         made += ["Nanoseconds, of sizes bytes, an operation:", "", *times] if times else []
-    counts, times = table.lines("scripts", SCRIPTS, table.count), table.lines("scripts", SCRIPTS, table.time)
-    if counts or times:
-        made += [f"### Scripts: {notes['scripts']}", "", *counts, *times]
+    for workload in ("scripts", "scripts_small"):
+        counts, times = table.lines(workload, SCRIPTS, table.count), table.lines(workload, SCRIPTS, table.time)
+        if counts or times:
+            made += [f"### Scripts: {notes[workload]}", "", *counts, *times]
     growth = growth_lines(table, given)
     made += ["### Growth, by the number of random keys", "", *growth] if growth else []
     python = table.of_python()
@@ -161,11 +171,17 @@ def refreshed(text, head, rows_of, cells_of):
 
 
 def first_page(text, table):
-    return refreshed(text, README_HEAD, README_ROWS, lambda measure: [table.instructions(measure, "words", name) for name in README_COLUMNS])
+    subject, called = table.called(COUNTED)
+    columns = (subject, *README_COLUMNS)
+    text = README_CALLED.sub(f"Called from {called}, with", text)
+    return refreshed(text, README_HEAD, README_ROWS, lambda measure: [table.instructions(measure, COUNTED, name) for name in columns])
 
 
 def costs_page(text, table):
-    return refreshed(text, COSTS_HEAD, COSTS_ROWS, lambda measure: [table.instructions(measure, "words", "here"), table.misses(measure, "words", "here")])
+    def cells(measure):
+        return [figure(measure, COUNTED, name) for name in ("here", "here_c") for figure in (table.instructions, table.misses)]
+
+    return refreshed(text, COSTS_HEAD, COSTS_ROWS, cells)
 
 
 PAGES = {PAGE: made_page, TOP / "README.md": first_page, TOP / "docs" / "PERFORMANCE.md": costs_page}
@@ -194,7 +210,7 @@ def check():
 def show(given):
     """Prints what was found, workload by workload."""
     table = Table(given)
-    for workload in (*WORKLOADS, "scripts"):
+    for workload in (*WORKLOADS, "scripts", "scripts_small"):
         for row in given:
             if row.workload == workload and row.unit != "misses":
                 told = (cell(row.measure, workload, row.subject) for cell in (table.time, table.count))

@@ -4,16 +4,19 @@ times where there are any, and bars of instructions where there are none."""
 import math
 from html import escape
 
-from measures import DICTIONARY, LATENCIES, TITLES, unit_of
+from measures import DICTIONARY, LATENCIES, TITLES, WORKLOADS, sizes_of_growth, unit_of
 
-COLOURS = {"here": "#1b6ca8", "cedarwood": "#d1742c", "judy": "#4f9d4f", "libdatrie": "#8a5fb0", "marisa": "#b8495a", "map": "#7d7d7d", "unordered_map": "#b09a2e"}
+COLOURS = {
+    **{"here": "#1b6ca8", "here_c": "#7fb2d9", "cedarwood": "#d1742c", "judy": "#4f9d4f"},
+    **{"libdatrie": "#8a5fb0", "marisa": "#b8495a", "map": "#7d7d7d", "unordered_map": "#b09a2e"},
+}
 FONT = 'font-family="sans-serif" font-size="12"'
 
 
 def drawn(given):
     """Each picture's file name with its text."""
     made = {}
-    for workload in ("words", "random", "long"):
+    for workload in WORKLOADS:
         text = bars(given, workload)
         if text:
             made[f"bench_bars_{workload}.svg"] = text
@@ -104,7 +107,7 @@ def curves(title, below, lines, ticks):
 
 
 def growth(given, measure):
-    sizes = sorted({int(row.workload.partition("_")[2]) for row in given if row.workload.startswith("random_") and row.measure == measure})
+    sizes = sizes_of_growth(row for row in given if row.measure == measure)
     if len(sizes) < 2:
         return None
     first, last = math.log10(sizes[0]), math.log10(sizes[-1])

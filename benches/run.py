@@ -7,7 +7,8 @@ import statistics
 import subprocess
 import sys
 import time
-from concurrent.futures import ThreadPoolExecutor
+from concurrent.futures import ThreadPoolExecutor, as_completed
+from dataclasses import dataclass
 from pathlib import Path
 
 import counting
@@ -16,7 +17,7 @@ import rows
 import subjects
 import timing
 import workloads
-from measures import DICTIONARY, GROWTH, LATENCIES, SCRIPTS, SIZES, unit_of
+from measures import DICTIONARY, GROWTH, LATENCIES, MOST_IN_ROUNDS, SCRIPTS, SIZES, unit_of
 from packages import Packages
 
 TOP = Path(__file__).resolve().parent.parent
@@ -25,28 +26,54 @@ OUT = TOP / "benches" / "out"
 QUIET = 3
 
 
-class Plan:
-    """How much is measured: keys, bytes of text, script lines, rounds."""
+@dataclass
+class Amounts:
+    """How much a set of workloads has: words of a list (all if there is no number) or made ones, other keys, bytes of text, script lines."""
 
-    def __init__(self, is_quick, rounds):
-        self.words = 20_000 if is_quick else None
-        self.made_words = 20_000 if is_quick else 100_000
-        self.random = 20_000 if is_quick else 200_000
-        self.long = 2_000 if is_quick else 20_000
-        self.text = 1 << (17 if is_quick else 20)
-        self.lines = (10_000, 1_000) if is_quick else (250_000, 25_000)
-        self.growth = (1_000, 10_000, 50_000) if is_quick else (10_000, 30_000, 100_000, 300_000, 1_000_000, 10_000_000)
-        self.rounds = rounds or (3 if is_quick else 5)
+    words: int | None
+    made_words: int
+    random: int
+    long: int
+    text: int
+    lines: tuple
+
+
+# By what stands behind the names of workloads.
+AMOUNTS = {
+    "": Amounts(None, 100_000, 200_000, 20_000, 1 << 20, (250_000, 25_000)),
+    "_small": Amounts(20_000, 20_000, 20_000, 2_000, 1 << 17, (10_000, 1_000)),
+}
+KEYS = ("words", "random", "long")
+
+
+class Plan:
+    """What is measured, on which workloads, and in how many rounds. Counts are of the small workloads: callgrind takes more than a hundred
+    times as long as what it runs."""
+
+    def __init__(self, told):
+        self.is_timed = not told.only_counts
+        self.is_counted = told.counts or told.only_counts
+        self.timed = "_small" if told.quick else ""
+        self.counted = "_small"
+        self.growth = () if not self.is_timed else (1_000, 10_000, 50_000) if told.quick else (10_000, 30_000, 100_000, 300_000, 1_000_000, 10_000_000)
+        self.rounds = told.rounds or (3 if told.quick else 5)
         self.passes = 1
+
+    def workloads(self):
+        """What stands behind the names of the workloads that are needed."""
+        return dict.fromkeys([*([self.timed] if self.is_timed else []), *([self.counted] if self.is_counted else [])])
+
+    def rounds_of(self, keys):
+        return 1 if keys > MOST_IN_ROUNDS else self.rounds
 
 
 def arguments():
     parser = argparse.ArgumentParser(prog="bench", description="Measures the dictionary beside its peers.")
     parser.add_argument("--quick", action="store_true", help="a small workload, which takes some two minutes")
-    parser.add_argument("--counts", action="store_true", help="count instructions and misses by callgrind too")
+    parser.add_argument("--counts", action="store_true", help="count instructions and misses by callgrind too, on the small workloads")
     parser.add_argument("--only-counts", action="store_true", help="no times: for a machine that does other work")
     parser.add_argument("--original", metavar="PATH", help="measure the original crate too, whose sources are in PATH")
-    parser.add_argument("--rounds", type=int, help="how often all subjects are measured in turn")
+    parser.add_argument("--rounds", type=int, help="how often all subjects are measured in turn (5, quick 3)")
     parser.add_argument("--python", metavar="INTERPRETER", help="measure the package for Python too, by python/compare.py in this interpreter")
     parser.add_argument("--offline", action="store_true", help="download no packages")
     parser.add_argument("--words", type=Path, metavar="LIST", help="take the first word of each line of LIST as the real words")
@@ -57,23 +84,34 @@ def arguments():
 
 
 def make_workloads(plan, words, packages):
-    """Writes the workloads, and tells what their words are."""
+    """Writes the workloads, and tells what they have."""
     words = words or packages.get("python3-jieba", "jieba/dict.txt") or packages.get("wamerican", "words")
-    keys = workloads.words_of(words, plan.words) if words else workloads.made_words(plan.made_words)
-    told = f"/{words.relative_to(packages.folder)}" if words and packages.folder in words.parents else str(words or "made of syllables")
-    data = OUT / "data"
-    count = workloads.write(data / "words", keys, 3, plan.text)
-    (data / "words" / "lines").write_bytes(b"".join(key + b"\n" for key in keys))
-    workloads.write(data / "random", workloads.random_keys(plan.random), 2, plan.text)
-    workloads.write(data / "long", workloads.long_keys(plan.long), 100, plan.text)
+    list_of = f"/{words.relative_to(packages.folder)}" if words and packages.folder in words.parents else str(words or "made of syllables")
+    notes = {}
+    for small in plan.workloads():
+        say(f"writing the workloads words{small}, random{small} and long{small}")
+        notes |= make_set(small, AMOUNTS[small], words, list_of)
     for size in plan.growth:
-        workloads.write(data / f"random_{size}", workloads.random_keys(size), 2, 0)
-    workloads.scripts(data / "scripts", *plan.lines)
+        say(f"writing {size:,} random keys")
+        workloads.write(OUT / "data" / f"random_{size}", workloads.random_keys(size), 2, 0)
+    return notes
+
+
+def make_set(small, amounts, words, list_of):
+    """Writes the workloads of one size."""
+    data = OUT / "data"
+    keys = workloads.words_of(words, amounts.words) if words else workloads.made_words(amounts.made_words)
+    count = workloads.write(data / f"words{small}", keys, 3, amounts.text)
+    (data / f"words{small}" / "lines").write_bytes(b"".join(key + b"\n" for key in keys))
+    workloads.write(data / f"random{small}", workloads.random_keys(amounts.random), 2, amounts.text)
+    workloads.write(data / f"long{small}", workloads.long_keys(amounts.long), 100, amounts.text)
+    workloads.scripts(data / f"scripts{small}", *amounts.lines)
+    short, long = (2 * lines for lines in amounts.lines)
     return {
-        "words": f"{count:,} words ({told})",
-        "random": f"{plan.random:,} keys of 8 random bytes",
-        "long": f"{plan.long:,} keys of 200 bytes, each one of {plan.long // 4:,} stems of 100 bytes and 100 bytes more",
-        "scripts": f"{2 * plan.lines[0]:,} short lines and {2 * plan.lines[1]:,} long ones, half of which store a key and half look one up",
+        f"words{small}": f"{count:,} words ({list_of})",
+        f"random{small}": f"{amounts.random:,} keys of 8 random bytes",
+        f"long{small}": f"{amounts.long:,} keys of 200 bytes, each one of {amounts.long // 4:,} stems of 100 bytes and 100 bytes more",
+        f"scripts{small}": f"{short:,} short lines and {long:,} long ones, half of which store a key and half look one up",
     }
 
 
@@ -130,29 +168,30 @@ class Results:
 
 def take_times(plan, chosen, results):
     """Each workload with all subjects in turn, growth likewise, threads, and scripts by the programs that answer them."""
-    def take(folder, names, keys=0):
-        able = [subject for subject in chosen if folder.name.partition("_")[0] in subject.workloads and keys <= subject.most_keys]
-        def run(subject):
-            return timing.measure(subject, folder, plan.passes, [name for name in names if name not in subject.without])
-        results.add_times(folder.name, timing.in_turn(able, plan.rounds, run))
+    data, small = OUT / "data", plan.timed
 
-    data = OUT / "data"
-    for name in ("words", "random", "long"):
-        say(f"times of {name}")
-        take(data / name, (*DICTIONARY, *SIZES, "latency"))
+    def in_turn(workload, what, able, run, keys=0):
+        rounds = plan.rounds_of(keys)
+        results.add_times(workload, timing.in_turn(able, rounds, run, lambda told: say(f"times of {what}, {told}")))
+
+    def take(workload, what, names, keys=0):
+        able = [subject for subject in chosen if workload.partition("_")[0] in subject.workloads and keys <= subject.most_keys]
+        def run(subject):
+            return timing.measure(subject, data / workload, plan.passes, [name for name in names if name not in subject.without])
+        in_turn(workload, what, able, run, keys)
+
+    for name in KEYS:
+        take(f"{name}{small}", f"{name}{small}", (*DICTIONARY, *SIZES, "latency"))
     for size in plan.growth:
-        say(f"times of {size} random keys")
-        take(data / f"random_{size}", GROWTH, size)
+        take(f"random_{size}", f"{size:,} random keys", GROWTH, size)
+    words = f"words{small}"
     for subject in chosen:
         if subject.threads:
-            say("look-ups by threads")
-            words = data / "words" / "lines"
-            results.add_times("words", timing.in_turn([subject], plan.rounds, lambda one: timing.look_up_in_threads(one, words)))
+            in_turn(words, "look-ups by threads", [subject], lambda one: timing.look_up_in_threads(one, data / words / "lines"))
     able = [subject for subject in chosen if subject.script]
     for name in SCRIPTS if able else ():
-        say(f"times of {name}")
-        script = data / "scripts" / name
-        results.add_times("scripts", timing.in_turn(able, plan.rounds, lambda subject: [timing.answer_script(subject, script, OUT)]))
+        script = data / f"scripts{small}" / name
+        in_turn(f"scripts{small}", name, able, lambda subject: [timing.answer_script(subject, script, OUT)])
 
 
 def take_python(interpreter, rounds, results):
@@ -168,38 +207,49 @@ def take_python(interpreter, rounds, results):
     return told.splitlines()[0]
 
 
-def take_counts(chosen, results):
+def take_counts(plan, chosen, results):
     """All subjects and workloads, as many at a time as there are processors: counts don't hang on what runs beside them."""
-    data = OUT / "data"
+    data, small = OUT / "data", plan.counted
+    answers = {name: {} for name in KEYS}
+
     def of_workload(subject, name):
         wanted = [measure for measure in DICTIONARY if measure not in subject.without]
-        results.add_counts(name, subject.name, counting.count_measures(subject, data / name, wanted, OUT))
+        lines, counted = counting.count_measures(subject, data / f"{name}{small}", wanted, OUT)
+        for line in lines:
+            timing.compare(answers[name], line, subject.name)
+        results.add_counts(f"{name}{small}", subject.name, counted)
 
     def of_script(subject, name):
-        results.add_counts("scripts", subject.name, {name: counting.count_script(subject, data / "scripts" / name, OUT)})
+        counted = counting.count_script(subject, data / f"scripts{small}" / name, OUT)
+        results.add_counts(f"scripts{small}", subject.name, {name: counted})
 
-    say("counts by callgrind")
     with ThreadPoolExecutor(os.cpu_count()) as pool:
-        running = [pool.submit(of_workload, subject, name) for name in ("words", "random", "long") for subject in chosen if name in subject.workloads]
+        running = [pool.submit(of_workload, subject, name) for name in KEYS for subject in chosen if name in subject.workloads]
         running += [pool.submit(of_script, subject, name) for subject in chosen if subject.script for name in SCRIPTS]
-        for one in running:
+        for done, one in enumerate(as_completed(running)):
             one.result()
+            say(f"counts by callgrind, {done + 1} of {len(running)}")
+
+
+BEGUN = time.monotonic()
 
 
 def say(text):
-    print(f"bench: {text}", flush=True)
+    minutes, seconds = divmod(int(time.monotonic() - BEGUN), 60)
+    print(f"bench {minutes:2}:{seconds:02} {text}", flush=True)
 
 
 def main():
     told = arguments()
-    plan = Plan(told.quick, told.rounds)
+    plan = Plan(told)
     packages = Packages(OUT / "packages", told.offline)
-    if (told.counts or told.only_counts) and not counting.is_there():
+    if plan.is_counted and not counting.is_there():
         sys.exit("bench: the command 'valgrind' is missing on this machine: it counts")
     def wants(name):
         return told.only is None or name in told.only.split(",")
 
-    chosen = [subjects.here(OUT, told.as_built)] if wants("here") else []
+    chosen = [subjects.here(told.as_built)] if wants("here") else []
+    chosen += [subjects.here_c(OUT, told.as_built)] if wants("here_c") else []
     chosen += [subjects.original(OUT, told.original)] if told.original and wants("cedarwood") else []
     chosen += subjects.peers(OUT, packages, wants)
     if not chosen:
@@ -208,15 +258,15 @@ def main():
     notes = make_workloads(plan, told.words, packages)
     results = Results(commit_of(), machine_of())
     load = os.getloadavg()[0]
-    if not told.only_counts:
+    if plan.is_timed:
         take_times(plan, chosen, results)
         if told.python:
             notes["python"] = take_python(told.python, plan.rounds, results)
         load = max(load, os.getloadavg()[0])
-    if told.counts or told.only_counts:
-        take_counts(chosen, results)
-    has_times = not told.only_counts and not (told.store and load >= QUIET)
-    if not has_times and not told.only_counts:
+    if plan.is_counted:
+        take_counts(plan, chosen, results)
+    has_times = plan.is_timed and not (told.store and load >= QUIET)
+    if plan.is_timed and not has_times:
         say(f"the load average was {load:.1f}: no times are stored")
     notes |= {subject.name: subject.version for subject in chosen}
     notes |= {"date": begun, "rounds": str(plan.rounds if has_times else 0), "load": f"{load:.1f}", "kind": "quick" if told.quick else "whole"}
@@ -231,5 +281,5 @@ def main():
 
 try:
     main()
-except (timing.Wrong, rows.Mixed, subprocess.CalledProcessError) as error:
+except (timing.Wrong, rows.Mixed, subjects.Missing, subprocess.CalledProcessError) as error:
     sys.exit(f"bench: {error}")

@@ -12,6 +12,10 @@ CPP = TOP / "benches" / "cpp"
 COMPILE = ["g++", "-std=c++20", "-O2", "-Wall", "-Wextra", "-Werror"]
 
 
+class Missing(Exception):
+    """What isn't built where it has to be."""
+
+
 @dataclass
 class Subject:
     """A program for the measures of dictionaries, and the command that answers scripts, if there is one."""
@@ -20,7 +24,7 @@ class Subject:
     program: Path
     version: str
     script: list = field(default_factory=list)
-    # The program of tests/c/rate.c, for the library alone.
+    # The program of tests/c/rate.c, for the library from C alone.
     threads: Path | None = None
     # Measures that it isn't asked for, and the workloads that it is asked on.
     without: tuple = ()
@@ -36,22 +40,41 @@ def compiled(out, name, source, *words):
     return program
 
 
-def here(out, is_built):
-    """This repository's library and program, built if they aren't; with `is_built` those that are there."""
+def version_here():
+    return (TOP / "VERSION").read_text().strip()
+
+
+def built_here(crate):
+    return TOP / "crates" / crate / "out" / crate
+
+
+def here(is_built):
+    """This repository's library, called from Rattle by the program of crates/measure_run, and the program for scripts: proved and built if they
+    aren't; with `is_built` those that are there."""
+    if not is_built:
+        print("bench: the programs in Rattle are proved and built first where they aren't", flush=True)
+        subprocess.run([str(TOP / "tools" / "program"), "measure_run", str(TOP / "crates" / "measure_run" / "data"), "0"], check=True)
+        subprocess.run([str(TOP / "cedar")], stdin=subprocess.DEVNULL, check=True)
+    program, scripts = built_here("measure_run"), built_here("cedar")
+    if not program.exists():
+        raise Missing(f"{program.relative_to(TOP)} isn't there: ./gate and ./test build it")
+    return Subject("here", program, f"{version_here()}, from Rattle", [str(scripts)] if scripts.exists() else [], most_keys=10_000_000)
+
+
+def here_c(out, is_built):
+    """The same library by the calls of include/cedar.h, built if it isn't; with `is_built` the one that is there."""
     library = TOP / "crates" / "cedar_c" / "out" / "c" / "libcedar.a"
     sources = [*TOP.glob("crates/*/src/**/*.rt"), *TOP.glob("include/*"), *TOP.glob("c/*")]
     if not is_built and (not library.exists() or any(path.stat().st_mtime > library.stat().st_mtime for path in sources)):
         print("bench: ./build-c proves and builds the library first", flush=True)
         subprocess.run([str(TOP / "build-c")], check=True)
-    if not is_built:
-        subprocess.run([str(TOP / "cedar")], stdin=subprocess.DEVNULL, check=True)
-    program = compiled(out, "here", "cedar.cpp", "-I", TOP / "include", library)
+    if not library.exists():
+        raise Missing(f"{library.relative_to(TOP)} isn't there: ./build-c --after-gate builds it")
+    program = compiled(out, "here_c", "cedar.cpp", "-I", TOP / "include", library)
     rate = out / "bin" / "rate"
     c = ["gcc", "-std=c11", "-O2", "-pthread", "-I", TOP / "include", "-o", rate, TOP / "tests" / "c" / "rate.c", library]
     subprocess.run([*map(str, c)], check=True)
-    version = (TOP / "VERSION").read_text().strip()
-    scripts = TOP / "crates" / "cedar" / "out" / "cedar"
-    return Subject("here", program, version, [str(scripts)] if scripts.exists() else [], rate, most_keys=10_000_000)
+    return Subject("here_c", program, f"{version_here()}, from C", threads=rate)
 
 
 def peers(out, packages, wants):

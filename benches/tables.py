@@ -2,7 +2,7 @@
 
 from measures import AGAINST, DICTIONARY, SCRIPTS, TITLES, unit_of
 
-SUBJECTS = ("here", "cedarwood", "judy", "libdatrie", "marisa", "map", "unordered_map")
+SUBJECTS = ("here", "here_c", "cedarwood", "judy", "libdatrie", "marisa", "map", "unordered_map")
 
 
 def number(text):
@@ -66,21 +66,38 @@ class Table:
             made.append(f"| {measure} | {' | '.join(cells)} |")
         return [*made, ""] if made else []
 
-    def times_as_fast(self, workload):
-        """A table of how many times as fast as the original crate each measure of here is: by instructions, and by the medians of times. A
-        measure that the original has no call for is held against the one that does the same there."""
-        made = []
+    def times_as_fast(self):
+        """A table of how many times as fast as the original crate each measure of here is, called from Rattle and from C: by instructions, and
+        by the medians of times. A measure that the original has no call for is held against the one that does the same there. A column or a
+        row without any figure is left out."""
+        heads = [f"{by}, {called}" for by in ("instructions", "time") for called in ("from Rattle", "from C")]
+        made = {}
         for measure in (*DICTIONARY, *SCRIPTS):
-            place = "scripts" if measure in SCRIPTS else workload
-            other = measure if self.row(measure, place, "cedarwood") else AGAINST.get(measure, measure)
-            here, there = self.row(measure, place, "here"), self.row(other, place, "cedarwood")
-            if here is None or there is None:
-                continue
-            by = [ratio(there.count, here.count), ratio(there.median, here.median)]
-            against = "" if other == measure else f"; there: {TITLES[other][0].replace('the same', 'update')}"
-            made.append(f"| {TITLES[measure][0]}{against} | {' | '.join(by)} |")
-        return ["| measure | by instructions | by time |", "|---|---|---|", *made, ""] if made else []
+            other = AGAINST.get(measure, measure)
+            by = [self.ratio(measure, other, figure, subject) for figure in ("count", "median") for subject in ("here", "here_c")]
+            if any(text != "-" for text in by):
+                against = "" if other == measure else f"; there: {TITLES[other][0].replace('the same', 'update')}"
+                made[f"{TITLES[measure][0]}{against}"] = by
+        able = [place for place in range(len(heads)) if any(by[place] != "-" for by in made.values())]
+        lines = [f"| {title} | {' | '.join(by[place] for place in able)} |" for title, by in made.items()]
+        head = f"| measure | {' | '.join(heads[place] for place in able)} |"
+        return [head, "|---" * (len(able) + 1) + "|", *lines, ""] if lines else []
 
+    def ratio(self, measure, other, figure, subject):
+        """How many times as fast as `other` of the original crate a measure of a subject is, on the words or a script: by instructions on the
+        small workload, by time on the whole one, each where there is none on the other one."""
+        workload = "scripts" if measure in SCRIPTS else "words"
+        places = (f"{workload}_small", workload) if figure == "count" else (workload, f"{workload}_small")
+        for place in places:
+            here, there = self.row(measure, place, subject), self.row(other, place, "cedarwood")
+            if here and there and "-" not in (getattr(here, figure), getattr(there, figure)):
+                return f"{float(getattr(there, figure)) / float(getattr(here, figure)):.2f}"
+        return "-"
 
-def ratio(there, here):
-    return "-" if "-" in (there, here) else f"{float(there) / float(here):.2f}"
+    def called(self, workload):
+        """The subject of this repository that a table of one column shows, and how it is called: from Rattle, or from C where that alone was
+        measured."""
+        for subject, told in (("here", "Rattle"), ("here_c", "C")):
+            if any(row.workload == workload and row.subject == subject for row in self.by.values()):
+                return subject, told
+        return "here", "Rattle"

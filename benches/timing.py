@@ -8,7 +8,7 @@ import subprocess
 from dataclasses import dataclass
 from pathlib import Path
 
-from measures import LATENCIES
+from measures import AGAINST, LATENCIES
 
 
 class Wrong(Exception):
@@ -58,11 +58,12 @@ def look_up_in_threads(subject, words):
     return [Line(f"threads_{threads}", int(rate), 1, "") for threads, rate in rates]
 
 
-def in_turn(subjects, rounds, run):
+def in_turn(subjects, rounds, run, tell):
     """All rounds of `run`, which gives the lines of a subject: each round takes the subjects in turn, the next one first each time. For each
-    measure and subject a list of one figure a round, the median of its passes."""
+    measure and subject a list of one figure a round, the median of its passes. `tell` is told which round begins."""
     figures, answers = {}, {}
     for turn in range(rounds):
+        tell(f"round {turn + 1} of {rounds}")
         start = turn % len(subjects)
         for subject in subjects[start:] + subjects[:start]:
             passes = {}
@@ -75,9 +76,10 @@ def in_turn(subjects, rounds, run):
 
 
 def compare(answers, line, name):
-    """Whether a subject answers as the first one did. Times and sizes of single updates have no answer."""
+    """Whether a subject answers as the first one did, and as it does in the measure that this one is held against. Times and sizes of single
+    updates have no answer."""
     if line.measure in LATENCIES:
         return
-    first, expected = answers.setdefault(line.measure, (name, line.answered))
+    first, expected = answers.setdefault(AGAINST.get(line.measure, line.measure), (name, line.answered))
     if line.answered != expected:
         raise Wrong(f"{name} answers {line.measure} otherwise than {first}: {line.answered}, {expected}")

@@ -5,15 +5,11 @@ ghost use Rattle.cedar_c.specs.Words.{capacity_in, content, dictionary_in, held_
 
 use crate::any::AnyCedar;
 use crate::handle::Handle;
-use cedarwood::{Layout, Trie};
+use cedarwood::{CACHED_SLOTS, Layout, Trie};
 use std::alloc::Global;
 
 /// How many keys are looked up in step before they are removed.
 const LANES: usize = 16;
-
-/// The most slots of a table whose keys are removed without a look-up in step before that: at ten bytes a slot such a table takes about as
-/// much memory as a processor's core has in its caches, and the look-up would take longer than the waits that it saves.
-const CACHED_SLOTS: usize = 131072;
 
 /// A key.
 #[repr(C)]

@@ -1,0 +1,162 @@
+//! Walks over what a dictionary holds, and over texts.
+
+use crate::plan::{Answered, Plan, counted};
+use crate::workload::Workload;
+use anyhow::Result;
+use cedar_words::{matches, segment};
+use cedarwood::{Cedar, CedarError};
+use std::alloc::Global;
+
+/// Measures the walks that are wanted.
+pub(crate) fn all(
+    rt: &HostRuntime,
+    plan: &Plan,
+    cedar: &Cedar<Global>,
+    work: &Workload<'_>,
+) -> Result<()> {
+    for _ in 0..plan.passes_of("prefix_walk") {
+        let watch = plan.start(rt)?;
+        let answered = measured_prefixes(cedar, work.text);
+        watch.print(rt, "prefix_walk", answered)?;
+    }
+    for _ in 0..plan.passes_of("prediction") {
+        let watch = plan.start(rt)?;
+        let answered = measured_predictions(cedar, &work.prefixes);
+        watch.print(rt, "prediction", answered)?;
+    }
+    entries(rt, plan, cedar)?;
+    texts(rt, plan, cedar, work.text)
+}
+
+/// All entries, each with a key of its own, and each with a key that a cursor lends.
+fn entries(rt: &HostRuntime, plan: &Plan, cedar: &Cedar<Global>) -> Result<()> {
+    for _ in 0..plan.passes_of("entries") {
+        let watch = plan.start(rt)?;
+        let answered = measured_entries(cedar)?;
+        watch.print(rt, "entries", answered)?;
+    }
+    for _ in 0..plan.passes_of("entries_lent") {
+        let watch = plan.start(rt)?;
+        let answered = measured_cursor(cedar)?;
+        watch.print(rt, "entries_lent", answered)?;
+    }
+    Ok(())
+}
+
+/// All keys in a text, and its tokens: the operations are its bytes.
+fn texts(rt: &HostRuntime, plan: &Plan, cedar: &Cedar<Global>, text: &[u8]) -> Result<()> {
+    let operations = text.len();
+    for _ in 0..plan.passes_of("scan") {
+        let watch = plan.start(rt)?;
+        let sum = measured_matches(cedar, text);
+        watch.print(rt, "scan", Answered { operations, sum })?;
+    }
+    for _ in 0..plan.passes_of("segment") {
+        let watch = plan.start(rt)?;
+        let sum = measured_tokens(cedar, text);
+        watch.print(rt, "segment", Answered { operations, sum })?;
+    }
+    Ok(())
+}
+
+/// From each character of a text on, all keys that begin there. UTF-8's bytes that begin none are 128 to 191.
+#[inline(never)]
+fn measured_prefixes(cedar: &Cedar<Global>, text: &[u8]) -> Answered {
+    let mut sum: u64 = 0;
+    let mut operations: usize = 0;
+    for place in 0..text.len() {
+        if text[place] & 0xC0 == 0x80 {
+            continue;
+        }
+        operations = operations.wrapping_add(1);
+        let mut found = cedar.common_prefix_iter_bytes(&text[place..]);
+        for _ in 0..text.len() {
+            let Some((value, last)) = found.next() else {
+                break;
+            };
+            let length = (last as u64).wrapping_add(1);
+            sum = sum.wrapping_add(
+                counted(value)
+                    .wrapping_mul(length)
+                    .wrapping_add(place as u64),
+            );
+        }
+    }
+    Answered { operations, sum }
+}
+
+/// All keys that begin with each of some prefixes. A result is told with how many bytes it has behind the prefix.
+#[inline(never)]
+fn measured_predictions(cedar: &Cedar<Global>, prefixes: &[&[u8]]) -> Answered {
+    let mut sum: u64 = 0;
+    let mut line: u64 = 0;
+    let mut operations: usize = 0;
+    for prefix in prefixes {
+        line = line.wrapping_add(1);
+        for (value, behind) in cedar.common_prefix_predict_iter_bytes(prefix) {
+            operations = operations.wrapping_add(1);
+            let length = (prefix.len() as u64).wrapping_add(behind as u64);
+            sum = sum.wrapping_add(counted(value).wrapping_mul(length).wrapping_add(line));
+        }
+    }
+    Answered { operations, sum }
+}
+
+#[inline(never)]
+fn measured_entries(cedar: &Cedar<Global>) -> Result<Answered, CedarError> {
+    let mut sum: u64 = 0;
+    let mut operations: usize = 0;
+    for entry in cedar.entries()? {
+        let (key, value) = entry?;
+        operations = operations.wrapping_add(1);
+        sum = sum.wrapping_add(of_entry(&key, value));
+    }
+    Ok(Answered { operations, sum })
+}
+
+#[inline(never)]
+fn measured_cursor(cedar: &Cedar<Global>) -> Result<Answered, CedarError> {
+    let mut sum: u64 = 0;
+    let mut operations: usize = 0;
+    let mut cursor = cedar.entries_with_prefix_bytes(&[]).into_cursor();
+    for _ in 0..cedar.len() {
+        let Some(value) = cursor.advance()? else {
+            break;
+        };
+        operations = operations.wrapping_add(1);
+        sum = sum.wrapping_add(of_entry(cursor.key(), value));
+    }
+    Ok(Answered { operations, sum })
+}
+
+/// What an entry adds to the sum: its key's length times one more than its value, and its key's last byte.
+#[inline(always)]
+fn of_entry(key: &[u8], value: i32) -> u64 {
+    let last = key.last().copied().unwrap_or(0);
+    counted(value)
+        .wrapping_mul(key.len() as u64)
+        .wrapping_add(u64::from(last))
+}
+
+#[inline(never)]
+fn measured_matches(cedar: &Cedar<Global>, text: &[u8]) -> u64 {
+    let mut sum: u64 = 0;
+    for (start, length, value) in matches(cedar, text) {
+        let found = counted(value).wrapping_mul(length as u64);
+        sum = sum.wrapping_add(found.wrapping_add(start as u64));
+    }
+    sum
+}
+
+#[inline(never)]
+fn measured_tokens(cedar: &Cedar<Global>, text: &[u8]) -> u64 {
+    let mut sum: u64 = 0;
+    for (start, length, value) in segment(cedar, text) {
+        let found = match value {
+            Some(value) => counted(value).wrapping_mul(length as u64),
+            None => 0,
+        };
+        sum = sum.wrapping_add(found.wrapping_add(start as u64));
+    }
+    sum
+}
