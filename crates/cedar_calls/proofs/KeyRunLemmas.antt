@@ -58,7 +58,7 @@ module _ (key : List ℕ) where
   held_goes layout slots d e (change.Insert k v) (changed.Inserted (Ok x)) sound h = ap (λ s. number_at s.tree key) h.0.ok ∙ put_goes d.state.tree d.state.ordered k.now v key (is_path key k.now) refl
   held_goes layout slots d e (change.Insert k v) (changed.Inserted (Err x)) sound h = ap (λ s. number_at s.tree key) h.0.err
   held_goes layout slots d e (change.Erase k) (changed.Erased x) sound h = ap (λ s. number_at s.tree key) h.1.state ∙ cut_goes d.state.tree k.now key sound (is_path key k.now) refl
-  held_goes layout slots d e (change.EraseFound k) (changed.ErasedFound x) sound h = ap (λ s. number_at s.tree key) h.1.state ∙ cut_goes d.state.tree k.now key sound (is_path key k.now) refl
+  held_goes layout slots d e (change.EraseFound k) (changed.ErasedFound x) sound h = ap (λ s. number_at s.tree key) h.erased.state ∙ cut_goes d.state.tree k.now key sound (is_path key k.now) refl
   held_goes layout slots d e (change.EraseBatch keys) (changed.ErasedBatch (Ok x)) sound h = ap (λ s. number_at s.tree key) h.state ∙ keys_go_out d.state (keys_of keys.now) key sound
   held_goes layout slots d e (change.EraseBatch keys) (changed.ErasedBatch (Err x)) sound h = ap number_in h.refused.1
   held_goes layout slots d e (change.ErasePrefix prefix) (changed.ErasedPrefix n) sound h = h.held key

@@ -160,7 +160,7 @@ pub change_goes : {A : Type 0} (layout : LayoutKind) (slots : ℕ) (d d' : Dicti
 change_goes layout slots d d' (change.Update key v) (changed.Updated r) h met = update_goes layout slots d d' key.now v (fault key.now v) refl r h met
 change_goes layout slots d d' (change.Insert key v) (changed.Inserted r) h met = insert_goes layout slots d d' key.now v (fault key.now v) refl r h.0 h.1 met
 change_goes layout slots d d' (change.Erase key) (changed.Erased b) h met = (ap held (bool_same b (is_some (number_at d.state.tree key.now)) h.0), h.1.state)
-change_goes layout slots d d' (change.EraseFound key) (changed.ErasedFound value) h met = (ap was h.0, h.1.state)
+change_goes layout slots d d' (change.EraseFound key) (changed.ErasedFound value) h met = (ap was h.told, h.erased.state)
 change_goes layout slots d d' (change.EraseBatch keys) (changed.ErasedBatch (Ok v)) h met = (ap held_each h.held, h.state)
 change_goes layout slots d d' (change.EraseBatch keys) (changed.ErasedBatch (Err e)) h met = absurd (met (subst IsShortage (sym h.refused.0) tt))
 change_goes layout slots d d' (change.ErasePrefix prefix) (changed.ErasedPrefix n) h met = (ap counted h.count, h.state)

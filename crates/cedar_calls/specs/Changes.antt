@@ -1,5 +1,5 @@
 -- What a change of a dictionary answers, and the dictionary after it.
-use Rattle.std.specs.Prelude.{◌≡◌, ℕ, ◌+◌, ◌-◌, ◌*◌, ◌<◌, ◌≤◌, Bool, List, IfErr, IfOk, IfSome, IsOk, IsSome, IsTrue, ◌↔◌, None, OnErr, OnOk, Result, Err, take, Vec}
+use Rattle.std.specs.Prelude.{◌≡◌, ℕ, ℤ, ◌+◌, ◌-◌, ◌*◌, ◌<◌, ◌≤◌, Bool, List, IfErr, IfOk, IfSome, IsOk, IsSome, IsTrue, ◌↔◌, None, OnErr, OnOk, Option, Result, Err, take, Vec}
 use Rattle.cedar_tree.specs.Tree.{number_at}
 use Rattle.cedar_tree.specs.Queries.{Entry}
 use Rattle.cedar_tree.specs.State.{erased}
@@ -28,6 +28,11 @@ pub record IsErased (before after : Dictionary) (key : List ℕ) : Type 0 where
   pub marks : MarksCut before.marked after.marked key
   pub size : (after.size ≡ before.size) × (after.capacity ≡ before.capacity)
   pub max_trial : after.max_trial ≡ before.max_trial
+
+-- a key was found, if it was held, and removed there: what it held is told
+pub record IsErasedFound (before after : Dictionary) (key : List ℕ) (value : Option ℤ) : Type 0 where
+  pub told : value ≡ number_at before.state.tree key
+  pub erased : IsErased before after key
 
 -- some pairs were to be stored: nothing is where one has a fault. Else they are, by updates one after another; or there was no memory or
 -- no slot for one whose key wasn't held then, and those before it are
@@ -76,7 +81,7 @@ IsChange layout slots before (change.Update key v) (changed.Updated result) afte
 IsChange layout slots before (change.Insert key v) (changed.Inserted result) after =
     IsUpdate layout slots before after key.now v (outcome result) × IfOk result (λ held. held ≡ number_at before.state.tree key.now)
 IsChange layout slots before (change.Erase key) (changed.Erased held) after = (IsTrue held ↔ IsSome (number_at before.state.tree key.now)) × IsErased before after key.now
-IsChange layout slots before (change.EraseFound key) (changed.ErasedFound value) after = (value ≡ number_at before.state.tree key.now) × IsErased before after key.now
+IsChange layout slots before (change.EraseFound key) (changed.ErasedFound value) after = IsErasedFound before after key.now value
 IsChange layout slots before (change.EraseBatch keys) (changed.ErasedBatch result) after = IsErasedBatch before after (keys_of keys.now) result
 IsChange layout slots before (change.ErasePrefix prefix) (changed.ErasedPrefix n) after = IsErasedUnder before after prefix.now n
 IsChange layout slots before change.Clear changed.Cleared after = IsCleared before after

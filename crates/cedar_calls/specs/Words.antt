@@ -1,6 +1,6 @@
 -- The words that the contracts of this crate cite, from one place.
 pub use Rattle.cedar_calls.specs.Agreement.{RunsAgree}
-pub use Rattle.cedar_calls.specs.Changes.{IsChange, IsErased, IsErasedBatch}
+pub use Rattle.cedar_calls.specs.Changes.{IsChange, IsErasedBatch, IsErasedFound}
 pub use Rattle.cedar_calls.specs.Files.{SavesLoadAgain}
 pub use Rattle.cedar_calls.specs.Keys.{KeysStandAlone, KeysStandAloneInRuns}
 pub use Rattle.cedar_calls.specs.Making.{IsCopy, Joins}
@@ -9,7 +9,6 @@ pub use Rattle.cedar_calls.specs.Replies.{AreTexts, Collects, CollectsRange, IsF
 pub use Rattle.cedar_calls.specs.Runs.{IsRun, IsStep}
 pub use Rattle.cedar_format.specs.Tables.{IsTableFile}
 pub use Rattle.cedar_tree.specs.Queries.{exact, walk}
-pub use Rattle.cedar_tree.specs.Tree.{number_at}
 pub use Rattle.cedarwood.specs.Ends.{first_entry, last_entry}
 pub use Rattle.cedarwood.specs.RangeWalks.{entries_between}
 pub use Rattle.cedarwood.specs.Ranges.{entries_since, entries_with}

@@ -1,7 +1,6 @@
 //! Changes of a dictionary.
 
-ghost use Rattle.std.specs.Prelude.{◌≡◌};
-ghost use Rattle.cedar_calls.specs.Words.{IsChange, IsErased, IsErasedBatch, IsValid, keys_of, number_at};
+ghost use Rattle.cedar_calls.specs.Words.{IsChange, IsErasedBatch, IsErasedFound, IsValid, keys_of};
 
 use crate::{Change, Changed};
 use cedarwood::{CedarError, Layout, Trie};
@@ -47,8 +46,7 @@ fn erase_found<L: Layout, const SLOTS: usize, A: Allocator + Copy>(
     trie: &mut Trie<L, SLOTS, A>,
     key: &[u8],
 ) -> Option<i32>
-    ensures value { result ≡ number_at trie.old.state.tree key.now }
-    ensures erased { IsErased trie.old trie.new key.now }
+    ensures { IsErasedFound trie.old trie.new key.now result }
 {
     let found = trie.find_bytes(key)?;
     trie.erase_found(key, found);

@@ -20,7 +20,6 @@
 
 mod answers;
 mod command;
-mod fits;
 mod options;
 mod program;
 mod script;

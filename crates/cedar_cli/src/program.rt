@@ -1,9 +1,8 @@
 //! The program: arguments, files and three streams in, a status out.
 
-ghost use Rattle.std.specs.Prelude.{◌<◌, ◌↔◌, ◌≡◌, ◌≤◌, IfErr, IfOk, IfSome, None, OnOk, true};
-ghost use Rattle.cedar_cli.specs.Words.{AnswersAll, AnswersUpTo, asked_limit, BeginsWith, has_failed, IsSlotLimit, LacksWithin, layout_byte, OnAsked, OnBegun, request_in, request_of, view_of};
+ghost use Rattle.std.specs.Prelude.{◌<◌, ◌↔◌, ◌≡◌, ◌≤◌, IfErr, IfOk, IfSome, IsTrue, None, OnOk, true};
+ghost use Rattle.cedar_cli.specs.Words.{AnswersAll, AnswersUpTo, asked_limit, BeginsWith, FitsInMemory, has_failed, IsSlotLimit, LacksWithin, layout_byte, OnAsked, OnBegun, request_in, request_of, view_of};
 
-use crate::fits::fits;
 use crate::options::{Options, limit_or_default, options_of};
 use crate::script::{ScriptError, run_script};
 use cedarwood::{
@@ -11,6 +10,7 @@ use cedarwood::{
 };
 use std::alloc::Allocator;
 use std::io::{Read, Write};
+use std::mem;
 use std::rt::Files;
 
 /// The status of a run that did all that the arguments name.
@@ -246,4 +246,12 @@ fn fault_line(fault: ScriptError) -> &'static str {
         ScriptError::Memory => "cedar: out of memory\n",
         ScriptError::SlotLimit => "cedar: slot limit\n",
     }
+}
+
+/// Whether a value that may come to `place` fits in memory. It always does, and that is known at compile time. The function says this to a
+/// proof if the type names a type parameter of the function.
+fn fits<T>(place: &Option<T>) -> bool
+    ensures { IsTrue result → FitsInMemory T.row }
+{
+    mem::size_of_val(place) <= isize::MAX as usize
 }

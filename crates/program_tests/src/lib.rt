@@ -9,7 +9,6 @@ mod devices;
 #[cfg(test)]
 mod hostile;
 #[cfg(test)]
-mod layouts;
 #[cfg(test)]
 mod lists;
 #[cfg(test)]

@@ -1,5 +1,5 @@
 //! What is left if an allocation fails, and what needs none.
-use crate::layouts::empty;
+use crate::lists::empty;
 use crate::runs::{
     ALL, Ended, ROWS, answers, expect_ended, held_after, holdings_of, run, script, whole_lines,
 };

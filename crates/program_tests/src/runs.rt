@@ -1,5 +1,5 @@
 //! Runs of scripts over devices that fail at the points that a test sets, and one script to run.
-use crate::layouts::empty;
+use crate::lists::empty;
 use cedar_cli::{ScriptError, run_script};
 use cedarwood::{Cedar, CedarError, Layout, Trie, Watched};
 use std::alloc::{AllocError, Allocator, Global};

@@ -1,7 +1,7 @@
 //! Scripts on dictionaries of few slots, in which a line finds none.
 ghost use Rattle.cedarwood.specs.Words.{IsSlotLimit};
 
-use crate::layouts::built;
+use crate::lists::built;
 use crate::runs::{ALL, Holdings, expect_ended, run};
 use cedar_cli::ScriptError;
 use cedarwood::{CedarBuilder, DefaultLayout, Layout, ReducedLayout, Trie};

@@ -1,5 +1,5 @@
 //! The lines that walk, with allocations refused: the prefixes of a query, the keys that begin with it, and all entries.
-use crate::layouts::empty;
+use crate::lists::empty;
 use crate::runs::{ALL, run};
 use cedar_cli::ScriptError;
 use cedarwood::{Cedar, CedarError};

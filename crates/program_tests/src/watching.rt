@@ -1,5 +1,5 @@
 //! The watched devices, and when a script flushes.
-use crate::layouts::empty;
+use crate::lists::empty;
 use crate::runs::{answers, script, whole_lines};
 use cedar_cli::{ScriptError, run_script};
 use cedarwood::{Cedar, CedarError, Watched};

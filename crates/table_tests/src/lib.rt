@@ -12,7 +12,6 @@ mod figures;
 #[cfg(test)]
 mod keys;
 #[cfg(test)]
-mod refused;
 #[cfg(test)]
 mod run;
 #[cfg(test)]

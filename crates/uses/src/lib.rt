@@ -7,7 +7,6 @@ mod counted;
 mod counter;
 mod filter;
 mod pages;
-mod pieces;
 mod service;
 #[cfg(test)]
 mod tests;

@@ -1,7 +1,6 @@
 //! A key of a million bytes in a script and in a list of calls: a chain of a million nodes.
 use crate::hostile::runs::one;
-use crate::layouts::{Full, empty};
-use crate::lists::{change, run};
+use crate::lists::{Full, change, empty, run};
 use cedar_calls::{Answer, Change, Changed};
 use cedar_cli::{ScriptError, run_script};
 use cedarwood::{DefaultLayout, Layout, ReducedLayout, Watched};

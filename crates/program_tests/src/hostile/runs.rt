@@ -2,8 +2,7 @@
 ghost use Rattle.cedarwood.specs.Words.{IsSlotLimit};
 
 use crate::hostile::state::{state_of, update};
-use crate::layouts::built;
-use crate::lists::{Tries, ask, change, run};
+use crate::lists::{Tries, ask, built, change, run};
 use cedar_calls::{Answer, Call, Change, Changed, Question, Reply};
 use cedarwood::{CedarBuilder, CedarError, DefaultLayout, Layout, ReducedLayout, Trie};
 use std::alloc::{Allocator, Global};

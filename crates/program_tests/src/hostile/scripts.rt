@@ -1,6 +1,6 @@
 //! Scripts whose writer fails at each byte of each form of an answer, and whose reader never ends a line.
 use crate::hostile::state::{State, state_of, update};
-use crate::layouts::{Full, empty};
+use crate::lists::{Full, empty};
 use crate::runs;
 use crate::runs::{ALL, Ended, Limits, Script};
 use cedar_cli::{ScriptError, run_script};

@@ -1,6 +1,6 @@
 use Rattle.std.proofs.Common.{◌≡◌, ◌+◌, ◌≤◌, All, length}
 use Rattle.cedar_words.specs.Words.{segments}
-use Rattle.uses.proofs.pieces.pieces_of.Given as goal
+use Rattle.uses.proofs.tokenizer.pieces_of.Given as goal
 
 -- the tokens that are left lie within the text, and those before them have a piece each
 abbrev pub invariant-loop-token : goal.invariant-loop-token

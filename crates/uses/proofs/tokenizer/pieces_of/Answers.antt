@@ -2,7 +2,7 @@ use Rattle.std.proofs.Common.{◌≡◌, ◌+◌, ◌≤◌, ◌∷◌, ap, arit
 use Rattle.std.proofs.lemmas.List.Elements.{All-head, All-same, All-tail}
 use Rattle.cedar_words.specs.Words.{segments, Token}
 use Rattle.cedar_words.proofs.TokenLemmas.{segments_within}
-use Rattle.uses.proofs.pieces.pieces_of.Goals as goal
+use Rattle.uses.proofs.tokenizer.pieces_of.Goals as goal
 
 pub loop-token-init : goal.loop-token-init
 loop-token-init g c =
