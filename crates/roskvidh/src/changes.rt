@@ -2,16 +2,17 @@
 //! format and layout.
 
 use crate::build::{empty, store_list};
-use crate::dictionary::{Kind, SLOTS, load, load_default, open};
+use crate::dictionary::{Kind, Loaded, SLOTS, load, open};
 use crate::durable::change_store;
 use crate::fault::{Fault, store_fault};
 use crate::input;
 use crate::input::Source;
 use crate::meter::Meter;
-use crate::request::{Change, Dictionary, How};
+use crate::request::{Change, Dictionary, How, List};
+use crate::run::found;
 use cedarwood::{DefaultLayout, Layout, ReducedLayout, Trie, Watched};
 use std::alloc::Global;
-use std::io::{BufRead, Read, Write};
+use std::io::{Read, Write};
 use std::rt::Files;
 use word_lists::{erase_lines, store_entries};
 
@@ -29,13 +30,11 @@ pub(crate) fn change<'m, F: Files + Copy + Drop, R: Read + Drop, M: Meter + Drop
     }
     let (reader, kind) = open(alloc, files, dictionary.path)?;
     if kind == Kind::Store && is_in_place(asked.how) {
-        change_store(alloc, files, dictionary.path, asked.how, source, errors)
-    } else if kind == Kind::Reduced {
-        let trie = load::<ReducedLayout, F::File>(alloc, dictionary, reader)?;
-        change_loaded(alloc, files, trie, true, asked, source, errors)
-    } else {
-        let trie = load_default(alloc, dictionary, reader, kind)?;
-        change_loaded(alloc, files, trie, false, asked, source, errors)
+        return change_store(alloc, files, dictionary.path, asked.how, source, errors);
+    }
+    match load(alloc, dictionary, reader, kind)? {
+        Loaded::Default(trie) => change_loaded(alloc, files, trie, false, asked, source, errors),
+        Loaded::Reduced(trie) => change_loaded(alloc, files, trie, true, asked, source, errors),
     }
 }
 
@@ -78,31 +77,36 @@ pub(crate) fn change_words<'m, L: Layout, F: Files, R: Read + Drop, M: Meter + D
     errors: &mut Watched<E>,
 ) -> Result<bool, Fault<'m>> {
     match how {
-        How::Add(list) => {
-            let mut reader = input::open(alloc, files, list.path, source)?;
-            store_list(alloc, trie, list, &mut reader, errors)?;
-            Ok(true)
-        }
-        How::Remove(path) => {
-            let mut reader = input::open(alloc, files, path, source)?;
-            remove(alloc, trie, path, &mut reader)
-        }
-        How::Merge(other) => {
-            merge(alloc, files, trie, other)?;
-            Ok(true)
-        }
+        How::Add(list) => found(add(alloc, files, trie, list, source, errors)),
+        How::Remove(path) => remove(alloc, files, trie, path, source),
+        How::Merge(other) => found(merge(alloc, files, trie, other)),
         How::Convert(_) => Ok(true),
     }
 }
 
-/// Removes the words of a list from a dictionary, and returns whether all were held.
-fn remove<'m, L: Layout, R: BufRead>(
+/// Stores the entries of a list.
+fn add<'m, L: Layout, F: Files, R: Read + Drop, M: Meter + Drop, E: Write>(
     alloc: Global,
+    files: &F,
+    trie: &mut Trie<L, SLOTS, Global>,
+    list: List<'m>,
+    source: Source<R, M>,
+    errors: &mut Watched<E>,
+) -> Result<(), Fault<'m>> {
+    let mut reader = input::open(alloc, files, list.path, source)?;
+    store_list(alloc, trie, list, &mut reader, errors)
+}
+
+/// Removes the words of a list from a dictionary, and returns whether all were held.
+fn remove<'m, L: Layout, F: Files, R: Read + Drop, M: Meter + Drop>(
+    alloc: Global,
+    files: &F,
     trie: &mut Trie<L, SLOTS, Global>,
     path: Option<&'m str>,
-    reader: &mut R,
+    source: Source<R, M>,
 ) -> Result<bool, Fault<'m>> {
-    match erase_lines(alloc, trie, reader) {
+    let mut reader = input::open(alloc, files, path, source)?;
+    match erase_lines(alloc, trie, &mut reader) {
         Ok(absent) => Ok(absent == 0),
         Err(error) => Err(store_fault(path, error)),
     }
@@ -116,12 +120,9 @@ fn merge<'m, L: Layout, F: Files>(
     other: Dictionary<'m>,
 ) -> Result<(), Fault<'m>> {
     let (reader, kind) = open(alloc, files, other.path)?;
-    if kind == Kind::Reduced {
-        let more = load::<ReducedLayout, F::File>(alloc, other, reader)?;
-        store_all(alloc, trie, &more)
-    } else {
-        let more = load_default(alloc, other, reader, kind)?;
-        store_all(alloc, trie, &more)
+    match load(alloc, other, reader, kind)? {
+        Loaded::Default(more) => store_all(alloc, trie, &more),
+        Loaded::Reduced(more) => store_all(alloc, trie, &more),
     }
 }
 
@@ -146,12 +147,11 @@ fn convert<'m, L: Layout, F: Files>(
     reduced: bool,
     asked: Change<'m>,
 ) -> Result<bool, Fault<'m>> {
-    if reduced {
-        convert_to::<ReducedLayout, L, F>(alloc, files, trie, asked)?;
+    found(if reduced {
+        convert_to::<ReducedLayout, L, F>(alloc, files, trie, asked)
     } else {
-        convert_to::<DefaultLayout, L, F>(alloc, files, trie, asked)?;
-    }
-    Ok(true)
+        convert_to::<DefaultLayout, L, F>(alloc, files, trie, asked)
+    })
 }
 
 /// Saves a dictionary's entries in a layout.

@@ -5,7 +5,7 @@ use crate::input::read_all;
 use crate::request::Dictionary;
 use cedar_journal::{MAGIC, first_payload};
 use cedar_store::words_of;
-use cedarwood::{CedarPersistenceError, DefaultLayout, Layout, Trie, Watched};
+use cedarwood::{CedarPersistenceError, DefaultLayout, Layout, ReducedLayout, Trie, Watched};
 use std::alloc::Global;
 use std::fs::File;
 use std::io::{BufRead, BufReader, Read};
@@ -21,7 +21,7 @@ const LAYOUT_PLACE: usize = 13;
 const REDUCED_LAYOUT: u8 = 1;
 
 /// What a dictionary's file is.
-#[derive(Clone, Copy, Debug, PartialEq, Eq)]
+#[derive(Clone, Copy, PartialEq, Eq)]
 pub(crate) enum Kind {
     /// A dictionary of the default layout, as it was saved.
     Default,
@@ -29,6 +29,13 @@ pub(crate) enum Kind {
     Reduced,
     /// A store: the changes that make a dictionary, one after another.
     Store,
+}
+
+/// A dictionary that is loaded, of either layout.
+#[derive(Drop)]
+pub(crate) enum Loaded {
+    Default(Trie<DefaultLayout, SLOTS, Global>),
+    Reduced(Trie<ReducedLayout, SLOTS, Global>),
 }
 
 /// Opens a dictionary's file, and returns what it is.
@@ -62,8 +69,22 @@ fn kind_of<R: BufRead>(reader: &mut R) -> Result<Kind, CedarPersistenceError> {
     })
 }
 
+/// Loads a dictionary of this kind.
+pub(crate) fn load<'m, R: Read + Drop>(
+    alloc: Global,
+    dictionary: Dictionary<'m>,
+    reader: BufReader<R>,
+    kind: Kind,
+) -> Result<Loaded, Fault<'m>> {
+    match kind {
+        Kind::Default => Ok(Loaded::Default(load_layout(alloc, dictionary, reader)?)),
+        Kind::Reduced => Ok(Loaded::Reduced(load_layout(alloc, dictionary, reader)?)),
+        Kind::Store => Ok(Loaded::Default(load_store(alloc, dictionary.path, reader)?)),
+    }
+}
+
 /// Loads a dictionary of this layout.
-pub(crate) fn load<'m, L: Layout, R: Read + Drop>(
+fn load_layout<'m, L: Layout, R: Read + Drop>(
     alloc: Global,
     dictionary: Dictionary<'m>,
     reader: BufReader<R>,
@@ -75,20 +96,16 @@ pub(crate) fn load<'m, L: Layout, R: Read + Drop>(
     }
 }
 
-/// Loads a dictionary of the default layout, or makes the one that a store's file stands for. A store's file doesn't change.
-pub(crate) fn load_default<'m, R: Read + Drop>(
+/// Makes the dictionary that a store's file stands for. The file doesn't change.
+fn load_store<'m, R: Read + Drop>(
     alloc: Global,
-    dictionary: Dictionary<'m>,
+    path: &'m str,
     reader: BufReader<R>,
-    kind: Kind,
 ) -> Result<Trie<DefaultLayout, SLOTS, Global>, Fault<'m>> {
-    if kind != Kind::Store {
-        return load::<DefaultLayout, R>(alloc, dictionary, reader);
-    }
     let mut changes = reader;
-    let bytes = read_all(alloc, Some(dictionary.path), &mut changes)?;
+    let bytes = read_all(alloc, Some(path), &mut changes)?;
     match words_of(alloc, &bytes) {
         Ok((trie, _)) => Ok(trie),
-        Err(error) => Err(Fault::Store(dictionary.path, error)),
+        Err(error) => Err(Fault::Store(path, error)),
     }
 }

@@ -1,9 +1,9 @@
 //! What two dictionaries hold differently.
 
-use crate::dictionary::{Kind, SLOTS, load, load_default, open};
+use crate::dictionary::{Loaded, SLOTS, load, open};
 use crate::fault::Fault;
 use crate::request::Dictionary;
-use cedarwood::{Layout, ReducedLayout, Trie, Watched};
+use cedarwood::{Layout, Trie, Watched};
 use std::alloc::Global;
 use std::io::Write;
 use std::rt::Files;
@@ -19,12 +19,9 @@ pub(crate) fn diff<'m, F: Files, W: Write>(
     writer: &mut Watched<W>,
 ) -> Result<bool, Fault<'m>> {
     let (reader, kind) = open(alloc, files, first.path)?;
-    if kind == Kind::Reduced {
-        let trie = load::<ReducedLayout, F::File>(alloc, first, reader)?;
-        diff_from(alloc, files, &trie, second, writer)
-    } else {
-        let trie = load_default(alloc, first, reader, kind)?;
-        diff_from(alloc, files, &trie, second, writer)
+    match load(alloc, first, reader, kind)? {
+        Loaded::Default(trie) => diff_from(alloc, files, &trie, second, writer),
+        Loaded::Reduced(trie) => diff_from(alloc, files, &trie, second, writer),
     }
 }
 
@@ -37,12 +34,9 @@ fn diff_from<'m, L: Layout, F: Files, W: Write>(
     writer: &mut Watched<W>,
 ) -> Result<bool, Fault<'m>> {
     let (reader, kind) = open(alloc, files, second.path)?;
-    if kind == Kind::Reduced {
-        let trie = load::<ReducedLayout, F::File>(alloc, second, reader)?;
-        write_diff(alloc, first, &trie, writer)
-    } else {
-        let trie = load_default(alloc, second, reader, kind)?;
-        write_diff(alloc, first, &trie, writer)
+    match load(alloc, second, reader, kind)? {
+        Loaded::Default(trie) => write_diff(alloc, first, &trie, writer),
+        Loaded::Reduced(trie) => write_diff(alloc, first, &trie, writer),
     }
 }
 

@@ -55,14 +55,26 @@ fn change_on<'m, D: ReplaceDevice + Drop, F: Files, R: Read + Drop, M: Meter + D
     requires restarted { Only (D.seen device) (D.may_leave device) }
 {
     let mut store = open_store(alloc, device, path)?;
-    let mut words = store.dictionary().clone()?;
-    let all = change_words(alloc, files, &mut words, how, source, errors)?;
-    let changes = changes_between(alloc, store.dictionary(), &words)?;
+    let (changes, all) = changes_of(alloc, files, store.dictionary(), how, source, errors)?;
     let batch = batch_of(alloc, &changes)?;
     match store.apply_batch(&batch) {
         Ok(()) => Ok(all),
         Err(error) => Err(Fault::Store(path, error)),
     }
+}
+
+/// What a change would do in a dictionary, and whether a word to remove was held.
+fn changes_of<'m, F: Files, R: Read + Drop, M: Meter + Drop, E: Write>(
+    alloc: Global,
+    files: &F,
+    before: &Words,
+    how: How<'m>,
+    source: Source<R, M>,
+    errors: &mut Watched<E>,
+) -> Result<(Vec<Changed>, bool), Fault<'m>> {
+    let mut words = before.clone()?;
+    let all = change_words(alloc, files, &mut words, how, source, errors)?;
+    Ok((changes_between(alloc, before, &words)?, all))
 }
 
 /// Opens the store on a device.
@@ -103,11 +115,7 @@ fn note_stored<'m>(
     let mut entries = after.entries_with_prefix_bytes(&[]);
     for _ in 0..after.len() {
         match entries.next_into(&mut word) {
-            Ok(Some(number)) => {
-                if before.get_bytes(&word) != Some(number) {
-                    note(changes, &word, Some(number))?;
-                }
-            }
+            Ok(Some(number)) => note_number(before, &word, number, changes)?,
             Ok(None) => break,
             Err(_) => return Err(Fault::Memory),
         }
@@ -126,14 +134,35 @@ fn note_removed<'m>(
     let mut entries = before.entries_with_prefix_bytes(&[]);
     for _ in 0..before.len() {
         match entries.next_into(&mut word) {
-            Ok(Some(_)) => {
-                if after.get_bytes(&word).is_none() {
-                    note(changes, &word, None)?;
-                }
-            }
+            Ok(Some(_)) => note_absent(after, &word, changes)?,
             Ok(None) => break,
             Err(_) => return Err(Fault::Memory),
         }
+    }
+    Ok(())
+}
+
+/// Notes a word's number if a dictionary doesn't have it.
+fn note_number(
+    before: &Words,
+    word: &Vec<u8>,
+    number: i32,
+    changes: &mut Vec<Changed>,
+) -> Result<(), AllocError> {
+    if before.get_bytes(word) != Some(number) {
+        note(changes, word, Some(number))?;
+    }
+    Ok(())
+}
+
+/// Notes a word as removed if a dictionary doesn't have it.
+fn note_absent(
+    after: &Words,
+    word: &Vec<u8>,
+    changes: &mut Vec<Changed>,
+) -> Result<(), AllocError> {
+    if after.get_bytes(word).is_none() {
+        note(changes, word, None)?;
     }
     Ok(())
 }

@@ -3,6 +3,7 @@
 use cedar_store::DurableError;
 use cedarwood::{CedarPersistenceError, Watched};
 use std::alloc::AllocError;
+use std::fmt::Display;
 use std::io;
 use std::io::{ErrorKind, Write};
 use word_lists::{ListError, StoreError};
@@ -10,8 +11,14 @@ use word_lists::{ListError, StoreError};
 /// The name of standard input in messages.
 const STANDARD_INPUT: &str = "standard input";
 
+/// What is told where a line of a list ends it.
+const STRICT: &str = "with --strict no such line may stand in a list";
+
+/// What is told of a dictionary that isn't in the order of bytes.
+const UNORDERED: &str = "it was built --unordered, so no word is the next one";
+
 /// Why the program did not do what the arguments say.
-#[derive(Debug, Drop)]
+#[derive(Drop)]
 pub(crate) enum Fault<'m> {
     /// A dictionary can't be loaded from this path.
     Load(&'m str, CedarPersistenceError),
@@ -62,31 +69,32 @@ pub(crate) fn name_of(path: Option<&str>) -> &str {
 
 /// Reports a fault on standard error.
 pub(crate) fn tell<E: Write>(errors: &mut Watched<E>, fault: Fault<'_>) {
-    let _ = match fault {
-        Fault::Load(path, error) => writeln!(errors, "roskvidh: {path}: {error}"),
-        Fault::Save(path, error) => writeln!(errors, "roskvidh: {path}: {error}"),
-        Fault::Store(path, error) => writeln!(errors, "roskvidh: {path}: {error}"),
-        Fault::Read(path, error) => {
-            let name = name_of(path);
-            writeln!(errors, "roskvidh: {name}: {error}")
-        }
-        Fault::Strict(path) => {
-            let name = name_of(path);
-            writeln!(
-                errors,
-                "roskvidh: {name}: with --strict no such line may stand in a list"
-            )
-        }
-        Fault::Unordered(path) => {
-            writeln!(
-                errors,
-                "roskvidh: {path}: it was built --unordered, so no word is the next one"
-            )
-        }
-        Fault::Write => writeln!(errors, "roskvidh: standard output can't be written"),
-        Fault::Memory => writeln!(errors, "roskvidh: out of memory"),
-        Fault::SlotLimit => writeln!(errors, "roskvidh: the dictionary has no slot left"),
-    };
+    match fault {
+        Fault::Load(path, error) => tell_of(errors, path, error),
+        Fault::Save(path, error) => tell_of(errors, path, error),
+        Fault::Store(path, error) => tell_of(errors, path, error),
+        Fault::Read(path, error) => tell_of(errors, name_of(path), error),
+        Fault::Strict(path) => tell_input(errors, name_of(path), STRICT),
+        Fault::Unordered(path) => tell_input(errors, path, UNORDERED),
+        Fault::Write => tell_text(errors, "standard output can't be written"),
+        Fault::Memory => tell_text(errors, "out of memory"),
+        Fault::SlotLimit => tell_text(errors, "the dictionary has no slot left"),
+    }
+}
+
+/// Reports an error of a file, or of an input of this name.
+fn tell_of<E: Write, T: Display + Drop>(errors: &mut Watched<E>, name: &str, error: T) {
+    let _ = writeln!(errors, "roskvidh: {name}: {error}");
+}
+
+/// Reports what is wrong with an input of this name.
+fn tell_input<E: Write>(errors: &mut Watched<E>, name: &str, what: &str) {
+    let _ = writeln!(errors, "roskvidh: {name}: {what}");
+}
+
+/// Reports what is wrong.
+fn tell_text<E: Write>(errors: &mut Watched<E>, what: &str) {
+    let _ = writeln!(errors, "roskvidh: {what}");
 }
 
 /// Whether the output is a pipe that nobody reads any more.

@@ -5,6 +5,7 @@ mod arguments;
 mod build;
 mod changes;
 mod chart;
+mod commands;
 mod dictionary;
 mod differences;
 mod durable;
@@ -15,12 +16,13 @@ mod queries;
 mod replace;
 mod request;
 mod run;
+mod shapes;
 mod texts;
 
 use arguments::command;
 use cedarwood::Watched;
-use clap::ArgMatches;
-use request::Terminals;
+use clap::Error;
+use request::{Asked, Terminals, asked_of};
 use run::{DONE, FILES, USAGE, run};
 use std::env;
 use std::io::{BufWriter, IsTerminal, LineWriter, Write};
@@ -34,30 +36,41 @@ fn main(rt: HostRuntime) -> ExitCode {
         Ok(words) => words,
         Err(_) => return tell(&rt, b"roskvidh: out of memory\n", FILES),
     };
+    read(&rt, words.as_slice())
+}
+
+/// Reads the arguments, and does what they say.
+fn read(rt: &HostRuntime, words: &[String]) -> ExitCode {
     let Ok(command) = command(rt.alloc()) else {
-        return tell(&rt, b"roskvidh: out of memory\n", FILES);
+        return tell(rt, b"roskvidh: out of memory\n", FILES);
     };
-    match command.try_get_matches_from(words.as_slice()) {
-        Ok(matches) => answer(&rt, &matches),
-        Err(error) => {
-            let status = if error.use_stderr() { USAGE } else { DONE };
-            let _ = error.print(&rt);
-            ExitCode::from(status)
-        }
+    match command.try_get_matches_from(words) {
+        Ok(matches) => match asked_of(&matches) {
+            Some(asked) => answer(rt, asked),
+            None => ExitCode::from(USAGE),
+        },
+        Err(error) => refuse(rt, &error),
     }
 }
 
+/// Says what is wrong with the arguments, or the help that they ask for.
+fn refuse(rt: &HostRuntime, error: &Error) -> ExitCode {
+    let status = if error.use_stderr() { USAGE } else { DONE };
+    let _ = error.print(rt);
+    ExitCode::from(status)
+}
+
 /// Does what the arguments say. To a terminal each line is written as soon as it is whole.
-fn answer(rt: &HostRuntime, matches: &ArgMatches<'_>) -> ExitCode {
+fn answer(rt: &HostRuntime, asked: Asked<'_>) -> ExitCode {
     let output = rt.stdout();
     let status = if output.is_terminal() {
         match LineWriter::new(rt.alloc(), output) {
-            Ok(lines) => answer_to(rt, matches, lines),
+            Ok(lines) => answer_to(rt, asked, lines),
             Err(_) => return tell(rt, b"roskvidh: out of memory\n", FILES),
         }
     } else {
         match BufWriter::new(rt.alloc(), output) {
-            Ok(blocks) => answer_to(rt, matches, blocks),
+            Ok(blocks) => answer_to(rt, asked, blocks),
             Err(_) => return tell(rt, b"roskvidh: out of memory\n", FILES),
         }
     };
@@ -65,7 +78,7 @@ fn answer(rt: &HostRuntime, matches: &ArgMatches<'_>) -> ExitCode {
 }
 
 /// Does what the arguments say, with its results to this output.
-fn answer_to<W: Write + Drop>(rt: &HostRuntime, matches: &ArgMatches<'_>, output: W) -> u8 {
+fn answer_to<W: Write + Drop>(rt: &HostRuntime, asked: Asked<'_>, output: W) -> u8 {
     let mut writer = Watched::new(output);
     let mut errors = Watched::new(rt.stderr());
     let terminals = Terminals {
@@ -76,7 +89,7 @@ fn answer_to<W: Write + Drop>(rt: &HostRuntime, matches: &ArgMatches<'_>, output
     run(
         rt.alloc(),
         &rt,
-        matches,
+        asked,
         rt.stdin(),
         &mut writer,
         &mut errors,

@@ -4,6 +4,7 @@ use crate::chart::write_chart;
 use crate::dictionary::{Kind, SLOTS};
 use crate::fault::Fault;
 use crate::request::{Dictionary, Query};
+use crate::run::found;
 use cedarwood::{Layout, Trie, Watched};
 use std::alloc::Global;
 use std::io::Write;
@@ -21,46 +22,75 @@ pub(crate) fn answer<'m, L: Layout, W: Write>(
     writer: &mut Watched<W>,
 ) -> Result<bool, Fault<'m>> {
     let mut word = Vec::new(alloc);
+    read_word(text_of(query).as_bytes(), &mut word)?;
     match query {
         Query::Get(words) => get(trie, words, &mut word, writer),
-        Query::Prefixes(text) => {
-            read_word(text.as_bytes(), &mut word)?;
-            Ok(write_fronts(writer, trie, &word)?)
-        }
-        Query::Complete(prefix, most) => {
-            read_word(prefix.as_bytes(), &mut word)?;
-            let found = list_under(alloc, trie, &word, most.unwrap_or(u64::MAX), writer)?;
-            Ok(0 < found)
-        }
-        Query::Check => {
-            check(trie, dictionary, kind, writer)?;
-            Ok(true)
-        }
-        Query::Stats(chart) => {
-            write_figures(trie, writer)?;
-            if chart {
-                write_chart(alloc, trie, writer)?;
-            }
-            Ok(true)
-        }
-        Query::Show(prefix, is_drawing) => {
-            read_word(prefix.as_bytes(), &mut word)?;
-            show(alloc, trie, &word, is_drawing, writer)
-        }
-        Query::List => {
-            list_under(alloc, trie, &[], u64::MAX, writer)?;
-            Ok(true)
-        }
-        Query::ListUnder(prefix) => {
-            read_word(prefix.as_bytes(), &mut word)?;
-            list_under(alloc, trie, &word, u64::MAX, writer)?;
-            Ok(true)
-        }
-        Query::ListFrom(first) => {
-            read_word(first.as_bytes(), &mut word)?;
-            list_from(alloc, trie, dictionary, &word, writer)
-        }
+        Query::Prefixes(_) => prefixes(trie, &word, writer),
+        Query::Complete(_, most) => complete(alloc, trie, &word, most, writer),
+        Query::Check => found(check(trie, dictionary, kind, writer)),
+        Query::Stats(chart) => found(stats(alloc, trie, chart, writer)),
+        Query::Show(_, is_drawing) => show(alloc, trie, &word, is_drawing, writer),
+        Query::List | Query::ListUnder(_) => list(alloc, trie, &word, writer),
+        Query::ListFrom(_) => list_from(alloc, trie, dictionary, &word, writer),
     }
+}
+
+/// The text of a query, as the arguments have it. A list of all words is one of those that begin with no byte.
+fn text_of<'m>(query: Query<'m>) -> &'m str {
+    match query {
+        Query::Prefixes(text)
+        | Query::Complete(text, _)
+        | Query::Show(text, _)
+        | Query::ListUnder(text)
+        | Query::ListFrom(text) => text,
+        Query::Get(_) | Query::Check | Query::Stats(_) | Query::List => "",
+    }
+}
+
+/// Lists the words that a text begins with, and returns whether there is one.
+fn prefixes<'m, L: Layout, W: Write>(
+    trie: &Trie<L, SLOTS, Global>,
+    text: &[u8],
+    writer: &mut Watched<W>,
+) -> Result<bool, Fault<'m>> {
+    Ok(write_fronts(writer, trie, text)?)
+}
+
+/// Lists the words that begin with a prefix, so many at most, and returns whether there is one.
+fn complete<'m, L: Layout, W: Write>(
+    alloc: Global,
+    trie: &Trie<L, SLOTS, Global>,
+    prefix: &[u8],
+    most: Option<u64>,
+    writer: &mut Watched<W>,
+) -> Result<bool, Fault<'m>> {
+    let count = list_under(alloc, trie, prefix, most.unwrap_or(u64::MAX), writer)?;
+    Ok(0 < count)
+}
+
+/// Lists the words that begin with a prefix.
+fn list<'m, L: Layout, W: Write>(
+    alloc: Global,
+    trie: &Trie<L, SLOTS, Global>,
+    prefix: &[u8],
+    writer: &mut Watched<W>,
+) -> Result<bool, Fault<'m>> {
+    list_under(alloc, trie, prefix, u64::MAX, writer)?;
+    Ok(true)
+}
+
+/// Writes the figures of a dictionary, and a bar for each length of word if they are wanted.
+fn stats<'m, L: Layout, W: Write>(
+    alloc: Global,
+    trie: &Trie<L, SLOTS, Global>,
+    chart: bool,
+    writer: &mut Watched<W>,
+) -> Result<(), Fault<'m>> {
+    write_figures(trie, writer)?;
+    if chart {
+        return write_chart(alloc, trie, writer);
+    }
+    Ok(())
 }
 
 /// Shows the words that begin with a prefix as a tree, and returns whether there is one.
@@ -105,24 +135,33 @@ fn write_figures<'m, L: Layout, W: Write>(
     trie: &Trie<L, SLOTS, Global>,
     writer: &mut Watched<W>,
 ) -> Result<(), Fault<'m>> {
+    write_form(trie, writer)?;
     let figures = trie.memory_stats();
-    let layout = layout_name::<L>();
-    let order = order_name(trie);
     let rows = [
         ("words", figures.entries),
         ("slots held", figures.used_node_slots),
         ("slots", figures.node_capacity),
         ("bytes", figures.allocated_bytes),
     ];
-    if writeln!(writer, "layout\t{layout}\norder\t{order}").is_err() {
-        return Err(Fault::Write);
-    }
     for (name, number) in &rows {
         if writeln!(writer, "{name}\t{number}").is_err() {
             return Err(Fault::Write);
         }
     }
     Ok(())
+}
+
+/// Writes the layout and the order of a dictionary, a line each.
+fn write_form<'m, L: Layout, W: Write>(
+    trie: &Trie<L, SLOTS, Global>,
+    writer: &mut Watched<W>,
+) -> Result<(), Fault<'m>> {
+    let layout = layout_name::<L>();
+    let order = order_name(trie);
+    match writeln!(writer, "layout\t{layout}\norder\t{order}") {
+        Ok(()) => Ok(()),
+        Err(_) => Err(Fault::Write),
+    }
 }
 
 /// The name of a kind of file.
@@ -177,8 +216,7 @@ fn list_under<'m, L: Layout, W: Write>(
 ) -> Result<u64, Fault<'m>> {
     let mut key = Vec::new(alloc);
     let mut entries = trie.entries_with_prefix_bytes(prefix);
-    let found = write_next_entries(writer, &mut entries, most, &mut key)?;
-    Ok(found)
+    Ok(write_next_entries(writer, &mut entries, most, &mut key)?)
 }
 
 /// Lists the entries from a word on.

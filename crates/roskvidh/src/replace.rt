@@ -10,7 +10,7 @@ use crate::texts::next_line;
 use cedarwood::{CedarError, DefaultLayout, Trie, Watched};
 use memchr::memchr;
 use std::alloc::{AllocError, Global};
-use std::io::{Read, Write};
+use std::io::{BufRead, Read, Write};
 use std::rt::Files;
 use word_lists::{list_lines, read_word, write_replaced};
 
@@ -54,14 +54,39 @@ pub(crate) fn replace<'m, F: Files, R: Read + Drop, M: Meter + Drop, W: Write, E
     let list = read_file(alloc, files, asked.list)?;
     let mut words = empty::<DefaultLayout>(alloc, true)?;
     let texts = store_words(alloc, &mut words, asked, &list, errors)?;
+    replace_text(alloc, files, &words, &texts, asked.text, source, writer)
+}
+
+/// Writes the text of a path, or of standard input, with its words replaced.
+fn replace_text<'m, F: Files, R: Read + Drop, M: Meter + Drop, W: Write>(
+    alloc: Global,
+    files: &F,
+    words: &Trie<DefaultLayout, SLOTS, Global>,
+    texts: &Texts,
+    path: Option<&'m str>,
+    source: Source<R, M>,
+    writer: &mut Watched<W>,
+) -> Result<(), Fault<'m>> {
     let texts = texts.list(alloc)?;
-    let mut reader = open(alloc, files, asked.text, source)?;
+    let mut reader = open(alloc, files, path, source)?;
+    replace_lines(alloc, words, &texts, path, &mut reader, writer)
+}
+
+/// Writes each line of a text with its words replaced.
+fn replace_lines<'m, R: BufRead, W: Write>(
+    alloc: Global,
+    words: &Trie<DefaultLayout, SLOTS, Global>,
+    texts: &[&[u8]],
+    path: Option<&'m str>,
+    reader: &mut R,
+    writer: &mut Watched<W>,
+) -> Result<(), Fault<'m>> {
     let mut line = Vec::new(alloc);
     for _ in 0..u64::MAX {
-        if !next_line(&mut reader, asked.text, &mut line)? {
+        if !next_line(reader, path, &mut line)? {
             break;
         }
-        write_replaced(writer, &words, &line, &texts)?;
+        write_replaced(writer, words, &line, texts)?;
     }
     Ok(())
 }
@@ -80,20 +105,33 @@ fn store_words<'m, E: Write>(
         bytes: Vec::new(alloc),
         ends: Vec::new(alloc),
     };
-    let mut word = Vec::new(alloc);
-    let mut number = 0u64;
-    let mut is_told = false;
-    for line in &lines {
-        number = number.saturating_add(1);
-        if let Some(why) = store_word(words, line, number, &mut word, &mut texts)? {
-            tell_line(errors, asked.list, number, line, why);
-            is_told = true;
-        }
-    }
+    let is_told = store_each(alloc, words, asked.list, &lines, &mut texts, errors)?;
     if asked.strict && is_told {
         return Err(Fault::Strict(Some(asked.list)));
     }
     Ok(texts)
+}
+
+/// The same for the lines of a list, one by one. Returns whether a line was reported.
+fn store_each<'m, E: Write>(
+    alloc: Global,
+    words: &mut Trie<DefaultLayout, SLOTS, Global>,
+    name: &str,
+    lines: &[&[u8]],
+    texts: &mut Texts,
+    errors: &mut Watched<E>,
+) -> Result<bool, Fault<'m>> {
+    let mut word = Vec::new(alloc);
+    let mut number = 0u64;
+    let mut is_told = false;
+    for line in lines {
+        number = number.saturating_add(1);
+        if let Some(why) = store_word(words, line, number, &mut word, texts)? {
+            tell_line(errors, name, number, line, why);
+            is_told = true;
+        }
+    }
+    Ok(is_told)
 }
 
 /// Stores the word of a line with this number, and what it is replaced by, and returns what is wrong with the line. An empty one has
@@ -113,12 +151,31 @@ fn store_word<'m>(
             Some("no tab, passed over")
         });
     };
-    read_word(line.get(at..).unwrap_or(&[]).get(1..).unwrap_or(&[]), word)?;
-    texts.push(word)?;
+    push_text(line, at, word, texts)?;
     read_word(line.get(..at).unwrap_or(&[]), word)?;
     let Ok(value) = i32::try_from(number) else {
         return Err(Fault::SlotLimit);
     };
+    insert(words, word, value)
+}
+
+/// One text more: that behind the tab of a line.
+fn push_text<'m>(
+    line: &[u8],
+    at: usize,
+    word: &mut Vec<u8>,
+    texts: &mut Texts,
+) -> Result<(), Fault<'m>> {
+    read_word(line.get(at..).unwrap_or(&[]).get(1..).unwrap_or(&[]), word)?;
+    Ok(texts.push(word)?)
+}
+
+/// Stores a word, and returns what is wrong with it.
+fn insert<'m>(
+    words: &mut Trie<DefaultLayout, SLOTS, Global>,
+    word: &[u8],
+    value: i32,
+) -> Result<Option<&'static str>, Fault<'m>> {
     match words.insert_bytes(word, value) {
         Ok(None) => Ok(None),
         Ok(Some(_)) => Ok(Some("a word that an earlier line has, whose text this one replaces")),

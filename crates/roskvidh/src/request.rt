@@ -3,8 +3,15 @@
 use cedarwood::DEFAULT_LOAD_MEMORY_LIMIT;
 use clap::ArgMatches;
 
-/// What the arguments say.
-#[derive(Clone, Copy, Debug)]
+/// What the arguments say, and whether they say that it is reported how far a list or a text is read.
+#[derive(Clone, Copy)]
+pub(crate) struct Asked<'m> {
+    pub request: Request<'m>,
+    pub progress: bool,
+}
+
+/// What is to be done.
+#[derive(Clone, Copy)]
 pub(crate) enum Request<'m> {
     Build(Build<'m>),
     Query(Dictionary<'m>, Query<'m>),
@@ -15,7 +22,7 @@ pub(crate) enum Request<'m> {
 }
 
 /// A text whose words are replaced.
-#[derive(Clone, Copy, Debug)]
+#[derive(Clone, Copy)]
 pub(crate) struct Replace<'m> {
     /// The list of the words and what each is replaced by.
     pub list: &'m str,
@@ -26,7 +33,7 @@ pub(crate) struct Replace<'m> {
 }
 
 /// Which of the standard streams are terminals.
-#[derive(Clone, Copy, Debug)]
+#[derive(Clone, Copy)]
 pub(crate) struct Terminals {
     pub input: bool,
     pub output: bool,
@@ -34,7 +41,7 @@ pub(crate) struct Terminals {
 }
 
 /// How a dictionary is changed, and where it is saved then.
-#[derive(Clone, Copy, Debug)]
+#[derive(Clone, Copy)]
 pub(crate) struct Change<'m> {
     pub how: How<'m>,
     /// Where the changed dictionary is saved.
@@ -46,7 +53,7 @@ pub(crate) struct Change<'m> {
 }
 
 /// What is changed.
-#[derive(Clone, Copy, Debug)]
+#[derive(Clone, Copy)]
 pub(crate) enum How<'m> {
     /// The entries of a list are stored.
     Add(List<'m>),
@@ -59,7 +66,7 @@ pub(crate) enum How<'m> {
 }
 
 /// A word list.
-#[derive(Clone, Copy, Debug)]
+#[derive(Clone, Copy)]
 pub(crate) struct List<'m> {
     /// Its path; standard input if there is none.
     pub path: Option<&'m str>,
@@ -68,7 +75,7 @@ pub(crate) struct List<'m> {
 }
 
 /// A dictionary that is made of a word list.
-#[derive(Clone, Copy, Debug)]
+#[derive(Clone, Copy)]
 pub(crate) struct Build<'m> {
     pub list: List<'m>,
     /// Where the dictionary is saved.
@@ -78,7 +85,7 @@ pub(crate) struct Build<'m> {
 }
 
 /// A dictionary's file.
-#[derive(Clone, Copy, Debug)]
+#[derive(Clone, Copy)]
 pub(crate) struct Dictionary<'m> {
     pub path: &'m str,
     /// How many bytes a load may allocate.
@@ -86,7 +93,7 @@ pub(crate) struct Dictionary<'m> {
 }
 
 /// A query of a dictionary alone.
-#[derive(Clone, Copy, Debug)]
+#[derive(Clone, Copy)]
 pub(crate) enum Query<'m> {
     Get(&'m [&'m str]),
     Prefixes(&'m str),
@@ -104,7 +111,7 @@ pub(crate) enum Query<'m> {
 }
 
 /// A query of a dictionary and a text.
-#[derive(Clone, Copy, Debug)]
+#[derive(Clone, Copy)]
 pub(crate) struct Reading<'m> {
     /// The text's path; standard input if there is none.
     pub text: Option<&'m str>,
@@ -112,7 +119,7 @@ pub(crate) struct Reading<'m> {
 }
 
 /// What is done with a text.
-#[derive(Clone, Copy, Debug)]
+#[derive(Clone, Copy)]
 pub(crate) enum Task<'m> {
     /// Cut it, with this sign between words.
     Cut(&'m str),
@@ -127,23 +134,53 @@ pub(crate) enum Task<'m> {
 }
 
 /// What the arguments say; None if the command is none of the program's, which no parse gives.
-pub(crate) fn request_of<'m, 'a>(matches: &'m ArgMatches<'a>) -> Option<Request<'m>> {
+pub(crate) fn asked_of<'m, 'a>(matches: &'m ArgMatches<'a>) -> Option<Asked<'m>> {
     let (name, asked) = matches.subcommand()?;
+    let request = request_of(name, asked)?;
+    let progress = asked.get_flag("progress");
+    Some(Asked { request, progress })
+}
+
+/// What a command says with these arguments.
+fn request_of<'m, 'a>(name: &str, asked: &'m ArgMatches<'a>) -> Option<Request<'m>> {
+    if let Some(request) = query_named(name, asked) {
+        return Some(request);
+    }
+    if let Some(request) = reading_named(name, asked) {
+        return Some(request);
+    }
+    change_named(name, asked)
+}
+
+/// What a command says that asks one dictionary or two.
+fn query_named<'m, 'a>(name: &str, asked: &'m ArgMatches<'a>) -> Option<Request<'m>> {
     match name {
-        "build" => Some(Request::Build(build_of(asked)?)),
         "get" => query_of(asked, Query::Get(asked.get_strs("word")?)),
         "prefixes" => query_of(asked, Query::Prefixes(asked.get_str("text")?)),
-        "complete" => query_of(
-            asked,
-            Query::Complete(asked.get_str("prefix")?, asked.get_one("most")),
-        ),
+        "complete" => query_of(asked, complete_of(asked)?),
         "list" => query_of(asked, list_of(asked)),
-        "cut" => reading_of(asked, cut_of(asked, asked.get_str("sign")?)),
-        "scan" => reading_of(asked, scan_of(asked)),
         "check" => query_of(asked, Query::Check),
         "stats" => query_of(asked, Query::Stats(asked.get_flag("chart"))),
         "show" => query_of(asked, show_of(asked)),
-        "replace" => Some(Request::Replace(replace_of(asked)?)),
+        "diff" => diff_of(asked),
+        _ => None,
+    }
+}
+
+/// What a command says that reads a text.
+fn reading_named<'m, 'a>(name: &str, asked: &'m ArgMatches<'a>) -> Option<Request<'m>> {
+    match name {
+        "cut" => reading_of(asked, cut_of(asked, asked.get_str("sign")?)),
+        "scan" => reading_of(asked, scan_of(asked)),
+        "replace" => replace_of(asked),
+        _ => None,
+    }
+}
+
+/// What a command says that makes or changes a file.
+fn change_named<'m, 'a>(name: &str, asked: &'m ArgMatches<'a>) -> Option<Request<'m>> {
+    match name {
+        "build" => build_of(asked),
         "add" => in_place(
             asked,
             How::Add(word_list_of(asked)),
@@ -152,18 +189,28 @@ pub(crate) fn request_of<'m, 'a>(matches: &'m ArgMatches<'a>) -> Option<Request<
         "remove" => in_place(asked, How::Remove(path_of(asked.get_str("words"))), false),
         "merge" => elsewhere(asked, How::Merge(other_of(asked)?)),
         "convert" => elsewhere(asked, How::Convert(layout_of(asked))),
-        "diff" => Some(Request::Diff(dictionary_of(asked)?, other_of(asked)?)),
         _ => None,
     }
 }
 
-fn build_of<'m, 'a>(asked: &'m ArgMatches<'a>) -> Option<Build<'m>> {
-    Some(Build {
+fn complete_of<'m, 'a>(asked: &'m ArgMatches<'a>) -> Option<Query<'m>> {
+    let prefix = asked.get_str("prefix")?;
+    Some(Query::Complete(prefix, asked.get_one("most")))
+}
+
+fn diff_of<'m, 'a>(asked: &'m ArgMatches<'a>) -> Option<Request<'m>> {
+    let first = dictionary_of(asked)?;
+    Some(Request::Diff(first, other_of(asked)?))
+}
+
+fn build_of<'m, 'a>(asked: &'m ArgMatches<'a>) -> Option<Request<'m>> {
+    let output = asked.get_str("output")?;
+    Some(Request::Build(Build {
         list: word_list_of(asked),
-        output: asked.get_str("output")?,
+        output,
         reduced: asked.get_flag("reduced"),
         unordered: asked.get_flag("unordered"),
-    })
+    }))
 }
 
 fn query_of<'m, 'a>(asked: &'m ArgMatches<'a>, query: Query<'m>) -> Option<Request<'m>> {
@@ -254,25 +301,22 @@ fn cut_of<'m>(asked: &ArgMatches<'_>, sign: &'m str) -> Task<'m> {
     }
 }
 
-fn replace_of<'m, 'a>(asked: &'m ArgMatches<'a>) -> Option<Replace<'m>> {
-    Some(Replace {
-        list: asked.get_str("pairs")?,
+fn replace_of<'m, 'a>(asked: &'m ArgMatches<'a>) -> Option<Request<'m>> {
+    let list = asked.get_str("pairs")?;
+    Some(Request::Replace(Replace {
+        list,
         text: path_of(asked.get_str("text")),
         strict: asked.get_flag("strict"),
-    })
+    }))
 }
 
 /// Whether it is reported how far a list or a text is read: if the arguments say so; and otherwise on a terminal, unless somebody types the
 /// text there or reads the results.
-pub(crate) fn tells_progress(
-    matches: &ArgMatches<'_>,
-    request: Request<'_>,
-    terminals: Terminals,
-) -> bool {
-    let Some((is_typed, is_answered)) = reads(request) else {
+pub(crate) fn tells_progress(asked: Asked<'_>, terminals: Terminals) -> bool {
+    let Some((is_typed, is_answered)) = reads(asked.request) else {
         return false;
     };
-    if is_progress_asked(matches) {
+    if asked.progress {
         return true;
     }
     terminals.errors && !(is_typed && terminals.input) && !(is_answered && terminals.output)
@@ -290,13 +334,6 @@ fn reads(request: Request<'_>) -> Option<(bool, bool)> {
             How::Merge(_) | How::Convert(_) => None,
         },
         Request::Query(_, _) | Request::Diff(_, _) => None,
-    }
-}
-
-fn is_progress_asked(matches: &ArgMatches<'_>) -> bool {
-    match matches.subcommand() {
-        Some((_, asked)) => asked.get_flag("progress"),
-        None => false,
     }
 }
 

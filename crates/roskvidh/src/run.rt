@@ -2,17 +2,16 @@
 
 use crate::build::build;
 use crate::changes::change;
-use crate::dictionary::{Kind, load, load_default, open};
+use crate::dictionary::{Loaded, load, open};
 use crate::differences::diff;
 use crate::fault::{Fault, is_closed, tell};
 use crate::input::Source;
 use crate::meter::{Meter, Progress};
 use crate::queries::answer;
 use crate::replace::replace;
-use crate::request::{Dictionary, Query, Reading, Request, Terminals, request_of, tells_progress};
+use crate::request::{Asked, Dictionary, Query, Reading, Request, Terminals, tells_progress};
 use crate::texts::read_text;
-use cedarwood::{ReducedLayout, Watched};
-use clap::ArgMatches;
+use cedarwood::Watched;
 use std::alloc::Global;
 use std::io::{Read, Write};
 use std::rt::Files;
@@ -34,23 +33,20 @@ pub(crate) const FILES: u8 = 3;
 pub(crate) fn run<F: Files + Clock + Copy + Drop, R: Read + Drop, W: Write, E: Write + Drop>(
     alloc: Global,
     files: &F,
-    matches: &ArgMatches<'_>,
+    asked: Asked<'_>,
     input: R,
     writer: &mut Watched<W>,
     errors: &mut Watched<E>,
     progress: E,
     terminals: Terminals,
 ) -> u8 {
-    let Some(request) = request_of(matches) else {
-        return USAGE;
-    };
-    let is_told = tells_progress(matches, request, terminals);
+    let is_told = tells_progress(asked, terminals);
     let meter = Progress::new(files, progress, is_told, terminals.errors);
     let source = Source {
         standard: input,
         meter,
     };
-    end_request(alloc, files, request, source, writer, errors)
+    end_request(alloc, files, asked.request, source, writer, errors)
 }
 
 /// Does what the arguments say, and returns the status to end with.
@@ -83,27 +79,41 @@ fn answer_request<'m, F: Files + Copy + Drop, R: Read + Drop, M: Meter + Drop, W
     writer: &mut Watched<W>,
     errors: &mut Watched<E>,
 ) -> Result<bool, Fault<'m>> {
-    let found = match request {
-        Request::Build(asked) => {
-            build(alloc, files, asked, source, errors)?;
-            true
-        }
-        Request::Query(dictionary, query) => ask(alloc, files, dictionary, query, writer)?,
-        Request::Text(dictionary, reading) => {
-            read(alloc, files, dictionary, reading, source, writer)?
-        }
-        Request::Change(dictionary, asked) => {
-            change(alloc, files, dictionary, asked, source, errors)?
-        }
-        Request::Diff(first, second) => diff(alloc, files, first, second, writer)?,
-        Request::Replace(asked) => {
-            replace(alloc, files, asked, source, writer, errors)?;
-            true
-        }
-    };
+    let found = do_request(alloc, files, request, source, writer, errors)?;
     match writer.flush() {
         Ok(()) => Ok(found),
         Err(_) => Err(Fault::Write),
+    }
+}
+
+/// Does what the arguments say. Returns false if nothing was found.
+fn do_request<'m, F: Files + Copy + Drop, R: Read + Drop, M: Meter + Drop, W: Write, E: Write>(
+    alloc: Global,
+    files: &F,
+    request: Request<'m>,
+    source: Source<R, M>,
+    writer: &mut Watched<W>,
+    errors: &mut Watched<E>,
+) -> Result<bool, Fault<'m>> {
+    match request {
+        Request::Build(asked) => found(build(alloc, files, asked, source, errors)),
+        Request::Query(dictionary, query) => ask(alloc, files, dictionary, query, writer),
+        Request::Text(dictionary, reading) => {
+            read(alloc, files, dictionary, reading, source, writer)
+        }
+        Request::Change(dictionary, asked) => {
+            change(alloc, files, dictionary, asked, source, errors)
+        }
+        Request::Diff(first, second) => diff(alloc, files, first, second, writer),
+        Request::Replace(asked) => found(replace(alloc, files, asked, source, writer, errors)),
+    }
+}
+
+/// The result of a command that looks for nothing.
+pub(crate) fn found<'m>(done: Result<(), Fault<'m>>) -> Result<bool, Fault<'m>> {
+    match done {
+        Ok(()) => Ok(true),
+        Err(fault) => Err(fault),
     }
 }
 
@@ -116,12 +126,9 @@ fn ask<'m, F: Files, W: Write>(
     writer: &mut Watched<W>,
 ) -> Result<bool, Fault<'m>> {
     let (reader, kind) = open(alloc, files, dictionary.path)?;
-    if kind == Kind::Reduced {
-        let trie = load::<ReducedLayout, F::File>(alloc, dictionary, reader)?;
-        answer(alloc, &trie, dictionary, kind, query, writer)
-    } else {
-        let trie = load_default(alloc, dictionary, reader, kind)?;
-        answer(alloc, &trie, dictionary, kind, query, writer)
+    match load(alloc, dictionary, reader, kind)? {
+        Loaded::Default(trie) => answer(alloc, &trie, dictionary, kind, query, writer),
+        Loaded::Reduced(trie) => answer(alloc, &trie, dictionary, kind, query, writer),
     }
 }
 
@@ -136,11 +143,8 @@ fn read<'m, F: Files, R: Read + Drop, M: Meter + Drop, W: Write>(
 ) -> Result<bool, Fault<'m>> {
     let (reader, kind) = open(alloc, files, dictionary.path)?;
     let mut text = crate::input::open(alloc, files, reading.text, source)?;
-    if kind == Kind::Reduced {
-        let trie = load::<ReducedLayout, F::File>(alloc, dictionary, reader)?;
-        read_text(alloc, &trie, reading, &mut text, writer)
-    } else {
-        let trie = load_default(alloc, dictionary, reader, kind)?;
-        read_text(alloc, &trie, reading, &mut text, writer)
+    match load(alloc, dictionary, reader, kind)? {
+        Loaded::Default(trie) => read_text(alloc, &trie, reading, &mut text, writer),
+        Loaded::Reduced(trie) => read_text(alloc, &trie, reading, &mut text, writer),
     }
 }
