@@ -4,9 +4,8 @@ use crate::counted::search;
 use crate::counter::count;
 use crate::filter::{has_keyword, keywords_of};
 use crate::pages::{page_behind, page_from};
-use crate::pieces::pieces_of;
 use crate::service::publish;
-use crate::tokenizer::Tokenizer;
+use crate::tokenizer::{Tokenizer, pieces_of};
 use cedarwood::{
     Cedar, CedarBuilder, CedarError, CedarPersistenceError, DefaultLayout, Trie, Watched,
 };
