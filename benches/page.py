@@ -120,7 +120,7 @@ def block():
     """What stands between the marker lines."""
     notes, given = rows.read_all()
     if not given:
-        return ["", "Nothing has been stored yet: `./bench --store` stores what it measures.", ""]
+        return ["", "Nothing has been stored yet: `./measure --store` stores what it measures.", ""]
     table = Table(given)
     made = ["", *introduction(table, notes, given), ""]
     compared = table.times_as_fast()

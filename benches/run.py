@@ -68,7 +68,7 @@ class Plan:
 
 
 def arguments():
-    parser = argparse.ArgumentParser(prog="bench", description="Measures the dictionary beside its peers.")
+    parser = argparse.ArgumentParser(prog="measure", description="Measures the dictionary beside its peers.")
     parser.add_argument("--quick", action="store_true", help="a small workload, which takes some two minutes")
     parser.add_argument("--counts", action="store_true", help="count instructions and misses by callgrind too, on the small workloads")
     parser.add_argument("--only-counts", action="store_true", help="no times: for a machine that does other work")
@@ -236,7 +236,7 @@ BEGUN = time.monotonic()
 
 def say(text):
     minutes, seconds = divmod(int(time.monotonic() - BEGUN), 60)
-    print(f"bench {minutes:2}:{seconds:02} {text}", flush=True)
+    print(f"measure {minutes:2}:{seconds:02} {text}", flush=True)
 
 
 def main():
@@ -244,7 +244,7 @@ def main():
     plan = Plan(told)
     packages = Packages(OUT / "packages", told.offline)
     if plan.is_counted and not counting.is_there():
-        sys.exit("bench: the command 'valgrind' is missing on this machine: it counts")
+        sys.exit("measure: the command 'valgrind' is missing on this machine: it counts")
     def wants(name):
         return told.only is None or name in told.only.split(",")
 
@@ -253,7 +253,7 @@ def main():
     chosen += [subjects.original(OUT, told.original)] if told.original and wants("cedarwood") else []
     chosen += subjects.peers(OUT, packages, wants)
     if not chosen:
-        sys.exit(f"bench: there is no subject {told.only}")
+        sys.exit(f"measure: there is no subject {told.only}")
     begun = time.strftime("%Y-%m-%d %H:%M")
     notes = make_workloads(plan, told.words, packages)
     results = Results(commit_of(), machine_of())
@@ -282,4 +282,4 @@ def main():
 try:
     main()
 except (timing.Wrong, rows.Mixed, subjects.Missing, subprocess.CalledProcessError) as error:
-    sys.exit(f"bench: {error}")
+    sys.exit(f"measure: {error}")

@@ -52,7 +52,7 @@ def here(is_built):
     """This repository's library, called from Rattle by the program of crates/measure_run, and the program for scripts: proved and built if they
     aren't; with `is_built` those that are there."""
     if not is_built:
-        print("bench: the programs in Rattle are proved and built first where they aren't", flush=True)
+        print("measure: the programs in Rattle are proved and built first where they aren't", flush=True)
         subprocess.run([str(TOP / "tools" / "program"), "measure_run", str(TOP / "crates" / "measure_run" / "data"), "0"], check=True)
         subprocess.run([str(TOP / "cedar")], stdin=subprocess.DEVNULL, check=True)
     program, scripts = built_here("measure_run"), built_here("cedar")
@@ -66,7 +66,7 @@ def here_c(out, is_built):
     library = TOP / "crates" / "cedar_c" / "out" / "c" / "libcedar.a"
     sources = [*TOP.glob("crates/*/src/**/*.rt"), *TOP.glob("include/*"), *TOP.glob("c/*")]
     if not is_built and (not library.exists() or any(path.stat().st_mtime > library.stat().st_mtime for path in sources)):
-        print("bench: ./build-c proves and builds the library first", flush=True)
+        print("measure: ./build-c proves and builds the library first", flush=True)
         subprocess.run([str(TOP / "build-c")], check=True)
     if not library.exists():
         raise Missing(f"{library.relative_to(TOP)} isn't there: ./build-c --after-gate builds it")
@@ -92,7 +92,7 @@ def peers(out, packages, wants):
         found = packages.get(package, header)
         archive = packages.get(package, library)
         if not found or not archive:
-            print(f"bench: {name} is left out: Debian's package {package} isn't there", flush=True)
+            print(f"measure: {name} is left out: Debian's package {package} isn't there", flush=True)
             continue
         include = found.parents[header.count("/")]
         program = compiled(out, name, source, *([] if str(include) == "/usr/include" else ["-I", include]), archive)

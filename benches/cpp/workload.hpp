@@ -20,7 +20,7 @@ struct Pair {
 };
 
 [[noreturn]] inline void stop(const std::string &message) {
-    std::fprintf(stderr, "bench: %s\n", message.c_str());
+    std::fprintf(stderr, "measure: %s\n", message.c_str());
     std::exit(1);
 }
 
