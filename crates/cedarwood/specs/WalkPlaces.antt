@@ -1,5 +1,5 @@
 -- Where walks that are under way stand in a table.
-use Rattle.std.specs.Prelude.{◌≡◌, ◌==◌, cond, ℕ, ◌<◌, ◌≤◌, ℤ, List, [], ◌∷◌, length, map, MatchOption, Option}
+use Rattle.std.specs.Prelude.{◌≡◌, ◌==◌, cond, ℕ, ◌<◌, ◌≤◌, ℤ, List, [], ◌∷◌, length, map, MatchOption, Option, Some}
 use Rattle.cedar_tree.specs.Queries.{Entry, predict}
 use Rattle.cedar_tree.specs.Walks.{visited_entries}
 use Rattle.cedar_walk.specs.declared.pending.PendingSibling.{PendingSibling}
@@ -7,7 +7,7 @@ use Rattle.cedar_walk.specs.declared.visits.Numbered.{Numbered}
 use Rattle.cedar_walk.specs.Fronts.{IsOnQuery}
 use Rattle.cedar_walk.specs.Pending.{IsPending}
 use Rattle.cedar_model.specs.Table.TableFields.{Fields}
-use Rattle.cedar_walk.specs.Visits.{IsBelow, IsNumberedBelow, left_at, path_to}
+use Rattle.cedar_walk.specs.Visits.{IsBelow, IsNumberedBelow, left_at, number_below, path_to}
 use Rattle.cedar_model.specs.Meaning.WellFormed.{cells_in, IsWellFormed, tree_of}
 use Rattle.cedarwood.specs.declared.queries.predict.PredictPlace.{PredictPlace}
 use Rattle.cedarwood.specs.declared.queries.predict.PredictPlace.TheVariants.{End, Node, Start}
@@ -44,10 +44,11 @@ pub record GoesOnTo (T : Fields) (query : List ℕ) (place : PredictPlace) (sibl
 abbrev pub entries_from : Fields → List ℕ → ℕ → ℕ → List Entry
 entries_from T key s left = cond (left == 0) [] (visited_entries (left_at T [] (length key) s))
 
--- it stands there as long as there are any
+-- it stands there as long as there are any: at the root, or at a node with a number
 pub record IsEntriesPlace (T : Fields) (key : List ℕ) (s : ℕ) : Type 0 where
   pub below : IsBelow (cells_in T) [] (length key) s
   pub path : path_to T (length key) s ≡ key
+  pub number : (s ≡ 0 → ⊥) → (v : ℤ) × (number_below T [] (length key) s ≡ Some v)
 
 -- it comes to an entry: the first of those left
 pub record ComesToEntry (T : Fields) (left : List Entry) (key : List ℕ) (found : ℕ × ℤ) : Type 0 where

@@ -4,6 +4,7 @@ ghost use Rattle.std.specs.Prelude.{◌<◌, ◌↔◌, ◌∷◌, ◌≡◌, []
 ghost use Rattle.cedarwood.specs.Words.{entries_from, Entry, GoesToCopied, GoesToEntry, IsEntriesPlace, IsEntryError, IsWellFormed, IsWithinCount, item_count, Memory, tree_of, UpTo, walk};
 
 use crate::CedarError;
+use crate::queries::ranged::write_key;
 use crate::queries::walked::Walked;
 use std::alloc::{AllocError, Allocator};
 use std::iter::FusedIterator;
@@ -32,7 +33,25 @@ impl<'a, T: Walked, A: Allocator + Copy> Model for Entries<'a, T, A> {
         × (length (entries_from (T.shown it.trie.now) it.key.items it.slot it.left) ≡ it.left) };
 }
 
+/// Comes from the root, whose path is empty, to the first node that has a number: `key` becomes its path.
+#[inline(never)]
+fn first_entry<T: Walked, A: Allocator>(
+    trie: &T,
+    key: &mut Vec<u8, A>,
+) -> Result<Option<(usize, i32)>, AllocError>
+    requires well_formed { IsWellFormed T.slots (T.shown trie.now) }
+    requires place { IsEntriesPlace (T.shown trie.now) key.old.items 0 }
+    ensures { IfOk result (GoesToEntry (T.shown trie.now) 0 key.old.items key.new.items) }
+{
+    let Some(next) = trie.first_numbered(&[]) else {
+        return Ok(None);
+    };
+    write_key(trie, &[], next.slot, next.depth, key)?;
+    Ok(Some((next.slot, next.number)))
+}
+
 /// Goes on from a node to the next one that has a number: `key` is the path of the one, and becomes that of the other.
+#[inline(always)]
 fn next_entry<T: Walked, A: Allocator>(
     trie: &T,
     slot: usize,
@@ -42,16 +61,13 @@ fn next_entry<T: Walked, A: Allocator>(
     requires place { IsEntriesPlace (T.shown trie.now) key.old.items slot }
     ensures { IfOk result (GoesToEntry (T.shown trie.now) slot key.old.items key.new.items) }
 {
-    let mut at = slot;
-    while let Some(next) = trie.next_node(at, key.len()) {
-        key.truncate(next.depth - 1);
-        key.push(next.label)?;
-        at = next.slot;
-        if let Some(number) = next.number {
-            return Ok(Some((at, number)));
-        }
+    if slot == 0 {
+        return first_entry(trie, key);
     }
-    Ok(None)
+    let Some(next) = trie.next_with_key(slot, key.len(), key)? else {
+        return Ok(None);
+    };
+    Ok(Some((next.slot, next.number)))
 }
 
 impl<'a, T: Walked, A: Allocator + Copy> Entries<'a, T, A> {
@@ -152,7 +168,7 @@ fn next_copied<T: Walked, A: Allocator + Copy>(
     let Some((found, number)) = next_entry(trie, slot, key)? else {
         return Ok(None);
     };
-    let mut copy = Vec::new(*key.allocator());
+    let mut copy = Vec::with_capacity(*key.allocator(), key.len())?;
     copy.extend_from_slice(key)?;
     Ok(Some((found, number, copy)))
 }

@@ -1,54 +1,30 @@
-use Rattle.std.proofs.Common.{◌≡◌, ◌∙◌, ◌++◌, [], ◌∷◌, ap, arith, FitsSigned, length, rules, w32}
+use Rattle.std.proofs.Common.{◌≡◌, ◌∙◌, ◌++◌, [], FitsSigned, MatchOption, ap, arith, length, rules, subst, sym, w32}
 use Rattle.std.proofs.lemmas.Int.{to_z-of_z}
 use Rattle.cedar_tree.specs.Walks.{visited_entries}
-use Rattle.cedar_walk.specs.Visits.{left_at}
-use Rattle.cedarwood.proofs.EntriesLemmas.{comes_here, comes_to, ends_here, passes, stepped}
+use Rattle.cedar_walk.specs.Keys.{KeyGoesOn}
+use Rattle.cedar_walk.specs.Visits.{ComesToNumber, GoesToNumber, left_at, path_to}
+use Rattle.cedarwood.proofs.EntriesLemmas.{entry_there}
 use Rattle.cedarwood.proofs.queries.entries.next_entry.Goals as goal
 
-pub overflow_sub-next : goal.overflow_sub-next
-overflow_sub-next g c =
+pub returns-in_default : goal.returns-in_default
+returns-in_default g c =
     let T = g.T.Walked.shown c.args.trie.now in
-    let len : c.len.result ≡ length c.loop-next.key.items = omega (arith, c.len.ensures, c.loop-next.key.ok) in
-    let comes = comes_here T c.loop-next.key.items c.loop-next.at c.len.result c.in-Some.next len c.loop-next.invariant.place c.in-Some.ensures in
-    omega (arith, comes.deep.0)
-
-pub returns-in-Some-number : goal.returns-in-Some-number
-returns-in-Some-number g c =
-    let T = g.T.Walked.shown c.args.trie.now in
-    let i = c.loop-next.invariant in
-    let key = c.loop-next.key.items in
-    let len : c.len.result ≡ length key = omega (arith, c.len.ensures, c.loop-next.key.ok) in
-    let comes = comes_here T key c.loop-next.at c.len.result c.in-Some.next len i.place c.in-Some.ensures in
-    let longer = c.in_ok-push.ensures.items ∙ ap (λ w. w ++ c.in-Some.next.label ∷ []) c.truncate.ensures.items in
-    let fits : FitsSigned w32 c.in-Some-number.number = search rules in
-    comes_to T (visited_entries (left_at T [] (length c.args.key.now.items) c.args.slot)) key c.loop-next.at c.in-Some.next c.push.new.self.items c.in-Some-number.number _ i.entries
-    (stepped T key c.loop-next.at c.in-Some.next c.push.new.self.items i.place comes longer) c.in-Some-number.is (to_z-of_z w32 c.in-Some-number.number fits)
-
-pub loop-next-smaller : goal.loop-next-smaller
-loop-next-smaller g c =
-    let T = g.T.Walked.shown c.args.trie.now in
-    let i = c.loop-next.invariant in
-    let key = c.loop-next.key.items in
-    let len : c.len.result ≡ length key = omega (arith, c.len.ensures, c.loop-next.key.ok) in
-    let comes = comes_here T key c.loop-next.at c.len.result c.in-Some.next len i.place c.in-Some.ensures in
-    let longer = c.in_ok-push.ensures.items ∙ ap (λ w. w ++ c.in-Some.next.label ∷ []) c.truncate.ensures.items in
-    let step = stepped T key c.loop-next.at c.in-Some.next c.push.new.self.items i.place comes longer in
-    omega (arith, ap length step.visits)
-
-pub loop-next-preserved : goal.loop-next-preserved
-loop-next-preserved g c =
-    let T = g.T.Walked.shown c.args.trie.now in
-    let i = c.loop-next.invariant in
-    let key = c.loop-next.key.items in
-    let len : c.len.result ≡ length key = omega (arith, c.len.ensures, c.loop-next.key.ok) in
-    let comes = comes_here T key c.loop-next.at c.len.result c.in-Some.next len i.place c.in-Some.ensures in
-    let longer = c.in_ok-push.ensures.items ∙ ap (λ w. w ++ c.in-Some.next.label ∷ []) c.truncate.ensures.items in
-    let step = stepped T key c.loop-next.at c.in-Some.next c.push.new.self.items i.place comes longer in
-    record { place = step.place; entries = i.entries ∙ passes T key c.loop-next.at c.in-Some.next c.push.new.self.items step c.in_default-number.is }
+    let key = c.args.key.now.items in
+    let left = visited_entries (left_at T [] (length key) c.args.slot) in
+    let len : c.len.result ≡ length c.args.key.now.items = search rules in
+    let found = subst (λ n. GoesToNumber T n c.args.slot c.in_ok-next.field-0) len c.in_ok-next.ensures.found [] c.requires.place.below in
+    subst (λ o. MatchOption o (left ≡ []) (ComesToNumber T [] left)) c.in_default.is found
 
 pub returns : goal.returns
 returns g c =
     let T = g.T.Walked.shown c.args.trie.now in
-    let i = c.loop-next.invariant in
-    let len : c.len.result ≡ length c.loop-next.key.items = omega (arith, c.len.ensures, c.loop-next.key.ok) in
-    ends_here T (visited_entries (left_at T [] (length c.args.key.now.items) c.args.slot)) c.loop-next.key.items c.loop-next.at c.len.result len i.place i.entries c.in_default.ensures
+    let key = c.args.key.now.items in
+    let new = c.next_with_key.new.key.items in
+    let left = visited_entries (left_at T [] (length key) c.args.slot) in
+    let fits : FitsSigned w32 c.in-Some.next.number = search rules in
+    let len : c.len.result ≡ length c.args.key.now.items = search rules in
+    let found = subst (λ n. GoesToNumber T n c.args.slot c.in_ok-next.field-0) len c.in_ok-next.ensures.found [] c.requires.place.below in
+    let comes = subst (λ o. MatchOption o (left ≡ []) (ComesToNumber T [] left)) c.in-Some.is found in
+    let goes = subst (λ o. MatchOption o (new ≡ key) (KeyGoesOn T c.len.result c.args.slot key new)) c.in-Some.is c.in_ok-next.ensures.key in
+    let before : key ≡ [] ++ path_to T c.len.result c.args.slot = sym c.requires.place.path ∙ ap (λ n. path_to T n c.args.slot) (sym len) in
+    entry_there T left new c.in-Some.next _ comes (goes [] before) (to_z-of_z w32 c.in-Some.next.number fits)
