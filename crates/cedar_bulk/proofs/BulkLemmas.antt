@@ -7,6 +7,7 @@ pub mod LastLabel
 pub mod MovedSpans
 pub mod NodeByNode
 pub mod OneAfterAnother
+pub mod OneKey
 pub mod OnePair
 pub mod Pending
 pub mod Runs

@@ -1,5 +1,5 @@
 -- What the steps of a build do, each as one word.
-use Rattle.std.specs.Prelude.{◌≡◌, ◌⊎◌, ◌+◌, ◌*◌, ◌<◌, ◌≤◌, ℕ, ℤ, drop, length, List, [], ◌++◌, map, None, Option, Some, take, true}
+use Rattle.std.specs.Prelude.{◌≡◌, ◌⊎◌, ◌+◌, ◌*◌, ◌<◌, ◌≤◌, ℕ, ℤ, drop, length, List, [], ◌∷◌, ◌++◌, map, None, Option, Some, take, true}
 use Rattle.cedar_tree.specs.Tree.{Forest, IsAscending, none, Tree}
 use Rattle.cedar_tree.specs.Queries.{Entry, prefixes}
 use Rattle.cedar_tree.specs.Edits.{add_leaf, edit_at}
@@ -15,7 +15,7 @@ use Rattle.cedar_model.specs.Table.TableFields.{capacity_of, Fields, size_of}
 use Rattle.cedar_bulk.specs.declared.spans.Span.{Span}
 use Rattle.cedar_bulk.specs.Sorted.{entries_by, Fills}
 use Rattle.cedar_bulk.specs.SortedMarks.{KeepsOwn}
-use Rattle.cedar_bulk.specs.Spans.{based_at, Covers, Filling, IsTreeOfSpan, Part, parts_of}
+use Rattle.cedar_bulk.specs.Spans.{based_at, Covers, Filling, IsTreeOfSpan, Part, parts_of, work}
 
 -- ---- one node
 
@@ -67,6 +67,22 @@ CoversChildren bytes table span spans =
 -- the spans behind the first n get a base
 abbrev pub based_behind : ℕ → ℕ → List Part → List Part
 based_behind n base parts = take n parts ++ map (based_at base) (drop n parts)
+
+-- ---- a turn
+
+-- a table on the way to a tree, for which a span waits behind others, is on the way to it with the others alone
+abbrev pub FillsTail : ℕ → Fields → Fields → Part → Type 0
+FillsTail slots before after s =
+    (ps : List Part) (g : Forest) (most : ℕ) → Filling slots before (ps ++ s ∷ []) g most → Filling slots after ps g most
+
+-- each tree that a table on the way with this span behind others may come to wants more than all slots
+abbrev pub WantsMore : ℕ → Fields → Part → Type 0
+WantsMore slots T s = (ps : List Part) (g : Forest) (most : ℕ) → Filling slots T (ps ++ s ∷ []) g most → slots < 256 * most
+
+-- a table on the way to a tree, for which these spans wait, is on the way to it with those ones, which have less to do
+abbrev pub TakesTurn : ℕ → Fields → Fields → List Part → List Part → Type 0
+TakesTurn slots before after parts left =
+    (g : Forest) (most : ℕ) → Filling slots before parts g most → Filling slots after left g most × (work left < work parts)
 
 -- ---- the whole
 

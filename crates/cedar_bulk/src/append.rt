@@ -1,7 +1,7 @@
 //! All labels of a node, one after another.
 
-ghost use Rattle.std.specs.Prelude.{◌++◌, ◌∷◌, ◌≡◌, ◌⊎◌, [], bit_xor, List, pos, ℕ};
-ghost use Rattle.cedar_bulk.specs.Words.{AppendsLeaf, AtBase, below, capacity_of, cells, fields, GetsLabels, Held, IsAt, IsTable, SameFrame, SameSettings, size_of, WantsLabel, WantsLabels};
+ghost use Rattle.std.specs.Prelude.{◌++◌, ◌<◌, ◌∷◌, ◌≡◌, ◌≢◌, ◌⊎◌, [], bit_xor, List, MatchOption, pos, ℕ};
+ghost use Rattle.cedar_bulk.specs.Words.{AppendsLeaf, AtBase, below, capacity_of, cells, fields, GetsLabels, Held, IsAt, IsTable, LinkedBehind, LinkedChild, SameFrame, SameSettings, size_of, WantsLabel, WantsLabels};
 
 use cedar_table::{Layout, Table};
 use std::alloc::Allocator;
@@ -11,6 +11,32 @@ pub(crate) fn slot_at(base: usize, label: u8) -> usize
     ensures { result ≡ bit_xor base label }
 {
     base ^ usize::from(label)
+}
+
+/// Puts `slot`, which has `label`, into the chain of `node` behind all others: after the slot `before`, or first of all. No label
+/// comes after that of `slot`, which says so already since it was free: so it needn't be written.
+#[inline(always)]
+fn link_last<L: Layout, const SLOTS: usize, A: Allocator>(
+    table: &mut Table<L, SLOTS, A>,
+    before: Option<usize>,
+    node: usize,
+    slot: usize,
+    label: u8,
+)
+    requires sound { IsTable SLOTS (fields table.old).places }
+    requires before { MatchOption before (Unit {0}) (λ b. (b < size_of (fields table.old)) × Held (cells table.old) b × (b ≢ slot)) }
+    requires node_in { node < size_of (fields table.old) }
+    requires node_held { Held (cells table.old) node }
+    requires last { MatchOption before ((cells table.old).child node ≡ 0) (λ b. (cells table.old).sibling b ≡ 0) }
+    requires fresh { (cells table.old).sibling slot ≡ 0 }
+    ensures sound { IsTable SLOTS (fields table.new).places }
+    ensures linked { MatchOption before (LinkedChild (cells table.old) (cells table.new) node slot label) (λ b. LinkedBehind (cells table.old) (cells table.new) b slot label) }
+    ensures frame { SameFrame (fields table.old) (fields table.new) }
+{
+    match before {
+        Some(before) => table.set_sibling(before, label),
+        None => table.set_child(node, label),
+    }
 }
 
 /// Takes the slot of `label` below `node`, whose slots begin at `base`, and returns it. The new leaf comes after all labels of
@@ -42,7 +68,7 @@ fn append_label<L: Layout, const SLOTS: usize, A: Allocator>(
 {
     let slot = slot_at(base, label);
     table.pop_e_node(slot, L::base_field(0), node);
-    table.link(before, node, slot, label);
+    link_last(table, before, node, slot, label);
     slot
 }
 

@@ -1,15 +1,38 @@
 //! A node with all of its slots at once: its number's and its labels'.
 
-ghost use Rattle.std.specs.Prelude.{◌≡◌, ◌≤◌, IfErr, IfOk, IfSome, MatchOption, OnErr, OnOk, Some, true, ℕ};
-ghost use Rattle.cedar_bulk.specs.Words.{base_of, cells, fields, Fills, GetsBase, GetsNumber, GoesLast, is_value, IsTable, KeepsOwn, MakesBlocks, MayRefuse, SameFrame, SameSettings, size_of, StaysBare, StaysOwn, WantsBase, WantsChain, WantsNumber, WantsSlots};
+ghost use Rattle.std.specs.Prelude.{◌<◌, ◌∷◌, ◌≡◌, ◌≢◌, ◌≤◌, [], IfErr, IfOk, IfSome, MatchOption, None, OnErr, OnOk, Some, true, ℕ};
+ghost use Rattle.cedar_bulk.specs.Words.{base_of, below, cells, fields, Fills, GetsBase, GetsNumber, GoesLast, is_value, IsTable, IsUnfilled, KeepsOwn, MakesBlocks, MayRefuse, SameFrame, SameSettings, size_of, StaysBare, StaysOwn, WantsBase, WantsChain, WantsNumber, WantsSlots};
 
 use crate::append::{append_labels, slot_at};
 use cedar_slots::Shortage;
 use cedar_table::{Layout, Table};
 use std::alloc::Allocator;
 
+/// Gives a node below the root that has neither number nor label a base from which the slots of all labels are free, 0 standing
+/// for the number, and returns the base. All growth of a build from sorted pairs happens here.
+#[inline(always)]
+fn find_base<L: Layout, const SLOTS: usize, A: Allocator>(
+    table: &mut Table<L, SLOTS, A>,
+    node: usize,
+    wanted: &[u8],
+) -> Result<usize, Shortage>
+    requires wants { WantsBase SLOTS (fields table.old) node wanted.now }
+    requires not_root { node ≢ 0 }
+    ensures sound { IsTable SLOTS (fields table.new).places }
+    ensures based { OnOk result (GetsBase (size_of (fields table.old)) (size_of (fields table.new)) (cells table.old) (cells table.new) node wanted.now) }
+    ensures base { IfOk result (λ base. base ≡ base_of (cells table.new) node) }
+    ensures refused { IfErr result (λ error. MayRefuse (fields table.new).places SLOTS error) }
+    ensures blocks { (n : ℕ) × (n ≤ 1) × OnErr result (n ≡ 0) × MakesBlocks n (fields table.old) (fields table.new) }
+    ensures root_check { (cells table.new).check 0 ≡ (cells table.old).check 0 }
+    ensures settings { SameSettings (fields table.old) (fields table.new) }
+{
+    let base = table.place_for(wanted)?;
+    table.set_base(node, base);
+    Ok(base)
+}
+
 /// Gives a node that has neither number nor label a base from which the slots of all labels are free, 0 standing for the
-/// number, and returns the base. The root keeps its base. All growth of a build from sorted pairs happens here.
+/// number, and returns the base. The root keeps its base.
 #[inline(always)]
 fn give_base<L: Layout, const SLOTS: usize, A: Allocator>(
     table: &mut Table<L, SLOTS, A>,
@@ -28,9 +51,7 @@ fn give_base<L: Layout, const SLOTS: usize, A: Allocator>(
     if node == 0 {
         return Ok(0);
     }
-    let base = table.place_for(wanted)?;
-    table.set_base(node, base);
-    Ok(base)
+    find_base(table, node, wanted)
 }
 
 /// Takes the slot for the number of a node that has neither number nor label, and returns it.
@@ -99,6 +120,30 @@ fn place_node<L: Layout, const SLOTS: usize, A: Allocator>(
     let before = begin_chain(table, node, base, number);
     append_labels(table, node, base, before, labels);
     Ok(base)
+}
+
+/// Gives a node below the root that has neither number nor label one label, a leaf without number, and returns its slot.
+#[inline(always)]
+pub(crate) fn name_alone<L: Layout, const SLOTS: usize, A: Allocator>(
+    table: &mut Table<L, SLOTS, A>,
+    node: usize,
+    label: u8,
+) -> Result<usize, Shortage>
+    requires bare { IsUnfilled SLOTS (fields table.old) node }
+    requires not_root { node ≢ 0 }
+    requires positive { 0 < label }
+    ensures sound { IsTable SLOTS (fields table.new).places }
+    ensures fills { OnOk result (Fills (size_of (fields table.old)) (size_of (fields table.new)) (cells table.old) (cells table.new) node None (label ∷ [])) }
+    ensures slot { IfOk result (λ slot. slot ≡ below (cells table.new) node label) }
+    ensures refused { IfErr result (λ error. MayRefuse (fields table.new).places SLOTS error) }
+    ensures blocks { (n : ℕ) × (n ≤ 1) × OnErr result (n ≡ 0) × MakesBlocks n (fields table.old) (fields table.new) }
+    ensures root_check { (cells table.new).check 0 ≡ (cells table.old).check 0 }
+    ensures settings { SameSettings (fields table.old) (fields table.new) }
+{
+    let labels = [label];
+    let base = find_base(table, node, &labels)?;
+    append_labels(table, node, base, None, &labels);
+    Ok(slot_at(base, label))
 }
 
 /// Returns the number that a node with these labels keeps in its own base field: it has one there if there are no labels and the

@@ -1,11 +1,12 @@
 //! A table made from sorted pairs: each node gets all of its slots at once, the last child's subtree first.
 
-ghost use Rattle.std.specs.Prelude.{◌*◌, ◌++◌, ◌+◌, ◌<◌, ◌≡◌, ◌≢◌, ◌≤ℤ◌, ◌≤◌, [], IfErr, IfOk, length, None, OnErr, OnOk, option_to_list, pos, true, ℕ};
-ghost use Rattle.cedar_bulk.specs.Words.{AddsChildren, AllByRecursion, ArePathsAscending, ArePathsKeys, asc, AtBase, cells, CoversChildren, empty_tree, EndsFilling, entries_by, fields, Filling, FillsSpan, Forest, HasBlocksFor, HoldsTree, is_value, IsAlike, IsSlotLimit, IsTable, IsTreeOfSpan, IsUnfilled, IsWellFormed, KeepsOwnOf, LacksMemoryOr, MakesBlocks, marks, MayRefuse, none, OfTree, parts_of, prefixes, prefixes_forest, SameModes, SameSettings, size_of, SlotLimit, SortedMarks, Tree, tree_of, WantsMoreThan};
+ghost use Rattle.std.specs.Prelude.{◌*◌, ◌++◌, ◌+◌, ◌<◌, ◌∷◌, ◌≡◌, ◌≢◌, ◌≤ℤ◌, ◌≤◌, [], IfErr, IfOk, length, List, None, OnErr, OnOk, option_to_list, pos, true, ℕ};
+ghost use Rattle.cedar_bulk.specs.Words.{AddsChildren, AllByRecursion, ArePathsAscending, ArePathsKeys, asc, AtBase, cells, CoversChildren, empty_tree, EndsFilling, entries_by, fields, Filling, FillsSpan, FillsTail, Forest, GoesOnAlike, HasBlocksFor, HoldsTree, is_value, IsSlotLimit, IsTable, IsTreeOfSpan, IsUnfilled, IsWellFormed, KeepsOwnOf, LacksMemoryOr, MakesBlocks, marks, MayRefuse, none, OfTree, Part, part_of, parts_of, prefixes, prefixes_forest, SameModes, SameSettings, size_of, SlotLimit, SortedMarks, TakesTurn, Tree, tree_of, WantsMore, WantsMoreThan};
 
-use crate::append::slot_at;
-use crate::fill::fill_node;
-use crate::spans::{Labels, Span, are_alike, deeper, list_spans, move_spans, number_at};
+use crate::fill::{fill_node, name_alone};
+use crate::spans::{
+    Labels, Span, depth_below, first_label_at, go_on_alike, list_spans, move_spans, number_at,
+};
 use arrayvec::ArrayVec;
 use cedar_slots::Shortage;
 use cedar_table::{Layout, Table};
@@ -42,39 +43,32 @@ fn fill_span<'a, L: Layout, const SLOTS: usize, A: Allocator, K: AsSlice<u8>>(
     Ok(())
 }
 
-/// Gives the node of a span of one pair what the pair's key has there: its number if the key ends there, and otherwise its next
-/// label. Pairs that all go on with one label are taken as one. Returns the span of that label's child, if there is one.
-fn fill_alone<'a, L: Layout, const SLOTS: usize, A: Allocator, K: AsSlice<u8>>(
+/// Gives the node of a span whose pairs all go on with one label this label, and returns the span of the label's child.
+fn fill_alike<'a, L: Layout, const SLOTS: usize, A: Allocator, K: AsSlice<u8>>(
     table: &mut Table<L, SLOTS, A>,
     span: Span<'a, K>,
-) -> Result<Option<Span<'a, K>>, Shortage>
+) -> Result<Span<'a, K>, Shortage>
     requires bare { IsUnfilled SLOTS (fields table.old) span.node }
     requires not_root { span.node ≢ 0 }
     requires some { 0 < length span.pairs.now }
-    requires alike { IsAlike span.depth (entries_by K.items span.pairs.now) }
+    requires alike { GoesOnAlike span.depth (entries_by K.items span.pairs.now) }
     requires tree { (t : Tree) × IsTreeOfSpan span.depth (entries_by K.items span.pairs.now) t }
     ensures sound { IsTable SLOTS (fields table.new).places }
     ensures fills { OnOk result (FillsSpan K.items (fields table.old) (fields table.new) span.entry) }
     ensures own { OnOk result (KeepsOwnOf K.items L.kind (fields table.new) span.entry) }
-    ensures spans { IfOk result (λ child. CoversChildren K.items (fields table.new) span.entry (option_to_list child)) }
+    ensures spans { IfOk result (λ child. CoversChildren K.items (fields table.new) span.entry (child ∷ [])) }
     ensures refused { IfErr result (λ error. MayRefuse (fields table.new).places SLOTS error) }
     ensures blocks { (n : ℕ) × (n ≤ 1) × OnErr result (n ≡ 0) × MakesBlocks n (fields table.old) (fields table.new) }
     ensures root_check { (cells table.new).check 0 ≡ (cells table.old).check 0 }
     ensures settings { SameSettings (fields table.old) (fields table.new) }
 {
-    let pair = &span.pairs[0];
-    let key = pair.0.as_slice();
-    if key.len() <= span.depth {
-        fill_node(table, span.node, Some(pair.1), &[0], &[])?;
-        return Ok(None);
-    }
-    let labels = [key[span.depth]];
-    let base = fill_node(table, span.node, None, &labels, &labels)?;
-    Ok(Some(Span {
-        node: slot_at(base, labels[0]),
-        depth: deeper(key, span.depth),
+    let label = first_label_at(span.pairs, span.depth);
+    let node = name_alone(table, span.node, label)?;
+    Ok(Span {
+        node,
+        depth: depth_below(span.pairs, span.depth),
         pairs: span.pairs,
-    }))
+    })
 }
 
 /// Gives the node of a span below the root its number and its labels, and returns the span whose turn is next, if one is left:
@@ -98,14 +92,61 @@ fn fill_next<'a, L: Layout, const SLOTS: usize, A: Allocator, K: AsSlice<u8>>(
     ensures root_check { (cells table.new).check 0 ≡ (cells table.old).check 0 }
     ensures settings { SameSettings (fields table.old) (fields table.new) }
 {
-    if are_alike(span.pairs, span.depth) {
-        if let Some(child) = fill_alone(table, span)? {
-            return Ok(Some(child));
-        }
-        return Ok(pending.pop());
+    if go_on_alike(span.pairs, span.depth) {
+        let child = fill_alike(table, span)?;
+        return Ok(Some(child));
     }
     fill_span(table, span, wanted, pending)?;
     Ok(pending.pop())
+}
+
+/// Gives the node of a span of one pair what the pair's key has from there on: the next label, the one below that, and so on, and
+/// then the number. Each of these nodes is alone below the one before it, so none of them waits, nor is any pair looked at again.
+fn fill_tail<L: Layout, const SLOTS: usize, A: Allocator, K: AsSlice<u8>>(
+    table: &mut Table<L, SLOTS, A>,
+    span: Span<'_, K>,
+) -> Result<(), Shortage>
+    requires one { length span.pairs.now ≡ 1 }
+    requires filling { (ps : List Part) × (g : Forest) × (most : ℕ) × Filling SLOTS (fields table.old) (ps ++ part_of K.items span ∷ []) g most }
+    ensures filled { OnOk result (FillsTail SLOTS (fields table.old) (fields table.new) (part_of K.items span.entry)) }
+    ensures refused { IfErr result (LacksMemoryOr (WantsMore SLOTS (fields table.old) (part_of K.items span.entry))) }
+    ensures blocks { (n : ℕ) × MakesBlocks n (fields table.old) (fields table.new) }
+    ensures root_check { (cells table.new).check 0 ≡ (cells table.old).check 0 }
+    ensures settings { SameSettings (fields table.old) (fields table.new) }
+{
+    let pair = &span.pairs[0];
+    let key = pair.0.as_slice();
+    let mut node = span.node;
+    let mut depth = span.depth;
+    while depth < key.len() {
+        node = name_alone(table, node, key[depth])?;
+        depth += 1;
+    }
+    fill_node(table, node, Some(pair.1), &[0], &[])?;
+    Ok(())
+}
+
+/// Fills the node of a span that comes behind all those that wait, or for one pair all nodes of its key, and returns the span whose
+/// turn is next, if one is left.
+fn fill_turn<'a, L: Layout, const SLOTS: usize, A: Allocator, K: AsSlice<u8>>(
+    table: &mut Table<L, SLOTS, A>,
+    span: Span<'a, K>,
+    wanted: &mut Labels,
+    pending: &mut Vec<Span<'a, K>, A>,
+) -> Result<Option<Span<'a, K>>, Shortage>
+    requires filling { (g : Forest) × (most : ℕ) × Filling SLOTS (fields table.old) (parts_of K.items pending.old.items ++ part_of K.items span ∷ []) g most }
+    ensures turn { IfOk result (λ next. TakesTurn SLOTS (fields table.old) (fields table.new) (parts_of K.items pending.old.items ++ part_of K.items span.entry ∷ []) (parts_of K.items (pending.new.items ++ option_to_list next))) }
+    ensures last { IfOk result (λ next. next ≡ None → length pending.new.items ≡ 0) }
+    ensures refused { IfErr result (LacksMemoryOr (WantsMoreThan SLOTS (fields table.old) (parts_of K.items pending.old.items ++ part_of K.items span.entry ∷ []))) }
+    ensures blocks { (n : ℕ) × MakesBlocks n (fields table.old) (fields table.new) }
+    ensures root_check { (cells table.new).check 0 ≡ (cells table.old).check 0 }
+    ensures settings { SameSettings (fields table.old) (fields table.new) }
+{
+    if span.pairs.len() == 1 {
+        fill_tail(table, span)?;
+        return Ok(pending.pop());
+    }
+    fill_next(table, span, wanted, pending)
 }
 
 /// Fills the node of each span, and those of their children in turn, the last ones first. `wanted` is room for the labels of
@@ -124,7 +165,7 @@ fn fill_pending<'a, L: Layout, const SLOTS: usize, A: Allocator, K: AsSlice<u8>>
 {
     let mut next = pending.pop();
     while let Some(span) = next {
-        next = fill_next(table, span, wanted, pending)?;
+        next = fill_turn(table, span, wanted, pending)?;
     }
     Ok(())
 }

@@ -1,7 +1,7 @@
 //! Sorted pairs that go on below one node, and what they say about its number and its labels.
 
 ghost use Rattle.std.specs.Prelude.{◌+◌, ◌<◌, ◌↔◌, ◌≡◌, ◌≤◌, [], get_or, IsTrue, length, OnOk};
-ghost use Rattle.cedar_bulk.specs.Words.{AddsSpans, based_behind, entries_by, first_label, first_number, Forest, GoesOnAlike, IsAlike, IsDeeper, IsTreeOfSpan, labels, Lists, parts_of, run, slot_labels, Tree};
+ghost use Rattle.cedar_bulk.specs.Words.{AddsSpans, based_behind, entries_by, first_label, first_number, Forest, GoesOnAlike, IsDeeper, IsTreeOfSpan, labels, Lists, parts_of, run, slot_labels, Tree};
 
 use arrayvec::ArrayVec;
 use std::alloc::{AllocError, Allocator};
@@ -98,7 +98,7 @@ fn run_length<K: AsSlice<u8>>(pairs: &[(K, i32)], depth: usize, label: u8) -> us
 }
 
 /// Returns whether no pair ends here and all go on with one label.
-fn go_on_alike<K: AsSlice<u8>>(pairs: &[(K, i32)], depth: usize) -> bool
+pub(crate) fn go_on_alike<K: AsSlice<u8>>(pairs: &[(K, i32)], depth: usize) -> bool
     requires some { 0 < length pairs.now }
     requires tree { (t : Tree) × IsTreeOfSpan depth (entries_by K.items pairs.now) t }
     ensures { IsTrue result → GoesOnAlike depth (entries_by K.items pairs.now) }
@@ -108,18 +108,6 @@ fn go_on_alike<K: AsSlice<u8>>(pairs: &[(K, i32)], depth: usize) -> bool
         return false;
     }
     has_first_label(pairs, depth, key[depth], pairs.len() - 1)
-}
-
-/// Returns whether there is one pair, or no pair ends here and all go on with one label.
-pub(crate) fn are_alike<K: AsSlice<u8>>(pairs: &[(K, i32)], depth: usize) -> bool
-    requires some { 0 < length pairs.now }
-    requires tree { (t : Tree) × IsTreeOfSpan depth (entries_by K.items pairs.now) t }
-    ensures { IsTrue result → IsAlike depth (entries_by K.items pairs.now) }
-{
-    if pairs.len() == 1 {
-        return true;
-    }
-    go_on_alike(pairs, depth)
 }
 
 /// Returns the number of the first pair, if its key has no byte after its first `depth` ones.
@@ -133,7 +121,7 @@ pub(crate) fn number_at<K: AsSlice<u8>>(pairs: &[(K, i32)], depth: usize) -> Opt
 }
 
 /// Returns the depth one byte deeper into a key that is longer.
-pub(crate) fn deeper(key: &[u8], depth: usize) -> usize
+fn deeper(key: &[u8], depth: usize) -> usize
     requires { depth < length key.now }
     ensures { result ≡ depth + 1 }
 {
@@ -141,7 +129,7 @@ pub(crate) fn deeper(key: &[u8], depth: usize) -> usize
 }
 
 /// Returns how deep the pairs with the first pair's label lead.
-fn depth_below<K: AsSlice<u8>>(pairs: &[(K, i32)], depth: usize) -> usize
+pub(crate) fn depth_below<K: AsSlice<u8>>(pairs: &[(K, i32)], depth: usize) -> usize
     requires { IsDeeper depth (entries_by K.items pairs.now) }
     ensures { result ≡ depth + 1 }
 {
@@ -149,7 +137,7 @@ fn depth_below<K: AsSlice<u8>>(pairs: &[(K, i32)], depth: usize) -> usize
 }
 
 /// Returns the label of the first pair.
-fn first_label_at<K: AsSlice<u8>>(pairs: &[(K, i32)], depth: usize) -> u8
+pub(crate) fn first_label_at<K: AsSlice<u8>>(pairs: &[(K, i32)], depth: usize) -> u8
     requires { 0 < length pairs.now }
     ensures { result ≡ first_label depth (entries_by K.items pairs.now) }
 {

@@ -4,13 +4,42 @@ use Rattle.std.specs.Prelude.{MatchOption}
 use Rattle.std.proofs.lemmas.Bool.{cases_eq}
 use Rattle.cedar_model.specs.declared.layout.Stored.TheVariants.{AtBase}
 use Rattle.cedar_model.specs.Table.Cells.{Cells, Held, Takes}
-use Rattle.cedar_model.specs.Edit.NodeEdits.{GoesBehind, GoesFirst, LinkedBehind, LinkedChild}
+use Rattle.cedar_model.specs.Edit.NodeEdits.{GoesBehind, GoesFirst, LinkedBehind, LinkedChild, SetsChild, SetsSibling}
 use Rattle.cedar_model.proofs.EditLemmas.SlotForLabel.{held_behind}
 
 -- what a label goes behind is held
 pub behind_held : (size : ℕ) (T : Cells) (a l : ℕ) (before : Option ℕ) → MatchOption before (GoesFirst T true a l) (λ b. GoesBehind size T true a l b) → (b : ℕ) → before ≡ Some b → Held T b
 behind_held size T a l None goes b e = cc
 behind_held size T a l (Some x) goes b e = let same : x ≡ b = cc in subst (Held T) same (held_behind T true a l x goes.behind)
+
+-- what comes last is named, and needn't name that nothing comes behind it
+pub last_child : (T T' : Cells) (a x l : ℕ) → T.child a ≡ 0 → T.sibling x ≡ 0 → SetsChild T T' a l → LinkedChild T T' a x l
+last_child T T' a x l last fresh w = record {
+  stored = w.stored;
+  base = w.base;
+  check = w.check;
+  at = w.at;
+  child = w.other;
+  next = w.sibling x ∙ fresh ∙ sym last;
+  other = λ q _. w.sibling q;
+}
+
+pub last_sibling : (T T' : Cells) (b x l : ℕ) → T.sibling b ≡ 0 → T.sibling x ≡ 0 → (b ≡ x → ⊥) → SetsSibling T T' b l → LinkedBehind T T' b x l
+last_sibling T T' b x l last fresh apart w = record {
+  stored = w.stored;
+  base = w.base;
+  check = w.check;
+  child = w.child;
+  at = w.at;
+  next = w.other x (λ e. apart (sym e)) ∙ fresh ∙ sym last;
+  other = λ q n _. w.other q n;
+}
+
+-- another slot was taken since
+pub still_last : (T T₁ : Cells) (a s : ℕ) → (Held T s → ⊥) → Takes T T₁ s a → (before : Option ℕ) → Held T a → ((b : ℕ) → before ≡ Some b → Held T b) → MatchOption before (T.child a ≡ 0) (λ b. T.sibling b ≡ 0)
+    → MatchOption before (T₁.child a ≡ 0) (λ b. T₁.sibling b ≡ 0)
+still_last T T₁ a s free t None held _ e = (t.other a (λ z. free (subst (Held T) z held)) held).child ∙ e
+still_last T T₁ a s free t (Some b) _ held e = (t.other b (λ z. free (subst (Held T) z (held b refl))) (held b refl)).sibling ∙ e
 
 -- a slot was taken for slot a and put into its chain
 module _ (T T₁ T₂ : Cells) (a l s : ℕ) (free : Held T s → ⊥) (t : Takes T T₁ s a) where

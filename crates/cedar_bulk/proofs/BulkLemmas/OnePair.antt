@@ -7,7 +7,7 @@ use Rattle.cedar_tree.specs.Tree.{Forest, none, child, Tree, IsSoundBelow}
 use Rattle.cedar_tree.specs.Queries.{Entry, walk, walk_forest}
 use Rattle.cedar_model.specs.Meaning.StandsFor.{labels}
 use Rattle.cedar_bulk.specs.Sorted.{entries_by, label_of, run}
-use Rattle.cedar_bulk.specs.Spans.{Covers, IsAlike, IsTreeOfSpan, Lists, Part, entries_behind}
+use Rattle.cedar_bulk.specs.Spans.{Covers, first_label, GoesOnAlike, IsAlike, IsTreeOfSpan, Lists, Part, entries_behind}
 use Rattle.cedar_bulk.proofs.BulkLemmas.Spans.{first_of, lists_none, number_first, walk_some}
 
 -- a tree has an entry
@@ -75,19 +75,24 @@ module _ (d : ℕ) (e : Entry) (es : List Entry) (t : Tree) (k : IsTreeOfSpan d 
       by_case l same some few (inl one) = omega (arith, some, few, one)
       by_case l same some few (inr go) = ap (λ m. run d m (e ∷ es)) (sym same) ∙ go.1
 
+-- what is known where entries go on alike
+pub record Alike (d : ℕ) (es : List Entry) (t : Tree) : Type 0 where
+  pub number : t.number ≡ None
+  pub label : labels t.children ≡ first_label d es ∷ []
+  pub positive : 0 < first_label d es
+  pub covers : (base : ℕ) → Covers base (record { node = bit_xor base (first_label d es); depth = suc d; entries = es } ∷ []) t.children none
+
+pub alike_below : (d : ℕ) (es : List Entry) (t : Tree) → IsTreeOfSpan d es t → GoesOnAlike d es → Alike d es t
+alike_below d [] t k go = absurd go.0
+alike_below d (e ∷ es) t k go =
+    let o = goes_on d e es t k go.0 (inr go) in
+    record { number = o.number; label = o.label; positive = o.positive; covers = o.covers }
+
 -- pairs as an entry and those behind it
 module _ {K : Type 0} (bytes : K → List ℕ) where
   pub first_then : (pairs : List (K × ℤ)) (p : K × ℤ) → 0 < length pairs → entries_by bytes pairs ≡ (bytes (get_or pairs 0 p).0, (get_or pairs 0 p).1) ∷ entries_by bytes (drop 1 pairs)
   first_then [] p some = absurd (omega (arith, some))
   first_then (q ∷ pairs) p some = refl
-
-  -- pairs that are alike are one where the first one ends
-  pub ends_alone : (d : ℕ) (pairs : List (K × ℤ)) (p : K × ℤ) → IsAlike d (entries_by bytes pairs) → length (bytes (get_or pairs 0 p).0) ≤ d → pairs ≡ get_or pairs 0 p ∷ []
-  ends_alone d [] p (inl one) short = absurd (omega (arith, one))
-  ends_alone d [] p (inr go) short = absurd go.0
-  ends_alone d (q ∷ []) p alike short = refl
-  ends_alone d (q ∷ r ∷ pairs) p (inl one) short = absurd (omega (arith, one))
-  ends_alone d (q ∷ r ∷ pairs) p (inr go) short = absurd (omega (arith, go.0, short))
 
 -- a span is what it says
 pub covers_same : (base : ℕ) (a b : Part) (f : Forest) → a.node ≡ b.node → a.depth ≡ b.depth → a.entries ≡ b.entries → Covers base (b ∷ []) f none → Covers base (a ∷ []) f none

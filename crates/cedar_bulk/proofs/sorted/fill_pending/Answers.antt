@@ -1,10 +1,9 @@
-use Rattle.std.proofs.Common.{◌≡◌, ℕ, ◌+◌, ◌*◌, ◌<◌, ◌∙◌, length, arith, rules, refl, sym, ap, subst, inl, inr, Option, Some, None, List, [], ◌∷◌, ◌++◌}
+use Rattle.std.proofs.Common.{◌≡◌, ℕ, ◌+◌, ◌<◌, ◌∙◌, length, arith, rules, refl, sym, ap, subst, inl, inr, Option, Some, None, List, [], ◌∷◌, ◌++◌}
 use Rattle.std.specs.Prelude.{MatchOption, option_to_list}
 use Rattle.cedar_bulk.specs.declared.spans.Span.{Span}
 use Rattle.cedar_bulk.specs.Spans.{Filling, Part, part_of, parts_of, work}
 use Rattle.cedar_table.specs.Table.Views.{fields}
 use Rattle.cedar_model.proofs.UpdateLemmas.BlocksMade.{made_nothing, made_then}
-use Rattle.cedar_bulk.proofs.BulkLemmas.NodeByNode.{filling_on, filling_refused, next_span}
 use Rattle.cedar_bulk.proofs.BulkLemmas.Pending.{parts_last}
 use Rattle.cedar_model.proofs.UpdateLemmas.Frame.{settings_then}
 use Rattle.cedar_model.proofs.UpdateLemmas.StepAnswers.{refused_as}
@@ -33,15 +32,14 @@ loop-next-init g c = record {
   settings = record { ordered = refl; entries = refl; max_trial = refl };
 }
 
-pub fill_next-requires : goal.fill_next-requires
-fill_next-requires g c =
+pub fill_turn-requires : goal.fill_turn-requires
+fill_turn-requires g c =
     let items = g.K.AsSlice.items in
     let r = c.requires.filling in
     let waits = next_last items c.loop-next.pending.items c.loop-next.next c.in-Some.span c.in-Some.is in
     let begun = subst (λ xs. Filling g.row.SLOTS (fields c.args.table.now) xs r.0 r.1) (ap (parts_of items) c.pop-next.ensures.items) r.2 in
     let k = subst (λ xs. Filling g.row.SLOTS (fields c.loop-next.table) xs r.0 r.1) waits (c.loop-next.invariant.filling r.0 r.1 begun) in
-    let next = next_span g.row.SLOTS (fields c.loop-next.table) (parts_of items c.loop-next.pending.items) (part_of items c.in-Some.span) r.0 r.1 k in
-    (search (rules, c.requires-raw), (record { sound = k.table; node_in = next.inside; node = next.node; leaf = next.leaf }, (next.not_root, (next.tree.0, next.tree.1))))
+    (search (rules, c.requires-raw), (r.0, r.1, k))
 
 pub loop-next-smaller : goal.loop-next-smaller
 loop-next-smaller g c =
@@ -50,10 +48,8 @@ loop-next-smaller g c =
     let waits = next_last items c.loop-next.pending.items c.loop-next.next c.in-Some.span c.in-Some.is in
     let begun = subst (λ xs. Filling g.row.SLOTS (fields c.args.table.now) xs r.0 r.1) (ap (parts_of items) c.pop-next.ensures.items) r.2 in
     let k = subst (λ xs. Filling g.row.SLOTS (fields c.loop-next.table) xs r.0 r.1) waits (c.loop-next.invariant.filling r.0 r.1 begun) in
-    let e = c.in_ok-next.ensures in
-    let new : List Part = parts_of items (c.fill_next.new.pending.items ++ option_to_list c.in_ok-next.next) in
-    let on = filling_on g.row.SLOTS (fields c.loop-next.table) (fields c.fill_next.new.table) (parts_of items c.loop-next.pending.items) (part_of items c.in-Some.span) new r.0 r.1 e.blocks.0 e.sound k e.fills e.spans e.blocks.1 e.blocks.2 refl e.own in
-    subst (λ xs. work new < work xs) (sym waits) on.1
+    let new : List Part = parts_of items (c.fill_turn.new.pending.items ++ option_to_list c.in_ok-next.next) in
+    subst (λ xs. work new < work xs) (sym waits) (c.in_ok-next.ensures.turn r.0 r.1 k).1
 
 pub loop-next-preserved : goal.loop-next-preserved
 loop-next-preserved g c =
@@ -61,15 +57,12 @@ loop-next-preserved g c =
     let i = c.loop-next.invariant in
     let e = c.in_ok-next.ensures in
     let waits = next_last items c.loop-next.pending.items c.loop-next.next c.in-Some.span c.in-Some.is in
-    let new : List Part = parts_of items (c.fill_next.new.pending.items ++ option_to_list c.in_ok-next.next) in
     record {
-      filling = λ f most h.
-          let k = subst (λ xs. Filling g.row.SLOTS (fields c.loop-next.table) xs f most) waits (i.filling f most h) in
-          (filling_on g.row.SLOTS (fields c.loop-next.table) (fields c.fill_next.new.table) (parts_of items c.loop-next.pending.items) (part_of items c.in-Some.span) new f most e.blocks.0 e.sound k e.fills e.spans e.blocks.1 e.blocks.2 refl e.own).0;
+      filling = λ f most h. (e.turn f most (subst (λ xs. Filling g.row.SLOTS (fields c.loop-next.table) xs f most) waits (i.filling f most h))).0;
       last = e.last;
-      blocks = (i.blocks.0 + e.blocks.0, made_then i.blocks.0 e.blocks.0 (fields c.args.table.now) (fields c.loop-next.table) (fields c.fill_next.new.table) i.blocks.1 e.blocks.2);
+      blocks = (i.blocks.0 + e.blocks.0, made_then i.blocks.0 e.blocks.0 (fields c.args.table.now) (fields c.loop-next.table) (fields c.fill_turn.new.table) i.blocks.1 e.blocks.1);
       root_check = e.root_check ∙ i.root_check;
-      settings = settings_then (fields c.args.table.now) (fields c.loop-next.table) (fields c.fill_next.new.table) i.settings e.settings;
+      settings = settings_then (fields c.args.table.now) (fields c.loop-next.table) (fields c.fill_turn.new.table) i.settings e.settings;
     }
 
 pub returns-in_err-next-clause-refused : goal.returns-in_err-next-clause-refused
@@ -85,9 +78,7 @@ returns-in_err-next-clause-refused g c =
         s.0,
         λ f most h.
             let begun = subst (λ xs. Filling g.row.SLOTS (fields c.args.table.now) xs f most) (ap (parts_of items) c.pop-next.ensures.items) h in
-            let k = subst (λ xs. Filling g.row.SLOTS (fields c.loop-next.table) xs f most) waits (i.filling f most begun) in
-            let all : 256 * (fields c.loop-next.table).places.blocks.active ≡ g.row.SLOTS = omega (arith, s.1.0, s.1.1.active) in
-            filling_refused g.row.SLOTS (fields c.loop-next.table) (parts_of items c.loop-next.pending.items) (part_of items c.in-Some.span) f most k all,
+            s.1 f most (subst (λ xs. Filling g.row.SLOTS (fields c.loop-next.table) xs f most) waits (i.filling f most begun)),
       )
     ])
 
@@ -95,7 +86,7 @@ pub returns-in_err-next-clause-blocks : goal.returns-in_err-next-clause-blocks
 returns-in_err-next-clause-blocks g c =
     let i = c.loop-next.invariant in
     let e = c.in_err-next.ensures in
-    (i.blocks.0 + e.blocks.0, made_then i.blocks.0 e.blocks.0 (fields c.args.table.now) (fields c.loop-next.table) (fields c.fill_next.new.table) i.blocks.1 e.blocks.2)
+    (i.blocks.0 + e.blocks.0, made_then i.blocks.0 e.blocks.0 (fields c.args.table.now) (fields c.loop-next.table) (fields c.fill_turn.new.table) i.blocks.1 e.blocks.1)
 
 pub returns-clause-filled : goal.returns-clause-filled
 returns-clause-filled g c = λ f most h.
