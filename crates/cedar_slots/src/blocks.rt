@@ -113,14 +113,18 @@ impl Counts {
     }
 
     /// Returns whether these counts name the list that the block's counts before named, as far as that shows without a list: both
-    /// leave the block several free slots and as many trials.
-    fn keeps_list(self, before: Counts) -> bool
-        ensures { IsTrue result → (max_trial : ℤ) → kind_of max_trial self ≡ kind_of max_trial before }
+    /// leave the block several free slots, and it was closed by its trials before if it is closed by them now.
+    fn keeps_list(self, before: Counts, max_trial: i32) -> bool
+        ensures { IsTrue result → kind_of max_trial self ≡ kind_of max_trial before }
     {
         if before.num < 2 || self.num < 2 {
             return false;
         }
-        self.trial == before.trial
+        if self.trial == max_trial {
+            before.trial == max_trial
+        } else {
+            before.trial != max_trial
+        }
     }
 
     /// Returns the counts of a block without free slots after `slot` was given back.
@@ -429,7 +433,7 @@ impl<A: Allocator> Blocks<A> {
         ensures active { self.new.active ≡ self.old.active }
         ensures max_trial { self.new.max_trial ≡ self.old.max_trial }
     {
-        if counts.keeps_list(old) {
+        if counts.keeps_list(old, self.max_trial) {
             self.write_counts(block, counts);
         } else {
             self.set_each_count(

@@ -50,13 +50,6 @@ kind_of_closed z b h (inr e) = cond-false _ _ _ (int_eq_false _ _ h) ∙ cond-tr
 pub kind_of_open : (z : ℤ) (b : Counts) → (b.num ≡ pos 0 → ⊥) → (b.num ≡ pos 1 → ⊥) → (b.trial ≡ z → ⊥) → kind_of z b ≡ Open
 kind_of_open z b h i j = cond-false _ _ _ (int_eq_false _ _ h) ∙ cond-false _ _ _ (or_from _ _ (int_eq_false _ _ i) (int_eq_false _ _ j))
 
--- several free slots and as many trials name one list
-pub kind_of_same : (z : ℤ) (a b : Counts) → (a.num ≡ pos 0 → ⊥) → (a.num ≡ pos 1 → ⊥) → (b.num ≡ pos 0 → ⊥) → (b.num ≡ pos 1 → ⊥) → a.trial ≡ b.trial → kind_of z a ≡ kind_of z b
-kind_of_same z a b h i j k e = several a h i ∙ ap (λ t. cond (int_eq t z) Closed Open) e ∙ sym (several b j k)
-  where
-    several : (c : Counts) → (c.num ≡ pos 0 → ⊥) → (c.num ≡ pos 1 → ⊥) → kind_of z c ≡ cond (int_eq c.trial z) Closed Open
-    several c m n = cond-false _ _ _ (int_eq_false _ _ m) ∙ ap (λ (t : Bool). cond (t || int_eq c.trial z) Closed Open) (int_eq_false _ _ n)
-
 -- ---- the links after a write
 
 pos_same : (m n : ℕ) → ◌≡◌ {A = ℤ} (pos m) (pos n) → m ≡ n

@@ -1,4 +1,5 @@
-use Rattle.std.proofs.Common.{◌≡◌, ◌∙◌, ap, arith, inr}
+use Rattle.std.proofs.Common.{◌≡◌, ◌∙◌, ap, arith, inr, of_z, subst, to_z, w32}
+use Rattle.std.proofs.lemmas.Int.{ints}
 use Rattle.cedar_slots.specs.Blocks.{counts_at, counts_of, kind_of}
 use Rattle.cedar_slots.specs.Views.{blocks_of}
 use Rattle.cedar_slots.proofs.ListsLemmas.BlockMoved.{BlockLists-stay, ListRings-kept}
@@ -11,8 +12,9 @@ returns-then-keeps_list-clause-lists g c =
     let e = c.args.block in
     let lists = c.requires.lists.0 in
     let w = c.write_counts.ensures in
+    let stands : to_z w32 (of_z w32 old.max_trial) ≡ old.max_trial = omega (arith, ints) in
     let same : kind_of new.max_trial (counts_at new.records e) ≡ kind_of old.max_trial (counts_at old.records e) =
-    ap (λ z. kind_of z (counts_at new.records e)) w.max_trial ∙ ap (kind_of old.max_trial) w.made ∙ c.keeps_list.ensures c.if-keeps_list.true old.max_trial ∙ ap (kind_of old.max_trial) c.requires.was in
+    ap (λ z. kind_of z (counts_at new.records e)) w.max_trial ∙ ap (kind_of old.max_trial) w.made ∙ subst (λ z. kind_of z c.args.counts ≡ kind_of z c.args.old) stands (c.keeps_list.ensures c.if-keeps_list.true) ∙ ap (kind_of old.max_trial) c.requires.was in
     (lists, BlockLists-stay old new e lists c.requires.lists.1 w.active w.max_trial (λ b other. ap counts_of (w.others b other)) (ListRings-kept old new lists w.links w.heads c.requires.lists.1.rings) (inr same))
 
 pub write_counts-requires : goal.write_counts-requires
