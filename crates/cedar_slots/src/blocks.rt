@@ -446,6 +446,40 @@ impl<A: Allocator> Blocks<A> {
         }
     }
 
+    /// Sets the counts of `block`, which were `old`, once it has more free slots and its trials begin anew, and moves it to the list
+    /// that they now name. An open block stays open, which shows without a list.
+    #[inline(always)]
+    pub(crate) fn add_counts(&mut self, block: usize, old: Counts, counts: Counts)
+        requires was { old ≡ counts_at self.old.records.items block }
+        requires lists { HasLists (blocks_of self.old) }
+        requires sized { Sized (blocks_of self.old) }
+        requires block_in { block < self.old.active }
+        requires tried { pos 1 ≤ℤ self.old.max_trial }
+        requires more { old.num ≤ℤ counts.num }
+        requires anew { counts.trial ≡ pos 0 }
+        ensures lists { HasLists (blocks_of self.new) }
+        ensures made { counts_at self.new.records.items block ≡ counts }
+        ensures others { (b : ℕ) → (b ≡ block → ⊥) → counts_at self.new.records.items b ≡ counts_at self.old.records.items b }
+        ensures idle { SameFrom self.old.active self.old.records.items self.new.records.items }
+        ensures len { length self.new.records.items ≡ length self.old.records.items }
+        ensures used { self.new.records.used ≡ self.old.records.used }
+        ensures active { self.new.active ≡ self.old.active }
+        ensures max_trial { self.new.max_trial ≡ self.old.max_trial }
+    {
+        let limit = self.max_trial;
+        if old.num < 2 || old.trial == limit {
+            self.set_each_count(
+                block,
+                counts.num,
+                counts.reject,
+                counts.trial,
+                counts.e_head,
+            );
+        } else {
+            self.write_counts(block, counts);
+        }
+    }
+
     /// Puts the first block that is not in use into use, with all of its slots free, as the head of
     /// the open list.
     pub(crate) fn activate(&mut self)

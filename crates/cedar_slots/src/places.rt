@@ -150,15 +150,18 @@ impl<A: Allocator> Places<A> {
     {
         let block = slot / BLOCK_SIZE;
         let counts = self.blocks.counts(block);
-        let floor = self.reject_for(counts.num + 1);
         if counts.num == reserved(block) {
+            let floor = self.reject_for(counts.num + 1);
             self.slots.give_alone(slot);
             self.blocks
                 .change_counts(block, counts, counts.one(slot, floor));
         } else {
             let head = counts.head();
             self.slots.give_after(head, slot);
-            self.blocks.change_counts(block, counts, counts.more(floor));
+            // Read again after the writes above, so that nothing of them is kept meanwhile, and what stays as it is needn't be written.
+            let counts = self.blocks.counts(block);
+            let floor = self.reject_for(counts.num + 1);
+            self.blocks.add_counts(block, counts, counts.more(floor));
         }
     }
 

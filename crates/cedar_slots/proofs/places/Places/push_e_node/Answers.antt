@@ -1,9 +1,16 @@
-use Rattle.std.proofs.Common.{◌≡◌, ◌/◌, ◌≤ℤ◌, ◌<ℤ◌, ◌∙◌, arith, pos, sym}
+use Rattle.std.proofs.Common.{ap, unsigned_abs, ℕ, ℤ, ◌+◌, ◌≡◌, ◌/◌, ◌≤ℤ◌, ◌<ℤ◌, ◌∙◌, arith, pos, sym}
 use Rattle.std.proofs.lemmas.Int.{ints}
+use Rattle.cedar_slots.specs.declared.blocks.Counts.{Counts}
 use Rattle.cedar_slots.specs.Places.{PlaceFields}
 use Rattle.cedar_slots.proofs.RingsLemmas.SlotTaken.{Bounded-more, Bounded-one, num_natural, num_room, recounted, Sound-given_alone, FreesSlot-given_alone, headed, head_here, Sound-given_after, FreesSlot-given_after}
 use Rattle.cedar_slots.proofs.places.Places.push_e_node.Goals as goal
 use Rattle.cedar_slots.specs.Views.{blocks_of, places_of, slots_of}
+
+one_more : (a b : ℤ) (n : ℕ) → a ≡ pos n → b ≡ pos (n + 1) → a ≤ℤ b
+one_more a b n p q = rw (p, q) (grows n)
+  where
+    grows : (n : ℕ) → pos n ≤ℤ pos (n + 1)
+    grows n = omega (arith, ints)
 
 pub give_after-requires-clause-head_in : goal.give_after-requires-clause-head_in
 give_after-requires-clause-head_in g c =
@@ -18,7 +25,7 @@ give_after-requires-clause-next_in g c =
     omega (arith, (head_here (places_of c.args.self.now) c.args.slot c.requires.sound c.requires.slot_in c.requires.not_root c.requires.slot_used c.counts-counts.result c.counts-counts.ensures some c.head-head.result at_head).1, c.args.self.now.blocks.ready, c.args.self.now.nodes_ready)
 
 pub more-requires : goal.more-requires
-more-requires g c = num_room (places_of c.args.self.now) c.args.slot c.requires.sound c.requires.slot_in c.requires.not_root c.requires.slot_used c.counts-counts.result c.counts-counts.ensures
+more-requires g c = num_room (places_of c.args.self.now) c.args.slot c.requires.sound c.requires.slot_in c.requires.not_root c.requires.slot_used c.counts-counts-else-counts-reserved.result c.counts-counts-else-counts-reserved.ensures
 
 pub returns-then-counts-reserved-clause-sound : goal.returns-then-counts-reserved-clause-sound
 returns-then-counts-reserved-clause-sound g c =
@@ -38,13 +45,16 @@ returns-then-counts-reserved-clause-frees_slot g c =
 
 pub returns-else-counts-reserved-clause-sound : goal.returns-else-counts-reserved-clause-sound
 returns-else-counts-reserved-clause-sound g c =
-    let new : PlaceFields = record (places_of c.args.self.now) { slots = (slots_of c.give_after.new.self); blocks = (blocks_of c.change_counts-else-counts-reserved.new.self) } in
-    let e = c.change_counts-else-counts-reserved.ensures in
-    let some = λ (none : c.counts-counts.result.num ≡ _). let same : c.counts-counts.result.num ≡ c.reserved.result = none ∙ sym c.reserved.ensures in c.if-counts-reserved.false (omega (arith, ints)) in
-    let at_head = headed (places_of c.args.self.now) c.args.slot c.requires.sound c.requires.slot_in c.requires.not_root c.requires.slot_used c.counts-counts.result c.counts-counts.ensures some c.head-head.result c.head-head.ensures in
-    Sound-given_after (places_of c.args.self.now) c.args.slot c.requires.sound c.requires.slot_in c.requires.not_root c.requires.slot_used c.counts-counts.result c.counts-counts.ensures some c.head-head.result at_head new c.more.result
-    (recounted (places_of c.args.self.now) new (c.args.slot / 256) c.requires.sound c.requires.slot_in c.counts-counts.result c.more.result c.counts-counts.ensures e.made
-    (Bounded-more c.args.self.now.blocks.max_trial new.blocks.max_trial c.counts-counts.result c.more.result c.reject_for-floor.result _ e.max_trial c.requires.sound.pruned.max_trial c.more.ensures.reject (omega (arith, ints)) c.reject_for-floor.ensures.bounds c.more.ensures.trial)
+    let new : PlaceFields = record (places_of c.args.self.now) { slots = (slots_of c.give_after.new.self); blocks = (blocks_of c.add_counts.new.self) } in
+    let e = c.add_counts.ensures in
+    let was = c.counts-counts-else-counts-reserved.result in
+    let was_is = c.counts-counts-else-counts-reserved.ensures in
+    let again : was ≡ c.counts-counts.result = was_is ∙ sym c.counts-counts.ensures in
+    let some = λ (none : was.num ≡ _). let same : c.counts-counts.result.num ≡ c.reserved.result = ap (λ (k : Counts). k.num) (sym again) ∙ none ∙ sym c.reserved.ensures in c.if-counts-reserved.false (omega (arith, ints)) in
+    let at_head = headed (places_of c.args.self.now) c.args.slot c.requires.sound c.requires.slot_in c.requires.not_root c.requires.slot_used was was_is some c.head-head.result (c.head-head.ensures ∙ ap (λ (k : Counts). unsigned_abs k.e_head) (sym again)) in
+    Sound-given_after (places_of c.args.self.now) c.args.slot c.requires.sound c.requires.slot_in c.requires.not_root c.requires.slot_used was was_is some c.head-head.result at_head new c.more.result
+    (recounted (places_of c.args.self.now) new (c.args.slot / 256) c.requires.sound c.requires.slot_in was c.more.result was_is e.made
+    (Bounded-more c.args.self.now.blocks.max_trial new.blocks.max_trial was c.more.result c.reject_for-floor-else-counts-reserved.result _ e.max_trial c.requires.sound.pruned.max_trial c.more.ensures.reject (omega (arith, ints)) c.reject_for-floor-else-counts-reserved.ensures.bounds c.more.ensures.trial)
     (λ _ _. c.more.ensures.trial)
     e.lists e.active e.len e.max_trial e.others e.idle c.requires.sound.rejects)
     c.give_after.ensures.nodes c.give_after.ensures.infos c.give_after.ensures.len c.give_after.ensures.infos_len c.more.ensures.num c.more.ensures.e_head
@@ -93,3 +103,30 @@ give_after-requires-clause-slot_in_infos g c = omega (arith, c.args.self.now.blo
 
 pub counts-counts-requires : goal.counts-counts-requires
 counts-counts-requires g c = omega (arith, c.requires.slot_in, c.args.self.now.blocks.ready)
+
+pub reject_for-floor-requires-else-counts-reserved-clause-natural : goal.reject_for-floor-requires-else-counts-reserved-clause-natural
+reject_for-floor-requires-else-counts-reserved-clause-natural g c =
+    let low : pos 0 ≤ℤ c.counts-counts-else-counts-reserved.result.num = num_natural (places_of c.args.self.now) c.args.slot c.requires.sound c.requires.slot_in c.requires.not_root c.requires.slot_used c.counts-counts-else-counts-reserved.result c.counts-counts-else-counts-reserved.ensures in
+    let room : c.counts-counts-else-counts-reserved.result.num <ℤ pos 256 = num_room (places_of c.args.self.now) c.args.slot c.requires.sound c.requires.slot_in c.requires.not_root c.requires.slot_used c.counts-counts-else-counts-reserved.result c.counts-counts-else-counts-reserved.ensures in
+    omega (arith, ints)
+
+pub reject_for-floor-requires-else-counts-reserved-clause-at_most : goal.reject_for-floor-requires-else-counts-reserved-clause-at_most
+reject_for-floor-requires-else-counts-reserved-clause-at_most g c =
+    let low : pos 0 ≤ℤ c.counts-counts-else-counts-reserved.result.num = num_natural (places_of c.args.self.now) c.args.slot c.requires.sound c.requires.slot_in c.requires.not_root c.requires.slot_used c.counts-counts-else-counts-reserved.result c.counts-counts-else-counts-reserved.ensures in
+    let room : c.counts-counts-else-counts-reserved.result.num <ℤ pos 256 = num_room (places_of c.args.self.now) c.args.slot c.requires.sound c.requires.slot_in c.requires.not_root c.requires.slot_used c.counts-counts-else-counts-reserved.result c.counts-counts-else-counts-reserved.ensures in
+    omega (arith, ints)
+
+pub overflow_add-counts-else-counts-reserved : goal.overflow_add-counts-else-counts-reserved
+overflow_add-counts-else-counts-reserved g c =
+    let low : pos 0 ≤ℤ c.counts-counts-else-counts-reserved.result.num = num_natural (places_of c.args.self.now) c.args.slot c.requires.sound c.requires.slot_in c.requires.not_root c.requires.slot_used c.counts-counts-else-counts-reserved.result c.counts-counts-else-counts-reserved.ensures in
+    let room : c.counts-counts-else-counts-reserved.result.num <ℤ pos 256 = num_room (places_of c.args.self.now) c.args.slot c.requires.sound c.requires.slot_in c.requires.not_root c.requires.slot_used c.counts-counts-else-counts-reserved.result c.counts-counts-else-counts-reserved.ensures in
+    omega (arith, ints)
+
+pub add_counts-requires-clause-more : goal.add_counts-requires-clause-more
+add_counts-requires-clause-more g c =
+    let was = c.counts-counts-else-counts-reserved.result in
+    let was_is = c.counts-counts-else-counts-reserved.ensures in
+    let again : was ≡ c.counts-counts.result = was_is ∙ sym c.counts-counts.ensures in
+    let some = λ (none : was.num ≡ _). let same : c.counts-counts.result.num ≡ c.reserved.result = ap (λ (k : Counts). k.num) (sym again) ∙ none ∙ sym c.reserved.ensures in c.if-counts-reserved.false (omega (arith, ints)) in
+    let at_head = headed (places_of c.args.self.now) c.args.slot c.requires.sound c.requires.slot_in c.requires.not_root c.requires.slot_used was was_is some c.head-head.result (c.head-head.ensures ∙ ap (λ (k : Counts). unsigned_abs k.e_head) (sym again)) in
+    one_more was.num c.more.result.num _ at_head.num (c.more.ensures.num _ at_head.num)
