@@ -1,6 +1,6 @@
 //! The slots, and the rings of the free ones.
 
-ghost use Rattle.std.specs.Prelude.{◌*◌, ◌+◌, ◌-◌, ◌/◌, ◌<◌, ◌^◌, ◌≡◌, ◌≤◌, ◌⊎◌, bit_xor, IsTrue, length, slice_index_or, slice_set, true, unsigned_abs, ℕ};
+ghost use Rattle.std.specs.Prelude.{◌*◌, ◌+◌, ◌-◌, ◌/◌, ◌<◌, ◌^◌, ◌≡◌, ◌≤ℤ◌, ◌≤◌, ◌⊎◌, bit_xor, IsTrue, length, pos, slice_index_or, slice_set, true, unsigned_abs, ℕ};
 
 use crate::padded::Padded;
 use crate::records::{NInfoRecord, NodeRecord};
@@ -23,18 +23,21 @@ impl<A: Allocator> Slots<A> {
 
     /// Returns the free slot after `slot` in its ring.
     pub(crate) fn next_free(&self, slot: usize) -> usize
-        requires { slot < self.now.nodes.used }
+        requires slot_in { slot < self.now.nodes.used }
+        requires is_link { check_at self.now.nodes.items slot ≤ℤ pos 0 }
         ensures { result ≡ unsigned_abs (check_at self.now.nodes.items slot) }
     {
-        self.nodes.at(slot).check.unsigned_abs() as usize
+        // A link is never above 0, so its sign needn't be tested.
+        -i64::from(self.nodes.at(slot).check) as usize
     }
 
     /// Returns the free slot before `slot` in its ring.
     pub(crate) fn previous_free(&self, slot: usize) -> usize
-        requires { slot < self.now.nodes.used }
+        requires slot_in { slot < self.now.nodes.used }
+        requires is_link { base_at self.now.nodes.items slot ≤ℤ pos 0 }
         ensures { result ≡ unsigned_abs (base_at self.now.nodes.items slot) }
     {
-        self.nodes.at(slot).base.unsigned_abs() as usize
+        -i64::from(self.nodes.at(slot).base) as usize
     }
 
     /// Makes `to` the free slot after `from`.
@@ -63,6 +66,8 @@ impl<A: Allocator> Slots<A> {
         requires slot_in { slot < self.old.nodes.used }
         requires previous_in { unsigned_abs (base_at self.old.nodes.items slot) < self.old.nodes.used }
         requires next_in { unsigned_abs (check_at self.old.nodes.items slot) < self.old.nodes.used }
+        requires to_previous { base_at self.old.nodes.items slot ≤ℤ pos 0 }
+        requires to_next { check_at self.old.nodes.items slot ≤ℤ pos 0 }
         requires fits { self.old.nodes.used ≤ 2 ^ 30 }
         ensures nodes { self.new.nodes.items ≡ nodes_after_take self.old.nodes.items slot node }
         ensures infos { self.new.infos.items ≡ self.old.infos.items }
@@ -100,6 +105,7 @@ impl<A: Allocator> Slots<A> {
         requires slot_in_infos { slot < self.old.infos.used }
         requires head_in { head < self.old.nodes.used }
         requires next_in { unsigned_abs (check_at self.old.nodes.items head) < self.old.nodes.used }
+        requires to_next { check_at self.old.nodes.items head ≤ℤ pos 0 }
         requires fits { self.old.nodes.used ≤ 2 ^ 30 }
         ensures nodes { self.new.nodes.items ≡ given_after self.old.nodes.items head slot }
         ensures infos { self.new.infos.items ≡ slice_set self.old.infos.items slot blank_info }

@@ -1,8 +1,9 @@
 -- The nodes after a link, and the ring after a slot was taken out or put in.
-use Rattle.std.proofs.Common.{◌≡◌, ℕ, zero, suc, ◌+◌, ◌/◌, ◌<◌, ◌≤◌, List, [], ◌∷◌, ◌++◌, length, set, get_or, length-set, length-append, eqb, cond, not, ◌&&◌, true, false, refl, sym, ap, subst, inl, inr, ◌∙◌, arith, ℤ, pos, neg_ℤ, unsigned_abs, int_lt}
+use Rattle.std.proofs.Common.{◌≡◌, ℕ, zero, suc, ◌+◌, ◌/◌, ◌<◌, ◌≤ℤ◌, ◌≤◌, List, [], ◌∷◌, ◌++◌, length, set, get_or, length-set, length-append, eqb, cond, not, ◌&&◌, true, false, refl, sym, ap, subst, inl, inr, ◌∙◌, arith, ℤ, pos, negsuc, neg_ℤ, unsigned_abs, int_lt}
 use Rattle.std.specs.Prelude.{bit_xor}
 use Rattle.std.proofs.lemmas.List.{get_or_default, get_or_read, get_or_past, nil_from_length, get_or-set_same, get_or-set_other}
-use Rattle.std.proofs.lemmas.Bool.{cases_eq, cases_lt, cases_Bool, ne_eqb, eq-eqb, eqb-true, and_parts, and_from, and_left, and_right, cond-true, cond-false, false≢true}
+use Rattle.std.proofs.lemmas.Bool.{ltb-true, cases_eq, cases_lt, cases_Bool, ne_eqb, eq-eqb, eqb-true, and_parts, and_from, and_left, and_right, cond-true, cond-false, false≢true}
+use Rattle.std.proofs.lemmas.Int.{ints}
 use Rattle.cedar_slots.specs.declared.records.NodeRecord.{NodeRecord}
 use Rattle.cedar_slots.specs.declared.records.NInfoRecord.{NInfoRecord}
 use Rattle.cedar_slots.specs.Ring.{first_of, occurs, Ring, Relinked}
@@ -37,6 +38,10 @@ abs_neg_pos (suc n) = refl
 pub neg_pos_below : (n : ℕ) → 0 < n → int_lt (neg_ℤ (pos n)) (pos 0) ≡ true
 neg_pos_below zero h = absurd (omega arith)
 neg_pos_below (suc n) h = refl
+
+-- a link is not above 0
+neg_pos_most : (n : ℕ) → neg_ℤ (pos n) ≤ℤ pos 0
+neg_pos_most n = omega (arith, ints)
 
 pub SlotLink-fixed : (nodes : List NodeRecord) → OneToOne (SlotLink nodes)
 SlotLink-fixed nodes = record {
@@ -154,6 +159,13 @@ pub free_positive : (nodes : List NodeRecord) (s : ℕ) → is_free nodes s ≡ 
 free_positive nodes zero h = absurd (false≢true h)
 free_positive nodes (suc s) h = omega arith
 
+not_above : (z : ℤ) → int_lt z (pos 0) ≡ true → z ≤ℤ pos 0
+not_above (pos n) h = absurd (omega (arith, ltb-true n 0 h))
+not_above (negsuc n) h = omega (arith, ints)
+
+pub free_link : (nodes : List NodeRecord) (s : ℕ) → is_free nodes s ≡ true → check_at nodes s ≤ℤ pos 0
+free_link nodes s h = not_above _ (and_parts _ _ h).1
+
 module _ (nodes : List NodeRecord) (infos : List NInfoRecord) (b : ℕ) (xs : List ℕ) (ring : FreeRing nodes infos b xs) where
   pub member_free : (s : ℕ) → 0 < occurs s xs → (is_free nodes s ≡ true) × (s / 256 ≡ b)
   member_free s h = elim (cases_Bool (is_free nodes s && eqb (s / 256) b)) [
@@ -242,6 +254,8 @@ pub record RingAfterTake (nodes : List NodeRecord) (infos : List NInfoRecord) (b
   pub less : Less e (unsigned_abs (check_at nodes e)) xs rest
   pub last_here : unsigned_abs (base_at nodes e) / 256 ≡ b
   pub next_here : unsigned_abs (check_at nodes e) / 256 ≡ b
+  pub to_last : base_at nodes e ≤ℤ pos 0
+  pub to_next : check_at nodes e ≤ℤ pos 0
   pub outside : SameOutside b nodes (nodes_after_take nodes e node)
   pub holds : node_record_at (nodes_after_take nodes e node) e ≡ node
   pub now_used : is_free (nodes_after_take nodes e node) e ≡ false
@@ -297,6 +311,8 @@ take_from nodes infos b node e before after ring used =
       less = subst (λ n. Less e n (before ++ e ∷ after) (before ++ after)) (sym (next_is nodes b e last next near)) (less_of e next before after apart near_ring.first);
       last_here = subst (λ n. n / 256 ≡ b) (sym (last_is nodes b e last next near)) near.last_here;
       next_here = subst (λ n. n / 256 ≡ b) (sym (next_is nodes b e last next near)) near.next_here;
+      to_last = subst (λ z. z ≤ℤ pos 0) (sym near.into.1) (neg_pos_most last);
+      to_next = subst (λ z. z ≤ℤ pos 0) (sym near.from.0) (neg_pos_most next);
       outside = subst (λ ns. SameOutside b nodes ns) (sym is) outside;
       holds = subst (λ ns. node_record_at ns e ≡ node) (sym is) (node-taken_same nodes last next e node last_in next_in e_in);
       now_used = subst (λ ns. is_free ns e ≡ false) (sym is) now_used;

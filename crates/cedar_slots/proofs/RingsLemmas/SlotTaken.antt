@@ -16,7 +16,7 @@ use Rattle.cedar_slots.specs.Places.{Bounded, Counted, FreeBlock, FreesSlot, Has
 use Rattle.cedar_slots.specs.Ring.{first_of, occurs}
 use Rattle.cedar_slots.specs.Blocks.{BlockFields, counts_at, HasLists, head_of, kind_of, SameFrom}
 use Rattle.cedar_slots.proofs.RingsLemmas.Ring.{occurs-le-length, length-le-range, occurs_same, occurs_other}
-use Rattle.cedar_slots.proofs.RingsLemmas.LinkedSlots.{free_member, member_free, FreeRing-apart, RingAfterTake, FreeRing-taken, FreeRing-frame, Less, Freed, FreeRing-given_alone, Freed-given_alone, FreeRing-given_after, Freed-given_after, given_after_here}
+use Rattle.cedar_slots.proofs.RingsLemmas.LinkedSlots.{free_member, member_free, FreeRing-apart, RingAfterTake, FreeRing-taken, FreeRing-frame, Less, Freed, FreeRing-given_alone, Freed-given_alone, FreeRing-given_after, Freed-given_after, given_after_here, free_link}
 
 -- a table whose change lies in one block has all its rings, if that block has its ring
 pub HasFree-changed : (old new : PlaceFields) (b : ℕ) → HasFree old → new.blocks.active ≡ old.blocks.active → ((s : ℕ) → (s / 256 ≡ b → ⊥) → node_record_at new.slots.nodes s ≡ node_record_at old.slots.nodes s) → ((s : ℕ) → (s / 256 ≡ b → ⊥) → info_at new.slots.infos s ≡ info_at old.slots.infos s) → ((c : ℕ) → (c ≡ b → ⊥) → counts_at new.blocks.records c ≡ counts_at old.blocks.records c) → (xs : List ℕ) → FreeBlock new b xs → HasFree new
@@ -319,6 +319,9 @@ module _ (old : PlaceFields) (e : ℕ) (sound : Sound old) (e_in : e / 256 < old
     module _ (head : ℕ) (h : Headed head) where
       pub head_here : (head / 256 ≡ e / 256) × (unsigned_abs (check_at old.slots.nodes head) / 256 ≡ e / 256)
       head_here = given_after_here old.slots.nodes old.slots.infos (e / 256) e positive slot_in slot_in_infos refl used head h.rest h.ring
+
+      pub head_link : check_at old.slots.nodes head ≤ℤ pos 0
+      head_link = free_link old.slots.nodes head (member_free old.slots.nodes old.slots.infos (e / 256) (head ∷ h.rest) h.ring head (omega (arith, occurs_same head h.rest))).0
 
       pub freed_after : Freed old.slots.nodes (given_after old.slots.nodes head e) (e / 256) e
       freed_after = Freed-given_after old.slots.nodes old.slots.infos (e / 256) e positive slot_in slot_in_infos refl used head h.rest h.ring

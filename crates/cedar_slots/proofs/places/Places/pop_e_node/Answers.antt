@@ -47,3 +47,12 @@ take-requires-clause-slot_in g c = omega (arith, c.args.self.now.blocks.ready, c
 
 pub counts-counts-requires : goal.counts-counts-requires
 counts-counts-requires g c = omega (arith, c.requires.slot_in, c.args.self.now.blocks.ready)
+
+pub take-requires-clause-to_previous : goal.take-requires-clause-to_previous
+take-requires-clause-to_previous g c = (taking (places_of c.args.self.now) c.args.slot c.args.node c.requires.sound c.requires.slot_in c.requires.slot_free c.requires.node_used).to_last
+
+pub take-requires-clause-to_next : goal.take-requires-clause-to_next
+take-requires-clause-to_next g c = (taking (places_of c.args.self.now) c.args.slot c.args.node c.requires.sound c.requires.slot_in c.requires.slot_free c.requires.node_used).to_next
+
+pub next_free-next-requires-clause-is_link : goal.next_free-next-requires-clause-is_link
+next_free-next-requires-clause-is_link g c = (taking (places_of c.args.self.now) c.args.slot c.args.node c.requires.sound c.requires.slot_in c.requires.slot_free c.requires.node_used).to_next

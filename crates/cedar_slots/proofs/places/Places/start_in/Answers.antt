@@ -1,6 +1,7 @@
 use Rattle.std.proofs.Common.{◌<◌, ◌≤ℤ◌, arith, pos}
 use Rattle.std.proofs.lemmas.Int.{ints}
 use Rattle.cedar_slots.proofs.PlacementLemmas.PlaceSearch.{first_fits, head_start, next_start, start_block, start_positive}
+use Rattle.cedar_slots.proofs.RingsLemmas.LinkedSlots.{free_link}
 use Rattle.cedar_slots.proofs.places.Places.start_in.Goals as goal
 use Rattle.cedar_slots.specs.Views.{places_of}
 
@@ -26,8 +27,8 @@ returns-then-fits g c = record {
   fits = first_fits c.args.self.now.slots.nodes.items c.loop.slot c.from-first.result c.args.labels.now c.split_at.result.1.now c.from-first.ensures c.split_at.ensures.back c.loop.invariant.free (c.fits.ensures.fits c.if-fits.true);
 }
 
-pub next_free-slot-requires : goal.next_free-slot-requires
-next_free-slot-requires g c = omega (arith, c.loop.invariant.here, c.requires.block_in, c.args.self.now.blocks.ready, c.args.self.now.nodes_ready)
+pub next_free-slot-requires-clause-slot_in : goal.next_free-slot-requires-clause-slot_in
+next_free-slot-requires-clause-slot_in g c = omega (arith, c.loop.invariant.here, c.requires.block_in, c.args.self.now.blocks.ready, c.args.self.now.nodes_ready)
 
 pub loop-preserved : goal.loop-preserved
 loop-preserved g c = next_start (places_of c.args.self.now) c.requires.sound c.args.block c.loop.slot c.next_free-slot.result c.requires.block_in c.loop.invariant c.next_free-slot.ensures
@@ -37,3 +38,6 @@ counts-counts-requires g c = omega (arith, c.requires.block_in, c.args.self.now.
 
 pub fits-requires-clause-fits : goal.fits-requires-clause-fits
 fits-requires-clause-fits g c = omega (arith, c.args.self.now.nodes_ready, c.args.self.now.blocks.within, c.requires.sound.shaped.blocks.fits)
+
+pub next_free-slot-requires-clause-is_link : goal.next_free-slot-requires-clause-is_link
+next_free-slot-requires-clause-is_link g c = free_link c.args.self.now.slots.nodes.items c.loop.slot c.loop.invariant.free
