@@ -89,9 +89,10 @@ impl Counts {
 
     /// Returns the number of the slot at which the free ones begin, if there is one.
     pub(crate) fn head(self) -> usize
+        requires { pos 0 ≤ℤ self.e_head }
         ensures { result ≡ unsigned_abs self.e_head }
     {
-        self.e_head.unsigned_abs() as usize
+        self.e_head as usize
     }
 
     /// Returns the counts after a slot was given back to the block's other free slots. `floor` is what no

@@ -339,6 +339,33 @@ module _ (old : PlaceFields) (e : ℕ) (sound : Sound old) (e_in : e / 256 < old
 
 -- ---- a free slot outside block 0
 
+first_occurs : (xs : List ℕ) (b : ℕ) → b ≡ first_of xs → (b ≡ 0 → ⊥) → 0 < occurs b xs
+first_occurs [] b e h = absurd (h e)
+first_occurs (x ∷ xs) b e h = subst (λ n. 0 < occurs n (x ∷ xs)) (sym e) (omega (arith, occurs_same x xs))
+
+-- the number of the slot at which a block's free ones begin is not below 0
+pub head_natural : (table : PlaceFields) (sound : Sound table) (b : ℕ) → b < table.blocks.active → (counts : Counts) → counts ≡ counts_at table.blocks.records b → (counts.num ≡ pos (cond (eqb b 0) 1 0) → ⊥) → pos 0 ≤ℤ counts.e_head
+head_natural table sound b b_in counts read some =
+    let here = sound.free b b_in in
+    go here.0 (subst (λ n. Counted n b here.0) (sym read) here.1.counted)
+  where
+    natural : (n : ℕ) → pos 0 ≤ℤ pos n
+    natural n = omega (arith, ints)
+
+    go : (xs : List ℕ) → Counted counts b xs → pos 0 ≤ℤ counts.e_head
+    go [] counted = absurd (some (counted.num ∙ ap pos (omega arith)))
+    go (x ∷ xs) counted = subst (λ z. pos 0 ≤ℤ z) (sym (counted.e_head (omega arith))) (natural x)
+
+-- nor that of the head of a list of blocks that aren't full
+pub listed_head_natural : (table : PlaceFields) (sound : Sound table) (k : BlockType) → (k ≡ Full → ⊥) → (b : ℕ) → b ≡ unsigned_abs (head_of table.blocks k) → (b ≡ 0 → ⊥) → (counts : Counts) → counts ≡ counts_at table.blocks.records b → pos 0 ≤ℤ counts.e_head
+listed_head_natural table sound k not_full b first some counts read =
+    let lists = sound.lists.0 in
+    let held = sound.lists.1 in
+    let is_first : b ≡ first_of (lists k) = first ∙ ap unsigned_abs (held.rings.headed k) in
+    let only = held.only k b (first_occurs (lists k) b is_first some) in
+    let no_root : cond {A = ℕ} (eqb b 0) 1 0 ≡ 0 = cond-false _ 1 0 (ne_eqb b 0 some) in
+    head_natural table sound b only.1 counts read (λ none. not_full (sym only.2 ∙ kind_of_full table.blocks.max_trial (counts_at table.blocks.records b) (ap (λ (n : Counts). n.num) (sym read) ∙ none ∙ ap pos no_root)))
+
 -- the head of a list of blocks that aren't full leads to a free slot
 pub listed_head_free : (table : PlaceFields) (sound : Sound table) (k : BlockType) → (k ≡ Full → ⊥) → (b : ℕ) → b ≡ unsigned_abs (head_of table.blocks k) → (b ≡ 0 → ⊥) → (counts : Counts) → counts ≡ counts_at table.blocks.records b → (slot : ℕ) → slot ≡ unsigned_abs counts.e_head → IsFreePlace table slot
 listed_head_free table sound k not_full b first some counts read slot slot_is =
@@ -350,10 +377,6 @@ listed_head_free table sound k not_full b first some counts read slot slot_is =
     let here = sound.free b only.1 in
     go counts read only here.0 here.1
   where
-    first_occurs : (xs : List ℕ) (b : ℕ) → b ≡ first_of xs → (b ≡ 0 → ⊥) → 0 < occurs b xs
-    first_occurs [] b e h = absurd (h e)
-    first_occurs (x ∷ xs) b e h = subst (λ n. 0 < occurs n (x ∷ xs)) (sym e) (omega (arith, occurs_same x xs))
-
     go : (counts : Counts) → counts ≡ counts_at table.blocks.records b → (0 < b) × (b < table.blocks.active) × (kind_of table.blocks.max_trial (counts_at table.blocks.records b) ≡ k) → (xs : List ℕ) → FreeBlock table b xs → IsFreePlace table slot
     go counts' read' only [] here = absurd (not_full (sym only.2 ∙ kind_of_full table.blocks.max_trial (counts_at table.blocks.records b) (let no_root : cond {A = ℕ} (eqb b 0) 1 0 ≡ 0 = cond-false _ 1 0 (ne_eqb b 0 some) in here.counted.num ∙ ap pos (omega (arith, no_root)))))
     go counts' read' only (x ∷ xs) here =

@@ -2,7 +2,7 @@ use Rattle.std.proofs.Common.{ap, unsigned_abs, ℕ, ℤ, ◌+◌, ◌≡◌, �
 use Rattle.std.proofs.lemmas.Int.{ints}
 use Rattle.cedar_slots.specs.declared.blocks.Counts.{Counts}
 use Rattle.cedar_slots.specs.Places.{PlaceFields}
-use Rattle.cedar_slots.proofs.RingsLemmas.SlotTaken.{Bounded-more, Bounded-one, num_natural, num_room, recounted, Sound-given_alone, FreesSlot-given_alone, headed, head_here, head_link, Sound-given_after, FreesSlot-given_after}
+use Rattle.cedar_slots.proofs.RingsLemmas.SlotTaken.{Bounded-more, Bounded-one, num_natural, num_room, recounted, Sound-given_alone, FreesSlot-given_alone, headed, head_here, head_link, head_natural, Sound-given_after, FreesSlot-given_after}
 use Rattle.cedar_slots.proofs.places.Places.push_e_node.Goals as goal
 use Rattle.cedar_slots.specs.Views.{blocks_of, places_of, slots_of}
 
@@ -29,6 +29,11 @@ give_after-requires-clause-to_next g c =
     let some = λ (none : c.counts-counts.result.num ≡ _). let same : c.counts-counts.result.num ≡ c.reserved.result = none ∙ sym c.reserved.ensures in c.if-counts-reserved.false (omega (arith, ints)) in
     let at_head = headed (places_of c.args.self.now) c.args.slot c.requires.sound c.requires.slot_in c.requires.not_root c.requires.slot_used c.counts-counts.result c.counts-counts.ensures some c.head-head.result c.head-head.ensures in
     head_link (places_of c.args.self.now) c.args.slot c.requires.sound c.requires.slot_in c.requires.not_root c.requires.slot_used c.counts-counts.result c.counts-counts.ensures some c.head-head.result at_head
+
+pub head-head-requires : goal.head-head-requires
+head-head-requires g c =
+    let some = λ (none : c.counts-counts.result.num ≡ _). let same : c.counts-counts.result.num ≡ c.reserved.result = none ∙ sym c.reserved.ensures in c.if-counts-reserved.false (omega (arith, ints)) in
+    head_natural (places_of c.args.self.now) c.requires.sound (c.args.slot / 256) c.requires.slot_in c.counts-counts.result c.counts-counts.ensures some
 
 pub more-requires : goal.more-requires
 more-requires g c = num_room (places_of c.args.self.now) c.args.slot c.requires.sound c.requires.slot_in c.requires.not_root c.requires.slot_used c.counts-counts-else-counts-reserved.result c.counts-counts-else-counts-reserved.ensures

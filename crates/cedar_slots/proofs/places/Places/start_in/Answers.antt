@@ -1,9 +1,14 @@
-use Rattle.std.proofs.Common.{◌<◌, ◌≤ℤ◌, arith, pos}
+use Rattle.std.proofs.Common.{◌≡◌, ◌<◌, ◌≤ℤ◌, ◌∙◌, ap, arith, eqb, pos, ℕ, ℤ}
+use Rattle.std.proofs.lemmas.Bool.{cond-false, ne_eqb}
 use Rattle.std.proofs.lemmas.Int.{ints}
 use Rattle.cedar_slots.proofs.PlacementLemmas.PlaceSearch.{first_fits, head_start, next_start, start_block, start_positive}
 use Rattle.cedar_slots.proofs.RingsLemmas.LinkedSlots.{free_link}
+use Rattle.cedar_slots.proofs.RingsLemmas.SlotTaken.{head_natural}
 use Rattle.cedar_slots.proofs.places.Places.start_in.Goals as goal
 use Rattle.cedar_slots.specs.Views.{places_of}
+
+not_none : (z : ℤ) (n : ℕ) → z ≡ pos n → n ≡ 0 → pos 1 ≤ℤ z → ⊥
+not_none z n is zero_n h = let zero_z : z ≡ pos 0 = is ∙ ap pos zero_n in omega (arith, ints)
 
 pub loop-init : goal.loop-init
 loop-init g c =
@@ -41,3 +46,8 @@ fits-requires-clause-fits g c = omega (arith, c.args.self.now.nodes_ready, c.arg
 
 pub next_free-slot-requires-clause-is_link : goal.next_free-slot-requires-clause-is_link
 next_free-slot-requires-clause-is_link g c = free_link c.args.self.now.slots.nodes.items c.loop.slot c.loop.invariant.free
+
+pub head-head-requires : goal.head-head-requires
+head-head-requires g c =
+    let some : pos 1 ≤ℤ c.counts-counts.result.num = omega (arith, ints) in
+    head_natural (places_of c.args.self.now) c.requires.sound c.args.block c.requires.block_in c.counts-counts.result c.counts-counts.ensures (λ none. not_none c.counts-counts.result.num _ none (cond-false {A = ℕ} (eqb c.args.block 0) 1 0 (ne_eqb c.args.block 0 (λ e. absurd (omega (arith, e, c.requires.not_root))))) some)
