@@ -447,7 +447,7 @@ impl<A: Allocator> Blocks<A> {
         }
     }
 
-    /// Sets the counts of `block`, which were `old`, once it has more free slots and its trials begin anew, and moves it to the list
+    /// Sets the counts of `block`, which were `old`, once it has one more free slot and its trials begin anew, and moves it to the list
     /// that they now name. An open block stays open, which shows without a list.
     #[inline(always)]
     pub(crate) fn add_counts(&mut self, block: usize, old: Counts, counts: Counts)
@@ -456,7 +456,7 @@ impl<A: Allocator> Blocks<A> {
         requires sized { Sized (blocks_of self.old) }
         requires block_in { block < self.old.active }
         requires tried { pos 1 ≤ℤ self.old.max_trial }
-        requires more { old.num ≤ℤ counts.num }
+        requires more { counts.num ≡ old.num +ℤ pos 1 }
         requires anew { counts.trial ≡ pos 0 }
         ensures lists { HasLists (blocks_of self.new) }
         ensures made { counts_at self.new.records.items block ≡ counts }
@@ -468,7 +468,7 @@ impl<A: Allocator> Blocks<A> {
         ensures max_trial { self.new.max_trial ≡ self.old.max_trial }
     {
         let limit = self.max_trial;
-        if old.num < 2 || old.trial == limit {
+        if counts.num < 3 || old.trial == limit {
             self.set_each_count(
                 block,
                 counts.num,

@@ -1,4 +1,4 @@
-use Rattle.std.proofs.Common.{ap, unsigned_abs, ℕ, ℤ, ◌+◌, ◌≡◌, ◌/◌, ◌≤ℤ◌, ◌<ℤ◌, ◌∙◌, arith, pos, sym}
+use Rattle.std.proofs.Common.{ap, unsigned_abs, ℕ, ℤ, ◌+◌, ◌+ℤ◌, refl, ◌≡◌, ◌/◌, ◌≤ℤ◌, ◌<ℤ◌, ◌∙◌, arith, pos, sym}
 use Rattle.std.proofs.lemmas.Int.{ints}
 use Rattle.cedar_slots.specs.declared.blocks.Counts.{Counts}
 use Rattle.cedar_slots.specs.Places.{PlaceFields}
@@ -6,11 +6,8 @@ use Rattle.cedar_slots.proofs.RingsLemmas.SlotTaken.{Bounded-more, Bounded-one, 
 use Rattle.cedar_slots.proofs.places.Places.push_e_node.Goals as goal
 use Rattle.cedar_slots.specs.Views.{blocks_of, places_of, slots_of}
 
-one_more : (a b : ℤ) (n : ℕ) → a ≡ pos n → b ≡ pos (n + 1) → a ≤ℤ b
-one_more a b n p q = rw (p, q) (grows n)
-  where
-    grows : (n : ℕ) → pos n ≤ℤ pos (n + 1)
-    grows n = omega (arith, ints)
+one_more : (a b : ℤ) (n : ℕ) → a ≡ pos n → b ≡ pos (n + 1) → b ≡ a +ℤ pos 1
+one_more a b n p q = rw (p, q) refl
 
 pub give_after-requires-clause-head_in : goal.give_after-requires-clause-head_in
 give_after-requires-clause-head_in g c =
