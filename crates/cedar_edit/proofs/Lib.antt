@@ -1,3 +1,4 @@
+mod LeafLemmas
 mod PutLemmas
 pub mod StepLemmas
 mod WantedRoom

@@ -17,7 +17,7 @@ pub use Rattle.cedar_model.specs.Meaning.Marks.{PutsMarks}
 pub use Rattle.cedar_model.specs.Meaning.Reading.{first_in}
 pub use Rattle.cedar_model.specs.Meaning.StandsFor.{HoldsTree}
 pub use Rattle.cedar_model.specs.Meaning.WellFormed.{is_value, IsWellFormed, TableHolds, tree_of}
-pub use Rattle.cedar_model.specs.Relocation.Asked.{MayReserve, MovesSlot, Repoints, RepointsUnder, StandsBelow, WantsRoom, WantsSlot}
+pub use Rattle.cedar_model.specs.Relocation.Asked.{MayReserve, MovesSlot, Repoints, RepointsUnder, StandsBelow, WantsSlot}
 pub use Rattle.cedar_model.specs.Relocation.Renaming.{Always, IsNode, IsNumber, Movable, OwnsLabels, OwnsNothing, Relocated, Renames}
 pub use Rattle.cedar_model.specs.Relocation.Renaming.{Repointed, single}
 pub use Rattle.cedar_model.specs.Relocation.Reserved.{cells_without, Reserves, SetReserved, without_reserved}

@@ -1,7 +1,7 @@
 //! A label added to a node, and one removed.
 
 ghost use Rattle.std.specs.Prelude.{◌++◌, ◌<◌, ◌∷◌, ◌≡◌, ◌≢◌, [], List, MatchOption, None, pos, ℕ};
-ghost use Rattle.cedar_edit.specs.Words.{AddsLabel, AddsLeaf, base_of, below, cells, cells_besides, ComesBehind, EditsNode, fields, Forest, GoesBehind, HasChain, HasNode, Held, InRange, IsAt, IsNodeOf, IsTable, LeadsTo, Node, Removes, SameFrame, SeeksBehind, SeeksPlace, SetsChild, SetsSibling, size_of, without};
+ghost use Rattle.cedar_edit.specs.Words.{AddsLabel, AddsLeaf, base_of, below, cells, cells_besides, ComesBehind, EditsNode, fields, Forest, GoesBehind, HasChain, HasNode, Held, InRange, IsAt, IsNodeOf, IsTable, LeadsTo, Node, OwnsNothing, Removes, SameFrame, SeeksBehind, SeeksPlace, SetsChild, SetsSibling, size_of, without};
 
 use cedar_model::Layout;
 use cedar_slots::BLOCK_SIZE;
@@ -86,6 +86,35 @@ pub(crate) fn add_label<L: Layout, const SLOTS: usize, A: Allocator>(
     table.pop_e_node(slot, L::base_field(0), node);
     table.link(before, node, slot, label);
     slot
+}
+
+/// Takes the slot `child`, which is that of `label`, below a node that has a base and owns no slot yet. So nothing is looked for: the
+/// node's chain begins and ends with the label, and a slot just taken names no label after its own.
+pub(crate) fn add_only<L: Layout, const SLOTS: usize, A: Allocator>(
+    table: &mut Table<L, SLOTS, A>,
+    node: usize,
+    child: usize,
+    label: u8,
+)
+    requires sound { IsTable SLOTS (fields table.old).places }
+    requires node_in { node < size_of (fields table.old) }
+    requires not_root { node ≢ 0 }
+    requires node { (f : Forest) × HasNode (fields table.old) f node }
+    requires positive { 0 < label }
+    requires based { InRange (size_of (fields table.old)) ((cells table.old).stored node) }
+    requires alone { OwnsNothing (cells table.old) node }
+    requires free { Held (cells table.old) (below (cells table.old) node label) → ⊥ }
+    requires slot { child ≡ below (cells table.old) node label }
+    ensures sound { IsTable SLOTS (fields table.new).places }
+    ensures slot { child ≡ below (cells table.new) node label }
+    ensures added { AddsLabel (size_of (fields table.old)) (fields table.old).ordered (cells table.old) (cells table.new) node label }
+    ensures tree { AddsLeaf (size_of (fields table.old)) (fields table.old).ordered (cells table.old) (fields table.new) node label }
+    ensures leaf { (w : List ℕ) → IsAt (cells table.old) w node → IsAt (cells table.new) (w ++ label ∷ []) child }
+    ensures root_check { (cells table.new).check 0 ≡ (cells table.old).check 0 }
+    ensures frame { SameFrame (fields table.old) (fields table.new) }
+{
+    table.pop_e_node(child, L::base_field(0), node);
+    table.set_child(node, label);
 }
 
 /// Takes the slot of `label` below `node`, which is reserved for it, and returns it. The new leaf goes where

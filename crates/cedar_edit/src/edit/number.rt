@@ -1,7 +1,7 @@
 //! A node's number set, and dropped.
 
 ghost use Rattle.std.specs.Prelude.{◌<◌, ◌≡◌, ◌⊎◌, None, pos, Some};
-ghost use Rattle.cedar_edit.specs.Words.{below, cells, cells_besides, DropsNumber, EditsNode, fields, Forest, HasNode, Held, InRange, IsNodeOf, IsTable, SameFrame, SetsNumber, size_of};
+ghost use Rattle.cedar_edit.specs.Words.{below, cells, cells_besides, DropsNumber, EditsNode, fields, Forest, HasNode, Held, InRange, IsNodeOf, IsTable, OwnsNothing, SameFrame, SetsNumber, size_of};
 
 use cedar_model::Layout;
 use cedar_slots::NodeRecord;
@@ -40,6 +40,31 @@ pub(crate) fn set_number<L: Layout, const SLOTS: usize, A: Allocator>(
     let first = table.child(node);
     table.set_sibling(slot, first);
     table.set_child(node, 0);
+}
+
+/// Sets the number of a node that has a base and owns no slot yet, in `slot`, the one for it. The node names no label, and neither
+/// does a slot just taken.
+pub(crate) fn set_only<L: Layout, const SLOTS: usize, A: Allocator>(
+    table: &mut Table<L, SLOTS, A>,
+    node: usize,
+    slot: usize,
+    value: i32,
+)
+    requires sound { IsTable SLOTS (fields table.old).places }
+    requires node_in { node < size_of (fields table.old) }
+    requires not_root { 0 < node }
+    requires node { (f : Forest) × HasNode (fields table.old) f node }
+    requires based { InRange (size_of (fields table.old)) ((cells table.old).stored node) }
+    requires alone { OwnsNothing (cells table.old) node }
+    requires free { Held (cells table.old) (below (cells table.old) node 0) → ⊥ }
+    requires slot { slot ≡ below (cells table.old) node 0 }
+    ensures sound { IsTable SLOTS (fields table.new).places }
+    ensures set { SetsNumber (size_of (fields table.old)) (cells table.old) (cells table.new) node value }
+    ensures tree { EditsNode (size_of (fields table.old)) (cells table.old) (fields table.new) node (λ _. Some value) (λ u. u) }
+    ensures root_check { (cells table.new).check 0 ≡ (cells table.old).check 0 }
+    ensures frame { SameFrame (fields table.old) (fields table.new) }
+{
+    table.pop_e_node(slot, value, node);
 }
 
 /// Sets the number of a node whose slot for one is reserved for it.

@@ -1,10 +1,10 @@
 //! One step of an update: to the child under a label, which is added if there is none, or to the number.
 
 ghost use Rattle.std.specs.Prelude.{◌<◌, ◌≡◌, ◌≢◌, ◌⊎◌, IfOk, IsTrue, OnOk, pos, Some, true, ℤ};
-ghost use Rattle.cedar_edit.specs.Words.{AtBase, base_of, below, cells, EditsNode, fields, Forest, HasNode, Held, is_value, IsTable, LacksNumberSlot, MayMakeBlock, OwnNumber, Placed, PutsInBase, PutsInSlot, PutsMark, size_of, StepsTo, TableHolds, TakesFreeSlot, TakesNoBlock, WantsRoom, WantsSlot};
+ghost use Rattle.cedar_edit.specs.Words.{AtBase, base_of, below, cells, EditsNode, fields, Forest, HasNode, Held, is_value, IsTable, LacksNumberSlot, MayMakeBlock, OwnNumber, OwnsNothing, Placed, PutsInBase, PutsInSlot, PutsMark, size_of, StepsTo, TableHolds, TakesFreeSlot, TakesNoBlock, WantsSlot};
 
-use crate::edit::leaf::{add_label, add_reserved};
-use crate::edit::number::{set_number, set_reserved};
+use crate::edit::leaf::{add_label, add_only, add_reserved};
+use crate::edit::number::{set_number, set_only, set_reserved};
 use crate::edit::own::keeps_own;
 use crate::relocation::resolve::resolve;
 use cedar_model::Layout;
@@ -12,12 +12,59 @@ use cedar_slots::Shortage;
 use cedar_table::Table;
 use std::alloc::Allocator;
 
-/// Gives a leaf that has no base yet its first one: where the first free slot is that of `label`. A block is made only
-/// if no slot outside block 0 is free.
+/// Gives a leaf that has no base yet its first one: where the first free slot is that of `label`, which it returns. A block is
+/// made only if no slot outside block 0 is free.
 fn first_base<L: Layout, const SLOTS: usize, A: Allocator>(
     table: &mut Table<L, SLOTS, A>,
     node: usize,
     label: u8,
+) -> Result<usize, Shortage>
+    requires sound { IsTable SLOTS (fields table.old).places }
+    requires node_in { node < size_of (fields table.old) }
+    requires not_root { node ≢ 0 }
+    requires node { (f : Forest) × HasNode (fields table.old) f node }
+    requires leaf { (cells table.old).stored node ≡ AtBase 0 }
+    ensures sound { IsTable SLOTS (fields table.new).places }
+    ensures slot { IfOk result (λ slot. slot ≡ below (cells table.new) node label) }
+    ensures placed { OnOk result (Placed (fields table.old) (fields table.new) node label node) }
+    ensures alone { OnOk result (OwnsNothing (cells table.new) node) }
+    ensures tree { (f : Forest) → TableHolds (fields table.old) f → TableHolds (fields table.new) f }
+    ensures step { MayMakeBlock SLOTS (fields table.old) (fields table.new) result }
+    ensures made { TakesFreeSlot (fields table.old) (fields table.new) result }
+{
+    let slot = table.find_place()?;
+    table.set_base(node, slot ^ usize::from(label));
+    Ok(slot)
+}
+
+/// Adds a child to a leaf that has no base yet, and returns the child's slot, the first free one. Nothing is looked for: the leaf
+/// owns no slot, and the child is a leaf of the same kind. If memory or slots are lacking, all slots are as before.
+fn extend_leaf<L: Layout, const SLOTS: usize, A: Allocator>(
+    table: &mut Table<L, SLOTS, A>,
+    node: usize,
+    label: u8,
+) -> Result<usize, Shortage>
+    requires sound { IsTable SLOTS (fields table.old).places }
+    requires node_in { node < size_of (fields table.old) }
+    requires not_root { node ≢ 0 }
+    requires node { (f : Forest) × HasNode (fields table.old) f node }
+    requires positive { 0 < label }
+    requires leaf { (cells table.old).stored node ≡ AtBase 0 }
+    ensures sound { IsTable SLOTS (fields table.new).places }
+    ensures stepped { IfOk result (StepsTo (fields table.old) (fields table.new) node label) }
+    ensures step { MayMakeBlock SLOTS (fields table.old) (fields table.new) result }
+    ensures absent { (cells table.old).check (below (cells table.old) node label) ≢ pos node }
+{
+    let slot = first_base(table, node, label)?;
+    add_only(table, node, slot, label);
+    Ok(slot)
+}
+
+/// Sets the number of a leaf that has no base yet, in the first free slot. If memory or slots are lacking, all slots are as before.
+fn number_leaf<L: Layout, const SLOTS: usize, A: Allocator>(
+    table: &mut Table<L, SLOTS, A>,
+    node: usize,
+    value: i32,
 ) -> Result<(), Shortage>
     requires sound { IsTable SLOTS (fields table.old).places }
     requires node_in { node < size_of (fields table.old) }
@@ -25,14 +72,29 @@ fn first_base<L: Layout, const SLOTS: usize, A: Allocator>(
     requires node { (f : Forest) × HasNode (fields table.old) f node }
     requires leaf { (cells table.old).stored node ≡ AtBase 0 }
     ensures sound { IsTable SLOTS (fields table.new).places }
-    ensures placed { OnOk result (Placed (fields table.old) (fields table.new) node label node) }
-    ensures tree { (f : Forest) → TableHolds (fields table.old) f → TableHolds (fields table.new) f }
+    ensures set { OnOk result (EditsNode (size_of (fields table.old)) (cells table.old) (fields table.new) node (λ _. Some value) (λ u. u)) }
+    ensures marks { OnOk result (PutsMark (cells table.old) (cells table.new) node true) }
     ensures step { MayMakeBlock SLOTS (fields table.old) (fields table.new) result }
+    ensures absent { (cells table.old).check (below (cells table.old) node 0) ≢ pos node }
     ensures made { TakesFreeSlot (fields table.old) (fields table.new) result }
 {
-    let slot = table.find_place()?;
-    table.set_base(node, slot ^ usize::from(label));
+    let slot = first_base(table, node, 0)?;
+    set_only(table, node, slot, value);
     Ok(())
+}
+
+/// Returns whether a node is a leaf below the root that has no base yet: it names no label, owns no slot and has no number.
+fn is_new_leaf<L: Layout, const SLOTS: usize, A: Allocator>(
+    table: &Table<L, SLOTS, A>,
+    node: usize,
+) -> bool
+    requires node_in { node < size_of (fields table.now) }
+    requires node { (f : Forest) × HasNode (fields table.now) f node }
+    requires no_own_number { (v : ℤ) → (cells table.now).stored node ≢ OwnNumber v }
+    ensures leaf { IsTrue result → (node ≢ 0) × ((cells table.now).stored node ≡ AtBase 0) }
+    ensures based { (IsTrue result → ⊥) → ((base_of (cells table.now) node ≡ 0) × (node ≡ 0)) ⊎ (base_of (cells table.now) node ≢ 0) }
+{
+    node != 0 && table.base_of(node) == 0
 }
 
 /// Returns whether a slot that the base of a node below the root has for a label is held. A leaf may have no base yet.
@@ -51,29 +113,6 @@ fn is_taken<L: Layout, const SLOTS: usize, A: Allocator>(
         return false;
     }
     !table.is_free_slot(slot)
-}
-
-/// Gives a node below the root a base, if it has none yet, so that its slot for a label which it doesn't own yet is
-/// free. If it has a base, that slot isn't held. A block is made only for a first base.
-fn room_for<L: Layout, const SLOTS: usize, A: Allocator>(
-    table: &mut Table<L, SLOTS, A>,
-    node: usize,
-    label: u8,
-) -> Result<(), Shortage>
-    requires { WantsRoom SLOTS (fields table.old) node label }
-    ensures sound { IsTable SLOTS (fields table.new).places }
-    ensures placed { OnOk result (Placed (fields table.old) (fields table.new) node label node) }
-    ensures tree { (f : Forest) → TableHolds (fields table.old) f → TableHolds (fields table.new) f }
-    ensures step { MayMakeBlock SLOTS (fields table.old) (fields table.new) result }
-    ensures leaf { node ≢ 0 → (cells table.old).stored node ≡ AtBase 0 → TakesFreeSlot (fields table.old) (fields table.new) result }
-    ensures at_root { node ≡ 0 → TakesNoBlock (fields table.old) (fields table.new) result }
-    ensures root_same { node ≡ 0 → fields table.new ≡ fields table.old }
-{
-    let base = table.base_of(node);
-    if base == 0 && node != 0 {
-        return first_base(table, node, label);
-    }
-    Ok(())
 }
 
 /// Adds a child under a label whose slot another node owns, and returns the child's slot.
@@ -137,6 +176,9 @@ pub(crate) fn follow_or_add<L: Layout, const SLOTS: usize, A: Allocator>(
     ensures stays { (cells table.old).check (below (cells table.old) node label) ≡ pos node → cells table.new ≡ cells table.old }
     ensures at_root { node ≡ 0 → TakesNoBlock (fields table.old) (fields table.new) result }
 {
+    if is_new_leaf(table, node) {
+        return extend_leaf(table, node, label);
+    }
     let slot = table.slot_below(node, label);
     if table.is_owned_by(slot, node) {
         return Ok(slot);
@@ -144,7 +186,6 @@ pub(crate) fn follow_or_add<L: Layout, const SLOTS: usize, A: Allocator>(
     if is_taken(table, node, slot) {
         return add_over(table, node, label);
     }
-    room_for(table, node, label)?;
     Ok(add_label(table, node, label))
 }
 
@@ -167,6 +208,9 @@ fn put_in_slot<L: Layout, const SLOTS: usize, A: Allocator>(
     ensures owned { (cells table.old).check (below (cells table.old) node 0) ≡ pos node → TakesNoBlock (fields table.old) (fields table.new) result }
     ensures leaf { (cells table.old).stored node ≡ AtBase 0 → TakesFreeSlot (fields table.old) (fields table.new) result }
 {
+    if is_new_leaf(table, node) {
+        return number_leaf(table, node, value);
+    }
     let slot = table.slot_below(node, 0);
     if table.is_owned_by(slot, node) {
         set_number(table, node, value);
@@ -175,7 +219,6 @@ fn put_in_slot<L: Layout, const SLOTS: usize, A: Allocator>(
     if is_taken(table, node, slot) {
         return put_over(table, node, value);
     }
-    room_for(table, node, 0)?;
     set_number(table, node, value);
     Ok(())
 }

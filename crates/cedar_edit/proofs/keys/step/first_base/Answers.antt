@@ -9,6 +9,7 @@ use Rattle.cedar_model.proofs.UpdateLemmas.BlocksMade.{found_blocks, growth_fram
 use Rattle.cedar_model.proofs.EditLemmas.FirstBase.{held_still, leaf_based, LeafBased}
 use Rattle.cedar_model.proofs.MeaningLemmas.ExclusiveOr.{xor_within}
 use Rattle.cedar_model.specs.Edit.Steps.{MayAddBlock}
+use Rattle.cedar_edit.proofs.LeafLemmas.{found_below, leaf_alone, still_alone}
 use Rattle.cedar_edit.proofs.StepLemmas.{refused_step}
 use Rattle.cedar_edit.proofs.keys.step.first_base.Goals as goal
 
@@ -73,3 +74,14 @@ returns-clause-made g c = elim c.in_ok-slot.ensures.made [
   | inl e ↦ inl (tt, made_framed 0 (fields c.args.table.now) (fields c.find_place.new.self) (fields c.set_base.new.self) (made_nothing (fields c.args.table.now) (fields c.find_place.new.self) e) c.set_base.ensures.frame)
   | inr n ↦ inr n.0
 ]
+
+pub returns-clause-slot : goal.returns-clause-slot
+returns-clause-slot g c =
+    found_below (cells c.find_place.new.self) (cells c.set_base.new.self) c.args.node c.in_ok-slot.slot c.args.label
+    (subst (λ l. Rebased (cells c.find_place.new.self) (cells c.set_base.new.self) c.args.node (bit_xor c.in_ok-slot.slot l)) c.from.ensures c.set_base.ensures.rebased)
+
+pub returns-clause-alone : goal.returns-clause-alone
+returns-clause-alone g c =
+    let n = c.requires.node in
+    still_alone (cells c.args.table.now) (cells c.find_place.new.self) (cells c.set_base.new.self) c.args.node _ c.in_ok-slot.ensures.held c.set_base.ensures.rebased
+    (leaf_alone (size_of (fields c.args.table.now)) (cells c.args.table.now) (fields c.args.table.now).ordered n.0 c.args.node n.1 c.requires.not_root c.requires.leaf)

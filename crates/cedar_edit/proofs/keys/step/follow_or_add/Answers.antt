@@ -2,17 +2,16 @@ use Rattle.std.proofs.Common.{rules, ◌≢◌, ◌∙◌, ◌<◌, ap, arith, r
 use Rattle.std.specs.Prelude.{pos}
 use Rattle.cedar_model.specs.Table.Cells.{Held}
 use Rattle.cedar_model.specs.Meaning.Family.{base_of, below}
-use Rattle.cedar_model.specs.Edit.NodeEdits.{IsNodeOf}
 use Rattle.cedar_table.specs.Table.Views.{cells, fields}
 use Rattle.cedar_model.specs.Table.TableFields.{size_of}
 use Rattle.cedar_slots.specs.Views.{places_of}
-use Rattle.cedar_model.proofs.UpdateLemmas.BlocksMade.{growth_framed, growth_nothing, made_none, same_slots}
+use Rattle.cedar_model.proofs.UpdateLemmas.BlocksMade.{framed_none, growth_none, growth_nothing, made_none, same_slots}
 use Rattle.cedar_model.proofs.EditLemmas.KeptSlotGiven.{slot_far}
 use Rattle.cedar_model.proofs.EditLemmas.Room.{based_node, not_free_held}
 use Rattle.cedar_model.proofs.UpdateLemmas.ChildReached.{child_added, child_there, label_inside}
 use Rattle.cedar_model.proofs.MeaningLemmas.NodeAtPath.{at_node}
 use Rattle.cedar_model.proofs.MeaningLemmas.SearchStep.{never_nothing}
-use Rattle.cedar_edit.proofs.StepLemmas.{refused_step}
+use Rattle.cedar_edit.proofs.LeafLemmas.{placed_here}
 use Rattle.cedar_edit.proofs.keys.step.follow_or_add.Goals as goal
 
 pub slot_below-slot-requires : goal.slot_below-slot-requires
@@ -37,9 +36,6 @@ returns-then-is_owned_by-clause-stepped g c =
 
 pub returns-then-is_owned_by-clause-step : goal.returns-then-is_owned_by-clause-step
 returns-then-is_owned_by-clause-step g c = record { refused = tt; unchanged = tt; growth = growth_nothing (fields c.args.table.now) (fields c.args.table.now) refl }
-
-pub returns-clause-step : goal.returns-clause-step
-returns-clause-step g c = record { refused = tt; unchanged = tt; growth = growth_framed _ _ _ c.in_ok-room_for.ensures.step.growth c.add_label.ensures.frame c.add_label.ensures.root_check }
 
 pub returns-then-is_owned_by-clause-owned : goal.returns-then-is_owned_by-clause-owned
 returns-then-is_owned_by-clause-owned g c = λ _. (tt, made_none (fields c.args.table.now) (fields c.args.table.now) (same_slots (places_of c.args.table.now.places)))
@@ -87,45 +83,6 @@ returns-then-is_taken-clause-at_root g c = λ z.
     let n = c.requires.node in
     absurd ((based_node (size_of (fields c.args.table.now)) (cells c.args.table.now) (fields c.args.table.now).ordered n.0 c.args.node n.1 c.requires.no_own_number (c.is_taken.ensures.taken c.if-is_taken.true).0).0 z)
 
-pub room_for-requires : goal.room_for-requires
-room_for-requires g c =
-    let T = cells c.args.table.now in
-    let absent : T.check (below T c.args.node c.args.label) ≢ pos c.args.node = λ o.
-    let is_mine = c.is_owned_by.ensures.1 (ap T.check c.slot_below-slot.ensures ∙ o) in
-    let not_mine = c.if-is_owned_by.false in
-    cc in
-    let open_slot : (base_of T c.args.node ≢ 0) → Held T (below T c.args.node c.args.label) → ⊥ = λ b. subst (λ s. Held T s → ⊥) c.slot_below-slot.ensures (c.is_taken.ensures.«open» (λ t. let f = c.if-is_taken.false in cc) b) in
-    (search rules, record { sound = c.requires.sound; node_in = c.requires.node_in; node = c.requires.node; positive_at_root = λ _. c.requires.positive; no_own_number = c.requires.no_own_number; absent = absent; slot_free = open_slot })
-
-pub returns-in_err-room_for-clause-step : goal.returns-in_err-room_for-clause-step
-returns-in_err-room_for-clause-step g c =
-    let step = c.in_err-room_for.ensures.step in
-    refused_step _ _ _ c.from_residual.result c.in_err-room_for.field-0.0 c.from_residual.ensures.1 step.refused step.unchanged step.growth
-
-pub add_label-requires : goal.add_label-requires
-add_label-requires g c =
-    let n = c.requires.node in
-    let room = c.in_ok-room_for.ensures in
-    let node : IsNodeOf (size_of (fields c.room_for.new.table)) (cells c.room_for.new.table) (fields c.room_for.new.table).ordered n.0 c.args.node = record {
-      holds = room.tree n.0 n.1.holds;
-      ascending = λ o. n.1.ascending (sym room.step.growth.settings.ordered ∙ o);
-      path = n.1.path;
-      at = room.placed.at n.1.path n.1.at;
-    } in
-    (search rules, (room.sound, (room.placed.inside, ((n.0, node), (c.requires.positive, (room.placed.based, room.placed.free))))))
-
-pub returns-clause-stepped : goal.returns-clause-stepped
-returns-clause-stepped g c =
-    let room = c.in_ok-room_for.ensures in
-    let add = c.add_label.ensures in
-    let absent : (cells c.args.table.now).check (below (cells c.args.table.now) c.args.node c.args.label) ≢ pos c.args.node = λ o.
-    let is_mine = c.is_owned_by.ensures.1 (ap (cells c.args.table.now).check c.slot_below-slot.ensures ∙ o) in
-    let not_mine = c.if-is_owned_by.false in
-    cc in
-    child_added (fields c.args.table.now) (fields c.room_for.new.table) (fields c.add_label.new.table) c.args.node c.args.label c.args.node c.add_label.result c.requires.node.0 c.requires.node.1.path c.requires.node.1.holds c.requires.node.1.at
-    room.placed room.tree room.step.growth.settings.ordered absent add.added add.slot (add.sound.sound.shaped.blocks.some) add.tree add.leaf
-    (room.tree c.requires.node.0 c.requires.node.1.holds).stands.0.based (λ z. z) room.root_same
-
 pub returns-then-is_taken-clause-stays : goal.returns-then-is_taken-clause-stays
 returns-then-is_taken-clause-stays g c = λ o.
     let T = cells c.args.table.now in
@@ -146,3 +103,56 @@ returns-clause-owned g c = λ o.
     let is_mine = c.is_owned_by.ensures.1 (ap T.check c.slot_below-slot.ensures ∙ o) in
     let not_mine = c.if-is_owned_by.false in
     absurd (cc)
+
+pub extend_leaf-requires : goal.extend_leaf-requires
+extend_leaf-requires g c =
+    let is = c.is_new_leaf.ensures.leaf c.if-is_new_leaf.true in
+    (search rules, (c.requires.sound, (c.requires.node_in, (is.0, (c.requires.node, (c.requires.positive, is.1))))))
+
+pub returns-then-is_new_leaf-clause-owned : goal.returns-then-is_new_leaf-clause-owned
+returns-then-is_new_leaf-clause-owned g c = λ o. absurd (c.extend_leaf.ensures.absent o)
+
+pub returns-then-is_new_leaf-clause-stays : goal.returns-then-is_new_leaf-clause-stays
+returns-then-is_new_leaf-clause-stays g c = λ o. absurd (c.extend_leaf.ensures.absent o)
+
+pub returns-then-is_new_leaf-clause-at_root : goal.returns-then-is_new_leaf-clause-at_root
+returns-then-is_new_leaf-clause-at_root g c = λ z. absurd ((c.is_new_leaf.ensures.leaf c.if-is_new_leaf.true).0 z)
+
+pub add_label-requires : goal.add_label-requires
+add_label-requires g c =
+    let T = cells c.args.table.now in
+    let absent : T.check (below T c.args.node c.args.label) ≢ pos c.args.node = λ o.
+    let is_mine = c.is_owned_by.ensures.1 (ap T.check c.slot_below-slot.ensures ∙ o) in
+    let not_mine = c.if-is_owned_by.false in
+    cc in
+    let open_slot : (base_of T c.args.node ≢ 0) → Held T (below T c.args.node c.args.label) → ⊥ = λ b. subst (λ s. Held T s → ⊥) c.slot_below-slot.ensures (c.is_taken.ensures.«open» (λ t. let f = c.if-is_taken.false in cc) b) in
+    let placed =
+    placed_here g.row.SLOTS (fields c.args.table.now) c.args.node c.args.label
+    (record { sound = c.requires.sound; node_in = c.requires.node_in; node = c.requires.node; positive_at_root = λ _. c.requires.positive; no_own_number = c.requires.no_own_number; absent = absent; slot_free = open_slot })
+    (omega arith) (omega (arith, c.args.table.now.shaped.blocks.some)) (omega (arith, c.ranges.label.fits)) (c.is_new_leaf.ensures.based (λ t. let f = c.if-is_new_leaf.false in cc)) in
+    (search rules, (c.requires.sound, (c.requires.node_in, (c.requires.node, (c.requires.positive, (placed.based, placed.free))))))
+
+pub returns-clause-stepped : goal.returns-clause-stepped
+returns-clause-stepped g c =
+    let old = fields c.args.table.now in
+    let n = c.requires.node in
+    let add = c.add_label.ensures in
+    let T = cells c.args.table.now in
+    let absent : T.check (below T c.args.node c.args.label) ≢ pos c.args.node = λ o.
+    let is_mine = c.is_owned_by.ensures.1 (ap T.check c.slot_below-slot.ensures ∙ o) in
+    let not_mine = c.if-is_owned_by.false in
+    cc in
+    let open_slot : (base_of T c.args.node ≢ 0) → Held T (below T c.args.node c.args.label) → ⊥ = λ b. subst (λ s. Held T s → ⊥) c.slot_below-slot.ensures (c.is_taken.ensures.«open» (λ t. let f = c.if-is_taken.false in cc) b) in
+    let placed =
+    placed_here g.row.SLOTS (fields c.args.table.now) c.args.node c.args.label
+    (record { sound = c.requires.sound; node_in = c.requires.node_in; node = c.requires.node; positive_at_root = λ _. c.requires.positive; no_own_number = c.requires.no_own_number; absent = absent; slot_free = open_slot })
+    (omega arith) (omega (arith, c.args.table.now.shaped.blocks.some)) (omega (arith, c.ranges.label.fits)) (c.is_new_leaf.ensures.based (λ t. let f = c.if-is_new_leaf.false in cc)) in
+    child_added old old (fields c.add_label.new.table) c.args.node c.args.label c.args.node c.add_label.result n.0 n.1.path n.1.holds n.1.at
+    placed (λ _ h. h) refl absent add.added add.slot (add.sound.sound.shaped.blocks.some) add.tree add.leaf
+    n.1.holds.stands.0.based (λ z. z) (λ _. refl)
+
+pub returns-clause-step : goal.returns-clause-step
+returns-clause-step g c = record { refused = tt; unchanged = tt; growth = growth_none (fields c.args.table.now) (fields c.add_label.new.table) c.add_label.ensures.frame c.add_label.ensures.root_check }
+
+pub returns-clause-at_root : goal.returns-clause-at_root
+returns-clause-at_root g c = λ _. (tt, framed_none (fields c.args.table.now) (fields c.add_label.new.table) c.add_label.ensures.frame)

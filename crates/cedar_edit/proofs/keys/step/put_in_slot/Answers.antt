@@ -1,4 +1,4 @@
-use Rattle.std.proofs.Common.{rules, ◌≡◌, ◌≢◌, ◌∙◌, ◌<◌, ap, arith, inl, inr, subst, sym, of_z, to_z, w32, FitsSigned, Some, true}
+use Rattle.std.proofs.Common.{rules, ◌≡◌, ◌≢◌, ◌∙◌, ◌<◌, ap, arith, inl, inr, subst, sym, of_z, to_z, w32, FitsSigned, Some}
 use Rattle.std.specs.Prelude.{List, ℕ, OnOk, pos}
 use Rattle.std.proofs.lemmas.Int.{to_z-of_z}
 use Rattle.cedar_tree.specs.Tree.{Forest}
@@ -6,17 +6,16 @@ use Rattle.cedar_tree.specs.Edits.{edit_at}
 use Rattle.cedar_model.specs.Meaning.StandsFor.{HoldsTree}
 use Rattle.cedar_model.specs.Table.Cells.{Held}
 use Rattle.cedar_model.specs.Meaning.Family.{base_in, base_of, below}
-use Rattle.cedar_model.specs.Edit.NodeEdits.{IsAt, IsNodeOf}
+use Rattle.cedar_model.specs.Edit.NodeEdits.{IsAt}
 use Rattle.cedar_table.specs.Table.Views.{cells, fields}
 use Rattle.cedar_model.specs.Table.TableFields.{size_of}
-use Rattle.cedar_model.proofs.UpdateLemmas.BlocksMade.{framed_none, growth_framed, growth_none, made_framed}
+use Rattle.cedar_model.proofs.UpdateLemmas.BlocksMade.{framed_none, growth_none}
 use Rattle.cedar_model.proofs.EditLemmas.KeptSlotGiven.{slot_far}
-use Rattle.cedar_model.proofs.UpdateLemmas.MarksAfterPut.{kept_then_put, slot_put}
+use Rattle.cedar_model.proofs.UpdateLemmas.MarksAfterPut.{slot_put}
 use Rattle.cedar_model.proofs.EditLemmas.Room.{based_node, not_free_held}
 use Rattle.cedar_model.proofs.UpdateLemmas.ChildReached.{label_inside, owner_ranged}
 use Rattle.cedar_model.proofs.MeaningLemmas.NodeAtPath.{at_node}
 use Rattle.cedar_model.proofs.MeaningLemmas.SearchStep.{never_nothing}
-use Rattle.cedar_edit.proofs.StepLemmas.{refused_step}
 use Rattle.cedar_edit.proofs.keys.step.put_in_slot.Goals as goal
 
 pub slot_below-slot-requires : goal.slot_below-slot-requires
@@ -48,9 +47,6 @@ returns-then-is_owned_by-clause-set g c = λ f w h on.
 
 pub returns-then-is_owned_by-clause-step : goal.returns-then-is_owned_by-clause-step
 returns-then-is_owned_by-clause-step g c = record { refused = tt; unchanged = tt; growth = growth_none (fields c.args.table.now) (fields c.set_number.new.table) c.set_number.ensures.frame c.set_number.ensures.root_check }
-
-pub returns-clause-step : goal.returns-clause-step
-returns-clause-step g c = record { refused = tt; unchanged = tt; growth = growth_framed _ _ _ c.in_ok-room_for.ensures.step.growth c.set_number-2.ensures.frame c.set_number-2.ensures.root_check }
 
 pub returns-then-is_owned_by-clause-owned : goal.returns-then-is_owned_by-clause-owned
 returns-then-is_owned_by-clause-owned g c = λ _. (tt, framed_none (fields c.args.table.now) (fields c.set_number.new.table) c.set_number.ensures.frame)
@@ -103,44 +99,6 @@ returns-then-is_taken-clause-owned g c = λ o.
 pub returns-then-is_taken-clause-leaf : goal.returns-then-is_taken-clause-leaf
 returns-then-is_taken-clause-leaf g c = λ bare. absurd ((c.is_taken.ensures.taken c.if-is_taken.true).0 (ap base_in bare))
 
-pub room_for-requires : goal.room_for-requires
-room_for-requires g c =
-    let T = cells c.args.table.now in
-    let absent : T.check (below T c.args.node 0) ≢ pos c.args.node = λ o.
-    let is_mine = c.is_owned_by.ensures.1 (ap T.check c.slot_below-slot.ensures ∙ o) in
-    let not_mine = c.if-is_owned_by.false in
-    cc in
-    let open_slot : (base_of T c.args.node ≢ 0) → Held T (below T c.args.node 0) → ⊥ = λ b. subst (λ s. Held T s → ⊥) c.slot_below-slot.ensures (c.is_taken.ensures.«open» (λ t. let f = c.if-is_taken.false in cc) b) in
-    (search rules, record { sound = c.requires.sound; node_in = c.requires.node_in; node = c.requires.node; positive_at_root = λ z. absurd (c.requires.not_root z); no_own_number = c.requires.no_own_number; absent = absent; slot_free = open_slot })
-
-pub returns-in_err-room_for-clause-leaf : goal.returns-in_err-room_for-clause-leaf
-returns-in_err-room_for-clause-leaf g c = λ bare. elim (c.in_err-room_for.ensures.leaf c.requires.not_root bare) [ inl never ↦ absurd never.0 | inr full ↦ inr full ]
-
-pub returns-in_err-room_for-clause-step : goal.returns-in_err-room_for-clause-step
-returns-in_err-room_for-clause-step g c =
-    let step = c.in_err-room_for.ensures.step in
-    refused_step _ _ _ c.from_residual.result c.in_err-room_for.field-0.0 c.from_residual.ensures.1 step.refused step.unchanged step.growth
-
-pub set_number-requires-2 : goal.set_number-requires-2
-set_number-requires-2 g c =
-    let n = c.requires.node in
-    let room = c.in_ok-room_for.ensures in
-    let other : c.args.node ≢ 0 = λ z. c.requires.not_root (room.placed.root z) in
-    let node : IsNodeOf (size_of (fields c.room_for.new.table)) (cells c.room_for.new.table) (fields c.room_for.new.table).ordered n.0 c.args.node = record {
-      holds = room.tree n.0 n.1.holds;
-      ascending = λ o. n.1.ascending (sym room.step.growth.settings.ordered ∙ o);
-      path = n.1.path;
-      at = room.placed.at n.1.path n.1.at;
-    } in
-    (search rules, (room.sound, (room.placed.inside, (omega (arith, other), ((n.0, node), (room.placed.based other, inr room.placed.free))))))
-
-pub returns-clause-set : goal.returns-clause-set
-returns-clause-set g c = λ f w h on.
-    let fits : FitsSigned w32 c.args.value = search rules in
-    let same : to_z w32 (of_z w32 c.args.value) ≡ c.args.value = to_z-of_z w32 c.args.value fits in
-    subst (λ z. HoldsTree (size_of (fields c.set_number-2.new.table)) (cells c.set_number-2.new.table) (edit_at w (λ _. Some z) (λ u. u) f)) same
-    (c.set_number-2.ensures.tree f w (c.in_ok-room_for.ensures.tree f h) (c.in_ok-room_for.ensures.placed.at w on))
-
 pub returns-clause-owned : goal.returns-clause-owned
 returns-clause-owned g c = λ o.
     let T = cells c.args.table.now in
@@ -148,22 +106,51 @@ returns-clause-owned g c = λ o.
     let not_mine = c.if-is_owned_by.false in
     absurd (cc)
 
-pub returns-clause-leaf : goal.returns-clause-leaf
-returns-clause-leaf g c = λ bare.
-    elim (c.in_ok-room_for.ensures.leaf c.requires.not_root bare) [
-      | inl made ↦ inl (tt, made_framed 0 (fields c.args.table.now) (fields c.room_for.new.table) (fields c.set_number-2.new.table) made.1 c.set_number-2.ensures.frame)
-      | inr full ↦ inr full
-    ]
-
 pub returns-then-is_owned_by-clause-marks : goal.returns-then-is_owned_by-clause-marks
 returns-then-is_owned_by-clause-marks g c =
     let n = c.requires.node.1 in
     slot_put (size_of (fields c.args.table.now)) (cells c.args.table.now) (cells c.set_number.new.table) _ n.path c.args.node _ n.holds n.at c.set_number.ensures.set
 
+pub number_leaf-requires : goal.number_leaf-requires
+number_leaf-requires g c =
+    let is = c.is_new_leaf.ensures.leaf c.if-is_new_leaf.true in
+    (search rules, (c.requires.sound, (c.requires.node_in, (is.0, (c.requires.node, is.1)))))
+
+pub returns-then-is_new_leaf-clause-set : goal.returns-then-is_new_leaf-clause-set
+returns-then-is_new_leaf-clause-set g c =
+    let fits : FitsSigned w32 c.args.value = search rules in
+    let same : to_z w32 (of_z w32 c.args.value) ≡ c.args.value = to_z-of_z w32 c.args.value fits in
+    subst (λ z. OnOk c.number_leaf.result ((f : Forest) (w : List ℕ) → HoldsTree (size_of (fields c.args.table.now)) (cells c.args.table.now) f → IsAt (cells c.args.table.now) w c.args.node
+    → HoldsTree (size_of (fields c.number_leaf.new.table)) (cells c.number_leaf.new.table) (edit_at w (λ _. Some z) (λ u. u) f))) same c.number_leaf.ensures.set
+
+pub returns-then-is_new_leaf-clause-owned : goal.returns-then-is_new_leaf-clause-owned
+returns-then-is_new_leaf-clause-owned g c = λ o. absurd (c.number_leaf.ensures.absent o)
+
+pub returns-then-is_new_leaf-clause-leaf : goal.returns-then-is_new_leaf-clause-leaf
+returns-then-is_new_leaf-clause-leaf g c = λ _. c.number_leaf.ensures.made
+
+pub set_number-requires-2 : goal.set_number-requires-2
+set_number-requires-2 g c =
+    let T = cells c.args.table.now in
+    let n = c.requires.node in
+    let based : base_of T c.args.node ≢ 0 = elim (c.is_new_leaf.ensures.based (λ t. let f = c.if-is_new_leaf.false in cc)) [ inl root ↦ absurd (c.requires.not_root root.1) | inr b ↦ b ] in
+    let range = (based_node (size_of (fields c.args.table.now)) T (fields c.args.table.now).ordered n.0 c.args.node n.1 c.requires.no_own_number based).1 in
+    let free : Held T (below T c.args.node 0) → ⊥ = subst (λ s. Held T s → ⊥) c.slot_below-slot.ensures (c.is_taken.ensures.«open» (λ t. let f = c.if-is_taken.false in cc) based) in
+    (search rules, (c.requires.sound, (c.requires.node_in, (omega (arith, c.requires.not_root), (n, (range, inr free))))))
+
+pub returns-clause-set : goal.returns-clause-set
+returns-clause-set g c = λ f w h on.
+    let fits : FitsSigned w32 c.args.value = search rules in
+    let same : to_z w32 (of_z w32 c.args.value) ≡ c.args.value = to_z-of_z w32 c.args.value fits in
+    subst (λ z. HoldsTree (size_of (fields c.set_number-2.new.table)) (cells c.set_number-2.new.table) (edit_at w (λ _. Some z) (λ u. u) f)) same (c.set_number-2.ensures.tree f w h on)
+
+pub returns-clause-step : goal.returns-clause-step
+returns-clause-step g c = record { refused = tt; unchanged = tt; growth = growth_none (fields c.args.table.now) (fields c.set_number-2.new.table) c.set_number-2.ensures.frame c.set_number-2.ensures.root_check }
+
+pub returns-clause-leaf : goal.returns-clause-leaf
+returns-clause-leaf g c = λ _. inl (tt, framed_none (fields c.args.table.now) (fields c.set_number-2.new.table) c.set_number-2.ensures.frame)
+
 pub returns-clause-marks : goal.returns-clause-marks
 returns-clause-marks g c =
-    let n = c.requires.node in
-    let room = c.in_ok-room_for.ensures in
-    let holds = room.tree n.0 n.1.holds in
-    let put = slot_put (size_of (fields c.room_for.new.table)) (cells c.room_for.new.table) (cells c.set_number-2.new.table) n.0 n.1.path c.args.node _ holds (room.placed.at n.1.path n.1.at) c.set_number-2.ensures.set in
-    kept_then_put (cells c.args.table.now) (cells c.room_for.new.table) (cells c.set_number-2.new.table) n.1.path c.args.node c.args.node true holds.root n.1.at room.placed.marks room.placed.at put
+    let n = c.requires.node.1 in
+    slot_put (size_of (fields c.args.table.now)) (cells c.args.table.now) (cells c.set_number-2.new.table) _ n.path c.args.node _ n.holds n.at c.set_number-2.ensures.set
