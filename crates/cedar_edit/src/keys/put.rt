@@ -1,10 +1,10 @@
 //! A key's number put.
 
-ghost use Rattle.std.specs.Prelude.{◌≡◌, ◌≤◌, [], drop, IfErr, IfOk, length, OnErr, OnOk, take, true};
-ghost use Rattle.cedar_edit.specs.Words.{cells, fields, HasWay, is_value, IsKey, IsWellFormed, KeepsMarks, marks, NewMark, PutsInMarks, PutsKey, PutsMarks, TakenBack, TakesNewNode, Walked};
+ghost use Rattle.std.specs.Prelude.{◌<◌, ◌≡◌, ◌≢◌, ◌≤◌, [], drop, get_or, IfErr, IfOk, length, OnErr, OnOk, pos, take, true};
+ghost use Rattle.cedar_edit.specs.Words.{below, cells, fields, HasWay, is_value, IsKey, IsWellFormed, KeepsMarks, marks, NewMark, PutsInMarks, PutsKey, PutsMarks, TakenBack, TakesNewNode, Walked};
 
 use crate::keys::erase::trim;
-use crate::keys::step::{follow_or_add, put_number};
+use crate::keys::step::{extend_leaf, follow_or_add, put_number};
 use crate::keys::way::{close_way, make_way};
 use cedar_model::Layout;
 use cedar_slots::Shortage;
@@ -21,6 +21,7 @@ fn known_front<L: Layout, const SLOTS: usize, A: Allocator>(
     requires way { HasWay (cells table.now) 0 key.now }
     ensures within { result.1 ≤ length key.now }
     ensures walked { Walked SLOTS (fields table.now) (fields table.now) key.now (take result.1 key.now) (drop result.1 key.now) result.0 }
+    ensures ends { result.1 < length key.now → (cells table.now).check (below (cells table.now) result.0 (get_or key.now result.1 0)) ≢ pos result.0 }
 {
     let mut node = 0;
     for length in 0..key.len() {
@@ -46,9 +47,19 @@ fn walk_in<L: Layout, const SLOTS: usize, A: Allocator>(
     ensures refused { IfErr result (TakenBack SLOTS (fields table.old) (fields table.new) key.now) }
 {
     let (front, length) = known_front(table, key);
-    let mut node = front;
-    for index in length..key.len() {
-        match follow_or_add(table, node, key[index]) {
+    if length == key.len() {
+        return Ok(front);
+    }
+    let mut node = match follow_or_add(table, front, key[length]) {
+        Ok(child) => child,
+        Err(error) => {
+            trim(table, front);
+            return Err(error);
+        }
+    };
+    // From here on each node is a leaf just made.
+    for index in length + 1..key.len() {
+        match extend_leaf(table, node, key[index]) {
             Ok(child) => node = child,
             Err(error) => {
                 trim(table, node);

@@ -14,6 +14,7 @@ use std::alloc::Allocator;
 
 /// Gives a leaf that has no base yet its first one: where the first free slot is that of `label`, which it returns. A block is
 /// made only if no slot outside block 0 is free.
+#[inline(always)]
 fn first_base<L: Layout, const SLOTS: usize, A: Allocator>(
     table: &mut Table<L, SLOTS, A>,
     node: usize,
@@ -39,7 +40,8 @@ fn first_base<L: Layout, const SLOTS: usize, A: Allocator>(
 
 /// Adds a child to a leaf that has no base yet, and returns the child's slot, the first free one. Nothing is looked for: the leaf
 /// owns no slot, and the child is a leaf of the same kind. If memory or slots are lacking, all slots are as before.
-fn extend_leaf<L: Layout, const SLOTS: usize, A: Allocator>(
+#[inline(always)]
+pub(crate) fn extend_leaf<L: Layout, const SLOTS: usize, A: Allocator>(
     table: &mut Table<L, SLOTS, A>,
     node: usize,
     label: u8,

@@ -1,4 +1,4 @@
-use Rattle.std.proofs.Common.{◌≡◌, ◌<◌, ◌+◌, [], arith, drop, length, get_or, refl, rules, subst, sym, take}
+use Rattle.std.proofs.Common.{◌≡◌, ◌<◌, ◌∙◌, ◌+◌, [], ap, arith, drop, length, get_or, refl, rules, subst, sym, take}
 use Rattle.std.proofs.lemmas.Grind.{common_steps}
 use Rattle.cedar_model.specs.Edit.KeyWalk.{Walked}
 use Rattle.cedar_table.specs.Table.Views.{cells, fields}
@@ -54,3 +54,10 @@ returns-clause-walked g c =
     let none : drop (length key) key ≡ [] = grind (arith, common_steps) in
     subst (λ rest. Walked g.row.SLOTS T T key (take (length key) key) rest node) (sym none)
     (subst (λ w. Walked g.row.SLOTS T T key w [] node) (sym all) (walked_all g.row.SLOTS T T key c.loop-length.length node c.loop-length-test.false c.loop-length.invariant))
+
+pub returns-then-not-is_owned_by-clause-ends : goal.returns-then-not-is_owned_by-clause-ends
+returns-then-not-is_owned_by-clause-ends g c = λ _ o.
+    let T = cells c.args.table.now in
+    let yes = c.is_owned_by.ensures.1 (ap T.check c.slot_below-slot.ensures ∙ o) in
+    let no = c.if-not-is_owned_by.true in
+    absurd (cc)
