@@ -230,6 +230,8 @@ pub extern "C" fn cedar_erase(handle: &mut Handle, key: &[u8]) -> bool
 }
 
 /// Writes the value at a key, and returns whether the key is held.
+// Not inlined into the entry for C: its test of the key for NULL would then write one byte of a register that waits for the last value.
+#[inline(never)]
 #[unsafe(no_mangle)]
 pub extern "C" fn cedar_get(handle: &mut Reading, key: &[u8], value: &mut i32) -> bool
     //= A look-up returns whether the key is held, and writes its value or nothing. [with value, absent]
