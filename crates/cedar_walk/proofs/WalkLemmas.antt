@@ -10,3 +10,4 @@ pub mod Ranges
 pub mod Last
 pub mod Keys
 pub mod Waiting
+pub mod Ahead
