@@ -38,7 +38,7 @@ pub struct PendingSibling {
 #[derive(Drop)]
 pub struct PendingSiblings {
     kept: [PendingSibling; ROOM],
-    len: usize,
+    len: u32,
     // How many of the first numbers have still to come. No answer depends on it.
     first: u32,
 }
@@ -102,7 +102,7 @@ impl PendingSiblings {
             return None;
         }
         self.len -= 1;
-        Some(self.kept[self.len])
+        Some(self.kept[self.len as usize])
     }
 }
 
@@ -125,16 +125,16 @@ impl Clone for PendingSiblings {
 // While a walk goes down, how many are kept is a value of its own. In a field beside the list it would be written to memory and read again
 // at each step.
 #[inline(always)]
-fn put(kept: &mut [PendingSibling; ROOM], len: usize, sibling: PendingSibling) -> usize
+fn put(kept: &mut [PendingSibling; ROOM], len: u32, sibling: PendingSibling) -> u32
     requires { len ≤ 16 }
     ensures most { result ≤ 16 }
     ensures put { nearest_first kept.new result ≡ sibling ∷ kept_behind (nearest_first kept.old len) }
 {
-    if len == ROOM {
+    if len as usize == ROOM {
         kept[0] = sibling;
         return 1;
     }
-    kept[len] = sibling;
+    kept[len as usize] = sibling;
     len + 1
 }
 
@@ -146,8 +146,8 @@ fn keep_sibling<L: Layout, const SLOTS: usize, A: Allocator>(
     depth: usize,
     label: u8,
     kept: &mut [PendingSibling; ROOM],
-    len: usize,
-) -> usize
+    len: u32,
+) -> u32
     requires well_formed { IsWellFormed SLOTS (fields table.now) }
     requires at { (start : List ℕ) × IsBelow (cells table.now) start depth node }
     requires deep { 0 < depth }
@@ -178,8 +178,8 @@ fn step_ahead<L: Layout, const SLOTS: usize, A: Allocator>(
     node: usize,
     depth: usize,
     kept: &mut [PendingSibling; ROOM],
-    len: usize,
-) -> usize
+    len: u32,
+) -> u32
     requires well_formed { IsWellFormed SLOTS (fields table.now) }
     requires at { (start : List ℕ) × IsBelow (cells table.now) start depth node }
     requires kept { AreKept (fields table.now) kept.old len depth node }
@@ -188,7 +188,7 @@ fn step_ahead<L: Layout, const SLOTS: usize, A: Allocator>(
     if len == 0 {
         return 0;
     }
-    let nearest = kept[len - 1];
+    let nearest = kept[len as usize - 1];
     let slot = nearest.slot as usize;
     let label = table.child(slot);
     if label == 0 {
@@ -247,8 +247,8 @@ fn numbered_down_tail<L: Layout, const SLOTS: usize, A: Allocator>(
     node: usize,
     depth: usize,
     kept: &mut [PendingSibling; ROOM],
-    len: usize,
-) -> (Numbered, usize)
+    len: u32,
+) -> (Numbered, u32)
     requires well_formed { IsWellFormed SLOTS (fields table.now) }
     requires below { (start : List ℕ) × IsBelow (cells table.now) start depth node }
     requires not_root { node ≢ 0 }
@@ -283,9 +283,9 @@ fn numbered_down<L: Layout, const SLOTS: usize, A: Allocator>(
     node: usize,
     depth: usize,
     kept: &mut [PendingSibling; ROOM],
-    len: usize,
+    len: u32,
     tail: usize,
-) -> (Numbered, usize)
+) -> (Numbered, u32)
     requires well_formed { IsWellFormed SLOTS (fields table.now) }
     requires below { (start : List ℕ) × IsBelow (cells table.now) start depth node }
     requires not_root { node ≢ 0 }
