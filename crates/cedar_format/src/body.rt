@@ -16,7 +16,8 @@ use std::io::{ErrorKind, Write};
 use std::marker::Brand;
 use std::sync::ledger::{Blank, Ledger};
 
-/// The fields of a file. What its version doesn't list, up to the capacity, is blank as in a fresh block.
+/// The fields of a file. What its version doesn't list, up to the capacity, is blank as in a fresh block: [`decode`] writes that behind
+/// the lists, and [`decode_lists`] leaves it out.
 #[derive(Drop)]
 pub struct Decoded<A: Allocator> {
     pub header: Header,

@@ -59,8 +59,8 @@ impl<L: Layout, const SLOTS: usize, A: Allocator> Table<L, SLOTS, A> {
         }
     }
 
-    /// The table of some parts with `capacity` slots, of which its lists have those in use, and maybe more. All others are blank. Nothing is
-    /// written for them: there is room.
+    /// The table of some parts with `capacity` slots, of which its lists have those in use, and maybe more. All others are blank.
+    /// Nothing is written for them: there is room.
     pub fn from_front(parts: Parts<A>, capacity: usize) -> Self
         requires shaped { Shaped (front_fields L.kind capacity parts).places }
         requires rejects { length parts.reject.items ≡ 257 }
