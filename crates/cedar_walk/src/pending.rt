@@ -20,7 +20,8 @@ const ROOM: usize = 16;
 /// gains.
 const TAIL: usize = 4;
 
-/// How many numbers a walk comes to before siblings go along. Who asks for the first ones alone wouldn't use what was done for a later one.
+/// How many numbers a walk goes on to, after its first one, before siblings go along. Who asks for the first ones alone wouldn't use what
+/// was done for a later one.
 const FIRST: u32 = 10;
 
 /// A sibling that a walk has still to visit, or a node below it that is to be visited in its place, since none before that has a number:
@@ -39,7 +40,7 @@ pub struct PendingSibling {
 pub struct PendingSiblings {
     kept: [PendingSibling; ROOM],
     len: u32,
-    // How many of the first numbers have still to come. No answer depends on it.
+    // How many numbers the walk has still to go on to before siblings go along. No answer depends on it.
     first: u32,
 }
 
