@@ -1,5 +1,5 @@
 -- Each exit of a load is the answer that the bytes decide.
-use Rattle.std.proofs.Common.{◌≡◌, ℕ, zero, suc, ℤ, pos, length, ◌+◌, ◌*◌, ◌/◌, ◌^◌, ◌≤◌, ◌≤ℤ◌, arith, rules, Bool, true, false, List, [], ◌∷◌, ◌++◌, take, Option, Some, None, Ok, Err, inl, inr, refl, sym, ap, ◌∙◌, subst, append-nil, append_assoc, take_at}
+use Rattle.std.proofs.Common.{◌≡◌, ℕ, ℤ, pos, length, ◌+◌, ◌*◌, ◌/◌, ◌^◌, ◌≤◌, ◌≤ℤ◌, arith, rules, Bool, true, false, List, [], ◌∷◌, ◌++◌, take, Option, Some, None, Ok, Err, inl, inr, refl, sym, ap, ◌∙◌, subst, append-nil, append_assoc, take_at}
 use Rattle.std.specs.Prelude.{IfSome, MatchOption, int_lt}
 use Rattle.std.specs.Io.KnownBytes.{Consumes, IsAtEnd}
 use Rattle.cedar_slots.specs.declared.records.NodeRecord.{NodeRecord}
@@ -11,7 +11,7 @@ use Rattle.cedar_model.specs.Table.TableFields.{Fields, capacity_of}
 use Rattle.cedar_model.specs.Meaning.WellFormed.{IsWellFormed}
 use Rattle.cedar_format.specs.declared.error.CedarPersistenceError.{CedarPersistenceError}
 use Rattle.cedar_format.specs.declared.header.Header.{Header}
-use Rattle.cedar_format.specs.Format.{decode_refusal, header_answer, header_at, listed_bytes, listed_in, listed_slots, trial_refusal, CountsWithin, DecodeAnswers, IsFile, IsHeader, IsVersion, Passes}
+use Rattle.cedar_format.specs.Format.{decode_refusal, header_answer, header_at, listed_bytes, listed_in, trial_refusal, CountsWithin, DecodeAnswers, IsFile, IsHeader, IsVersion, Passes}
 use Rattle.cedar_format.specs.Refusal.{Refusal, CorruptData, first_refusal, refusal_of, unless}
 use Rattle.cedar_format.specs.Tables.{file_fields, table_bytes, FitsTable, IsListed, IsTableFile}
 use Rattle.cedar_format.proofs.FileTable.{file_fits, file_header, file_is_listed, file_spelled}
@@ -37,12 +37,6 @@ some_trials z r e =
     passed : (b : Bool) → None ≡ unless b r → b ≡ true
     passed true e = refl
     passed false e = absurd cc
-
--- a file lists whole blocks: those in use, and no more than there are
-pub listed_blocks : (minor capacity size : ℕ) → size ≤ capacity → 256 * (capacity / 256) ≡ capacity → 256 * (size / 256) ≡ size
-    → (size / 256 ≤ listed_slots minor capacity size / 256) × (listed_slots minor capacity size / 256 ≤ capacity / 256) × (256 * (listed_slots minor capacity size / 256) ≡ listed_slots minor capacity size)
-listed_blocks zero capacity size within whole in_blocks = (omega arith, omega arith, whole)
-listed_blocks (suc minor) capacity size within whole in_blocks = (omega arith, omega arith, in_blocks)
 
 -- a refusal has no table, whatever would have had one
 abbrev no_table : Fields → Fields

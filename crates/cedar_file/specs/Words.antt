@@ -4,8 +4,7 @@ pub use Rattle.cedar_file.specs.PlaceChecks.{BlankBlocks, BlankSlots, CountsInRa
 pub use Rattle.cedar_file.specs.PlaceChecks.{HasRing, in_ring, ring_count, StepsFrom}
 pub use Rattle.cedar_file.specs.TreeWalk.{ComesBackIn, GoesDown, GoesOn, GoesUp, HasRoom, LooksLikeRoot, MeetsNode, StepsDown, StepsUp}
 pub use Rattle.cedar_file.specs.TreeWalk.{walk_start}
-pub use Rattle.cedar_format.specs.Decodes.{blocks_in, infos_in, nodes_in}
-pub use Rattle.cedar_format.specs.Format.{CountsWithin, IsFile, listed_in, need, trial_refusal}
+pub use Rattle.cedar_format.specs.Format.{CountsWithin, IsFile, need, trial_refusal}
 pub use Rattle.cedar_format.specs.Reading.{IsIo, IsLack, TellsBreaks}
 pub use Rattle.cedar_format.specs.Refusal.{CorruptData, refusal, refusal_of}
 pub use Rattle.cedar_format.specs.Tables.{file_fields, FitsTable, header_of, table_bytes}

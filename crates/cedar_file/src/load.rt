@@ -1,10 +1,10 @@
 //! How a table is loaded, and tested before anybody gets it.
 
-ghost use Rattle.std.specs.Prelude.{◌*◌, ◌+◌, ◌/◌, ◌^◌, ◌≡◌, ◌≤◌, IfErr, length, vec_capacity};
-ghost use Rattle.cedar_file.specs.Words.{blocks_in, CorruptData, CountsWithin, fields, file_fields, infos_in, IsFile, IsIo, IsLack, IsSlotLimit, layout_byte, listed_in, LoadsBy, need, nodes_in, refusal, refusal_of, TellsBreaks, trial_refusal};
+ghost use Rattle.std.specs.Prelude.{◌*◌, ◌+◌, ◌^◌, ◌≡◌, ◌≤◌, IfErr};
+ghost use Rattle.cedar_file.specs.Words.{CorruptData, CountsWithin, fields, file_fields, IsFile, IsIo, IsLack, IsSlotLimit, layout_byte, LoadsBy, need, refusal, refusal_of, TellsBreaks, trial_refusal};
 
 use crate::check::check_well_formed;
-use cedar_format::{CedarPersistenceError, Decoded, Header, Source, decode_lists};
+use cedar_format::{CedarPersistenceError, Decoded, Header, Source, decode_counted};
 use cedar_table::{Corrupt, Layout, Parts, Table, Ticks};
 use std::alloc::Allocator;
 use std::sync::ledger::Ledger;
@@ -48,7 +48,7 @@ pub fn load_table<
     ensures asked { CountsWithin (layout_byte L.kind) SLOTS memory_limit (S.remaining reader.old) need asked.old asked.new }
     ensures reads { CountsWithin (layout_byte L.kind) SLOTS memory_limit (S.remaining reader.old) (λ h. 16 * h.capacity + 1024) reads.old reads.new }
 {
-    let decoded = decode_lists(alloc, reader, L::file_byte(), SLOTS, memory_limit, asked)?;
+    let decoded = decode_counted(alloc, reader, L::file_byte(), SLOTS, memory_limit, asked)?;
     check_trials(&decoded.header)?;
     let table = table_of(decoded, memory_limit);
     match check_well_formed(&table, reads) {
@@ -57,21 +57,17 @@ pub fn load_table<
     }
 }
 
-/// Returns the table of a file's fields. Its lists are moved and not copied, and blanks behind them aren't written; whether it is
-/// well-formed isn't tested.
+/// Returns the table of a file's fields. Its lists are moved and not copied; whether it is well-formed isn't tested.
 fn table_of<L: Layout, const SLOTS: usize, A: Allocator>(
     decoded: Decoded<A>,
     memory_limit: usize,
 ) -> Table<L, SLOTS, A>
     requires slots { SLOTS ≤ 2 ^ 30 }
-    requires file { IsFile SLOTS memory_limit decoded.header (nodes_in decoded) (infos_in decoded) (blocks_in decoded) decoded.reject.items }
-    requires nodes { (length decoded.nodes.items ≡ listed_in decoded.header) × (decoded.header.capacity ≤ vec_capacity decoded.nodes) }
-    requires n_infos { (length decoded.n_infos.items ≡ listed_in decoded.header) × (decoded.header.capacity ≤ vec_capacity decoded.n_infos) }
-    requires blocks { (length decoded.blocks.items ≡ listed_in decoded.header / 256) × (decoded.header.capacity / 256 ≤ vec_capacity decoded.blocks) }
-    ensures { fields result ≡ file_fields L.kind decoded.header (nodes_in decoded) (infos_in decoded) (blocks_in decoded) decoded.reject.items }
+    requires file { IsFile SLOTS memory_limit decoded.header decoded.nodes.items decoded.n_infos.items decoded.blocks.items decoded.reject.items }
+    ensures { fields result ≡ file_fields L.kind decoded.header decoded.nodes.items decoded.n_infos.items decoded.blocks.items decoded.reject.items }
 {
     let header = decoded.header;
-    let parts = Parts {
+    Table::from_records(Parts {
         ordered: header.ordered,
         entries: header.entries,
         size: header.size,
@@ -83,8 +79,7 @@ fn table_of<L: Layout, const SLOTS: usize, A: Allocator>(
         n_infos: decoded.n_infos,
         blocks: decoded.blocks,
         reject: decoded.reject,
-    };
-    Table::from_front(parts, header.capacity)
+    })
 }
 
 /// Tests the number of trials that a header gives.

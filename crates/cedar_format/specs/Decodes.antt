@@ -1,15 +1,10 @@
 -- What a decoding promises, whatever it reads from.
-use Rattle.std.specs.Prelude.{◌≡◌, ℕ, ◌/◌, Bool, true, false, List, ◌++◌, Option, Result, IfErr, IfOk, IfSome, OnOk}
+use Rattle.std.specs.Prelude.{◌≡◌, ℕ, Bool, true, false, List, ◌++◌, Option, Result, IfErr, IfOk, IfSome, OnOk}
 use Rattle.std.specs.Io.KnownBytes.{Consumes, IsAtEnd}
 use Rattle.cedar_format.specs.declared.body.Decoded.{Decoded}
 use Rattle.cedar_format.specs.declared.error.CedarPersistenceError.{CedarPersistenceError}
-use Rattle.cedar_format.specs.Format.{filled_list, listed_bytes, listed_in, DecodeAnswers, IsFile, IsHeader, Passes}
+use Rattle.cedar_format.specs.Format.{listed_bytes, listed_in, DecodeAnswers, IsFile, IsHeader, Passes}
 use Rattle.cedar_format.specs.Reading.{IsIo, LacksNoMore}
-use Rattle.cedar_slots.specs.declared.records.BlockRecord.{BlockRecord}
-use Rattle.cedar_slots.specs.declared.records.NInfoRecord.{NInfoRecord}
-use Rattle.cedar_slots.specs.declared.records.NodeRecord.{NodeRecord}
-use Rattle.cedar_slots.specs.Blocks.{blank_block}
-use Rattle.cedar_slots.specs.Slots.{blank_info, blank_node}
 
 -- fields were read of a source that had `before` left and now has `after`; `failed` is whether a read of it failed so far
 pub record DecodesBy {A : Type 0} (layout slots limit : ℕ) (before after : Option (List ℕ)) (failed : Bool) (result : Result (Decoded A) CedarPersistenceError) : Type 0 where
@@ -18,26 +13,6 @@ pub record DecodesBy {A : Type 0} (layout slots limit : ℕ) (before after : Opt
       × Consumes before after (front ++ listed_bytes (listed_in d.header) d.nodes.items d.n_infos.items d.blocks.items d.reject.items))
   pub file : IfOk result (λ d. IsFile slots limit d.header d.nodes.items d.n_infos.items d.blocks.items d.reject.items)
   -- a reader that tells its bytes and doesn't fail gets the first refusal, if there is one
-  pub answer : IfSome before (λ bytes. failed ≡ false → DecodeAnswers layout slots limit bytes result)
-  pub at_end : OnOk result (failed ≡ false → IsAtEnd after)
-  pub io : IfErr result (λ e. IsIo e → failed ≡ true)
-  pub lacks : IfErr result (LacksNoMore (Passes layout slots limit before))
-
--- the tables of a file, of which the lists may have only the records that it lists: blanks are behind them
-abbrev pub nodes_in : {A : Type 0} → Decoded A → List NodeRecord
-nodes_in d = filled_list blank_node d.header.capacity d.nodes.items
-
-abbrev pub infos_in : {A : Type 0} → Decoded A → List NInfoRecord
-infos_in d = filled_list blank_info d.header.capacity d.n_infos.items
-
-abbrev pub blocks_in : {A : Type 0} → Decoded A → List BlockRecord
-blocks_in d = filled_list blank_block (d.header.capacity / 256) d.blocks.items
-
--- the same as a decoding promises, of lists that aren't filled
-pub record ListsBy {A : Type 0} (layout slots limit : ℕ) (before after : Option (List ℕ)) (failed : Bool) (result : Result (Decoded A) CedarPersistenceError) : Type 0 where
-  pub bytes : IfOk result (λ d. (front : List ℕ) × IsHeader layout front d.header
-      × Consumes before after (front ++ listed_bytes (listed_in d.header) (nodes_in d) (infos_in d) (blocks_in d) d.reject.items))
-  pub file : IfOk result (λ d. IsFile slots limit d.header (nodes_in d) (infos_in d) (blocks_in d) d.reject.items)
   pub answer : IfSome before (λ bytes. failed ≡ false → DecodeAnswers layout slots limit bytes result)
   pub at_end : OnOk result (failed ≡ false → IsAtEnd after)
   pub io : IfErr result (λ e. IsIo e → failed ≡ true)

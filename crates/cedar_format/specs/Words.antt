@@ -1,8 +1,8 @@
 -- The words that the contracts of this crate cite, from one place.
 pub use Rattle.arrayvec.specs.ArrayVec.{array_vec_len}
-pub use Rattle.cedar_format.specs.Decodes.{DecodesBy, ListsBy}
+pub use Rattle.cedar_format.specs.Decodes.{DecodesBy}
 pub use Rattle.cedar_format.specs.Format.{body_len, CountsWithin, filled_bytes, filled_list, FitsFilled, FitsHeader, header_at, header_bytes, header_refusal, i32_at}
-pub use Rattle.cedar_format.specs.Format.{IsHeader, IsVersion, kind_refusal, listed_in, listed_slots, magic, need, Passes, size_refusal, tables_len}
+pub use Rattle.cedar_format.specs.Format.{IsHeader, IsVersion, kind_refusal, listed_slots, magic, need, Passes, size_refusal, tables_len}
 pub use Rattle.cedar_format.specs.Format.{u16_at, u64_at, version_refusal}
 pub use Rattle.cedar_format.specs.Numbers.{i16_bytes, i32_bytes, IsI16, IsI32, length-i16_bytes, length-i32_bytes, u16_bytes, u64_bytes}
 pub use Rattle.cedar_format.specs.Reading.{EndsWithin, IsIo, IsLack, LacksTable, Misses, ReadsBy, TellsBreaks, Trails}

@@ -1,7 +1,7 @@
 //! The tables of a file.
 
 ghost use Rattle.std.specs.Prelude.{◌+◌, ◌/◌, ◌<◌, ◌^◌, ◌≡◌, ◌≤◌, [], false, IfErr, IfOk, length, OnOk, true, vec_capacity};
-ghost use Rattle.cedar_format.specs.Words.{Appends, blank_block, blank_info, blank_node, body_bytes, body_len, Consumes, CountsWithin, DecodesBy, device_of, filled_bytes, filled_list, FitsBody, FitsFilled, has_failed, IsAtEnd, IsIo, IsSlotLimit, LacksTable, listed_in, ListsBy, Misses, need, Passes, tables_len, TellsBreaks, Trails};
+ghost use Rattle.cedar_format.specs.Words.{Appends, blank_block, blank_info, blank_node, body_bytes, body_len, Consumes, CountsWithin, DecodesBy, device_of, filled_bytes, filled_list, FitsBody, FitsFilled, has_failed, IsAtEnd, IsIo, IsSlotLimit, LacksTable, Misses, need, Passes, tables_len, TellsBreaks, Trails};
 
 use crate::buffer::BUFFER_LEN;
 use crate::error::CedarPersistenceError;
@@ -16,8 +16,7 @@ use std::io::{ErrorKind, Write};
 use std::marker::Brand;
 use std::sync::ledger::{Blank, Ledger};
 
-/// The fields of a file. What its version doesn't list, up to the capacity, is blank as in a fresh block: [`decode`] writes that behind
-/// the lists, and [`decode_lists`] leaves it out.
+/// The fields of a file. What its version doesn't list, up to the capacity, is blank as in a fresh block.
 #[derive(Drop)]
 pub struct Decoded<A: Allocator> {
     pub header: Header,
@@ -238,41 +237,12 @@ pub fn decode_counted<S: Source, A: Allocator + Copy, C: Ledger>(
     ensures asked { CountsWithin layout slots memory_limit (S.remaining reader.old) need asked.old asked.new }
     ensures passes { IfOk result (λ d. Passes layout slots memory_limit (S.remaining reader.old) d.header) }
 {
-    let lists = decode_lists(alloc, reader, layout, slots, memory_limit, asked)?;
-    Ok(fill_tables(lists))
-}
-
-/// Reads the fields of a file of this layout, up to its end, and counts the bytes that it requests from the allocator. The lists have only
-/// the records that the file lists, and room for the blanks behind them, which aren't written.
-///
-/// # Errors
-/// As `decode_counted`.
-pub fn decode_lists<S: Source, A: Allocator + Copy, C: Ledger>(
-    alloc: A,
-    reader: &mut S,
-    layout: u8,
-    slots: usize,
-    memory_limit: usize,
-    asked: &mut Ticks<C>,
-) -> Result<Decoded<A>, CedarPersistenceError>
-    requires slots { IsSlotLimit slots }
-
-    //= `decode_lists` keeps what `decode_counted` does, of the lists with blanks behind them: they have only what the file lists, and room
-    //  for the rest. [with told, asked, passes, nodes, n_infos, blocks; by ListsBy]
-    ensures decodes { ListsBy layout slots memory_limit (S.remaining reader.old) (S.remaining reader.new) (S.failed reader.new) result }
-    ensures told { TellsBreaks (S.broken reader.old) (S.broken reader.new) result }
-    ensures asked { CountsWithin layout slots memory_limit (S.remaining reader.old) need asked.old asked.new }
-    ensures passes { IfOk result (λ d. Passes layout slots memory_limit (S.remaining reader.old) d.header) }
-    ensures nodes { IfOk result (λ d. (length d.nodes.items ≡ listed_in d.header) × (d.header.capacity ≤ vec_capacity d.nodes)) }
-    ensures n_infos { IfOk result (λ d. (length d.n_infos.items ≡ listed_in d.header) × (d.header.capacity ≤ vec_capacity d.n_infos)) }
-    ensures blocks { IfOk result (λ d. (length d.blocks.items ≡ listed_in d.header / 256) × (d.header.capacity / 256 ≤ vec_capacity d.blocks)) }
-{
     let header = read_header(reader, layout)?;
     check_sizes(&header, slots, memory_limit)?;
     let empty = reserve_tables(alloc, header, asked)?;
     let lists = read_lists(reader, empty)?;
     read_end(reader)?;
-    Ok(lists)
+    Ok(fill_tables(lists))
 }
 
 /// Writes the four lists of a file, one after another, in pieces of several thousand bytes. `slots` is how many slots the file lists.

@@ -16,7 +16,7 @@ mod source;
 mod texts;
 mod watched;
 
-pub use body::{Decoded, decode, decode_counted, decode_lists, write_lists};
+pub use body::{Decoded, decode, decode_counted, write_lists};
 pub use cedar_slots::{BlockRecord, NInfoRecord, NodeRecord};
 pub use error::CedarPersistenceError;
 pub use header::{

@@ -42,22 +42,6 @@ impl<T: Blank, A: Allocator> Padded<T, A> {
         Padded { front: items, len }
     }
 
-    /// Returns a list whose first items are written to memory. All others, up to a length for which there is room, are blank.
-    pub fn of_front(written: Vec<T, A>, len: usize) -> Self
-        requires more { vec_len written ≤ len }
-        requires room { len ≤ vec_capacity written }
-
-        //= `of_front` makes a list of items that are written to memory, and of blanks behind them, of which none is. [with used, within]
-        ensures items { result.items ≡ padded T.BLANK len written.items }
-        ensures used { result.used ≡ length written.items }
-        ensures within { result.used ≤ length result.items }
-    {
-        Padded {
-            front: written,
-            len,
-        }
-    }
-
     /// Returns the allocator of the list.
     pub fn allocator(&self) -> &A {
         self.front.allocator()

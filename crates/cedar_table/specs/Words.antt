@@ -19,7 +19,7 @@ pub use Rattle.cedar_slots.specs.Places.{AddsBlock, Grown, IsNewPlaces, IsSlotLi
 pub use Rattle.cedar_slots.specs.Slots.{blank_info, blank_node, check_at}
 pub use Rattle.cedar_slots.specs.Views.{places_of}
 pub use Rattle.cedar_slots.specs.declared.shortage.Shortage.TheVariants.{Memory}
-pub use Rattle.cedar_table.specs.Table.Parts.{front_fields, parts_fields}
+pub use Rattle.cedar_table.specs.Table.Parts.{parts_fields}
 pub use Rattle.cedar_table.specs.Table.Room.{LacksBlocks}
 pub use Rattle.cedar_table.specs.Table.Views.{cells, fields}
 pub use Rattle.cedar_tree.specs.Edits.{edit_at, HasPath}

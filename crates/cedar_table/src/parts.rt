@@ -1,7 +1,7 @@
 //! A table as its parts: it is made from them when it is loaded, and returns them when it is saved.
 
-ghost use Rattle.std.specs.Prelude.{◌*◌, ◌/◌, ◌≡◌, ◌≤◌, length, vec_capacity};
-ghost use Rattle.cedar_table.specs.Words.{blank_block, blank_info, blank_node, fields, front_fields, padded, parts_fields, places_of, Shaped, size_of};
+ghost use Rattle.std.specs.Prelude.{◌*◌, ◌≡◌, ◌≤◌, length};
+ghost use Rattle.cedar_table.specs.Words.{blank_block, blank_info, blank_node, fields, padded, parts_fields, places_of, Shaped, size_of};
 
 use crate::table::Table;
 use cedar_model::Layout;
@@ -56,46 +56,6 @@ impl<L: Layout, const SLOTS: usize, A: Allocator> Table<L, SLOTS, A> {
                 },
                 reject: parts.reject,
             },
-        }
-    }
-
-    /// The table of some parts with `capacity` slots, of which its lists have those in use, and maybe more. All others are blank.
-    /// Nothing is written for them: there is room.
-    pub fn from_front(parts: Parts<A>, capacity: usize) -> Self
-        requires shaped { Shaped (front_fields L.kind capacity parts).places }
-        requires rejects { length parts.reject.items ≡ 257 }
-        requires used { parts.size / 256 ≤ length parts.blocks.items }
-        requires blocks { length parts.blocks.items ≤ capacity / 256 }
-        requires nodes { length parts.nodes.items ≡ 256 * length parts.blocks.items }
-        requires infos { length parts.n_infos.items ≡ 256 * length parts.blocks.items }
-        requires nodes_room { capacity ≤ vec_capacity parts.nodes }
-        requires infos_room { capacity ≤ vec_capacity parts.n_infos }
-        requires blocks_room { capacity / 256 ≤ vec_capacity parts.blocks }
-
-        //= `from_front` makes the table from some parts and the blanks behind their lists.
-        ensures { fields result ≡ front_fields L.kind capacity parts }
-    {
-        let (ordered, entries) = (parts.ordered, parts.entries);
-        let places = Places {
-            slots: Slots {
-                nodes: Padded::of_front(parts.nodes, capacity),
-                infos: Padded::of_front(parts.n_infos, capacity),
-            },
-            blocks: Blocks {
-                records: Padded::of_front(parts.blocks, capacity / BLOCK_SIZE),
-                full_head: parts.full_head,
-                closed_head: parts.closed_head,
-                open_head: parts.open_head,
-                active: parts.size / BLOCK_SIZE,
-                max_trial: parts.max_trial,
-            },
-            reject: parts.reject,
-        };
-        Table {
-            layout: PhantomData,
-            ordered,
-            entries,
-            places,
         }
     }
 

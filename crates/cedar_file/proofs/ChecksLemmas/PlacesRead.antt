@@ -1,27 +1,15 @@
 -- What the parts of a check say of slots, blocks and reject values together.
-use Rattle.std.proofs.Common.{◌≡◌, ℕ, ◌+◌, ◌-◌, ◌*◌, ◌<◌, ◌≤◌, ◌≤ℤ◌, List, [], ◌∷◌, length, replicate, slice_index_or, Bool, cond, eqb, true, false, refl, sym, ap, subst, ◌∙◌, arith, pos, ℤ}
+use Rattle.std.proofs.Common.{◌≡◌, ℕ, ◌+◌, ◌*◌, ◌<◌, ◌≤◌, ◌≤ℤ◌, List, [], ◌∷◌, length, Bool, cond, eqb, true, false, refl, sym, ap, subst, ◌∙◌, arith, pos}
 use Rattle.std.proofs.lemmas.Bool.{and_from, and_parts, cond-true, eq-eqb, eqb-true}
-use Rattle.std.proofs.lemmas.List.{get_or_append_left}
-use Rattle.cedar_slots.specs.Padded.{padded}
 use Rattle.cedar_slots.specs.declared.records.BlockRecord.{BlockRecord}
-use Rattle.cedar_slots.specs.declared.records.NodeRecord.{NodeRecord}
 use Rattle.cedar_slots.specs.Blocks.{block_at, BlockFields, counts_of}
 use Rattle.cedar_file.specs.PlaceChecks.{HasRing, HasBlankLabels, free_count, free_here, CountsInRange}
 use Rattle.cedar_slots.specs.Places.{Bounded, FreeBlock, PlaceFields}
-use Rattle.cedar_slots.specs.Slots.{blank_node, SlotLink}
+use Rattle.cedar_slots.specs.Slots.{SlotLink}
 use Rattle.cedar_slots.specs.Ring.{first_of, occurs}
 use Rattle.cedar_file.proofs.ChecksLemmas.Cycle.{length_all, member_passes, once_each}
 use Rattle.cedar_file.proofs.ChecksLemmas.RingRead.{slots_within}
 use Rattle.cedar_slots.proofs.RingsLemmas.Ring.{occurs_same}
-
--- what was read of the items in memory is what the list has there
-pub front_at : {T : Type 0} (blank : T) (len : ℕ) (items front : List T) (i : ℕ) (x : T) → items ≡ padded blank len front → i < length front → ((d : T) → x ≡ slice_index_or front i d) → x ≡ slice_index_or items i blank
-front_at blank len items front i x same within read = read blank ∙ sym (ap (λ l. slice_index_or l i blank) same ∙ get_or_append_left front (replicate (len - length front) blank) blank i within)
-
-pub no_base : (node : NodeRecord) → node.base ≡ pos 0 → node.check ≡ pos 0 → node ≡ blank_node
-no_base node p q =
-    let fields : ℤ → ℤ → NodeRecord = λ b c. record { base = b; check = c } in
-    ap (λ b. fields b node.check) p ∙ ap (fields (pos 0)) q
 
 -- ---- a block's record
 

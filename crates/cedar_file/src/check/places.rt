@@ -4,7 +4,7 @@ ghost use Rattle.std.specs.Prelude.{◌*◌, ◌+◌, ◌-◌, ◌<◌, ◌≡�
 ghost use Rattle.cedar_file.specs.Words.{BlankBlocks, BlankSlots, blocks_of, FreeBlock, HasFree, IsPowerOfTwo, places_of, reject_at, Rejects, Shaped, Sound};
 
 use crate::check::lists::{check_lists, check_ranges, read_block};
-use crate::check::rings::{check_ring, count_free, read_free, read_item};
+use crate::check::rings::{check_ring, count_free, read_free, read_info, read_node};
 use cedar_slots::{BLOCK_SIZE, BlockRecord, Corrupt, Places, Ticks, reserved};
 use std::alloc::Allocator;
 use std::sync::ledger::Ledger;
@@ -97,12 +97,9 @@ fn check_idle_slots<A: Allocator, C: Ledger>(
     ensures answer { OkIff result (BlankSlots (places_of places.now)) tt }
     ensures cost { reads.new ≤ reads.old + 2 * (256 * (length places.now.blocks.records.items - places.now.blocks.active)) }
 {
-    // Of these only what is written to memory is read: all others are blank.
-    let nodes = places.slots.nodes.front();
-    let infos = places.slots.infos.front();
-    for slot in BLOCK_SIZE * places.blocks.active..nodes.len() {
-        let node = read_item(nodes, slot, reads);
-        let info = read_item(infos, slot, reads);
+    for slot in BLOCK_SIZE * places.blocks.active..places.slots.nodes.len() {
+        let node = read_node(&places.slots, slot, reads);
+        let info = read_info(&places.slots, slot, reads);
         if node.base != 0 || node.check != 0 || info.sibling != 0 || info.child != 0 {
             return Err(Corrupt::nodes(slot, "inactive node is not zero initialized"));
         }
@@ -119,8 +116,7 @@ fn check_idle_blocks<A: Allocator, C: Ledger>(
     ensures answer { OkIff result (BlankBlocks (blocks_of places.now.blocks)) tt }
     ensures cost { reads.new ≤ reads.old + (length places.now.blocks.records.items - places.now.blocks.active) }
 {
-    let written = places.blocks.records.front().len();
-    for block in places.blocks.active..written {
+    for block in places.blocks.active..places.blocks.records.len() {
         if read_block(&places.blocks, block, reads) != BlockRecord::BLANK {
             return Err(Corrupt::blocks(block, "inactive block is not initialized"));
         }

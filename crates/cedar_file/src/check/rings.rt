@@ -4,25 +4,15 @@
 //! block that names the slot before it, so no slot is met twice unless the walk comes back to the head. If it doesn't
 //! before its last step, it has met all free slots of the block, and its last step leads back. No marks are kept.
 
-ghost use Rattle.std.specs.Prelude.{◌*◌, ◌+◌, ◌<◌, ◌^◌, ◌≡◌, ◌≤◌, length, OkIff, slice_index_or, true};
+ghost use Rattle.std.specs.Prelude.{◌*◌, ◌+◌, ◌<◌, ◌^◌, ◌≡◌, ◌≤◌, length, OkIff, true};
 ghost use Rattle.cedar_file.specs.Words.{free_count, free_here, HasBlankLabels, HasRing, info_at, is_free, node_record_at, SlotLink, slots_of, StepsFrom};
 
 use cedar_slots::{BLOCK_SIZE, Corrupt, NInfoRecord, NodeRecord, Slots, Ticks};
 use std::alloc::Allocator;
 use std::sync::ledger::Ledger;
 
-/// Returns an item of a list in memory. The read is counted.
-pub(crate) fn read_item<T: Copy, C: Ledger>(items: &[T], index: usize, reads: &mut Ticks<C>) -> T
-    requires { index < length items.now }
-    ensures value { (d : T) → result ≡ slice_index_or items.now index d }
-    ensures cost { reads.new ≡ reads.old + 1 }
-{
-    reads.tick();
-    items[index]
-}
-
 /// Returns the node record of a slot. The read is counted.
-fn read_node<A: Allocator, C: Ledger>(
+pub(crate) fn read_node<A: Allocator, C: Ledger>(
     slots: &Slots<A>,
     slot: usize,
     reads: &mut Ticks<C>,
@@ -36,7 +26,7 @@ fn read_node<A: Allocator, C: Ledger>(
 }
 
 /// Returns the labels of a slot. The read is counted.
-fn read_info<A: Allocator, C: Ledger>(
+pub(crate) fn read_info<A: Allocator, C: Ledger>(
     slots: &Slots<A>,
     slot: usize,
     reads: &mut Ticks<C>,

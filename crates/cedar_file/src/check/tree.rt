@@ -316,8 +316,6 @@ fn begin_walk<L: Layout, const SLOTS: usize, A: Allocator, C: Ledger>(
 
 /// Walks over the whole tree. Each node is entered once and left once: a walk of more steps goes round in a chain of
 /// labels.
-// By itself the loop has all that it needs in registers, which a load around it would take from it.
-#[inline(never)]
 fn walk_tree<L: Layout, const SLOTS: usize, A: Allocator, C: Ledger>(
     table: &Table<L, SLOTS, A>,
     start: Walk,
