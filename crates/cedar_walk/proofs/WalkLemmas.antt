@@ -10,4 +10,3 @@ pub mod Ranges
 pub mod Last
 pub mod Keys
 pub mod Waiting
-pub mod Ahead

@@ -1,5 +1,5 @@
 -- Siblings that a walk keeps, to which it has still to come.
-use Rattle.std.specs.Prelude.{◌≡◌, ◌==◌, cond, ℕ, zero, suc, ◌-◌, ◌<◌, ◌≤◌, List, [], ◌∷◌, get_or, length}
+use Rattle.std.specs.Prelude.{◌≡◌, ◌==◌, cond, ℕ, zero, suc, ◌-◌, ◌<◌, List, [], ◌∷◌, get_or, length}
 use Rattle.cedar_tree.specs.Queries.{Entry}
 use Rattle.cedar_tree.specs.Walks.{Visit, visited_entries}
 use Rattle.cedar_walk.specs.declared.pending.PendingSibling.{PendingSibling}
@@ -36,10 +36,6 @@ abbrev pub IsPending : Fields → List PendingSibling → ℕ → ℕ → Type 0
 IsPending T [] n s = Unit {0}
 IsPending T (sibling ∷ farther) n s =
     ComesNextTo T left_after n s sibling.depth sibling.slot sibling.label × IsPending T farther (sibling.depth - 1) (owner_of (cells_in T) sibling.slot)
-
--- the siblings that a walk keeps are the first n of a list that has room for no more than 16
-abbrev pub AreKept : Fields → List PendingSibling → ℕ → ℕ → ℕ → Type 0
-AreKept T kept len n s = (len ≤ 16) × IsPending T (nearest_first kept len) n s
 
 -- a walk that has been at slot s goes to a place, and keeps these siblings for the node above that
 pub record GoesKeeping (T : Fields) (n s : ℕ) (siblings : List PendingSibling) (place : Place) : Type 0 where

@@ -2,7 +2,7 @@
 //! and reads nothing of the nodes above.
 
 ghost use Rattle.std.specs.Prelude.{◌-◌, ◌<◌, ◌∷◌, ◌≡◌, ◌≢◌, ◌≤◌, [], IfSome, List, MatchOption, ℕ, ⊤};
-ghost use Rattle.cedar_walk.specs.Words.{AreKept, below, cells, ComesToFirst, fields, FindsNumber, first_sibling_label, GoesKeeping, GoesToNumber, IsAt, IsBelow, IsNumberedBelow, IsPending, IsWellFormed, kept_behind, nearest_first, node_at, NoneLeft, owner_of, tree_of, walk};
+ghost use Rattle.cedar_walk.specs.Words.{below, cells, ComesToFirst, fields, FindsNumber, first_sibling_label, GoesKeeping, GoesToNumber, IsAt, IsBelow, IsNumberedBelow, IsPending, IsWellFormed, kept_behind, node_at, NoneLeft, owner_of, tree_of, walk};
 
 use crate::visits::{
     Numbered, Place, child_under, first_child, label_after_number, next_after, next_sibling,
@@ -16,16 +16,8 @@ use std::marker::Model;
 /// How many siblings are kept.
 const ROOM: usize = 16;
 
-/// How many steps a walk goes down before the nearest sibling goes along. Shorter ways are mostly in a cache, where that costs more than it
-/// gains.
-const TAIL: usize = 4;
-
-/// How many numbers a walk goes on to, after its first one, before siblings go along. Who asks for the first ones alone wouldn't use what
-/// was done for a later one.
-const FIRST: u32 = 10;
-
-/// A sibling that a walk has still to visit, or a node below it that is to be visited in its place, since none before that has a number:
-/// its slot, how many labels it is below the node where the walk began, and the last of these.
+/// A sibling that a walk has still to visit: its slot, how many labels it is below the node where the walk began, and the last of
+/// these. Nothing has been read of it yet.
 #[derive(Clone, Copy)]
 pub struct PendingSibling {
     slot: u32,
@@ -33,15 +25,13 @@ pub struct PendingSibling {
     label: u8,
 }
 
-/// The nearest siblings that a walk has still to visit: those after nodes on the way to where it is, or on the way to another of them.
+/// The nearest siblings that a walk has still to visit: those after nodes on the way to where it is.
 ///
 /// A contract sees them as a list, the nearest first.
 #[derive(Drop)]
 pub struct PendingSiblings {
     kept: [PendingSibling; ROOM],
-    len: u32,
-    // How many numbers the walk has still to go on to before siblings go along. No answer depends on it.
-    first: u32,
+    len: usize,
 }
 
 impl Model for PendingSiblings {
@@ -70,7 +60,6 @@ impl PendingSiblings {
         PendingSiblings {
             kept: [blank; ROOM],
             len: 0,
-            first: FIRST,
         }
     }
 
@@ -80,19 +69,20 @@ impl PendingSiblings {
         ensures { self.new ≡ [] }
     {
         self.len = 0;
-        self.first = FIRST;
     }
 
-    /// Counts a number to which a walk goes down from a depth, and returns from which depth on the nearest sibling goes along.
+    // If there is no room, the farther ones are forgotten: a walk that comes back to them climbs.
     #[inline(always)]
-    fn tail_below(&mut self, depth: usize) -> usize
-        ensures { self.new ≡ self.old }
+    fn push(&mut self, sibling: PendingSibling)
+        ensures { self.new ≡ sibling ∷ kept_behind self.old }
     {
-        if self.first == 0 {
-            return depth.saturating_add(TAIL);
+        if self.len == ROOM {
+            self.kept[0] = sibling;
+            self.len = 1;
+            return;
         }
-        self.first -= 1;
-        usize::MAX
+        self.kept[self.len] = sibling;
+        self.len += 1;
     }
 
     #[inline(always)]
@@ -103,7 +93,7 @@ impl PendingSiblings {
             return None;
         }
         self.len -= 1;
-        Some(self.kept[self.len as usize])
+        Some(self.kept[self.len])
     }
 }
 
@@ -116,99 +106,36 @@ impl Clone for PendingSiblings {
         Ok(PendingSiblings {
             kept: self.kept,
             len: self.len,
-            first: self.first,
         })
     }
 }
 
-/// Puts a sibling behind the first `len` of a list, the last of which is the nearest, and returns how many are kept then. If there is no
-/// room, the farther ones are forgotten: a walk that comes back to them climbs.
-// While a walk goes down, how many are kept is a value of its own. In a field beside the list it would be written to memory and read again
-// at each step.
-#[inline(always)]
-fn put(kept: &mut [PendingSibling; ROOM], len: u32, sibling: PendingSibling) -> u32
-    requires { len ≤ 16 }
-    ensures most { result ≤ 16 }
-    ensures put { nearest_first kept.new result ≡ sibling ∷ kept_behind (nearest_first kept.old len) }
-{
-    if len as usize == ROOM {
-        kept[0] = sibling;
-        return 1;
-    }
-    kept[len as usize] = sibling;
-    len + 1
-}
-
-/// Keeps the sibling after a node that a walk visits, if there is one. Returns how many are kept then.
+/// Keeps the sibling after a node that a walk visits, if there is one.
 #[inline(always)]
 fn keep_sibling<L: Layout, const SLOTS: usize, A: Allocator>(
     table: &Table<L, SLOTS, A>,
     node: usize,
     depth: usize,
     label: u8,
-    kept: &mut [PendingSibling; ROOM],
-    len: u32,
-) -> u32
+    siblings: &mut PendingSiblings,
+)
     requires well_formed { IsWellFormed SLOTS (fields table.now) }
     requires at { (start : List ℕ) × IsBelow (cells table.now) start depth node }
     requires deep { 0 < depth }
     requires label { label ≡ below (cells table.now) (owner_of (cells table.now) node) node }
-    requires kept { AreKept (fields table.now) kept.old len (depth - 1) (owner_of (cells table.now) node) }
-    ensures { AreKept (fields table.now) kept.new result depth node }
+    requires kept { IsPending (fields table.now) siblings.old (depth - 1) (owner_of (cells table.now) node) }
+    ensures { IsPending (fields table.now) siblings.new depth node }
 {
     let next = next_sibling(table, node);
-    // A branch, and no number added to how many there are: otherwise the next slot would wait for what is read here.
-    if next == 0 {
-        return len;
+    // A branch, and no number added to the length: otherwise the next slot would wait for what is read here.
+    if next != 0 {
+        let base = node ^ usize::from(label);
+        siblings.push(PendingSibling {
+            slot: (base ^ usize::from(next)) as u32,
+            depth: depth as u32,
+            label: next,
+        });
     }
-    let base = node ^ usize::from(label);
-    let sibling = PendingSibling {
-        slot: (base ^ usize::from(next)) as u32,
-        depth: depth as u32,
-        label: next,
-    };
-    put(kept, len, sibling)
-}
-
-/// Takes the nearest sibling that is kept one step down, to its first child, if it has one and so no number. Returns how many are kept
-/// then. A walk that goes down a long way elsewhere does this at each step: so it waits for both nodes at once, and when it comes to the
-/// sibling a part of the way is done.
-#[inline(always)]
-fn step_ahead<L: Layout, const SLOTS: usize, A: Allocator>(
-    table: &Table<L, SLOTS, A>,
-    node: usize,
-    depth: usize,
-    kept: &mut [PendingSibling; ROOM],
-    len: u32,
-) -> u32
-    requires well_formed { IsWellFormed SLOTS (fields table.now) }
-    requires at { (start : List ℕ) × IsBelow (cells table.now) start depth node }
-    requires kept { AreKept (fields table.now) kept.old len depth node }
-    ensures { AreKept (fields table.now) kept.new result depth node }
-{
-    if len == 0 {
-        return 0;
-    }
-    let nearest = kept[len as usize - 1];
-    let slot = nearest.slot as usize;
-    let label = table.child(slot);
-    if label == 0 {
-        return len;
-    }
-    let child = PendingSibling {
-        slot: table.slot_below(slot, label) as u32,
-        depth: nearest.depth + 1,
-        label,
-    };
-    let farther = keep_sibling(
-        table,
-        slot,
-        nearest.depth as usize,
-        nearest.label,
-        kept,
-        len - 1,
-    );
-    put(kept, farther, child)
 }
 
 /// Returns where a walk goes on that has been at a node whose first child has this label: to that child, or otherwise to the
@@ -240,81 +167,6 @@ fn place_with_pending<L: Layout, const SLOTS: usize, A: Allocator>(
     next_after(table, node, depth)
 }
 
-/// Does what `numbered_down` does, and at each step takes the nearest sibling a step down too.
-// By itself, so that short ways have their loop in registers.
-#[inline(never)]
-fn numbered_down_tail<L: Layout, const SLOTS: usize, A: Allocator>(
-    table: &Table<L, SLOTS, A>,
-    node: usize,
-    depth: usize,
-    kept: &mut [PendingSibling; ROOM],
-    len: u32,
-) -> (Numbered, u32)
-    requires well_formed { IsWellFormed SLOTS (fields table.now) }
-    requires below { (start : List ℕ) × IsBelow (cells table.now) start depth node }
-    requires not_root { node ≢ 0 }
-    requires kept { AreKept (fields table.now) kept.old len depth node }
-    ensures found { FindsNumber (fields table.now) depth node result.0 }
-    ensures kept { AreKept (fields table.now) kept.new result.1 result.0.depth result.0.slot }
-{
-    let mut count = len;
-    let mut slot = node;
-    let mut steps = depth;
-    let mut label = table.child(slot);
-    while label != 0 {
-        slot = table.slot_below(slot, label);
-        steps += 1;
-        let more = keep_sibling(table, slot, steps, label, kept, count);
-        count = step_ahead(table, slot, steps, kept, more);
-        label = table.child(slot);
-    }
-    let found = Numbered {
-        slot,
-        depth: steps,
-        number: number_held(table, slot),
-    };
-    (found, count)
-}
-
-/// Does what `numbered_from` does, and keeps the siblings after the nodes on the way down. Returns how many are kept then, too. From the
-/// depth `tail` on the nearest sibling goes along.
-#[inline(always)]
-fn numbered_down<L: Layout, const SLOTS: usize, A: Allocator>(
-    table: &Table<L, SLOTS, A>,
-    node: usize,
-    depth: usize,
-    kept: &mut [PendingSibling; ROOM],
-    len: u32,
-    tail: usize,
-) -> (Numbered, u32)
-    requires well_formed { IsWellFormed SLOTS (fields table.now) }
-    requires below { (start : List ℕ) × IsBelow (cells table.now) start depth node }
-    requires not_root { node ≢ 0 }
-    requires kept { AreKept (fields table.now) kept.old len depth node }
-    ensures found { FindsNumber (fields table.now) depth node result.0 }
-    ensures kept { AreKept (fields table.now) kept.new result.1 result.0.depth result.0.slot }
-{
-    let mut count = len;
-    let mut slot = node;
-    let mut steps = depth;
-    let mut label = table.child(slot);
-    while label != 0 {
-        if steps == tail {
-            return numbered_down_tail(table, slot, steps, kept, count);
-        }
-        slot = table.slot_below(slot, label);
-        steps += 1;
-        count = keep_sibling(table, slot, steps, label, kept, count);
-        label = table.child(slot);
-    }
-    let found = Numbered {
-        slot,
-        depth: steps,
-        number: number_held(table, slot),
-    };
-    (found, count)
-}
-
 /// Does what `numbered_from` does, and keeps the siblings after the nodes on the way down.
 #[inline(always)]
 fn numbered_from_with_pending<L: Layout, const SLOTS: usize, A: Allocator>(
@@ -330,47 +182,20 @@ fn numbered_from_with_pending<L: Layout, const SLOTS: usize, A: Allocator>(
     ensures found { FindsNumber (fields table.now) depth node result }
     ensures kept { IsPending (fields table.now) siblings.new result.depth result.slot }
 {
-    let (found, len) = numbered_down(
-        table,
-        node,
-        depth,
-        &mut siblings.kept,
-        siblings.len,
-        usize::MAX,
-    );
-    siblings.len = len;
-    found
-}
-
-/// Does what `numbered_from_with_pending` does from a place that a walk has come to, and keeps the sibling after that node too. From the
-/// depth `tail` on the nearest sibling goes along.
-#[inline(always)]
-fn numbered_at_place<L: Layout, const SLOTS: usize, A: Allocator>(
-    table: &Table<L, SLOTS, A>,
-    place: Place,
-    siblings: &mut PendingSiblings,
-    tail: usize,
-) -> Numbered
-    requires well_formed { IsWellFormed SLOTS (fields table.now) }
-    requires below { (start : List ℕ) × IsBelow (cells table.now) start place.depth place.slot }
-    requires deep { 0 < place.depth }
-    requires label { place.label ≡ below (cells table.now) (owner_of (cells table.now) place.slot) place.slot }
-    requires kept { IsPending (fields table.now) siblings.old (place.depth - 1) (owner_of (cells table.now) place.slot) }
-    ensures found { FindsNumber (fields table.now) place.depth place.slot result }
-    ensures kept { IsPending (fields table.now) siblings.new result.depth result.slot }
-{
-    let kept = &mut siblings.kept;
-    let more = keep_sibling(
-        table,
-        place.slot,
-        place.depth,
-        place.label,
-        kept,
-        siblings.len,
-    );
-    let (found, len) = numbered_down(table, place.slot, place.depth, kept, more, tail);
-    siblings.len = len;
-    found
+    let mut slot = node;
+    let mut steps = depth;
+    let mut label = table.child(slot);
+    while label != 0 {
+        slot = table.slot_below(slot, label);
+        steps += 1;
+        keep_sibling(table, slot, steps, label, siblings);
+        label = table.child(slot);
+    }
+    Numbered {
+        slot,
+        depth: steps,
+        number: number_held(table, slot),
+    }
 }
 
 /// Does what `numbered_after` does, for a walk that keeps the siblings that it has still to visit.
@@ -392,8 +217,8 @@ pub fn numbered_after_with_pending<L: Layout, const SLOTS: usize, A: Allocator>(
 {
     let label = label_after_number(table, node);
     let place = place_with_pending(table, node, depth, label, siblings)?;
-    let tail = siblings.tail_below(place.depth);
-    Some(numbered_at_place(table, place, siblings, tail))
+    keep_sibling(table, place.slot, place.depth, place.label, siblings);
+    Some(numbered_from_with_pending(table, place.slot, place.depth, siblings))
 }
 
 /// Does what `first_numbered` does, for a walk that keeps the siblings that it has still to visit. What was kept before is
@@ -420,5 +245,6 @@ pub fn first_with_pending<L: Layout, const SLOTS: usize, A: Allocator>(
         return None;
     }
     let place = child_under(table, node, label, 1);
-    Some(numbered_at_place(table, place, siblings, usize::MAX))
+    keep_sibling(table, place.slot, place.depth, place.label, siblings);
+    Some(numbered_from_with_pending(table, place.slot, place.depth, siblings))
 }

@@ -46,13 +46,6 @@ put_free kept n sibling inside room = elim (eqb_tells (length (nearest_first kep
   | inr e ↦ nearest_put kept n sibling inside ∙ ap (λ b. sibling ∷ cond b [] (nearest_first kept n)) (sym e.0)
 ]
 
--- the last one is the nearest
-pub nearest_last : (kept : List PendingSibling) (n : ℕ) → (n ≡ 0 → ⊥) → nearest_first kept n ≡ get_or kept (n - 1) (record { slot = 0; depth = 0; label = 0 }) ∷ nearest_first kept (n - 1)
-nearest_last kept zero some = absurd (some refl)
-nearest_last kept (suc n) some =
-    let less : n ≡ suc n - 1 = omega arith in
-    ap (λ m. get_or kept m (record { slot = 0; depth = 0; label = 0 }) ∷ nearest_first kept m) less
-
 -- those that are kept behind a nearer one are right where all of them were
 pub kept_less : (T : Fields) (siblings : List PendingSibling) (n s : ℕ) → IsPending T siblings n s → IsPending T (kept_behind siblings) n s
 kept_less T siblings n s h = by_test (length siblings == 16)
@@ -66,7 +59,7 @@ kept_less T siblings n s h = by_test (length siblings == 16)
 pub base_back : (T : Cells) (p s : ℕ) → bit_xor s (below T p s) ≡ base_of T p
 base_back T p s = ap (bit_xor s) (xor_comm (base_of T p) s) ∙ xor_back s (base_of T p)
 
-pub label_back : (T : Cells) (p c l : ℕ) → owner_of T c ≡ p → c ≡ below T p l → l ≡ below T (owner_of T c) c
+label_back : (T : Cells) (p c l : ℕ) → owner_of T c ≡ p → c ≡ below T p l → l ≡ below T (owner_of T c) c
 label_back T p c l owner slot = sym (ap (λ x. below T x c) owner ∙ ap (below T p) slot ∙ xor_back (base_of T p) l)
 
 abbrev end_of : ℕ → List ℕ → ℕ

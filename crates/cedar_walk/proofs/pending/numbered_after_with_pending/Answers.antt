@@ -1,7 +1,7 @@
-use Rattle.std.proofs.Common.{◌-◌, ◌++◌, rules, subst, sym}
-use Rattle.cedar_table.specs.Table.Views.{cells, fields}
-use Rattle.cedar_walk.specs.Pending.{IsPending}
-use Rattle.cedar_walk.specs.Visits.{ComesToNumber, owner_of, path_to}
+use Rattle.std.proofs.Common.{◌++◌, rules, subst, sym}
+use Rattle.cedar_table.specs.Table.Views.{fields}
+use Rattle.cedar_walk.specs.Visits.{ComesToNumber, path_to}
+use Rattle.cedar_walk.proofs.WalkLemmas.NextNumber.{deep_not_root}
 use Rattle.cedar_walk.proofs.pending.numbered_after_with_pending.Goals as goal
 
 pub label_after_number-label-requires : goal.label_after_number-label-requires
@@ -12,20 +12,26 @@ label_after_number-label-requires g c =
 pub place_with_pending-requires : goal.place_with_pending-requires
 place_with_pending-requires g c = (search rules, (c.requires.well_formed, ((c.requires.below.0, c.requires.below.1.0), (c.label_after_number-label.ensures, c.requires.kept))))
 
-pub numbered_at_place-requires : goal.numbered_at_place-requires
-numbered_at_place-requires g c =
+pub keep_sibling-requires : goal.keep_sibling-requires
+keep_sibling-requires g c =
     let start = c.requires.below.0 in
-    let T = c.args.table.now in
+    let on = c.in_ok-place.ensures in
+    (search rules, (c.requires.well_formed, ((start, (on.leads.comes start c.requires.below.1.0).below), (on.leads.deep, (on.leads.last, on.kept)))))
+
+pub numbered_from_with_pending-requires : goal.numbered_from_with_pending-requires
+numbered_from_with_pending-requires g c =
+    let T = fields c.args.table.now in
+    let start = c.requires.below.0 in
     let place = c.in_ok-place.place in
     let on = c.in_ok-place.ensures in
-    let kept = subst (λ xs. IsPending (fields T) xs (place.depth - 1) (owner_of (cells T) place.slot)) (sym c.tail_below-tail.ensures) on.kept in
-    (search rules, (c.requires.well_formed, ((start, (on.leads.comes start c.requires.below.1.0).below), (on.leads.deep, (on.leads.last, kept)))))
+    let comes = on.leads.comes start c.requires.below.1.0 in
+    (search rules, (c.requires.well_formed, ((start, comes.below), (deep_not_root _ T c.requires.well_formed start place.depth place.slot comes.below on.leads.deep, c.keep_sibling.ensures))))
 
 pub returns-clause-found : goal.returns-clause-found
 returns-clause-found g c = λ start at.
     let T = fields c.args.table.now in
     let comes = c.in_ok-place.ensures.leads.comes start at in
-    subst (λ left. ComesToNumber T start left c.numbered_at_place.result) (sym comes.entries) (c.numbered_at_place.ensures.found start comes.below)
+    subst (λ left. ComesToNumber T start left c.numbered_from_with_pending.result) (sym comes.entries) (c.numbered_from_with_pending.ensures.found start comes.below)
 
 pub returns-clause-kept : goal.returns-clause-kept
-returns-clause-kept g c = c.numbered_at_place.ensures.kept
+returns-clause-kept g c = c.numbered_from_with_pending.ensures.kept

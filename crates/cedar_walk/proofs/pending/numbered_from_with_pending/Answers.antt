@@ -1,10 +1,96 @@
-use Rattle.std.proofs.Common.{rules, sym, subst}
-use Rattle.cedar_table.specs.Table.Views.{fields}
-use Rattle.cedar_walk.specs.Pending.{IsPending}
+use Rattle.std.proofs.Common.{◌+◌, ◌<◌, ◌≤◌, ◌++◌, FitsSigned, Some, arith, refl, rules, ap, subst, sym, w32, ◌∙◌}
+use Rattle.std.proofs.lemmas.Int.{to_z-of_z}
+use Rattle.cedar_table.specs.Table.Views.{cells, fields}
+use Rattle.cedar_model.specs.Table.TableFields.{size_of}
+use Rattle.cedar_model.specs.Meaning.Family.{below}
+use Rattle.cedar_model.proofs.MeaningLemmas.SearchStep.{never_nothing}
+use Rattle.cedar_walk.specs.declared.visits.Place.{Place}
+use Rattle.cedar_walk.specs.Visits.{path_to}
+use Rattle.cedar_walk.proofs.WalkLemmas.NextNode.{named_first, node_inside, node_stands, short_way}
+use Rattle.cedar_walk.proofs.WalkLemmas.NextNumber.{Descended, descended_on, descended_to, leaf_number}
+use Rattle.cedar_walk.proofs.WalkLemmas.Waiting.{leads_down}
 use Rattle.cedar_walk.proofs.pending.numbered_from_with_pending.Goals as goal
 
-pub numbered_down-len-requires : goal.numbered_down-len-requires
-numbered_down-len-requires g c =
+pub child-label-requires : goal.child-label-requires
+child-label-requires g c =
     let T = c.args.table.now in
-    let kept = subst (λ xs. IsPending (fields T) xs c.args.depth c.args.node) (sym c.siblings.view_is) c.requires.kept in
-    (search rules, (c.requires.well_formed, (c.requires.below, (c.requires.not_root, (c.siblings.invariant, kept)))))
+    let start = c.requires.below.0 in
+    let inside : c.args.node < size_of (fields T) = node_inside _ (fields T) c.requires.well_formed (start ++ path_to (fields T) c.args.depth c.args.node) c.args.node c.requires.below.1 in
+    (search rules, omega (arith, inside, T.shaped.blocks.active_in))
+
+pub slot_below-slot-requires : goal.slot_below-slot-requires
+slot_below-slot-requires g c =
+    let T = c.args.table.now in
+    let k = c.requires.well_formed in
+    let start = c.requires.below.0 in
+    let w = start ++ path_to (fields T) c.loop-label.steps c.loop-label.slot in
+    let here = c.loop-label.invariant.down start c.requires.below.1 in
+    (search rules, (node_inside _ (fields T) k w c.loop-label.slot here.below, never_nothing (size_of (fields T)) (cells T) c.loop-label.slot _ (node_stands _ (fields T) k w c.loop-label.slot here.below)))
+
+pub overflow_add-steps : goal.overflow_add-steps
+overflow_add-steps g c =
+    let T = c.args.table.now in
+    let here = c.loop-label.invariant.down c.requires.below.0 c.requires.below.1 in
+    let short : c.loop-label.steps ≤ size_of (fields T) = short_way _ (fields T) c.requires.well_formed c.requires.below.0 c.loop-label.steps c.loop-label.slot here.below in
+    omega (arith, short, T.shaped.blocks.active_in, T.shaped.blocks.fits)
+
+pub keep_sibling-requires : goal.keep_sibling-requires
+keep_sibling-requires g c =
+    let T = c.args.table.now in
+    let k = c.requires.well_formed in
+    let start = c.requires.below.0 in
+    let here = c.loop-label.invariant.down start c.requires.below.1 in
+    let place : Place = record { slot = c.slot_below-slot.result; depth = c.loop-label.steps + 1; label = c.loop-label.label } in
+    let on = leads_down _ (fields T) k c.loop-label.steps c.loop-label.slot c.loop-label.label place c.loop-label.siblings (start, here.below)
+    (λ w at. c.loop-label.invariant.first ∙ named_first _ (fields T) k w c.loop-label.slot at (λ z. c.loop-label-test.true (c.loop-label.invariant.first ∙ z))) c.loop-label-test.true
+    c.slot_below-slot.ensures refl refl c.loop-label.invariant.kept in
+    (search rules, (k, ((start, (on.leads.comes start here.below).below), (on.leads.deep, (on.leads.last, on.kept)))))
+
+pub child-label-requires-in-loop-label : goal.child-label-requires-in-loop-label
+child-label-requires-in-loop-label g c =
+    let T = c.args.table.now in
+    let k = c.requires.well_formed in
+    let start = c.requires.below.0 in
+    let on = descended_on _ (fields T) k start c.args.depth c.args.node c.loop-label.steps c.loop-label.slot c.loop-label.label (c.loop-label.invariant.down start c.requires.below.1) c.loop-label.invariant.first c.loop-label-test.true in
+    let inside : below (cells T) c.loop-label.slot c.loop-label.label < size_of (fields T) = node_inside _ (fields T) k (start ++ path_to (fields T) (c.loop-label.steps + 1) (below (cells T) c.loop-label.slot c.loop-label.label)) _ on.below in
+    (search rules, omega (arith, inside, c.slot_below-slot.ensures, T.shaped.blocks.active_in))
+
+pub loop-label-smaller : goal.loop-label-smaller
+loop-label-smaller g c =
+    let T = c.args.table.now in
+    let k = c.requires.well_formed in
+    let start = c.requires.below.0 in
+    let on = descended_on _ (fields T) k start c.args.depth c.args.node c.loop-label.steps c.loop-label.slot c.loop-label.label (c.loop-label.invariant.down start c.requires.below.1) c.loop-label.invariant.first c.loop-label-test.true in
+    let short : c.loop-label.steps + 1 ≤ size_of (fields T) = short_way _ (fields T) k start (c.loop-label.steps + 1) _ on.below in
+    omega (arith, short)
+
+pub loop-label-preserved : goal.loop-label-preserved
+loop-label-preserved g c =
+    let T = c.args.table.now in
+    record {
+      first = c.child-label-in-loop-label.ensures;
+      down = λ start at. subst (Descended (fields T) start c.args.depth c.args.node (c.loop-label.steps + 1)) (sym c.slot_below-slot.ensures)
+          (descended_on _ (fields T) c.requires.well_formed start c.args.depth c.args.node c.loop-label.steps c.loop-label.slot c.loop-label.label (c.loop-label.invariant.down start at) c.loop-label.invariant.first c.loop-label-test.true);
+      kept = c.keep_sibling.ensures;
+    }
+
+pub number_held-requires : goal.number_held-requires
+number_held-requires g c =
+    let T = c.args.table.now in
+    let k = c.requires.well_formed in
+    let start = c.requires.below.0 in
+    let w = start ++ path_to (fields T) c.loop-label.steps c.loop-label.slot in
+    let here = c.loop-label.invariant.down start c.requires.below.1 in
+    let held = leaf_number _ (fields T) k w c.loop-label.slot here.below here.not_root (sym c.loop-label.invariant.first ∙ c.loop-label-test.false) in
+    (search rules, (node_inside _ (fields T) k w c.loop-label.slot here.below, (_, held.0, node_stands _ (fields T) k w c.loop-label.slot here.below, held.1)))
+
+pub returns-clause-found : goal.returns-clause-found
+returns-clause-found g c = λ start at.
+    let T = c.args.table.now in
+    let here = c.loop-label.invariant.down start at in
+    let fits : FitsSigned w32 c.number_held.result = search rules in
+    descended_to (fields T) start c.args.depth c.args.node _ here
+    (c.number_held.ensures _ (node_stands _ (fields T) c.requires.well_formed (start ++ path_to (fields T) c.loop-label.steps c.loop-label.slot) c.loop-label.slot here.below) ∙ ap Some (sym (to_z-of_z w32 c.number_held.result fits)))
+
+pub returns-clause-kept : goal.returns-clause-kept
+returns-clause-kept g c = c.loop-label.invariant.kept
