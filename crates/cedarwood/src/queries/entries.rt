@@ -168,7 +168,7 @@ fn next_copied<T: Walked, A: Allocator + Copy>(
     let Some((found, number)) = next_entry(trie, slot, key)? else {
         return Ok(None);
     };
-    let mut copy = Vec::with_capacity(*key.allocator(), key.len())?;
+    let mut copy = Vec::new(*key.allocator());
     copy.extend_from_slice(key)?;
     Ok(Some((found, number, copy)))
 }
