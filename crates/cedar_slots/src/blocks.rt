@@ -114,7 +114,7 @@ impl Counts {
     }
 
     /// Returns whether these counts name the list that the block's counts before named, as far as that shows without a list: both
-    /// leave the block several free slots, and it was closed by its trials before if it is closed by them now.
+    /// leave the block several free slots, and it is closed by its trials now exactly if it was before.
     fn keeps_list(self, before: Counts, max_trial: i32) -> bool
         ensures { IsTrue result → kind_of max_trial self ≡ kind_of max_trial before }
     {

@@ -99,7 +99,8 @@ fn is_new_leaf<L: Layout, const SLOTS: usize, A: Allocator>(
     node != 0 && table.base_of(node) == 0
 }
 
-/// Returns whether a slot that the base of a node below the root has for a label is held. A leaf may have no base yet.
+/// Returns whether a slot that the base of a node has for a label, and that the node doesn't own, is held. A base of 0 is the root's:
+/// block 0 is its own, and no other node holds a slot there.
 fn is_taken<L: Layout, const SLOTS: usize, A: Allocator>(
     table: &Table<L, SLOTS, A>,
     node: usize,
@@ -153,6 +154,9 @@ fn put_over<L: Layout, const SLOTS: usize, A: Allocator>(
 /// Goes from a node to its child under a label, and returns the child's slot. If there is no such child, it is added
 /// as a leaf without number: at its ascending place if the table is ordered, and first if not. If memory or
 /// slots are lacking, all slots are as before.
+///
+/// `walk_in` comes here only where there is no such child, since `known_front` has gone through those that there are. The call is one step
+/// of any walk all the same, and its contract says both.
 pub(crate) fn follow_or_add<L: Layout, const SLOTS: usize, A: Allocator>(
     table: &mut Table<L, SLOTS, A>,
     node: usize,
