@@ -34,6 +34,45 @@ fn known_front<L: Layout, const SLOTS: usize, A: Allocator>(
     (node, key.len())
 }
 
+/// Adds the nodes that a key still lacks behind `front`, to which its first `known` bytes lead, as bare leaves, and returns the slot of the
+/// key's node. If memory or slots are lacking, it removes the leaves again.
+// By itself, so that an update over nodes that are there has all that its loop needs in registers.
+#[inline(never)]
+fn add_rest<L: Layout, const SLOTS: usize, A: Allocator>(
+    table: &mut Table<L, SLOTS, A>,
+    key: &[u8],
+    front: usize,
+    known: usize,
+) -> Result<usize, Shortage>
+    requires well_formed { IsWellFormed SLOTS (fields table.old) }
+    requires key { IsKey key.now }
+    requires way { HasWay (cells table.old) 0 key.now }
+    requires more { known < length key.now }
+    requires front { Walked SLOTS (fields table.old) (fields table.old) key.now (take known key.now) (drop known key.now) front }
+    requires ends { (cells table.old).check (below (cells table.old) front (get_or key.now known 0)) ≢ pos front }
+    ensures walked { IfOk result (Walked SLOTS (fields table.old) (fields table.new) key.now key.now []) }
+    ensures refused { IfErr result (TakenBack SLOTS (fields table.old) (fields table.new) key.now) }
+{
+    let mut node = match follow_or_add(table, front, key[known]) {
+        Ok(child) => child,
+        Err(error) => {
+            trim(table, front);
+            return Err(error);
+        }
+    };
+    // From here on each node is a leaf just made.
+    for index in known + 1..key.len() {
+        match extend_leaf(table, node, key[index]) {
+            Ok(child) => node = child,
+            Err(error) => {
+                trim(table, node);
+                return Err(error);
+            }
+        }
+    }
+    Ok(node)
+}
+
 /// Follows a key from the root, adds the missing nodes as bare leaves, and returns the slot of the key's node. If memory
 /// or slots are lacking, it removes the leaves again.
 fn walk_in<L: Layout, const SLOTS: usize, A: Allocator>(
@@ -50,24 +89,7 @@ fn walk_in<L: Layout, const SLOTS: usize, A: Allocator>(
     if length == key.len() {
         return Ok(front);
     }
-    let mut node = match follow_or_add(table, front, key[length]) {
-        Ok(child) => child,
-        Err(error) => {
-            trim(table, front);
-            return Err(error);
-        }
-    };
-    // From here on each node is a leaf just made.
-    for index in length + 1..key.len() {
-        match extend_leaf(table, node, key[index]) {
-            Ok(child) => node = child,
-            Err(error) => {
-                trim(table, node);
-                return Err(error);
-            }
-        }
-    }
-    Ok(node)
+    add_rest(table, key, front, length)
 }
 
 /// Puts the number `value` at a key, none of whose proper prefixes keeps its number in its node's own base field. Returns the

@@ -155,7 +155,7 @@ fn put_over<L: Layout, const SLOTS: usize, A: Allocator>(
 /// as a leaf without number: at its ascending place if the table is ordered, and first if not. If memory or
 /// slots are lacking, all slots are as before.
 ///
-/// `walk_in` comes here only where there is no such child, since `known_front` has gone through those that there are. The call is one step
+/// `add_rest` comes here only where there is no such child, since `known_front` has gone through those that there are. The call is one step
 /// of any walk all the same, and its contract says both.
 pub(crate) fn follow_or_add<L: Layout, const SLOTS: usize, A: Allocator>(
     table: &mut Table<L, SLOTS, A>,

@@ -2,7 +2,7 @@ use Rattle.std.proofs.Common.{drop, take, ◌≡◌, ◌≢◌}
 use Rattle.cedar_model.specs.declared.layout.Stored.TheVariants.{AtBase}
 use Rattle.cedar_model.specs.Edit.KeyWalk.{Walked}
 use Rattle.cedar_table.specs.Table.Views.{cells, fields}
-use Rattle.cedar_edit.proofs.keys.put.walk_in.Given as goal
+use Rattle.cedar_edit.proofs.keys.put.add_rest.Given as goal
 
 -- the node is a leaf that was just made
 abbrev pub invariant-loop-index : goal.invariant-loop-index
