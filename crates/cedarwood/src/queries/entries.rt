@@ -4,7 +4,6 @@ ghost use Rattle.std.specs.Prelude.{◌<◌, ◌↔◌, ◌∷◌, ◌≡◌, []
 ghost use Rattle.cedarwood.specs.Words.{entries_from, Entry, GoesToCopied, GoesToEntry, IsEntriesPlace, IsEntryError, IsWellFormed, IsWithinCount, item_count, Memory, tree_of, UpTo, walk};
 
 use crate::CedarError;
-use crate::queries::ranged::write_key;
 use crate::queries::walked::Walked;
 use std::alloc::{AllocError, Allocator};
 use std::iter::FusedIterator;
@@ -43,11 +42,16 @@ fn first_entry<T: Walked, A: Allocator>(
     requires place { IsEntriesPlace (T.shown trie.now) key.old.items 0 }
     ensures { IfOk result (GoesToEntry (T.shown trie.now) 0 key.old.items key.new.items) }
 {
-    let Some(next) = trie.first_numbered(&[]) else {
-        return Ok(None);
-    };
-    write_key(trie, &[], next.slot, next.depth, key)?;
-    Ok(Some((next.slot, next.number)))
+    let mut at = 0;
+    while let Some(next) = trie.next_node(at, key.len()) {
+        key.truncate(next.depth - 1);
+        key.push(next.label)?;
+        at = next.slot;
+        if let Some(number) = next.number {
+            return Ok(Some((at, number)));
+        }
+    }
+    Ok(None)
 }
 
 /// Goes on from a node to the next one that has a number: `key` is the path of the one, and becomes that of the other.
