@@ -77,7 +77,7 @@ def arguments():
     parser.add_argument("--python", metavar="INTERPRETER", help="measure the package for Python too, by python/compare.py in this interpreter")
     parser.add_argument("--offline", action="store_true", help="download no packages")
     parser.add_argument("--words", type=Path, metavar="LIST", help="take the first word of each line of LIST as the real words")
-    parser.add_argument("--as-built", action="store_true", help="build neither library nor program: after ./gate and ./build-c --after-gate")
+    parser.add_argument("--as-built", action="store_true", help="build neither library nor program: after ./gate and ./build-c")
     parser.add_argument("--only", metavar="SUBJECTS", help="measure these subjects alone, as 'here,judy'")
     parser.add_argument("--store", action="store_true", help="put the results into benches/results, and make page and pictures anew")
     return parser.parse_args()

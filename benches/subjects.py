@@ -69,7 +69,7 @@ def here_c(out, is_built):
         print("measure: ./build-c proves and builds the library first", flush=True)
         subprocess.run([str(TOP / "build-c")], check=True)
     if not library.exists():
-        raise Missing(f"{library.relative_to(TOP)} isn't there: ./build-c --after-gate builds it")
+        raise Missing(f"{library.relative_to(TOP)} isn't there: ./build-c builds it")
     program = compiled(out, "here_c", "cedar.cpp", "-I", TOP / "include", library)
     rate = out / "bin" / "rate"
     c = ["gcc", "-std=c11", "-O2", "-pthread", "-I", TOP / "include", "-o", rate, TOP / "tests" / "c" / "rate.c", library]
