@@ -289,8 +289,9 @@ typedef struct cedar_found {
  *
  * found[0] and on say where each key begins among the bytes, how many bytes it has, and its value; the other places keep their content. The
  * keys are written to bytes[0] and on, one after another, and the other bytes may be written to as well. *count is the number of entries
- * written: as many as there was room for, and 0 only if none is left or `places` is 0. A page costs a look-up or two and its own entries,
- * and allocates nothing. The dictionary may be changed between two pages.
+ * written: as many as there was room for. With a place or more, 0 says that no key with the prefix comes next: if `behind` has no byte, or
+ * begins with the prefix, none is left then. A page costs a look-up or two and its own entries, and allocates nothing. The dictionary may
+ * be changed between two pages.
  *
  * Returns CEDAR_OK; CEDAR_IS_CLOSED; CEDAR_NOT_ASCENDING if `behind` has a byte and labels don't ascend; or CEDAR_NO_ROOM if the next key
  * has more than `room` bytes: then *needed is how many. After the last key with the prefix that next key may be one without it. After an
