@@ -293,9 +293,10 @@ typedef struct cedar_found {
  * begins with the prefix, none is left then. A page costs a look-up or two and its own entries, and allocates nothing. The dictionary may
  * be changed between two pages.
  *
- * Returns CEDAR_OK; CEDAR_IS_CLOSED; CEDAR_NOT_ASCENDING if `behind` has a byte and labels don't ascend; or CEDAR_NO_ROOM if the next key
- * has more than `room` bytes: then *needed is how many. After the last key with the prefix that next key may be one without it. After an
- * error nothing else is written. */
+ * Returns CEDAR_OK; CEDAR_IS_CLOSED; CEDAR_NOT_ASCENDING if `behind` has a byte and labels don't ascend; or CEDAR_NO_ROOM if there is a
+ * place and the next key has more than `room` bytes: then *needed is how many. That next key may be one without the prefix, behind the
+ * last one with it or before the first: so CEDAR_NO_ROOM may come where nothing that is wanted is left. After an error nothing else is
+ * written. */
 uint32_t cedar_entries_from(const cedar_dictionary *d, const uint8_t *prefix, size_t prefix_length, const uint8_t *behind,
                             size_t behind_length, cedar_found *found, size_t places, uint8_t *bytes, size_t room, size_t *count,
                             size_t *needed);

@@ -79,7 +79,7 @@ fn answer_script(rt: &HostRuntime, reduced: bool, arguments: &[&str]) -> ExitCod
     ));
     let mut writer = Watched::new(output);
     let mut errors = Watched::new(messages(rt, reduced));
-    let status = run_program::<1073741824, _, _, _, _, _>(
+    let status = run_program(
         rt.alloc(),
         rt,
         &asked,

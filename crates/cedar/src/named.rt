@@ -6,7 +6,7 @@ use std::io::Write;
 /// What the messages of the program begin with, and what they begin with in the name of `cedar-reduced`.
 const NAMES: [(&[u8], &[u8]); 2] = [
     (b"cedar: ", b"cedar-reduced: "),
-    (b"usage: cedar [--reduced]", b"usage: cedar-reduced"),
+    (b"usage: cedar ", b"usage: cedar-reduced "),
 ];
 
 /// A writer of messages, each of which begins with a call of its own.

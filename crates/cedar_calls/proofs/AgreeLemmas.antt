@@ -1,7 +1,7 @@
 -- That two runs of the same calls agree.
 use Rattle.std.proofs.Common.{◌≡◌, ◌⊎◌, inl, inr, Bool, true, ℕ, List, [], ◌∷◌, ◌++◌, length, map, take, Option, Some, None, is_some, Ok, Err, IfOk, refl, ap, sym, subst, ◌∙◌, append-nil, slice_set}
 use Rattle.std.specs.Prelude.{MatchOption}
-use Rattle.std.specs.List.{slice_get, AllByRecursion}
+use Rattle.std.specs.List.{remove, slice_get, AllByRecursion}
 use Rattle.std.specs.declared.result.Result.{Result}
 use Rattle.std.proofs.lemmas.List.{map-append}
 use Rattle.cedar_tree.specs.Tree.{Tree, empty_tree, number_at}
@@ -117,6 +117,8 @@ call_alike b ss (call.Unsorted x p) (call.Unsorted y q) h loadless = (
 )
 call_alike b ss (call.Clone i) (call.Clone j) h loadless =
     (ap (λ k. at_state (slice_get ss k) missing (λ _. done)) h, ap (λ k. at_state (slice_get ss k) ss (λ s. ss ++ s ∷ [])) h, tt)
+call_alike b ss (call.Drop i) (call.Drop j) h loadless =
+    (ap (λ k. at_state (slice_get ss k) missing (λ _. done)) h, ap (λ k. at_state (slice_get ss k) ss (λ _. remove ss k)) h, tt)
 call_alike b ss (call.Change i c) (call.Change j d) h loadless = (
   at_alike (slice_get ss i) missing (λ s. change_says s c) (λ s. change_says s d) (λ s. (change_alike s c d h.1).0) ∙ ap (λ k. at_state (slice_get ss k) missing (λ s. change_says s d)) h.0,
   at_alike (slice_get ss i) ss (λ s. slice_set ss i (changed_state s c)) (λ s. slice_set ss i (changed_state s d)) (λ s. ap (slice_set ss i) (change_alike s c d h.1).1)

@@ -1,9 +1,12 @@
 -- Results of some keys, for each of which there was a place.
-use Rattle.std.proofs.Common.{◌≡◌, ℕ, suc, List, [], ◌∷◌, ◌++◌, drop, length, map, take, ap, sym, refl, ◌∙◌, append-nil, arith}
+use Rattle.std.proofs.Common.{◌≡◌, ◌<◌, ℕ, suc, List, [], ◌∷◌, ◌++◌, drop, length, map, take, Err, ap, sym, refl, ◌∙◌, append-nil, arith}
 use Rattle.std.proofs.lemmas.List.{drop_all, length-map}
 use Rattle.std.proofs.Math.Seq.{take-length}
 use Rattle.cedar_tree.specs.State.{State, erased}
 use Rattle.cedarwood.specs.Batches.{held_in_turn}
+use Rattle.cedarwood.specs.Dictionary.{Dictionary}
+use Rattle.cedarwood.specs.declared.error.CedarError.TheVariants.{Memory}
+use Rattle.cedar_calls.specs.Changes.{IsErasedBatch}
 
 -- where there are as many places as results, nothing but these stands in them
 pub each_filled : {Y : Type 0} (n : ℕ) (before after held results : List Y) → length before ≡ n → length held ≡ n → length results ≡ n
@@ -30,3 +33,7 @@ all_filled f keys n before after held count room size h =
 pub length-held_in_turn : (s : State) (keys : List (List ℕ)) → length (held_in_turn s keys) ≡ length keys
 length-held_in_turn s [] = refl
 length-held_in_turn s (key ∷ keys) = ap suc (length-held_in_turn (erased s key) keys)
+
+-- nothing changes if there is no memory to say what was held
+pub none_erased : {A : Type 0} (d : Dictionary) (keys : List (List ℕ)) → 0 < length keys → IsErasedBatch {A = A} d d keys (Err Memory)
+none_erased d keys some = record { erasures = tt; held = tt; state = tt; size = (refl, refl); max_trial = refl; refused = (refl, refl, some) }

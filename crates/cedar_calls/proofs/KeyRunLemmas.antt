@@ -32,6 +32,7 @@ use Rattle.cedar_calls.specs.declared.answer.Answer.TheVariants as answer
 use Rattle.cedar_calls.specs.declared.answer.Changed.{Changed}
 use Rattle.cedar_calls.specs.declared.answer.Changed.TheVariants as changed
 use Rattle.cedar_calls.proofs.KeyLemmas.{all_go, cut_goes, keys_go_out, put_goes}
+use Rattle.cedar_calls.proofs.PlaceLemmas.{map-remove}
 
 -- pairs with a fault among them aren't none
 some_pairs : (es : List Entry) (x : CedarError) → first_fault es ≡ Some x → 0 < length es
@@ -128,6 +129,8 @@ module _ (key : List ℕ) where
   key_step layout slots before after (call.Clone i) (answer.Made r) h =
       (number_in h.0, found_number before i h.0 h.1, joined_goes before after h.2.0 r (number_in h.0) h.2.2 (copy_number h.0 h.2.0 h.2.1))
   key_step layout slots before after (call.Clone i) answer.Missing h = ap (numbers_at key) h.1
+  key_step layout slots before after (call.Drop i) answer.Dropped h = ap (numbers_at key) h.2 ∙ map-remove number_in before i
+  key_step layout slots before after (call.Drop i) answer.Missing h = ap (numbers_at key) h.1
   key_step layout slots before after (call.Change i c) (answer.Changed a) h = (
     number_in h.0,
     number_in h.1,

@@ -1,6 +1,7 @@
 mod BatchLemmas
 mod TextLemmas
 mod PlaceLemmas
+mod CollectLemmas
 mod RunLemmas
 mod PlainLemmas
 mod PlainRunLemmas

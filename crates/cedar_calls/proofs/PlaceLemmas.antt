@@ -1,6 +1,6 @@
--- What stands at an index of a list.
-use Rattle.std.proofs.Common.{◌≡◌, ℕ, zero, suc, ◌<◌, ◌≤◌, List, [], ◌∷◌, length, Some, None, refl, arith, slice_index_or}
-use Rattle.std.specs.List.{slice_get}
+-- What stands at an index of a list, and what is left without it.
+use Rattle.std.proofs.Common.{◌≡◌, ℕ, zero, suc, ◌<◌, ◌≤◌, List, [], ◌∷◌, length, map, Some, None, ap, refl, arith, slice_index_or}
+use Rattle.std.specs.List.{remove, slice_get}
 use Rattle.std.proofs.lemmas.Option.{slice_get_read}
 
 pub stands_at : {X : Type 0} (xs : List X) (i : ℕ) (x : X) → i < length xs → x ≡ slice_index_or xs i x → slice_get xs i ≡ Some x
@@ -10,3 +10,9 @@ pub none_at : {X : Type 0} (xs : List X) (i : ℕ) → length xs ≤ i → slice
 none_at [] i past = refl
 none_at (x ∷ xs) zero past = absurd (omega arith)
 none_at (x ∷ xs) (suc i) past = none_at xs i (omega arith)
+
+pub map-remove : {X Y : Type 0} (f : X → Y) (xs : List X) (i : ℕ) → map f (remove xs i) ≡ remove (map f xs) i
+map-remove f [] zero = refl
+map-remove f [] (suc i) = refl
+map-remove f (x ∷ xs) zero = refl
+map-remove f (x ∷ xs) (suc i) = ap (λ ys. f x ∷ ys) (map-remove f xs i)

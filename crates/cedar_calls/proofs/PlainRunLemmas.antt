@@ -1,6 +1,6 @@
 -- What calls and runs say as far as trees go.
 use Rattle.std.proofs.Common.{◌≡◌, Bool, true, ◌⊎◌, inl, inr, ◌*◌, ◌≤◌, ℕ, List, [], ◌∷◌, ◌++◌, length, Option, option_map, Some, None, Ok, Err, IfSome, refl, ap, sym, subst, ◌∙◌, slice_set}
-use Rattle.std.specs.List.{slice_get, AllByRecursion}
+use Rattle.std.specs.List.{remove, slice_get, AllByRecursion}
 use Rattle.std.specs.declared.result.Result.{Result}
 use Rattle.std.proofs.lemmas.List.{map-append, map-set}
 use Rattle.std.proofs.lemmas.Option.{slice_get-map}
@@ -25,6 +25,7 @@ use Rattle.cedar_calls.specs.declared.call.Call.{Call}
 use Rattle.cedar_calls.specs.declared.call.Call.TheVariants as call
 use Rattle.cedar_calls.specs.declared.answer.Answer.{Answer}
 use Rattle.cedar_calls.specs.declared.answer.Answer.TheVariants as answer
+use Rattle.cedar_calls.proofs.PlaceLemmas.{map-remove}
 use Rattle.cedar_calls.proofs.PlainLemmas.{change_goes, reply_goes, short, state_is}
 
 short_of : (e : CedarError) (P : Type 0) → (e ≡ Memory) ⊎ ((e ≡ SlotLimit) × P) → IsShortage e
@@ -93,6 +94,14 @@ step_goes b layout slots before (call.Clone i) (answer.Made r) after k h loadles
 step_goes b layout slots before (call.Clone i) answer.Missing after k h loadless met =
     let s = missed_state before i h.0 in
     (ap (λ o. at_state o missing (λ _. done)) (sym s), ap states_of h.1 ∙ ap (λ o. at_state o (states_of before) (λ x. states_of before ++ x ∷ [])) (sym s))
+step_goes b layout slots before (call.Drop i) answer.Dropped after k h loadless met =
+    let s = found_state before i h.0 h.1 in (
+      ap (λ o. at_state o missing (λ _. done)) (sym s),
+      ap states_of h.2 ∙ map-remove (λ x. x.state) before i ∙ ap (λ o. at_state o (states_of before) (λ _. remove (states_of before) i)) (sym s),
+    )
+step_goes b layout slots before (call.Drop i) answer.Missing after k h loadless met =
+    let s = missed_state before i h.0 in
+    (ap (λ o. at_state o missing (λ _. done)) (sym s), ap states_of h.1 ∙ ap (λ o. at_state o (states_of before) (λ _. remove (states_of before) i)) (sym s))
 step_goes b layout slots before (call.Change i c) (answer.Changed a) after k h loadless met =
     let s = found_state before i h.0 h.2 in
     let g = change_goes layout slots h.0 h.1 c a h.3.1 met in (

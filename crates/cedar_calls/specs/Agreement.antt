@@ -61,6 +61,7 @@ IsSameCall (call.Sorted s p) (call.Sorted z q) = (s.ordered ≡ z.ordered) × (e
 IsSameCall (call.Unsorted s p) (call.Unsorted z q) = (s.ordered ≡ z.ordered) × (entries_of p.now ≡ entries_of q.now)
 IsSameCall (call.Load b m) (call.Load c n) = (b.now ≡ c.now) × (m ≡ n)
 IsSameCall (call.Clone i) (call.Clone j) = i ≡ j
+IsSameCall (call.Drop i) (call.Drop j) = i ≡ j
 IsSameCall (call.Change i c) (call.Change j d) = (i ≡ j) × IsSameChange c d
 IsSameCall (call.Ask i q) (call.Ask j r) = (i ≡ j) × IsSameQuestion q r
 IsSameCall c d = ⊥

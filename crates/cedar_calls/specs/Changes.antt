@@ -1,5 +1,5 @@
 -- What a change of a dictionary answers, and the dictionary after it.
-use Rattle.std.specs.Prelude.{◌≡◌, ℕ, ℤ, ◌+◌, ◌-◌, ◌*◌, ◌<◌, ◌≤◌, Bool, List, IfErr, IfOk, IfSome, IsOk, IsSome, IsTrue, ◌↔◌, None, OnErr, OnOk, Option, Result, Err, take, Vec}
+use Rattle.std.specs.Prelude.{◌≡◌, ℕ, ℤ, ◌+◌, ◌-◌, ◌*◌, ◌<◌, ◌≤◌, Bool, List, length, IfErr, IfOk, IfSome, IsOk, IsSome, IsTrue, ◌↔◌, None, OnErr, OnOk, Option, Result, Err, take, Vec}
 use Rattle.cedar_tree.specs.Tree.{number_at}
 use Rattle.cedar_tree.specs.Queries.{Entry}
 use Rattle.cedar_tree.specs.State.{erased}
@@ -50,15 +50,15 @@ pub record IsUpdatedBatch (layout : LayoutKind) (slots : ℕ) (before after : Di
   pub refused : IfErr result (λ refusal. after.state ≡ all_stored before.state (take refusal.index pairs))
   pub max_trial : after.max_trial ≡ before.max_trial
 
--- some keys were to be removed one after another: all are, and for each is said whether it was held then; or there was no memory to say so,
--- and nothing has changed
+-- some keys were to be removed one after another: all are, and for each is said whether it was held then; or there are some, there was
+-- no memory to say so, and nothing has changed
 pub record IsErasedBatch {A : Type 0} (before after : Dictionary) (keys : List (List ℕ)) (result : Result (Vec Bool A) CedarError) : Type 0 where
   pub erasures : IfOk result (λ held. IsErasures before after keys held.items)
   pub held : IfOk result (λ held. held.items ≡ held_in_turn before.state keys)
   pub state : OnOk result (after.state ≡ keys_erased before.state keys)
   pub size : (after.size ≡ before.size) × (after.capacity ≡ before.capacity)
   pub max_trial : after.max_trial ≡ before.max_trial
-  pub refused : IfErr result (λ e. (e ≡ Memory) × (after ≡ before))
+  pub refused : IfErr result (λ e. (e ≡ Memory) × (after ≡ before) × (0 < length keys))
 
 -- room for n blocks more was asked for: nothing has changed but how many slots there are, or nothing at all where n blocks were spare
 -- already or it was refused

@@ -1,6 +1,6 @@
 -- What a key holds after some changes of a dictionary: only changes of that key have a part in it, the last of them decides.
 use Rattle.std.specs.Prelude.{◌≡◌, ◌<◌, ℕ, ℤ, List, [], ◌∷◌, ◌++◌, length, take, map, slice_get, slice_set, Option, Some, None, IsSome, fold, nat_eq, if◌then◌else◌, Result, Ok, Err, OnOk, MatchResult}
-use Rattle.std.specs.List.{starts_with}
+use Rattle.std.specs.List.{remove, starts_with}
 use Rattle.cedar_tree.specs.Tree.{number_at, IsSoundBelow}
 use Rattle.cedar_tree.specs.Queries.{is_path, last_at}
 use Rattle.cedar_tree.specs.State.{State}
@@ -90,7 +90,8 @@ IsHeldAfter key now c result after = ⊥
 abbrev pub IsNumberInFile : ℕ → List ℕ → List ℕ → Option ℤ → Type 0
 IsNumberInFile slots bytes key number = (version : ℕ) × (T : Fields) × IsTableFile version slots T bytes × (number ≡ number_at (tree_of T) key)
 
--- what all dictionaries hold at a key after a call, of what they held before: a further one begins with what it was made of, or with none
+-- what all dictionaries hold at a key after a call, of what they held before: a further one begins with what it was made of, or with none,
+-- and where one was dropped the others hold what they held
 abbrev pub IsKeyStep : {A : Type 0} → ℕ → List ℕ → List (Option ℤ) → Call → Answer A → List (Option ℤ) → Type 0
 IsKeyStep slots key before (call.New settings) (answer.Made result) after = after ≡ if_made result (before ++ None ∷ []) before
 IsKeyStep slots key before (call.Sorted settings pairs) (answer.Made result) after = after ≡ if_made result (before ++ last_at key None (entries_of pairs.now) ∷ []) before
@@ -98,6 +99,7 @@ IsKeyStep slots key before (call.Unsorted settings pairs) (answer.Made result) a
 IsKeyStep slots key before (call.Load bytes limit) (answer.Loaded result) after =
     (number : Option ℤ) × OnOk result (IsNumberInFile slots bytes.now key number) × (after ≡ if_made result (before ++ number ∷ []) before)
 IsKeyStep slots key before (call.Clone i) (answer.Made result) after = (number : Option ℤ) × (slice_get before i ≡ Some number) × (after ≡ if_made result (before ++ number ∷ []) before)
+IsKeyStep slots key before (call.Drop i) answer.Dropped after = after ≡ remove before i
 IsKeyStep slots key before (call.Change i c) (answer.Changed result) after =
     (number : Option ℤ) × (changed : Option ℤ) × (slice_get before i ≡ Some number) × IsHeldAfter key number c result changed × (after ≡ slice_set before i changed)
 IsKeyStep slots key before c a after = after ≡ before

@@ -1,6 +1,6 @@
 -- What runs answer as far as trees go: neither places nor bytes nor settings but the order have a part in it.
 use Rattle.std.specs.Prelude.{◌≡◌, Bool, true, false, ℕ, ℤ, List, [], ◌∷◌, ◌++◌, ◌+◌, length, map, slice_get, slice_set, Option, option_map, Some, None, is_some, string_bytes, if◌then◌else◌, Result, Ok, Err}
-use Rattle.std.specs.List.{AllByRecursion}
+use Rattle.std.specs.List.{AllByRecursion, remove}
 use Rattle.std.specs.Str.{is_utf8}
 use Rattle.cedar_tree.specs.Tree.{empty_tree, number_at}
 use Rattle.cedar_tree.specs.Queries.{Entry, asc, exact, front, predict, used, walk}
@@ -124,6 +124,7 @@ abbrev pub said : {A : Type 0} → Bool → Call → Answer A → Said
 said by_default c answer.Missing = missing
 said by_default c (answer.Made result) = said_result (λ _. done) result
 said by_default c (answer.Loaded result) = said_load result
+said by_default c answer.Dropped = done
 said by_default c (answer.Changed result) = said_change result
 said by_default c (answer.Replied result) = said_asked by_default c result
 
@@ -241,6 +242,7 @@ call_says by_default states (call.Sorted settings pairs) = unless_fault (sorted_
 call_says by_default states (call.Unsorted settings pairs) = unless_fault (first_fault (entries_of pairs.now)) done
 call_says by_default states (call.Load bytes limit) = unsaid
 call_says by_default states (call.Clone index) = at_state (slice_get states index) missing (λ _. done)
+call_says by_default states (call.Drop index) = at_state (slice_get states index) missing (λ _. done)
 call_says by_default states (call.Change index change) = at_state (slice_get states index) missing (λ s. change_says s change)
 call_says by_default states (call.Ask index question) = at_state (slice_get states index) missing (λ s. reply_says by_default s question)
 
@@ -252,6 +254,7 @@ states_after states (call.Unsorted settings pairs) =
     kept_at_fault (first_fault (entries_of pairs.now)) states (states ++ record { tree = asc (entries_of pairs.now); ordered = settings.ordered } ∷ [])
 states_after states (call.Load bytes limit) = states
 states_after states (call.Clone index) = at_state (slice_get states index) states (λ s. states ++ s ∷ [])
+states_after states (call.Drop index) = at_state (slice_get states index) states (λ _. remove states index)
 states_after states (call.Change index change) = at_state (slice_get states index) states (λ s. slice_set states index (changed_state s change))
 states_after states (call.Ask index question) = states
 

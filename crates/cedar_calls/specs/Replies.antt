@@ -1,5 +1,5 @@
 -- What a question to a dictionary is answered.
-use Rattle.std.specs.Prelude.{◌≡◌, Bool, true, false, ℕ, ℤ, ◌+◌, ◌-◌, ◌*◌, ◌/◌, List, [], ◌∷◌, length, map, Option, option_map, Some, None, is_some, IsTrue, ◌↔◌, MatchResult, Result, string_bytes}
+use Rattle.std.specs.Prelude.{◌≡◌, Bool, true, false, ℕ, ℤ, ◌+◌, ◌-◌, ◌*◌, ◌/◌, ◌<◌, List, [], ◌∷◌, length, map, Option, option_map, Some, None, is_some, IsTrue, ◌↔◌, MatchResult, Result, string_bytes}
 use Rattle.std.specs.Str.{IsUtf8}
 use Rattle.cedar_tree.specs.Tree.{number_at}
 use Rattle.cedar_tree.specs.Queries.{Entry, exact, front, predict, prefixes, used, walk}
@@ -24,6 +24,10 @@ use Rattle.cedar_calls.specs.declared.answer.Reply.TheVariants as reply
 abbrev pub Collects : {X : Type 0} → Result X CedarError → (X → Type 0) → Type 0
 Collects result P = MatchResult result P (λ e. e ≡ Memory)
 
+-- the same, if there is something to collect: else it isn't refused
+abbrev pub CollectsSome : {X Y : Type 0} → Result X CedarError → (X → Type 0) → List Y → Type 0
+CollectsSome result P items = MatchResult result P (λ e. (e ≡ Memory) × (0 < length items))
+
 -- each entry in its turn as a text and its number, and nothing in the place of one whose key isn't UTF-8
 abbrev pub AreTexts : List (Option (List ℕ × ℤ)) → List Entry → Type 0
 AreTexts [] [] = Unit {0}
@@ -36,9 +40,9 @@ abbrev pub in_order : Bool → List Entry → Option (List Entry)
 in_order true es = Some es
 in_order false es = None
 
--- they were collected, or there was no memory for them
+-- they were collected, or there was no memory for them, which only some entries of ascending labels need
 abbrev pub CollectsRange : {X : Type 0} → Result (Option X) CedarError → (X → List Entry) → Bool → List Entry → Type 0
-CollectsRange result entries ordered es = Collects result (λ found. option_map entries found ≡ in_order ordered es)
+CollectsRange result entries ordered es = MatchResult result (λ found. option_map entries found ≡ in_order ordered es) (λ e. (e ≡ Memory) × (ordered ≡ true) × (0 < length es))
 
 -- the slots that are held: one for the root, one for each prefix, and one for each number that has a slot of its own
 abbrev pub held_slots : Dictionary → ℕ
@@ -68,14 +72,16 @@ IsReply layout slots d (question.Exact key) (reply.Exact found) = found ≡ exac
 IsReply layout slots d (question.Get key) (reply.Value found) = found ≡ number_at d.state.tree key.now
 IsReply layout slots d (question.ContainsKey key) (reply.IsHeld result) = result ≡ is_some (number_at d.state.tree key.now)
 IsReply layout slots d (question.Longest text) (reply.Longest found) = found ≡ longest_front d.state.tree text.now
-IsReply layout slots d (question.Batch keys) (reply.Batch result) = Collects result (λ found. found.items ≡ map (exact d.state.tree) (keys_of keys.now))
-IsReply layout slots d (question.Prefixes query) (reply.Prefixes result) = Collects result (λ found. found.items ≡ front d.state.tree query.now)
-IsReply layout slots d (question.Predictions query) (reply.Predictions result) = Collects result (λ found. found.items ≡ predict d.state.tree query.now)
-IsReply layout slots d question.First (reply.End result) = Collects result (λ found. option_map (λ e. (e.0.items, e.1)) found ≡ first_entry d.state.tree)
-IsReply layout slots d question.Last (reply.End result) = Collects result (λ found. option_map (λ e. (e.0.items, e.1)) found ≡ last_entry d.state.tree)
-IsReply layout slots d question.Entries (reply.Entries result) = Collects result (λ found. map (λ e. (e.0.items, e.1)) found.items ≡ walk d.state.tree)
-IsReply layout slots d question.TextEntries (reply.TextEntries result) = Collects result (λ found. AreTexts (map (option_map (λ e. (string_bytes e.0, e.1))) found.items) (walk d.state.tree))
-IsReply layout slots d (question.EntriesWith prefix) (reply.Entries result) = Collects result (λ found. map (λ e. (e.0.items, e.1)) found.items ≡ entries_with d.state.tree prefix.now)
+IsReply layout slots d (question.Batch keys) (reply.Batch result) = CollectsSome result (λ found. found.items ≡ map (exact d.state.tree) (keys_of keys.now)) (keys_of keys.now)
+IsReply layout slots d (question.Prefixes query) (reply.Prefixes result) = CollectsSome result (λ found. found.items ≡ front d.state.tree query.now) (front d.state.tree query.now)
+IsReply layout slots d (question.Predictions query) (reply.Predictions result) = CollectsSome result (λ found. found.items ≡ predict d.state.tree query.now) (predict d.state.tree query.now)
+IsReply layout slots d question.First (reply.End result) = CollectsSome result (λ found. option_map (λ e. (e.0.items, e.1)) found ≡ first_entry d.state.tree) (walk d.state.tree)
+IsReply layout slots d question.Last (reply.End result) = CollectsSome result (λ found. option_map (λ e. (e.0.items, e.1)) found ≡ last_entry d.state.tree) (walk d.state.tree)
+IsReply layout slots d question.Entries (reply.Entries result) = CollectsSome result (λ found. map (λ e. (e.0.items, e.1)) found.items ≡ walk d.state.tree) (walk d.state.tree)
+IsReply layout slots d question.TextEntries (reply.TextEntries result) =
+    CollectsSome result (λ found. AreTexts (map (option_map (λ e. (string_bytes e.0, e.1))) found.items) (walk d.state.tree)) (walk d.state.tree)
+IsReply layout slots d (question.EntriesWith prefix) (reply.Entries result) =
+    CollectsSome result (λ found. map (λ e. (e.0.items, e.1)) found.items ≡ entries_with d.state.tree prefix.now) (entries_with d.state.tree prefix.now)
 IsReply layout slots d (question.EntriesFrom key) (reply.Range result) =
     CollectsRange result (λ v. map (λ e. (e.0.items, e.1)) v.items) d.state.ordered (entries_since d.state.tree key.now)
 IsReply layout slots d (question.Range from to) (reply.Range result) =

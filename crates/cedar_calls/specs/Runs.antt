@@ -1,5 +1,6 @@
 -- Calls one after another on any number of dictionaries: what each answers, and the dictionaries after it.
-use Rattle.std.specs.Prelude.{◌≡◌, ℕ, List, [], ◌∷◌, slice_get, slice_set, Some, None}
+use Rattle.std.specs.Prelude.{◌≡◌, ℕ, List, [], ◌∷◌, ◌++◌, slice_get, slice_set, Some, None}
+use Rattle.std.specs.List.{remove}
 use Rattle.cedar_model.specs.Table.Layouts.{LayoutKind}
 use Rattle.cedarwood.specs.Dictionary.{Dictionary, IsValid}
 use Rattle.cedarwood.specs.OnTable.{IsOnTable}
@@ -27,6 +28,10 @@ AsksAt before index Reply after = (d : Dictionary) × (slice_get before index �
 abbrev pub MissesAt : List Dictionary → ℕ → List Dictionary → Type 0
 MissesAt before index after = (slice_get before index ≡ None) × (after ≡ before)
 
+-- the dictionary at an index was dropped, and those after it have come one earlier
+abbrev pub DropsAt : List Dictionary → ℕ → List Dictionary → Type 0
+DropsAt before index after = (d : Dictionary) × (slice_get before index ≡ Some d) × (after ≡ remove before index)
+
 -- what a call may answer where there are these dictionaries, of one layout and with so many slots each at most, and the dictionaries after
 -- it
 abbrev pub IsStep : {A : Type 0} → LayoutKind → ℕ → List Dictionary → Call → Answer A → List Dictionary → Type 0
@@ -36,6 +41,8 @@ IsStep layout slots before (call.Unsorted settings pairs) (answer.Made result) a
 IsStep layout slots before (call.Load bytes limit) (answer.Loaded result) after = Makes (IsLoad layout slots limit bytes.now) before result after
 IsStep layout slots before (call.Clone index) (answer.Made result) after = (d : Dictionary) × (slice_get before index ≡ Some d) × Makes (IsCopy d) before result after
 IsStep layout slots before (call.Clone index) answer.Missing after = MissesAt before index after
+IsStep layout slots before (call.Drop index) answer.Dropped after = DropsAt before index after
+IsStep layout slots before (call.Drop index) answer.Missing after = MissesAt before index after
 IsStep layout slots before (call.Change index change) (answer.Changed result) after = ChangesAt before index (λ d changed. IsValid slots d × IsChange layout slots d change result changed) after
 IsStep layout slots before (call.Change index change) answer.Missing after = MissesAt before index after
 IsStep layout slots before (call.Ask index question) (answer.Replied reply) after = AsksAt before index (λ d. IsOnTable slots d × IsReply layout slots d question reply) after
@@ -47,3 +54,7 @@ abbrev pub IsRun : {A : Type 0} → LayoutKind → ℕ → List Dictionary → L
 IsRun layout slots before [] [] after = after ≡ before
 IsRun layout slots before (c ∷ calls) (a ∷ answers) after = (between : List Dictionary) × IsStep layout slots before c a between × IsRun layout slots between calls answers after
 IsRun layout slots before calls answers after = ⊥
+
+-- the answers of a run have been added to those that were there
+abbrev pub AddsRun : {A : Type 0} → LayoutKind → ℕ → List Dictionary → List Call → List (Answer A) → List (Answer A) → List Dictionary → Type 0
+AddsRun {A} layout slots before calls earlier all after = (answers : List (Answer A)) × (all ≡ earlier ++ answers) × IsRun layout slots before calls answers after

@@ -12,6 +12,8 @@ pub enum Answer<A: Allocator> {
     Made(Result<(), CedarError>),
     /// Whether a further dictionary was loaded. If so, it comes after the others.
     Loaded(Result<(), CedarPersistenceError>),
+    /// The dictionary was dropped. Those after it have come one earlier.
+    Dropped,
     /// What a change returned.
     Changed(Changed<A>),
     /// What a question returned.
@@ -29,7 +31,8 @@ pub enum Changed<A: Allocator> {
     Erased(bool),
     /// What the key held.
     ErasedFound(Option<i32>),
-    /// For each key whether it was held once those before it were removed. If there was no memory to collect this, no key was removed.
+    /// For each key whether it was held once those before it were removed. If there was no memory to collect this, no key was removed;
+    /// for no keys none is needed.
     ErasedBatch(Result<Vec<bool, A>, CedarError>),
     /// How many keys were removed.
     ErasedPrefix(usize),
@@ -47,7 +50,7 @@ pub enum Changed<A: Allocator> {
     Reserved(Result<(), CedarError>),
 }
 
-/// What a query returned. If there was no memory to collect a result, it is `Memory`.
+/// What a query returned. If there was no memory to collect a result, it is `Memory`. An empty list needs none.
 #[derive(Drop)]
 pub enum Reply<A: Allocator> {
     /// The key's value and its length.

@@ -2,7 +2,8 @@
 
 use cedarwood::CedarBuilder;
 
-/// A call. A dictionary is named by its index: those that a run begins with come first, and each further one comes after all others.
+/// A call. A dictionary is named by its index: those that a run begins with come first, and each further one comes after all others. If
+/// one is dropped, those after it come one earlier.
 #[derive(Clone, Copy, Debug)]
 pub enum Call<'a> {
     /// Make another, empty dictionary with these settings.
@@ -34,6 +35,11 @@ pub enum Call<'a> {
     /// Copy a dictionary: the copy is another one.
     Clone {
         /// Which one is copied.
+        index: usize,
+    },
+    /// Drop a dictionary.
+    Drop {
+        /// Which one is dropped.
         index: usize,
     },
     /// Change a dictionary.

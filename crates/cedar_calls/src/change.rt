@@ -2,6 +2,7 @@
 
 ghost use Rattle.cedar_calls.specs.Words.{IsChange, IsErasedBatch, IsErasedFound, IsValid, keys_of};
 
+use crate::place::places;
 use crate::{Change, Changed};
 use cedarwood::{CedarError, Layout, Trie};
 use std::alloc::Allocator;
@@ -61,7 +62,7 @@ fn erase_batch<L: Layout, const SLOTS: usize, A: Allocator + Copy>(
 ) -> Result<Vec<bool, A>, CedarError>
     ensures { IsErasedBatch trie.old trie.new (keys_of keys.now) result }
 {
-    let mut held = vec![in alloc; false; keys.len()]?;
+    let mut held = places(alloc, false, keys.len())?;
     trie.erase_batch(keys, &mut held);
     Ok(held)
 }

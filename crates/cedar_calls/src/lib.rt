@@ -1,8 +1,8 @@
 //! Any list of public calls, on any number of dictionaries, as one theorem.
 //!
-//! [`run_calls`] makes the calls of a list one after another, and its contract says what they return and what they leave: whatever the
-//! calls are, each result is that of a labelled tree for each dictionary, which the calls carry on. The words of that contract are in
-//! `specs/`; docs/THEOREM.md reads it aloud.
+//! [`reserve_for_calls`] makes room, which may be refused. [`run_calls`] then makes the calls of a list one after another, and its contract
+//! says what they return and what they leave: whatever the calls are, each result is that of a labelled tree for each dictionary, which
+//! the calls carry on. The words of that contract are in `specs/`; docs/THEOREM.md reads it aloud.
 #![tactic(auto)]
 
 mod answer;
@@ -10,6 +10,7 @@ mod call;
 mod change;
 mod laws;
 mod make;
+mod place;
 mod reply;
 mod run;
 
@@ -18,4 +19,4 @@ pub use call::{Call, Change, Figure, Question};
 pub use laws::{
     keys_stand_alone, keys_stand_alone_in_runs, runs_agree, saves_load_again, trees_decide,
 };
-pub use run::run_calls;
+pub use run::{reserve_for_calls, run_calls};

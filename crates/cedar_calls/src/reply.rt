@@ -1,14 +1,15 @@
 //! Replies of a dictionary.
 
 ghost use Rattle.std.specs.Prelude.{◌++◌, ◌∷◌, ◌≡◌, [], cond, map, OnOk, option_map, string_bytes};
-ghost use Rattle.cedar_calls.specs.Words.{AreTexts, Collects, CollectsRange, entries_between, entries_since, entries_with, exact, first_entry, IsFigure, IsReply, IsTableFile, keys_of, last_entry, walk};
+ghost use Rattle.cedar_calls.specs.Words.{AreTexts, Collects, CollectsRange, CollectsSome, entries_between, entries_since, entries_with, exact, first_entry, front, IsFigure, IsReply, IsTableFile, keys_of, last_entry, predict, walk};
 
+use crate::place::places;
 use crate::{Figure, Question, Reply};
-use cedarwood::{CedarError, EntryError, Layout, Trie, Watched};
+use cedarwood::{CedarError, EntryError, Layout, RangeEntries, Trie, Watched};
 use std::alloc::{AllocError, Allocator};
 
 /// Queries a dictionary. The lists of a batch and of entries, and the bytes of a file, are allocated from `alloc`; the lists of prefixes
-/// and predictions, and each entry's key, from the dictionary's own allocator.
+/// and predictions, and each entry's key, from the dictionary's own allocator. An empty list is not allocated.
 pub(crate) fn reply<L: Layout, const SLOTS: usize, A: Allocator + Copy>(
     trie: &Trie<L, SLOTS, A>,
     alloc: A,
@@ -22,10 +23,8 @@ pub(crate) fn reply<L: Layout, const SLOTS: usize, A: Allocator + Copy>(
         Question::ContainsKey { key } => Reply::IsHeld(trie.contains_key_bytes(key)),
         Question::Longest { text } => Reply::Longest(trie.longest_match_bytes(text)),
         Question::Batch { keys } => Reply::Batch(batch(trie, alloc, keys)),
-        Question::Prefixes { query } => Reply::Prefixes(trie.common_prefix_search_bytes(query)),
-        Question::Predictions { query } => {
-            Reply::Predictions(trie.common_prefix_predict_bytes(query))
-        }
+        Question::Prefixes { query } => Reply::Prefixes(prefixes(trie, alloc, query)),
+        Question::Predictions { query } => Reply::Predictions(predictions(trie, alloc, query)),
         Question::First => Reply::End(first(trie)),
         Question::Last => Reply::End(last(trie)),
         Question::Entries => Reply::Entries(entries(trie, alloc)),
@@ -48,11 +47,43 @@ fn batch<L: Layout, const SLOTS: usize, A: Allocator + Copy>(
     alloc: A,
     keys: &[&[u8]],
 ) -> Result<Vec<Option<(i32, usize)>, A>, CedarError>
-    ensures { Collects result (λ found. found.items ≡ map (exact trie.now.state.tree) (keys_of keys.now)) }
+    ensures { CollectsSome result (λ found. found.items ≡ map (exact trie.now.state.tree) (keys_of keys.now)) (keys_of keys.now) }
 {
-    let mut found = vec![in alloc; None; keys.len()]?;
+    let mut found = places(alloc, None, keys.len())?;
     trie.exact_match_search_batch(keys, &mut found);
     Ok(found)
+}
+
+/// The prefixes of a query that are held. They are collected only if there is one.
+fn prefixes<L: Layout, const SLOTS: usize, A: Allocator + Copy>(
+    trie: &Trie<L, SLOTS, A>,
+    alloc: A,
+    query: &[u8],
+) -> Result<Vec<(i32, usize), A>, CedarError>
+    ensures { CollectsSome result (λ found. found.items ≡ front trie.now.state.tree query.now) (front trie.now.state.tree query.now) }
+{
+    if trie.common_prefix_iter_bytes(query).next().is_some() {
+        return trie.common_prefix_search_bytes(query);
+    }
+    Ok(Vec::new(alloc))
+}
+
+/// The keys that begin with a query. They are collected only if there is one.
+fn predictions<L: Layout, const SLOTS: usize, A: Allocator + Copy>(
+    trie: &Trie<L, SLOTS, A>,
+    alloc: A,
+    query: &[u8],
+) -> Result<Vec<(i32, usize), A>, CedarError>
+    ensures { CollectsSome result (λ found. found.items ≡ predict trie.now.state.tree query.now) (predict trie.now.state.tree query.now) }
+{
+    if trie
+        .common_prefix_predict_iter_bytes(query)
+        .next()
+        .is_some()
+    {
+        return trie.common_prefix_predict_bytes(query);
+    }
+    Ok(Vec::new(alloc))
 }
 
 /// A figure.
@@ -74,7 +105,7 @@ fn figure_of<L: Layout, const SLOTS: usize, A: Allocator + Copy>(
 fn first<L: Layout, const SLOTS: usize, A: Allocator + Copy>(
     trie: &Trie<L, SLOTS, A>,
 ) -> Result<Option<(Vec<u8, A>, i32)>, CedarError>
-    ensures { Collects result (λ found. option_map (λ e. (e.0.items, e.1)) found ≡ first_entry trie.now.state.tree) }
+    ensures { CollectsSome result (λ found. option_map (λ e. (e.0.items, e.1)) found ≡ first_entry trie.now.state.tree) (walk trie.now.state.tree) }
 {
     trie.first()
 }
@@ -83,13 +114,26 @@ fn first<L: Layout, const SLOTS: usize, A: Allocator + Copy>(
 fn last<L: Layout, const SLOTS: usize, A: Allocator + Copy>(
     trie: &Trie<L, SLOTS, A>,
 ) -> Result<Option<(Vec<u8, A>, i32)>, CedarError>
-    ensures { Collects result (λ found. option_map (λ e. (e.0.items, e.1)) found ≡ last_entry trie.now.state.tree) }
+    ensures { CollectsSome result (λ found. option_map (λ e. (e.0.items, e.1)) found ≡ last_entry trie.now.state.tree) (walk trie.now.state.tree) }
 {
     trie.last()
 }
 
-/// All keys with their values.
+/// All keys with their values. They are collected only if there is one.
 fn entries<L: Layout, const SLOTS: usize, A: Allocator + Copy>(
+    trie: &Trie<L, SLOTS, A>,
+    alloc: A,
+) -> Result<Vec<(Vec<u8, A>, i32), A>, CedarError>
+    ensures { CollectsSome result (λ found. map (λ e. (e.0.items, e.1)) found.items ≡ walk trie.now.state.tree) (walk trie.now.state.tree) }
+{
+    if trie.is_empty() {
+        return Ok(Vec::new(alloc));
+    }
+    some_entries(trie, alloc)
+}
+
+/// The same, without asking first whether there is one.
+fn some_entries<L: Layout, const SLOTS: usize, A: Allocator + Copy>(
     trie: &Trie<L, SLOTS, A>,
     alloc: A,
 ) -> Result<Vec<(Vec<u8, A>, i32), A>, CedarError>
@@ -102,8 +146,21 @@ fn entries<L: Layout, const SLOTS: usize, A: Allocator + Copy>(
     Ok(found)
 }
 
-/// All keys as texts with their values, and `None` for each that isn't UTF-8.
+/// All keys as texts with their values, and `None` for each that isn't UTF-8. They are collected only if there is one.
 fn text_entries<L: Layout, const SLOTS: usize, A: Allocator + Copy>(
+    trie: &Trie<L, SLOTS, A>,
+    alloc: A,
+) -> Result<Vec<Option<(String<A>, i32)>, A>, CedarError>
+    ensures { CollectsSome result (λ found. AreTexts (map (option_map (λ e. (string_bytes e.0, e.1))) found.items) (walk trie.now.state.tree)) (walk trie.now.state.tree) }
+{
+    if trie.is_empty() {
+        return Ok(Vec::new(alloc));
+    }
+    some_texts(trie, alloc)
+}
+
+/// The same, without asking first whether there is one.
+fn some_texts<L: Layout, const SLOTS: usize, A: Allocator + Copy>(
     trie: &Trie<L, SLOTS, A>,
     alloc: A,
 ) -> Result<Vec<Option<(String<A>, i32)>, A>, CedarError>
@@ -129,19 +186,29 @@ fn add<T: Drop, A: Allocator>(found: &mut Vec<T, A>, item: T) -> Result<(), Allo
     Ok(())
 }
 
+/// What is left of a range of entries. Nothing is allocated if that is none.
+fn collect<L: Layout, const SLOTS: usize, A: Allocator + Copy>(
+    alloc: A,
+    entries: RangeEntries<'_, Trie<L, SLOTS, A>, A>,
+) -> Result<Vec<(Vec<u8, A>, i32), A>, CedarError>
+    ensures { CollectsSome result (λ found. map (λ e. (e.0.items, e.1)) found.items ≡ entries.entry) entries.entry }
+{
+    let mut found = Vec::new(alloc);
+    for entry in entries {
+        add(&mut found, entry?)?;
+    }
+    Ok(found)
+}
+
 /// The keys that begin with a prefix, with their values.
 fn beginning_with<L: Layout, const SLOTS: usize, A: Allocator + Copy>(
     trie: &Trie<L, SLOTS, A>,
     alloc: A,
     prefix: &[u8],
 ) -> Result<Vec<(Vec<u8, A>, i32), A>, CedarError>
-    ensures { Collects result (λ found. map (λ e. (e.0.items, e.1)) found.items ≡ entries_with trie.now.state.tree prefix.now) }
+    ensures { CollectsSome result (λ found. map (λ e. (e.0.items, e.1)) found.items ≡ entries_with trie.now.state.tree prefix.now) (entries_with trie.now.state.tree prefix.now) }
 {
-    let mut found = Vec::new(alloc);
-    for entry in trie.entries_with_prefix_bytes(prefix) {
-        add(&mut found, entry?)?;
-    }
-    Ok(found)
+    collect(alloc, trie.entries_with_prefix_bytes(prefix))
 }
 
 /// The keys from one on with their values, if labels ascend.
@@ -155,11 +222,7 @@ fn since<L: Layout, const SLOTS: usize, A: Allocator + Copy>(
     let Some(entries) = trie.entries_from_bytes(key) else {
         return Ok(None);
     };
-    let mut found = Vec::new(alloc);
-    for entry in entries {
-        add(&mut found, entry?)?;
-    }
-    Ok(Some(found))
+    Ok(Some(collect(alloc, entries)?))
 }
 
 /// The keys from one on and before another one with their values, if labels ascend.
@@ -174,11 +237,7 @@ fn between<L: Layout, const SLOTS: usize, A: Allocator + Copy>(
     let Some(entries) = trie.range_bytes(from, to) else {
         return Ok(None);
     };
-    let mut found = Vec::new(alloc);
-    for entry in entries {
-        add(&mut found, entry?)?;
-    }
-    Ok(Some(found))
+    Ok(Some(collect(alloc, entries)?))
 }
 
 /// The bytes of a dictionary's file, in format 1.0 or 1.1. A write to them fails only if an allocation is refused.

@@ -1,7 +1,7 @@
 //! Runs of calls, one after another.
 
-ghost use Rattle.std.specs.Prelude.{◌+◌, ◌<◌, ◌≡◌, ◌≤◌, IfOk, OnErr, vec_capacity, vec_len};
-ghost use Rattle.cedar_calls.specs.Words.{IsRun, IsSlotLimit, IsStep};
+ghost use Rattle.std.specs.Prelude.{◌+◌, ◌<◌, ◌≡◌, ◌≤◌, [], IfOk, length, OnErr, OnOk, vec_capacity, vec_len};
+ghost use Rattle.cedar_calls.specs.Words.{AddsRun, IsSlotLimit, IsStep};
 
 use crate::change::{is_valid, make_change};
 use crate::make::{copy, join, load};
@@ -10,42 +10,64 @@ use crate::{Answer, Call};
 use cedarwood::{Layout, Trie};
 use std::alloc::{AllocError, Allocator};
 
-/// Makes some calls one after another, and collects their results. The list of results, and dictionaries that are new, loaded or renewed,
-/// are allocated from `alloc`; a copy, and one that is changed, from the dictionary's own allocator. So are lists of prefixes and
-/// predictions and the keys of entries; everything else in a reply is from `alloc`.
+/// Makes room for the results of some calls, and for as many more dictionaries as there are calls: so [`run_calls`] can make them. The
+/// results are empty, and are allocated from `alloc`.
 ///
 /// # Errors
-/// `AllocError` if there is no memory for the results, or for as many more dictionaries as there are calls. Then no call was made.
-pub fn run_calls<L: Layout, const SLOTS: usize, A: Allocator + Copy>(
+/// `AllocError` if there is no memory for that, and there is a call. All dictionaries are as they were in any case.
+pub fn reserve_for_calls<L: Layout, const SLOTS: usize, A: Allocator + Copy>(
     tries: &mut Vec<Trie<L, SLOTS, A>, A>,
     alloc: A,
     calls: &[Call<'_>],
 ) -> Result<Vec<Answer<A>, A>, AllocError>
-    requires limit { IsSlotLimit SLOTS }
+    //= Room for the results of some calls, and for as many further dictionaries, may be refused, but not for an empty list. All
+    //  dictionaries are as they were in any case: no call was made. [with none, results, dictionaries, refused]
+    ensures unchanged { tries.new.items ≡ tries.old.items }
+    ensures none { IfOk result (λ answers. answers.items ≡ []) }
+    ensures results { IfOk result (λ answers. vec_len answers + length calls.now ≤ vec_capacity answers) }
+    ensures dictionaries { OnOk result (vec_len tries.new + length calls.now ≤ vec_capacity tries.new) }
+    ensures refused { OnErr result (0 < length calls.now) }
+{
+    let answers = Vec::with_capacity(alloc, calls.len())?;
+    tries.reserve(calls.len())?;
+    Ok(answers)
+}
 
-    //= Calls on any number of dictionaries, loads of any bytes among them, are a run: one result for each call, and each call begins with
-    //  the dictionaries that the one before it left. [by IsRun]
+/// Makes some calls one after another, and adds their results, one for each call. There has to be room for these, and for as many further
+/// dictionaries as there are calls: [`reserve_for_calls`] makes it. Dictionaries that are new, loaded or renewed are allocated from
+/// `alloc`; a copy, and one that is changed, from the dictionary's own allocator. So are lists of prefixes and predictions and the keys of
+/// entries; everything else in a reply is from `alloc`.
+pub fn run_calls<L: Layout, const SLOTS: usize, A: Allocator + Copy>(
+    tries: &mut Vec<Trie<L, SLOTS, A>, A>,
+    alloc: A,
+    calls: &[Call<'_>],
+    answers: &mut Vec<Answer<A>, A>,
+)
+    requires limit { IsSlotLimit SLOTS }
+    requires results { vec_len answers.old + length calls.now ≤ vec_capacity answers.old }
+    requires dictionaries { vec_len tries.old + length calls.now ≤ vec_capacity tries.old }
+
+    //= Calls on any number of dictionaries, loads of any bytes among them, are a run, for which there is room: one result for each call
+    //  comes after the results that were there, and each call begins with the dictionaries that the one before it left. [with count; by
+    //  AddsRun, IsRun]
     //= A new dictionary, a build of sorted or unsorted pairs, a load or a clone comes after the others. If it is refused, none was made.
     //  All others are as they were. [by IsStep, Makes]
     //= What it is, and what it is refused with, is as the rows of `cedarwood` say of such a call. A clone fails only for lack of memory.
     //  [by IsNew, IsSortedBuild, IsUnsortedBuild, IsLoad, IsCopy]
     //= A dictionary that was loaded is the one that the table of its bytes holds. [by IsLoad, IsOnTable]
+    //= If a dictionary is dropped, those after it come one earlier, and all others are as they were. [by DropsAt]
     //= An update, an insert, an erasure of a key, of some keys, of a prefix or of all, `renew`, a build, a batch of updates, `try_reserve`
     //  or `shrink_to_fit` changes only the dictionary at its index, as the rows of `cedarwood` say. [by ChangesAt, IsChange]
-    //= A query changes nothing, and returns what they say. If a result is collected it may be `Memory`. [by AsksAt, IsReply]
+    //= A query changes nothing, and returns what they say. If a result is collected it may be `Memory`, but only if there is something to
+    //  collect. [by AsksAt, IsReply, CollectsSome, CollectsRange]
     //= A call on a dictionary that isn't there returns `Missing`, and all are as they were. [by MissesAt]
     //= A dictionary that is changed was valid before. [by IsStep, IsValid]
-    ensures run { IfOk result (λ answers. IsRun L.kind SLOTS tries.old.items calls.now answers.items tries.new.items) }
-
-    //= If there is no room for the results, or for as many further dictionaries as there are calls, no call was made.
-    ensures refused { OnErr result (tries.new.items ≡ tries.old.items) }
+    ensures run { AddsRun L.kind SLOTS tries.old.items calls.now answers.old.items answers.new.items tries.new.items }
+    ensures count { vec_len answers.new ≡ vec_len answers.old + length calls.now }
 {
-    let mut answers = Vec::with_capacity(alloc, calls.len())?;
-    tries.reserve(calls.len())?;
     for call in calls {
         answers.push_reserved(make_call(tries, alloc, call));
     }
-    Ok(answers)
 }
 
 /// Makes a call.
@@ -78,6 +100,7 @@ fn make_call<L: Layout, const SLOTS: usize, A: Allocator + Copy>(
             }
             None => Answer::Missing,
         },
+        Call::Drop { index } => drop_at(tries, *index),
         Call::Change { index, change } => match tries.get_mut(*index) {
             Some(trie) => {
                 is_valid(trie);
@@ -93,4 +116,20 @@ fn make_call<L: Layout, const SLOTS: usize, A: Allocator + Copy>(
             None => Answer::Missing,
         },
     }
+}
+
+/// Drops a dictionary.
+fn drop_at<L: Layout, const SLOTS: usize, A: Allocator + Copy>(
+    tries: &mut Vec<Trie<L, SLOTS, A>, A>,
+    index: usize,
+) -> Answer<A>
+    ensures step { IsStep L.kind SLOTS tries.old.items (Call.Drop index) result tries.new.items }
+    ensures len { vec_len tries.new ≤ vec_len tries.old }
+    ensures capacity { vec_capacity tries.new ≡ vec_capacity tries.old }
+{
+    if index < tries.len() {
+        let _dropped = tries.remove(index);
+        return Answer::Dropped;
+    }
+    Answer::Missing
 }

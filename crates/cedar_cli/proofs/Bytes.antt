@@ -1,5 +1,5 @@
 -- The lines of a script in parts, and what their answers are written as.
-use Rattle.std.proofs.Common.{◌≡◌, ◌≤◌, ◌<◌, inl, suc, ℕ, List, [], ◌∷◌, ◌++◌, Option, Some, None, refl, sym, ap, ◌∙◌, append_assoc, append-nil, length, ◌-◌, arith, length-append, Bool, true, false, ◌||◌, subst}
+use Rattle.std.proofs.Common.{◌≡◌, ◌≤◌, ◌<◌, inl, suc, ℕ, List, [], ◌∷◌, ◌++◌, Option, Some, None, refl, sym, ap, ◌∙◌, append_assoc, append-nil, length, arith, length-append, Bool, true, false, ◌||◌, subst}
 use Rattle.std.specs.Prelude.{Result, Ok, Err, IfErr, OnOk, OnErr}
 use Rattle.cedar_cli.specs.Command.{Order, order_of}
 use Rattle.cedar_cli.specs.Lines.{lines_of, HasNoNewline}

@@ -1,5 +1,5 @@
 -- A call that failed, and why.
-use Rattle.std.proofs.Common.{◌≡◌, Ok, Err, Bool, refl, subst}
+use Rattle.std.proofs.Common.{◌≡◌, Ok, Err, Bool, true, false, ◌||◌, ◌∙◌, refl, subst}
 use Rattle.std.specs.Prelude.{OnOk, Result}
 use Rattle.cedar_cli.specs.Script.{AnswersOrFails}
 use Rattle.text_lines.specs.Written.{WritesOrFails}
@@ -98,3 +98,23 @@ fault_after first before after r same h = subst (λ (b : Bool). AnswersOrFails b
 -- the same fault, handed on
 pub fault_on : (before after : Bool) (r s : Result (Unit {0}) ScriptError) → r ≡ s → AnswersOrFails before after r → AnswersOrFails before after s
 fault_on before after r s same h = subst (AnswersOrFails before after) same h
+
+-- a writer that has failed has failed after a line too
+pub still_failed : (before after : Bool) (r : Result (Unit {0}) ScriptError) → before ≡ true → AnswersOrFails before after r → after ≡ true
+still_failed before after (Ok x) failed h = h.unfailed ∙ failed
+still_failed before after (Err Read) failed h = absurd (h.never_read refl)
+still_failed before after (Err Write) failed h = h.cause refl
+still_failed before after (Err Memory) failed h = h.starved refl ∙ failed
+still_failed before after (Err SlotLimit) failed h = h.full refl ∙ failed
+
+-- where no flush has failed yet, a writer has failed if it had before
+pub unflushed : (first flush : Bool) → flush ≡ false → first ≡ (flush || first)
+unflushed first flush fresh = rw fresh refl
+
+pub fresh_no_fault : {P : Type 0} (flush : Bool) → flush ≡ false → flush ≡ true → P
+fresh_no_fault flush fresh failed = absurd (cc (fresh, failed))
+
+-- where one has, it has failed
+pub failed_flush : (first flush now : Bool) → now ≡ (flush || first) → flush ≡ true → now ≡ true
+failed_flush first true now h failed = h
+failed_flush first false now h failed = absurd (cc (failed))

@@ -2,7 +2,7 @@
 use Rattle.std.proofs.Common.{◌≡◌, ℕ, List, [], ◌∷◌, ◌++◌, Option, Some, None, refl, sym, ap, subst, ◌∙◌, append_assoc, append-nil, length, length-append, ◌≤◌, ◌<◌, arith, inl, inr, ◌==◌, true, false}
 use Rattle.std.proofs.lemmas.Bool.{eqb-true, eqb-false}
 use Rattle.std.proofs.lemmas.List.{nil_from_length}
-use Rattle.std.specs.Prelude.{IfSome, ◌⊎◌}
+use Rattle.std.specs.Prelude.{IfErr, IfSome, OnOk, Result, Ok, Err, ◌⊎◌}
 use Rattle.std.specs.Io.KnownBytes.{Consumes, Appends, Keeps, IsAtEnd}
 use Rattle.cedar_cli.specs.Command.{order_of}
 use Rattle.cedar_cli.specs.Lines.{lines_of, HasNoNewline}
@@ -11,8 +11,9 @@ use Rattle.cedar_cli.specs.Script.{MayStop, Obeys, Stays, Disobeys, Finishes, Sp
 use Rattle.text_lines.specs.Written.{AppendsFront}
 use Rattle.cedar_cli.specs.View.{View}
 use Rattle.cedar_cli.specs.declared.script.ScriptError.{ScriptError}
+use Rattle.cedar_cli.specs.declared.script.ScriptError.TheVariants.{Read, Write, Memory, SlotLimit}
 use Rattle.text_lines.proofs.Bytes.{Appends-append, Appends-none}
-use Rattle.cedar_cli.proofs.Bytes.{all_stays, Appends-kept, answers-append, cut_short_none, lines_of-last, Finishes-append, line_finished}
+use Rattle.cedar_cli.proofs.Bytes.{all_stays, Appends-kept, answers-append, cut_short_none, lines_of-last, Finishes-append, line_finished, write_stop}
 
 -- bytes consumed in two parts
 pub Consumes-append : (a b c : Option (List ℕ)) (x y : List ℕ) → Consumes a b x → Consumes b c y → Consumes a c (x ++ y)
@@ -136,6 +137,45 @@ long_line line n e h = let ne = eqb-false n 0 h in omega arith
 
 pub short_line : (line : List ℕ) (n : ℕ) → length line ≡ n → (n == 0) ≡ true → line ≡ []
 short_line line n e h = nil_from_length line (e ∙ eqb-true n 0 h)
+
+-- a fault of the writer leaves what any other leaves
+state_stays : (fault : ScriptError) (old new : View) → Stays fault old new → Stays Write old new
+state_stays Read old new same = all_stays Write old new same
+state_stays Write old new same = same
+state_stays Memory old new same = all_stays Write old new same
+state_stays SlotLimit old new same = all_stays Write old new same
+
+-- so a run that a fault ended early may be told as one that the writer ended
+ended_by_write : (slots : ℕ) (d : Dictionary) (fault : ScriptError) (old new : View) (held holds : Option (List ℕ)) (script : List ℕ)
+    → EndsEarly slots d fault old new held holds script → EndsEarly slots d Write old new held holds script
+ended_by_write slots d fault old new held holds script h =
+    (h.0, h.1, h.2, (h.3.0, state_stays fault (view_after old h.0) new h.3.1, h.3.2, h.3.3, inr (write_stop slots d h.1)))
+
+-- and so may one that finished all lines
+finished_by_write : (slots : ℕ) (d : Dictionary) (old new : View) (held holds : Option (List ℕ)) (script : List ℕ)
+    → Finishes old new held holds (lines_of script) → EndsEarly slots d Write old new held holds script
+finished_by_write slots d old new held holds script h =
+    let lines = lines_of script in (
+      lines,
+      [],
+      sym (append-nil lines),
+      (
+        [],
+        all_stays Write (view_after old lines) new h.0,
+        rw (append-nil (answers old lines)) h.1,
+        cut_short_none (view_after old lines) [],
+        inr (write_stop slots d []),
+      ),
+    )
+
+-- however a run ended, a flush of it had failed
+pub ended_by_flush : (slots : ℕ) (d : Dictionary) (r : Result (Unit {0}) ScriptError) (old new : View) (held holds input : Option (List ℕ))
+    → OnOk r (IfSome input (λ script. length script < 9223372036854775808 → Finishes old new held holds (lines_of script)))
+    → IfErr r (λ fault. IfSome input (λ script. length script < 9223372036854775808 → EndsEarly slots d fault old new held holds script))
+    → IfSome input (λ script. length script < 9223372036854775808 → EndsEarly slots d Write old new held holds script)
+ended_by_flush slots d r old new held holds None ok err = tt
+ended_by_flush slots d (Ok x) old new held holds (Some script) ok err = λ few. finished_by_write slots d old new held holds script (ok few)
+ended_by_flush slots d (Err fault) old new held holds (Some script) ok err = λ few. ended_by_write slots d fault old new held holds script (err few)
 
 -- what is cut short is a front of the answers
 cut_front : (s : View) (others : List (List ℕ)) (part : List ℕ) → IsCutShort s others part → (rest : List ℕ) × (answers s others ≡ part ++ rest)

@@ -1,5 +1,5 @@
 -- What is said of a watched reader and a watched writer, each by what its own trait tells of the device inside.
-use Rattle.std.specs.Prelude.{ℕ, ◌<◌, ◌^◌, List, length, Option, IfSome}
+use Rattle.std.specs.Prelude.{◌≡◌, ℕ, ◌<◌, ◌^◌, Bool, ◌||◌, List, length, Option, IfSome}
 use Rattle.std.specs.Io.KnownBytes.{Consumes}
 use Rattle.cedarwood.specs.Words.{Watched}
 use Rattle.cedarwood.specs.WatchedDevice.{device_of}
@@ -21,3 +21,7 @@ OnInput remaining reader P = IfSome (held_by remaining reader) (λ input. length
 abbrev pub OnComing : {D : Type 0} → (D → Option (List ℕ)) → Watched D → Watched D → (List ℕ → List ℕ → Type 0) → Type 0
 OnComing remaining before after P = IfSome (held_by remaining before) (λ input.
     (came : List ℕ) × (line : List ℕ) × Consumes (held_by remaining before) (held_by remaining after) came × HasNoNewline line × P came line)
+
+-- If a writer had failed exactly if a flush of a run had, or if it had before the run, then so it is afterwards.
+abbrev pub IsToldOn : Bool → Bool → Bool → Bool → Type 0
+IsToldOn flush_before before flush_after after = (first : Bool) → before ≡ (flush_before || first) → after ≡ (flush_after || first)

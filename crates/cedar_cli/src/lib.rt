@@ -20,6 +20,7 @@
 
 mod answers;
 mod command;
+mod flushes;
 mod options;
 mod program;
 mod script;
@@ -27,5 +28,5 @@ mod verbs;
 mod write;
 
 pub use command::explain_line;
-pub use program::{DONE, FAULT, REFUSED, USAGE, USAGE_LINE, run_program};
+pub use program::{DONE, FAULT, REFUSED, USAGE, USAGE_LINE, run_program, run_program_with};
 pub use script::{ScriptError, run_script};

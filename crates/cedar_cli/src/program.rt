@@ -25,9 +25,8 @@ pub const USAGE: u8 = 2;
 /// The status if a load or a save was refused.
 pub const REFUSED: u8 = 3;
 
-/// The line that is written if the arguments are wrong.
-pub const USAGE_LINE: &str =
-    "usage: cedar [--reduced] [--unordered] [--load PATH] [--limit BYTES] [--save PATH] [--v1-0]\n";
+/// The line that is written if the arguments are wrong. Options that it doesn't name are taken too.
+pub const USAGE_LINE: &str = "usage: cedar [--unordered] [--load PATH] [--save PATH] [--v1-0]\n";
 
 /// What ends a run early.
 #[derive(Debug, Drop)]
@@ -38,7 +37,7 @@ enum Fault {
 }
 
 /// Runs the script on `reader`, writes its answers to `writer`, and returns the status to end with: [`DONE`], [`FAULT`], [`USAGE`] or
-/// [`REFUSED`]. If it isn't `DONE`, a line on `errors` says why; a fault of `errors` isn't reported. The dictionary has at most `SLOTS`
+/// [`REFUSED`]. If it isn't `DONE`, a line on `errors` says why; a fault of `errors` isn't reported. The dictionary has at most 2^30
 /// slots. The options, each once at most and in any order:
 ///
 /// - `--reduced`: the dictionary and its files are of the reduced layout;
@@ -49,9 +48,51 @@ enum Fault {
 /// - `--save PATH`: once all answers are written and flushed, it is saved in this file;
 /// - `--v1-0`, only beside `--save`: it is saved in format 1.0, and not in 1.1.
 ///
-/// The first fault ends the run, so nothing is saved after one. After a fault of the script the answers that were written are still
-/// flushed, and a fault of that flush isn't reported.
-pub fn run_program<const SLOTS: usize, F: Files, A: Allocator + Copy, R: Read, W: Write, E: Write>(
+/// The first fault ends the run, so nothing is saved after one; but after a flush that failed the answers of all lines are still written.
+/// After a fault of the script the answers that were written are still flushed, and a fault of that flush isn't reported.
+#[tactic(auto, using(cedarwood::proofs::DictionaryLemmas::default_limit))]
+pub fn run_program<F: Files, A: Allocator + Copy, R: Read, W: Write, E: Write>(
+    alloc: A,
+    files: &F,
+    arguments: &[&str],
+    reader: &mut Watched<R>,
+    writer: &mut Watched<W>,
+    errors: &mut Watched<E>,
+) -> u8
+    //= The program's status is 0, 1, 2 or 3 (always). [also run_program_with]
+    ensures status { result ≤ 3 }
+
+    //= It is 2 exactly if the arguments are wrong (as `--unordered` beside `--load`, `--v1-0` without `--save`, or `--limit` without
+    //  `--load`). Then nothing was read and nothing written to the output (always). [with untouched; also
+    //  run_program_with.usage.untouched]
+    ensures usage { (result ≡ 2) ↔ (request_of arguments.now ≡ None) }
+    ensures untouched { result ≡ 2 → (reader.new ≡ reader.old) × (writer.new ≡ writer.old) }
+
+    //= At status 0 no call of the reader or the writer failed, and nothing was written to standard error (always). [with unfailed; also
+    //  run_program_with.silent.unfailed]
+    ensures silent { result ≡ 0 → errors.new ≡ errors.old }
+
+    //= Status 0: the answers of the whole input were written, and nothing else: from an empty dictionary of the layout and the order that
+    //  the arguments name, or with `--load` from some state and marks in that layout. [also run_program_with]
+    ensures done { result ≡ 0 → IfSome (request_of arguments.now) (λ asked. OnAsked asked (AnswersAll R.remaining reader.old W.contents writer.old writer.new)) }
+    ensures unfailed { result ≡ 0 → (has_failed reader.new ≡ has_failed reader.old) × (has_failed writer.new ≡ has_failed writer.old) }
+
+    //= With arguments that are right, what was written is a beginning of these answers, or all of them. [also
+    //  run_program_with]
+    ensures begun { IfSome (request_of arguments.now) (λ asked. OnAsked asked (AnswersUpTo R.remaining reader.old W.contents writer.old writer.new)) }
+{
+    run_program_with::<1073741824, F, A, R, W, E>(alloc, files, arguments, reader, writer, errors)
+}
+
+/// The same for a dictionary of at most `SLOTS` slots. Its clauses are those of [`run_program`].
+pub fn run_program_with<
+    const SLOTS: usize,
+    F: Files,
+    A: Allocator + Copy,
+    R: Read,
+    W: Write,
+    E: Write,
+>(
     alloc: A,
     files: &F,
     arguments: &[&str],
@@ -60,24 +101,12 @@ pub fn run_program<const SLOTS: usize, F: Files, A: Allocator + Copy, R: Read, W
     errors: &mut Watched<E>,
 ) -> u8
     requires limit { IsSlotLimit SLOTS }
-
-    //= The program's status is 0, 1, 2 or 3 (always).
     ensures status { result ≤ 3 }
-
-    //= It is 2 exactly if the arguments are wrong (as `--unordered` beside `--load`, `--v1-0` without `--save`, or `--limit` without
-    //  `--load`). Then nothing was read and nothing written to the output (always). [with untouched]
     ensures usage { (result ≡ 2) ↔ (request_of arguments.now ≡ None) }
     ensures untouched { result ≡ 2 → (reader.new ≡ reader.old) × (writer.new ≡ writer.old) }
-
-    //= Then no call of the reader or the writer failed, and nothing was written to standard error (always). [with unfailed]
     ensures silent { result ≡ 0 → errors.new ≡ errors.old }
-
-    //= Status 0: the answers of the whole input were written, and nothing else: from an empty dictionary of the layout and the order that
-    //  the arguments name, or with `--load` from some state and marks in that layout.
     ensures done { result ≡ 0 → IfSome (request_of arguments.now) (λ asked. OnAsked asked (AnswersAll R.remaining reader.old W.contents writer.old writer.new)) }
     ensures unfailed { result ≡ 0 → (has_failed reader.new ≡ has_failed reader.old) × (has_failed writer.new ≡ has_failed writer.old) }
-
-    //= With arguments that are right, what was written is a beginning of these answers, or all of them.
     ensures begun { IfSome (request_of arguments.now) (λ asked. OnAsked asked (AnswersUpTo R.remaining reader.old W.contents writer.old writer.new)) }
 {
     let Some(options) = options_of(arguments) else {
@@ -86,12 +115,12 @@ pub fn run_program<const SLOTS: usize, F: Files, A: Allocator + Copy, R: Read, W
     };
     match run_layout::<SLOTS, F, A, R, W>(alloc, files, options, reader, writer) {
         Ok(()) => DONE,
-        Err(fault) => tell(fault, options, errors),
+        Err(fault) => tell(fault, errors),
     }
 }
 
-/// Reports a fault, with the path of the file that it is of, and returns the status to end with.
-fn tell<E: Write>(fault: Fault, options: Options<'_>, errors: &mut Watched<E>) -> u8
+/// Reports a fault, and returns the status to end with.
+fn tell<E: Write>(fault: Fault, errors: &mut Watched<E>) -> u8
     ensures above { 0 < result }
     ensures within { result ≤ 3 }
     ensures other { result ≡ 2 → ⊥ }
@@ -102,13 +131,11 @@ fn tell<E: Write>(fault: Fault, options: Options<'_>, errors: &mut Watched<E>) -
             FAULT
         }
         Fault::Load(error) => {
-            let path = options.load.unwrap_or("");
-            let _ = writeln!(errors, "cedar: load {path}: {error}");
+            let _ = writeln!(errors, "cedar: load: {error}");
             REFUSED
         }
         Fault::Save(error) => {
-            let path = options.save.unwrap_or("");
-            let _ = writeln!(errors, "cedar: save {path}: {error}");
+            let _ = writeln!(errors, "cedar: save: {error}");
             REFUSED
         }
     }

@@ -1,8 +1,9 @@
 //! A run of a script: lines in, answers out.
 
-ghost use Rattle.std.specs.Prelude.{◌++◌, ◌+◌, ◌<◌, ◌∷◌, ◌≡◌, ◌≤◌, [], IfErr, IfOk, IfSome, length, OnErr, OnOk, position, true, vec_capacity};
+ghost use Rattle.std.specs.Prelude.{◌||◌, ◌++◌, ◌+◌, ◌<◌, ◌∷◌, ◌≡◌, ◌≤◌, [], false, IfErr, IfOk, IfSome, length, OnErr, OnOk, position, true, vec_capacity};
 ghost use Rattle.cedar_cli.specs.Words.{AdvancesBy, Answers, AnswersOrFails, EndsInput, FinishesAll, FinishesComing, GrowsBefore, GrowsWithin, has_failed, HasLineRoom, HasNoNewline, held_by, is_newline, LineMayLackMemory, OnWriter, order_of, StopsOn};
 
+use crate::flushes::{Flushes, flush_answers};
 use crate::verbs::answer_line;
 use cedarwood::{Layout, Trie, Watched};
 use memchr::memchr;
@@ -35,17 +36,18 @@ const LINE_ROOM: usize = 8192;
 const KEY_ROOM: usize = 4096;
 
 /// Runs each line of what the reader has left, and writes its answer. Memory holds one line, half as many bytes for its key, and one key of
-/// an iteration. The writer is flushed before each read, so that one who waits for an answer before the next line gets it.
+/// an iteration. Answers are flushed before the next read, so that one who waits for an answer before the next line gets it.
 ///
 /// A line is the bytes up to byte 10 (`\n`); a last nonempty piece without it is a line too. A line is finished when its answer has been
 /// written whole, and keys and values are always those of the finished lines. So are the slots that are in use, except after a fault of the
 /// writer: in the reduced layout a value that was undone may leave those of shorter keys in slots of their own.
 ///
 /// # Errors
-/// The first fault ends the run: `Read` or `Write` if the device failed (an interrupted call is a fault), `Memory` if an allocation was
-/// refused, `SlotLimit` if all slots that there may be are in use. What was written then begins with the answers of the finished lines. A
-/// line that a read fault cut has no answer. Room for lines of up to 8,192 bytes is allocated before the first read. After it a line fails
-/// with `Memory` only if it is longer, if it lists all entries, or if the dictionary has no block spare and fewer slots than it may have.
+/// The first fault ends the run, except that of a flush: `Read` or `Write` if the device failed (an interrupted call is a fault), `Memory` if
+/// an allocation was refused, `SlotLimit` if all slots that there may be are in use. After a flush that failed the answers to come are still
+/// written, and the run fails with `Write` however it ends. What was written begins with the answers of the finished lines. A line that a
+/// read fault cut has no answer. Room for lines of up to 8,192 bytes is allocated before the first read. After it a line fails with `Memory`
+/// only if it is longer, if it lists all entries, or if the dictionary has no block spare and fewer slots than it may have.
 pub fn run_script<L: Layout, const SLOTS: usize, A: Allocator + Copy, R: Read, W: Write>(
     alloc: A,
     trie: &mut Trie<L, SLOTS, A>,
@@ -92,22 +94,56 @@ pub fn run_script<L: Layout, const SLOTS: usize, A: Allocator + Copy, R: Read, W
     //= `max_trial` doesn't change (always).
     ensures max_trial { trie.new.max_trial ≡ trie.old.max_trial }
 {
+    let mut flushes = Flushes {
+        due: false,
+        failed: false,
+    };
+    let outcome = answer_input(alloc, trie, reader, writer, &mut flushes);
+    if flushes.failed {
+        return Err(ScriptError::Write);
+    }
+    outcome
+}
+
+/// Runs each line of what the reader has left. A flush that fails doesn't end it, and is told in `flushes`.
+fn answer_input<L: Layout, const SLOTS: usize, A: Allocator + Copy, R: Read, W: Write>(
+    alloc: A,
+    trie: &mut Trie<L, SLOTS, A>,
+    reader: &mut Watched<R>,
+    writer: &mut Watched<W>,
+    flushes: &mut Flushes,
+) -> Result<(), ScriptError>
+    requires fresh { flushes.old.failed ≡ false }
+    ensures ok { OnOk result (FinishesAll R.remaining reader.old W.contents writer.old writer.new L.kind trie.old trie.new) }
+    ensures err { IfErr result (EndsInput R.remaining reader.old W.contents writer.old writer.new SLOTS L.kind trie.old trie.new) }
+    ensures read { result ≡ Err ScriptError.Read → FinishesComing R.remaining reader.old reader.new W.contents writer.old writer.new L.kind trie.old trie.new }
+    ensures read_cause { result ≡ Err ScriptError.Read → has_failed reader.new ≡ true }
+    ensures write_cause { result ≡ Err ScriptError.Write → has_failed writer.new ≡ true }
+    ensures flush_cause { flushes.new.failed ≡ true → has_failed writer.new ≡ true }
+    ensures unfailed { OnOk result ((has_failed reader.new ≡ has_failed reader.old) × (has_failed writer.new ≡ (flushes.new.failed || has_failed writer.old))) }
+    ensures limit { result ≡ Err ScriptError.SlotLimit → trie.new.size ≡ SLOTS }
+    ensures blocks { IfSome (held_by R.remaining reader.old) (λ input. GrowsWithin (length input) trie.old trie.new) }
+    ensures starved { result ≡ Err ScriptError.Memory → (has_failed reader.new ≡ has_failed reader.old) × (has_failed writer.new ≡ (flushes.new.failed || has_failed writer.old)) }
+    ensures full { result ≡ Err ScriptError.SlotLimit → (has_failed reader.new ≡ has_failed reader.old) × (has_failed writer.new ≡ (flushes.new.failed || has_failed writer.old)) }
+    ensures max_trial { trie.new.max_trial ≡ trie.old.max_trial }
+{
     let Ok((mut line, mut key)) = line_room(alloc) else {
         return Err(ScriptError::Memory);
     };
     let mut chunk = [0u8; CHUNK];
     for turn in 0..MAX_READS {
         // Whoever waits for the answers so far gets them before more input is read.
-        let Ok(()) = writer.flush() else {
-            return Err(ScriptError::Write);
-        };
+        *flushes = flush_answers(writer, *flushes);
         let Ok(count) = reader.read(&mut chunk) else {
             return Err(ScriptError::Read);
         };
         if count == 0 {
             break;
         }
+        let begun = line.len();
         take_bytes(trie, &mut line, &mut key, &chunk[..count], writer)?;
+        // A line was answered if the begun one didn't grow by all that came.
+        flushes.due = line.len().saturating_sub(begun) < count;
     }
     if !line.is_empty() {
         answer_with_room(trie, line.as_slice(), &mut key, writer)?;

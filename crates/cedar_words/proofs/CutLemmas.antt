@@ -4,7 +4,7 @@ use Rattle.std.proofs.lemmas.List.{get_or-take, length-drop, length-take-le}
 use Rattle.std.proofs.lemmas.Bool.Decides.{eqb_tells}
 use Rattle.cedarwood.specs.Tree.{Tree, number_at}
 use Rattle.cedarwood.specs.Queries.{front}
-use Rattle.cedar_words.specs.Cuts.{character_price, cost_by, IsAhead, IsCheapestBy, IsCut, IsCutFrom, IsLeastCapped, IsPiece, price}
+use Rattle.cedar_words.specs.Cuts.{character_price, cost_by, IsAhead, IsAheadCapped, IsCheapestBy, IsCut, IsCutFrom, IsLeastCapped, IsPiece, price}
 use Rattle.cedar_words.specs.Steps.{AreCosts, best_cut, best_of, cost_at, cut_along, IsFoundBy, step_at}
 use Rattle.cedar_words.specs.Tokens.{Token}
 use Rattle.cedar_words.proofs.StepLemmas.{along_step, best_least_byte, best_least_key, best_longest_key, best_over, IsStepOver}
@@ -89,7 +89,7 @@ along_costs t u text costs are zero place (suc left) low end =
     joined p c after cost more costs = omega (arith, more, costs)
 
 -- a cut's tokens end within the text
-cut_within : (t : Tree) (text : List ℕ) (tokens : List Token) (place : ℕ) → IsCutFrom t text place tokens → place ≤ length text
+pub cut_within : (t : Tree) (text : List ℕ) (tokens : List Token) (place : ℕ) → IsCutFrom t text place tokens → place ≤ length text
 cut_within t text [] place is = omega (arith, is)
 cut_within t text (x ∷ tokens) place is = let later = cut_within t text tokens (place + x.1) is.3 in omega (arith, later)
 
@@ -212,6 +212,22 @@ steps_capped t u text costs are other is =
     let same = along_costs t u text costs are 0 0 (length text) (omega arith) (omega arith) ∙ ap (λ n. cost_at costs n) all in
     let least = cut_least t u text costs are other 0 (length text) (omega arith) is in
     omega (arith, same, least)
+
+-- they are ahead of each cut that costs as little, as far as sums count
+pub steps_ahead : (t : Tree) (u : ℕ → ℕ) (text costs : List ℕ) → AreCosts t u text costs → IsAheadCapped t u text (best_cut t u text costs)
+steps_ahead t u text costs are other is cheap =
+    let all : length text - 0 ≡ length text = omega arith in
+    let same = along_costs t u text costs are 0 0 (length text) (omega arith) (omega arith) ∙ ap (λ n. cost_at costs n) all in
+    cut_ahead t u text costs are other 0 (length text) (omega arith) is (subst (λ c. cost_by u other ≤ c) same cheap)
+
+-- a cut that costs less than 2 ^ 64 is the cheapest where no sum that counts is less, and none that counts as much is ahead
+pub capped_cheapest : (t : Tree) (u : ℕ → ℕ) (text : List ℕ) (tokens : List Token) → IsCut t text tokens → IsLeastCapped t u text tokens → IsAheadCapped t u text tokens → cost_by u tokens < 2 ^ 64
+    → IsCheapestBy t u text tokens
+capped_cheapest t u text tokens is least ahead low = record {
+  cut = is;
+  least = λ other there. let less = least other there in omega (arith, less, low);
+  ahead = λ other there cheap. ahead other there (omega (arith, cheap, low));
+}
 
 steps_exact : (t : Tree) (u : ℕ → ℕ) (text costs : List ℕ) → AreCosts t u text costs → ((p : ℕ) → u p < 2 ^ 32) → length text < 2 ^ 32 → cost_by u (cut_along (step_at t u text costs) 0 0 (length text)) ≡ cost_at costs (length text)
 steps_exact t u text costs are low short =

@@ -1,3 +1,4 @@
+pub mod CharacterLemmas
 pub mod CutLemmas
 pub mod LongestLemmas
 pub mod MarkLemmas

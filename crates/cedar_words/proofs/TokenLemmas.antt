@@ -77,7 +77,7 @@ pub segments_bytes : (t : Tree) (place : ℕ) (text : List ℕ) → bytes_in (to
 segments_bytes t place text = let all = tokens_bytes t 0 place text in omega (arith, all)
 
 -- and they cover them
-tokens_cover : (t : Tree) (k place : ℕ) (text : List ℕ) → k ≤ length text → AreAdjacent (tokens_behind t k place text) (place + k) (place + length text)
+pub tokens_cover : (t : Tree) (k place : ℕ) (text : List ℕ) → k ≤ length text → AreAdjacent (tokens_behind t k place text) (place + k) (place + length text)
 tokens_cover t k place [] h = omega (arith, h)
 tokens_cover t (suc k) place (b ∷ rest) h =
     let begin : place + 1 + k ≡ place + suc k = omega arith in
@@ -118,7 +118,7 @@ drop_one (suc place) [] rest b e = absurd (cc)
 drop_one (suc place) (c ∷ text) rest b e = let same : suc place + 1 ≡ suc (place + 1) = omega arith in ap (λ n. drop n (c ∷ text)) same ∙ drop_one place text rest b e
 
 -- each of them is the longest at its place
-tokens_longest : (t : Tree) (text : List ℕ) (k place : ℕ) (rest : List ℕ) → drop place text ≡ rest → All (IsLongest t text) (tokens_behind t k place rest)
+pub tokens_longest : (t : Tree) (text : List ℕ) (k place : ℕ) (rest : List ℕ) → drop place text ≡ rest → All (IsLongest t text) (tokens_behind t k place rest)
 tokens_longest t text k place [] e = All-nil (IsLongest t text)
 tokens_longest t text (suc k) place (b ∷ rest) e = tokens_longest t text k (place + 1) rest (drop_one place text rest b e)
 tokens_longest t text zero place (b ∷ rest) e =
@@ -131,7 +131,7 @@ pub segments_longest : (t : Tree) (text : List ℕ) → All (IsLongest t text) (
 segments_longest t text = tokens_longest t text 0 0 text refl
 
 -- no bytes have no tokens
-none_left : (t : Tree) (place : ℕ) (rest : List ℕ) → length rest ≡ 0 → tokens_behind t 0 place rest ≡ []
+pub none_left : (t : Tree) (place : ℕ) (rest : List ℕ) → length rest ≡ 0 → tokens_behind t 0 place rest ≡ []
 none_left t place [] h = refl
 none_left t place (b ∷ rest) h = absurd (omega (arith, h))
 

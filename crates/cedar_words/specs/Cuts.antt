@@ -55,6 +55,10 @@ HasOneCheapest tree unknown text = (one other : List Token) → IsCheapestBy tre
 abbrev pub IsLeastCapped : Tree → (ℕ → ℕ) → List ℕ → List Token → Type 0
 IsLeastCapped tree unknown text tokens = (other : List Token) → IsCut tree text other → min (cost_by unknown tokens) (2 ^ 64 - 1) ≤ cost_by unknown other
 
+-- the tokens are ahead of each cut that costs as little, and no more than 2 ^ 64 - 1
+abbrev pub IsAheadCapped : Tree → (ℕ → ℕ) → List ℕ → List Token → Type 0
+IsAheadCapped tree unknown text tokens = (other : List Token) → IsCut tree text other → cost_by unknown other ≤ min (cost_by unknown tokens) (2 ^ 64 - 1) → IsAhead tokens other
+
 -- where each such byte costs the same
 abbrev pub IsCheapest : Tree → ℕ → List ℕ → List Token → Type 0
 IsCheapest tree unknown text tokens = IsCheapestBy tree (λ _. unknown) text tokens

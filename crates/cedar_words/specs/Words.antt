@@ -1,12 +1,15 @@
 -- The words that the public clauses cite, from one place: a caller's crate takes them from here, and so do this crate's own sources.
+pub use Rattle.cedar_words.specs.Characters.{AreWholeCharacters, HasUtf8Keys, PartsNoCharacter}
 pub use Rattle.cedar_words.specs.Cuts.{character_price, cost_by, HasOneCheapest, IsAhead, IsCheapest, IsCheapestBy, IsCut}
-pub use Rattle.cedar_words.specs.Cuts.{IsLeastCapped}
+pub use Rattle.cedar_words.specs.Cuts.{IsAheadCapped, IsLeastCapped}
 pub use Rattle.cedar_words.specs.Spots.{IsKeyIn, IsLeftmost, keywords_from, keywords_in, keywords_of, Spot, spots_at, spots_from}
 pub use Rattle.cedar_words.specs.Spots.{spots_left}
 pub use Rattle.cedar_words.specs.Steps.{AreCosts, AreMarks, AreWithin, best_cut, best_of, better_of, IsFoundBy, IsMark, key_step, step_at, step_over}
 pub use Rattle.cedar_words.specs.Tokens.{AreAdjacent, bytes_in, found_number, IsLongest, len_of, longest, segments, Token, tokens_behind}
 pub use Rattle.cedar_words.specs.Tokens.{TokensGoOn}
-pub use Rattle.cedarwood.specs.Queries.{front}
-pub use Rattle.cedarwood.specs.Tree.{Tree}
+pub use Rattle.cedarwood.specs.Queries.{Entry, front}
+pub use Rattle.cedarwood.specs.State.{State}
+pub use Rattle.cedarwood.specs.Builds.{all_stored}
+pub use Rattle.cedarwood.specs.Tree.{cut, empty_tree, IsSoundBelow, put, Tree}
 pub use Rattle.std.specs.Iterator.{item_count, UpTo, YieldsFirst}
 pub use Rattle.std.specs.Iterator.SizeHint.{IsWithinCount}

@@ -1,7 +1,7 @@
 //! The cut of least cost: a key costs its value, and each byte without a value costs the same.
 
 ghost use Rattle.std.specs.Prelude.{◌+◌, ◌-◌, ◌<◌, ◌^◌, ◌∷◌, ◌≡◌, ◌≤◌, [], IfOk, length, List, MatchOption, ℕ, ℤ};
-ghost use Rattle.cedar_words.specs.Words.{AreCosts, AreMarks, AreWithin, best_cut, best_of, better_of, character_price, front, IsCheapest, IsCheapestBy, IsCut, IsFoundBy, IsLeastCapped, IsMark, key_step, step_at, step_over, Tree};
+ghost use Rattle.cedar_words.specs.Words.{AreCosts, AreMarks, AreWithin, best_cut, best_of, better_of, character_price, front, IsAheadCapped, IsCheapest, IsCheapestBy, IsCut, IsFoundBy, IsLeastCapped, IsMark, key_step, step_at, step_over, Tree};
 
 use cedarwood::{Layout, PrefixIter, Trie, Walked};
 use std::alloc::{AllocError, Allocator};
@@ -265,7 +265,8 @@ fn cut_by<T: FirstStep, P: BytePrice, B: Allocator + Copy>(
 /// that cost the same it is the one with the longer token where they first differ, and with a key rather than a byte. So one dictionary and
 /// text have one result, in both layouts.
 ///
-/// A sum above 2^64 - 1 counts as 2^64 - 1. The least sum of a text of fewer than 2^32 bytes is below that.
+/// A sum above 2^64 - 1 counts as 2^64 - 1. The least sum of a text of fewer than 2^32 bytes is below that. If every cut of a longer text
+/// costs 2^64 or more, it is some cut of it.
 ///
 /// It allocates nine bytes for each byte of the text and nine more, in two allocations, and frees them when it ends; the result grows as
 /// any vector does. Each place costs a prefix walk.
@@ -294,6 +295,10 @@ pub fn cheapest<L: Layout, const SLOTS: usize, A: Allocator + Copy, B: Allocator
 
     //= No cut of any text costs less, if sums above 2^64 - 1 count as 2^64 - 1.
     ensures capped { IfOk result (λ tokens. IsLeastCapped trie.now.state.tree (λ _. unknown) text.now tokens.items) }
+
+    //= In a text of any length, of the cuts that cost as little and no more than 2^64 - 1, it is the one with the longer token where
+    //  lengths first differ, which has each key that the other has before that. [by IsAheadCapped]
+    ensures ahead { IfOk result (λ tokens. IsAheadCapped trie.now.state.tree (λ _. unknown) text.now tokens.items) }
 {
     cut_by(alloc, trie, text, &EachByte { cost: unknown })
 }
@@ -331,6 +336,9 @@ pub fn cheapest_by_characters<
 
     //= By characters too no cut of any text costs less, if sums above 2^64 - 1 count as 2^64 - 1.
     ensures capped { IfOk result (λ tokens. IsLeastCapped trie.now.state.tree (character_price unknown text.now) text.now tokens.items) }
+
+    //= By characters too it comes first among those of any text that cost as little and no more than 2^64 - 1. [by IsAheadCapped]
+    ensures ahead { IfOk result (λ tokens. IsAheadCapped trie.now.state.tree (character_price unknown text.now) text.now tokens.items) }
 {
     cut_by(alloc, trie, text, &EachCharacter { cost: unknown })
 }

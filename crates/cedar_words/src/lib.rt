@@ -21,8 +21,9 @@ mod spots;
 pub use costs::{cheapest, cheapest_by_characters};
 pub use keywords::{Keywords, leftmost_longest, leftmost_longest_from};
 pub use laws::{
-    cheapest_is_one, cuts_cover, keywords_are_leftmost, matches_are_keys, tokens_are_longest,
-    tokens_cover, tokens_go_on, tokens_lie_within,
+    capped_is_cheapest, cheapest_is_one, cuts_cover, keys_part_no_character, keywords_are_leftmost,
+    matches_are_keys, tokens_are_longest, tokens_cover, tokens_go_on, tokens_lie_within,
+    tokens_part_no_character, utf8_keys_stay,
 };
 pub use longest::LongestPrefix;
 pub use segments::{Segments, segment, segment_from};

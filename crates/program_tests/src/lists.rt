@@ -1,7 +1,7 @@
 //! Dictionaries of either layout, without a key, and lists of calls, made without their clauses.
 ghost use Rattle.cedarwood.specs.Words.{IsSlotLimit};
 
-use cedar_calls::{Answer, Call, Change, Question, run_calls};
+use cedar_calls::{Answer, Call, Change, Question, reserve_for_calls, run_calls};
 use cedarwood::{CedarBuilder, CedarError, Layout, Trie};
 use std::alloc::{AllocError, Allocator};
 
@@ -18,7 +18,7 @@ pub(crate) fn ask(index: usize, question: Question<'_>) -> Call<'_> {
 /// Dictionaries, and their list, over one allocator.
 pub(crate) type Tries<L, const SLOTS: usize, A> = Vec<Trie<L, SLOTS, A>, A>;
 
-/// Makes some calls.
+/// Makes some calls, once there is room for them.
 pub(crate) fn run<L: Layout, const SLOTS: usize, A: Allocator + Copy>(
     alloc: A,
     tries: &mut Tries<L, SLOTS, A>,
@@ -26,7 +26,9 @@ pub(crate) fn run<L: Layout, const SLOTS: usize, A: Allocator + Copy>(
 ) -> Result<Vec<Answer<A>, A>, AllocError>
     requires { IsSlotLimit SLOTS }
 {
-    run_calls(tries, alloc, calls)
+    let mut answers = reserve_for_calls(tries, alloc, calls)?;
+    run_calls(tries, alloc, calls, &mut answers);
+    Ok(answers)
 }
 
 /// A dictionary of 2^30 slots at most, over an allocator that refuses or not.

@@ -1,7 +1,7 @@
 //! The program: its statuses, and what it writes to its errors' writer.
 ghost use Rattle.cedarwood.specs.Words.{IsSlotLimit};
 
-use cedar_cli::{DONE, FAULT, REFUSED, USAGE, run_program};
+use cedar_cli::{DONE, FAULT, REFUSED, USAGE, run_program, run_program_with};
 use cedarwood::Watched;
 use std::alloc::{AllocError, Global};
 use std::process::Abort;
@@ -12,8 +12,7 @@ const SCRIPT: &[u8] = b"+ 61 1\n= 61\n";
 
 const ANSWERS: &str = "ok\n1 1\n";
 
-const USAGE_TEXT: &str =
-    "usage: cedar [--reduced] [--unordered] [--load PATH] [--limit BYTES] [--save PATH] [--v1-0]\n";
+const USAGE_TEXT: &str = "usage: cedar [--unordered] [--load PATH] [--save PATH] [--v1-0]\n";
 
 // What fails in a run.
 #[derive(Clone, Copy)]
@@ -65,7 +64,7 @@ fn call<const SLOTS: usize>(
 ) -> u8
     requires { IsSlotLimit SLOTS }
 {
-    run_program::<SLOTS, _, _, _, _, _>(refusing, rt, arguments, reader, writer, errors)
+    run_program_with::<SLOTS, _, _, _, _, _>(refusing, rt, arguments, reader, writer, errors)
 }
 
 // Runs the program on the script, with these bytes for what it writes and reports.
@@ -212,38 +211,48 @@ const CASES: [(Faults, &str, &str, u64); 7] = [
         },
         "ok\n1 1\n",
         "cedar: read fault\n",
-        3,
+        2,
     ),
-    (Faults { room: 0, ..NONE }, "", "cedar: write fault\n", 2),
+    (Faults { room: 0, ..NONE }, "", "cedar: write fault\n", 1),
     (
         Faults { room: 5, ..NONE },
         "ok\n1 ",
         "cedar: write fault\n",
+        1,
+    ),
+    // After a flush that failed all answers are still written.
+    (
+        Faults { flush: 1, ..NONE },
+        "ok\n1 1\n",
+        "cedar: write fault\n",
         2,
     ),
-    (Faults { flush: 1, ..NONE }, "", "cedar: write fault\n", 2),
     (
         Faults { flush: 2, ..NONE },
         "ok\n1 1\n",
         "cedar: write fault\n",
-        3,
-    ),
-    (
-        Faults { flush: 3, ..NONE },
-        "ok\n1 1\n",
-        "cedar: write fault\n",
-        3,
+        2,
     ),
     // The fault that came first is reported.
     (
         Faults {
             reader: Ending::Fault,
-            flush: 3,
+            flush: 1,
+            ..NONE
+        },
+        "ok\n1 1\n",
+        "cedar: write fault\n",
+        2,
+    ),
+    (
+        Faults {
+            reader: Ending::Fault,
+            flush: 2,
             ..NONE
         },
         "ok\n1 1\n",
         "cedar: read fault\n",
-        3,
+        2,
     ),
 ];
 
@@ -292,16 +301,33 @@ fn expect_silence(rt: &impl Abort, host: &HostRuntime, request: u64) -> Result<(
     Ok(())
 }
 
-// Each request refused in turn. If none is, the script comes in one read, and the next read finds its end: two flushes, and one
-// after the run.
+// Each request refused in turn. If none is, the script comes in one read, and the next read finds its end: a flush before that, and
+// one after the run.
 #[test]
 fn refused_memory(rt: HostRuntime) -> Result<(), Fail> {
     let marks = expect_run(&rt, &rt, &[], NONE, 128, (DONE, ANSWERS, ""))?;
-    expect_no_fault(&rt, marks, 3);
+    expect_no_fault(&rt, marks, 2);
     assert!(&rt; marks.requests > 0);
     for earlier in 0..marks.requests {
         expect_memory(&rt, &rt, earlier + 1)?;
         expect_silence(&rt, &rt, earlier + 1)?;
     }
+    Ok(())
+}
+
+// The program's own call, with no limit of slots but that of its dictionaries.
+#[test]
+fn a_run_within_all_slots(rt: HostRuntime) -> Result<(), Fail> {
+    let mut written = vec![in rt.alloc(); 0u8; 64]?;
+    let mut told = vec![in rt.alloc(); 0u8; 128]?;
+    let mut reader = Watched::new(FailingReader::new(SCRIPT, SCRIPT.len(), 64, Ending::Quiet));
+    let mut writer = Watched::new(FailingWriter::new(&mut written, 64, Ending::Fault));
+    let mut errors = Watched::new(FailingWriter::new(&mut told, 128, Ending::Fault));
+    let status = run_program(rt.alloc(), &rt, &[], &mut reader, &mut writer, &mut errors);
+    let len = writer.into_inner().len();
+    let told_len = errors.into_inner().len();
+    written.truncate(len);
+    assert!(&rt; (status, told_len) == (DONE, 0));
+    expect_bytes(&rt, &written, ANSWERS);
     Ok(())
 }

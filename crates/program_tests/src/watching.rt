@@ -1,6 +1,6 @@
 //! The watched devices, and when a script flushes.
 use crate::lists::empty;
-use crate::runs::{answers, script, whole_lines};
+use crate::runs::{ROWS, answers, script, whole_lines};
 use cedar_cli::{ScriptError, run_script};
 use cedarwood::{Cedar, CedarError, Watched};
 use std::alloc::Global;
@@ -83,23 +83,30 @@ fn a_flush(rt: HostRuntime) {
     assert!(rt; writer.into_inner().flushes() == 3);
 }
 
-// What a script leaves whose flush of one number fails, with a reader that gives a byte a read.
+// A reader that gives a byte a read.
+fn slow(script: &[u8], comes: usize, ending: Ending) -> Watched<FailingReader<'_>> {
+    Watched::new(FailingReader::new(script, comes, 1, ending))
+}
+
+// What a script leaves whose flush of one number fails; at 0 none.
 #[derive(Drop)]
 struct Unflushed {
     outcome: Result<(), ScriptError>,
     failed: (bool, bool),
     flushes: u64,
     written: Vec<u8>,
-    has_more_to_read: bool,
 }
 
 #[tactic(auto, using(cedarwood::proofs::DictionaryLemmas::default_limit))]
-fn run_unflushed(alloc: Global, script: &[u8], flush: u64) -> Result<Unflushed, CedarError> {
+fn run_unflushed(
+    alloc: Global,
+    mut reader: Watched<FailingReader<'_>>,
+    flush: u64,
+) -> Result<Unflushed, CedarError> {
     let mut cedar: Cedar<Global> = empty(alloc)?;
     let Ok(mut written) = vec![in alloc; 0u8; 256] else {
         return Err(CedarError::Memory);
     };
-    let mut reader = Watched::new(FailingReader::new(script, script.len(), 1, Ending::Quiet));
     let inside = FailingWriter::new(&mut written, 256, Ending::Fault);
     let mut writer = Watched::new(FlushCounter::new(inside, flush));
     let outcome = run_script(alloc, &mut cedar, &mut reader, &mut writer);
@@ -108,34 +115,56 @@ fn run_unflushed(alloc: Global, script: &[u8], flush: u64) -> Result<Unflushed, 
     let flushes = inside.flushes();
     let len = inside.inner().len();
     written.truncate(len);
-    let mut next = [0u8; 1];
-    let has_more_to_read = matches!(reader.read(&mut next), Ok(1));
     Ok(Unflushed {
         outcome,
         failed,
         flushes,
         written,
-        has_more_to_read,
     })
 }
 
-// Expects a run to have ended at the failed flush, after so many, and to have written this, with more to read or not.
-fn expect_left(rt: &impl Abort, left: &Unflushed, flushes: u64, written: &[u8], has_more: bool) {
-    let devices = (left.failed, left.flushes, left.has_more_to_read);
-    assert!(rt; left.outcome == Err(ScriptError::Write));
-    assert!(rt; devices == ((false, true), flushes, has_more));
+// Expects a run to have ended so, after so many flushes, and to have written this.
+fn expect_left(
+    rt: &impl Abort,
+    left: &Unflushed,
+    outcome: Result<(), ScriptError>,
+    flushes: usize,
+    written: &[u8],
+) {
+    assert!(rt; left.outcome == outcome);
+    assert!(rt; left.flushes == flushes as u64);
     assert!(rt; left.written.as_slice() == written);
 }
 
-// A script flushes before each read: the bytes of the reads before the failed flush have come, and no more.
+// Where the read that is next fails, the answers of all lines that came are written and flushed, with a flush for each line, and none where a
+// byte ended no line.
 #[test]
-fn a_script_flushes_before_each_read(rt: HostRuntime) -> Result<(), Fail> {
+fn a_script_flushes_its_answers_before_the_next_read(rt: HostRuntime) -> Result<(), Fail> {
     let script = script(rt.alloc())?;
     for come in 0..script.len() + 1 {
-        let flush = come as u64 + 1;
-        let left = run_unflushed(rt.alloc(), &script, flush)?;
-        let expected = answers(rt.alloc(), whole_lines(&script[..come]))?;
-        expect_left(&rt, &left, flush, &expected, come < script.len());
+        let lines = whole_lines(&script[..come]);
+        let left = run_unflushed(rt.alloc(), slow(&script, come, Ending::Fault), 0)?;
+        let expected = answers(rt.alloc(), lines)?;
+        expect_left(&rt, &left, Err(ScriptError::Read), lines, &expected);
+        assert!(&rt; left.failed == (true, false));
+    }
+    Ok(())
+}
+
+// After a flush that failed all lines are still answered, the last one too, which has no newline. The run then fails with `Write`, even if
+// the reader fails later.
+#[test]
+fn answers_go_on_after_a_failed_flush(rt: HostRuntime) -> Result<(), Fail> {
+    let script = script(rt.alloc())?;
+    let lines = whole_lines(&script);
+    for (ending, answered) in [(Ending::Quiet, ROWS.len()), (Ending::Fault, lines)] {
+        let expected = answers(rt.alloc(), answered)?;
+        for earlier in 0..lines {
+            let reader = slow(&script, script.len(), ending);
+            let left = run_unflushed(rt.alloc(), reader, earlier as u64 + 1)?;
+            expect_left(&rt, &left, Err(ScriptError::Write), lines, &expected);
+            assert!(&rt; left.failed == (ending == Ending::Fault, true));
+        }
     }
     Ok(())
 }

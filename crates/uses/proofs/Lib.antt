@@ -1,3 +1,5 @@
 pub mod CountLemmas
 pub mod PageLemmas
 pub mod KeywordLemmas
+pub mod PartLemmas
+pub mod TermLemmas

@@ -1,4 +1,5 @@
 pub mod Counts
 pub mod Keywords
 pub mod Pages
+pub mod Parts
 pub mod Words

@@ -6,6 +6,7 @@ mod callers;
 mod counted;
 mod counter;
 mod filter;
+mod glossary;
 mod pages;
 mod service;
 #[cfg(test)]

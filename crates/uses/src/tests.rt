@@ -3,6 +3,7 @@ use crate::callers::{Lexicon, slots, with_one};
 use crate::counted::search;
 use crate::counter::count;
 use crate::filter::{has_keyword, keywords_of};
+use crate::glossary::Glossary;
 use crate::pages::{page_behind, page_from};
 use crate::service::publish;
 use crate::tokenizer::{Tokenizer, pieces_of};
@@ -114,6 +115,27 @@ fn expect_pieces(rt: &impl Abort, alloc: Global, tokenizer: &Tokenizer) -> Resul
     assert!(rt; pieces.len() == 3);
     assert!(rt; pieces[2] == b"nets".as_slice());
     Ok(())
+}
+
+// The text has a character of three bytes before each term, and one behind them that no term has.
+fn expect_terms(rt: &impl Abort, alloc: Global, glossary: &Glossary) -> Result<(), Fail> {
+    let found = glossary.terms_in(alloc, "“网球拍”、网")?;
+    assert!(rt; found.len() == 1);
+    assert!(rt; found[0].0 == "网球拍" && found[0].1 == 2);
+    Ok(())
+}
+
+fn expect_no_term(rt: &impl Abort, glossary: &mut Glossary) {
+    assert!(rt; glossary.add("", 3) == Err(CedarError::EmptyKey));
+}
+
+#[test]
+fn terms(rt: HostRuntime) -> Result<(), Fail> {
+    let mut glossary = Glossary::new(rt.alloc())?;
+    glossary.add("网球", 1)?;
+    glossary.add("网球拍", 2)?;
+    expect_no_term(&rt, &mut glossary);
+    expect_terms(&rt, rt.alloc(), &glossary)
 }
 
 #[test]

@@ -1,7 +1,7 @@
 //! Texts cut into words by a dictionary that was saved.
 
-ghost use Rattle.std.specs.Prelude.{◌<◌, ◌^◌, ◌≡◌, IfOk, length};
-ghost use Rattle.uses.specs.Words.{device_of, IsCheapest, ReadsTable, segments};
+ghost use Rattle.std.specs.Prelude.{◌<◌, ◌^◌, ◌≡◌, IfOk, length, map};
+ghost use Rattle.uses.specs.Words.{device_of, IsCheapest, piece_of, ReadsTable, segments};
 
 use cedar_words::{cheapest, segment};
 use cedarwood::{Cedar, CedarPersistenceError, Layout, Trie, Watched};
@@ -71,8 +71,8 @@ pub fn pieces_of<'a, L: Layout, const SLOTS: usize, A: Allocator + Copy>(
     alloc: Global,
     text: &'a [u8],
 ) -> Result<Vec<&'a [u8], Global>, AllocError>
-    //= As many pieces of a text are cut out as it has tokens.
-    ensures { IfOk result (λ pieces. length pieces.items ≡ length (segments words.now.state.tree text.now)) }
+    //= The pieces of a text are the bytes of its tokens, one for each in their order.
+    ensures { IfOk result (λ pieces. map (λ piece. piece.now) pieces.items ≡ map (piece_of text.now) (segments words.now.state.tree text.now)) }
 {
     let mut pieces = Vec::new(alloc);
     for token in segment(words, text) {

@@ -1,6 +1,7 @@
 //! Lists of calls: their calls succeed with memory at hand, and have the answers that were made by hand.
 
 mod batches;
+mod drops;
 mod ends;
 mod files;
 mod ranges;

@@ -2,6 +2,7 @@
 //! key of a million bytes. Each answer is the one that is named, and what was held stays.
 
 mod long;
+mod nothing;
 mod runs;
 mod scripts;
 mod state;

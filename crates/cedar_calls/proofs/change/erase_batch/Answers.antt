@@ -1,10 +1,17 @@
-use Rattle.std.proofs.Common.{rules, ◌≡◌, ◌++◌, drop, length, take, ap, sym, subst, ◌∙◌}
+use Rattle.std.proofs.Common.{rules, arith, ◌≡◌, ◌<◌, ◌++◌, drop, length, take, ap, sym, subst, ◌∙◌}
 use Rattle.std.proofs.lemmas.List.{length-map}
+use Rattle.std.proofs.lemmas.Result.{err_from_is_err_and}
 use Rattle.std.proofs.Math.Seq.{take-length}
 use Rattle.cedarwood.specs.Batches.{held_in_turn, IsErasures, keys_erased}
 use Rattle.cedarwood.specs.Words.{keys_of}
-use Rattle.cedar_calls.proofs.BatchLemmas.{all_asked, each_filled, length-held_in_turn}
+use Rattle.cedar_calls.proofs.BatchLemmas.{all_asked, each_filled, length-held_in_turn, none_erased}
 use Rattle.cedar_calls.proofs.change.erase_batch.Goals as goal
+
+pub returns-in_err-held : goal.returns-in_err-held
+returns-in_err-held g c =
+    let p = err_from_is_err_and c.from_residual.result c.from_residual.ensures.1 in
+    let some : 0 < length (keys_of c.args.keys.now) = omega (arith, length-map c.args.keys.now (λ key. key.now), c.in_err-held.ensures.refused) in
+    rw (p.1, p.2) (none_erased c.args.trie.now (keys_of c.args.keys.now) some)
 
 pub returns : goal.returns
 returns g c =

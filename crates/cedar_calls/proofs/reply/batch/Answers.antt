@@ -1,9 +1,15 @@
-use Rattle.std.proofs.Common.{rules, ◌≡◌, length, sym, ◌∙◌}
+use Rattle.std.proofs.Common.{rules, arith, ◌≡◌, ◌<◌, length, refl, sym, ◌∙◌}
 use Rattle.std.proofs.lemmas.List.{length-map}
+use Rattle.std.proofs.lemmas.Result.{err_from_is_err_and}
 use Rattle.cedar_tree.specs.Queries.{exact}
 use Rattle.cedarwood.specs.Words.{keys_of}
 use Rattle.cedar_calls.proofs.BatchLemmas.{all_filled}
 use Rattle.cedar_calls.proofs.reply.batch.Goals as goal
+
+pub returns-in_err-found : goal.returns-in_err-found
+returns-in_err-found g c =
+    let p = err_from_is_err_and c.from_residual.result c.from_residual.ensures.1 in
+    let some : 0 < length (keys_of c.args.keys.now) = omega (arith, length-map c.args.keys.now (λ key. key.now), c.in_err-found.ensures.refused) in rw (p.1, p.2) (refl, some)
 
 pub returns : goal.returns
 returns g c =

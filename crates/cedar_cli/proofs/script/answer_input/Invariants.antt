@@ -1,4 +1,4 @@
-use Rattle.std.proofs.Common.{◌≡◌, ◌≤◌, ℕ, List, length}
+use Rattle.std.proofs.Common.{◌≡◌, ◌≤◌, ◌||◌, ℕ, List, length}
 use Rattle.std.specs.Io.KnownBytes.{Consumes}
 use Rattle.std.specs.Prelude.{vec_capacity}
 use Rattle.cedarwood.specs.WatchedDevice.{has_failed}
@@ -6,7 +6,7 @@ use Rattle.cedar_cli.specs.Blocks.{GrowsBefore}
 use Rattle.cedar_cli.specs.Lines.{HasNoNewline, HasLineRoom}
 use Rattle.cedar_cli.specs.Script.{Advances}
 use Rattle.cedar_cli.specs.View.{view_of}
-use Rattle.cedar_cli.proofs.script.run_script.Given as goal
+use Rattle.cedar_cli.proofs.script.answer_input.Given as goal
 
 -- what came so far was taken, a byte or more with each read
 abbrev pub invariant-loop-turn : goal.invariant-loop-turn
@@ -15,7 +15,7 @@ invariant-loop-turn g l =
     × (l.turn ≤ length came) × HasNoNewline l.line.items
     × Advances (view_of g.L.Layout.kind l.fn.trie) (view_of g.L.Layout.kind l.trie)
     (g.W.Write.contents l.fn.writer.device) (g.W.Write.contents l.writer.device) came l.line.items
-    × (has_failed l.reader ≡ has_failed l.fn.reader) × (has_failed l.writer ≡ has_failed l.fn.writer)
+    × (has_failed l.reader ≡ has_failed l.fn.reader) × (has_failed l.writer ≡ (l.flushes.failed || has_failed l.fn.writer))
     × (l.trie.max_trial ≡ l.fn.trie.max_trial)
     × GrowsBefore (length l.line.items) (length came) l.fn.trie l.trie
     × HasLineRoom (vec_capacity l.line) (length l.key.items)

@@ -2,7 +2,7 @@ use Rattle.std.proofs.Common.{◌+◌, ◌≤◌, ◌++◌, List, Option, ℕ, �
 use Rattle.std.specs.Vec.{vec_capacity}
 use Rattle.cedar_tree.specs.Queries.{walk}
 use Rattle.cedar_calls.specs.Replies.{AreTexts}
-use Rattle.cedar_calls.proofs.reply.text_entries.Given as goal
+use Rattle.cedar_calls.proofs.reply.some_texts.Given as goal
 
 -- whatever texts stand for the entries that are left, those that were collected and these stand for all entries; and there is room
 abbrev pub invariant-loop-entry : goal.invariant-loop-entry
