@@ -90,7 +90,7 @@ enum {
     CEDAR_FILE_MEMORY_LIMIT = 26,  /* it needs more than the limit that was given */
     CEDAR_FILE_CORRUPT = 27,       /* the table is not well-formed */
     CEDAR_FILE_TRAILING = 28,      /* there are bytes after the table */
-    CEDAR_FILE_UNREAD = 29,        /* a call on a file failed: only cedar_load_file and cedar_save_file return it */
+    CEDAR_FILE_UNREAD = 29,        /* a call on a file failed: only cedar_load_file, cedar_save_file and cedar_replace_file return it */
     /* of a store */
     CEDAR_STORE_FOREIGN = 40,  /* the file is not a store */
     CEDAR_STORE_CORRUPT = 41,  /* one of its records is not a change */
@@ -319,9 +319,11 @@ size_t cedar_keywords(const cedar_dictionary *d, const uint8_t *text, size_t len
 /* Cuts a whole text into keys and single bytes whose costs have the least sum. It writes these tokens to found[0] and on, and their number
  * to *needed; the other places keep their content. A key costs its value. A byte without a key has the value -1 and costs `unknown`; if
  * by_characters, a byte from 128 to 191, which continues a character of UTF-8, costs nothing. Of cuts with the same cost it picks the one
- * with the longer token where they first differ, and with a key rather than a byte. There are never more tokens than bytes. Returns
- * CEDAR_OK; CEDAR_IS_CLOSED; CEDAR_NO_ROOM if there are more than room tokens (a call with room 0 says how many, and costs as much); or
- * CEDAR_MEMORY: it allocates 9 bytes for each byte of the text, and a list of the tokens. After an error the places are as they were. */
+ * with the longer token where they first differ, and with a key rather than a byte. A sum above 2^64 - 1 counts as 2^64 - 1, which no least
+ * sum of a text of fewer than 2^32 bytes reaches; if every cut costs 2^64 or more, it is one of them. There are never more tokens than
+ * bytes. Returns CEDAR_OK; CEDAR_IS_CLOSED; CEDAR_NO_ROOM if there are more than room tokens (a call with room 0 says how many, and costs
+ * as much); or CEDAR_MEMORY: it allocates 9 bytes for each byte of the text, and a list of the tokens. After an error the places are as
+ * they were. */
 uint32_t cedar_cheapest(const cedar_dictionary *d, const uint8_t *text, size_t length, uint32_t unknown, bool by_characters,
                         cedar_found *found, size_t room, size_t *needed);
 
@@ -415,12 +417,30 @@ const char *cedar_version(void);
  * file's bytes. */
 uint32_t cedar_load_file(cedar_dictionary *d, const char *path, size_t memory_limit);
 
-/* Replaces the file at a path with the file of *d, as cedar_save makes it. The new file is written to the path with `.new` after it, with
- * the old file's mode, and renamed once it is whole and on the disk. So after an error the old file is as it was, and the new one is
- * removed if that is possible. A file that had that name before is lost. A symbolic link is replaced by the file. A pipe or a device is
- * written to directly. Returns CEDAR_OK, CEDAR_IS_CLOSED, CEDAR_MEMORY, or CEDAR_FILE_UNREAD if a call on a file failed; errno has the
- * reason. */
+/* Replaces the file at a path with the file of *d, as cedar_save makes it. How that is done, and what is at the path after an error, is
+ * said at cedar_replace_file. Returns CEDAR_OK, CEDAR_IS_CLOSED, CEDAR_MEMORY, or CEDAR_FILE_UNREAD if a call on a file failed; errno has
+ * the reason. */
 uint32_t cedar_save_file(const cedar_dictionary *d, bool is_full, const char *path);
+
+/* Replaces the file at a path, which ends with a byte 0, with a file of these bytes. They are written to a new file in the same folder.
+ * Once that is whole and on the disk, it is renamed to the path, and then the folder is put on the disk too. So a crash of the process or
+ * the machine at any moment leaves the old file or the new one at the path, and after CEDAR_OK the new one.
+ *
+ * - The new file's name is that of the path with `.new` behind it, or with `.1.new` to `.99.new` if something has that name already. What
+ *   has such a name stays as it is, and a link isn't followed. If all of them are taken, errno is EEXIST. Where the name would have more
+ *   than 255 bytes, its first 247 stand before the suffix, or up to 3 fewer, so that no character of UTF-8 is cut.
+ * - It gets the mode of the old file, and its owner and group if the system allows that. If it doesn't, the bits set-user-ID and
+ *   set-group-ID are taken away. Access lists and other attributes aren't kept. Until it is whole, only the user who writes it may read
+ *   it. If there is no old file, the mode is 0666 without the bits of the umask from the beginning.
+ * - A symbolic link at the path is replaced by the file, and what it leads to stays. The mode and the owner are of what it leads to.
+ * - A pipe, a device, or what else isn't a file is written to directly.
+ * - Any number of processes and threads may replace the same file at the same time. Then it is the whole file of one of them.
+ *
+ * Returns CEDAR_OK, or CEDAR_FILE_UNREAD if a call on a file failed; errno has the reason. Then the old file is as it was, and the new one
+ * is removed if that is possible. If only the last step failed, to put the folder on the disk, the new file is at the path, and a crash of
+ * the machine may bring the old one back. A crash in the course of the call may leave the new file under its first name. The folder has to
+ * be readable, since it is opened before anything is written. */
+uint32_t cedar_replace_file(const char *path, const uint8_t *bytes, size_t length);
 
 /* Stores: dictionaries whose changes are in a file before they are acknowledged. The proved library decides what is written to the file,
  * and in which order; the calls of the system are C beside it, tested and not proved. No crash of the process or the machine takes an

@@ -25,11 +25,9 @@
 #include <cerrno>
 #include <cstddef>
 #include <cstdint>
-#include <cstdio>
 #include <initializer_list>
 #include <iterator>
 #include <limits>
-#include <memory>
 #include <new>
 #include <optional>
 #include <stdexcept>
@@ -39,10 +37,6 @@
 #include <type_traits>
 #include <utility>
 #include <vector>
-
-#if defined(__unix__) || defined(__APPLE__)
-#include <unistd.h>
-#endif
 
 namespace roskvidh {
 
@@ -166,49 +160,15 @@ inline token token_of(const cedar_found &one) noexcept {
     return {one.place, one.length, one.value < 0 ? std::nullopt : std::optional(one.value)};
 }
 
-struct close_file {
-    void operator()(std::FILE *file) const noexcept { std::fclose(file); }
-};
-using file = std::unique_ptr<std::FILE, close_file>;
-
 [[noreturn]] inline void throw_file_error(int number, const std::string &path) {
     throw std::system_error(number, std::generic_category(), path);
 }
 
-inline std::vector<std::uint8_t> read_file(const std::string &path) {
-    const file opened(std::fopen(path.c_str(), "rb"));
-    if (!opened) throw_file_error(errno, path);
-    std::vector<std::uint8_t> bytes;
-    std::size_t count = 0;
-    do {
-        count = bytes.size();
-        bytes.resize(std::max<std::size_t>(std::size_t{1} << 16, 2 * count));
-        count += std::fread(bytes.data() + count, 1, bytes.size() - count, opened.get());
-        if (std::ferror(opened.get())) throw_file_error(errno, path);
-    } while (count == bytes.size());
-    bytes.resize(count);
-    return bytes;
-}
-
-// Writes a file at `beside`, whole and, where the system can tell, on the disk, and then puts it in the place of the one at `path`.
-// Returns whether that was done; else errno says why not, and no part of a file is left.
-inline bool replace_file(const std::string &path, const std::string &beside, const std::vector<std::uint8_t> &bytes) noexcept {
-    std::FILE *opened = std::fopen(beside.c_str(), "wb");
-    if (opened == nullptr) return false;
-    bool is_written = std::fwrite(bytes.data(), 1, bytes.size(), opened) == bytes.size() && std::fflush(opened) == 0;
-#if defined(__unix__) || defined(__APPLE__)
-    is_written = is_written && fsync(fileno(opened)) == 0;
-#endif
-    int number = errno;
-    if (std::fclose(opened) != 0 && is_written) {
-        number = errno;
-        is_written = false;
-    }
-    if (is_written && std::rename(beside.c_str(), path.c_str()) == 0) return true;
-    if (is_written) number = errno;
-    std::remove(beside.c_str());
-    errno = number;
-    return false;
+// As check, for a call on the file at a path. What errno has is read before anything else may change it.
+inline void check_file(std::uint32_t status, const std::string &path) {
+    const int number = errno;
+    if (status == CEDAR_FILE_UNREAD) throw_file_error(number, path);
+    check(status);
 }
 
 } // namespace detail
@@ -541,15 +501,22 @@ public:
         return load(bytes.data(), bytes.size(), memory_limit);
     }
 
-    /// Writes the file to PATH.new. Once that is whole and on the disk, it replaces the file at the path. After an error the old file is as
-    /// it was, and PATH.new is removed. Throws std::system_error with the path, std::bad_alloc and CEDAR_IS_CLOSED.
+    /// Replaces the file at a path with that of the dictionary, as cedar_replace_file of cedar.h says: a new file is written beside the
+    /// old one, and takes its place once it is whole and on the disk. It has the old one's mode. A symbolic link at the path is replaced
+    /// by the file; a pipe or a device is written to directly. Throws std::system_error with the path if a call on a file failed,
+    /// std::bad_alloc and CEDAR_IS_CLOSED. After an error the old file is as it was, unless only the last step failed, to put the folder
+    /// on the disk.
     void save_to_path(const std::string &path, file_format version = file_format::v1_1) const {
-        if (!detail::replace_file(path, path + ".new", save(version))) detail::throw_file_error(errno, path);
+        const cedar_dictionary mine = inside_;
+        detail::check_file(cedar_save_file(&mine, version == file_format::v1_0, path.c_str()), path);
     }
 
-    /// As load, for the file at a path, which is read into memory as a whole. Also throws std::system_error with the path.
+    /// As load, for the file at a path, of which at most 89 bytes more than `memory_limit` are read into memory. Also throws
+    /// std::system_error with the path if a call on the file failed.
     static dictionary load_from_path(const std::string &path, std::size_t memory_limit = CEDAR_LOAD_LIMIT) {
-        return load(detail::read_file(path), memory_limit);
+        dictionary loaded{closed()};
+        detail::check_file(cedar_load_file(&loaded.inside_, path.c_str(), memory_limit), path);
+        return loaded;
     }
 
 private:

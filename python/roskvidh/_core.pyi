@@ -10,6 +10,8 @@ LOAD_LIMIT: Final[int]
 class CedarError(ValueError):
     status: int
 
+def replace_file(path: bytes, data: bytes, /) -> None: ...
+
 @final
 class Match(NamedTuple):
     place: int

@@ -124,7 +124,7 @@ class Cedar(Words[K]):
         >>> Cedar.load(Cedar({b"net": 7}).to_bytes())
         Cedar({b'net': 7})
         """
-        return _restore(cls, text, read_all(source), memory_limit)
+        return _restore(cls, text, read_all(source, memory_limit), memory_limit)
 
     def update(self, pairs: Pairs[K] = (), /, **keywords: int) -> None:  # type: ignore[override]
         """Stores the pairs of a mapping or of an iterable: the last value of a key counts.

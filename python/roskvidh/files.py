@@ -1,17 +1,21 @@
 """Files: reading one as a whole, and replacing one by another."""
 
 import os
-import secrets
-import shutil
-from contextlib import suppress
-from typing import IO, Any, Union
+from typing import IO, Any, List, Union
+
+from . import _core
 
 Source = Union[str, "os.PathLike[str]", IO[bytes], bytes, bytearray, memoryview]
 Target = Union[str, "os.PathLike[str]", IO[bytes]]
 
 
-def read_all(source: Any) -> bytes:
-    """Returns the bytes of a path, of an open file, or of bytes."""
+# A load within its limit of memory takes fewer bytes than the limit and a header: so one byte more tells that a file isn't such.
+_BEYOND = 89
+_PIECE = 1 << 16
+
+
+def read_all(source: Any, memory_limit: int) -> bytes:
+    """Returns the bytes of a path, as far as a load with this limit needs them, of an open file, or of bytes."""
     if isinstance(source, (bytes, bytearray, memoryview)):
         return bytes(source)
     if hasattr(source, "read"):
@@ -20,15 +24,39 @@ def read_all(source: Any) -> bytes:
             raise TypeError("the file has to be open for bytes")
         return data
     with open(os.fspath(source), "rb") as file:
-        return file.read()
+        return _read(file, memory_limit + _BEYOND)
+
+
+def _read(file: IO[bytes], most: int) -> bytes:
+    """Reads a file to its end, or until it has so many bytes."""
+    parts: List[bytes] = []
+    piece = max(_PIECE, os.fstat(file.fileno()).st_size + 1)
+    while most > 0:
+        part = file.read(min(piece, most))
+        if not part:
+            break
+        parts.append(part)
+        most -= len(part)
+    return b"".join(parts)
 
 
 def write_all(target: Any, data: bytes) -> None:
-    """Writes bytes to an open file, or to a path, whose old file is replaced once the new one is whole."""
+    """Writes bytes to an open file, or to a path, whose old file is replaced once the new one is whole and on the disk."""
     if hasattr(target, "write"):
         _write(target, data)
+        return
+    path = os.fspath(target)
+    if _is_special(path):
+        # Python's own calls, which a signal can end while they wait for a reader.
+        with open(path, "wb", buffering=0) as file:
+            _write(file, data)
     else:
-        _replace(os.path.realpath(os.fspath(target)), data)
+        _replace(path, data)
+
+
+def _is_special(path: str) -> bool:
+    """Whether a pipe, a device or another thing that isn't a file is at a path."""
+    return os.path.exists(path) and not os.path.isfile(path)
 
 
 def _write(file: Any, data: bytes) -> None:
@@ -40,28 +68,5 @@ def _write(file: Any, data: bytes) -> None:
 
 
 def _replace(path: str, data: bytes) -> None:
-    folder, name = os.path.split(path)
-    beside = os.path.join(folder, f".{name}.{secrets.token_hex(8)}")
-    # As open() makes a file, but never over one that is there.
-    number = os.open(beside, os.O_WRONLY | os.O_CREAT | os.O_EXCL | os.O_CLOEXEC, 0o666)
-    try:
-        with os.fdopen(number, "wb") as file:
-            file.write(data)
-            file.flush()
-            os.fsync(file.fileno())
-        if os.path.exists(path):
-            shutil.copymode(path, beside)
-        os.replace(beside, path)
-    except BaseException:
-        with suppress(OSError):
-            os.unlink(beside)
-        raise
-    _flush_folder(folder)
-
-
-def _flush_folder(folder: str) -> None:
-    number = os.open(folder, os.O_RDONLY)
-    try:
-        os.fsync(number)
-    finally:
-        os.close(number)
+    """Replaces the file where links at a path lead to."""
+    _core.replace_file(os.fsencode(os.path.realpath(path)), data)

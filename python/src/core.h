@@ -142,6 +142,7 @@ PyObject *core_shrink(Core *core, PyObject *nothing);
 PyObject *core_update(Core *core, PyObject *pairs);
 PyObject *core_erase_all(Core *core, PyObject *keys);
 PyObject *core_dump(Core *core, PyObject *is_full);
+PyObject *file_replace(PyObject *module, PyObject *arguments);
 
 /* Work from which on a call gives up the interpreter's lock: bytes of text, and keys. To give it up and take it back costs less than a
  * tenth of such a call. */

@@ -452,3 +452,20 @@ PyObject *core_dump(Core *core, PyObject *given) {
     free(buffer);
     return data;
 }
+
+/* Replaces the file at a path with one of some bytes. */
+PyObject *file_replace(PyObject *module, PyObject *arguments) {
+    const char *path, *data;
+    Py_ssize_t length;
+    (void)module;
+    if (!PyArg_ParseTuple(arguments, "yy#", &path, &data, &length)) return NULL;
+    uint32_t status;
+    int cause;
+    Py_BEGIN_ALLOW_THREADS
+    status = cedar_replace_file(path, (const uint8_t *)data, (size_t)length);
+    cause = errno;
+    Py_END_ALLOW_THREADS
+    if (status == CEDAR_OK) Py_RETURN_NONE;
+    errno = cause;
+    return PyErr_SetFromErrnoWithFilename(PyExc_OSError, path);
+}

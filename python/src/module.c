@@ -179,8 +179,15 @@ static PyType_Slot core_slots[] = {
 
 static PyType_Spec core_spec = {"roskvidh._core.Core", sizeof(Core), 0, TYPE_FLAGS | Py_TPFLAGS_BASETYPE, core_slots};
 
+static PyMethodDef module_functions[] = {
+    {"replace_file", file_replace, METH_VARARGS, NULL},
+    {NULL, NULL, 0, NULL},
+};
+
 /* The module's types are the process's: it is loaded once. */
-static struct PyModuleDef definition = {PyModuleDef_HEAD_INIT, "_core", "The dictionary over the library for C.", -1, NULL, NULL, NULL, NULL, NULL};
+static struct PyModuleDef definition = {
+    PyModuleDef_HEAD_INIT, "_core", "The dictionary over the library for C.", -1, module_functions, NULL, NULL, NULL, NULL,
+};
 
 static int add(PyObject *module, const char *name, PyObject *given) {
     if (!given) return -1;

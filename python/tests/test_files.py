@@ -1,15 +1,53 @@
 """Files: saved and loaded again, in both layouts and formats; damaged ones; and what stands at a path after an error."""
 
+import ctypes
+import errno
 import io
 import os
 import random
+import resource
+import signal
 import stat
+import subprocess
+import sys
 import tempfile
+import threading
+import traceback
 import unittest
 from pathlib import Path
-from unittest import mock
 
-from roskvidh import Cedar, CedarError
+from roskvidh import Cedar, CedarError, files
+
+NOBODY = 65534
+
+
+def refused_calls():
+    """What refuses calls on files, of the library of refuse.c, where it was loaded before all else."""
+    return ctypes.PyDLL(None).refuse_calls if "refuse" in os.environ.get("LD_PRELOAD", "") else None
+
+
+def start_child(work, as_nobody=False):
+    """Makes a call in a forked process, as the user `nobody` if that is wanted and allowed."""
+    child = os.fork()
+    if child > 0:
+        return child
+    status = 1
+    try:
+        if as_nobody and os.geteuid() == 0:
+            os.setgroups([])
+            os.setgid(NOBODY)
+            os.setuid(NOBODY)
+        work()
+        status = 0
+    except BaseException:
+        traceback.print_exc()
+    finally:
+        os._exit(status)
+
+
+def is_met(child):
+    """Waits until a process ends, and tells whether it did so without an error."""
+    return os.waitpid(child, 0)[1] == 0
 
 
 class Files(unittest.TestCase):
@@ -35,34 +73,142 @@ class Files(unittest.TestCase):
                     self.assertEqual((other, other.reduced, other.to_bytes(full=full)), (plain, reduced, data))
         self.assertEqual(os.listdir(self.path.parent), [self.path.name])
 
+    def names(self):
+        return sorted(os.listdir(self.path.parent))
+
     def test_modes_and_links(self):
         d = Cedar({b"a": 1})
         mask = os.umask(0o027)
         self.addCleanup(os.umask, mask)
         d.save(self.path)
         self.assertEqual(stat.S_IMODE(self.path.stat().st_mode), 0o640)
-        self.path.chmod(0o604)
-        link = self.path.with_name("link")
-        link.symlink_to(self.path)
-        d[b"b"] = 2
+        for mode in (0o604, 0o400, 0o4755):
+            self.path.chmod(mode)
+            link = self.path.with_name("link")
+            link.symlink_to(self.path)
+            d[b"b"] = mode
+            d.save(link)
+            self.assertEqual((stat.S_IMODE(self.path.stat().st_mode), link.is_symlink(), Cedar.load(self.path)), (mode, True, d))
+            link.unlink()
+        # One that leads nowhere yet stays too.
+        link.symlink_to(self.path.with_name("later"))
         d.save(link)
-        self.assertEqual((stat.S_IMODE(self.path.stat().st_mode), link.is_symlink(), Cedar.load(self.path)), (0o604, True, d))
+        self.assertEqual((link.is_symlink(), Cedar.load(self.path.with_name("later"))), (True, d))
+
+    def test_owner(self):
+        if os.geteuid() != 0:
+            self.skipTest("only root gives files away")
+        d = Cedar({b"a": 1})
+        d.save(self.path)
+        os.chown(self.path, NOBODY, NOBODY)
+        d.save(self.path)
+        found = self.path.stat()
+        self.assertEqual((found.st_uid, found.st_gid), (NOBODY, NOBODY))
+
+    def test_what_has_the_new_files_name_stays(self):
+        d = Cedar({b"a": 1})
+        for make in (lambda name: name.mkdir(), lambda name: name.symlink_to("none"), lambda name: name.write_bytes(b"somebody else's")):
+            for name in ("words.cedar.new", "words.cedar.1.new"):
+                make(self.path.with_name(name))
+            before = [self.path.with_name(name).lstat() for name in self.names() if name != self.path.name]
+            d[b"b"] = len(d)
+            d.save(self.path)
+            self.assertEqual((Cedar.load(self.path), self.names()), (d, ["words.cedar", "words.cedar.1.new", "words.cedar.new"]))
+            for name, was in zip(self.names()[1:], before):
+                beside = self.path.with_name(name)
+                self.assertEqual(beside.lstat(), was)
+                beside.rmdir() if beside.is_dir() else beside.unlink()
+
+    def test_two_savers(self):
+        """Processes and threads that save to one path: each file is whole, and one of theirs."""
+        few, many = Cedar({b"a": 1}), Cedar({b"%d" % i: i for i in range(5000)})
+
+        def save_again(d):
+            for _ in range(100):
+                d.save(self.path)
+                assert len(Cedar.load(self.path)) in (len(few), len(many))
+
+        few.save(self.path)
+        child = start_child(lambda: save_again(few))
+        other = threading.Thread(target=save_again, args=(few,))
+        other.start()
+        save_again(many)
+        other.join()
+        self.assertEqual((is_met(child), self.names()), (True, [self.path.name]))
+
+    @unittest.skipUnless(refused_calls(), "refuse.so isn't loaded")
+    def test_each_call_fails(self):
+        refuse = refused_calls()
+        refuse.argtypes, refuse.restype = [ctypes.c_long, ctypes.c_int], ctypes.c_long
+        old, new, path = Cedar({b"old": 1}), Cedar({b"new": 1}), os.fsencode(self.path)
+        data = new.to_bytes()
+        for for_good in (False, True):
+            failures, came = [], True
+            while came:
+                old.save(self.path)
+                refuse(len(failures) + 1, for_good)
+                try:
+                    files._core.replace_file(path, data)
+                except OSError as error:
+                    failures.append(error)
+                    came = True
+                else:
+                    came = False
+                refuse(0, False)
+                # Only where the folder couldn't be put on the disk, the last of eight calls, is the new file there all the same.
+                placed = not came or len(failures) == 8
+                self.assertEqual((Cedar.load(self.path), self.names()), (new if placed else old, [self.path.name]))
+            self.assertEqual([(error.errno, error.filename) for error in failures], [(errno.ENOSPC, str(self.path))] * 8)
 
     def test_the_old_file_stays_after_an_error(self):
         Cedar({b"old": 1}).save(self.path)
-        new = Cedar({b"new": 1})
-        for name in ("os.fsync", "os.replace", "shutil.copymode"):
-            with mock.patch(name, side_effect=OSError("no room")), self.assertRaises(OSError):
-                new.save(self.path)
-            self.assertEqual((Cedar.load(self.path), os.listdir(self.path.parent)), ({b"old": 1}, [self.path.name]))
-        with self.assertRaises(FileNotFoundError):
+        new = Cedar({b"%d" % i: i for i in range(5000)})
+
+        def fails(work, number):
+            with self.assertRaises(OSError) as caught:
+                work()
+            self.assertEqual((caught.exception.errno, Cedar.load(self.path), self.names()), (number, {b"old": 1}, [self.path.name]))
+
+        def save_much():
+            signal.signal(signal.SIGXFSZ, signal.SIG_IGN)
+            resource.setrlimit(resource.RLIMIT_FSIZE, (4096, 4096))
+            fails(lambda: new.save(self.path), errno.EFBIG)
+
+        def save_in_the_folder():
+            fails(lambda: new.save(self.path), errno.EACCES)
+
+        self.assertTrue(is_met(start_child(save_much)))
+        self.path.parent.chmod(0o555)
+        self.assertTrue(is_met(start_child(save_in_the_folder, as_nobody=True)))
+        self.path.parent.chmod(0o700)
+        with self.assertRaises(FileNotFoundError) as caught:
             new.save(self.path.with_name("none") / "x")
+        self.assertEqual(caught.exception.filename, str(self.path.with_name("none") / "x"))
+        with self.assertRaises(IsADirectoryError):
+            new.save(self.path.parent)
         with self.assertRaises(TypeError):
             new.save(io.StringIO())
         with self.assertRaises(TypeError):
             Cedar.load(io.StringIO(""))
         with self.assertRaises(FileNotFoundError):
             Cedar.load(self.path.with_name("none"))
+        for name in range(100):
+            self.path.with_name(f"words.cedar.{name}.new" if name else "words.cedar.new").touch()
+        with self.assertRaises(FileExistsError):
+            new.save(self.path)
+        self.assertEqual((Cedar.load(self.path), len(self.names())), ({b"old": 1}, 101))
+
+    def test_pipes_and_devices(self):
+        d = Cedar({b"%d" % i: i for i in range(20000)})
+        os.mkfifo(self.path)
+        read = subprocess.Popen([sys.executable, "-c", "import sys; sys.stdout.buffer.write(open(sys.argv[1], 'rb').read())", str(self.path)], stdout=subprocess.PIPE)
+        d.save(self.path)
+        self.assertEqual((read.communicate()[0], self.path.is_fifo(), self.names()), (d.to_bytes(), True, [self.path.name]))
+        d.save(os.devnull)
+        self.assertTrue(stat.S_ISCHR(os.stat(os.devnull).st_mode))
+        with self.assertRaises(OSError) as caught:
+            d.save("/dev/full")
+        self.assertEqual(caught.exception.errno, errno.ENOSPC)
 
     def test_damaged_files(self):
         data = Cedar({b"net": 1, b"ten": 2, b"nets": 3}).to_bytes()
@@ -80,6 +226,17 @@ class Files(unittest.TestCase):
         self.assertEqual(caught.exception.status, 26)
         with self.assertRaises(ValueError):
             Cedar.load(data, memory_limit=-1)
+
+    def test_files_that_do_not_end(self):
+        """They are read as far as the limit says."""
+        Cedar({b"net": 1}).save(self.path)
+        os.truncate(self.path, 1 << 40)
+        for path, status in (("/dev/zero", 21), (self.path, 28)):
+            with self.assertRaises(CedarError) as caught:
+                Cedar.load(path, memory_limit=100000)
+            self.assertEqual(caught.exception.status, status)
+        with self.assertRaises(ValueError):
+            Cedar.load(self.path, memory_limit=-1)
 
     def test_any_byte_changed(self):
         """Each is refused, or is the file of a sound dictionary."""

@@ -2,6 +2,8 @@
 // Linked with -Wl,--wrap=malloc,--wrap=realloc.
 #include "cedar.hpp"
 #include "check.h"
+#include <cerrno>
+#include <fstream>
 #include <functional>
 #include <iterator>
 #include <map>
@@ -346,17 +348,57 @@ void refused_files(layout kind) {
 }
 
 std::string bytes_at(const std::string &path) {
-    const std::vector<std::uint8_t> bytes = roskvidh::detail::read_file(path);
-    return std::string(bytes.begin(), bytes.end());
+    std::ifstream file(path, std::ios::binary);
+    return std::string(std::istreambuf_iterator<char>(file), {});
 }
 
-void no_file(const std::string &path, const std::function<void()> &call) {
+// Checks that a call throws what the system said of a path, by this number or by any.
+void no_file(const std::string &path, const std::function<void()> &call, int number = 0) {
     try {
         call();
-        CHECK(!"std::system_error was thrown");
     } catch (const std::system_error &e) {
         CHECK(e.code().value() != 0 && std::string(e.what()).find(path) != std::string::npos);
+        CHECK(number == 0 || e.code() == std::error_code(number, std::generic_category()));
+        return;
     }
+    CHECK(!"std::system_error was thrown");
+}
+
+struct stat look(const std::string &path) {
+    struct stat found;
+    CHECK(lstat(path.c_str(), &found) == 0);
+    return found;
+}
+
+// What stands beside a file that is saved stays, and the file keeps its mode; a link at the path doesn't stay.
+void places(const dictionary &d, const std::string &path) {
+    const std::string beside = path + ".new", link = path + ".link";
+    CHECK(chmod(path.c_str(), 0604) == 0 && mkdir(beside.c_str(), 0700) == 0);
+    d.save_to_path(path);
+    CHECK(look(path).st_mode == (S_IFREG | 0604) && rmdir(beside.c_str()) == 0 && symlink(path.c_str(), beside.c_str()) == 0);
+    d.save_to_path(path);
+    CHECK(S_ISREG(look(path).st_mode) && S_ISLNK(look(beside).st_mode) && std::remove(beside.c_str()) == 0);
+    CHECK(symlink(path.c_str(), link.c_str()) == 0);
+    dictionary(d.kind()).save_to_path(link);
+    CHECK(S_ISREG(look(link).st_mode) && dictionary::load_from_path(path).size() == d.size() && std::remove(link.c_str()) == 0);
+    d.save_to_path("/dev/null");
+    no_file("/dev/full", [&] { d.save_to_path("/dev/full"); }, ENOSPC);
+}
+
+// Two threads that save to one path: each file that is loaded is one of theirs.
+void two_savers(const dictionary &d, const std::string &path) {
+    dictionary few(d.kind());
+    few.update("few", 1);
+    const auto save_again = [&path, &d](const dictionary &mine) {
+        for (int i = 0; i < 50; ++i) {
+            mine.save_to_path(path);
+            const std::size_t keys = dictionary::load_from_path(path).size();
+            CHECK(keys == 1 || keys == d.size());
+        }
+    };
+    std::thread other(save_again, std::cref(few));
+    save_again(d);
+    other.join();
 }
 
 void paths(layout kind, const std::string &folder) {
@@ -368,16 +410,20 @@ void paths(layout kind, const std::string &folder) {
     CHECK(bytes_at(path) == std::string(file.begin(), file.end()) && dictionary::load_from_path(path).get("777") == 777);
     no_file(beside, [&] { dictionary::load_from_path(beside); });
     refused(CEDAR_FILE_MEMORY_LIMIT, {}, limit_text, [&] { dictionary::load_from_path(path, 100); });
+    // A file that doesn't end is read as far as the limit says.
+    refused(CEDAR_FILE_MAGIC, {}, "input is not a cedarwood serialized trie", [&] { dictionary::load_from_path("/dev/zero", 1000); });
+    lacks_memory([&] { dictionary::load_from_path(path); });
     d.save_to_path(path, roskvidh::file_format::v1_0);
     CHECK(bytes_at(path)[10] == 0 && dictionary::load_from_path(path).size() == 19999);
-    CHECK(mkdir(beside.c_str(), 0700) == 0); // the file beside can't be written
-    no_file(path, [&] { dictionary(kind).save_to_path(path); });
-    CHECK(dictionary::load_from_path(path).size() == 19999);
-    CHECK(rmdir(beside.c_str()) == 0);
-    CHECK(mkdir(blocked.c_str(), 0700) == 0); // it can't be renamed to a folder
-    no_file(blocked, [&] { d.save_to_path(blocked); });
-    no_file(blocked + ".new", [&] { dictionary::load_from_path(blocked + ".new"); });
-    no_file(folder, [&] { dictionary::load_from_path(folder); });
+    places(d, path);
+    two_savers(d, path);
+    no_file(path + "/none", [&] { d.save_to_path(path + "/none"); }, ENOTDIR);
+    const dictionary moved(std::move(d));
+    refused(CEDAR_IS_CLOSED, {}, "the dictionary is closed", [&] { d.save_to_path(path); });
+    CHECK(mkdir(blocked.c_str(), 0700) == 0); // a folder isn't replaced
+    no_file(blocked, [&] { moved.save_to_path(blocked); }, EISDIR);
+    no_file(blocked + ".new", [&] { dictionary::load_from_path(blocked + ".new"); }, ENOENT);
+    no_file(folder, [&] { dictionary::load_from_path(folder); }, EISDIR);
     CHECK(rmdir(blocked.c_str()) == 0 && std::remove(path.c_str()) == 0);
 }
 

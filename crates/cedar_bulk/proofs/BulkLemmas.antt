@@ -9,6 +9,7 @@ pub mod NodeByNode
 pub mod OneAfterAnother
 pub mod OneKey
 pub mod OnePair
+pub mod PackedBlocks
 pub mod Pending
 pub mod Runs
 pub mod SlotsOfNumbers

@@ -1,5 +1,6 @@
 -- Tables made of sorted pairs.
 pub mod Asked
+pub mod Packed
 pub mod Sorted
 pub mod SortedMarks
 pub mod Spans

@@ -1,7 +1,7 @@
 //! A node with all of its slots at once: its number's and its labels'.
 
-ghost use Rattle.std.specs.Prelude.{◌<◌, ◌∷◌, ◌≡◌, ◌≢◌, ◌≤◌, [], IfErr, IfOk, IfSome, MatchOption, None, OnErr, OnOk, Some, true, ℕ};
-ghost use Rattle.cedar_bulk.specs.Words.{base_of, below, cells, fields, Fills, GetsBase, GetsNumber, GoesLast, is_value, IsTable, IsUnfilled, KeepsOwn, MakesBlocks, MayRefuse, SameFrame, SameSettings, size_of, StaysBare, StaysOwn, WantsBase, WantsChain, WantsNumber, WantsSlots};
+ghost use Rattle.std.specs.Prelude.{◌<◌, ◌∷◌, ◌≡◌, ◌≢◌, ◌≤◌, [], IfErr, IfOk, IfSome, length, MatchOption, None, OnErr, OnOk, Some, true, ℕ};
+ghost use Rattle.cedar_bulk.specs.Words.{base_of, below, cells, fields, Fills, GetsBase, GetsNumber, GoesLast, Held, is_value, IsTable, IsUnfilled, KeepsOwn, MakesBlocks, MakesIfFull, MayRefuse, SameFrame, SameSettings, size_of, StaysBare, StaysOwn, TakesOne, WantsBase, WantsChain, WantsNumber, WantsSlots};
 
 use crate::append::{append_labels, slot_at};
 use cedar_slots::Shortage;
@@ -23,6 +23,7 @@ fn find_base<L: Layout, const SLOTS: usize, A: Allocator>(
     ensures base { IfOk result (λ base. base ≡ base_of (cells table.new) node) }
     ensures refused { IfErr result (λ error. MayRefuse (fields table.new).places SLOTS error) }
     ensures blocks { (n : ℕ) × (n ≤ 1) × OnErr result (n ≡ 0) × MakesBlocks n (fields table.old) (fields table.new) }
+    ensures alone { OnOk result (length wanted.now ≡ 1 → MakesIfFull (fields table.old) (fields table.new)) }
     ensures root_check { (cells table.new).check 0 ≡ (cells table.old).check 0 }
     ensures settings { SameSettings (fields table.old) (fields table.new) }
 {
@@ -45,6 +46,7 @@ fn give_base<L: Layout, const SLOTS: usize, A: Allocator>(
     ensures base { IfOk result (λ base. base ≡ base_of (cells table.new) node) }
     ensures refused { IfErr result (λ error. MayRefuse (fields table.new).places SLOTS error) }
     ensures blocks { (n : ℕ) × (n ≤ 1) × OnErr result (n ≡ 0) × (node ≡ 0 → n ≡ 0) × MakesBlocks n (fields table.old) (fields table.new) }
+    ensures alone { OnOk result (length wanted.now ≡ 1 → MakesIfFull (fields table.old) (fields table.new)) }
     ensures root_check { (cells table.new).check 0 ≡ (cells table.old).check 0 }
     ensures settings { SameSettings (fields table.old) (fields table.new) }
 {
@@ -66,6 +68,7 @@ fn take_number<L: Layout, const SLOTS: usize, A: Allocator>(
     ensures sound { IsTable SLOTS (fields table.new).places }
     ensures gets { GetsNumber (size_of (fields table.old)) (cells table.old) (cells table.new) node (Some value) }
     ensures ends { (l : ℕ) → GoesLast (size_of (fields table.new)) (cells table.new) node l (Some result) }
+    ensures taken { Held (cells table.new) (below (cells table.old) node 0) }
     ensures root_check { (cells table.new).check 0 ≡ (cells table.old).check 0 }
     ensures frame { SameFrame (fields table.old) (fields table.new) }
 {
@@ -87,6 +90,7 @@ fn begin_chain<L: Layout, const SLOTS: usize, A: Allocator>(
     ensures sound { IsTable SLOTS (fields table.new).places }
     ensures gets { GetsNumber (size_of (fields table.old)) (cells table.old) (cells table.new) node number }
     ensures ends { (l : ℕ) → GoesLast (size_of (fields table.new)) (cells table.new) node l result }
+    ensures taken { IfSome number (λ v. Held (cells table.new) (below (cells table.old) node 0)) }
     ensures root_check { (cells table.new).check 0 ≡ (cells table.old).check 0 }
     ensures frame { SameFrame (fields table.old) (fields table.new) }
 {
@@ -113,6 +117,7 @@ fn place_node<L: Layout, const SLOTS: usize, A: Allocator>(
     ensures base { IfOk result (λ base. base ≡ base_of (cells table.new) node) }
     ensures refused { IfErr result (λ error. MayRefuse (fields table.new).places SLOTS error) }
     ensures blocks { (n : ℕ) × (n ≤ 1) × OnErr result (n ≡ 0) × (node ≡ 0 → n ≡ 0) × MakesBlocks n (fields table.old) (fields table.new) }
+    ensures alone { OnOk result (length wanted.now ≡ 1 → TakesOne (fields table.old) (fields table.new)) }
     ensures root_check { (cells table.new).check 0 ≡ (cells table.old).check 0 }
     ensures settings { SameSettings (fields table.old) (fields table.new) }
 {
@@ -137,6 +142,7 @@ pub(crate) fn name_alone<L: Layout, const SLOTS: usize, A: Allocator>(
     ensures slot { IfOk result (λ slot. slot ≡ below (cells table.new) node label) }
     ensures refused { IfErr result (λ error. MayRefuse (fields table.new).places SLOTS error) }
     ensures blocks { (n : ℕ) × (n ≤ 1) × OnErr result (n ≡ 0) × MakesBlocks n (fields table.old) (fields table.new) }
+    ensures alone { OnOk result (TakesOne (fields table.old) (fields table.new)) }
     ensures root_check { (cells table.new).check 0 ≡ (cells table.old).check 0 }
     ensures settings { SameSettings (fields table.old) (fields table.new) }
 {
@@ -176,6 +182,7 @@ pub(crate) fn fill_node<L: Layout, const SLOTS: usize, A: Allocator>(
     ensures own { OnOk result (KeepsOwn L.kind (cells table.new) node number labels.now) }
     ensures refused { IfErr result (λ error. MayRefuse (fields table.new).places SLOTS error) }
     ensures blocks { (n : ℕ) × (n ≤ 1) × OnErr result (n ≡ 0) × (node ≡ 0 → n ≡ 0) × MakesBlocks n (fields table.old) (fields table.new) }
+    ensures alone { OnOk result (length wanted.now ≡ 1 → TakesOne (fields table.old) (fields table.new)) }
     ensures root_check { (cells table.new).check 0 ≡ (cells table.old).check 0 }
     ensures settings { SameSettings (fields table.old) (fields table.new) }
 {

@@ -1,7 +1,7 @@
 //! A table made from sorted pairs: each node gets all of its slots at once, the last child's subtree first.
 
 ghost use Rattle.std.specs.Prelude.{◌*◌, ◌++◌, ◌+◌, ◌<◌, ◌∷◌, ◌≡◌, ◌≢◌, ◌≤ℤ◌, ◌≤◌, [], IfErr, IfOk, length, List, None, OnErr, OnOk, option_to_list, pos, true, ℕ};
-ghost use Rattle.cedar_bulk.specs.Words.{AddsChildren, AllByRecursion, ArePathsAscending, ArePathsKeys, asc, AtBase, cells, CoversChildren, empty_tree, EndsFilling, entries_by, fields, Filling, FillsSpan, FillsTail, Forest, GoesOnAlike, HasBlocksFor, HoldsTree, is_value, IsSlotLimit, IsTable, IsTreeOfSpan, IsUnfilled, IsWellFormed, KeepsOwnOf, LacksMemoryOr, MakesBlocks, marks, MayRefuse, none, OfTree, Part, part_of, parts_of, prefixes, prefixes_forest, SameModes, SameSettings, size_of, SlotLimit, SortedMarks, TakesTurn, Tree, tree_of, WantsMore, WantsMoreThan};
+ghost use Rattle.cedar_bulk.specs.Words.{AddsChildren, AllByRecursion, ArePathsAscending, ArePathsKeys, asc, AtBase, cells, CoversChildren, crowded_forest, empty_tree, EndsFilling, entries_by, fields, Filling, FillsSpan, FillsTail, Forest, GoesOnAlike, HasBlocksFor, HoldsTree, is_value, IsPacked, IsSlotLimit, IsTable, IsTreeOfSpan, IsUnfilled, IsWellFormed, KeepsOwnOf, labels, LacksMemoryOr, MakesBlocks, marks, MayRefuse, none, OfTree, Packs, PacksSpan, PacksTail, PacksTurn, Part, part_of, parts_of, prefixes, prefixes_forest, SameModes, SameSettings, size_of, SlotLimit, SortedMarks, TakesOne, TakesTurn, Tree, tree_of, WantsMore, WantsMoreThan};
 
 use crate::fill::{fill_node, name_alone};
 use crate::spans::{
@@ -28,6 +28,7 @@ fn fill_span<'a, L: Layout, const SLOTS: usize, A: Allocator, K: AsSlice<u8>>(
     ensures spans { OnOk result (AddsChildren K.items (fields table.new) span.entry pending.old.items pending.new.items) }
     ensures refused { IfErr result (LacksMemoryOr (MayRefuse (fields table.new).places SLOTS SlotLimit × MakesBlocks 0 (fields table.old) (fields table.new))) }
     ensures blocks { (n : ℕ) × (n ≤ 1) × (span.entry.node ≡ 0 → n ≡ 0) × MakesBlocks n (fields table.old) (fields table.new) }
+    ensures packs { OnOk result (PacksSpan K.items (fields table.old) (fields table.new) span.entry) }
     ensures root_check { (cells table.new).check 0 ≡ (cells table.old).check 0 }
     ensures settings { SameSettings (fields table.old) (fields table.new) }
 {
@@ -59,6 +60,7 @@ fn fill_alike<'a, L: Layout, const SLOTS: usize, A: Allocator, K: AsSlice<u8>>(
     ensures spans { IfOk result (λ child. CoversChildren K.items (fields table.new) span.entry (child ∷ [])) }
     ensures refused { IfErr result (λ error. MayRefuse (fields table.new).places SLOTS error) }
     ensures blocks { (n : ℕ) × (n ≤ 1) × OnErr result (n ≡ 0) × MakesBlocks n (fields table.old) (fields table.new) }
+    ensures alone { OnOk result (TakesOne (fields table.old) (fields table.new)) }
     ensures root_check { (cells table.new).check 0 ≡ (cells table.old).check 0 }
     ensures settings { SameSettings (fields table.old) (fields table.new) }
 {
@@ -89,6 +91,7 @@ fn fill_next<'a, L: Layout, const SLOTS: usize, A: Allocator, K: AsSlice<u8>>(
     ensures last { IfOk result (λ next. next ≡ None → length pending.new.items ≡ 0) }
     ensures refused { IfErr result (LacksMemoryOr (MayRefuse (fields table.new).places SLOTS SlotLimit × MakesBlocks 0 (fields table.old) (fields table.new))) }
     ensures blocks { (n : ℕ) × (n ≤ 1) × MakesBlocks n (fields table.old) (fields table.new) }
+    ensures packs { OnOk result (PacksSpan K.items (fields table.old) (fields table.new) span.entry) }
     ensures root_check { (cells table.new).check 0 ≡ (cells table.old).check 0 }
     ensures settings { SameSettings (fields table.old) (fields table.new) }
 {
@@ -111,6 +114,7 @@ fn fill_tail<L: Layout, const SLOTS: usize, A: Allocator, K: AsSlice<u8>>(
     ensures filled { OnOk result (FillsTail SLOTS (fields table.old) (fields table.new) (part_of K.items span.entry)) }
     ensures refused { IfErr result (LacksMemoryOr (WantsMore SLOTS (fields table.old) (part_of K.items span.entry))) }
     ensures blocks { (n : ℕ) × MakesBlocks n (fields table.old) (fields table.new) }
+    ensures packs { OnOk result (PacksTail SLOTS (fields table.old) (fields table.new) (part_of K.items span.entry)) }
     ensures root_check { (cells table.new).check 0 ≡ (cells table.old).check 0 }
     ensures settings { SameSettings (fields table.old) (fields table.new) }
 {
@@ -139,6 +143,7 @@ fn fill_turn<'a, L: Layout, const SLOTS: usize, A: Allocator, K: AsSlice<u8>>(
     ensures last { IfOk result (λ next. next ≡ None → length pending.new.items ≡ 0) }
     ensures refused { IfErr result (LacksMemoryOr (WantsMoreThan SLOTS (fields table.old) (parts_of K.items pending.old.items ++ part_of K.items span.entry ∷ []))) }
     ensures blocks { (n : ℕ) × MakesBlocks n (fields table.old) (fields table.new) }
+    ensures packs { IfOk result (λ next. PacksTurn SLOTS (fields table.old) (fields table.new) (parts_of K.items pending.old.items ++ part_of K.items span.entry ∷ []) (parts_of K.items (pending.new.items ++ option_to_list next))) }
     ensures root_check { (cells table.new).check 0 ≡ (cells table.old).check 0 }
     ensures settings { SameSettings (fields table.old) (fields table.new) }
 {
@@ -160,6 +165,7 @@ fn fill_pending<'a, L: Layout, const SLOTS: usize, A: Allocator, K: AsSlice<u8>>
     ensures filled { OnOk result (EndsFilling SLOTS (fields table.old) (fields table.new) (parts_of K.items pending.old.items)) }
     ensures refused { IfErr result (LacksMemoryOr (WantsMoreThan SLOTS (fields table.old) (parts_of K.items pending.old.items))) }
     ensures blocks { (n : ℕ) × MakesBlocks n (fields table.old) (fields table.new) }
+    ensures packs { OnOk result (PacksTurn SLOTS (fields table.old) (fields table.new) (parts_of K.items pending.old.items) []) }
     ensures root_check { (cells table.new).check 0 ≡ (cells table.old).check 0 }
     ensures settings { SameSettings (fields table.old) (fields table.new) }
 {
@@ -184,6 +190,7 @@ fn fill<L: Layout, const SLOTS: usize, A: Allocator, K: AsSlice<u8>>(
     ensures filled { OnOk result (OfTree (entries_by K.items pairs.now) (λ f. Filling SLOTS (fields table.new) [] f (1 + length (prefixes_forest f)))) }
     ensures refused { IfErr result (LacksMemoryOr (OfTree (entries_by K.items pairs.now) (λ f. SLOTS ≤ 256 * length (prefixes_forest f)))) }
     ensures blocks { (n : ℕ) × MakesBlocks n (fields table.old) (fields table.new) }
+    ensures packs { OnOk result (OfTree (entries_by K.items pairs.now) (λ f. Packs (length (labels f)) (256 * crowded_forest f) (fields table.new))) }
     ensures root_check { (cells table.new).check 0 ≡ (cells table.old).check 0 }
     ensures settings { SameSettings (fields table.old) (fields table.new) }
 {
@@ -215,6 +222,7 @@ fn fill_sorted<L: Layout, const SLOTS: usize, A: Allocator, K: AsSlice<u8>>(
     ensures tree { OnOk result (tree_of (fields table.new) ≡ asc (entries_by K.items pairs.now)) }
     ensures marks { OnOk result (SortedMarks L.kind (asc (entries_by K.items pairs.now)) (marks (fields table.new))) }
     ensures blocks { OnOk result ((n : ℕ) × (n ≤ length (prefixes (asc (entries_by K.items pairs.now)))) × MakesBlocks n (fields table.old) (fields table.new)) }
+    ensures packed { OnOk result (IsPacked (asc (entries_by K.items pairs.now)) (fields table.new)) }
     ensures refused { IfErr result (LacksMemoryOr (SLOTS ≤ 256 * length (prefixes (asc (entries_by K.items pairs.now))))) }
     ensures modes { SameModes (fields table.old) (fields table.new) }
 {
@@ -228,7 +236,8 @@ fn fill_sorted<L: Layout, const SLOTS: usize, A: Allocator, K: AsSlice<u8>>(
 
 /// Makes a table of some pairs of a key and its number, whose keys ascend by bytes, each below the next. It stands for their
 /// one tree with ascending labels, even if a new label would not go to its ascending place. Keys are bytes or texts. It makes
-/// at most one block for each distinct nonempty prefix of a key.
+/// at most one block for each distinct nonempty prefix of a key. At most 255 slots outside the first block are free, and 256 others
+/// for each node below the root that takes several slots.
 ///
 /// `ordered` and `max_trial` are the settings of the table that is made. It may be refused for memory, or with `SlotLimit` where
 /// 256 times the number of these prefixes is `SLOTS` or more; then no table is made. So
@@ -259,6 +268,10 @@ pub fn build_sorted<L: Layout, const SLOTS: usize, A: Allocator + Copy, K: AsSli
 
     //= It makes at most one block for each distinct nonempty prefix of a key, beside the first one.
     ensures blocks { IfOk result (λ table. HasBlocksFor (asc (entries_by K.items pairs.now)) (fields table)) }
+
+    //= At most 255 of the slots outside the first block are free, and 256 others for each node below the root that takes several slots: for
+    //  several labels, or for a number and a label. [by IsPacked]
+    ensures packed { IfOk result (λ table. IsPacked (asc (entries_by K.items pairs.now)) (fields table)) }
 
     //= It fails for lack of memory, or of slots if 256 times the number of these prefixes is the limit or more.
     ensures refused { IfErr result (LacksMemoryOr (SLOTS ≤ 256 * length (prefixes (asc (entries_by K.items pairs.now))))) }

@@ -1,7 +1,7 @@
 -- What a cut of least cost writes into a buffer.
 use Rattle.std.specs.Prelude.{◌≡◌, ℕ, ◌<◌, ◌≤◌, ◌^◌, Bool, true, false, List, ◌++◌, length, map, drop}
 use Rattle.cedar_tree.specs.Tree.{Tree}
-use Rattle.cedar_words.specs.Words.{character_price, IsCheapestBy, IsCut, IsLeastCapped, Token}
+use Rattle.cedar_words.specs.Words.{character_price, IsAheadCapped, IsCheapestBy, IsCut, IsLeastCapped, Token}
 use Rattle.cedar_c.specs.Scans.{found_token}
 use Rattle.cedar_c.specs.declared.scans.Found.{Found}
 
@@ -15,7 +15,9 @@ pub record IsLeastCut (tree : Tree) (unknown : ℕ → ℕ) (text : List ℕ) (t
   pub cut : IsCut tree text tokens
   -- no cut of a text of fewer than 2 ^ 32 bytes costs less, and it comes first among those that cost as little
   pub least : length text < 2 ^ 32 → IsCheapestBy tree unknown text tokens
+  -- in any text none does, where sums above 2 ^ 64 - 1 count as 2 ^ 64 - 1, and it comes first among those that cost as little
   pub capped : IsLeastCapped tree unknown text tokens
+  pub ahead : IsAheadCapped tree unknown text tokens
 
 -- the first places have the tokens of such a cut, the others what they had; `needed` is how many tokens there are
 abbrev pub WritesLeastCut : Tree → (ℕ → ℕ) → List ℕ → List Found → List Found → ℕ → Type 0

@@ -158,8 +158,8 @@ pub extern "C" fn cedar_build(
     pairs: &[Pair<'_>],
     position: &mut usize,
 ) -> u32
-    //= A sorted build opens the handle with the dictionary of exactly the pairs (`asc`), with the settings that are given, and with the
-    //  marks and slots of `from_sorted_bytes`. [also cedar_build_reduced; by made]
+    //= A sorted build opens the handle with the dictionary of exactly the pairs (`asc`), with the settings that are given, with the marks of
+    //  `from_sorted_bytes`, and in no more blocks than that may make. [also cedar_build_reduced; by made]
     //= It returns `INVALID_MAX_TRIAL` if `max_trial` is below 1. Otherwise it returns the number of the input's first fault, with the index
     //  of a key that isn't above the one before it, or reports lack of memory. Without a fault it returns `OK`, or reports lack of memory,
     //  or lack of slots only if 256 times the prefixes are 2^30 or more. [also cedar_build_reduced; by invalid, faulty, refused]
@@ -213,7 +213,8 @@ pub extern "C" fn cedar_build_unsorted(
     position: &mut usize,
 ) -> u32
     //= A build of pairs in any order opens the handle with the dictionary that storing them in turn makes, with ascending labels (`asc`),
-    //  with the settings that are given, and with the marks and slots of `from_pairs_bytes`. [also cedar_build_unsorted_reduced; by made]
+    //  with the settings that are given, with the marks of `from_pairs_bytes`, and in no more blocks than that may make. [also
+    //  cedar_build_unsorted_reduced; by made]
     //= It returns `INVALID_MAX_TRIAL` if `max_trial` is below 1. Otherwise it returns the number of the fault of the first pair that has
     //  one, or reports lack of memory. Without a fault it returns `OK`, or reports lack of memory, or lack of slots only if 256 times the
     //  prefixes are 2^30 or more. [also cedar_build_unsorted_reduced; by invalid, faulty, refused]

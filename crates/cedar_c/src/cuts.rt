@@ -14,8 +14,8 @@ use std::alloc::Global;
 /// Cuts a whole text into keys and single bytes whose costs have the least sum, writes these tokens into the first places of a buffer, and
 /// how many they are. A key costs its value. A byte without a value is written with the value -1 and costs `unknown`; if `by_characters`,
 /// one that continues a character of UTF-8 costs nothing. Of cuts that cost the same it picks the one with the longer token where they
-/// first differ, and with a key rather than a byte. There are never more tokens than bytes. It allocates 9 bytes for each byte of the text,
-/// and a list of the tokens.
+/// first differ, and with a key rather than a byte. A sum above 2^64 - 1 counts as 2^64 - 1, which no least sum of a text of fewer than 2^32
+/// bytes reaches. There are never more tokens than bytes. It allocates 9 bytes for each byte of the text, and a list of the tokens.
 ///
 /// # Errors
 /// `CLOSED` if the handle is closed, `NO_ROOM` if there are more tokens than the buffer has places: then it writes how many; `MEMORY` if an
@@ -35,8 +35,9 @@ pub extern "C" fn cedar_cheapest(
     ensures closed { (result ≡ CLOSED) ↔ (shown_in handle.old ≡ None) }
 
     //= It writes the tokens of the text's cut of least cost, as `cheapest` or `cheapest_by_characters` has it, into the first places of a
-    //  buffer, and doesn't change the others. `needed` is how many they are, and doesn't change if neither `OK` nor `NO_ROOM` is returned.
-    //  [with room, stays; by IsLeastCut, prices]
+    //  buffer, and doesn't change the others. In a text of any length this cut comes first among those that cost as little and no more than
+    //  2^64 - 1. `needed` is how many tokens there are, and doesn't change if neither `OK` nor `NO_ROOM` is returned. [with room, stays; by
+    //  IsLeastCut, prices]
     ensures cut { result ≡ OK → WritesLeastCut (shown_tree handle.old) (prices by_characters unknown text.now) text.now found.old found.new needed.new }
     ensures room { result ≡ NO_ROOM → LacksPlacesForCut (shown_tree handle.old) (prices by_characters unknown text.now) text.now found.old needed.new }
     ensures refused { (result ≡ OK) ⊎ (((result ≡ CLOSED) ⊎ (result ≡ MEMORY) ⊎ (result ≡ NO_ROOM)) × (found.new ≡ found.old)) }

@@ -5,30 +5,30 @@ ghost use Rattle.cedar_calls.specs.Words.{KeysStandAlone, KeysStandAloneInRuns, 
 use crate::{Answer, Call, Reply};
 use std::alloc::Allocator;
 
-/// Trees alone decide what a run returns: whatever the layout, the limit of slots, `max_trial`, the marks and the tables, calls without a
-/// load, none of which runs out of memory or slots, return what one function of the trees gives, and leave the trees that another one
-/// gives. Texts are among these results, and in the default layout how many slots are in use. Results that depend on places (how many slots
-/// there are, how many bytes and blocks, a file's bytes) may be in the list, and aren't compared.
+/// Trees and their orders alone decide what a run returns: whatever the layout, the limit of slots, `max_trial`, the marks and the tables,
+/// calls without a load, none of which runs out of memory or slots, return what one function of the states (tree and order) gives, and
+/// leave the states that another one gives. Texts are among these results, and in the default layout how many slots are held. Results that
+/// depend on places (how many slots there are, how many bytes and blocks, a file's bytes) may be in the list, and aren't compared.
 pub fn trees_decide<A: Allocator>(calls: &[Call<'_>], answers: &[Answer<A>])
-    //= For calls without a load, of which none was refused for memory or slots, the results are one function of the trees and the calls,
-    //  and the trees at the end are another: layout, limit, `max_trial`, marks, sizes and tables have no part in them. Texts are among
-    //  these results, and in the default layout how many slots are in use. [by TreesDecide]
+    //= For calls without a load, of which none was refused for memory or slots, the results are one function of the states at the start
+    //  (tree and order) and the calls, and the states at the end are another: layout, limit, `max_trial`, marks, sizes and tables have no
+    //  part in them. Texts are among these results, and in the default layout how many slots are held. [by TreesDecide]
     ensures { TreesDecide calls.now answers.now }
 {}
 
-/// Two runs of the same calls agree, loads among them: from the same trees they return the same and leave the same trees, as long as none
-/// runs out of memory or slots. Calls count as the same if they differ only in `max_trial`, and what is compared is as for `trees_decide`.
-/// With a load, both runs have one layout and one limit of slots: then its refusals, and the tree that it makes, follow from its bytes and
-/// its limit alone.
+/// Two runs of the same calls agree, loads among them: from the same states (tree and order) they return the same and leave the same
+/// states, as long as none runs out of memory or slots. Calls count as the same if they differ only in `max_trial`, and what is compared is
+/// as for `trees_decide`. With a load, both runs have one layout and one limit of slots: then its refusals, and the tree that it makes,
+/// follow from its bytes and its limit alone.
 pub fn runs_agree<A: Allocator, B: Allocator>(
     calls: &[Call<'_>],
     answers: &[Answer<A>],
     others: &[Call<'_>],
     replies: &[Answer<B>],
 )
-    //= Two runs of the same calls from the same trees return the same and leave the same trees, loads among them, if nothing was refused
-    //  for memory or slots. Calls may differ in `max_trial`; runs may differ in layout, limit and allocator, but with a load among the
-    //  calls layout and limit are one. [by RunsAgree]
+    //= Two runs of the same calls from the same states (tree and order) return the same and leave the same states, loads among them, if
+    //  nothing was refused for memory or slots. Calls may differ in `max_trial`; runs may differ in layout, limit and allocator, but with a
+    //  load among the calls layout and limit are one. [by RunsAgree]
     ensures { RunsAgree calls.now answers.now others.now replies.now }
 {}
 

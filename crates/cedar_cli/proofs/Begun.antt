@@ -36,6 +36,10 @@ pub begins_loaded : {E : Type 0} (layout : LayoutKind) (o : Options) (path : Bor
 begins_loaded layout o path (Ok d) given = (refl, rw given tt)
 begins_loaded layout o path (Err e) given = tt
 
+-- and a load was asked for
+pub asks_load : (o : Options) (path : Bor (List ℕ)) → o.load ≡ Some path → is_some (request_in o).load ≡ true
+asks_load o path given = rw given refl
+
 -- so a run may begin with one where none is loaded
 pub begins_new : (layout : LayoutKind) (o : Options) (d : Dictionary) → o.load ≡ None → d.state.tree ≡ empty_tree → d.marked ≡ empty_tree → d.state.ordered ≡ o.ordered
     → BeginsWith layout (request_in o) (view_of layout d)

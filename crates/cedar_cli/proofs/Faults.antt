@@ -1,7 +1,8 @@
 -- A call that failed, and why.
-use Rattle.std.proofs.Common.{◌≡◌, Ok, Err, Bool, true, false, ◌||◌, ◌∙◌, refl, subst}
-use Rattle.std.specs.Prelude.{OnOk, Result}
+use Rattle.std.proofs.Common.{◌≡◌, Ok, Err, Bool, true, false, ◌||◌, ◌∙◌, ap, refl, subst}
+use Rattle.std.specs.Prelude.{IfErr, OnOk, Result}
 use Rattle.cedar_cli.specs.Script.{AnswersOrFails}
+use Rattle.cedar_cli.specs.Statuses.{ShowsCause}
 use Rattle.text_lines.specs.Written.{WritesOrFails}
 use Rattle.cedar_cli.specs.declared.script.ScriptError.{ScriptError}
 use Rattle.cedar_cli.specs.declared.script.ScriptError.TheVariants.{Read, Write, Memory, SlotLimit}
@@ -53,6 +54,21 @@ ok_no_fault x e same = absurd (cc)
 pub no_success : {T E : Type 0} (P : Type 0) (r : Result T E) (e : E) → r ≡ Err e → OnOk r P
 no_success P (Ok x) e is = absurd (cc)
 no_success P (Err f) e is = tt
+
+-- what is so of an error is so of a result that is this error
+pub that_error : {T E : Type 0} (P : E → Type 0) (r : Result T E) (e : E) → r ≡ Err e → P e → IfErr r P
+that_error P r e is p = rw is p
+
+-- a fault of a script shows its cause after a call of the writer too: one that has failed still has
+pub shows_cause : (unread read written last call : Bool) (fault : ScriptError) → (◌≡◌ {A = Result (Unit {0}) ScriptError} (Err fault) (Err Read) → read ≡ true)
+    → (◌≡◌ {A = Result (Unit {0}) ScriptError} (Err fault) (Err Write) → written ≡ true)
+    → (◌≡◌ {A = Result (Unit {0}) ScriptError} (Err fault) (Err Memory) → read ≡ unread)
+    → (◌≡◌ {A = Result (Unit {0}) ScriptError} (Err fault) (Err SlotLimit) → read ≡ unread)
+    → last ≡ (written || call) → ShowsCause unread read last fault
+shows_cause unread read written last call Read by_read by_write by_memory by_limit after = by_read refl
+shows_cause unread read written last call Write by_read by_write by_memory by_limit after = after ∙ ap (λ (b : Bool). b || call) (by_write refl)
+shows_cause unread read written last call Memory by_read by_write by_memory by_limit after = by_memory refl
+shows_cause unread read written last call SlotLimit by_read by_write by_memory by_limit after = by_limit refl
 
 -- what fails by its writer alone is a line's fault
 pub writers_fault : (before after : Bool) (r : Result (Unit {0}) ScriptError) → WritesOrFails Write before after r → AnswersOrFails before after r

@@ -6,6 +6,7 @@ pub mod Faults
 pub mod JoinedLines
 pub mod Newlines
 pub mod Orders
+pub mod Reports
 pub mod Runs
 pub mod SlotsInView
 pub mod Text

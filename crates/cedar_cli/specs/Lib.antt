@@ -12,5 +12,6 @@ pub mod Loads
 pub mod Options
 pub mod Runs
 pub mod Script
+pub mod Statuses
 pub mod View
 pub mod Words

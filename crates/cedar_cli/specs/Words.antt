@@ -4,12 +4,13 @@ pub use Rattle.cedar_cli.specs.Command.{is_space, key_of, order_of, value_of, wi
 pub use Rattle.cedar_cli.specs.Devices.{held_by, IsToldOn, OnWriter}
 pub use Rattle.cedar_cli.specs.Lines.{HasLineRoom, HasNoNewline, is_newline, lines_of}
 pub use Rattle.cedar_cli.specs.Loads.{LacksWithin}
-pub use Rattle.cedar_cli.specs.Options.{asked_layout, asked_limit, BeginsWith, is_excluded, limit_of, limit_or_default, request_besides}
+pub use Rattle.cedar_cli.specs.Options.{asked_layout, asked_limit, BeginsWith, is_excluded, limit_of, limit_or_default, Request, request_besides}
 pub use Rattle.cedar_cli.specs.Options.{request_in, request_of, words}
 pub use Rattle.cedar_cli.specs.Runs.{AnswersAll, AnswersUpTo, EndsInput, FinishesAll, FinishesComing, OnAsked, OnBegun, StopsOn}
 pub use Rattle.cedar_cli.specs.Script.{Advances, AdvancesBy, Answers, answers, AnswersOrFails, colon_field, EndsEarly, figures_text, Finishes}
 pub use Rattle.cedar_cli.specs.Script.{found_text, hex_entry_line, hex_entry_lines, IsPairFault, IsTakenBack, LineMayLackMemory, MayLackMemory}
 pub use Rattle.cedar_cli.specs.Script.{number_text, pair_text, pairs_text, put_text, spaced_texts, Stops, token_text, tokens_text}
+pub use Rattle.cedar_cli.specs.Statuses.{AsksForFile, EndsBy, fault_text, IsReported, ShowsCause, TellsCause, WritesOrFailed}
 pub use Rattle.cedar_cli.specs.View.{View, view_of}
 pub use Rattle.cedar_model.specs.Table.Layouts.{layout_byte}
 pub use Rattle.cedarwood.specs.Words.{IsSlotLimit}

@@ -1,7 +1,7 @@
 //! The program: arguments, files and three streams in, a status out.
 
-ghost use Rattle.std.specs.Prelude.{◌<◌, ◌↔◌, ◌≡◌, ◌≤◌, IfErr, IfOk, IfSome, IsTrue, None, OnOk, true};
-ghost use Rattle.cedar_cli.specs.Words.{AnswersAll, AnswersUpTo, asked_limit, BeginsWith, FitsInMemory, has_failed, IsSlotLimit, LacksWithin, layout_byte, OnAsked, OnBegun, request_in, request_of, view_of};
+ghost use Rattle.std.specs.Prelude.{◌<◌, ◌↔◌, ◌≡◌, ◌≤◌, Bool, IfErr, IfOk, IfSome, is_some, IsTrue, None, OnOk, true};
+ghost use Rattle.cedar_cli.specs.Words.{AnswersAll, AnswersUpTo, asked_limit, AsksForFile, BeginsWith, EndsBy, fault_text, FitsInMemory, has_failed, IsReported, IsSlotLimit, LacksWithin, layout_byte, OnAsked, OnBegun, Request, request_in, request_of, ShowsCause, TellsCause, view_of, WritesOrFailed};
 
 use crate::options::{Options, limit_or_default, options_of};
 use crate::script::{ScriptError, run_script};
@@ -80,6 +80,14 @@ pub fn run_program<F: Files, A: Allocator + Copy, R: Read, W: Write, E: Write>(
     //= With arguments that are right, what was written is a beginning of these answers, or all of them. [also
     //  run_program_with]
     ensures begun { IfSome (request_of arguments.now) (λ asked. OnAsked asked (AnswersUpTo R.remaining reader.old W.contents writer.old writer.new)) }
+
+    //= At status 1 the line of a fault was written to standard error (`fault_text`), unless a call of it failed. It is a fault of the reader
+    //  or the writer only if that device failed, in this run or before; it is want of memory or slots only if no read of the run failed
+    //  (always). [also run_program_with; by TellsCause]
+    ensures fault { result ≡ 1 → TellsCause E.contents errors.old errors.new (has_failed reader.old) (has_failed reader.new) (has_failed writer.new) }
+
+    //= It is 3 only if the arguments ask for a load or a save (always). [also run_program_with; by AsksForFile]
+    ensures refused { result ≡ 3 → IfSome (request_of arguments.now) AsksForFile }
 {
     run_program_with::<1073741824, F, A, R, W, E>(alloc, files, arguments, reader, writer, errors)
 }
@@ -108,6 +116,8 @@ pub fn run_program_with<
     ensures done { result ≡ 0 → IfSome (request_of arguments.now) (λ asked. OnAsked asked (AnswersAll R.remaining reader.old W.contents writer.old writer.new)) }
     ensures unfailed { result ≡ 0 → (has_failed reader.new ≡ has_failed reader.old) × (has_failed writer.new ≡ has_failed writer.old) }
     ensures begun { IfSome (request_of arguments.now) (λ asked. OnAsked asked (AnswersUpTo R.remaining reader.old W.contents writer.old writer.new)) }
+    ensures fault { result ≡ 1 → TellsCause E.contents errors.old errors.new (has_failed reader.old) (has_failed reader.new) (has_failed writer.new) }
+    ensures refused { result ≡ 3 → IfSome (request_of arguments.now) AsksForFile }
 {
     let Some(options) = options_of(arguments) else {
         let _ = errors.write_all(USAGE_LINE.as_bytes());
@@ -124,12 +134,10 @@ fn tell<E: Write>(fault: Fault, errors: &mut Watched<E>) -> u8
     ensures above { 0 < result }
     ensures within { result ≤ 3 }
     ensures other { result ≡ 2 → ⊥ }
+    ensures told { IsReported E.contents errors.old errors.new fault result }
 {
     match fault {
-        Fault::Script(fault) => {
-            let _ = errors.write_all(fault_line(fault).as_bytes());
-            FAULT
-        }
+        Fault::Script(fault) => tell_script(fault, errors),
         Fault::Load(error) => {
             let _ = writeln!(errors, "cedar: load: {error}");
             REFUSED
@@ -139,6 +147,15 @@ fn tell<E: Write>(fault: Fault, errors: &mut Watched<E>) -> u8
             REFUSED
         }
     }
+}
+
+/// Reports a fault of the script, and returns the status to end with.
+fn tell_script<E: Write>(fault: ScriptError, errors: &mut Watched<E>) -> u8
+    ensures status { result ≡ 1 }
+    ensures line { WritesOrFailed E.contents errors.old errors.new (fault_text fault) }
+{
+    let _ = errors.write_all(fault_line(fault).as_bytes());
+    FAULT
 }
 
 /// Does what the options say, over the layout that they name.
@@ -153,6 +170,7 @@ fn run_layout<const SLOTS: usize, F: Files, A: Allocator + Copy, R: Read, W: Wri
     ensures ok { OnOk result (OnAsked (request_in options.entry) (AnswersAll R.remaining reader.old W.contents writer.old writer.new)) }
     ensures begun { OnAsked (request_in options.entry) (AnswersUpTo R.remaining reader.old W.contents writer.old writer.new) }
     ensures unfailed { OnOk result ((has_failed reader.new ≡ has_failed reader.old) × (has_failed writer.new ≡ has_failed writer.old)) }
+    ensures ends { IfErr result (EndsBy (request_in options.entry) (has_failed reader.old) (has_failed reader.new) (has_failed writer.new)) }
 {
     if options.reduced {
         run_options::<ReducedLayout, SLOTS, F, A, R, W>(alloc, files, options, reader, writer)
@@ -173,6 +191,7 @@ fn run_options<L: Layout, const SLOTS: usize, F: Files, A: Allocator + Copy, R: 
     ensures ok { OnOk result (OnBegun L.kind (request_in options.entry) (AnswersAll R.remaining reader.old W.contents writer.old writer.new)) }
     ensures begun { OnBegun L.kind (request_in options.entry) (AnswersUpTo R.remaining reader.old W.contents writer.old writer.new) }
     ensures unfailed { OnOk result ((has_failed reader.new ≡ has_failed reader.old) × (has_failed writer.new ≡ has_failed writer.old)) }
+    ensures ends { IfErr result (EndsBy (request_in options.entry) (has_failed reader.old) (has_failed reader.new) (has_failed writer.new)) }
 {
     let place: Option<Trie<L, SLOTS, A>> = None;
     if !fits(&place) {
@@ -190,7 +209,9 @@ fn save<L: Layout, const SLOTS: usize, F: Files, A: Allocator + Copy>(
     files: &F,
     trie: &Trie<L, SLOTS, A>,
     options: Options<'_>,
-) -> Result<(), Fault> {
+) -> Result<(), Fault>
+    ensures { (unread read written : Bool) → IfErr result (EndsBy (request_in options.entry) unread read written) }
+{
     let Some(path) = options.save else {
         return Ok(());
     };
@@ -199,7 +220,10 @@ fn save<L: Layout, const SLOTS: usize, F: Files, A: Allocator + Copy>(
     } else {
         trie.save_to_path(files, path)
     };
-    saved.map_err(Fault::Save)
+    match saved {
+        Ok(()) => Ok(()),
+        Err(error) => Err(Fault::Save(error)),
+    }
 }
 
 /// The dictionary that the script begins with.
@@ -210,6 +234,7 @@ fn first_trie<L: Layout, const SLOTS: usize, F: Files, A: Allocator + Copy>(
 ) -> Result<Trie<L, SLOTS, A>, Fault>
     requires limit { IsSlotLimit SLOTS }
     ensures begun { IfOk result (λ trie. BeginsWith L.kind (request_in options.entry) (view_of L.kind trie)) }
+    ensures ends { (read written : Bool) → IfErr result (EndsBy (request_in options.entry) read read written) }
 
     //= A load that is refused memory is refused it under the limit of `--limit`, or without that under 2^29 bytes (always). [by
     //  LacksWithin, asked_limit]
@@ -235,7 +260,8 @@ fn load<L: Layout, const SLOTS: usize, F: Files, A: Allocator + Copy>(
     limit: usize,
 ) -> Result<Trie<L, SLOTS, A>, Fault>
     requires limit { IsSlotLimit SLOTS }
-    ensures { IfErr result (LacksWithin (layout_byte L.kind) SLOTS limit) }
+    ensures lacks { IfErr result (LacksWithin (layout_byte L.kind) SLOTS limit) }
+    ensures ends { (asked : Request) (unread read written : Bool) → is_some asked.load ≡ true → IfErr result (EndsBy asked unread read written) }
 {
     match Trie::load_from_path_with_limit(alloc, files, path, limit) {
         Ok(trie) => Ok(trie),
@@ -252,8 +278,7 @@ fn answer_script<L: Layout, const SLOTS: usize, A: Allocator + Copy, R: Read, W:
 ) -> Result<(), ScriptError>
     ensures ok { OnOk result (AnswersAll R.remaining reader.old W.contents writer.old writer.new (view_of L.kind trie.old)) }
     ensures begun { AnswersUpTo R.remaining reader.old W.contents writer.old writer.new (view_of L.kind trie.old) }
-    ensures read_cause { result ≡ Err ScriptError.Read → has_failed reader.new ≡ true }
-    ensures write_cause { result ≡ Err ScriptError.Write → has_failed writer.new ≡ true }
+    ensures cause { IfErr result (ShowsCause (has_failed reader.old) (has_failed reader.new) (has_failed writer.new)) }
     ensures unfailed { OnOk result ((has_failed reader.new ≡ has_failed reader.old) × (has_failed writer.new ≡ has_failed writer.old)) }
 {
     let outcome = run_script(alloc, trie, reader, writer);
@@ -266,7 +291,9 @@ fn answer_script<L: Layout, const SLOTS: usize, A: Allocator + Copy, R: Read, W:
 }
 
 /// What is written to standard error of a fault of the script.
-fn fault_line(fault: ScriptError) -> &'static str {
+fn fault_line(fault: ScriptError) -> &'static str
+    ensures { result.now ≡ fault_text fault }
+{
     match fault {
         ScriptError::Read => "cedar: read fault\n",
         ScriptError::Write => "cedar: write fault\n",

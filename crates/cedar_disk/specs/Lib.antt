@@ -3,4 +3,10 @@ pub mod Calls
 pub mod Errors
 pub mod FileDevices
 pub mod Laws
+pub mod Names
+pub mod NewFiles
+pub mod NotedFiles
+pub mod PathFiles
+pub mod Runs
+pub mod Whole
 pub mod Words

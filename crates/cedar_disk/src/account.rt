@@ -1,151 +1,168 @@
-//! What the calls so far make of a file: what a read returns, and what a crash may leave. `specs/Calls.antt` has the model.
+//! A file, and what the calls on it so far make of it. `specs/Calls.antt` has the model.
 
-ghost use Rattle.std.specs.Prelude.{◌≡◌, ◌<◌, ◌≤◌, ◌+◌, [], ◌∷◌, false, length, IfErr, IsTrue, OnErr, OnOk};
-ghost use Rattle.cedar_disk.specs.Words.{all_within, extended, is_usable_after, OnDisk, Only, opened, refused_call, replaced, seen_after, shortened, synced, written};
+ghost use Rattle.std.specs.Prelude.{◌≡◌, ◌<◌, ◌≤◌, ◌⊎◌, ◌∷◌, [], false, IsTrue, length, List, OnErr, OnOk, take, true, ℕ};
+ghost use Rattle.cedar_disk.specs.Words.{all_within, Cut, faults_in, Follows, LiesBeside, TimePasses, HasCause, is_usable_after, LeavesOnly, LeftSince, MayLeave, Only, opened, overlaid, refused_call, seen_after, Torn};
+ghost use Rattle.cedar_disk.specs.NotedFiles.{is_beside, noted_calls};
 
-use crate::history::History;
+use crate::noted::{Noted, Place};
+use crate::writes::{put_in_place, write_all};
 use cedar_journal::DeviceError;
+use std::alloc::Allocator;
+use std::fs::OpenFile;
+use std::io::{Read, Seek, Write};
+use std::mem;
+use std::rt::Files;
 
-const OPENED: u64 = 0;
-
-const WRITTEN: u64 = 1;
-
-const SHORTENED: u64 = 2;
-
-const SYNCED: u64 = 3;
-
-const REPLACED: u64 = 4;
-
-const EXTENDED: u64 = 5;
-
-const REFUSED: u64 = 6;
-
-/// The calls so far. Its methods make none: each one notes a call that was made, with what it returned.
+/// A file, and whether it is to be synced, and can be.
 #[derive(Drop)]
-pub(crate) struct Account {
-    history: History,
-    /// How many bytes a read returns.
-    len: usize,
+pub(crate) struct Account<T: Read + Write + Seek + OpenFile + Drop> {
+    file: Noted<T>,
     /// Whether something was written or cut since the last sync.
     is_dirty: bool,
-    /// Whether no call has failed except such as changed nothing.
-    is_usable: bool,
-    ghost counted: { len ≡ length (seen_after history.calls) },
-    ghost usable: { is_usable ≡ is_usable_after history.calls },
-    ghost clean: { is_dirty ≡ false → Only (seen_after history.calls) (OnDisk history.calls) },
-    ghost within: { IsTrue (all_within history.calls) },
+    /// Whether a call has failed that may have changed something.
+    has_failed: bool,
+    ghost usable: { has_failed ≡ false → IsTrue (is_usable_after (noted_calls file)) },
+    ghost clean: { is_dirty ≡ false → Only (seen_after (noted_calls file)) (MayLeave (noted_calls file)) },
+    ghost within: { IsTrue (all_within (noted_calls file)) },
+    ghost placed: { is_beside file ≡ false },
 }
 
-impl Account {
-    ghost use Rattle.cedar_disk.specs.Accounts.{calls_of, is_dirty};
+impl<T: Read + Write + Seek + OpenFile + Drop> Account<T> {
+    ghost use Rattle.cedar_disk.specs.Accounts.{calls_of};
+    ghost use Rattle.cedar_disk.specs.PathFiles.{place_path};
 
-    /// Notes that the file was synced, and then read.
-    pub(crate) fn of_file(bytes: &[u8]) -> Account
-        ensures calls { calls_of result ≡ opened bytes.now ∷ [] }
+    /// Takes a file that was opened, and read.
+    pub(crate) fn of_file(file: Noted<T>, _bytes: &[u8]) -> Account<T>
+        requires noted { noted_calls file ≡ opened _bytes.now ∷ [] }
+        requires name { is_beside file ≡ false }
+        ensures calls { calls_of result ≡ opened _bytes.now ∷ [] }
     {
-        let mut history = History::new();
-        history.note(&[OPENED, 0, 1], bytes);
         Account {
-            history,
-            len: bytes.len(),
+            file,
             is_dirty: false,
-            is_usable: true,
+            has_failed: false,
         }
     }
 
-    /// Returns how many bytes a read returns.
-    pub(crate) fn len(&self) -> usize
-        ensures { result ≡ length (seen_after (calls_of self.now)) }
+    /// Returns whether a call may be made: none has failed before.
+    pub(crate) fn is_usable(&self) -> bool
+        ensures { IsTrue result → IsTrue (is_usable_after (calls_of self.now)) }
     {
-        self.len
+        !self.has_failed
     }
 
-    /// Returns whether something was written or cut since the last sync.
-    pub(crate) fn is_dirty(&self) -> bool
-        ensures { result ≡ is_dirty self.now }
+    /// Notes a call of the device for which none of the system is made, and returns its error.
+    pub(crate) fn refuse(&mut self) -> DeviceError
+        ensures calls { calls_of self.new ≡ refused_call ∷ calls_of self.old }
+        ensures failed { result ≡ DeviceError.Failed }
     {
-        self.is_dirty
+        self.file.refuse();
+        DeviceError::Failed
     }
 
-    /// Refuses a call if one has failed before.
-    pub(crate) fn admit(&mut self) -> Result<(), DeviceError>
-        ensures usable { OnOk result (IsTrue (is_usable_after (calls_of self.new))) }
-        ensures same { OnOk result (self.new ≡ self.old) }
-        ensures refused { OnErr result (calls_of self.new ≡ refused_call ∷ calls_of self.old) }
-        ensures failed { IfErr result (λ e. e ≡ DeviceError.Failed) }
+    /// Writes bytes, and past the end too.
+    pub(crate) fn write(&mut self, at: usize, bytes: &[u8]) -> Result<(), DeviceError>
+        requires usable { IsTrue (is_usable_after (calls_of self.old)) }
+        requires within { at ≤ length (seen_after (calls_of self.old)) }
+        ensures written { OnOk result (seen_after (calls_of self.new) ≡ overlaid (seen_after (calls_of self.old)) at bytes.now) }
+        ensures crash { Follows (Torn at (length bytes.now)) (MayLeave (calls_of self.old)) (MayLeave (calls_of self.new)) }
+        ensures time { TimePasses (calls_of self.old) (calls_of self.new) }
+        ensures cause { HasCause (faults_in (calls_of self.old)) (faults_in (calls_of self.new)) result }
     {
-        if self.is_usable {
+        self.is_dirty = true;
+        match write_all(&mut self.file, at, bytes) {
+            Ok(()) => Ok(()),
+            Err(error) => {
+                self.has_failed = true;
+                Err(error)
+            }
+        }
+    }
+
+    /// Cuts the file.
+    pub(crate) fn cut(&mut self, len: usize) -> Result<(), DeviceError>
+        requires usable { IsTrue (is_usable_after (calls_of self.old)) }
+        requires within { len ≤ length (seen_after (calls_of self.old)) }
+        ensures cut { OnOk result (seen_after (calls_of self.new) ≡ take len (seen_after (calls_of self.old))) }
+        ensures crash { Follows (Cut len) (MayLeave (calls_of self.old)) (MayLeave (calls_of self.new)) }
+        ensures time { TimePasses (calls_of self.old) (calls_of self.new) }
+        ensures cause { HasCause (faults_in (calls_of self.old)) (faults_in (calls_of self.new)) result }
+    {
+        self.is_dirty = true;
+        match self.file.cut(len) {
+            Ok(()) => Ok(()),
+            Err(_) => {
+                self.has_failed = true;
+                Err(DeviceError::Failed)
+            }
+        }
+    }
+
+    /// Puts all that was written and cut on the disk. If all is there already, nothing is asked of the system.
+    pub(crate) fn sync(&mut self) -> Result<(), DeviceError>
+        requires usable { IsTrue (is_usable_after (calls_of self.old)) }
+        ensures durable { OnOk result (Only (seen_after (calls_of self.old)) (MayLeave (calls_of self.new))) }
+        ensures seen { seen_after (calls_of self.new) ≡ seen_after (calls_of self.old) }
+        ensures crash { (c : List ℕ) → MayLeave (calls_of self.new) c → MayLeave (calls_of self.old) c }
+        ensures time { TimePasses (calls_of self.old) (calls_of self.new) }
+        ensures cause { HasCause (faults_in (calls_of self.old)) (faults_in (calls_of self.new)) result }
+    {
+        if !self.is_dirty {
             return Ok(());
         }
-        self.note_refusal();
-        Err(DeviceError::Failed)
-    }
-
-    /// Notes that a call failed that changed nothing.
-    pub(crate) fn note_refusal(&mut self)
-        ensures calls { calls_of self.new ≡ refused_call ∷ calls_of self.old }
-    {
-        self.history.note(&[REFUSED, 0, 0], &[]);
-    }
-
-    /// Notes that bytes were written over some that were there.
-    pub(crate) fn note_write(&mut self, at: usize, bytes: &[u8], ok: bool)
-        requires within { at + length bytes.now ≤ length (seen_after (calls_of self.old)) }
-        ensures calls { calls_of self.new ≡ written at bytes.now ok ∷ calls_of self.old }
-    {
-        self.is_dirty = true;
-        self.is_usable = self.is_usable && ok;
-        self.history
-            .note(&[WRITTEN, at as u64, u64::from(ok)], bytes);
-    }
-
-    /// Notes that bytes were written past the end, which is at `end` now, and that the file was synced.
-    pub(crate) fn note_extension(&mut self, at: usize, bytes: &[u8], end: usize, ok: bool)
-        requires within { at ≤ length (seen_after (calls_of self.old)) }
-        requires end { end ≡ at + length bytes.now }
-        requires longer { length (seen_after (calls_of self.old)) < end }
-        requires usable { IsTrue (is_usable_after (calls_of self.old)) }
-        ensures calls { calls_of self.new ≡ extended at bytes.now ok ∷ calls_of self.old }
-    {
-        if ok {
-            self.len = end;
+        match self.file.sync() {
+            Ok(()) => {
+                self.is_dirty = false;
+                Ok(())
+            }
+            Err(_) => {
+                self.has_failed = true; // No later sync shows what the disk has.
+                Err(DeviceError::Failed)
+            }
         }
-        self.is_dirty = !ok;
-        self.is_usable = ok;
-        self.history
-            .note(&[EXTENDED, at as u64, u64::from(ok)], bytes);
     }
 
-    /// Notes that the file was cut.
-    pub(crate) fn note_cut(&mut self, len: usize, ok: bool)
-        requires within { len ≤ length (seen_after (calls_of self.old)) }
-        ensures calls { calls_of self.new ≡ shortened len ok ∷ calls_of self.old }
-    {
-        self.len = len;
-        self.is_dirty = true;
-        self.is_usable = self.is_usable && ok;
-        self.history
-            .note(&[SHORTENED, len as u64, u64::from(ok)], &[]);
+    /// Returns the file.
+    pub(crate) fn file(&self) -> &Noted<T> {
+        &self.file
     }
 
-    /// Notes that the file was synced.
-    pub(crate) fn note_sync(&mut self, ok: bool)
+    /// Gives another file the name of this one, which it replaces.
+    ///
+    /// # Errors
+    /// `Failed` if a call failed: the disk has the one or the other.
+    pub(crate) fn replace<F: Files + Drop, A: Allocator>(
+        &mut self,
+        place: &Place<F, A>,
+        name: &str,
+        fresh: Noted<T>,
+        bytes: &[u8],
+    ) -> Result<(), DeviceError>
         requires usable { IsTrue (is_usable_after (calls_of self.old)) }
-        ensures calls { calls_of self.new ≡ synced ok ∷ calls_of self.old }
+        requires name { is_beside fresh ≡ true }
+        requires names { LiesBeside (place_path place.now) name.now }
+        requires bytes { seen_after (noted_calls fresh) ≡ bytes.now }
+        requires fresh { Only bytes.now (MayLeave (noted_calls fresh)) }
+        ensures replaced { OnOk result (seen_after (calls_of self.new) ≡ bytes.now) }
+        ensures durable { OnOk result (Only bytes.now (MayLeave (calls_of self.new))) }
+        ensures crash { (c : List ℕ) → MayLeave (calls_of self.new) c → MayLeave (calls_of self.old) c ⊎ (c ≡ bytes.now) }
+        ensures time { TimePasses (calls_of self.old) (calls_of self.new) }
+        ensures any_moment { LeavesOnly length LeftSince (calls_of self.old) (calls_of self.new)
+            (λ c. MayLeave (calls_of self.old) c ⊎ (c ≡ bytes.now)) }
+        ensures fault { OnErr result (faults_in (calls_of self.old) < faults_in (calls_of self.new)) }
+        ensures faults { faults_in (calls_of self.old) ≤ faults_in (calls_of self.new) }
     {
-        self.is_dirty = self.is_dirty && !ok;
-        self.is_usable = ok;
-        self.history.note(&[SYNCED, 0, u64::from(ok)], &[]);
-    }
-
-    /// Notes that another file took its name.
-    pub(crate) fn note_replacement(&mut self, bytes: &[u8], ok: bool)
-        requires usable { IsTrue (is_usable_after (calls_of self.old)) }
-        ensures calls { calls_of self.new ≡ replaced bytes.now ok ∷ calls_of self.old }
-    {
-        self.len = if ok { bytes.len() } else { 0 };
-        self.is_dirty = !ok;
-        self.is_usable = ok;
-        self.history.note(&[REPLACED, 0, u64::from(ok)], bytes);
+        let old = mem::replace(&mut self.file, fresh);
+        match put_in_place(&mut self.file, place, name, old, bytes) {
+            Ok(()) => {
+                self.is_dirty = false;
+                Ok(())
+            }
+            Err(_) => {
+                self.is_dirty = true;
+                self.has_failed = true;
+                Err(DeviceError::Failed)
+            }
+        }
     }
 }

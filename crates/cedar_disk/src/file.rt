@@ -4,16 +4,11 @@ ghost use Rattle.std.specs.Prelude.{◌≡◌, length, IfOk};
 ghost use Rattle.cedar_disk.specs.Words.{counts_now, faults_in, ForSome, LeftSince, MayLeave, Only, only_now, seen_after};
 ghost use Rattle.cedar_disk.specs.Accounts.{calls_of};
 
-use crate::system::{
-    make_file, open_file, open_folder, put_in_place, read_all, resolve, write_all_at,
-    write_synced_at,
-};
+use crate::noted::Place;
+use crate::writes::make_file;
 use crate::{Account, OpenError};
 use cedar_journal::{Device, DeviceError, ReplaceDevice, ReplaceError};
 use std::alloc::Allocator;
-use std::fs::{self, OpenFile};
-use std::io;
-use std::path::PathBuf;
 use std::rt::Files;
 
 /// A file of the operating system to which nobody else writes.
@@ -24,17 +19,12 @@ use std::rt::Files;
 /// Once a system call has failed to write, cut, sync or rename, each later call fails with `Failed`: after a sync that failed
 /// no other one shows what the disk has. Open the file again.
 ///
-/// A write that makes the file longer waits until the disk has it, and the `sync` after it then asks nothing of the system.
+/// A `sync` asks nothing of the system if nothing was written or cut since the last one.
 #[derive(Drop)]
 pub struct FileDevice<F: Files + Drop, A: Allocator> {
-    files: F,
-    path: PathBuf<A>,
-    // The path of the file that replaces it.
-    beside: String<A>,
-    folder: F::File,
-    file: F::File,
+    place: Place<F, A>,
     held: Option<Vec<u8, A>>,
-    account: Account,
+    account: Account<F::File>,
     ghost held_is: { ForSome held (λ bytes. bytes.items ≡ seen_after (calls_of account)) },
 }
 
@@ -43,7 +33,7 @@ impl<F: Files + Drop, A: Allocator + Copy> FileDevice<F, A> {
 
     /// Opens the file at `path`, or creates it, and puts it and its name on the disk. Then it is read.
     ///
-    /// Links in the path are followed now and not later. A file that replaces this one is made at `path` with `.new` after it.
+    /// Links in the path are followed now and not later. A file that replaces this one is made beside it, as `NewFile` makes one.
     ///
     /// # Errors
     /// `Memory` if an allocation failed, `Io` if a system call failed, or if something other than a file is at the path.
@@ -51,30 +41,15 @@ impl<F: Files + Drop, A: Allocator + Copy> FileDevice<F, A> {
         //= A file that was opened is on the disk: a crash leaves what a read returns.
         ensures durable { IfOk result (λ device. Only (seen_after (device_calls device)) (MayLeave (device_calls device))) }
     {
-        let path = resolve(&files, alloc, path)?;
-        let beside = format!(in alloc; "{}.new", path.as_str())?;
-        let folder = open_folder(&files, path.as_str())?;
-        let mut file = open_file(&files, path.as_str())?;
-        file.sync_all()?;
-        folder.sync_all()?;
-        let bytes = read_all(&mut file, alloc)?;
-        let account = Account::of_file(&bytes);
+        let place = Place::find(files, alloc, path)?;
+        let (file, bytes) = place.open(alloc)?;
+        let account = Account::of_file(file, &bytes);
         Ok(FileDevice {
-            files,
-            path,
-            beside,
-            folder,
-            file,
+            place,
             held: Some(bytes),
             account,
         })
     }
-}
-
-fn device_error(_error: io::Error) -> DeviceError
-    ensures { result ≡ DeviceError.Failed }
-{
-    DeviceError::Failed
 }
 
 impl<F: Files + Drop, A: Allocator + Copy> Device for FileDevice<F, A> {
@@ -99,71 +74,52 @@ impl<F: Files + Drop, A: Allocator + Copy> Device for FileDevice<F, A> {
     fn read<B: Allocator>(&mut self, alloc: B) -> Result<Vec<u8, B>, DeviceError> {
         match &self.held {
             Some(bytes) => Ok(bytes.to_vec(alloc)?),
-            None => {
-                self.account.note_refusal();
-                Err(DeviceError::Failed)
-            }
+            None => Err(self.account.refuse()),
         }
     }
 
     fn write_at(&mut self, at: usize, bytes: &[u8]) -> Result<(), DeviceError> {
-        self.account.admit()?;
-        let Some(end) = at.checked_add(bytes.len()) else {
-            self.account.note_refusal();
-            return Err(DeviceError::Failed);
-        };
-        self.held = None;
-        if end <= self.account.len() {
-            let answer = write_all_at(&mut self.file, at, bytes);
-            self.account.note_write(at, bytes, answer.is_ok());
-            return answer.map_err(device_error);
+        if !self.account.is_usable() {
+            return Err(self.account.refuse());
         }
-        // Otherwise a crash could leave a shorter file than a cut may be said to leave.
-        let answer = write_synced_at(&mut self.file, at, bytes);
-        self.account.note_extension(at, bytes, end, answer.is_ok());
-        answer.map_err(device_error)
+        self.held = None;
+        self.account.write(at, bytes)
     }
 
     fn cut(&mut self, len: usize) -> Result<(), DeviceError> {
-        self.account.admit()?;
+        if !self.account.is_usable() {
+            return Err(self.account.refuse());
+        }
         self.held = None;
-        let answer = self.file.set_len(len as u64);
-        self.account.note_cut(len, answer.is_ok());
-        answer.map_err(device_error)
+        self.account.cut(len)
     }
 
     fn sync(&mut self) -> Result<(), DeviceError> {
-        self.account.admit()?;
-        let answer = if self.account.is_dirty() {
-            self.file.sync_data()
-        } else {
-            Ok(())
-        };
-        self.account.note_sync(answer.is_ok());
-        answer.map_err(device_error)
+        if !self.account.is_usable() {
+            return Err(self.account.refuse());
+        }
+        self.account.sync()
     }
 }
 
 impl<F: Files + Drop, A: Allocator + Copy> ReplaceDevice for FileDevice<F, A> {
     fn replace(&mut self, bytes: &[u8]) -> Result<(), ReplaceError> {
-        if self.account.admit().is_err() {
+        if !self.account.is_usable() {
+            self.account.refuse();
             return Err(ReplaceError::Failed);
         }
-        let made = make_file(&self.files, self.beside.as_str(), &self.file, bytes);
-        let Ok(file) = made else {
-            let _ = fs::remove_file(&self.files, self.beside.as_str());
-            self.account.note_refusal();
-            return Err(ReplaceError::Kept(DeviceError::Failed));
+        let like = self.account.file();
+        let made = make_file(&self.place, like, bytes);
+        let Ok((name, fresh)) = made else {
+            return Err(ReplaceError::Kept(self.account.refuse()));
         };
         self.held = None;
-        let answer = put_in_place(
-            &self.files,
-            &self.folder,
-            self.beside.as_str(),
-            self.path.as_str(),
-        );
-        self.account.note_replacement(bytes, answer.is_ok());
-        self.file = file;
-        answer.map_err(|_| ReplaceError::Failed)
+        match self
+            .account
+            .replace(&self.place, name.as_str(), fresh, bytes)
+        {
+            Ok(()) => Ok(()),
+            Err(_) => Err(ReplaceError::Failed),
+        }
     }
 }

@@ -1,12 +1,22 @@
-//! Files of the operating system as devices of the journal: written in place, and replaced at one stroke.
+//! Files of the operating system as devices of the journal: written in place, and replaced at one stroke. And files
+//! that are written beside the one at a path, and take its place once they are whole.
 #![tactic(auto)]
 
 mod account;
 mod file;
 mod history;
+mod laws;
+mod names;
+mod noted;
 mod system;
+mod whole;
+mod writes;
+mod wrote;
 
 pub(crate) use account::Account;
 pub use cedar_journal::{ReplaceDevice, ReplaceError};
 pub use file::FileDevice;
+pub use laws::whole_files_are_safe;
+pub use noted::PathCalls;
 pub use system::OpenError;
+pub use whole::{NewFile, NotPlaced};

@@ -1,12 +1,13 @@
-//! The system calls. No contract can say what they do: `specs/Calls.antt` has what is assumed of them.
+//! How a file is found, opened and read.
 
 ghost use Rattle.std.specs.Prelude.{◌≡◌};
 ghost use Rattle.cedar_disk.specs.Words.{Memory, TellsKind};
 
 use std::alloc::{AllocError, Allocator};
 use std::fs;
-use std::fs::{File, OpenFile, OpenOptions};
-use std::io::{self, Read, Seek, SeekFrom, Write};
+use std::fs::{Metadata, OpenFile, OpenOptions};
+use std::io::{self, Read};
+use std::os::unix::fs::{MetadataExt, lchown};
 use std::path::PathBuf;
 use std::rt::Files;
 
@@ -80,49 +81,45 @@ pub(crate) fn read_all<R: Read, A: Allocator>(file: &mut R, alloc: A) -> io::Res
     Ok(bytes)
 }
 
-/// Writes all of the bytes from the byte `at` on.
-pub(crate) fn write_all_at<W: Write + Seek>(
-    file: &mut W,
-    at: usize,
-    bytes: &[u8],
-) -> io::Result<()> {
-    file.seek(SeekFrom::Start(at as u64))?;
-    file.write_all(bytes)
+/// Returns what is known of the file at a path, or None if nothing is there that a link leads to.
+///
+/// # Errors
+/// `Unsupported` if something other than a file is there.
+pub(crate) fn file_at<F: Files>(files: &F, path: &str) -> io::Result<Option<Metadata>> {
+    match fs::metadata(files, path) {
+        Ok(found) if found.is_file() => Ok(Some(found)),
+        Ok(_) => Err(io::ErrorKind::Unsupported.into()),
+        Err(error) if is_nothing(error.kind()) => Ok(None),
+        Err(error) => Err(error),
+    }
 }
 
-/// Writes all of the bytes from the byte `at` on, and waits until the disk has them.
-pub(crate) fn write_synced_at<W: Write + Seek + OpenFile>(
-    file: &mut W,
-    at: usize,
-    bytes: &[u8],
-) -> io::Result<()> {
-    write_all_at(file, at, bytes)?;
-    file.sync_data()
+// Whether an error says that nothing is at a path: also where links only lead to each other.
+fn is_nothing(kind: io::ErrorKind) -> bool {
+    kind == io::ErrorKind::NotFound || kind == io::ErrorKind::FilesystemLoop
 }
 
-/// Creates a file of these bytes, on the disk, whose permissions are those of another one. What was at the path is removed.
-pub(crate) fn make_file<F: Files>(
-    files: &F,
-    path: &str,
-    like: &F::File,
-    bytes: &[u8],
-) -> io::Result<F::File> {
-    // What a crash left there, or a link.
-    let _ = fs::remove_file(files, path);
-    let mut file = File::create_new(files, path)?;
-    file.set_permissions(like.metadata()?.permissions())?;
-    file.write_all(bytes)?;
-    file.sync_all()?;
-    Ok(file)
+/// Gives a file the owner and group of another one, or else the group alone, as far as the system allows that. This goes by the file's
+/// name, since `Files` has no such call on an open file: so only while the name leads to the file.
+pub(crate) fn keep_owner<T: OpenFile, F: Files>(file: &T, files: &F, name: &str, like: &Metadata) {
+    let Ok(made) = file.metadata() else {
+        return;
+    };
+    if made.uid() == like.uid() && made.gid() == like.gid() {
+        return;
+    }
+    if !leads_to(files, name, &made) {
+        return;
+    }
+    if lchown(files, name, Some(like.uid()), Some(like.gid())).is_err() {
+        let _ = lchown(files, name, None, Some(like.gid()));
+    }
 }
 
-/// Renames a file, and syncs the folder of both names.
-pub(crate) fn put_in_place<F: Files>(
-    files: &F,
-    folder: &F::File,
-    from: &str,
-    to: &str,
-) -> io::Result<()> {
-    fs::rename(files, from, to)?;
-    folder.sync_all()
+// Whether a name is that of a file, and not of a link.
+fn leads_to<F: Files>(files: &F, name: &str, file: &Metadata) -> bool {
+    match fs::symlink_metadata(files, name) {
+        Ok(found) => found.dev() == file.dev() && found.ino() == file.ino(),
+        Err(_) => false,
+    }
 }

@@ -1,5 +1,5 @@
 -- A leaf that owns no slot: its first base, and its first label.
-use Rattle.std.proofs.Common.{◌≡◌, ◌∙◌, ℕ, List, [], ◌∷◌, ap, inl, inr, refl, sym}
+use Rattle.std.proofs.Common.{◌≡◌, ◌∙◌, ℕ, List, [], ◌∷◌, ap, inl, inr, refl, subst, sym}
 use Rattle.std.specs.Prelude.{◌%◌, ◌≤◌, ◌<◌, ◌⊎◌, Bool, bit_xor, pos}
 use Rattle.std.specs.Int.Bits.{xor_self}
 use lib.Bits.{xor_assoc, xor_zero_r}
@@ -12,11 +12,13 @@ use Rattle.cedar_model.specs.Edit.NodeEdits.{follow_on, GoesFirst, IsNodeOf, Lin
 use Rattle.cedar_model.specs.Edit.Steps.{Placed}
 use Rattle.cedar_model.specs.Meaning.WellFormed.{cells_in}
 use Rattle.cedar_model.specs.Relocation.Asked.{WantsRoom}
-use Rattle.cedar_model.specs.Table.TableFields.{Fields, size_of}
-use Rattle.cedar_model.proofs.EditLemmas.FirstBase.{bare_owns}
+use Rattle.cedar_model.specs.Edit.Packing.{MakesIfFull, TakesSingle}
+use Rattle.cedar_model.specs.Table.TableFields.{Fields, SameFrame, size_of}
+use Rattle.cedar_model.proofs.EditLemmas.FirstBase.{bare_owns, held_still}
 use Rattle.cedar_model.proofs.EditLemmas.Room.{label_free, label_place, LabelPlace}
 use Rattle.cedar_model.proofs.MeaningLemmas.NumberSlots.{marks_same}
 use Rattle.cedar_model.proofs.RelocationLemmas.Movable.{node_at_end}
+use Rattle.cedar_model.proofs.UpdateLemmas.BlocksMade.{made_framed}
 
 -- a leaf without base owns nothing
 pub leaf_alone : (size : ℕ) (T : Cells) (ordered : Bool) (f : Forest) (a : ℕ) → IsNodeOf size T ordered f a → (a ≡ 0 → ⊥) → T.stored a ≡ AtBase 0 → OwnsNothing T a
@@ -83,3 +85,33 @@ placed_here slots T a l w whole some small either =
       ];
       marks = marks_same (cells_in T);
     }
+
+-- ---- what is held
+
+-- what was held is held once a free slot was taken, and so is that one
+pub kept_taken : (T T₁ T₂ : Cells) (q a : ℕ) → Takes T T₁ q a → (Held T q → ⊥) → ((x : ℕ) → T₂.check x ≡ T₁.check x) → (x : ℕ) → Held T x → Held T₂ x
+kept_taken T T₁ T₂ q a t free same x (inl z) = inl z
+kept_taken T T₁ T₂ q a t free same x (inr o) = inr (o.0, same x ∙ (t.other x (λ e. free (subst (Held T) e (inr o))) (inr o)).check ∙ o.1)
+
+pub taken_held : (T T₁ T₂ : Cells) (q a : ℕ) → Takes T T₁ q a → ((x : ℕ) → T₂.check x ≡ T₁.check x) → Held T₂ q
+taken_held T T₁ T₂ q a t same = inr (a, same q ∙ t.at)
+
+-- where no check has changed, all is held that was
+pub kept_checks : (T T' : Cells) → ((x : ℕ) → T'.check x ≡ T.check x) → (x : ℕ) → Held T x → Held T' x
+kept_checks T T' same x (inl z) = inl z
+kept_checks T T' same x (inr o) = inr (o.0, same x ∙ o.1)
+
+-- and once a node got a base
+pub kept_based : (T T₁ T₂ : Cells) (a b : ℕ) → SameHeld T T₁ → Rebased T₁ T₂ a b → (x : ℕ) → Held T x → Held T₂ x
+kept_based T T₁ T₂ a b same set x h = kept_checks T₁ T₂ set.check x (held_still T T₁ x same h)
+
+-- a slot alone was found, and taken: no block was made, unless no slot outside block 0 was free
+pub single_taken : (T T₁ T₂ : Fields) (slot q : ℕ) → MakesIfFull T T₁ → SameFrame T₁ T₂ → ((x : ℕ) → Held (cells_in T) x → Held (cells_in T₁) x) → ((x : ℕ) → Held (cells_in T₁) x → Held (cells_in T₂) x)
+    → slot ≡ q → (Held (cells_in T₁) q → ⊥) → Held (cells_in T₂) slot → TakesSingle T T₂
+single_taken T T₁ T₂ slot q made frame first next is free taken = record {
+  keeps = λ x h. next x (first x h);
+  one = elim made [
+    | inl nothing ↦ inl (made_framed 0 T T₁ T₂ nothing frame)
+    | inr full ↦ inr (full, (slot, (λ h. free (subst (Held (cells_in T₁)) is (first slot h))), taken))
+  ];
+}

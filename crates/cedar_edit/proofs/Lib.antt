@@ -1,4 +1,5 @@
 mod LeafLemmas
+mod PackingLemmas
 mod PutLemmas
 pub mod StepLemmas
 mod WantedRoom

@@ -1,12 +1,13 @@
 -- What a call answers that puts a key.
-use Rattle.std.proofs.Common.{◌≡◌, ◌<◌, ℤ, ℕ, List, arith, Option, Result, Ok, Err, inl, inr, subst, sym}
+use Rattle.std.proofs.Common.{◌≡◌, ◌+◌, ◌*◌, ◌<◌, ℤ, ℕ, List, arith, Option, Result, Ok, Err, inl, inr, subst, sym}
 use Rattle.std.specs.Prelude.{IsErrAnd}
 use Rattle.cedar_tree.specs.Tree.{number_at}
 use Rattle.cedar_slots.specs.declared.shortage.Shortage.{Shortage}
 use Rattle.cedar_slots.specs.Places.{MayRefuse}
 use Rattle.cedar_model.specs.Edit.KeyWalk.{TakenBack}
 use Rattle.cedar_model.specs.Meaning.WellFormed.{tree_of}
-use Rattle.cedar_model.specs.Table.TableFields.{Fields}
+use Rattle.cedar_model.specs.Edit.Packing.{joins, StaysSmall}
+use Rattle.cedar_model.specs.Table.TableFields.{Fields, size_of}
 use Rattle.cedar_model.proofs.UpdateLemmas.Ending.{IsPut}
 use Rattle.cedar_edit.specs.Changes.{PutsKey}
 
@@ -28,12 +29,14 @@ refused_put slots before after key v (Err x) e is back =
       blocks = (back.blocks.0, omega (arith, few), few, back.blocks.3);
       over = λ held. absurd (back.over held);
       one_byte = λ b only new. inr (back.one_byte b only new);
+      packs = tt;
       modes = back.modes;
     }
 
 -- the key is put
-pub done_put : (slots : ℕ) (before after : Fields) (key : List ℕ) (v : ℤ) (held : Option ℤ) → held ≡ number_at (tree_of before) key → IsPut slots before after key v → PutsKey slots before after key v (Ok held)
-done_put slots before after key v held had is = record {
+pub done_put : (slots : ℕ) (before after : Fields) (key : List ℕ) (v : ℤ) (held : Option ℤ) → held ≡ number_at (tree_of before) key → StaysSmall (size_of before + 256 * joins (tree_of before) key) after → IsPut slots before after key v
+    → PutsKey slots before after key v (Ok held)
+done_put slots before after key v held had small is = record {
   well_formed = is.well_formed;
   put = is.tree;
   held = had;
@@ -42,5 +45,6 @@ done_put slots before after key v held had is = record {
   blocks = (is.blocks.0, is.blocks.1, tt, is.blocks.2);
   over = λ o. (tt, is.over o);
   one_byte = λ b only new. elim (is.one_byte b only new) [ inl none ↦ inl (tt, none) | inr full ↦ inr full ];
+  packs = inl small;
   modes = is.modes;
 }

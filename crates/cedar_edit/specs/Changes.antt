@@ -1,5 +1,5 @@
 -- What the calls of this crate change of a tree, of its numbers' slots and of the blocks, each as one word.
-use Rattle.std.specs.Prelude.{◌≡◌, ◌≢◌, ◌⊎◌, ◌↔◌, ◌+◌, ◌<◌, ◌≤◌, ℕ, ℤ, bit_xor, Bool, false, IfErr, IfOk, is_some, IsTrue, length, List, [], ◌∷◌, MatchOption, OnErr, OnOk, Option, pos, Result, Some, take, true}
+use Rattle.std.specs.Prelude.{◌≡◌, ◌≢◌, ◌⊎◌, ◌↔◌, ◌+◌, ◌*◌, ◌<◌, ◌≤◌, ℕ, ℤ, bit_xor, Bool, false, IfErr, IfOk, is_some, IsTrue, length, List, [], ◌∷◌, MatchOption, OnErr, OnOk, Option, pos, Result, Some, take, true}
 use Rattle.cedar_tree.specs.Tree.{Forest, has_label, IsAscending, number_at, put}
 use Rattle.cedar_tree.specs.Edits.{add_leaf, edit_at}
 use Rattle.cedar_slots.specs.Places.{MayRefuse}
@@ -7,6 +7,7 @@ use Rattle.cedar_slots.specs.declared.shortage.Shortage.{Shortage}
 use Rattle.cedar_model.specs.Table.Cells.{Cells, NoPlace}
 use Rattle.cedar_model.specs.Table.Layouts.{default_layout, reduced_layout}
 use Rattle.cedar_model.specs.Table.TableFields.{Fields, size_of}
+use Rattle.cedar_model.specs.declared.layout.Stored.TheVariants.{AtBase}
 use Rattle.cedar_model.specs.Meaning.Family.{base_of, below, Family, Head, Links, owned_slots}
 use Rattle.cedar_model.specs.Meaning.Marks.{mark, marks, MarksPut, MovesOut, PutsMark}
 use Rattle.cedar_model.specs.Meaning.Reading.{first_in}
@@ -14,6 +15,7 @@ use Rattle.cedar_model.specs.Meaning.StandsFor.{HoldsTree}
 use Rattle.cedar_model.specs.Meaning.WellFormed.{cells_in, IsWellFormed, TableHolds, tree_of}
 use Rattle.cedar_model.specs.Edit.NodeEdits.{GoesBehind, GoesFirst, IsAt}
 use Rattle.cedar_model.specs.Edit.Own.{LacksNode}
+use Rattle.cedar_model.specs.Edit.Packing.{joins, PacksKey, StaysSmall}
 use Rattle.cedar_model.specs.Edit.Steps.{MakesBlocks, root_of, SameModes}
 use Rattle.cedar_model.specs.Relocation.Renaming.{Renames}
 use Rattle.cedar_model.specs.Relocation.Reserved.{cells_without, SetReserved}
@@ -70,6 +72,13 @@ abbrev pub TakesNewByte : {X : Type 0} → Fields → Fields → List ℕ → Re
 TakesNewByte before after key result =
     (b : ℕ) → key ≡ b ∷ [] → has_label (tree_of before).children b ≡ false → TakesNoBlock before after result ⊎ LacksNumberSlot before
 
+-- the node of a key, at slot a, was there and the table is as it was; or it is a leaf just made that has no base yet, and few blocks were
+-- made on the way, or few slots outside block 0 are free
+abbrev pub WalksIn : Fields → Fields → List ℕ → ℕ → Type 0
+WalksIn before after key a =
+    (after ≡ before)
+    ⊎ (((cells_in after).stored a ≡ AtBase 0) × (a ≢ 0) × StaysSmall (size_of before + 256 * joins (tree_of before) key) after)
+
 -- ---- a key
 
 -- a key is put with a number, or the call is refused and leaves the tree as it was
@@ -85,6 +94,8 @@ pub record PutsKey (slots : ℕ) (before after : Fields) (key : List ℕ) (value
   -- over a number no block is made, and nothing is refused
   pub over : is_some (number_at (tree_of before) key) ≡ true → TakesNoBlock before after result
   pub one_byte : TakesNewByte before after key result
+  -- one slot alone is taken wherever one is free
+  pub packs : OnOk result (PacksKey before after key)
   pub modes : SameModes before after
 
 -- ---- where numbers stand

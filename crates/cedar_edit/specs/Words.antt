@@ -2,13 +2,14 @@
 pub use Rattle.cedar_edit.specs.Changes.{AddsLeaf, cells_besides, ChainsRest, ComesBehind, EditsNode, IsInWay, LacksLoneNumber}
 pub use Rattle.cedar_edit.specs.Changes.{LacksNumberSlot, MakesAtMost, MovesForLabel, MovesIn, MovesPrefixOut, OwnsNumberAlone, PutsInBase}
 pub use Rattle.cedar_edit.specs.Changes.{PutsInMarks, PutsInSlot, PutsKey, RenamesAround, TakesFreeSlot, TakesNewNode, TakesNoBlock}
-pub use Rattle.cedar_edit.specs.Changes.{TellsLonger}
+pub use Rattle.cedar_edit.specs.Changes.{TellsLonger, WalksIn}
 pub use Rattle.cedar_edit.specs.Step.{MayMakeBlock}
 pub use Rattle.cedar_model.specs.Edit.Asked.{SeeksBehind, SeeksPlace}
 pub use Rattle.cedar_model.specs.Edit.KeyWalk.{TakenBack, Walked}
 pub use Rattle.cedar_model.specs.Edit.NodeEdits.{AddsLabel, DropsNumber, GoesBehind, GoesFirst, HasChain, IsAt, IsNodeOf, LeadsTo, Removes}
 pub use Rattle.cedar_model.specs.Edit.NodeEdits.{SetsChild, SetsNumber, SetsSibling}
 pub use Rattle.cedar_model.specs.Edit.Own.{FieldSet, HasWay, IsOwnAt, LacksNode}
+pub use Rattle.cedar_model.specs.Edit.Packing.{joins, MakesIfFull, StaysSmall, TakesSingle}
 pub use Rattle.cedar_model.specs.Edit.Steps.{HasNode, MakesBlocks, MayAddBlock, Placed, root_of, SameModes, StepsTo, tree_after_trim}
 pub use Rattle.cedar_model.specs.Edit.Trims.{LosesLeaf, TellsBare}
 pub use Rattle.cedar_model.specs.Meaning.Family.{Among, base_of, below, Family, Head, InRange, Links, Node, owned_slots}

@@ -8,6 +8,7 @@ use Rattle.cedar_journal.specs.Files.{HasHeader}
 use Rattle.cedar_journal.specs.Journal.{IsSettled, IsStaged}
 use Rattle.cedar_journal.proofs.Fronts.{record_of, MayHave, front_and, take_both, behind_closed, behind_gate, framed_apart, nothing_behind, written_is_front, written_stands}
 use Rattle.cedar_journal.proofs.Reading.{cut_lacks, record_is_whole}
+use Rattle.cedar_journal.proofs.Tears.{torn_front}
 
 pub length-framed : (bytes : List ℕ) → length (framed bytes) ≡ length bytes + 5
 length-framed bytes = omega (arith, length-append bytes (0 ∷ []))
@@ -29,7 +30,8 @@ module _ (front : List ℕ) (end : ℕ) (ends : length front ≡ end) where
 
   pub torn_behind : (n : ℕ) (rest c : List ℕ) → AreWholeRecords front → Torn (end + 1) n (front ++ 0 ∷ rest) c → payloads_in c ≡ payloads_in front
   torn_behind n rest c is_front torn =
-      let kept : take (end + 1) c ≡ front ++ 0 ∷ [] = torn.before ∙ through 0 rest in
+      let kept : take (end + 1) c ≡ front ++ 0 ∷ [] =
+      torn_front (end + 1) n (front ++ 0 ∷ rest) c (omega (arith, length-append front (0 ∷ rest), ends)) torn ∙ through 0 rest in
       let all : c ≡ front ++ 0 ∷ drop (end + 1) c =
       sym (take-append-drop (end + 1) c) ∙ ap (λ (l : List ℕ). l ++ drop (end + 1) c) kept ∙ append_assoc front (0 ∷ []) (drop (end + 1) c) in
       ap payloads_in all ∙ behind_closed front 0 (drop (end + 1) c) is_front (omega arith)
@@ -47,7 +49,8 @@ module _ (front : List ℕ) (end : ℕ) (ends : length front ≡ end) where
       let gate = get_or c end 0 in
       let more : drop end c ≡ gate ∷ rest =
       drop_more c end 0 (omega (arith, torn.no_shorter, length-append front (0 ∷ rest), ends)) ∙ ap (λ (l : List ℕ). gate ∷ l) (torn.after ∙ rest_is 0 rest) in
-      sym (take-append-drop end c) ∙ ap (λ (l : List ℕ). l ++ drop end c) (torn.before ∙ front_is 0 rest) ∙ ap (λ (l : List ℕ). front ++ l) more
+      let kept : take end c ≡ front = torn_front end 1 (front ++ 0 ∷ rest) c (omega (arith, length-append front (0 ∷ rest), ends)) torn ∙ front_is 0 rest in
+      sym (take-append-drop end c) ∙ ap (λ (l : List ℕ). l ++ drop end c) kept ∙ ap (λ (l : List ℕ). front ++ l) more
 
   pub written_gate : (rest c : List ℕ) → Holds (front ++ 0 ∷ rest) end (1 ∷ []) c → c ≡ front ++ 1 ∷ rest
   written_gate rest c holds =
@@ -149,14 +152,14 @@ module _ (file : List ℕ) (end : ℕ) (at : EndsAt file end) where
   pub cut_keeps : (c : List ℕ) → Cut end file c → payloads_in c ≡ payloads_in file
   cut_keeps c cut =
       let n = length c - end in
-      let more : length c ≡ end + n = omega (arith, cut.no_shorter) in
+      let more : length c ≡ end + n = omega (arith, cut.no_shorter, at.within) in
       let is : c ≡ take end file ++ take n (drop end file) = sym cut.front ∙ ap (λ (k : ℕ). take k file) more ∙ take_both end n file at.within in
       ap payloads_in is ∙ nothing_behind (take end file) (take n (drop end file)) at.whole (cut_lacks n (drop end file) at.no_more) ∙ stays
 
   -- one byte behind them is no record
   pub torn_end : (c : List ℕ) → Torn end 1 (take end file) c → payloads_in c ≡ payloads_in file
   torn_end c torn =
-      let kept : take end c ≡ take end file = torn.before ∙ take_all end (take end file) (omega (arith, size)) in
+      let kept : take end c ≡ take end file = torn_front end 1 (take end file) c (omega (arith, size)) torn ∙ take_all end (take end file) (omega (arith, size)) in
       let is : c ≡ take end file ++ drop end c = sym (take-append-drop end c) ∙ ap (λ (l : List ℕ). l ++ drop end c) kept in
       let few : length (drop end c) ≤ 1 = omega (arith, length-drop end c, size, torn.no_longer) in
       ap payloads_in is ∙ nothing_behind (take end file) (drop end c) at.whole (few_lack (drop end c) few) ∙ stays

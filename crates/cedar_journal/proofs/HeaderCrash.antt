@@ -5,6 +5,7 @@ use Rattle.cedar_journal.specs.Device.{Torn, Cut}
 use Rattle.cedar_journal.specs.Records.{framed}
 use Rattle.cedar_journal.specs.Files.{journal_magic, recovered, IsNewFile}
 use Rattle.cedar_journal.proofs.Crash.{torn_gate}
+use Rattle.cedar_journal.proofs.Tears.{torn_front}
 use Rattle.cedar_journal.proofs.Headers.{cut_stands, empty_stands, byte_stands, closed_stands, gate_stands}
 
 pub cut_leaves : (file c : List ℕ) (n : ℕ) → IsNewFile file → Cut n file c → recovered c ≡ Some []
@@ -20,7 +21,7 @@ torn_byte (gate ∷ other ∷ rest) torn = absurd (omega (arith, torn.no_longer)
 pub torn_frame : (c : List ℕ) → Torn 1 13 (0 ∷ []) c → recovered c ≡ Some []
 torn_frame [] torn = empty_stands
 torn_frame (gate ∷ rest) torn =
-    let shut : gate ≡ 0 = ap (λ (l : List ℕ). get_or l 0 0) torn.before in
+    let shut : gate ≡ 0 = ap (λ (l : List ℕ). get_or l 0 0) (torn_front 1 13 (0 ∷ []) (gate ∷ rest) (omega arith) torn) in
     ap (λ g. recovered (g ∷ rest)) shut ∙ closed_stands rest (omega (arith, torn.no_longer))
 
 -- the gate

@@ -8,3 +8,4 @@ pub mod Kept
 pub mod Moments
 pub mod Numbers
 pub mod Reading
+pub mod Tears

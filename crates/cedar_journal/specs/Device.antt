@@ -1,5 +1,5 @@
 -- What the calls of a device do to its file, and what a crash may do between two syncs.
-use Rattle.std.specs.Prelude.{◌<◌, ◌≡◌, ◌⊎◌, ℕ, ◌+◌, ◌≤◌, max, List, ◌++◌, length, take, drop, Result, IsErrOf}
+use Rattle.std.specs.Prelude.{◌<◌, ◌≡◌, ◌⊎◌, ℕ, ◌+◌, ◌≤◌, max, min, List, ◌++◌, length, take, drop, Result, IsErrOf}
 use Rattle.cedar_journal.specs.declared.device.DeviceError.{DeviceError}
 use Rattle.cedar_journal.specs.declared.device.DeviceError.TheVariants.{Failed}
 
@@ -7,16 +7,17 @@ use Rattle.cedar_journal.specs.declared.device.DeviceError.TheVariants.{Failed}
 abbrev pub Holds : List ℕ → ℕ → List ℕ → List ℕ → Type 0
 Holds old at bytes new = new ≡ take at old ++ bytes ++ drop (at + length bytes) old
 
--- after a write of n bytes that a crash cuts short: any bytes in the range and past the old end, the same elsewhere
+-- after a write of n bytes that a crash cuts short: any bytes in the range and past the old end, the same elsewhere. The old end may be
+-- in front of the range, where a write past the end wasn't on the disk yet.
 pub record Torn (at n : ℕ) (old new : List ℕ) : Type 0 where
-  pub before : take at new ≡ take at old
+  pub before : take (min at (length old)) new ≡ take at old
   pub after : drop (at + n) new ≡ drop (at + n) old
   pub no_shorter : length old ≤ length new
   pub no_longer : length new ≤ max (length old) (at + n)
 
--- after a cut: some length between
+-- after a cut: some length between. What was shorter before, since a write past the end wasn't on the disk, stays.
 pub record Cut (n : ℕ) (old new : List ℕ) : Type 0 where
-  pub no_shorter : n ≤ length new
+  pub no_shorter : min n (length old) ≤ length new
   pub front : take (length new) old ≡ new
 
 -- each new outcome of a crash is an old outcome after a step

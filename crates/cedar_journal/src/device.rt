@@ -66,7 +66,8 @@ pub trait Device {
         ensures time { Elapses (moment self.old) (moment self.new) (left_since self.old) (left_since self.new) (may_leave self.new) }
         ensures cause { HasCause (faults self.old) (faults self.new) result };
 
-    /// Writes over what is there from the byte `at` on, and past the end. Until a sync, a crash may leave any bytes in the range.
+    /// Writes over what is there from the byte `at` on, and past the end. Until a sync, a crash may leave any bytes in the range, and past
+    /// the end of what it would have left before.
     ///
     /// # Errors
     /// `Memory` if an allocation failed, `Failed` if the disk failed.
@@ -77,7 +78,8 @@ pub trait Device {
         ensures time { Elapses (moment self.old) (moment self.new) (left_since self.old) (left_since self.new) (may_leave self.new) }
         ensures cause { HasCause (faults self.old) (faults self.new) result };
 
-    /// Cuts the file to its first `len` bytes. Until a sync, a crash may leave any length in between.
+    /// Cuts the file to its first `len` bytes. Until a sync, a crash may leave any length in between. What it would have left of fewer
+    /// bytes, since a write past the end wasn't synced, it may still leave.
     ///
     /// # Errors
     /// `Memory` if an allocation failed, `Failed` if the disk failed.

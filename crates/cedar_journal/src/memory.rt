@@ -1,7 +1,7 @@
 //! A file in memory. Each call is done at once, so a crash leaves what is there. It keeps each past content.
 
-ghost use Rattle.std.specs.Prelude.{◌++◌, ◌∷◌, ◌≡◌, ◌⊎◌, [], drop, length, OnErr, OnOk};
-ghost use Rattle.cedar_journal.specs.Words.{HadBeen, inl, memory_bytes, only_bytes};
+ghost use Rattle.std.specs.Prelude.{◌++◌, ◌∷◌, ◌≡◌, ◌≤◌, ◌⊎◌, [], drop, IfOk, length, OnErr, OnOk};
+ghost use Rattle.cedar_journal.specs.Words.{HadBeen, Holds, inl, memory_bytes, only_bytes};
 
 use crate::{Device, DeviceError, ReplaceDevice, ReplaceError};
 use std::alloc::{AllocError, Allocator};
@@ -53,6 +53,24 @@ fn replace<A: Allocator + Copy>(
     Ok(())
 }
 
+// The bytes with others written over them from the byte `at` on, and past the end.
+fn overwritten<A: Allocator>(
+    alloc: A,
+    old: &[u8],
+    at: usize,
+    bytes: &[u8],
+) -> Result<Vec<u8, A>, AllocError>
+    requires { at ≤ length old.now }
+    ensures { IfOk result (λ next. Holds old.now at bytes.now next.items) }
+{
+    let mut next = old[..at].to_vec(alloc)?;
+    next.extend_from_slice(bytes)?;
+    if bytes.len() < old.len() - at {
+        next.extend_from_slice(&old[at + bytes.len()..])?;
+    }
+    Ok(next)
+}
+
 impl<A: Allocator + Copy> Device for Memory<A> {
     ghost seen = { λ m. m.bytes.items };
 
@@ -73,11 +91,7 @@ impl<A: Allocator + Copy> Device for Memory<A> {
     }
 
     fn write_at(&mut self, at: usize, bytes: &[u8]) -> Result<(), DeviceError> {
-        let mut next = self.bytes[..at].to_vec(self.alloc)?;
-        next.extend_from_slice(bytes)?;
-        if bytes.len() < self.bytes.len() - at {
-            next.extend_from_slice(&self.bytes[at + bytes.len()..])?;
-        }
+        let next = overwritten(self.alloc, &self.bytes, at, bytes)?;
         Ok(replace(self.alloc, &mut self.bytes, &mut self.past, next)?)
     }
 

@@ -14,6 +14,7 @@ pub mod MarksAfterUpdate
 pub mod MarksMovedBack
 pub mod NumberInTheWay
 pub mod OnTheWay
+pub mod Packing
 pub mod StepAnswers
 pub mod TrimUpwards
 pub mod WayAndPut

@@ -3,5 +3,6 @@ pub mod Asked
 pub mod KeyWalk
 pub mod NodeEdits
 pub mod Own
+pub mod Packing
 pub mod Steps
 pub mod Trims

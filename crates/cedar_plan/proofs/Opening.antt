@@ -1,6 +1,6 @@
 -- A file is opened by its plan.
 use Rattle.std.specs.Prelude.{Some}
-use Rattle.std.proofs.Common.{◌≡◌, ℕ, ◌+◌, ◌≤◌, List, [], ◌∷◌, ◌++◌, length, take, drop, refl, sym, ◌∙◌, ap, arith}
+use Rattle.std.proofs.Common.{◌≡◌, ℕ, ◌≤◌, List, [], ◌∷◌, ◌++◌, length, take, drop, refl, sym, ◌∙◌, ap, arith}
 use Rattle.cedar_journal.specs.declared.records.Extent.{Extent}
 use Rattle.cedar_journal.specs.declared.records.Extent.TheVariants.{New, Until}
 use Rattle.cedar_journal.specs.Device.{Cut}
@@ -29,7 +29,7 @@ module _ (file : List ℕ) (end : ℕ) (records : HasRecords file end) where
   size = file_size file end records.ends
 
   cut_is_one : Cut end file (take end file)
-  cut_is_one = record { no_shorter = omega (arith, size); front = ap (λ k. take k file) size }
+  cut_is_one = record { no_shorter = omega (arith, size, records.ends.within); front = ap (λ k. take k file) size }
 
   stays : payloads_in (take end file) ≡ payloads_in file
   stays = cut_keeps file end records.ends (take end file) cut_is_one

@@ -1,30 +1,14 @@
 -- What becomes of a file while works are done to it, one after another.
 use Rattle.std.specs.Prelude.{◌&&◌, IsTrue}
 use Rattle.std.proofs.Common.{◌≡◌, ◌⊎◌, inl, inr, ⊎_elim, ℕ, ◌≤◌, Bool, true, false, List, [], ◌∷◌, length, take, refl, sym, ◌∙◌, ap, subst}
-use Rattle.std.proofs.lemmas.Bool.{false≢true, le-leb}
+use Rattle.std.proofs.lemmas.Bool.{le-leb}
 use Rattle.cedar_journal.specs.Device.{Cut, Only, Torn}
 use Rattle.cedar_journal.proofs.Moments as moments
-use Rattle.cedar_disk.specs.Calls.{Call, LeftSince, MayLeave, NextLeft, OnDisk, all_within, extended, is_usable_after, is_within, opened, overlaid, seen_after, shortened, synced}
+use Rattle.cedar_disk.specs.Calls.{Call, LeftSince, MayLeave, all_within, is_usable_after, opened, overlaid, seen_after, shortened, synced, written}
 use Rattle.cedar_disk.specs.Laws.{only_now}
-use Rattle.cedar_disk.proofs.Steps.{cut_follows, extend_follows, leaves, sync_keeps}
+use Rattle.cedar_disk.proofs.Steps.{both, cut_follows, leaves, sync_keeps, synced_only, write_follows}
 use Rattle.cedar_plan.specs.Safety.{CrashLeaves}
 use Rattle.cedar_plan.specs.Works.{AreCarriedOut, FailsIn, Work, all_done, cut_to, after_work, write_to}
-
-pub both : (a b : Bool) → a ≡ true → b ≡ true → (a && b) ≡ true
-both a b x y = ap (λ t. t && b) x ∙ y
-
--- ---- calls
-
-within_more : (call : Call) (calls : List Call) → IsTrue (all_within calls)
-    → IsTrue (is_within call.0 call.1 (is_usable_after calls) call.3 (seen_after calls)) → IsTrue (all_within (call ∷ calls))
-within_more call [] within fits = absurd (false≢true within)
-within_more call (last ∷ earlier) within fits = both _ _ fits within
-
--- behind a sync the disk has what a read returns
-synced_only : (calls : List Call) → IsTrue (is_usable_after calls) → Only (seen_after calls) (MayLeave (synced true ∷ calls))
-synced_only calls usable c left =
-    let flag : (is_usable_after calls && true) ≡ true = both _ _ usable refl in
-    subst (λ (b : Bool). NextLeft 3 0 b [] (seen_after calls) (OnDisk calls) c) flag left
 
 -- one call more, before and after which a crash leaves what has P
 leaves_one : (call : Call) (old : List Call) (P : List ℕ → Type 0) → ((c : List ℕ) → MayLeave old c → P c) → ((c : List ℕ) → MayLeave (call ∷ old) c → P c)
@@ -69,10 +53,10 @@ module _ (calls : List Call) (file : List ℕ) (has : Has calls file) where
   sized n fits = subst (λ (f : List ℕ). n ≤ length f) (sym has.seen) fits
 
   cut_within : (n : ℕ) (ok : Bool) → n ≤ length file → IsTrue (all_within (shortened n ok ∷ calls))
-  cut_within n ok fits = within_more (shortened n ok) calls has.within (le-leb n (length (seen_after calls)) (sized n fits))
+  cut_within n ok fits = both _ _ (le-leb n (length (seen_after calls)) (sized n fits)) has.within
 
-  extended_within : (at : ℕ) (bytes : List ℕ) (ok : Bool) → at ≤ length file → IsTrue (all_within (extended at bytes ok ∷ calls))
-  extended_within at bytes ok fits = within_more (extended at bytes ok) calls has.within (both _ _ (le-leb at (length (seen_after calls)) (sized at fits)) has.usable)
+  write_within : (at : ℕ) (bytes : List ℕ) (ok : Bool) → at ≤ length file → IsTrue (all_within (written at bytes ok ∷ calls))
+  write_within at bytes ok fits = both _ _ (le-leb at (length (seen_after calls)) (sized at fits)) has.within
 
   usable_on : IsTrue (is_usable_after calls && true)
   usable_on = both _ _ has.usable refl
@@ -84,16 +68,16 @@ module _ (calls : List Call) (file : List ℕ) (has : Has calls file) where
       record {
         seen = seen;
         only = λ c left. synced_only old usable_on c left ∙ seen;
-        within = within_more (synced true) old (cut_within n true fits) refl;
+        within = cut_within n true fits;
         usable = both _ _ usable_on refl;
       }
   work_done (write_to at bytes) fits =
-      let old = extended at bytes true ∷ calls in
+      let old = written at bytes true ∷ calls in
       let seen : seen_after (synced true ∷ old) ≡ overlaid file at bytes = ap (λ f. overlaid f at bytes) has.seen in
       record {
         seen = seen;
         only = λ c left. synced_only old usable_on c left ∙ seen;
-        within = within_more (synced true) old (extended_within at bytes true fits) refl;
+        within = write_within at bytes true fits;
         usable = both _ _ usable_on refl;
       }
 
@@ -104,7 +88,7 @@ module _ (calls : List Call) (file : List ℕ) (has : Has calls file) where
     module _ (n : ℕ) (fits : n ≤ length file) (spoiled : (c : List ℕ) → Cut n file c → P c) where
       cut_short : (ok : Bool) (c : List ℕ) → MayLeave (shortened n ok ∷ calls) c → P c
       cut_short ok c left =
-          let from = cut_follows calls (shortened n ok ∷ calls) has.within n ok refl c left in
+          let from = cut_follows calls (shortened n ok ∷ calls) n ok refl c left in
           spoiled c (subst (λ d. Cut n d c) (has.only from.0 from.1) from.2)
 
       cut_leaves : (ok : Bool) → CrashLeaves calls (shortened n ok ∷ calls) P
@@ -117,28 +101,29 @@ module _ (calls : List Call) (file : List ℕ) (has : Has calls file) where
           (leaves_one (synced ok) old P (cut_short true) (λ c left. cut_short true c (sync_keeps old (synced ok ∷ old) (cut_within n true fits) ok usable_on refl c left)))
 
     module _ (at : ℕ) (bytes : List ℕ) (fits : at ≤ length file) (spoiled : (c : List ℕ) → Torn at (length bytes) file c → P c) where
-      torn : (ok : Bool) (c : List ℕ) → MayLeave (extended at bytes ok ∷ calls) c → P c
+      torn : (ok : Bool) (c : List ℕ) → MayLeave (written at bytes ok ∷ calls) c → P c
       torn ok c left =
-          let from = extend_follows calls (extended at bytes ok ∷ calls) has.within at bytes ok refl c left in
+          let from = write_follows calls (written at bytes ok ∷ calls) at bytes ok refl c left in
           spoiled c (subst (λ d. Torn at (length bytes) d c) (has.only from.0 from.1) from.2)
 
-      write_leaves : (ok : Bool) → CrashLeaves calls (extended at bytes ok ∷ calls) P
-      write_leaves ok = leaves_one (extended at bytes ok) calls P before (torn ok)
+      write_leaves : (ok : Bool) → CrashLeaves calls (written at bytes ok ∷ calls) P
+      write_leaves ok = leaves_one (written at bytes ok) calls P before (torn ok)
 
-      write_synced : CrashLeaves calls (synced true ∷ extended at bytes true ∷ calls) P
-      write_synced =
-          let old = extended at bytes true ∷ calls in
-          moments.joins length LeftSince calls old (synced true ∷ old) P (write_leaves true)
-          (leaves_one (synced true) old P (torn true) (λ c left. torn true c (sync_keeps old (synced true ∷ old) (extended_within at bytes true fits) true usable_on refl c left)))
+      write_synced : (ok : Bool) → CrashLeaves calls (synced ok ∷ written at bytes true ∷ calls) P
+      write_synced ok =
+          let old = written at bytes true ∷ calls in
+          moments.joins length LeftSince calls old (synced ok ∷ old) P (write_leaves true)
+          (leaves_one (synced ok) old P (torn true) (λ c left. torn true c (sync_keeps old (synced ok ∷ old) (write_within at bytes true fits) ok usable_on refl c left)))
 
     pub work_leaves : (work : Work) → Fits work file → ((c : List ℕ) → Spoiled work file c → P c) → CrashLeaves calls (after_work work calls) P
     work_leaves (cut_to n) fits spoiled = cut_synced n fits spoiled true
-    work_leaves (write_to at bytes) fits spoiled = write_synced at bytes fits spoiled
+    work_leaves (write_to at bytes) fits spoiled = write_synced at bytes fits spoiled true
 
     pub work_fails : (work : Work) (after : List Call) → Fits work file → ((c : List ℕ) → Spoiled work file c → P c) → FailsIn work calls after → CrashLeaves calls after P
     work_fails (cut_to n) after fits spoiled (inl cut) = subst (λ (l : List Call). CrashLeaves calls l P) (sym cut) (cut_leaves n fits spoiled false)
     work_fails (cut_to n) after fits spoiled (inr sync) = subst (λ (l : List Call). CrashLeaves calls l P) (sym sync) (cut_synced n fits spoiled false)
-    work_fails (write_to at bytes) after fits spoiled write = subst (λ (l : List Call). CrashLeaves calls l P) (sym write) (write_leaves at bytes fits spoiled false)
+    work_fails (write_to at bytes) after fits spoiled (inl write) = subst (λ (l : List Call). CrashLeaves calls l P) (sym write) (write_leaves at bytes fits spoiled false)
+    work_fails (write_to at bytes) after fits spoiled (inr sync) = subst (λ (l : List Call). CrashLeaves calls l P) (sym sync) (write_synced at bytes fits spoiled false)
 
 -- each of these works begins within the file as it is then, and a crash before, during and behind it leaves what has P
 abbrev pub Keep : List Work → List ℕ → (List ℕ → Type 0) → Type 0

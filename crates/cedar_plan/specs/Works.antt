@@ -4,18 +4,17 @@ use Rattle.cedar_journal.specs.declared.records.Extent.{Extent}
 use Rattle.cedar_journal.specs.declared.records.Extent.TheVariants.{New, Until}
 use Rattle.cedar_journal.specs.Files.{journal_magic}
 use Rattle.cedar_journal.specs.Records.{framed}
-use Rattle.cedar_disk.specs.Calls.{Call, extended, shortened, synced}
+use Rattle.cedar_disk.specs.Calls.{Call, shortened, synced, written}
 
 -- the file is cut to this length; or these bytes are written at this offset
 pub data Work : Type 0 where
   cut_to : ℕ → Work
   write_to : ℕ → List ℕ → Work
 
--- the calls on a file, of which the newest comes first, once a work more is done. Behind a write that waited for the disk a sync has nothing
--- to do
+-- the calls on a file, of which the newest comes first, once a work more is done
 abbrev pub after_work : Work → List Call → List Call
 after_work (cut_to n) calls = synced true ∷ shortened n true ∷ calls
-after_work (write_to at bytes) calls = synced true ∷ extended at bytes true ∷ calls
+after_work (write_to at bytes) calls = synced true ∷ written at bytes true ∷ calls
 
 abbrev pub all_done : List Work → List Call → List Call
 all_done [] calls = calls
@@ -24,7 +23,7 @@ all_done (work ∷ works) calls = all_done works (after_work work calls)
 -- the calls once a work has failed
 abbrev pub FailsIn : Work → List Call → List Call → Type 0
 FailsIn (cut_to n) before after = (after ≡ shortened n false ∷ before) ⊎ (after ≡ synced false ∷ shortened n true ∷ before)
-FailsIn (write_to at bytes) before after = after ≡ extended at bytes false ∷ before
+FailsIn (write_to at bytes) before after = (after ≡ written at bytes false ∷ before) ⊎ (after ≡ synced false ∷ written at bytes true ∷ before)
 
 -- some works were done one after another, as far as none failed
 abbrev pub AreCarriedOut : List Work → List Call → List Call → Type 0

@@ -10,7 +10,7 @@ pub use Rattle.cedar_tree.specs.Tree.{has_label, Tree}
 pub use Rattle.cedar_walk.specs.Batch.{AreLanes, IsLane, keys_of}
 pub use Rattle.cedar_walk.specs.Ends.{GoesPast, IsLastNumber, IsOnLastWay}
 pub use Rattle.cedar_walk.specs.Fronts.{front_length, IsNextFront, IsOnQuery}
-pub use Rattle.cedar_walk.specs.Keys.{KeyGoesOn}
+pub use Rattle.cedar_walk.specs.Keys.{FirstKeyOutgrows, KeyGoesOn, KeyOutgrows, NextKeyOutgrows}
 pub use Rattle.cedar_walk.specs.Pending.{GoesKeeping, IsPending, kept_behind, NoneLeft}
 pub use Rattle.cedar_walk.specs.RangePlaces.{AboveFrom, BeginsAtFirst, IsReached, left_above}
 pub use Rattle.cedar_walk.specs.Ranges.{entries_since}

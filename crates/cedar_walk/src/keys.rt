@@ -1,8 +1,8 @@
 //! A walk from number to number that keeps the key of its node. So an item costs the labels in which its key differs from the one
 //! before, and no climb to the node where the walk began.
 
-ghost use Rattle.std.specs.Prelude.{◌≡◌, ◌≢◌, ◌≤◌, IfOk, length, List, MatchOption, ℕ};
-ghost use Rattle.cedar_walk.specs.Words.{cells, fields, FindsNumber, GoesToNumber, IsBelow, IsNumberedBelow, IsWellFormed, KeyGoesOn};
+ghost use Rattle.std.specs.Prelude.{◌≡◌, ◌≢◌, ◌≤◌, IfOk, length, List, MatchOption, OnErr, vec_capacity, ℕ};
+ghost use Rattle.cedar_walk.specs.Words.{cells, fields, FindsNumber, FirstKeyOutgrows, GoesToNumber, IsBelow, IsNumberedBelow, IsWellFormed, KeyGoesOn, NextKeyOutgrows};
 
 use crate::visits::{Numbered, label_after_number, number_held, place_after};
 use cedar_model::Layout;
@@ -22,6 +22,8 @@ fn numbered_from_with_key<L: Layout, const SLOTS: usize, A: Allocator, B: Alloca
     requires not_root { node ≢ 0 }
     ensures found { IfOk result (FindsNumber (fields table.now) depth node) }
     ensures key { IfOk result (KeyGoesOn (fields table.now) depth node key.old.items key.new.items) }
+    ensures full { OnErr result (FirstKeyOutgrows (fields table.now) depth node (length key.old.items) (vec_capacity key.old)) }
+    ensures capacity { vec_capacity key.old ≤ vec_capacity key.new }
 {
     let mut slot = node;
     let mut steps = depth;
@@ -40,8 +42,9 @@ fn numbered_from_with_key<L: Layout, const SLOTS: usize, A: Allocator, B: Alloca
 }
 
 /// Does what `numbered_after` does, and keeps a key in step: its last `depth` bytes were the path to the one node, it then ends in the
-/// path to the other, and the bytes before that stay. If no node is left, all of the key stays. It fails if an allocation fails. Then
-/// the key may hold anything, and `numbered_after` and `write_path` return what this call would have.
+/// path to the other, and the bytes before that stay. If no node is left, all of the key stays. It allocates only if the new key has more
+/// bytes than the buffer has room for, and fails only if that is refused. Then the key may hold anything, and `numbered_after` and
+/// `write_path` return what this call would have.
 #[inline(always)]
 pub fn numbered_after_with_key<L: Layout, const SLOTS: usize, A: Allocator, B: Allocator>(
     table: &Table<L, SLOTS, A>,
@@ -57,6 +60,11 @@ pub fn numbered_after_with_key<L: Layout, const SLOTS: usize, A: Allocator, B: A
     //  key]
     ensures found { IfOk result (GoesToNumber (fields table.now) depth node) }
     ensures key { IfOk result (λ found. MatchOption found (key.new.items ≡ key.old.items) (KeyGoesOn (fields table.now) depth node key.old.items key.new.items)) }
+
+    //= `numbered_after_with_key` fails only if a node is left and the key of the next one is longer than the buffer's capacity, which never
+    //  falls. [with capacity; by NextKeyOutgrows]
+    ensures full { OnErr result (NextKeyOutgrows (fields table.now) depth node (length key.old.items) (vec_capacity key.old)) }
+    ensures capacity { vec_capacity key.old ≤ vec_capacity key.new }
 {
     let front = key.len() - depth;
     let label = label_after_number(table, node);

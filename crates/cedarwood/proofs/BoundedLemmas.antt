@@ -15,6 +15,7 @@ use Rattle.cedar_model.specs.Table.TableFields.{Fields}
 use Rattle.cedar_model.proofs.MeaningLemmas.Paths.{one_path}
 use Rattle.cedar_model.proofs.UpdateLemmas.MarksAfterUpdate.{follow_one}
 use Rattle.cedar_walk.specs.declared.visits.Numbered.{Numbered}
+use Rattle.cedar_walk.specs.Keys.{KeyOutgrows}
 use Rattle.cedar_walk.specs.Ranges.{behind_path}
 use Rattle.cedar_walk.specs.Visits.{left_at, path_to}
 use Rattle.cedar_walk.proofs.WalkLemmas.NextNode.{path_length}
@@ -145,3 +146,8 @@ step_of T start to n found head m =
 pub some_left : (T : Fields) (start : List ℕ) (to : Option (List ℕ)) (n : Numbered) → precedes_end to (path_of T start n) ≡ true → 0 < length (bounded T start to (Some n))
 some_left T start to n head =
     subst (λ b. 0 < length (cond b ((path_of T start n, n.number) ∷ filter (λ (e : Entry). precedes_end to e.0) (left_of T start n)) (filter (λ (e : Entry). precedes_end to e.0) (left_of T start n)))) (sym head) (omega arith)
+
+-- and its key is the next one to be written
+pub next_outgrows : (T : Fields) (start : List ℕ) (to : Option (List ℕ)) (n : Numbered) (room : ℕ) → precedes_end to (path_of T start n) ≡ true → room < length (path_of T start n) → KeyOutgrows room (bounded T start to (Some n))
+next_outgrows T start to n room head long =
+    subst (λ b. KeyOutgrows room (cond b ((path_of T start n, n.number) ∷ filter (λ (e : Entry). precedes_end to e.0) (left_of T start n)) (filter (λ (e : Entry). precedes_end to e.0) (left_of T start n)))) (sym head) long

@@ -24,6 +24,7 @@ pub mod BetweenLemmas
 pub mod BoundedLemmas
 mod PutBackLemmas
 mod InnerMarksLemmas
+mod CompactLemmas
 mod ShrinkLemmas
 pub mod ErasureLemmas
 mod EndsLemmas

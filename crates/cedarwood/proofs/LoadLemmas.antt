@@ -1,9 +1,13 @@
 -- What was saved is loaded again, and what was loaded is saved again.
-use Rattle.std.proofs.Common.{◌≡◌, ◌⊎◌, ℕ, ◌≤◌, List, Option, Some, None, Result, Ok, Err, IfErr, IsErrAnd, MatchResult, inl, inr, sym, subst}
-use Rattle.std.specs.Prelude.{MatchOption}
+use Rattle.std.proofs.Common.{◌≡◌, ◌⊎◌, ◌∙◌, ℕ, ◌≤◌, Bool, List, [], Option, Some, None, Result, Ok, Err, IfErr, ap, inl, inr, refl, sym, subst}
+use Rattle.std.specs.Prelude.{◌==◌, if◌then◌else◌, IfOk, MatchOption}
+use Rattle.std.specs.Io.KnownBytes.{prepend_known}
+use Rattle.std.specs.Io.Buffered.{reader_buffer, reader_capacity, reader_inner, reader_remaining}
+use Rattle.std.specs.declared.io.buffered.BufReader.{BufReader}
 use Rattle.std.specs.Result.{IsOkAnd}
 use Rattle.cedar_model.specs.Table.Layouts.{LayoutKind, layout_byte}
 use Rattle.cedar_model.specs.Table.TableFields.{Fields}
+use Rattle.cedar_model.specs.Meaning.WellFormed.{IsWellFormed}
 use Rattle.cedar_format.specs.declared.error.CedarPersistenceError.{CedarPersistenceError}
 use Rattle.cedar_format.specs.declared.error.CedarPersistenceError.TheVariants as errors
 use Rattle.cedar_format.specs.declared.header.Header.{Header}
@@ -14,7 +18,7 @@ use Rattle.cedar_format.specs.Tables.{header_of, table_bytes, IsTableFile}
 use Rattle.cedar_format.proofs.OneTable.{formed_is_listed, one_table}
 use Rattle.cedar_format.proofs.Passing.{tables_pass}
 use Rattle.cedarwood.specs.Dictionary.{Dictionary}
-use Rattle.cedarwood.specs.Loading.{IsDecided, LacksByPath, LacksMemory, LoadAnswers}
+use Rattle.cedarwood.specs.Loading.{IsDecided, LacksByPath, LacksMemory, LoadAnswers, LoadsBy, LoadsOpened}
 
 abbrev table_in : Dictionary → Fields
 table_in d = d.table
@@ -67,9 +71,31 @@ lacks_by_path layout slots limit old (errors.AllocationLimitExceeded a b) lacks 
 lacks_by_path layout slots limit old (errors.AllocationFailed n) lacks = inr (lacks.0, not_told layout slots limit old lacks.0 lacks.1, lacks.2)
 lacks_by_path layout slots limit old (errors.CorruptData a b i) lacks = inr tt
 
--- a buffer that was refused is told as want of its bytes
-pub buffer_refused : {X E : Type 0} (r : Result X E) (told : Result X CedarPersistenceError) → MatchResult r (λ x. told ≡ Ok x) (λ e. IsErrAnd told (λ error. error ≡ errors.AllocationFailed 8192))
-    → IfErr told (λ error. error ≡ errors.AllocationFailed 8192)
-buffer_refused (Ok x) told h = subst (λ o. IfErr o (λ error. error ≡ errors.AllocationFailed 8192)) (sym h) tt
-buffer_refused (Err e) (Ok x) h = tt
-buffer_refused (Err e) (Err error) h = h
+-- a new buffer has nothing, so what is left behind it is what the file has left
+left_behind_buffer : (capacity : ℕ) (held : List ℕ) (left : Option (List ℕ)) → capacity ≡ 8192 → held ≡ [] → (if capacity == 0 then None else prepend_known held left) ≡ left
+left_behind_buffer capacity held None full empty = rw full refl
+left_behind_buffer capacity held (Some bytes) full empty = rw (full, empty) refl
+
+pub file_left : {T A : Type 0} (remaining : T → Option (List ℕ)) (reader buffered : BufReader T A) (file : T) → reader ≡ buffered → reader_inner buffered ≡ file → reader_buffer buffered ≡ []
+    → reader_capacity buffered ≡ 8192 → reader_remaining remaining reader ≡ remaining file
+file_left remaining reader buffered file same inner empty full =
+    ap (reader_remaining remaining) same
+    ∙ left_behind_buffer (reader_capacity buffered) (reader_buffer buffered) (remaining (reader_inner buffered)) full empty
+    ∙ ap remaining inner
+
+-- a load behind a buffer is one of the file
+pub loads_opened : (kind : LayoutKind) (slots limit : ℕ) (before left after : Option (List ℕ)) (failed : Bool) (result : Result Dictionary CedarPersistenceError) → before ≡ left
+    → LoadsBy table_in kind slots limit before after failed result → LoadsOpened table_in kind slots limit left result
+loads_opened kind slots limit before left after failed result same loads = inr (after, failed, subst (λ o. LoadsBy table_in kind slots limit o after failed result) same loads)
+
+pub opened_formed : (kind : LayoutKind) (slots limit : ℕ) (left : Option (List ℕ)) (result : Result Dictionary CedarPersistenceError) → LoadsOpened table_in kind slots limit left result
+    → IfOk result (λ d. IsWellFormed slots d.table)
+opened_formed kind slots limit left (Ok d) (inl lacks) = absurd lacks
+opened_formed kind slots limit left (Ok d) (inr loads) = loads.2.formed
+opened_formed kind slots limit left (Err e) loads = tt
+
+pub opened_lacks : (kind : LayoutKind) (slots limit : ℕ) (left : Option (List ℕ)) (result : Result Dictionary CedarPersistenceError) → LoadsOpened table_in kind slots limit left result
+    → IfErr result (LacksByPath (layout_byte kind) slots limit)
+opened_lacks kind slots limit left (Ok d) loads = tt
+opened_lacks kind slots limit left (Err e) (inl lacks) = inl lacks
+opened_lacks kind slots limit left (Err e) (inr loads) = lacks_by_path (layout_byte kind) slots limit left e loads.2.lacks

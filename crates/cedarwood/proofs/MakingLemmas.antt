@@ -20,7 +20,7 @@ module _ (one two : CedarBuilder) (ordered : one.ordered ≡ two.ordered) (max_t
 
   sorted_alike : (layout : LayoutKind) (pairs : List Entry) (made : Result Dictionary CedarError) → IfOk made (IsSorted layout one pairs) → IfOk made (IsSorted layout two pairs)
   sorted_alike layout pairs (Ok d) is =
-      record { tree = is.tree; marks = is.marks; ordered = is.ordered ∙ ordered; max_trial = is.max_trial ∙ max_trial; size = is.size }
+      record { tree = is.tree; marks = is.marks; ordered = is.ordered ∙ ordered; max_trial = is.max_trial ∙ max_trial; size = is.size; packed = is.packed }
   sorted_alike layout pairs (Err e) is = is
 
   pub built_alike : (layout : LayoutKind) (slots : ℕ) (pairs : List Entry) (made : Result Dictionary CedarError) → IsSortedBuild layout slots one pairs made

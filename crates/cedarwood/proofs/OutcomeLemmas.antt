@@ -99,5 +99,6 @@ fault_updates layout slots d key v e why = record {
   spare = λ room fine. no_and_some (fault key v) e why fine;
   over = λ held. grows_none d;
   one_byte = λ b is absent fine. no_and_some (fault key v) e why fine;
+  packs = tt;
   max_trial = refl;
 }

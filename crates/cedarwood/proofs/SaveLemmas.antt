@@ -1,5 +1,8 @@
--- What was saved is the file of a well-formed table.
-use Rattle.std.proofs.Common.{◌≡◌, ℕ, ◌≤◌, None, refl, subst}
+-- What was saved is the file of a well-formed table, and all of it.
+use Rattle.std.proofs.Common.{◌≡◌, ℕ, ◌≤◌, ◌∙◌, List, [], ◌++◌, ap, append-nil, None, Option, Result, Ok, Err, OnOk, refl, Some, subst, sym}
+use Rattle.std.specs.Io.Buffered.{writer_buffer, writer_contents, writer_inner}
+use Rattle.std.specs.Io.KnownBytes.{append_known, Appends, Keeps}
+use Rattle.std.specs.declared.io.buffered.BufWriter.{BufWriter}
 use Rattle.cedar_model.specs.Table.Layouts.{LayoutKind, layout_byte}
 use Rattle.cedar_model.specs.Table.TableFields.{Fields}
 use Rattle.cedar_model.specs.Meaning.WellFormed.{IsWellFormed}
@@ -17,3 +20,31 @@ file_passes version kind slots T U known same layout formed fits =
     subst (λ V. (limit : ℕ) → need (header_of version V) ≤ limit → header_answer (layout_byte kind) slots limit (table_bytes version V) ≡ None) same
     (subst (λ k. (limit : ℕ) → need (header_of version T) ≤ limit → header_answer (layout_byte k) slots limit (table_bytes version T) ≡ None) layout
     (λ limit within. tables_pass version slots limit T known formed fits within))
+
+-- what holds whatever becomes of the new file
+pub on_either : {T E P : Type 0} (result : Result T E) → P → OnOk result P
+on_either (Ok x) holds = holds
+on_either (Err e) holds = tt
+
+-- what was written through a buffer that had nothing at first, once it has nothing any more
+buffered_appends : (bytes held filed rest : List ℕ) (before between after : Option (List ℕ)) → held ≡ [] → Appends (append_known before held) (append_known between filed) bytes
+    → Keeps (append_known between filed) (append_known after rest) → rest ≡ [] → Appends before after bytes
+buffered_appends bytes held filed rest None between after unused grown same empty = tt
+buffered_appends bytes held filed rest (Some xs) None after unused grown same empty = absurd grown
+buffered_appends bytes held filed rest (Some xs) (Some ys) None unused grown same empty = absurd same
+buffered_appends bytes held filed rest (Some xs) (Some ys) (Some zs) unused grown same empty =
+    sym (append-nil zs)
+    ∙ ap (λ (l : List ℕ). zs ++ l) (sym empty)
+    ∙ same
+    ∙ grown
+    ∙ ap (λ (l : List ℕ). (xs ++ l) ++ bytes) unused
+    ∙ ap (λ (l : List ℕ). l ++ bytes) (append-nil xs)
+
+-- a writer that was buffered, and is taken out of its buffer again
+pub written_through : {W A : Type 0} (contents : W → Option (List ℕ)) (bytes : List ℕ) (before after : W) (made filled flushed : BufWriter W A) → writer_inner made ≡ before → writer_buffer made ≡ []
+    → Appends (writer_contents contents made) (writer_contents contents filled) bytes → Keeps (writer_contents contents filled) (writer_contents contents flushed) → writer_buffer flushed ≡ []
+    → after ≡ writer_inner flushed → Appends (contents before) (contents after) bytes
+written_through contents bytes before after made filled flushed inner unused grown same empty out =
+    let whole : Appends (contents (writer_inner made)) (contents (writer_inner flushed)) bytes =
+    buffered_appends bytes (writer_buffer made) (writer_buffer filled) (writer_buffer flushed) (contents (writer_inner made)) (contents (writer_inner filled)) (contents (writer_inner flushed)) unused grown same empty in
+    subst (λ w. Appends (contents w) (contents after) bytes) inner (subst (λ w. Appends (contents (writer_inner made)) (contents w) bytes) (sym out) whole)

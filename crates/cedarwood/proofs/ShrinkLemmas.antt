@@ -4,7 +4,7 @@ use Rattle.std.specs.Prelude.{is_some}
 use Rattle.std.specs.List.{AllByRecursion}
 use Rattle.std.proofs.lemmas.List.{append_assoc, append-nil, drop_more, map-append}
 use Rattle.cedar_tree.specs.Tree.{Tree, empty_tree, IsKey, number_at, put}
-use Rattle.cedar_tree.specs.Queries.{Entry, walk}
+use Rattle.cedar_tree.specs.Queries.{Entry, prefixes, walk}
 use Rattle.cedar_tree.specs.State.{State, stored}
 use Rattle.cedar_tree.specs.Walks.{visited_entries}
 use Rattle.cedar_tree.proofs.EntryLemmas.Keys.{held_key}
@@ -20,11 +20,12 @@ use Rattle.cedar_model.proofs.UpdateLemmas.AlongKey.{key_some}
 use Rattle.cedarwood.specs.declared.builder.CedarBuilder.{CedarBuilder}
 use Rattle.cedarwood.specs.declared.error.CedarError.{CedarError}
 use Rattle.cedarwood.specs.declared.error.CedarError.TheVariants.{DuplicateKey, EmptyKey, InvalidMaxTrial, InvalidValue, KeysNotSorted, Memory, NulByte, SlotLimit}
-use Rattle.cedarwood.specs.Dictionary.{capacity_after, Dictionary, Grows, some_numbers}
+use Rattle.cedarwood.specs.Dictionary.{capacity_after, Dictionary, first_bytes, Grows, some_numbers}
 use Rattle.cedarwood.specs.Fault.{fault, IsShortage, or_else, value_fault}
 use Rattle.cedarwood.specs.Making.{IsEmpty}
 use Rattle.cedarwood.specs.Shrinking.{entries_after, entry_of, IsEntryPlace, IsNextPlace, IsPutBack, IsRebuilt, IsShrunk, key_bytes, LacksPlaces, PutsEntry}
 use Rattle.cedarwood.specs.Updates.{IsUpdate}
+use Rattle.cedarwood.proofs.CompactLemmas.{compact_more, rebuilt_fits}
 use Rattle.cedarwood.proofs.DictionaryLemmas.{held_in_range, is_sound}
 use Rattle.cedarwood.proofs.GrowthLemmas.{capacity_after-sum, dictionary_of}
 use Rattle.cedarwood.proofs.InnerMarksLemmas.{inner_empty, inner_put}
@@ -96,6 +97,11 @@ none_put layout settings d e = record {
   marked = subst (λ (m : Tree). m ≡ some_numbers (λ path. is_some (number_at m path)) d.state.tree) (sym e.unmarked)
       (ap (some_numbers (λ path. is_some (number_at empty_tree path))) (sym e.tree));
   size = (0, omega arith, omega (arith, e.size.0), e.size.1);
+  compact = record {
+    first = let nothing : first_bytes d.state.tree ≡ 0 = ap first_bytes e.tree in omega (arith, nothing);
+    entries = let nothing : length (walk d.state.tree) ≡ 0 = ap (λ (t : Tree). length (walk t)) e.tree in omega (arith, nothing);
+    slots = let nothing : first_bytes d.state.tree ≡ 0 = ap first_bytes e.tree in omega (arith, nothing, e.size.0);
+  };
 }
 
 key_without_fault : (key : List ℕ) (v : ℤ) → fault key v ≡ None → 0 < length key
@@ -127,6 +133,7 @@ module _ (layout : LayoutKind) (slots : ℕ) (order : Bool) (trials : ℤ) (es :
           omega (arith, grown.size, m.2),
           grown.capacity ∙ ap (λ s. capacity_after n.0 s d.capacity) m.2 ∙ ap (capacity_after n.0 (256 + 256 * m.0)) m.3 ∙ sym (capacity_after-sum m.0 n.0 256 256),
         );
+        compact = compact_more (length es) d d' e.0 e.1 so_far.compact so_far.marked u.marked tree u.packs;
       }
 
   -- why it was refused
@@ -224,6 +231,7 @@ of_table layout slots T d well back =
       marks = subst (λ (t : Tree). SortedMarks layout t d.marked) (ap (λ (s : State). s.tree) state) back.marks;
       marked = back.marked;
       size = back.size;
+      slots = subst (λ (t : Tree). d.size + 257 * first_bytes t ≤ 511 + length (prefixes t) + 257 * length (walk (tree_of T))) (ap (λ (s : State). s.tree) state) back.compact.slots;
     }
 
 -- what is made of the entries of a dictionary's table is that dictionary, rebuilt
@@ -245,6 +253,7 @@ stays layout slots before made is more = record {
   max_trial = refl;
   capacity = omega arith;
   rebuilt = (made, is, (λ less. absurd (omega (arith, less, more))), (λ _. refl));
+  bounded = omega (arith, more, rebuilt_fits layout before made is);
   unchanged = tt;
   refused = tt;
 }
@@ -255,6 +264,7 @@ replaced layout slots before made is less = record {
   max_trial = is.max_trial;
   capacity = less;
   rebuilt = (made, is, (λ _. refl), (λ more. absurd (omega (arith, less, more))));
+  bounded = rebuilt_fits layout before made is;
   unchanged = tt;
   refused = tt;
 }

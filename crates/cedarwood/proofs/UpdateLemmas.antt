@@ -11,14 +11,18 @@ use Rattle.cedar_model.specs.Table.Layouts.{default_layout}
 use Rattle.cedar_model.specs.Meaning.Marks.{marks, MarksPut}
 use Rattle.cedar_slots.specs.Places.{MayRefuse}
 use Rattle.cedar_model.specs.Edit.Steps.{MakesBlocks, SameModes, blocks_after}
+use Rattle.cedar_model.specs.Edit.Packing.{PacksKey}
 use Rattle.cedar_model.specs.Table.TableFields.{Fields, capacity_of, size_of}
 use Rattle.cedar_model.specs.Meaning.WellFormed.{IsWellFormed, cells_in, tree_of}
 use Rattle.cedar_model.proofs.MeaningLemmas.FullBlocks.{full_blocks_counted}
+use Rattle.cedar_model.proofs.MeaningLemmas.HeldCount.{count_is_marked}
+use Rattle.cedar_model.proofs.UpdateLemmas.Packing.{full_held}
 use Rattle.cedarwood.specs.Dictionary.{Dictionary, Grows, first_bytes}
 use Rattle.cedar_slots.specs.declared.shortage.Shortage.{Shortage}
 use Rattle.cedar_slots.specs.declared.shortage.Shortage.TheVariants as shortage
 use Rattle.cedarwood.specs.Fault.{fault, key_fault, value_fault, or_else, IsShortage}
 use Rattle.cedarwood.specs.Told.{told}
+use Rattle.cedarwood.specs.Updates.{PacksUpdate}
 use Rattle.cedarwood.proofs.GrowthLemmas.{dictionary_of, blocks_stay, grows}
 use Rattle.cedarwood.proofs.SortedInputLemmas.{not_both}
 
@@ -152,3 +156,12 @@ module _ {X : Type 0} (slots : ℕ) (T T' : Fields) (d : Dictionary) (same : dic
     | inl m ↦ inl (is_ok_of r m.0, grows_by 0 m.1)
     | inr full ↦ inr (full.0, subst (λ (x : Dictionary). x.size + first_bytes x.state.tree ≡ used x.state.tree + 255) same (full_blocks_counted slots T well full.0 full.1))
   ]
+
+  -- how few slots stay free
+  pub packs_update : IsWellFormed slots T → IsWellFormed slots T' → PacksKey T T' key → PacksUpdate d (dictionary_of T') key
+  packs_update well well' packs = subst (λ (x : Dictionary). PacksUpdate x (dictionary_of T') key) same (by_case packs)
+    where
+      by_case : PacksKey T T' key → PacksUpdate (dictionary_of T) (dictionary_of T') key
+      by_case (inl (inl few)) = inl few
+      by_case (inl (inr free)) = inr (inl (omega (arith, free (tree_of T').children well'.stands, count_is_marked slots T' well')))
+      by_case (inr full) = inr (inr (omega (arith, full_held slots T (tree_of T).children well.table well.stands full.0, count_is_marked slots T well), full.1, full.2))

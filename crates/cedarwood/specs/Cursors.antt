@@ -12,17 +12,18 @@ use Rattle.cedarwood.specs.declared.queries.cursor.CursorPlace.{CursorPlace}
 use Rattle.cedarwood.specs.declared.queries.cursor.CursorPlace.TheVariants.{At, Before, End}
 use Rattle.cedarwood.specs.RangeWalks.{follows_end, IsRangePlace, precedes_end, ranged}
 
--- a cursor: the key that it holds, and the entries that it has left
+-- a cursor: the key that it holds, the entries that it has left, and how many bytes its buffer has room for
 pub record Cursor : Type 0 where
   pub key : List ℕ
   pub left : List Entry
+  pub room : ℕ
 
 -- it serves `impl Model` alone
 abbrev pub cursor_code : Coded Cursor
 cursor_code =
-    code_by (List ℕ × List (List ℕ × ℤ)) (coded× (coded_list coded_ℕ) (coded_list (coded× (coded_list coded_ℕ) coded_ℤ)))
-    (λ c. (c.key, c.left))
-    (λ p. record { key = p.0; left = p.1 })
+    code_by (List ℕ × (List (List ℕ × ℤ) × ℕ)) (coded× (coded_list coded_ℕ) (coded× (coded_list (coded× (coded_list coded_ℕ) coded_ℤ)) coded_ℕ))
+    (λ c. (c.key, (c.left, c.room)))
+    (λ p. record { key = p.0; left = p.1.0; room = p.1.1 })
     (λ _. refl)
 
 -- where it stands before the node of its first entry, if there is one

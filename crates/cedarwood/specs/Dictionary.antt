@@ -2,6 +2,7 @@
 use Rattle.std.specs.Prelude.{◌≡◌, ℕ, zero, suc, ◌+◌, ◌*◌, ◌^◌, ◌<◌, ◌≤◌, ◌==◌, Bool, true, cond, List, [], ◌∷◌, length, ℤ, None, is_some}
 use Rattle.std.specs.Coded.{Coded, code_by, coded×, coded_ℕ, coded_ℤ}
 use Rattle.std.proofs.Common.{refl}
+use Rattle.cedar_tree.specs.Queries.{prefixes, walk}
 use Rattle.cedar_tree.specs.State.{State, state_code}
 use Rattle.cedar_tree.specs.Stored.{coded_tree}
 use Rattle.cedar_tree.specs.Tree.{AllNumbers, Forest, none, child, IsAscending, IsSound, number_at, Tree}
@@ -42,6 +43,10 @@ pub record Grows (n : ℕ) (before after : Dictionary) : Type 0 where
 -- how many bytes begin a key: the root's children
 abbrev pub first_bytes : Tree → ℕ
 first_bytes t = length (labels t.children)
+
+-- the slots that are held: one for the root, one for each prefix, and one for each number that has a slot of its own
+abbrev pub used_slots : Dictionary → ℕ
+used_slots d = 1 + length (prefixes d.state.tree) + length (walk d.marked)
 
 -- siblings with just those of their numbers whose paths pass a test
 abbrev pub with_some : (List ℕ → Bool) → Forest → Forest

@@ -1,5 +1,5 @@
 -- What a load of a dictionary answers: of a table, as `cedar_file` says it, and what is a dictionary's own.
-use Rattle.std.specs.Prelude.{◌≡◌, ◌≤◌, ◌⊎◌, ℕ, List, None, Result, Ok}
+use Rattle.std.specs.Prelude.{◌≡◌, ◌≤◌, ◌⊎◌, ℕ, Bool, List, None, Option, Result, Ok, IsErrAnd}
 use Rattle.std.specs.Result.{IsOkAnd}
 use Rattle.cedar_model.specs.Table.Layouts.{LayoutKind, layout_byte}
 use Rattle.cedar_model.specs.Table.TableFields.{Fields}
@@ -9,12 +9,19 @@ use Rattle.cedar_format.specs.Format.{need, Passes}
 use Rattle.cedar_format.specs.Reading.{LacksNoMore}
 use Rattle.cedar_format.specs.Tables.{header_of, table_bytes, IsTableFile}
 use Rattle.cedarwood.specs.Dictionary.{Dictionary}
-pub use Rattle.cedar_file.specs.Loading.{IsDecided, LacksMemory, LoadAnswers}
+pub use Rattle.cedar_file.specs.Loading.{IsDecided, LacksMemory, LoadAnswers, LoadsBy}
 
 -- where a load by path was refused memory, it was for the buffer of 8192 bytes, or for one of the four lists of a header that
 -- has passed
 abbrev pub LacksByPath : ℕ → ℕ → ℕ → CedarPersistenceError → Type 0
 LacksByPath layout slots limit e = (e ≡ AllocationFailed 8192) ⊎ LacksNoMore (Passes layout slots limit None) e
+
+-- something with a table was loaded of an open file that had `before` left, as of a reader (`LoadsBy`); or there was no memory for the
+-- buffer of 8192 bytes
+abbrev pub LoadsOpened : {X : Type 0} → (X → Fields) → LayoutKind → ℕ → ℕ → Option (List ℕ) → Result X CedarPersistenceError → Type 0
+LoadsOpened table kind slots limit before result =
+    IsErrAnd result (λ e. e ≡ AllocationFailed 8192)
+    ⊎ ((after : Option (List ℕ)) × (failed : Bool) × LoadsBy table kind slots limit before after failed result)
 
 -- a load of a table's own file in any version, under a limit of at least its need, gives that table again, or a list found no room
 abbrev pub OwnFilesLoad : Type 0

@@ -1,5 +1,5 @@
 -- What a save by path fails with, and what is saved.
-use Rattle.std.specs.Prelude.{◌≡◌, ◌≤◌, ◌⊎◌, ◌+◌, ℕ, None}
+use Rattle.std.specs.Prelude.{◌≡◌, ◌≤◌, ◌⊎◌, ℕ, None}
 use Rattle.cedar_model.specs.Table.Layouts.{LayoutKind, layout_byte}
 use Rattle.cedar_model.specs.Table.TableFields.{Fields}
 use Rattle.cedar_format.specs.Format.{header_answer, need}
@@ -8,13 +8,9 @@ use Rattle.cedar_format.specs.declared.error.CedarPersistenceError.{CedarPersist
 use Rattle.cedar_format.specs.declared.error.CedarPersistenceError.TheVariants.{AllocationFailed}
 use Rattle.cedar_format.specs.Reading.{IsIo}
 
--- a call on a file failed, or there was no memory for the buffer of 8192 bytes
+-- a call on a file failed, or no new file could be named; or there was no memory for the buffer of 8192 bytes
 abbrev pub FailsToWrite : CedarPersistenceError → Type 0
 FailsToWrite e = IsIo e ⊎ (e ≡ AllocationFailed 8192)
-
--- so, or there was no memory for the name of the new file, four bytes longer than a path of n bytes
-abbrev pub FailsToSave : ℕ → CedarPersistenceError → Type 0
-FailsToSave n e = FailsToWrite e ⊎ (e ≡ AllocationFailed (n + 4))
 
 -- a table's own file in a version passes all steps of a load but those on memory, under a limit of at least its need
 abbrev pub PassesAgain : LayoutKind → ℕ → ℕ → Fields → Type 0

@@ -1,8 +1,8 @@
 -- A dictionary built anew of another one's entries, in as little room as these take.
-use Rattle.std.specs.Prelude.{◌≡◌, ◌≤◌, ◌<◌, ◌⊎◌, ◌+◌, ◌*◌, ℕ, ℤ, Bool, List, [], ◌∷◌, length, map, Option, Some, None, IfErr, IfSome, MatchResult, OnErr, OnOk, Result, Ok, Err}
+use Rattle.std.specs.Prelude.{◌≡◌, ◌≤◌, ◌<◌, ◌⊎◌, ◌+◌, ◌-◌, ◌*◌, ◌/◌, ℕ, ℤ, Bool, List, [], ◌∷◌, length, map, Option, Some, None, IfErr, IfSome, MatchResult, OnErr, OnOk, Result, Ok, Err}
 use Rattle.std.specs.List.{AllByRecursion}
 use Rattle.cedar_tree.specs.Tree.{Tree, empty_tree, put}
-use Rattle.cedar_tree.specs.Queries.{Entry, walk}
+use Rattle.cedar_tree.specs.Queries.{Entry, prefixes, walk}
 use Rattle.cedar_tree.specs.Walks.{visited_entries}
 use Rattle.cedar_bulk.specs.SortedMarks.{SortedMarks}
 use Rattle.cedar_model.specs.Table.Layouts.{LayoutKind}
@@ -12,13 +12,20 @@ use Rattle.cedar_walk.specs.declared.visits.Numbered.{Numbered}
 use Rattle.cedar_walk.specs.Visits.{IsBelow, left_at, number_below, path_to}
 use Rattle.cedarwood.specs.declared.error.CedarError.{CedarError}
 use Rattle.cedarwood.specs.declared.error.CedarError.TheVariants.{Memory, SlotLimit}
-use Rattle.cedarwood.specs.Dictionary.{capacity_after, Dictionary, IsMarked}
+use Rattle.cedarwood.specs.Dictionary.{capacity_after, Dictionary, first_bytes, IsMarked}
 use Rattle.cedarwood.specs.Updates.{IsUpdate}
 
 -- how many bytes the keys of some entries have
 abbrev pub key_bytes : List Entry → ℕ
 key_bytes [] = 0
 key_bytes (entry ∷ entries) = length entry.0 + key_bytes entries
+
+-- made of n entries by updates, in so few slots: at most 255 outside the first block are free, and 256 others for each entry, but for one of
+-- those with each first byte
+pub record IsCompact (n : ℕ) (d : Dictionary) : Type 0 where
+  pub first : first_bytes d.state.tree ≤ n
+  pub entries : length (walk d.state.tree) ≤ n
+  pub slots : d.size + 257 * first_bytes d.state.tree ≤ 511 + length (prefixes d.state.tree) + 257 * n
 
 -- made of another one's entries: the same state and settings, in at most one block for each byte of a key, beside the first one
 pub record IsRebuilt (layout : LayoutKind) (before made : Dictionary) : Type 0 where
@@ -29,6 +36,12 @@ pub record IsRebuilt (layout : LayoutKind) (before made : Dictionary) : Type 0 w
   pub marks : SortedMarks layout before.state.tree made.marked
   pub marked : IsMarked made
   pub size : (n : ℕ) × (n ≤ key_bytes (walk before.state.tree)) × (made.size ≡ 256 + 256 * n) × (made.capacity ≡ capacity_after n 256 256)
+  pub slots : made.size + 257 * first_bytes before.state.tree ≤ 511 + length (prefixes before.state.tree) + 257 * length (walk before.state.tree)
+
+-- how many slots a rebuilt one of the tree t has at most: at most 255 outside the first block are free, and 256 others for each entry, but for
+-- one of those with each first byte
+abbrev pub most_capacity : Tree → ℕ
+most_capacity t = capacity_after ((255 + length (prefixes t) + 257 * length (walk t) - 257 * first_bytes t) / 256) 256 256
 
 -- why none could be made of some entries: for want of memory, or of slots, where the bytes of their keys may take all of these
 abbrev pub LacksPlaces : ℕ → List Entry → CedarError → Type 0
@@ -40,6 +53,8 @@ pub record IsShrunk (layout : LayoutKind) (slots : ℕ) (before after : Dictiona
   pub max_trial : after.max_trial ≡ before.max_trial
   pub capacity : after.capacity ≤ before.capacity
   pub rebuilt : OnOk result ((made : Dictionary) × IsRebuilt layout before made × (made.capacity ≤ before.capacity → after ≡ made) × (before.capacity < made.capacity → after ≡ before))
+  -- so there are no more slots than a rebuilt one of this tree may have
+  pub bounded : OnOk result (after.capacity ≤ most_capacity before.state.tree)
   pub unchanged : OnErr result (after ≡ before)
   pub refused : IfErr result (LacksPlaces slots (walk before.state.tree))
 
@@ -78,6 +93,7 @@ pub record IsPutBack (layout : LayoutKind) (order : Bool) (trials : ℤ) (entrie
   pub marks : SortedMarks layout d.state.tree d.marked
   pub marked : IsMarked d
   pub size : (n : ℕ) × (n ≤ key_bytes entries) × (d.size ≡ 256 + 256 * n) × (d.capacity ≡ capacity_after n 256 256)
+  pub compact : IsCompact (length entries) d
 
 -- one with these settings is made of some entries, or lacks places for them
 abbrev pub IsMadeOf : LayoutKind → ℕ → Bool → ℤ → List Entry → Result Dictionary CedarError → Type 0

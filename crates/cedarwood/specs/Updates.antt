@@ -5,10 +5,19 @@ use Rattle.cedar_tree.specs.Queries.{used}
 use Rattle.cedar_tree.specs.State.{stored}
 use Rattle.cedarwood.specs.declared.error.CedarError.{CedarError}
 use Rattle.cedarwood.specs.declared.error.CedarError.TheVariants.{Memory, SlotLimit}
+use Rattle.cedar_model.specs.Edit.Packing.{joins}
 use Rattle.cedar_model.specs.Meaning.Marks.{MarksPut}
 use Rattle.cedar_model.specs.Table.Layouts.{LayoutKind, default_layout, reduced_layout}
-use Rattle.cedarwood.specs.Dictionary.{Dictionary, Grows, IsMarked, first_bytes}
+use Rattle.cedarwood.specs.Dictionary.{Dictionary, Grows, IsMarked, first_bytes, used_slots}
 use Rattle.cedarwood.specs.Fault.{fault, IsShortage}
+
+-- a put of a key makes no block, and at most one where another key has its first byte. It makes more only where at most 255 slots outside
+-- the first block are free then, or where none was before; in this case it makes two at most, and another key has its first byte
+abbrev pub PacksUpdate : Dictionary → Dictionary → List ℕ → Type 0
+PacksUpdate before after key =
+    (after.size ≤ before.size + 256 * joins before.state.tree key)
+    ⊎ ((after.size + first_bytes after.state.tree ≤ used_slots after + 510)
+    ⊎ ((before.size + first_bytes before.state.tree ≡ used_slots before + 255) × (joins before.state.tree key ≡ 1) × (after.size ≤ before.size + 512)))
 
 -- an update of the key with the value v in a dictionary of this layout that may have `slots` slots
 pub record IsUpdate (layout : LayoutKind) (slots : ℕ) (before after : Dictionary) (key : List ℕ) (v : ℤ) (result : Result (Unit {0}) CedarError) : Type 0 where
@@ -35,4 +44,6 @@ pub record IsUpdate (layout : LayoutKind) (slots : ℕ) (before after : Dictiona
   -- free: there, each is held that isn't the root's or one of its children's
   pub one_byte : (b : ℕ) → key ≡ b ∷ [] → has_label before.state.tree.children b ≡ false → fault key v ≡ None
       → (IsOk result × Grows 0 before after) ⊎ ((layout ≡ default_layout) × (before.size + first_bytes before.state.tree ≡ used before.state.tree + 255))
+  -- one slot alone is taken wherever one is free outside the first block
+  pub packs : OnOk result (PacksUpdate before after key)
   pub max_trial : after.max_trial ≡ before.max_trial

@@ -20,7 +20,7 @@ pub use Rattle.cedar_tree.specs.Tree.{empty_tree, has_label, IsAscending, IsSoun
 pub use Rattle.cedar_tree.specs.Walks.{front_from, visited_entries}
 pub use Rattle.cedar_walk.specs.Batch.{keys_of}
 pub use Rattle.cedar_walk.specs.Fronts.{front_length, IsNextFront, IsOnQuery}
-pub use Rattle.cedar_walk.specs.Keys.{KeyGoesOn}
+pub use Rattle.cedar_walk.specs.Keys.{KeyGoesOn, KeyOutgrows, NextKeyOutgrows}
 pub use Rattle.cedar_walk.specs.Pending.{IsPending}
 pub use Rattle.cedar_walk.specs.Ranges.{entries_since, entries_with, longest_front}
 pub use Rattle.cedar_walk.specs.Visits.{ComesTo, ComesToFirst, ComesToNumber, GoesToNode, GoesToNumber, IsBelow, IsNumberedBelow, left_at, path_to}
@@ -28,20 +28,20 @@ pub use Rattle.cedar_walk.specs.declared.visits.Numbered.{Numbered}
 pub use Rattle.cedarwood.specs.Batches.{held_in_turn, IsErasure, IsErasures, IsFound, IsUpdates, keys_erased, pair_at, StopsAt}
 pub use Rattle.cedarwood.specs.Blanks.{IsBlankOf}
 pub use Rattle.cedarwood.specs.Builds.{all_stored, first_fault, IsBuild, IsRefusedBuild, outcome}
-pub use Rattle.cedarwood.specs.Cursors.{Cursor, cursor_code, cursor_left, FindsNext, IsAtEnd, IsCursorEnd, IsCursorPlace, IsShortOf}
+pub use Rattle.cedarwood.specs.Cursors.{Cursor, cursor_code, cursor_entries, cursor_left, FindsNext, IsAtEnd, IsCursorEnd, IsCursorPlace, IsShortOf}
 pub use Rattle.cedarwood.specs.Cursors.{place_before, WritesNextKey}
 pub use Rattle.cedarwood.specs.Dictionary.{AreSameFigures, capacity_after, Dictionary, dictionary_code, first_bytes, Grows, IsMarked, IsValid}
 pub use Rattle.cedarwood.specs.Ends.{first_entry, last_entry}
 pub use Rattle.cedarwood.specs.Erasures.{all_erased, entries_without, erased_under, IsCleared, IsErasedUnder, MarksCutUnder}
 pub use Rattle.cedarwood.specs.Fault.{fault, IsInRange, IsShortage, key_fault, value_fault}
 pub use Rattle.cedarwood.specs.Limits.{default_load_limit, IsLimit, most_slots}
-pub use Rattle.cedarwood.specs.Loading.{LacksByPath, LoadAnswers, LoadedFilesSaveAgain, OwnFilesLoad}
+pub use Rattle.cedarwood.specs.Loading.{LacksByPath, LoadAnswers, LoadedFilesSaveAgain, LoadsOpened, OwnFilesLoad}
 pub use Rattle.cedarwood.specs.Making.{default_settings, IsEmpty, IsNew, IsRenewed, IsSorted, IsSortedBuild}
 pub use Rattle.cedarwood.specs.Memory.{CedarFitsInMemory, ReducedFitsInMemory}
 pub use Rattle.cedarwood.specs.OnTable.{dictionary_of, IsOnTable}
 pub use Rattle.cedarwood.specs.RangeWalks.{bounded, entries_between, GivesBetween, GivesRange, IsEnd, IsRangePlace}
 pub use Rattle.cedarwood.specs.Room.{LacksRoom}
-pub use Rattle.cedarwood.specs.Saving.{FailsToSave, FailsToWrite, PassesAgain}
+pub use Rattle.cedarwood.specs.Saving.{FailsToWrite, PassesAgain}
 pub use Rattle.cedarwood.specs.Shown.{entry_error_text, error_text, refused_pair_text, shown_text}
 pub use Rattle.cedarwood.specs.Shrinking.{ArePlaces, entry_of, IsEntryPlace, IsMadeOf, IsPutBack, IsRebuilt, IsShrunk, LacksPlaces, PutsBack, PutsEntry}
 pub use Rattle.cedarwood.specs.SortedInput.{AreBytes, fault_behind, fault_from, fault_of_order, HasNoNul, IsSharedFront, key_at}

@@ -6,8 +6,9 @@ ghost use Rattle.cedarwood.specs.Words.{Memory, told};
 use cedar_slots::Shortage;
 use std::alloc::AllocError;
 
-/// Why a call on a dictionary was refused. After a refusal the dictionary holds what it held; only a build
-/// of many pairs has stored those before the refused one.
+/// Why a call on a dictionary was refused. After a refusal the dictionary holds what it held; only the calls that store many pairs,
+/// [`Trie::build`](crate::Trie::build) and [`Trie::update_batch`](crate::Trie::update_batch), may have stored some of those before the
+/// refused one.
 //= `==` of two errors is their equality. [by PartialEq]
 #[non_exhaustive]
 #[derive(Clone, Debug, Drop, PartialEq, Eq)]

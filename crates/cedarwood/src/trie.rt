@@ -93,6 +93,10 @@ impl<A: Allocator + Copy> Trie<DefaultLayout, 1073741824, A> {
         //= Its settings are the builder's. It makes at most one block for each distinct nonempty prefix, beside the first. [also
         //  from_sorted, from_sorted_bytes_with, from_sorted_with, CedarBuilder::from_sorted_bytes, CedarBuilder::from_sorted,
         //  CedarBuilder::from_sorted_bytes_reduced, CedarBuilder::from_sorted_reduced; by ordered, max_trial, size]
+        //= At most 255 slots outside the first block are free, and 256 others for each node below the root that takes several slots: for
+        //  several labels, or for a number and a label. [also
+        //  from_sorted, from_sorted_bytes_with, from_sorted_with, CedarBuilder::from_sorted_bytes, CedarBuilder::from_sorted,
+        //  CedarBuilder::from_sorted_bytes_reduced, CedarBuilder::from_sorted_reduced; by packed]
         //= By default each number has a slot of its own; in the reduced layout exactly those do whose keys begin longer ones. [also
         //  from_sorted, from_sorted_bytes_with, from_sorted_with, CedarBuilder::from_sorted_bytes, CedarBuilder::from_sorted,
         //  CedarBuilder::from_sorted_bytes_reduced, CedarBuilder::from_sorted_reduced; by marks, SortedMarks]
@@ -309,6 +313,9 @@ impl<L: Layout, const SLOTS: usize, A: Allocator + Copy> Trie<L, SLOTS, A> {
         //= An update of a key of one new byte makes a block, or is refused, only in the default layout, and only if the slots in use and
         //  the root's children are together as many as the tree's slots and 255. They are if no slot outside block 0 is free. [also update;
         //  by one_byte]
+        //= One slot alone is taken wherever one is free outside the first block. So an update makes at most one block if another key has
+        //  the first byte, and none otherwise; unless at most 255 slots outside the first block are free then, or none was before. [also
+        //  update; by packs, PacksUpdate]
         //= `max_trial` doesn't change. [also update, erase_bytes.max_trial, erase.max_trial; by max_trial]
         //= In the reduced layout an update of a new key marks its held proper prefixes, and the key if it is a prefix of a held one. What
         //  was marked stays marked. An update of a held key doesn't change the marks. [also update; by marks, MarksPut]

@@ -41,25 +41,40 @@ const UNMOVED: FilePlan = FilePlan {
     ..GOOD
 };
 
+// One whose name can't be put on the disk.
+const UNNAMED: FilePlan = FilePlan {
+    syncs_folder: false,
+    ..GOOD
+};
+
+// One in a folder that can't be opened.
+const HIDDEN: FilePlan = FilePlan {
+    opens_folder: false,
+    ..GOOD
+};
+
 // What a load does with the file.
 const READ: FileUse = FileUse {
     opened: 1,
     ..FileUse::NONE
 };
 
-// What a save that succeeds has done: it has written, flushed and synced the whole file, and renamed it.
+// What a save that succeeds has done: it has written, flushed and synced the whole file, renamed it, and synced the folder.
 const SAVED: FileUse = FileUse {
     made: 1,
     written: 5762,
     flushes: 1,
     syncs: 1,
     moves: 1,
+    folders: 1,
+    names: 1,
     ..FileUse::NONE
 };
 
 // What a save has done whose rename failed: it has removed the file.
 const NOT_MOVED: FileUse = FileUse {
     removed: 1,
+    names: 0,
     ..SAVED
 };
 
@@ -179,13 +194,37 @@ fn expect_saves(rt: &impl Abort, alloc: Global) -> Result<(), Fail> {
         expect_save(rt, alloc, minor, UNFLUSHED, (Verdict::Io, NOT_FLUSHED))?;
         expect_save(rt, alloc, minor, UNSYNCED, (Verdict::Io, NOT_SYNCED))?;
         expect_save(rt, alloc, minor, UNMOVED, (Verdict::Io, NOT_MOVED))?;
+        // The file has its name then, and isn't removed.
+        expect_save(rt, alloc, minor, UNNAMED, (Verdict::Io, SAVED))?;
     }
     Ok(())
 }
 
+// A name that is taken is left alone, and the next one is tried, up to a hundred of them.
+fn expect_names(rt: &impl Abort, alloc: Global) -> Result<(), Fail> {
+    for taken in [1, 2, 99] {
+        let plan = FilePlan { taken, ..GOOD };
+        expect_save(
+            rt,
+            alloc,
+            1,
+            plan,
+            (Verdict::Loads, FileUse { taken, ..SAVED }),
+        )?;
+    }
+    let none_free = FilePlan { taken: 100, ..GOOD };
+    let tried = FileUse {
+        taken: 100,
+        folders: 1,
+        ..FileUse::NONE
+    };
+    expect_save(rt, alloc, 1, none_free, (Verdict::Io, tried))
+}
+
 #[test]
 fn saves(rt: HostRuntime) -> Result<(), Fail> {
-    expect_saves(&rt, rt.alloc())
+    expect_saves(&rt, rt.alloc())?;
+    expect_names(&rt, rt.alloc())
 }
 
 fn expect_fault(
@@ -204,30 +243,63 @@ fn expect_fault(
     Ok(())
 }
 
+// Where no file was made, none is removed.
+fn expect_unmade(rt: &impl Abort, alloc: Global) -> Result<(), Fail> {
+    let hidden = FileUse {
+        folders: 1,
+        ..FileUse::NONE
+    };
+    expect_save(rt, alloc, 1, HIDDEN, (Verdict::Io, hidden))?;
+    expect_save(
+        rt,
+        alloc,
+        1,
+        CLOSED,
+        (Verdict::Io, FileUse { made: 1, ..hidden }),
+    )
+}
+
 fn expect_faults(rt: &impl Abort, alloc: Global) -> Result<(), Fail> {
-    expect_fault(rt, alloc, CLOSED, 0)?;
     for room in [0, 1, 88, 4096, 5761] {
         expect_fault(rt, alloc, FilePlan { room, ..GOOD }, room)?;
     }
     Ok(())
 }
 
-// The new file's name is allocated first, and the buffer once the file is created, which is then removed. The name is `a.cedar.new`.
+// The buffer is the only allocation, and is made once the file is, which is then removed.
 fn expect_short_save(rt: &impl Abort, alloc: Global, minor: u8) -> Result<(), Fail> {
     let (answer, uses) = save(alloc, minor, GOOD, 1)?;
-    assert!(rt;
-        answer == (Verdict::Memory, 11) && uses == FileUse::NONE,
-        "{minor}"
-    );
-    let (answer, uses) = save(alloc, minor, GOOD, 2)?;
     let is_gone = (uses.made, uses.written, uses.moves, uses.removed) == (1, 0, 0, 1);
     assert!(rt; answer == (Verdict::Memory, 8192) && is_gone, "{minor}");
+    let (answer, uses) = save(alloc, minor, GOOD, 2)?;
+    assert!(rt; answer == (Verdict::Loads, 0) && uses == SAVED, "{minor}");
+    Ok(())
+}
+
+// Without memory a fault is told that comes before the buffer, and not one that would come after it.
+fn expect_first(rt: &impl Abort, alloc: Global) -> Result<(), Fail> {
+    for plan in [CLOSED, HIDDEN] {
+        let (answer, _) = save(alloc, 1, plan, 1)?;
+        assert!(rt; answer == (Verdict::Io, 0), "{plan:?}");
+    }
+    for plan in [
+        UNFLUSHED,
+        UNSYNCED,
+        UNMOVED,
+        UNNAMED,
+        FilePlan { room: 0, ..GOOD },
+    ] {
+        let (answer, _) = save(alloc, 1, plan, 1)?;
+        assert!(rt; answer == (Verdict::Memory, 8192), "{plan:?}");
+    }
     Ok(())
 }
 
 #[test]
 fn saves_that_fail(rt: HostRuntime) -> Result<(), Fail> {
+    expect_unmade(&rt, rt.alloc())?;
     expect_faults(&rt, rt.alloc())?;
     expect_short_save(&rt, rt.alloc(), 0)?;
-    expect_short_save(&rt, rt.alloc(), 1)
+    expect_short_save(&rt, rt.alloc(), 1)?;
+    expect_first(&rt, rt.alloc())
 }

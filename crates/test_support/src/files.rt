@@ -1,4 +1,4 @@
-//! A file system with one file, whose calls fail at the points that a test sets.
+//! A file system with one file and its folder, whose calls fail at the points that a test sets.
 
 use crate::device::{Ending, FailingReader};
 use std::alloc::Allocator;
@@ -13,6 +13,8 @@ use std::rt::Files;
 pub struct FilePlan {
     /// Whether it can be opened, or created.
     pub opens: bool,
+    /// Under how many names, one after another, another file is there already where one is to be made.
+    pub taken: u32,
     /// How many bytes are read or written before a fault.
     pub room: usize,
     /// Whether it can be flushed.
@@ -21,25 +23,35 @@ pub struct FilePlan {
     pub syncs: bool,
     /// Whether it can be renamed.
     pub moves: bool,
+    /// Whether the folder can be opened.
+    pub opens_folder: bool,
+    /// Whether the folder can be synced.
+    pub syncs_folder: bool,
 }
 
 impl FilePlan {
     /// All calls succeed.
     pub const GOOD: FilePlan = FilePlan {
         opens: true,
+        taken: 0,
         room: usize::MAX,
         flushes: true,
         syncs: true,
         moves: true,
+        opens_folder: true,
+        syncs_folder: true,
     };
 }
 
 /// What was done with the file.
 #[derive(Clone, Copy, Debug, PartialEq, Eq)]
 pub struct FileUse {
-    /// How often it was opened for reading, and for writing.
+    /// How often it was opened for reading, made, and opened to be written whether or not it is there.
     pub opened: u32,
     pub made: u32,
+    pub cut: u32,
+    /// How often a file was to be made under a name that was taken.
+    pub taken: u32,
     /// How many bytes were written, and whether they are those that were expected.
     pub written: usize,
     pub as_expected: bool,
@@ -49,6 +61,9 @@ pub struct FileUse {
     pub syncs: u32,
     pub moves: u32,
     pub removed: u32,
+    /// How often the folder was opened and synced, including the failed calls.
+    pub folders: u32,
+    pub names: u32,
 }
 
 impl FileUse {
@@ -56,16 +71,21 @@ impl FileUse {
     pub const NONE: FileUse = FileUse {
         opened: 0,
         made: 0,
+        cut: 0,
+        taken: 0,
         written: 0,
         as_expected: true,
         flushes: 0,
         syncs: 0,
         moves: 0,
         removed: 0,
+        folders: 0,
+        names: 0,
     };
 }
 
-/// A file system with one file, at any path. It is read as some bytes; what is written to it is compared with them.
+/// A file system with one file, at any path but `.`, which is its folder. It is read as some bytes; what is written to it is compared with
+/// them.
 #[derive(Clone, Copy)]
 pub struct FakeFiles<'a> {
     bytes: &'a [u8],
@@ -73,9 +93,10 @@ pub struct FakeFiles<'a> {
     uses: &'a Cell<FileUse>,
 }
 
-/// The file, once it is open.
+/// The file or the folder, once it is open.
 #[derive(Drop)]
 pub struct FakeFile<'a> {
+    is_folder: bool,
     bytes: &'a [u8],
     reader: FailingReader<'a>,
     plan: FilePlan,
@@ -90,6 +111,11 @@ fn unsupported<T>() -> io::Result<T> {
     Err(io::Error::from(ErrorKind::Unsupported))
 }
 
+// One more of a count.
+fn more(count: u32) -> u32 {
+    count.saturating_add(1)
+}
+
 fn done_if(works: bool) -> io::Result<()> {
     if works {
         return Ok(());
@@ -102,6 +128,50 @@ impl<'a> FakeFiles<'a> {
     pub fn new(bytes: &'a [u8], plan: FilePlan, uses: &'a Cell<FileUse>) -> FakeFiles<'a> {
         FakeFiles { bytes, plan, uses }
     }
+
+    // Notes how the file is opened. It can't be made where another one has its name.
+    fn note_opening(&self, how: &OpenOptions) -> io::Result<()> {
+        let mut uses = self.uses.get();
+        if how.asks_create_new() && uses.taken < self.plan.taken {
+            uses.taken = more(uses.taken);
+            self.uses.set(uses);
+            return Err(io::Error::from(ErrorKind::AlreadyExists));
+        }
+        if how.asks_create_new() {
+            uses.made = more(uses.made);
+        } else if how.asks_write() {
+            uses.cut = more(uses.cut);
+        } else {
+            uses.opened = more(uses.opened);
+        }
+        self.uses.set(uses);
+        Ok(())
+    }
+
+    fn open_folder(&self) -> io::Result<FakeFile<'a>> {
+        let mut uses = self.uses.get();
+        uses.folders = more(uses.folders);
+        self.uses.set(uses);
+        if !self.plan.opens_folder {
+            return Err(io::Error::from(ErrorKind::PermissionDenied));
+        }
+        Ok(self.opened(true))
+    }
+
+    fn opened(&self, is_folder: bool) -> FakeFile<'a> {
+        let ending = if self.plan.room < self.bytes.len() {
+            Ending::Fault
+        } else {
+            Ending::Quiet
+        };
+        FakeFile {
+            is_folder,
+            bytes: self.bytes,
+            reader: FailingReader::new(self.bytes, self.plan.room, 1000, ending),
+            plan: self.plan,
+            uses: self.uses,
+        }
+    }
 }
 
 impl<'a> Files for FakeFiles<'a> {
@@ -109,29 +179,16 @@ impl<'a> Files for FakeFiles<'a> {
 
     type Dir = NoNames;
 
-    fn open_file(&self, how: &OpenOptions, _path: &str) -> io::Result<FakeFile<'a>> {
+    fn open_file(&self, how: &OpenOptions, path: &str) -> io::Result<FakeFile<'a>> {
         how.check()?;
-        let mut uses = self.uses.get();
-        if how.asks_write() && how.asks_create() && how.asks_truncate() {
-            uses.made = uses.made.saturating_add(1);
-        } else {
-            uses.opened = uses.opened.saturating_add(1);
+        if path == "." {
+            return self.open_folder();
         }
-        self.uses.set(uses);
+        self.note_opening(how)?;
         if !self.plan.opens {
             return Err(io::Error::from(ErrorKind::NotFound));
         }
-        let ending = if self.plan.room < self.bytes.len() {
-            Ending::Fault
-        } else {
-            Ending::Quiet
-        };
-        Ok(FakeFile {
-            bytes: self.bytes,
-            reader: FailingReader::new(self.bytes, self.plan.room, 1000, ending),
-            plan: self.plan,
-            uses: self.uses,
-        })
+        Ok(self.opened(false))
     }
 
     fn open_dir(&self, _path: &str) -> io::Result<NoNames> {
@@ -152,14 +209,14 @@ impl<'a> Files for FakeFiles<'a> {
 
     fn rename(&self, _from: &str, _to: &str) -> io::Result<()> {
         let mut uses = self.uses.get();
-        uses.moves = uses.moves.saturating_add(1);
+        uses.moves = more(uses.moves);
         self.uses.set(uses);
         done_if(self.plan.moves)
     }
 
     fn remove_file(&self, _path: &str) -> io::Result<()> {
         let mut uses = self.uses.get();
-        uses.removed = uses.removed.saturating_add(1);
+        uses.removed = more(uses.removed);
         self.uses.set(uses);
         Ok(())
     }
@@ -200,7 +257,7 @@ impl Write for FakeFile<'_> {
 
     fn flush(&mut self) -> io::Result<()> {
         let mut uses = self.uses.get();
-        uses.flushes = uses.flushes.saturating_add(1);
+        uses.flushes = more(uses.flushes);
         self.uses.set(uses);
         done_if(self.plan.flushes)
     }
@@ -223,7 +280,12 @@ impl OpenFile for FakeFile<'_> {
 
     fn sync_all(&self) -> io::Result<()> {
         let mut uses = self.uses.get();
-        uses.syncs = uses.syncs.saturating_add(1);
+        if self.is_folder {
+            uses.names = more(uses.names);
+            self.uses.set(uses);
+            return done_if(self.plan.syncs_folder);
+        }
+        uses.syncs = more(uses.syncs);
         self.uses.set(uses);
         done_if(self.plan.syncs)
     }

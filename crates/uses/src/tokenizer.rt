@@ -1,7 +1,7 @@
 //! Texts cut into words by a dictionary that was saved.
 
 ghost use Rattle.std.specs.Prelude.{◌<◌, ◌^◌, ◌≡◌, IfOk, length, map};
-ghost use Rattle.uses.specs.Words.{device_of, IsCheapest, piece_of, ReadsTable, segments};
+ghost use Rattle.uses.specs.Words.{device_of, IsAheadCapped, IsCheapest, IsCut, IsLeastCapped, piece_of, ReadsTable, segments};
 
 use cedar_words::{cheapest, segment};
 use cedarwood::{Cedar, CedarPersistenceError, Layout, Trie, Watched};
@@ -55,8 +55,14 @@ impl Tokenizer {
         text: &str,
         unknown: u32,
     ) -> Result<Vec<(usize, usize, Option<i32>), Global>, AllocError>
-        //= A tokenizer by cost cuts a text of fewer than 2^32 bytes into the cheapest tokens.
-        ensures { length text.now < 2 ^ 32 → IfOk result (λ tokens. IsCheapest self.now.words.state.tree unknown text.now tokens.items) }
+        //= A tokenizer by cost cuts a text of any length into the tokens that cost the least, if sums above 2^64 - 1 count as 2^64 - 1. They
+        //  come first among those that cost as little and no more than that. [with capped, ahead]
+        ensures cut { IfOk result (λ tokens. IsCut self.now.words.state.tree text.now tokens.items) }
+        ensures capped { IfOk result (λ tokens. IsLeastCapped self.now.words.state.tree (λ _. unknown) text.now tokens.items) }
+        ensures ahead { IfOk result (λ tokens. IsAheadCapped self.now.words.state.tree (λ _. unknown) text.now tokens.items) }
+
+        //= Of a text of fewer than 2^32 bytes they are the only cut of which both holds.
+        ensures least { length text.now < 2 ^ 32 → IfOk result (λ tokens. IsCheapest self.now.words.state.tree unknown text.now tokens.items) }
     {
         cheapest(alloc, &self.words, text.as_bytes(), unknown)
     }

@@ -6,7 +6,7 @@ use Rattle.std.proofs.Common.{◌≡◌, ◌<◌, ◌≤◌, ◌+◌, ◌-◌, s
 use Rattle.std.specs.Prelude.{ltb}
 use Rattle.std.specs.Io.KnownBytes.{Appends}
 use Rattle.cedar_tree.specs.Tree.{Tree}
-use Rattle.cedar_words.specs.Words.{IsCheapestBy, IsCut, IsLeastCapped, Spot, Token, character_price, keywords_in, segments}
+use Rattle.cedar_words.specs.Words.{IsAheadCapped, IsCheapestBy, IsCut, IsLeastCapped, Spot, Token, character_price, keywords_in, segments}
 use Rattle.text_lines.specs.Written.{WritesFront}
 use Rattle.word_lists.specs.Texts.{IsCheapestCut, body_of, ending_of, marked_line, marked_token, characters, characters_begun, continues_character, spot_line, spot_lines, texts_of}
 use Rattle.text_lines.proofs.Bytes.{front_after, front_more}
@@ -97,6 +97,6 @@ marked_some tree line h = ap (λ t. cond t (texts_of (marked_token (body_of line
 -- a cheapest cut of a line's body, however this was found
 pub is_cheapest : (tree : Tree) (unknown : ℕ) (text body : List ℕ) (tokens : List Token) → body ≡ text → IsCut tree body tokens
     → (length body < 2 ^ 32 → IsCheapestBy tree (character_price unknown body) body tokens) → IsLeastCapped tree (character_price unknown body) body tokens
-    → IsCheapestCut tree unknown text tokens
-is_cheapest tree unknown text body tokens is cut least capped =
-    subst (λ t. IsCheapestCut tree unknown t tokens) is (record { cut = cut; least = least; capped = capped })
+    → IsAheadCapped tree (character_price unknown body) body tokens → IsCheapestCut tree unknown text tokens
+is_cheapest tree unknown text body tokens is cut least capped ahead =
+    subst (λ t. IsCheapestCut tree unknown t tokens) is (record { cut = cut; least = least; capped = capped; ahead = ahead })

@@ -2,7 +2,7 @@
 use Rattle.std.specs.Prelude.{ℕ, ℤ, ◌+◌, ◌-◌, ◌^◌, ◌<◌, ltb, nat_le, Bool, ◌==◌, ◌&&◌, ◌||◌, not, if◌then◌else◌, Option, Some, None, List, [], ◌∷◌, ◌++◌, map, length, take, drop, get_or, is_some, decimal, codes, int_le, pos, unsigned_abs}
 use Rattle.cedar_tree.specs.Queries.{Entry, front}
 use Rattle.cedar_tree.specs.Tree.{Tree}
-use Rattle.cedar_words.specs.Words.{IsCheapestBy, IsCut, IsLeastCapped, Spot, Token, character_price, keywords_in, segments, spots_from}
+use Rattle.cedar_words.specs.Words.{IsAheadCapped, IsCheapestBy, IsCut, IsLeastCapped, Spot, Token, character_price, keywords_in, segments, spots_from}
 use Rattle.std.specs.Borrow.{Bor}
 use Rattle.word_lists.specs.declared.cut.Style.{Style}
 use Rattle.word_lists.specs.declared.cut.Style.TheVariants.{Parted, Marked, Replaced}
@@ -133,12 +133,14 @@ style_text (Replaced lines) text t = replaced_token lines.now text t
 abbrev pub styled_text : Style → List ℕ → List Token → List ℕ
 styled_text style text tokens = texts_of (style_text style text) tokens
 
--- a cut of a text that costs the least, where a key costs its number and a character that no key has this much. Of a text of fewer than 2^32
--- bytes it is the only one that is ahead of all that cost as little; sums above 2^64 - 1 count as 2^64 - 1
+-- a cut of a text that costs the least, where a key costs its number and a character that no key has this much, and that is ahead of all
+-- that cost as little. Of a text of fewer than 2^32 bytes there is one such cut. Of a longer one sums above 2^64 - 1 count as 2^64 - 1, and
+-- it is ahead of those that cost as little and no more than 2^64 - 1
 pub record IsCheapestCut (tree : Tree) (unknown : ℕ) (text : List ℕ) (tokens : List Token) : Type 0 where
   pub cut : IsCut tree text tokens
   pub least : length text < 2 ^ 32 → IsCheapestBy tree (character_price unknown text) text tokens
   pub capped : IsLeastCapped tree (character_price unknown text) text tokens
+  pub ahead : IsAheadCapped tree (character_price unknown text) text tokens
 
 -- something is so of a line that is cut into the tokens of a cheapest cut, with a sign between them
 abbrev pub OnCheapestLine : Tree → ℕ → List ℕ → List ℕ → (List ℕ → Type 0) → Type 0

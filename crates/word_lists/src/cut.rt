@@ -161,7 +161,8 @@ pub fn write_cheapest_cut<L: Layout, const SLOTS: usize, A: Allocator + Copy, W:
     sign: &[u8],
 ) -> Result<(), ListError>
     //= A cut by cost that returns `Ok` wrote the tokens of a cheapest cut of the line, with a sign between them, and the bytes that end it.
-    //  Of a line of fewer than 2^32 bytes there is only one such cut. [by IsCheapestCut]
+    //  In a line of any length this cut comes first among those that cost as little and no more than 2^64 - 1. Of a line of fewer than 2^32
+    //  bytes there is only one such cut. [by IsCheapestCut]
     ensures ok { OnOk result (OnCheapestLine trie.now.state.tree unknown sign.now line.now (Writes W.contents writer.old writer.new)) }
 
     //= One that fails with `Write` wrote a beginning of that, and not all; with `Memory` it wrote nothing. [with memory]

@@ -11,7 +11,10 @@ use Rattle.cedar_model.specs.Edit.Steps.{MakesBlocks}
 use Rattle.cedar_model.specs.Meaning.Family.{base_of, below}
 use Rattle.cedar_model.specs.Meaning.StandsFor.{labels}
 use Rattle.cedar_model.specs.Meaning.WellFormed.{cells_in}
+use Rattle.cedar_model.specs.Table.Cells.{Held}
 use Rattle.cedar_model.specs.Table.TableFields.{Fields, SameSettings, size_of}
+use Rattle.cedar_bulk.specs.Packed.{PacksTail}
+use Rattle.cedar_model.specs.Edit.Packing.{TakesOne}
 use Rattle.cedar_bulk.specs.Sorted.{Fills, label_of}
 use Rattle.cedar_bulk.specs.SortedMarks.{KeepsOwn}
 use Rattle.cedar_bulk.specs.Spans.{entries_behind, entry_bytes, Filling, IsTreeOfSpan, Part, work}
@@ -20,6 +23,7 @@ use Rattle.cedar_model.proofs.UpdateLemmas.BlocksMade.{made_nothing, made_then}
 use Rattle.cedar_model.proofs.UpdateLemmas.Frame.{settings_then}
 use Rattle.cedar_bulk.proofs.BulkLemmas.NodeByNode.{filling_on, filling_refused, Next, next_span}
 use Rattle.cedar_bulk.proofs.BulkLemmas.OnePair.{covers_same, ends_here, goes_on}
+use Rattle.cedar_bulk.proofs.BulkLemmas.PackedBlocks.{packs_one}
 use Rattle.cedar_bulk.proofs.BulkLemmas.Pending.{work_join}
 
 pub single : {X : Type 0} (xs : List X) (p : X) → length xs ≡ 1 → xs ≡ get_or xs 0 p ∷ []
@@ -34,6 +38,7 @@ deep s a d = record { node = a; depth = d; entries = s.entries }
 -- what waited for the span s waits for the node a, d bytes deep
 pub record OnTail (slots : ℕ) (T T' : Fields) (s : Part) (a d : ℕ) : Type 0 where
   pub filling : (ps : List Part) (g : Forest) (most : ℕ) → Filling slots T (ps ++ s ∷ []) g most → Filling slots T' (ps ++ deep s a d ∷ []) g most
+  pub packs : PacksTail slots T T' s
   pub blocks : (n : ℕ) × MakesBlocks n T T'
   pub root_check : (cells_in T').check 0 ≡ (cells_in T).check 0
   pub settings : SameSettings T T'
@@ -41,6 +46,7 @@ pub record OnTail (slots : ℕ) (T T' : Fields) (s : Part) (a d : ℕ) : Type 0 
 pub tail_begins : (slots : ℕ) (T : Fields) (s : Part) → OnTail slots T T s s.node s.depth
 tail_begins slots T s = record {
   filling = λ ps g most h. h;
+  packs = λ ps g most spare h p. p;
   blocks = (0, made_nothing T T refl);
   root_check = refl;
   settings = record { ordered = refl; entries = refl; max_trial = refl };
@@ -64,10 +70,14 @@ module _ (slots : ℕ) (T T' : Fields) (s : Part) (a d : ℕ) (e : Entry) (one :
       let all : 256 * T'.places.blocks.active ≡ slots = omega (arith, nothing, made.active, may) in
       inr (refl, λ ps g most h. filling_refused slots T' ps (deep s a d) g most (k.filling ps g most h) all)
 
+  -- no more slots are free than before, besides those of a block that was made where none was
+  pub tail_packs : (T'' : Fields) (n : ℕ) → ((x : ℕ) → Held (cells_in T') x → Held (cells_in T'') x) → n ≤ 1 → MakesBlocks n T' T'' → TakesOne T' T'' → PacksTail slots T T'' s
+  tail_packs T'' n keeps few made takes = λ ps g most spare h p. packs_one slots T' (ps ++ deep s a d ∷ []) g most (k.filling ps g most h) T'' n keeps few made spare takes (k.packs ps g most spare h p)
+
   -- one node more
   pub tail_goes_on : (T'' : Fields) (slot n : ℕ) → d < length e.0 → IsTable slots T''.places → Fills (size_of T') (size_of T'') (cells_in T') (cells_in T'') a None (label_of d e ∷ []) → slot ≡ below (cells_in T'') a (label_of d e)
-      → n ≤ 1 → MakesBlocks n T' T'' → T''.layout ≡ T'.layout → (cells_in T'').check 0 ≡ (cells_in T').check 0 → SameSettings T' T'' → OnTail slots T T'' s slot (d + 1)
-  tail_goes_on T'' slot n long table fills is few made layout check settings = record {
+      → n ≤ 1 → MakesBlocks n T' T'' → TakesOne T' T'' → T''.layout ≡ T'.layout → (cells_in T'').check 0 ≡ (cells_in T').check 0 → SameSettings T' T'' → OnTail slots T T'' s slot (d + 1)
+  tail_goes_on T'' slot n long table fills is few made takes layout check settings = record {
     filling = λ ps g most h.
         (filling_on slots T' T'' ps (deep s a d) (ps ++ deep s slot (d + 1) ∷ []) g most n table (k.filling ps g most h)
         (λ t tree.
@@ -82,6 +92,7 @@ module _ (slots : ℕ) (T T' : Fields) (s : Part) (a d : ℕ) (e : Entry) (one :
         (λ t tree.
         let o = goes_on d e [] t (tree_of_one tree) long (inl refl) in
         λ reduced v some short. let both : None ≡ Some v = sym o.number ∙ some in absurd cc)).0;
+    packs = tail_packs T'' n fills.keeps few made takes;
     blocks = (k.blocks.0 + n, made_then k.blocks.0 n T T' T'' k.blocks.1 made);
     root_check = check ∙ k.root_check;
     settings = settings_then T T' T'' k.settings settings;

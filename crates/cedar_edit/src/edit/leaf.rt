@@ -110,6 +110,8 @@ pub(crate) fn add_only<L: Layout, const SLOTS: usize, A: Allocator>(
     ensures added { AddsLabel (size_of (fields table.old)) (fields table.old).ordered (cells table.old) (cells table.new) node label }
     ensures tree { AddsLeaf (size_of (fields table.old)) (fields table.old).ordered (cells table.old) (fields table.new) node label }
     ensures leaf { (w : List ℕ) → IsAt (cells table.old) w node → IsAt (cells table.new) (w ++ label ∷ []) child }
+    ensures keeps { (x : ℕ) → Held (cells table.old) x → Held (cells table.new) x }
+    ensures taken { Held (cells table.new) child }
     ensures root_check { (cells table.new).check 0 ≡ (cells table.old).check 0 }
     ensures frame { SameFrame (fields table.old) (fields table.new) }
 {

@@ -1,6 +1,6 @@
 //! A node's number set, and dropped.
 
-ghost use Rattle.std.specs.Prelude.{◌<◌, ◌≡◌, ◌⊎◌, None, pos, Some};
+ghost use Rattle.std.specs.Prelude.{◌<◌, ◌≡◌, ◌⊎◌, None, pos, Some, ℕ};
 ghost use Rattle.cedar_edit.specs.Words.{below, cells, cells_besides, DropsNumber, EditsNode, fields, Forest, HasNode, Held, InRange, IsNodeOf, IsTable, OwnsNothing, SameFrame, SetsNumber, size_of};
 
 use cedar_model::Layout;
@@ -61,6 +61,8 @@ pub(crate) fn set_only<L: Layout, const SLOTS: usize, A: Allocator>(
     ensures sound { IsTable SLOTS (fields table.new).places }
     ensures set { SetsNumber (size_of (fields table.old)) (cells table.old) (cells table.new) node value }
     ensures tree { EditsNode (size_of (fields table.old)) (cells table.old) (fields table.new) node (λ _. Some value) (λ u. u) }
+    ensures keeps { (x : ℕ) → Held (cells table.old) x → Held (cells table.new) x }
+    ensures taken { Held (cells table.new) slot }
     ensures root_check { (cells table.new).check 0 ≡ (cells table.old).check 0 }
     ensures frame { SameFrame (fields table.old) (fields table.new) }
 {

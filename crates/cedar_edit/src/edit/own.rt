@@ -1,7 +1,7 @@
 //! Numbers in the base fields of their own nodes: in a layout that keeps them there, the number of each node that owns no slot.
 
 ghost use Rattle.std.specs.Prelude.{◌<◌, ◌↔◌, ◌≡◌, ◌≢◌, is_some, IsTrue, List, None, OnOk, pos, ℕ};
-ghost use Rattle.cedar_edit.specs.Words.{AtBase, base_of, below, cells, EditsNode, fields, FieldSet, Forest, HasNode, IsAt, IsTable, KeepsOtherMarks, MayMakeBlock, node_at, OwnNumber, OwnsNothing, reduced_layout, root_of, SameFrame, size_of, TableHolds};
+ghost use Rattle.cedar_edit.specs.Words.{AtBase, base_of, below, cells, EditsNode, fields, FieldSet, Forest, HasNode, IsAt, IsTable, KeepsOtherMarks, MakesIfFull, MayMakeBlock, node_at, OwnNumber, OwnsNothing, reduced_layout, root_of, SameFrame, size_of, TableHolds};
 
 use crate::edit::number::set_number;
 use cedar_model::{Layout, Stored};
@@ -72,6 +72,7 @@ pub(crate) fn move_number<L: Layout, const SLOTS: usize, A: Allocator>(
     ensures at { (w : List ℕ) (s : ℕ) → IsAt (cells table.old) w s → IsAt (cells table.new) w s }
     ensures others { OnOk result (KeepsOtherMarks (cells table.old) (cells table.new) node) }
     ensures moved { OnOk result ((cells table.new).check (below (cells table.new) node 0) ≡ pos node) }
+    ensures made { OnOk result (MakesIfFull (fields table.old) (fields table.new)) }
     ensures step { MayMakeBlock SLOTS (fields table.old) (fields table.new) result }
 {
     let slot = table.find_place()?;

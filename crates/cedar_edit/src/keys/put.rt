@@ -1,7 +1,7 @@
 //! A key's number put.
 
-ghost use Rattle.std.specs.Prelude.{◌<◌, ◌≡◌, ◌≢◌, ◌≤◌, [], drop, get_or, IfErr, IfOk, length, OnErr, OnOk, pos, take, true};
-ghost use Rattle.cedar_edit.specs.Words.{below, cells, fields, HasWay, is_value, IsKey, IsWellFormed, KeepsMarks, marks, NewMark, PutsInMarks, PutsKey, PutsMarks, TakenBack, TakesNewNode, Walked};
+ghost use Rattle.std.specs.Prelude.{◌+◌, ◌*◌, ◌<◌, ◌==◌, ◌≡◌, ◌≢◌, ◌≤◌, [], cond, drop, get_or, IfErr, IfOk, length, OnErr, OnOk, pos, take, true};
+ghost use Rattle.cedar_edit.specs.Words.{AtBase, below, cells, fields, HasWay, is_value, IsKey, IsWellFormed, joins, KeepsMarks, marks, NewMark, PutsInMarks, PutsKey, PutsMarks, size_of, StaysSmall, TakenBack, TakesNewNode, tree_of, Walked, WalksIn};
 
 use crate::keys::erase::trim;
 use crate::keys::step::{extend_leaf, follow_or_add, put_number};
@@ -51,6 +51,8 @@ fn add_rest<L: Layout, const SLOTS: usize, A: Allocator>(
     requires front { Walked SLOTS (fields table.old) (fields table.old) key.now (take known key.now) (drop known key.now) front }
     requires ends { (cells table.old).check (below (cells table.old) front (get_or key.now known 0)) ≢ pos front }
     ensures walked { IfOk result (Walked SLOTS (fields table.old) (fields table.new) key.now key.now []) }
+    ensures leaf { IfOk result (λ node. ((cells table.new).stored node ≡ AtBase 0) × (node ≢ 0)) }
+    ensures packs { OnOk result (StaysSmall (size_of (fields table.old) + 256 * cond (known == 0) 0 1) (fields table.new)) }
     ensures refused { IfErr result (TakenBack SLOTS (fields table.old) (fields table.new) key.now) }
 {
     let mut node = match follow_or_add(table, front, key[known]) {
@@ -83,6 +85,7 @@ fn walk_in<L: Layout, const SLOTS: usize, A: Allocator>(
     requires key { IsKey key.now }
     requires way { HasWay (cells table.old) 0 key.now }
     ensures walked { IfOk result (Walked SLOTS (fields table.old) (fields table.new) key.now key.now []) }
+    ensures packs { IfOk result (WalksIn (fields table.old) (fields table.new) key.now) }
     ensures refused { IfErr result (TakenBack SLOTS (fields table.old) (fields table.new) key.now) }
 {
     let (front, length) = known_front(table, key);
@@ -104,6 +107,7 @@ fn put_along<L: Layout, const SLOTS: usize, A: Allocator>(
     requires value { is_value value ≡ true }
     requires way { HasWay (cells table.old) 0 key.now }
     ensures puts { PutsKey SLOTS (fields table.old) (fields table.new) key.now value result }
+    ensures small { OnOk result (StaysSmall (size_of (fields table.old) + 256 * joins (tree_of (fields table.old)) key.now) (fields table.new)) }
     ensures marks { KeepsMarks (cells table.old) (cells table.new) }
     ensures new_mark { OnOk result (NewMark (fields table.old) (fields table.new) key.now) }
     ensures lacking { TakesNewNode (fields table.old) (fields table.new) key.now result }
@@ -145,6 +149,8 @@ pub fn update<L: Layout, const SLOTS: usize, A: Allocator>(
     //= Over a number it makes no block and doesn't fail. [by over]
     //= A new first byte alone makes a block, or fails, only in the default layout and only if no slot outside block 0 is free. [by
     //  one_byte]
+    //= One slot alone is taken wherever one is free outside block 0. So it makes at most one block if another key has its first byte, and
+    //  none otherwise; unless at most 255 slots outside block 0 are free then, or none was before. [by packs, PacksKey]
     //= The order and `max_trial` stay the same. [also erase.modes; by modes]
     ensures puts { PutsKey SLOTS (fields table.old) (fields table.new) key.now value result }
 

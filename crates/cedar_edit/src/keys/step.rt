@@ -1,7 +1,7 @@
 //! One step of an update: to the child under a label, which is added if there is none, or to the number.
 
-ghost use Rattle.std.specs.Prelude.{◌<◌, ◌≡◌, ◌≢◌, ◌⊎◌, IfOk, IsTrue, OnOk, pos, Some, true, ℤ};
-ghost use Rattle.cedar_edit.specs.Words.{AtBase, base_of, below, cells, EditsNode, fields, Forest, HasNode, Held, is_value, IsTable, LacksNumberSlot, MayMakeBlock, OwnNumber, OwnsNothing, Placed, PutsInBase, PutsInSlot, PutsMark, size_of, StepsTo, TableHolds, TakesFreeSlot, TakesNoBlock, WantsSlot};
+ghost use Rattle.std.specs.Prelude.{◌<◌, ◌≡◌, ◌≢◌, ◌⊎◌, IfOk, IsTrue, OnOk, pos, Some, true, ℕ, ℤ};
+ghost use Rattle.cedar_edit.specs.Words.{AtBase, base_of, below, cells, EditsNode, fields, Forest, HasNode, Held, is_value, IsTable, LacksNumberSlot, MayMakeBlock, OwnNumber, OwnsNothing, Placed, PutsInBase, PutsInSlot, PutsMark, size_of, StepsTo, TableHolds, TakesFreeSlot, TakesNoBlock, TakesSingle, WantsSlot};
 
 use crate::edit::leaf::{add_label, add_only, add_reserved};
 use crate::edit::number::{set_number, set_only, set_reserved};
@@ -32,6 +32,7 @@ fn first_base<L: Layout, const SLOTS: usize, A: Allocator>(
     ensures tree { (f : Forest) → TableHolds (fields table.old) f → TableHolds (fields table.new) f }
     ensures step { MayMakeBlock SLOTS (fields table.old) (fields table.new) result }
     ensures made { TakesFreeSlot (fields table.old) (fields table.new) result }
+    ensures keeps { OnOk result ((x : ℕ) → Held (cells table.old) x → Held (cells table.new) x) }
 {
     let slot = table.find_place()?;
     table.set_base(node, slot ^ usize::from(label));
@@ -56,6 +57,7 @@ pub(crate) fn extend_leaf<L: Layout, const SLOTS: usize, A: Allocator>(
     ensures stepped { IfOk result (StepsTo (fields table.old) (fields table.new) node label) }
     ensures step { MayMakeBlock SLOTS (fields table.old) (fields table.new) result }
     ensures absent { (cells table.old).check (below (cells table.old) node label) ≢ pos node }
+    ensures single { OnOk result (TakesSingle (fields table.old) (fields table.new)) }
 {
     let slot = first_base(table, node, label)?;
     add_only(table, node, slot, label);
@@ -79,6 +81,7 @@ fn number_leaf<L: Layout, const SLOTS: usize, A: Allocator>(
     ensures step { MayMakeBlock SLOTS (fields table.old) (fields table.new) result }
     ensures absent { (cells table.old).check (below (cells table.old) node 0) ≢ pos node }
     ensures made { TakesFreeSlot (fields table.old) (fields table.new) result }
+    ensures single { OnOk result (TakesSingle (fields table.old) (fields table.new)) }
 {
     let slot = first_base(table, node, 0)?;
     set_only(table, node, slot, value);
@@ -213,6 +216,7 @@ fn put_in_slot<L: Layout, const SLOTS: usize, A: Allocator>(
     ensures step { MayMakeBlock SLOTS (fields table.old) (fields table.new) result }
     ensures owned { (cells table.old).check (below (cells table.old) node 0) ≡ pos node → TakesNoBlock (fields table.old) (fields table.new) result }
     ensures leaf { (cells table.old).stored node ≡ AtBase 0 → TakesFreeSlot (fields table.old) (fields table.new) result }
+    ensures single { OnOk result ((cells table.old).stored node ≡ AtBase 0 → TakesSingle (fields table.old) (fields table.new)) }
 {
     if is_new_leaf(table, node) {
         return number_leaf(table, node, value);
@@ -255,6 +259,10 @@ pub(crate) fn put_number<L: Layout, const SLOTS: usize, A: Allocator>(
     ensures owned { (cells table.old).check (below (cells table.old) node 0) ≡ pos node → TakesNoBlock (fields table.old) (fields table.new) result }
     ensures own { (v : ℤ) → (cells table.old).stored node ≡ OwnNumber v → TakesNoBlock (fields table.old) (fields table.new) result }
     ensures leaf { (cells table.old).stored node ≡ AtBase 0 → TakesNoBlock (fields table.old) (fields table.new) result ⊎ LacksNumberSlot (fields table.old) }
+
+    //= A number that a leaf without base gets takes one slot at most, for which a block is made only if no slot outside block 0 is free.
+    //  [by TakesSingle]
+    ensures single { OnOk result ((cells table.old).stored node ≡ AtBase 0 → TakesSingle (fields table.old) (fields table.new)) }
 {
     if keeps_own(table, node) {
         table.set_own_number(node, value);

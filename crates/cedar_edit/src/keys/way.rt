@@ -2,7 +2,7 @@
 //! label is refused.
 
 ghost use Rattle.std.specs.Prelude.{◌<◌, ◌≡◌, IfErr, IfOk, is_some, length, List, MatchOption, None, OnErr, OnOk, pos, Some, take, true, ℕ};
-ghost use Rattle.cedar_edit.specs.Words.{below, cells, fields, Forest, HasNode, HasWay, IsAt, IsInWay, IsKey, IsOwnAt, IsWellFormed, KeepsMarks, KeepsOtherMarks, LacksLoneNumber, MakesAtMost, MayRefuse, MovesIn, MovesPrefixOut, number_at, OwnsNumberAlone, reduced_layout, SameFrame, SameModes, size_of, tree_of};
+ghost use Rattle.cedar_edit.specs.Words.{below, cells, fields, Forest, HasNode, HasWay, IsAt, IsInWay, IsKey, IsOwnAt, IsWellFormed, KeepsMarks, KeepsOtherMarks, LacksLoneNumber, MakesAtMost, MakesIfFull, MayRefuse, MovesIn, MovesPrefixOut, number_at, OwnsNumberAlone, reduced_layout, SameFrame, SameModes, size_of, tree_of};
 
 use crate::edit::number::drop_number;
 use crate::edit::own::move_number;
@@ -50,6 +50,7 @@ fn move_out<L: Layout, const SLOTS: usize, A: Allocator>(
     ensures stays { OnErr result (KeepsMarks (cells table.old) (cells table.new)) }
     ensures refused { IfErr result (λ error. MayRefuse (fields table.new).places SLOTS error) }
     ensures blocks { MakesAtMost 1 (fields table.old) (fields table.new) result }
+    ensures made { OnOk result (MakesIfFull (fields table.old) (fields table.new)) }
     ensures modes { SameModes (fields table.old) (fields table.new) }
 {
     let Some(node) = table.node_of(key) else {
@@ -116,6 +117,7 @@ pub(crate) fn make_way<L: Layout, const SLOTS: usize, A: Allocator>(
     ensures one_byte { length key.now ≡ 1 → IfOk result (λ moved. moved ≡ None) × OnErr result ⊥ }
     ensures refused { IfErr result (λ error. MayRefuse (fields table.new).places SLOTS error) }
     ensures blocks { MakesAtMost 1 (fields table.old) (fields table.new) result }
+    ensures made { OnOk result (MakesIfFull (fields table.old) (fields table.new)) }
     ensures modes { SameModes (fields table.old) (fields table.new) }
 {
     if !L::keeps_numbers() {

@@ -4,6 +4,7 @@ mod load;
 mod paths;
 mod replace;
 mod save;
+mod unplaced;
 
 pub mod v1 {
     //! Version 1 of the file format, minor 0 and 1: its numbers, headers and fields.

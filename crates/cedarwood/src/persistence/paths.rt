@@ -1,37 +1,42 @@
 //! Files by their paths, through a buffer.
 
-ghost use Rattle.cedarwood.specs.Words.{default_load_limit, FailsToSave, IfErr, IfOk, IsLimit, IsTableFile, IsWellFormed, LacksByPath, layout_byte, length, OnOk, PassesAgain, table_bytes};
+ghost use Rattle.cedarwood.specs.Words.{default_load_limit, FailsToWrite, IfErr, IfOk, IsLimit, IsTableFile, IsWellFormed, LacksByPath, layout_byte, LoadsOpened, OnOk, PassesAgain, table_bytes};
 
-use crate::persistence::replace::no_buffer;
+use crate::persistence::replace::no_room;
 use crate::{CedarPersistenceError, DEFAULT_LOAD_MEMORY_LIMIT, Layout, Trie, Watched};
 use cedar_format::{FULL_MINOR, MINOR};
 use std::alloc::Allocator;
 use std::fs::File;
-use std::io::BufReader;
+use std::io::{BufReader, Read};
 use std::rt::Files;
 
 impl<L: Layout, const SLOTS: usize, A: Allocator + Copy> Trie<L, SLOTS, A> {
-    /// Writes the dictionary's file as `save_to_writer` does, and replaces the one at `path` by it. It is written to a file beside that,
-    /// `path` with `.new` after it, through a buffer of 8192 bytes, flushed and synced to the disk, and then renamed. So after an error the
-    /// old file is as it was, and the new one is removed if that is possible; a file that had that name before is lost. Name and buffer are
-    /// allocated from the dictionary's own allocator.
+    /// Writes the dictionary's file as `save_to_writer` does, and replaces the one at `path` by it. A new file is made beside that one: `path`
+    /// with `.new` after it, or with `.1.new` to `.99.new` where a name is taken (of a name that would be too long the first bytes come
+    /// before that). It is written through a buffer of 8192 bytes, flushed, and given the old file's mode, and its owner where the system
+    /// allows that. Once it is on the disk it is renamed, and its folder is synced. The buffer comes from the dictionary's own allocator;
+    /// nothing else is allocated.
+    ///
+    /// So whatever crash comes, the file at `path` is the old one or the new one, whole; after `Ok` it is the new one. If several programs
+    /// save to one path, it is the file of one of them. After an error the old file is as it was, and the new one is removed if that is
+    /// possible; but if only its folder couldn't be synced, the new one stays in its place. A new file that a crash has left stays too.
     ///
     /// If `path` leads to something other than a file, such as a pipe or a device, that is written to as it is. A link is replaced by the
-    /// file.
+    /// file, which has the mode of what the link leads to.
     ///
     /// ```
     /// cedar.save_to_path(files, "words.cedar")?;
     /// ```
     ///
     /// # Errors
-    /// `Io` if a call on a file failed; `AllocationFailed` with the length of the new name, which is allocated first, or with 8192 if there
-    /// is no memory for the buffer, which is allocated once the file is made.
+    /// `Io` if a call on a file failed, if the new one's path would have more than 4095 bytes, or if all its hundred names are taken;
+    /// `AllocationFailed` with 8192 if there is no memory for the buffer, which is allocated once the new file is made.
     pub fn save_to_path<F: Files>(&self, files: &F, path: &str) -> Result<(), CedarPersistenceError>
-        //= A save to a path fails with `Io`, with `AllocationFailed` of the 8192 bytes of its buffer, or with that of the new file's name,
-        //  four bytes longer than the path. [also save_v1_0_to_path]
-        ensures err { IfErr result (FailsToSave (length path.now)) }
+        //= A save to a path fails only with `Io`, or with `AllocationFailed` of the 8192 bytes of its buffer. [also save_v1_0_to_path; by
+        //  FailsToWrite]
+        ensures err { IfErr result FailsToWrite }
 
-        // What a device has kept of the bytes no clause can say.
+        // What the system's calls do no clause can say. Those that are made are noted: `save_in_place` says which.
         ensures file { OnOk result (IsTableFile 1 SLOTS self.now.table (table_bytes 1 self.now.table)) }
         ensures passes { OnOk result (PassesAgain L.kind SLOTS 1 self.now.table) }
     {
@@ -51,7 +56,7 @@ impl<L: Layout, const SLOTS: usize, A: Allocator + Copy> Trie<L, SLOTS, A> {
         files: &F,
         path: &str,
     ) -> Result<(), CedarPersistenceError>
-        ensures err { IfErr result (FailsToSave (length path.now)) }
+        ensures err { IfErr result FailsToWrite }
         ensures file { OnOk result (IsTableFile 0 SLOTS self.now.table (table_bytes 0 self.now.table)) }
         ensures passes { OnOk result (PassesAgain L.kind SLOTS 0 self.now.table) }
     {
@@ -85,7 +90,25 @@ impl<L: Layout, const SLOTS: usize, A: Allocator + Copy> Trie<L, SLOTS, A> {
         ensures lacks { IfErr result (LacksByPath (layout_byte L.kind) SLOTS memory_limit) }
     {
         let file = File::open(files, path)?;
-        let buffered = BufReader::new(alloc, file).map_err(no_buffer)?;
+        Self::load_opened(alloc, file, memory_limit)
+    }
+
+    /// Loads the dictionary that was saved in a file that is open.
+    fn load_opened<R: Read + Drop>(
+        alloc: A,
+        file: R,
+        memory_limit: usize,
+    ) -> Result<Self, CedarPersistenceError>
+        requires limit { IsLimit SLOTS }
+
+        //= A load by path does with the file that it has opened, from its first byte on, what a load from a reader promises: a table comes
+        //  only with just the file's bytes, as far as they are known, and these decide the answer; or there was no memory for the buffer.
+        //  No contract of the system's files says which bytes these are. [by LoadsOpened]
+        ensures loads { LoadsOpened (λ trie. trie.table) L.kind SLOTS memory_limit (R.remaining file) result }
+    {
+        let Ok(buffered) = BufReader::new(alloc, file) else {
+            return Err(no_room());
+        };
         let mut reader = Watched::new(buffered);
         Self::load_from_reader_with_limit(alloc, &mut reader, memory_limit)
     }

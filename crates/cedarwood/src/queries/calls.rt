@@ -1,6 +1,6 @@
 //! The iterations of a dictionary: the prefix walk and the prediction, as iterators and collected, and all entries.
 
-ghost use Rattle.std.specs.Prelude.{◌≡◌, IfErr, IfOk, length};
+ghost use Rattle.std.specs.Prelude.{◌≡◌, IfErr, IfOk, IsOk, length};
 ghost use Rattle.cedarwood.specs.Words.{front, IsBlankOf, predict, walk};
 
 use crate::queries::counted::CountedPrefixIter;
@@ -185,7 +185,8 @@ impl<L: Layout, const SLOTS: usize, A: Allocator + Copy> Trie<L, SLOTS, A> {
         self.common_prefix_predict_bytes(query.as_bytes())
     }
 
-    /// All keys with their values, in iteration order. Each key is copied for its item, into memory of the dictionary's own allocator.
+    /// All keys with their values, in iteration order. Each key is copied for its item, into memory of the dictionary's own allocator. The
+    /// call itself can't be refused; only an item can.
     ///
     /// ```
     /// cedar.build(&[("net", 7), ("ten", 2)])?;
@@ -195,12 +196,15 @@ impl<L: Layout, const SLOTS: usize, A: Allocator + Copy> Trie<L, SLOTS, A> {
     /// ```
     ///
     /// # Errors
-    /// `Memory` if an allocation was refused.
+    /// None: it is always `Ok`.
     pub fn entries(&self) -> Result<Entries<'_, Self, A>, CedarError>
-        //= `entries` gives the walk of the tree, an item a call. Call and items may fail only with `Memory`, and a failed item is the last
-        //  one. [with refused; also Entries.next_gives]
+        //= `entries` gives the walk of the tree, an item a call. Items may fail only with `Memory`, and a failed one is the last. [with
+        //  refused; also Entries.next_gives]
         ensures entries { IfOk result (λ entries. entries ≡ walk self.now.state.tree) }
         ensures refused { IfErr result (λ e. e ≡ CedarError.Memory) }
+
+        //= The calls `entries` and `entries_str` themselves aren't refused. [also entries_str]
+        ensures made { IsOk result }
     {
         Ok(Entries::new(self, self.table.allocator(), self.table.entries()))
     }
@@ -215,14 +219,14 @@ impl<L: Layout, const SLOTS: usize, A: Allocator + Copy> Trie<L, SLOTS, A> {
     /// ```
     ///
     /// # Errors
-    /// `Memory` if an allocation was refused.
+    /// None: it is always `Ok`.
     pub fn entries_str(&self) -> Result<Utf8Entries<'_, Self, A>, CedarError>
         //= `entries_str` gives the same as text. A key that isn't UTF-8 gives an error instead of its item, and the iteration goes on after
-        //  it. [also Utf8Entries.next_gives]
+        //  it. [with refused; also Utf8Entries.next_gives]
         ensures entries { IfOk result (λ entries. entries ≡ walk self.now.state.tree) }
 
-        //= `entries_str` fails only with `Memory`.
         ensures refused { IfErr result (λ e. e ≡ CedarError.Memory) }
+        ensures made { IsOk result }
     {
         Ok(Utf8Entries::new(self.entries()?))
     }

@@ -1,7 +1,7 @@
 //! A cursor over the entries of a range, which lends their keys.
 
-ghost use Rattle.std.specs.Prelude.{◌<◌, ◌∷◌, ◌≡◌, [], IfErr, IfOk, length, List, MatchOption, option_map, Some, ℕ};
-ghost use Rattle.cedarwood.specs.Words.{Cursor, cursor_code, cursor_left, FindsNext, IsAtEnd, IsCursorEnd, IsCursorPlace, IsRangePlace, IsShortOf, IsWellFormed, place_before, WritesNextKey};
+ghost use Rattle.std.specs.Prelude.{◌<◌, ◌∷◌, ◌≡◌, ◌≤◌, [], IfErr, IfOk, length, List, MatchOption, OnErr, option_map, Some, vec_capacity, ℕ};
+ghost use Rattle.cedarwood.specs.Words.{Cursor, cursor_code, cursor_entries, cursor_left, FindsNext, IsAtEnd, IsCursorEnd, IsCursorPlace, IsRangePlace, IsShortOf, IsWellFormed, KeyOutgrows, place_before, WritesNextKey};
 
 use crate::CedarError;
 use crate::queries::ranged::{RangeEntries, ends_at, write_key};
@@ -22,9 +22,10 @@ pub(crate) enum CursorPlace {
 }
 
 /// The entries of a range one after another, each with its key lent from a buffer of the cursor's. From one key to the next only the bytes
-/// in which they differ are written: so an entry costs less than by [`RangeEntries::next_into`].
+/// in which they differ are written: so an entry costs less than by [`RangeEntries::next_into`]. The buffer is the only memory that it
+/// allocates.
 ///
-/// A contract sees the key that it holds, and the entries that are left.
+/// A contract sees the key that it holds, the entries that are left, and the buffer's capacity (`room`).
 #[derive(Drop)]
 pub struct EntryCursor<'a, T: Walked, A: Allocator> {
     trie: &'a T,
@@ -45,6 +46,7 @@ impl<'a, T: Walked, A: Allocator> Model for EntryCursor<'a, T, A> {
     ghost view = { λ it. record {
       key = it.key.items;
       left = cursor_left (T.shown it.trie.now) it.start.now (option_map (λ to. to.now) it.to) it.place;
+      room = vec_capacity it.key;
     } };
 
     ghost invariant = { λ it. IsWellFormed T.slots (T.shown it.trie.now) × IsCursorPlace (T.shown it.trie.now) it.start.now it.key.items it.place
@@ -71,7 +73,9 @@ fn next_written<T: Walked, A: Allocator>(
 ) -> Result<Option<Numbered>, AllocError>
     requires well_formed { IsWellFormed T.slots (T.shown trie.now) }
     requires place { IsCursorPlace (T.shown trie.now) start.now key.old.items place }
-    ensures { IfOk result (WritesNextKey (T.shown trie.now) start.now place key.new.items) }
+    ensures written { IfOk result (WritesNextKey (T.shown trie.now) start.now place key.new.items) }
+    ensures full { OnErr result (KeyOutgrows (vec_capacity key.old) (cursor_entries (T.shown trie.now) start.now place)) }
+    ensures capacity { vec_capacity key.old ≤ vec_capacity key.new }
 {
     match place {
         CursorPlace::At { slot, depth } => trie.next_with_key(slot, depth, key),
@@ -111,8 +115,9 @@ fn short_of(found: Option<Numbered>, end: Option<Numbered>) -> Option<Numbered>
 }
 
 impl<'a, T: Walked, A: Allocator> EntryCursor<'a, T, A> {
-    /// Goes to the next entry, and returns its value: None if no entry is left. Its key is [`EntryCursor::key`] until the next call. After
-    /// a refused allocation the cursor is where it was, and the call can be made again.
+    /// Goes to the next entry, and returns its value: None if no entry is left. Its key is [`EntryCursor::key`] until the next call. It
+    /// allocates only if the key is longer than the capacity of the cursor's buffer, which never falls: so after the longest key no further
+    /// call is refused. After a refused allocation the cursor is where it was, and the call can be made again.
     ///
     /// ```
     /// cedar.build(&[("ne", 1), ("net", 7)])?;
@@ -125,13 +130,18 @@ impl<'a, T: Walked, A: Allocator> EntryCursor<'a, T, A> {
     /// ```
     ///
     /// # Errors
-    /// `Memory` if an entry is left and an allocation was refused.
+    /// `Memory` if the next entry's key is longer than the capacity of the cursor's buffer, and an allocation was refused.
     #[inline]
     pub fn advance(&mut self) -> Result<Option<i32>, CedarError>
         //= A cursor over the entries of a range gives the next one each call, and then holds its key. If that fails with `Memory`, the
         //  cursor is where it was. [with refused]
         ensures found { IfOk result (λ found. MatchOption found ((self.old.left ≡ []) × (self.new.left ≡ [])) (λ value. self.old.left ≡ (self.new.key, value) ∷ self.new.left)) }
         ensures refused { IfErr result (λ e. (e ≡ CedarError.Memory) × (self.new.left ≡ self.old.left) × (0 < length self.old.left)) }
+
+        //= A cursor fails only if the next key is longer than the capacity of its own buffer, which never falls. [with room; by
+        //  KeyOutgrows]
+        ensures full { OnErr result (KeyOutgrows self.old.room self.old.left) }
+        ensures room { self.old.room ≤ self.new.room }
     {
         match next_written(self.trie, self.start, self.place, &mut self.key) {
             Ok(found) => match short_of(found, self.end) {
@@ -190,9 +200,11 @@ impl<'a, T: Walked, A: Allocator + Copy> RangeEntries<'a, T, A> {
     /// ```
     #[must_use]
     pub fn into_cursor(self) -> EntryCursor<'a, T, A>
-        //= `into_cursor` makes a cursor over the entries of a range that are left, which holds no key yet. [with key]
+        //= `into_cursor` makes a cursor over the entries of a range that are left, which holds no key yet, in a buffer without room. [with
+        //  key, room]
         ensures left { result.left ≡ self.entry }
         ensures key { result.key ≡ [] }
+        ensures room { result.room ≡ 0 }
     {
         EntryCursor {
             trie: self.trie,

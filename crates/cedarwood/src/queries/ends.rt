@@ -1,7 +1,7 @@
 //! The first entry and the last one.
 
-ghost use Rattle.std.specs.Prelude.{◌<◌, ◌≡◌, [], IfErr, IfOk, length, MatchOption, Some};
-ghost use Rattle.cedarwood.specs.Words.{first_entry, last_entry, walk};
+ghost use Rattle.std.specs.Prelude.{◌<◌, ◌≡◌, ◌≤◌, [], IfErr, IfOk, IfSome, length, MatchOption, OnErr, Some, vec_capacity};
+ghost use Rattle.cedarwood.specs.Words.{first_entry, KeyOutgrows, last_entry, walk};
 
 use crate::queries::ranged::write_key;
 use crate::{CedarError, Layout, Trie};
@@ -37,7 +37,8 @@ impl<L: Layout, const SLOTS: usize, A: Allocator + Copy> Trie<L, SLOTS, A> {
     }
 
     /// `first`, with its key written into a buffer instead of what that held. Returns the key's value, or None if the dictionary is empty.
-    /// After a refused allocation the buffer may hold anything.
+    /// It allocates only if the key is longer than the buffer's capacity, and never lowers that. After a refused allocation the buffer may
+    /// hold anything.
     ///
     /// ```
     /// cedar.build(&[("ten", 2), ("net", 7)])?;
@@ -47,10 +48,12 @@ impl<L: Layout, const SLOTS: usize, A: Allocator + Copy> Trie<L, SLOTS, A> {
     /// ```
     ///
     /// # Errors
-    /// `Memory` if there is an entry and an allocation was refused.
+    /// `Memory` if the key is longer than the buffer's capacity and an allocation was refused.
     pub fn first_into<B: Allocator>(&self, key: &mut Vec<u8, B>) -> Result<Option<i32>, CedarError>
         ensures found { IfOk result (λ found. MatchOption found (walk self.now.state.tree ≡ []) (λ value. first_entry self.now.state.tree ≡ Some (key.new.items, value))) }
         ensures refused { IfErr result (λ e. (e ≡ CedarError.Memory) × (0 < length (walk self.now.state.tree))) }
+        ensures full { OnErr result (KeyOutgrows (vec_capacity key.old) (walk self.now.state.tree)) }
+        ensures capacity { vec_capacity key.old ≤ vec_capacity key.new }
     {
         self.entries_with_prefix_bytes(&[]).next_into(key)
     }
@@ -81,7 +84,8 @@ impl<L: Layout, const SLOTS: usize, A: Allocator + Copy> Trie<L, SLOTS, A> {
     }
 
     /// `last`, with its key written into a buffer instead of what that held. Returns the key's value, or None if the dictionary is empty.
-    /// After a refused allocation the buffer may hold anything.
+    /// It allocates only if the key is longer than the buffer's capacity, and never lowers that. After a refused allocation the buffer may
+    /// hold anything.
     ///
     /// ```
     /// cedar.build(&[("ten", 2), ("net", 7)])?;
@@ -91,10 +95,12 @@ impl<L: Layout, const SLOTS: usize, A: Allocator + Copy> Trie<L, SLOTS, A> {
     /// ```
     ///
     /// # Errors
-    /// `Memory` if there is an entry and an allocation was refused.
+    /// `Memory` if the key is longer than the buffer's capacity and an allocation was refused.
     pub fn last_into<B: Allocator>(&self, key: &mut Vec<u8, B>) -> Result<Option<i32>, CedarError>
         ensures found { IfOk result (λ found. MatchOption found (walk self.now.state.tree ≡ []) (λ value. last_entry self.now.state.tree ≡ Some (key.new.items, value))) }
         ensures refused { IfErr result (λ e. (e ≡ CedarError.Memory) × (0 < length (walk self.now.state.tree))) }
+        ensures full { OnErr result (IfSome (last_entry self.now.state.tree) (λ entry. vec_capacity key.old < length entry.0)) }
+        ensures capacity { vec_capacity key.old ≤ vec_capacity key.new }
     {
         let Some(last) = last_numbered(&self.table) else {
             return Ok(None);

@@ -1,7 +1,7 @@
 //! The entries of a range of keys: those that begin with a prefix, those from a key on, and those between two keys.
 
-ghost use Rattle.std.specs.Prelude.{◌++◌, ◌<◌, ◌↔◌, ◌∷◌, ◌≡◌, [], false, IfErr, IfOk, IfSome, IsTrue, length, List, MatchOption, MatchResult, option_map, Some, true};
-ghost use Rattle.cedarwood.specs.Words.{bounded, entries_between, entries_since, entries_with, Entry, GivesBetween, GivesRange, is_lt, IsEnd, IsNumberedBelow, IsRangePlace, IsWellFormed, IsWithinCount, item_count, Memory, nat_cmp, Numbered, path_to, slice_cmp, tree_of, UpTo};
+ghost use Rattle.std.specs.Prelude.{◌++◌, ◌+◌, ◌<◌, ◌↔◌, ◌∷◌, ◌≡◌, ◌≤◌, [], false, IfErr, IfOk, IfSome, IsTrue, length, List, MatchOption, MatchResult, OnErr, option_map, Some, true, vec_capacity};
+ghost use Rattle.cedarwood.specs.Words.{bounded, entries_between, entries_since, entries_with, Entry, GivesBetween, GivesRange, is_lt, IsEnd, IsNumberedBelow, IsRangePlace, IsWellFormed, IsWithinCount, item_count, KeyOutgrows, Memory, nat_cmp, Numbered, path_to, slice_cmp, tree_of, UpTo};
 
 use crate::queries::walked::Walked;
 use crate::{CedarError, Layout, Trie};
@@ -37,9 +37,12 @@ impl<'a, T: Walked, A: Allocator + Copy> Model for RangeEntries<'a, T, A> {
         × IsEnd (T.shown it.trie.now) it.start.now (option_map (λ to. to.now) it.to) it.next it.end };
 }
 
-/// Gives a buffer a length. The bytes that it has stay, and only new ones are set to 0: all are written over.
+/// Gives a buffer a length. The bytes that it has stay, and only new ones are set to 0: all are written over. It allocates only if the
+/// length is above the capacity.
 fn set_len<A: Allocator>(buffer: &mut Vec<u8, A>, len: usize) -> Result<(), AllocError>
-    ensures { IfOk result (λ _. length buffer.new.items ≡ len) }
+    ensures long { IfOk result (λ _. length buffer.new.items ≡ len) }
+    ensures full { OnErr result (vec_capacity buffer.old < len) }
+    ensures capacity { vec_capacity buffer.old ≤ vec_capacity buffer.new }
 {
     if buffer.len() < len {
         buffer.resize(len, 0)?;
@@ -58,7 +61,9 @@ pub(crate) fn write_key<T: Walked, A: Allocator>(
 ) -> Result<(), AllocError>
     requires well_formed { IsWellFormed T.slots (T.shown trie.now) }
     requires below { IsNumberedBelow (T.shown trie.now) start.now depth slot }
-    ensures { IfOk result (λ _. key.new.items ≡ start.now ++ path_to (T.shown trie.now) depth slot) }
+    ensures written { IfOk result (λ _. key.new.items ≡ start.now ++ path_to (T.shown trie.now) depth slot) }
+    ensures full { OnErr result (vec_capacity key.old < length start.now + depth) }
+    ensures capacity { vec_capacity key.old ≤ vec_capacity key.new }
 {
     set_len(key, start.len() + depth)?;
     let bytes = key.as_mut_slice();
@@ -150,7 +155,8 @@ impl<'a, T: Walked, A: Allocator + Copy> RangeEntries<'a, T, A> {
     }
 
     /// Writes the next key into a buffer instead of what that held, and returns the key's value: None if no entry is left. So one buffer
-    /// serves for many keys. After a refused allocation the iteration is where it was, and the buffer may hold anything.
+    /// serves for many keys. It allocates only if the key is longer than the buffer's capacity, and never lowers that. After a refused
+    /// allocation the iteration is where it was, and the buffer may hold anything.
     ///
     /// ```
     /// cedar.build(&[("ne", 1), ("net", 7)])?;
@@ -165,7 +171,7 @@ impl<'a, T: Walked, A: Allocator + Copy> RangeEntries<'a, T, A> {
     /// ```
     ///
     /// # Errors
-    /// `Memory` if an allocation was refused.
+    /// `Memory` if the key is longer than the buffer's capacity and an allocation was refused.
     pub fn next_into<B: Allocator>(
         &mut self,
         key: &mut Vec<u8, B>,
@@ -173,6 +179,13 @@ impl<'a, T: Walked, A: Allocator + Copy> RangeEntries<'a, T, A> {
         //= An item's key can be written into a buffer instead. If that fails with `Memory`, the iteration is where it was. [with refused]
         ensures found { IfOk result (λ found. MatchOption found ((self.old ≡ []) × (self.new ≡ [])) (λ value. self.old ≡ (key.new.items, value) ∷ self.new)) }
         ensures refused { IfErr result (λ e. (e ≡ CedarError.Memory) × (self.new ≡ self.old) × (0 < length self.old)) }
+
+        //= A call that writes a key into a caller's buffer fails only if that key is longer than the buffer's capacity: so a buffer that
+        //  has room for it is enough. [also first_into, last_into; by KeyOutgrows]
+        ensures full { OnErr result (KeyOutgrows (vec_capacity key.old) self.old) }
+
+        //= Such a call doesn't lower the buffer's capacity. [also first_into, last_into]
+        ensures capacity { vec_capacity key.old ≤ vec_capacity key.new }
     {
         let Some(next) = self.next else {
             return Ok(None);
@@ -226,9 +239,9 @@ impl<'a, T: Walked, A: Allocator + Copy> Iterator for RangeEntries<'a, T, A> {
 impl<'a, T: Walked, A: Allocator + Copy> FusedIterator for RangeEntries<'a, T, A> {}
 
 impl<L: Layout, const SLOTS: usize, A: Allocator + Copy> Trie<L, SLOTS, A> {
-    /// The entries at keys that begin with a prefix, each key before its extensions and in iteration order. It visits nothing outside the
-    /// prefix's node. Each key is written for its item, into memory of the dictionary's own allocator; [`RangeEntries::next_into`] writes
-    /// it into a buffer of the caller.
+    /// The entries at keys that begin with a prefix, each key before its extensions and in iteration order, and no others. Each key is
+    /// written for its item, into memory of the dictionary's own allocator; [`RangeEntries::next_into`] writes it into a buffer of the
+    /// caller.
     ///
     /// ```
     /// cedar.build(&[("net", 7), ("ten", 2)])?;
@@ -257,7 +270,7 @@ impl<L: Layout, const SLOTS: usize, A: Allocator + Copy> Trie<L, SLOTS, A> {
     }
 
     /// The entries at a key and at those after it by bytes, in ascending order; None if the dictionary's labels don't ascend. It looks the
-    /// key up once, and visits no entry before it. Keys are written as those of [`Trie::entries_with_prefix_bytes`].
+    /// key up once, and gives no entry before it. Keys are written as those of [`Trie::entries_with_prefix_bytes`].
     ///
     /// ```
     /// cedar.build(&[("net", 7), ("ten", 2)])?;
@@ -290,7 +303,7 @@ impl<L: Layout, const SLOTS: usize, A: Allocator + Copy> Trie<L, SLOTS, A> {
     }
 
     /// The entries at the keys from `from` on and before `to` by bytes, in ascending order; None if the dictionary's labels don't ascend.
-    /// It looks both keys up once, and visits no entry outside.
+    /// It looks both keys up once, and gives no entry before `from`, none at `to` and none after it.
     ///
     /// ```
     /// cedar.build(&[("net", 7), ("ten", 2)])?;

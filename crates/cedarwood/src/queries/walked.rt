@@ -1,7 +1,7 @@
 //! What walks that are under way read of a dictionary.
 
-ghost use Rattle.std.specs.Prelude.{◌*◌, ◌++◌, ◌+◌, ◌-◌, ◌<◌, ◌≡◌, ◌≤◌, [], IfOk, IfSome, length, List, MatchOption, take, true, ℕ};
-ghost use Rattle.cedarwood.specs.Words.{cells_in, ComesToFirst, entries_since, Fields, front_length, GoesToNode, GoesToNumber, IsBelow, IsNextFront, IsNumberedBelow, IsOnQuery, IsPending, IsWellFormed, KeyGoesOn, node_at, path_to, tree_of, walk};
+ghost use Rattle.std.specs.Prelude.{◌*◌, ◌++◌, ◌+◌, ◌-◌, ◌<◌, ◌≡◌, ◌≤◌, [], IfOk, IfSome, length, List, MatchOption, OnErr, take, true, vec_capacity, ℕ};
+ghost use Rattle.cedarwood.specs.Words.{cells_in, ComesToFirst, entries_since, Fields, front_length, GoesToNode, GoesToNumber, IsBelow, IsNextFront, IsNumberedBelow, IsOnQuery, IsPending, IsWellFormed, KeyGoesOn, NextKeyOutgrows, node_at, path_to, tree_of, walk};
 
 use crate::{Layout, Ticks, Trie};
 use cedar_walk::{
@@ -71,7 +71,8 @@ pub trait Walked {
         ensures kept { IfSome result (λ next. IsPending (shown self.now) siblings.new next.depth next.slot) };
 
     /// The next node with a number of a walk that has been at one, with a key that is kept in step: it ended in the path to the one node,
-    /// and ends in that to the other. If an allocation is refused, the key may hold anything.
+    /// and ends in that to the other. It allocates only if the buffer has no room for the next key. If that is refused, the key may hold
+    /// anything.
     fn next_with_key<B: Allocator>(
         &self,
         node: usize,
@@ -84,7 +85,12 @@ pub trait Walked {
 
         //= A walk whose key is kept in step gets the same node, and ends its key in that node's path. [with key]
         ensures found { IfOk result (GoesToNumber (shown self.now) depth node) }
-        ensures key { IfOk result (λ found. MatchOption found (key.new.items ≡ key.old.items) (KeyGoesOn (shown self.now) depth node key.old.items key.new.items)) };
+        ensures key { IfOk result (λ found. MatchOption found (key.new.items ≡ key.old.items) (KeyGoesOn (shown self.now) depth node key.old.items key.new.items)) }
+
+        //= It fails only if a node is left and its key is longer than the buffer's capacity, which never falls. [with capacity; by
+        //  NextKeyOutgrows]
+        ensures full { OnErr result (NextKeyOutgrows (shown self.now) depth node (length key.old.items) (vec_capacity key.old)) }
+        ensures capacity { vec_capacity key.old ≤ vec_capacity key.new };
 
     /// The next node of a walk.
     fn next_node(&self, node: usize, depth: usize) -> Option<Visited>

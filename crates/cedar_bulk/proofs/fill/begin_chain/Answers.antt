@@ -1,4 +1,7 @@
 use Rattle.std.proofs.Common.{◌≢◌, arith, rules, subst, sym}
+use Rattle.std.specs.Prelude.{IfSome}
+use Rattle.cedar_model.specs.Meaning.Family.{below}
+use Rattle.cedar_model.specs.Table.Cells.{Held}
 use Rattle.cedar_bulk.specs.Sorted.{GetsNumber}
 use Rattle.cedar_table.specs.Table.Views.{cells, fields}
 use Rattle.cedar_model.specs.Table.TableFields.{size_of}
@@ -28,3 +31,13 @@ returns-in-None-2-clause-ends g c = λ l.
     let n = c.requires.node in
     first_ends (size_of (fields c.args.table.now)) (cells c.args.table.now) c.args.node l c.if-node-eq0.false
     (empty_node (size_of (fields c.args.table.now)) (cells c.args.table.now) n.0 n.1.path c.args.node n.1.holds n.1.at n.2)
+
+pub returns-in-Some-clause-taken : goal.returns-in-Some-clause-taken
+returns-in-Some-clause-taken g c =
+    subst (λ o. IfSome o (λ v. Held (cells c.take_number.new.table) (below (cells c.args.table.now) c.args.node 0))) (sym c.in-Some.is) c.take_number.ensures.taken
+
+pub returns-in-None-clause-taken : goal.returns-in-None-clause-taken
+returns-in-None-clause-taken g c = subst (λ o. IfSome o (λ v. Held (cells c.args.table.now) (below (cells c.args.table.now) c.args.node 0))) (sym c.in-None.is) tt
+
+pub returns-in-None-2-clause-taken : goal.returns-in-None-2-clause-taken
+returns-in-None-2-clause-taken g c = subst (λ o. IfSome o (λ v. Held (cells c.args.table.now) (below (cells c.args.table.now) c.args.node 0))) (sym c.in-None.is) tt

@@ -1,4 +1,4 @@
-use Rattle.std.proofs.Common.{◌≡◌, ◌∙◌, arith, FitsSigned, of_z, refl, rules, Some, sym, ap, subst, to_z, w32}
+use Rattle.std.proofs.Common.{◌≡◌, ◌∙◌, arith, FitsSigned, inl, of_z, refl, rules, Some, sym, ap, subst, to_z, w32}
 use Rattle.std.specs.Prelude.{IfSome, List, true, ℕ}
 use Rattle.std.proofs.lemmas.Int.{to_z-of_z}
 use Rattle.cedar_tree.specs.Tree.{Forest}
@@ -70,3 +70,6 @@ returns-clause-own g c = always_on_ok c.place_node.result (placed_own g.L.Layout
 
 pub returns-in-Some-clause-base : goal.returns-in-Some-clause-base
 returns-in-Some-clause-base g c = ap base_in (sym c.set_own_number.ensures.set.set)
+
+pub returns-in-Some-clause-alone : goal.returns-in-Some-clause-alone
+returns-in-Some-clause-alone g c = λ _. inl (framed_none (fields c.args.table.now) (fields c.set_own_number.new.self) c.set_own_number.ensures.frame)

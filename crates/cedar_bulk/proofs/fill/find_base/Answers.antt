@@ -1,11 +1,11 @@
-use Rattle.std.proofs.Common.{◌≤◌, ◌∙◌, ap, arith, inl, rules, subst, sym, refl}
+use Rattle.std.proofs.Common.{◌≤◌, ◌∙◌, ap, arith, inl, inr, rules, subst, sym, refl}
 use Rattle.cedar_model.specs.Table.Cells.{Held}
 use Rattle.cedar_model.specs.Meaning.Family.{base_in}
 use Rattle.cedar_bulk.specs.Sorted.{GetsBase}
 use Rattle.cedar_table.specs.Table.Views.{cells, fields}
 use Rattle.cedar_model.specs.Table.TableFields.{size_of}
 use Rattle.cedar_model.proofs.EditLemmas.AtPath.{held_node}
-use Rattle.cedar_model.proofs.UpdateLemmas.BlocksMade.{made_larger, refuses_still}
+use Rattle.cedar_model.proofs.UpdateLemmas.BlocksMade.{made_framed, made_larger, refuses_still}
 use Rattle.cedar_bulk.proofs.BulkLemmas.FilledNode.{node_based}
 use Rattle.cedar_model.proofs.EditLemmas.FirstBase.{held_still}
 use Rattle.cedar_model.proofs.RelocationLemmas.PlacesFirst.{among_small, base_placed}
@@ -44,3 +44,10 @@ returns-clause-root_check g c = c.set_base.ensures.rebased.check 0 ∙ (c.in_ok-
 
 pub returns-clause-base : goal.returns-clause-base
 returns-clause-base g c = ap base_in (sym c.set_base.ensures.rebased.set)
+
+pub returns-clause-alone : goal.returns-clause-alone
+returns-clause-alone g c = λ one.
+    elim (c.in_ok-base.ensures.single one) [
+      | inl none ↦ inl (made_framed 0 (fields c.args.table.now) (fields c.place_for.new.self) (fields c.set_base.new.self) none.1 c.set_base.ensures.frame)
+      | inr full ↦ inr full
+    ]

@@ -1,4 +1,4 @@
-use Rattle.std.proofs.Common.{◌≡◌, ap, arith, sym, refl}
+use Rattle.std.proofs.Common.{◌≡◌, ap, arith, inl, sym, refl}
 use Rattle.cedar_model.specs.Meaning.Family.{base_in}
 use Rattle.cedar_table.specs.Table.Views.{cells, fields}
 use Rattle.cedar_model.specs.Table.TableFields.{size_of}
@@ -26,3 +26,6 @@ pub returns-clause-blocks : goal.returns-clause-blocks
 returns-clause-blocks g c =
     let b = c.find_base.ensures.blocks in
     (b.0, b.1, b.2, λ z. absurd (c.if-node-eq0.false z), b.3)
+
+pub returns-then-node-eq0-clause-alone : goal.returns-then-node-eq0-clause-alone
+returns-then-node-eq0-clause-alone g c = λ _. inl (made_none (fields c.args.table.now) (fields c.args.table.now) (same_slots (places_of c.args.table.now.places)))

@@ -1,4 +1,4 @@
-use Rattle.std.proofs.Common.{◌≤◌, ◌∙◌, arith, rules, sym, ap, subst, None, [], ◌∷◌}
+use Rattle.std.proofs.Common.{◌≤◌, ◌∙◌, arith, inl, inr, refl, rules, sym, ap, subst, None, [], ◌∷◌}
 use Rattle.std.specs.Prelude.{bit_xor}
 use Rattle.cedar_model.specs.Meaning.Family.{base_in}
 use Rattle.cedar_bulk.specs.Sorted.{Fills}
@@ -8,6 +8,7 @@ use Rattle.cedar_model.proofs.EditLemmas.AtPath.{held_node}
 use Rattle.cedar_model.proofs.UpdateLemmas.BlocksMade.{made_framed, made_larger}
 use Rattle.cedar_bulk.proofs.BulkLemmas.BareNode.{empty_node}
 use Rattle.cedar_bulk.proofs.BulkLemmas.FilledNode.{filled, first_ends, no_number_got, still_bare, still_childless}
+use Rattle.cedar_bulk.proofs.BulkLemmas.PackedBlocks.{label_another}
 use Rattle.cedar_bulk.proofs.fill.name_alone.Goals as goal
 
 pub find_base-requires : goal.find_base-requires
@@ -51,3 +52,14 @@ pub returns-clause-blocks : goal.returns-clause-blocks
 returns-clause-blocks g c =
     let e = c.in_ok-base.ensures in
     (e.blocks.0, e.blocks.1, tt, made_framed e.blocks.0 (fields c.args.table.now) (fields c.find_base.new.table) (fields c.append_labels.new.table) e.blocks.3 c.append_labels.ensures.frame)
+
+pub returns-clause-alone : goal.returns-clause-alone
+returns-clause-alone g c =
+    let n = c.requires.bare.node in
+    let label = c.args.label in
+    let size = size_of (fields c.args.table.now) in
+    let size₂ = size_of (fields c.append_labels.new.table) in
+    elim (c.in_ok-base.ensures.alone refl) [
+      | inl none ↦ inl (made_framed 0 (fields c.args.table.now) (fields c.find_base.new.table) (fields c.append_labels.new.table) none c.append_labels.ensures.frame)
+      | inr full ↦ inr (full, label_another size size₂ (cells c.args.table.now) (cells c.append_labels.new.table) c.args.node None (label ∷ []) n.1.path label (returns-clause-fills g c) n.1.at (inl refl))
+    ]

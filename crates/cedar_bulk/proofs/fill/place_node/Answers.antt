@@ -1,4 +1,4 @@
-use Rattle.std.proofs.Common.{◌≡◌, ◌≢◌, ◌<◌, ◌≤◌, ◌∙◌, ℕ, arith, inl, rules, subst, sym, ap, refl, Some}
+use Rattle.std.proofs.Common.{◌≡◌, ◌≢◌, ◌<◌, ◌≤◌, ◌∙◌, ℕ, arith, inl, inr, length, rules, subst, sym, ap, refl, Some}
 use Rattle.std.specs.Prelude.{ℤ}
 use Rattle.cedar_model.specs.Table.Cells.{Held}
 use Rattle.cedar_model.specs.Meaning.Family.{Among, base_in, below, InRange}
@@ -8,6 +8,7 @@ use Rattle.cedar_model.specs.Table.TableFields.{size_of}
 use Rattle.cedar_model.proofs.EditLemmas.AtPath.{held_node}
 use Rattle.cedar_model.proofs.UpdateLemmas.BlocksMade.{made_framed, made_larger}
 use Rattle.cedar_bulk.proofs.BulkLemmas.FilledNode.{filled, labels_free, still_bare, still_childless, wanted_positive}
+use Rattle.cedar_bulk.proofs.BulkLemmas.PackedBlocks.{node_another}
 use Rattle.cedar_model.proofs.UpdateLemmas.Frame.{frame_then}
 use Rattle.cedar_bulk.proofs.fill.place_node.Goals as goal
 
@@ -87,3 +88,27 @@ returns-clause-base g c =
     let a = c.append_labels.ensures in
     let held = e.based.keeps c.args.node (held_node (cells c.args.table.now) n.1.path c.args.node n.1.at) in
     e.base ∙ ap base_in (sym (b.gets.stays c.args.node held)) ∙ ap base_in (sym (a.gets.stays c.args.node (b.gets.keeps c.args.node held)))
+
+pub returns-clause-alone : goal.returns-clause-alone
+returns-clause-alone g c = λ one.
+    let n = c.requires.node in
+    let e = c.in_ok-base.ensures in
+    let b = c.begin_chain-before.ensures in
+    let a = c.append_labels.ensures in
+    let T = cells c.args.table.now in
+    let T₁ = cells c.give_base.new.table in
+    let T₂ = cells c.begin_chain-before.new.table in
+    let T₃ = cells c.append_labels.new.table in
+    let size = size_of (fields c.args.table.now) in
+    let size₁ = size_of (fields c.give_base.new.table) in
+    let size₃ = size_of (fields c.append_labels.new.table) in
+    let some : 0 < length (slot_labels c.args.number c.args.labels.now) = subst (λ xs. 0 < length xs) c.requires.wanted c.requires.some in
+    elim (e.alone one) [
+      | inl none ↦ inl (made_framed 0 (fields c.args.table.now) (fields c.give_base.new.table) (fields c.append_labels.new.table) none
+          (frame_then (fields c.give_base.new.table) (fields c.begin_chain-before.new.table) (fields c.append_labels.new.table) b.frame a.frame))
+      | inr full ↦ inr (
+        full,
+        node_another size size₃ size₁ T T₁ T₂ T₃ c.args.node c.args.number c.args.labels.now n.1.path n.1.at some
+            (subst (GetsBase size size₁ T T₁ c.args.node) c.requires.wanted e.based) b.taken a.gets.keeps (returns-clause-fills g c),
+      )
+    ]

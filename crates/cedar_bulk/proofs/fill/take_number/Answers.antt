@@ -1,4 +1,4 @@
-use Rattle.std.proofs.Common.{◌≡◌, ◌<◌, ◌∙◌, arith, inl, rules, subst, sym, ap, refl, Some, w32, FitsSigned}
+use Rattle.std.proofs.Common.{◌≡◌, ◌<◌, ◌∙◌, arith, inl, inr, rules, subst, sym, ap, refl, Some, w32, FitsSigned}
 use Rattle.std.specs.Prelude.{bit_xor}
 use Rattle.std.proofs.lemmas.Int.{to_z-of_z}
 use Rattle.cedar_model.specs.Table.Cells.{Held, Takes}
@@ -51,3 +51,9 @@ returns-clause-root_check g c =
     let T = cells c.args.table.now in
     let e : c.slot_at-slot.result ≡ below T c.args.node 0 = c.slot_at-slot.ensures ∙ ap (λ b. bit_xor b 0) c.requires.base_is in
     (c.pop_e_node.ensures.takes.other 0 (λ z. c.requires.free (inl (sym (z ∙ e)))) (inl refl)).check
+
+pub returns-clause-taken : goal.returns-clause-taken
+returns-clause-taken g c =
+    let T = cells c.args.table.now in
+    let e : c.slot_at-slot.result ≡ below T c.args.node 0 = c.slot_at-slot.ensures ∙ ap (λ b. bit_xor b 0) c.requires.base_is in
+    subst (Held (cells c.pop_e_node.new.self)) e (inr (c.args.node, c.pop_e_node.ensures.takes.at))

@@ -1,12 +1,14 @@
-use Rattle.std.proofs.Common.{◌+◌, ◌<◌, arith, rules, ap, refl, inl, inr, length, []}
+use Rattle.std.proofs.Common.{◌≡◌, ◌+◌, ◌<◌, arith, rules, ap, refl, inl, inr, length, List, []}
 use Rattle.cedar_tree.specs.Tree.{none}
-use Rattle.cedar_tree.specs.Queries.{prefixes_forest}
+use Rattle.cedar_tree.specs.Queries.{Entry, prefixes_forest}
 use Rattle.cedar_bulk.specs.Sorted.{entries_by}
 use Rattle.cedar_bulk.specs.Spans.{parts_of}
-use Rattle.cedar_table.specs.Table.Views.{fields}
+use Rattle.cedar_model.specs.Meaning.Family.{base_of}
+use Rattle.cedar_table.specs.Table.Views.{cells, fields}
 use Rattle.cedar_model.specs.Table.TableFields.{size_of}
 use Rattle.cedar_model.proofs.UpdateLemmas.BlocksMade.{made_then}
 use Rattle.cedar_bulk.proofs.BulkLemmas.NodeByNode.{filling_started, if_err, on_ok, some_prefix}
+use Rattle.cedar_bulk.proofs.BulkLemmas.PackedBlocks.{packed_ends, packed_started}
 use Rattle.cedar_model.proofs.UpdateLemmas.StepAnswers.{refused_as}
 use Rattle.cedar_bulk.proofs.sorted.fill.Goals as goal
 
@@ -67,3 +69,19 @@ returns-clause-blocks g c =
     let e = c.in_ok-fill_span.ensures in
     let p = c.fill_pending.ensures in
     (e.blocks.0 + p.blocks.0, made_then e.blocks.0 p.blocks.0 (fields c.args.table.now) (fields c.fill_span.new.table) (fields c.fill_pending.new.table) e.blocks.3 p.blocks.1)
+
+pub returns-clause-packs : goal.returns-clause-packs
+returns-clause-packs g c =
+    let items = g.K.AsSlice.items in
+    let e = c.in_ok-fill_span.ensures in
+    let nothing = ap (parts_of items) c.new-pending.ensures.items in
+    let one : (fields c.fill_span.new.table).places.blocks.active ≡ 1 = omega (arith, c.requires.one, e.blocks.2 refl, e.blocks.3.active) in
+    on_ok c.fill_pending.result c.fill_pending.ensures.packs
+    (λ later t tree number.
+    let most = 1 + length (prefixes_forest t.children) in
+    let es : List Entry = entries_by items c.args.pairs.now in
+    let begun = filling_started g.row.SLOTS (fields c.args.table.now) (fields c.fill_span.new.table) t 0 es (parts_of items c.new-pending.result.items) (parts_of items c.fill_span.new.pending.items) e.blocks.0 e.sound c.requires.empty tree number
+    (e.fills t tree) (e.spans t tree) nothing c.requires.one (e.blocks.2 refl) e.blocks.3 in
+    packed_ends (fields c.fill_pending.new.table) t.children
+    (later t.children most begun
+    (packed_started g.row.SLOTS (fields c.fill_span.new.table) t 0 es (parts_of items c.new-pending.result.items) (parts_of items c.fill_span.new.pending.items) most (base_of (cells c.fill_span.new.table) 0) begun one tree (e.spans t tree) nothing)))

@@ -1,4 +1,4 @@
-use Rattle.std.proofs.Common.{◌<◌, ◌∙◌, rules, sym, ap, subst, length, [], ◌∷◌}
+use Rattle.std.proofs.Common.{◌<◌, ◌∙◌, inl, rules, sym, ap, subst, length, [], ◌∷◌}
 use Rattle.cedar_bulk.specs.Sorted.{entries_by}
 use Rattle.cedar_bulk.specs.Spans.{part_of, parts_of}
 use Rattle.cedar_bulk.proofs.BulkLemmas.OnePair.{tree_some}
@@ -34,3 +34,6 @@ returns-clause-spans g c = λ t h.
     let items = g.K.AsSlice.items in
     let made = c.in_ok-fill_span.ensures.spans t h in
     (made.0, ap (parts_of items) (sym c.pop.ensures.items) ∙ made.1, made.2)
+
+pub returns-then-go_on_alike-clause-packs : goal.returns-then-go_on_alike-clause-packs
+returns-then-go_on_alike-clause-packs g c = λ t h. inl c.in_ok-child.ensures.alone

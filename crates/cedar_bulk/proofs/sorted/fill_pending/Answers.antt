@@ -1,6 +1,7 @@
 use Rattle.std.proofs.Common.{◌≡◌, ℕ, ◌+◌, ◌<◌, ◌∙◌, length, arith, rules, refl, sym, ap, subst, inl, inr, Option, Some, None, List, [], ◌∷◌, ◌++◌}
 use Rattle.std.specs.Prelude.{MatchOption, option_to_list}
 use Rattle.cedar_bulk.specs.declared.spans.Span.{Span}
+use Rattle.cedar_bulk.specs.Packed.{Packed}
 use Rattle.cedar_bulk.specs.Spans.{Filling, Part, part_of, parts_of, work}
 use Rattle.cedar_table.specs.Table.Views.{fields}
 use Rattle.cedar_model.proofs.UpdateLemmas.BlocksMade.{made_nothing, made_then}
@@ -26,6 +27,7 @@ none_left bytes (x ∷ spans) next e is = absurd (omega (arith, e))
 pub loop-next-init : goal.loop-next-init
 loop-next-init g c = record {
   filling = λ f most k. k;
+  packs = λ f most k p. p;
   last = λ e. let empty = none_next c.pop-next.result _ c.pop-next.ensures.cases e in omega (arith, empty.1);
   blocks = (0, made_nothing (fields c.args.table.now) (fields c.args.table.now) refl);
   root_check = refl;
@@ -59,6 +61,7 @@ loop-next-preserved g c =
     let waits = next_last items c.loop-next.pending.items c.loop-next.next c.in-Some.span c.in-Some.is in
     record {
       filling = λ f most h. (e.turn f most (subst (λ xs. Filling g.row.SLOTS (fields c.loop-next.table) xs f most) waits (i.filling f most h))).0;
+      packs = λ f most h p. e.packs f most (subst (λ xs. Filling g.row.SLOTS (fields c.loop-next.table) xs f most) waits (i.filling f most h)) (subst (λ xs. Packed (fields c.loop-next.table) xs f) waits (i.packs f most h p));
       last = e.last;
       blocks = (i.blocks.0 + e.blocks.0, made_then i.blocks.0 e.blocks.0 (fields c.args.table.now) (fields c.loop-next.table) (fields c.fill_turn.new.table) i.blocks.1 e.blocks.1);
       root_check = e.root_check ∙ i.root_check;
@@ -95,3 +98,13 @@ returns-clause-filled g c = λ f most h.
     let is : c.loop-next.next ≡ None = c.in_default.is in
     let begun = subst (λ xs. Filling g.row.SLOTS (fields c.args.table.now) xs f most) (ap (parts_of items) c.pop-next.ensures.items) h in
     subst (λ xs. Filling g.row.SLOTS (fields c.loop-next.table) xs f most) (none_left items c.loop-next.pending.items c.loop-next.next (i.last is) is) (i.filling f most begun)
+
+pub returns-clause-packs : goal.returns-clause-packs
+returns-clause-packs g c = λ f most h p.
+    let items = g.K.AsSlice.items in
+    let i = c.loop-next.invariant in
+    let is : c.loop-next.next ≡ None = c.in_default.is in
+    let first = ap (parts_of items) c.pop-next.ensures.items in
+    let begun = subst (λ xs. Filling g.row.SLOTS (fields c.args.table.now) xs f most) first h in
+    let packed = subst (λ xs. Packed (fields c.args.table.now) xs f) first p in
+    subst (λ xs. Packed (fields c.loop-next.table) xs f) (none_left items c.loop-next.pending.items c.loop-next.next (i.last is) is) (i.packs f most begun packed)

@@ -4,6 +4,7 @@ use Rattle.cedar_tree.specs.Tree.{empty_tree, none, Tree}
 use Rattle.cedar_tree.specs.Queries.{asc, Entry, prefixes}
 use Rattle.cedar_model.specs.Meaning.StandsFor.{HoldsTree}
 use Rattle.cedar_bulk.specs.Sorted.{entries_by}
+use Rattle.cedar_bulk.specs.Packed.{IsPacked}
 use Rattle.cedar_bulk.specs.SortedMarks.{SortedMarks}
 use Rattle.cedar_model.specs.Edit.Steps.{MakesBlocks, SameModes}
 use Rattle.cedar_model.specs.Meaning.Marks.{marks}
@@ -93,3 +94,16 @@ returns-clause-blocks g c =
 
 pub returns-clause-modes : goal.returns-clause-modes
 returns-clause-modes g c = subst (SameModes (fields c.args.table.now)) (sym c.set_entries.ensures) (record { ordered = c.in_ok-fill.ensures.settings.ordered; max_trial = c.in_ok-fill.ensures.settings.max_trial })
+
+pub returns-then-is_empty-clause-packed : goal.returns-then-is_empty-clause-packed
+returns-then-is_empty-clause-packed g c =
+    let nothing = no_pairs c.args.pairs.now c.is_empty.result c.is_empty.ensures c.if-is_empty.true in
+    let fits : IsPacked empty_tree (fields c.args.table.now) = omega (arith, c.requires.one) in
+    subst (λ (t : Tree). IsPacked t (fields c.args.table.now)) (sym (no_pair g.K.AsSlice.items c.args.pairs.now nothing)) fits
+
+pub returns-clause-packed : goal.returns-clause-packed
+returns-clause-packed g c =
+    let some = some_pairs c.args.pairs.now c.is_empty.result c.is_empty.ensures c.if-is_empty.false in
+    let es : List Entry = entries_by g.K.AsSlice.items c.args.pairs.now in
+    let k = whole_span es (some_entries g.K.AsSlice.items c.args.pairs.now some) c.requires.keys c.requires.ascending c.requires.values in
+    subst (IsPacked (asc es)) (sym c.set_entries.ensures) (c.in_ok-fill.ensures.packs (asc es) k.0 k.1)

@@ -1,4 +1,4 @@
-use Rattle.std.proofs.Common.{◌≡◌, ◌<◌, ◌≤◌, ◌∙◌, arith, refl, rules, sym, ap, subst, drop, length, List, map}
+use Rattle.std.proofs.Common.{◌≡◌, ◌<◌, ◌≤◌, ◌∙◌, arith, inl, inr, refl, rules, sym, ap, subst, drop, length, List, map}
 use Rattle.std.specs.Prelude.{IfSome, true}
 use Rattle.cedar_tree.specs.Tree.{none}
 use Rattle.cedar_tree.specs.Queries.{Entry}
@@ -11,6 +11,7 @@ use Rattle.cedar_table.specs.Table.Views.{cells, fields}
 use Rattle.cedar_model.specs.Table.TableFields.{size_of}
 use Rattle.cedar_model.specs.Meaning.WellFormed.{is_value}
 use Rattle.cedar_bulk.proofs.BulkLemmas.MovedSpans.{covers_moved, front_inside, spans_moved}
+use Rattle.cedar_bulk.proofs.BulkLemmas.PackedBlocks.{one_or_several}
 use Rattle.cedar_bulk.proofs.BulkLemmas.Spans.{as_many, back_is, below_is, bit_is}
 use Rattle.cedar_slots.specs.Views.{places_of}
 use Rattle.cedar_model.proofs.UpdateLemmas.BlocksMade.{made_none, same_slots}
@@ -130,3 +131,21 @@ returns-clause-own g c = λ t h.
     let T' = cells c.fill_node.new.table in
     subst (λ o. KeepsOwn g.L.Layout.kind T' c.args.span.node o (labels t.children)) k.number_is
     (subst (KeepsOwn g.L.Layout.kind T' c.args.span.node number) positive c.in_ok-base.ensures.own)
+
+pub returns-clause-packs : goal.returns-clause-packs
+returns-clause-packs g c = λ t h.
+    let items = g.K.AsSlice.items in
+    let d = c.args.span.depth in
+    let number = c.number_at-number.result in
+    let skipped = c.from-skipped.result in
+    let es : List Entry = entries_by items c.args.span.pairs.now in
+    let count = bit_is skipped c.is_some.result number c.from-skipped.ensures c.is_some.ensures in
+    let k = below_is d es t number skipped h c.number_at-number.ensures count in
+    let below : entries_by items c.split_at.result.1.now ≡ drop skipped es = ap (entries_by items) c.split_at.ensures.back ∙ back_is items skipped c.args.span.pairs.now in
+    let listed : c.as_slice-listed.result.now ≡ slot_labels number (labels t.children) = c.as_slice-listed.ensures.value ∙ c.in_ok-list_spans.ensures.labels t.children (subst (λ xs. Lists d xs t.children) (sym below) k.lists) in
+    let same : slot_labels number (labels t.children) ≡ slot_labels t.number (labels t.children) = ap (λ o. slot_labels o (labels t.children)) k.number_is in
+    let some : 0 < length (slot_labels t.number (labels t.children)) = subst (λ xs. 0 < length xs) same k.some in
+    elim (one_or_several t.number (labels t.children) some) [
+      | inl one ↦ inl (c.in_ok-base.ensures.alone (ap length (listed ∙ same) ∙ one))
+      | inr several ↦ inr several
+    ]

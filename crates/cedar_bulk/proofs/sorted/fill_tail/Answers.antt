@@ -12,7 +12,7 @@ use Rattle.cedar_model.specs.Table.TableFields.{size_of}
 use Rattle.cedar_model.proofs.UpdateLemmas.BlocksMade.{made_then}
 use Rattle.cedar_model.proofs.UpdateLemmas.Frame.{settings_then}
 use Rattle.cedar_model.proofs.UpdateLemmas.StepAnswers.{refused_as}
-use Rattle.cedar_bulk.proofs.BulkLemmas.OneKey.{single, tail_begins, tail_ends, tail_goes_on, tail_label, tail_node, tail_refused}
+use Rattle.cedar_bulk.proofs.BulkLemmas.OneKey.{single, tail_begins, tail_ends, tail_goes_on, tail_label, tail_node, tail_packs, tail_refused}
 use Rattle.cedar_bulk.proofs.BulkLemmas.OnePair.{ends_here}
 use Rattle.cedar_bulk.proofs.sorted.fill_tail.Goals as goal
 
@@ -72,7 +72,7 @@ loop-depth-preserved g c =
     let T' = cells c.name_alone.new.table in
     tail_goes_on g.row.SLOTS (fields c.args.table.now) (fields c.loop-depth.table) s c.loop-depth.node d e one c.loop-depth.invariant (fields c.name_alone.new.table) c.in_ok-node.node r.blocks.0 long r.sound
     (subst (λ l. Fills (size_of (fields c.loop-depth.table)) (size_of (fields c.name_alone.new.table)) T T' c.loop-depth.node None (l ∷ [])) same r.fills) (r.slot ∙ ap (below T' c.loop-depth.node) same)
-    r.blocks.1 r.blocks.3 refl r.root_check r.settings
+    r.blocks.1 r.blocks.3 r.alone refl r.root_check r.settings
 
 pub fill_node-requires : goal.fill_node-requires
 fill_node-requires g c =
@@ -131,6 +131,15 @@ returns-clause-filled g c =
     tail_ends g.row.SLOTS (fields c.args.table.now) (fields c.loop-depth.table) s c.loop-depth.node d e one c.loop-depth.invariant (fields c.fill_node.new.table) r.blocks.0 short r.sound
     (subst (λ v. Fills (size_of (fields c.loop-depth.table)) (size_of (fields c.fill_node.new.table)) T T' c.loop-depth.node (Some v) []) same r.fills)
     (subst (λ v. KeepsOwn g.L.Layout.kind T' c.loop-depth.node (Some v) []) same r.own) r.blocks.1 r.blocks.4 refl
+
+pub returns-clause-packs : goal.returns-clause-packs
+returns-clause-packs g c =
+    let items = g.K.AsSlice.items in
+    let s : Part = part_of items c.args.span in
+    let p = get_or c.args.span.pairs.now 0 c.index-span-0.result in
+    let one = ap (entries_by items) (single c.args.span.pairs.now c.index-span-0.result c.requires.one) in
+    let r = c.in_ok-fill_node.ensures in
+    tail_packs g.row.SLOTS (fields c.args.table.now) (fields c.loop-depth.table) s c.loop-depth.node c.loop-depth.depth (items p.0, p.1) one c.loop-depth.invariant (fields c.fill_node.new.table) r.blocks.0 r.fills.keeps r.blocks.1 r.blocks.4 (r.alone refl)
 
 pub returns-clause-blocks : goal.returns-clause-blocks
 returns-clause-blocks g c =

@@ -1,11 +1,13 @@
 use Rattle.std.proofs.Common.{◌≡◌, ◌*◌, ◌<◌, arith, rules, refl, ap, subst, inl, inr, length, List, Result, Ok, Err, [], ◌∷◌, ◌++◌}
 use Rattle.std.specs.Prelude.{IfOk, OnOk, option_to_list}
 use Rattle.cedar_slots.specs.declared.shortage.Shortage.{Shortage}
+use Rattle.cedar_bulk.specs.Packed.{Packed}
 use Rattle.cedar_bulk.specs.Spans.{Filling, Part, part_of, parts_of, work}
 use Rattle.cedar_table.specs.Table.Views.{fields}
 use Rattle.cedar_model.proofs.UpdateLemmas.StepAnswers.{refused_as}
 use Rattle.cedar_bulk.proofs.BulkLemmas.NodeByNode.{filling_on, filling_refused, if_err, next_span}
 use Rattle.cedar_bulk.proofs.BulkLemmas.OneKey.{less_without}
+use Rattle.cedar_bulk.proofs.BulkLemmas.PackedBlocks.{packed_on, packed_without}
 use Rattle.cedar_bulk.proofs.BulkLemmas.Spans.{as_many}
 use Rattle.cedar_bulk.proofs.sorted.fill_turn.Goals as goal
 
@@ -34,6 +36,14 @@ returns-then-span-eq1-clause-turn g c = λ f most h.
       subst (λ xs. work xs < work (ps ++ s ∷ [])) is (less_without ps s some),
     )
 
+pub returns-then-span-eq1-clause-packs : goal.returns-then-span-eq1-clause-packs
+returns-then-span-eq1-clause-packs g c = λ f most h p.
+    let items = g.K.AsSlice.items in
+    let ps : List Part = parts_of items c.args.pending.now.items in
+    let is = ap (parts_of items) c.pop.ensures.items in
+    subst (λ xs. Packed (fields c.fill_tail.new.table) xs f) is
+    (packed_without g.row.SLOTS (fields c.args.table.now) (fields c.fill_tail.new.table) ps (part_of items c.args.span) f most h p c.in_ok-fill_tail.ensures.packs)
+
 pub fill_next-requires : goal.fill_next-requires
 fill_next-requires g c =
     let items = g.K.AsSlice.items in
@@ -48,6 +58,14 @@ returns-clause-turn g c =
     if_ok_by c.fill_next.result e.fills e.own e.spans
     (λ fills own next spans. λ f most h.
     filling_on g.row.SLOTS (fields c.args.table.now) (fields c.fill_next.new.table) (parts_of items c.args.pending.now.items) (part_of items c.args.span) (parts_of items (c.fill_next.new.pending.items ++ option_to_list next)) f most e.blocks.0 e.sound h fills spans e.blocks.1 e.blocks.2 refl own)
+
+pub returns-clause-packs : goal.returns-clause-packs
+returns-clause-packs g c =
+    let items = g.K.AsSlice.items in
+    let e = c.fill_next.ensures in
+    if_ok_by c.fill_next.result e.fills e.packs e.spans
+    (λ fills packs next spans. λ f most h p.
+    packed_on g.row.SLOTS (fields c.args.table.now) (fields c.fill_next.new.table) (parts_of items c.args.pending.now.items) (part_of items c.args.span) f most h p (parts_of items (c.fill_next.new.pending.items ++ option_to_list next)) e.blocks.0 fills spans e.blocks.1 e.blocks.2 packs)
 
 pub returns-clause-refused : goal.returns-clause-refused
 returns-clause-refused g c =

@@ -1,7 +1,9 @@
+use Rattle.std.proofs.Common.{◌≡◌, Err}
 use Rattle.std.proofs.lemmas.Result.{err_from_is_err_and}
-use Rattle.cedar_cli.proofs.Faults.{no_success}
-use Rattle.cedarwood.specs.WatchedDevice.{device_of}
+use Rattle.cedar_cli.proofs.Faults.{no_success, that_error}
+use Rattle.cedarwood.specs.WatchedDevice.{device_of, has_failed}
 use Rattle.cedar_cli.specs.Options.{empty, request_in}
+use Rattle.cedar_cli.specs.Statuses.{EndsBy}
 use Rattle.cedar_cli.specs.View.{view_of}
 use Rattle.cedar_cli.proofs.Begun.{begins_empty, on_ok}
 use Rattle.cedar_cli.proofs.Runs.{none_front}
@@ -38,3 +40,16 @@ returns-in-Ok-clause-begun g c = (view_of g.L.Layout.kind c.in_ok-trie.trie, c.i
 
 pub returns-clause-begun : goal.returns-clause-begun
 returns-clause-begun g c = (view_of g.L.Layout.kind c.in_ok-trie.trie, c.in_ok-trie.ensures.begun, c.answer_script.ensures.begun)
+
+pub returns-in_err-trie-clause-ends : goal.returns-in_err-trie-clause-ends
+returns-in_err-trie-clause-ends g c =
+    let read = has_failed c.args.reader.now in
+    let written = has_failed c.args.writer.now in
+    let fault = c.in_err-trie.field-0.0 in
+    let p = err_from_is_err_and c.from_residual.result c.from_residual.ensures.1 in
+    let is : c.from_residual.result ≡ Err fault = cc (p.1, p.2) in
+    that_error (EndsBy (request_in c.args.options) read read written) c.from_residual.result fault is (c.in_err-trie.ensures.ends read written)
+
+pub returns-in-Ok-clause-ends : goal.returns-in-Ok-clause-ends
+returns-in-Ok-clause-ends g c =
+    c.save.ensures (has_failed c.args.reader.now) (has_failed c.answer_script.new.reader) (has_failed c.answer_script.new.writer)

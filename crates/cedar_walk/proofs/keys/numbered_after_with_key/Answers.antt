@@ -1,8 +1,9 @@
-use Rattle.std.proofs.Common.{◌≡◌, ◌-◌, ap, arith, length, rules, subst, sym}
+use Rattle.std.proofs.Common.{◌≡◌, ◌-◌, ap, arith, length, rules, subst, sym, vec_capacity}
 use Rattle.cedar_tree.specs.Walks.{visited_entries}
 use Rattle.cedar_table.specs.Table.Views.{fields}
-use Rattle.cedar_walk.specs.Visits.{ComesToNumber, left_at, visited_at}
-use Rattle.cedar_walk.proofs.WalkLemmas.Keys.{key_turns}
+use Rattle.cedar_walk.specs.Keys.{NextKeyOutgrows}
+use Rattle.cedar_walk.specs.Visits.{ComesToNumber, entries_at, left_at, visited_at}
+use Rattle.cedar_walk.proofs.WalkLemmas.Keys.{first_outgrows, key_turns, next_outgrows, on_err, outgrows_less}
 use Rattle.cedar_walk.proofs.WalkLemmas.NextNode.{path_length}
 use Rattle.cedar_walk.proofs.WalkLemmas.NextNumber.{deep_not_root}
 use Rattle.cedar_walk.proofs.keys.numbered_after_with_key.Goals as goal
@@ -43,3 +44,34 @@ returns-clause-key g c = λ front so_far.
     let f : c.len.result - c.args.depth ≡ length c.args.key.now.items - c.args.depth = omega (arith, c.len.ensures, c.args.key.now.ok) in
     c.in_ok-next.ensures.key front
     (key_turns T start n s (left_at T start n s) (visited_at T start c.in-Some.place) key (c.len.result - n) c.truncate.new.self.items c.push.new.self.items f comes c.truncate.ensures.items c.in_ok-push.ensures.items front so_far)
+
+-- the first label has no room
+pub returns-in_err-push-clause-full : goal.returns-in_err-push-clause-full
+returns-in_err-push-clause-full g c =
+    let T = fields c.args.table.now in
+    let key = c.args.key.now in
+    let place = c.in-Some.place in
+    let room = vec_capacity key - (length key.items - c.args.depth) in
+    let small : NextKeyOutgrows T c.args.depth c.args.node (length key.items) (vec_capacity key) = λ start at.
+    (let comes = c.in-Some.ensures start at in
+    next_outgrows T start room c.args.depth c.args.node place comes
+    (first_outgrows _ T c.requires.well_formed start room place.depth place.slot comes.below
+    (deep_not_root _ T c.requires.well_formed start place.depth place.slot comes.below comes.deep.0)
+    (omega (arith, c.in_err-push.ensures.full, c.truncate.ensures.len, c.truncate.ensures.capacity, c.len.ensures, key.ok, c.requires.room, comes.deep.0)))) in
+    on_err c.from_residual.result small
+
+-- or a further one has none
+pub returns-in_err-next-clause-full : goal.returns-in_err-next-clause-full
+returns-in_err-next-clause-full g c =
+    let T = fields c.args.table.now in
+    let key = c.args.key.now in
+    let pushed = c.push.new.self in
+    let place = c.in-Some.place in
+    let room = vec_capacity key - (length key.items - c.args.depth) in
+    let small : NextKeyOutgrows T c.args.depth c.args.node (length key.items) (vec_capacity key) = λ start at.
+    (let comes = c.in-Some.ensures start at in
+    next_outgrows T start room c.args.depth c.args.node place comes
+    (outgrows_less (vec_capacity pushed - (length pushed.items - place.depth)) room (entries_at T start place.depth place.slot)
+    (omega (arith, c.truncate.ensures.len, c.truncate.ensures.capacity, c.in_ok-push.ensures.len, c.in_ok-push.ensures.capacity, c.len.ensures, key.ok, pushed.ok, c.requires.room, comes.deep.0, comes.deep.1, path_length T c.args.depth c.args.node))
+    (c.in_err-next.ensures.full start comes.below))) in
+    on_err c.from_residual-in_err-next.result small

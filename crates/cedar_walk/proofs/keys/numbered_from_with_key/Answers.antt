@@ -1,11 +1,12 @@
-use Rattle.std.proofs.Common.{◌+◌, ◌<◌, ◌≤◌, ◌++◌, FitsSigned, Some, arith, rules, ap, subst, sym, w32, ◌∙◌}
+use Rattle.std.proofs.Common.{◌+◌, ◌-◌, ◌<◌, ◌≤◌, ◌++◌, FitsSigned, length, Some, arith, rules, ap, subst, sym, vec_capacity, w32, ◌∙◌}
 use Rattle.std.proofs.lemmas.Int.{to_z-of_z}
 use Rattle.cedar_table.specs.Table.Views.{cells, fields}
 use Rattle.cedar_model.specs.Table.TableFields.{size_of}
 use Rattle.cedar_model.specs.Meaning.Family.{below}
 use Rattle.cedar_model.proofs.MeaningLemmas.SearchStep.{never_nothing}
+use Rattle.cedar_walk.specs.Keys.{FirstKeyOutgrows}
 use Rattle.cedar_walk.specs.Visits.{path_to}
-use Rattle.cedar_walk.proofs.WalkLemmas.Keys.{key_goes_down}
+use Rattle.cedar_walk.proofs.WalkLemmas.Keys.{down_outgrows, key_goes_down, on_err}
 use Rattle.cedar_walk.proofs.WalkLemmas.NextNode.{node_inside, node_stands, short_way}
 use Rattle.cedar_walk.proofs.WalkLemmas.NextNumber.{Descended, descended_on, descended_to, leaf_number}
 use Rattle.cedar_walk.proofs.keys.numbered_from_with_key.Goals as goal
@@ -61,7 +62,20 @@ loop-label-preserved g c =
       key = λ front so_far. key_goes_down _ (fields T) c.requires.well_formed c.requires.below.0 c.loop-label.steps c.loop-label.slot c.loop-label.label c.slot_below-slot.result front
           c.loop-label.key.items c.push.new.self.items (c.loop-label.invariant.down c.requires.below.0 c.requires.below.1).below c.loop-label.invariant.first c.loop-label-test.true
           c.slot_below-slot.ensures (c.loop-label.invariant.key front so_far) c.in_ok-push.ensures.items;
+      long = omega (arith, c.loop-label.invariant.long, c.in_ok-push.ensures.len, c.loop-label.key.ok, c.push.new.self.ok);
+      room = omega (arith, c.loop-label.invariant.room, c.in_ok-push.ensures.capacity);
     }
+
+-- the node has a child, and the key of an entry there or below has a label more than the key that filled the buffer
+pub returns-in_err-push-clause-full : goal.returns-in_err-push-clause-full
+returns-in_err-push-clause-full g c =
+    let T = fields c.args.table.now in
+    let key = c.args.key.now in
+    let room = vec_capacity key - (length key.items - c.args.depth) in
+    let small : FirstKeyOutgrows T c.args.depth c.args.node (length key.items) (vec_capacity key) = λ start at.
+    down_outgrows _ T c.requires.well_formed start room c.args.depth c.args.node c.loop-label.steps c.loop-label.slot c.loop-label.label (c.loop-label.invariant.down start at) c.loop-label.invariant.first c.loop-label-test.true
+    (omega (arith, c.in_err-push.ensures.full, c.loop-label.key.ok, c.loop-label.invariant.long, c.loop-label.invariant.room)) in
+    on_err c.from_residual.result small
 
 pub number_held-requires : goal.number_held-requires
 number_held-requires g c =

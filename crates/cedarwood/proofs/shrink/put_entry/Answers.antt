@@ -14,4 +14,4 @@ pub returns : goal.returns
 returns g c =
     let T = g.T.Walked.shown c.args.from.now in
     let fits : FitsSigned w32 c.args.place.number = search rules in
-    is_put g.L.Layout.kind g.row.SLOTS _ _ (entry_of T c.args.place) _ _ _ (c.as_slice.ensures.value ∙ c.in_ok-write_key.ensures) (to_z-of_z w32 c.args.place.number fits) c.update_bytes.ensures.updated
+    is_put g.L.Layout.kind g.row.SLOTS _ _ (entry_of T c.args.place) _ _ _ (c.as_slice.ensures.value ∙ c.in_ok-write_key.ensures.written) (to_z-of_z w32 c.args.place.number fits) c.update_bytes.ensures.updated

@@ -17,7 +17,7 @@ returns-clause-ok g c =
     let line = c.args.line.now in
     let sign = c.args.sign.now in
     let tokens = c.in-Ok.tokens.items in
-    let found = is_cheapest c.args.trie.now.state.tree c.args.unknown (body_of line) c.body.result.now tokens c.body.ensures.body c.in-Ok.ensures.cut c.in-Ok.ensures.least c.in-Ok.ensures.capped in
+    let found = is_cheapest c.args.trie.now.state.tree c.args.unknown (body_of line) c.body.result.now tokens c.body.ensures.body c.in-Ok.ensures.cut c.in-Ok.ensures.least c.in-Ok.ensures.capped c.in-Ok.ensures.ahead in
     ok_then c.write_line_tokens.result (λ (written : Appends held holds (line_cut sign line tokens)). (tokens, found, written))
     (subst (λ (t : List Token). OnOk c.write_line_tokens.result (Appends held holds (line_cut sign line t))) c.deref.ensures.value c.write_line_tokens.ensures.ok)
 
@@ -28,7 +28,7 @@ returns-clause-err g c = λ is.
     let line = c.args.line.now in
     let sign = c.args.sign.now in
     let tokens = c.in-Ok.tokens.items in
-    let found = is_cheapest c.args.trie.now.state.tree c.args.unknown (body_of line) c.body.result.now tokens c.body.ensures.body c.in-Ok.ensures.cut c.in-Ok.ensures.least c.in-Ok.ensures.capped in
+    let found = is_cheapest c.args.trie.now.state.tree c.args.unknown (body_of line) c.body.result.now tokens c.body.ensures.body c.in-Ok.ensures.cut c.in-Ok.ensures.least c.in-Ok.ensures.capped c.in-Ok.ensures.ahead in
     (tokens, found, subst (λ (t : List Token). WritesFront held holds (line_cut sign line t)) c.deref.ensures.value (of_err c.write_line_tokens.result Write is c.write_line_tokens.ensures.err))
 
 pub returns-clause-faults : goal.returns-clause-faults

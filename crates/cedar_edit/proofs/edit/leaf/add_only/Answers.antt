@@ -10,7 +10,7 @@ use Rattle.cedar_table.specs.Table.Views.{cells, fields}
 use Rattle.cedar_model.specs.Table.TableFields.{size_of}
 use Rattle.cedar_model.proofs.EditLemmas.SlotForLabel.{can_add_at, held_after, label_added_by, root_check_stays, slot_inside, slot_stays}
 use Rattle.cedar_model.proofs.EditLemmas.LeafAtPlace.{label_added, path_of_leaf}
-use Rattle.cedar_edit.proofs.LeafLemmas.{goes_alone, linked_alone, names_none}
+use Rattle.cedar_edit.proofs.LeafLemmas.{goes_alone, kept_taken, linked_alone, names_none, taken_held}
 use Rattle.cedar_edit.proofs.edit.leaf.add_only.Goals as goal
 
 can_add : (g : _) (c : goal.After-set_child g) → CanAdd (size_of (fields c.args.table.now)) (cells c.args.table.now) c.args.node c.args.label
@@ -86,3 +86,11 @@ returns-clause-leaf g c = λ w at.
 pub returns-clause-root_check : goal.returns-clause-root_check
 returns-clause-root_check g c =
     root_check_stays (cells c.args.table.now) (cells c.pop_e_node.new.self) (cells c.set_child.new.self) c.args.node c.args.label c.args.child c.requires.slot c.requires.free c.pop_e_node.ensures.takes None (linked g c)
+
+pub returns-clause-keeps : goal.returns-clause-keeps
+returns-clause-keeps g c =
+    let T = cells c.args.table.now in
+    kept_taken T (cells c.pop_e_node.new.self) (cells c.set_child.new.self) c.args.child c.args.node c.pop_e_node.ensures.takes (subst (λ s. Held T s → ⊥) (sym c.requires.slot) c.requires.free) c.set_child.ensures.set.check
+
+pub returns-clause-taken : goal.returns-clause-taken
+returns-clause-taken g c = taken_held (cells c.args.table.now) (cells c.pop_e_node.new.self) (cells c.set_child.new.self) c.args.child c.args.node c.pop_e_node.ensures.takes c.set_child.ensures.set.check

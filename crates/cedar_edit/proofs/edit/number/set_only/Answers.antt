@@ -9,7 +9,7 @@ use Rattle.cedar_model.specs.Table.TableFields.{size_of}
 use Rattle.cedar_model.proofs.EditLemmas.AtPath.{held_node, number_set_at}
 use Rattle.cedar_model.proofs.EditLemmas.SlotForLabel.{lead_inside}
 use Rattle.cedar_model.proofs.EditLemmas.NumberWritten.{number_taken}
-use Rattle.cedar_edit.proofs.LeafLemmas.{names_none, same_child, same_sibling}
+use Rattle.cedar_edit.proofs.LeafLemmas.{kept_taken, names_none, same_child, same_sibling, taken_held}
 use Rattle.cedar_edit.proofs.edit.number.set_only.Goals as goal
 
 pub pop_e_node-requires : goal.pop_e_node-requires
@@ -51,3 +51,14 @@ pub returns-clause-root_check : goal.returns-clause-root_check
 returns-clause-root_check g c =
     let T = cells c.args.table.now in
     (c.pop_e_node.ensures.takes.other 0 (λ z. c.requires.free (subst (Held T) (z ∙ c.requires.slot) (inl refl))) (inl refl)).check
+
+pub returns-clause-keeps : goal.returns-clause-keeps
+returns-clause-keeps g c =
+    let T = cells c.args.table.now in
+    let T₁ = cells c.pop_e_node.new.self in
+    kept_taken T T₁ T₁ c.args.slot c.args.node c.pop_e_node.ensures.takes (subst (λ s. Held T s → ⊥) (sym c.requires.slot) c.requires.free) (λ x. refl)
+
+pub returns-clause-taken : goal.returns-clause-taken
+returns-clause-taken g c =
+    let T₁ = cells c.pop_e_node.new.self in
+    taken_held (cells c.args.table.now) T₁ T₁ c.args.slot c.args.node c.pop_e_node.ensures.takes (λ x. refl)

@@ -11,10 +11,11 @@ use Rattle.cedar_model.specs.Meaning.StandsFor.{HoldsTree}
 use Rattle.cedar_table.specs.Table.Views.{cells, fields}
 use Rattle.cedar_model.specs.Table.TableFields.{size_of}
 use Rattle.cedar_model.proofs.EditLemmas.AtPath.{held_node}
-use Rattle.cedar_model.proofs.UpdateLemmas.BlocksMade.{found_blocks, growth_framed, growth_nothing, made_larger, refuses_still, slots_of_same}
+use Rattle.cedar_model.proofs.UpdateLemmas.BlocksMade.{found_blocks, growth_framed, growth_nothing, made_framed, made_larger, made_nothing, refuses_still, slots_of_same}
 use Rattle.cedar_model.proofs.EditLemmas.FirstBase.{held_still}
 use Rattle.cedar_model.proofs.EditLemmas.NumberMovesOut.{others_back, own_node, paths_back, slot_free, tree_back}
 use Rattle.cedar_model.specs.Edit.Steps.{MayAddBlock}
+use Rattle.cedar_model.proofs.UpdateLemmas.Frame.{frame_then}
 use Rattle.cedar_edit.proofs.StepLemmas.{refused_step}
 use Rattle.cedar_edit.proofs.edit.own.move_number.Goals as goal
 
@@ -95,3 +96,14 @@ returns-clause-step g c =
 
 pub returns-clause-others : goal.returns-clause-others
 returns-clause-others g c = (same_tree g c).2
+
+pub returns-clause-made : goal.returns-clause-made
+returns-clause-made g c =
+    let T = fields c.args.table.now in
+    let T₁ = fields c.find_place.new.self in
+    let T₂ = fields c.set_base.new.self in
+    let T₃ = fields c.set_number.new.table in
+    elim c.in_ok-slot.ensures.made [
+      | inl e ↦ inl (made_framed 0 T T₁ T₃ (made_nothing T T₁ e) (frame_then T₁ T₂ T₃ c.set_base.ensures.frame c.set_number.ensures.frame))
+      | inr n ↦ inr n.0
+    ]

@@ -1,8 +1,13 @@
-use Rattle.std.proofs.Common.{◌+◌, ◌<◌, drop, get_or, rules, take}
+use Rattle.std.proofs.Common.{◌+◌, ◌*◌, ◌<◌, ◌==◌, ◌∙◌, cond, drop, get_or, rules, subst, sym, take}
 use Rattle.std.specs.Prelude.{length}
-use Rattle.cedar_table.specs.Table.Views.{fields}
+use Rattle.cedar_model.specs.Edit.NodeEdits.{IsAt}
+use Rattle.cedar_model.specs.Edit.Steps.{root_of, with_child}
+use Rattle.cedar_model.specs.Table.TableFields.{size_of}
+use Rattle.cedar_table.specs.Table.Views.{cells, fields}
 use Rattle.cedar_model.proofs.UpdateLemmas.Ending.{step_refused}
 use Rattle.cedar_model.proofs.UpdateLemmas.AlongKey.{node_walked, walked_all, walked_at, walked_on, walked_same, walked_to, way_on}
+use Rattle.cedar_model.proofs.UpdateLemmas.Packing.{child_labels, small_on}
+use Rattle.cedar_edit.proofs.PackingLemmas.{first_small}
 use Rattle.cedar_edit.proofs.keys.put.add_rest.Goals as goal
 
 pub follow_or_add-requires : goal.follow_or_add-requires
@@ -47,6 +52,7 @@ loop-index-init g c =
           (record { table = e.sound; stepped = e.stepped; blocks = e.step.growth.blocks; owned = λ own. (e.owned own).1; stays = e.stays; root_step = λ z. (e.at_root z).1; root_check = e.step.growth.root_check; settings = e.step.growth.settings }));
       leaf = e.stepped.leaf c.requires.ends;
       not_root = e.stepped.not_root;
+      packs = first_small i old new (λ z. (e.at_root (sym (subst (λ n. IsAt (cells c.args.table.now) (take n key) c.args.front) z c.requires.front.at).1)).1) e.step.growth.blocks;
     }
 
 pub extend_leaf-requires : goal.extend_leaf-requires
@@ -85,7 +91,16 @@ loop-index-preserved g c =
           (record { table = e.sound; stepped = e.stepped; blocks = e.step.growth.blocks; owned = λ own. absurd (e.absent own); stays = λ own. absurd (e.absent own); root_step = λ z. absurd (c.loop-index.invariant.not_root z); root_check = e.step.growth.root_check; settings = e.step.growth.settings }));
       leaf = e.stepped.leaf e.absent;
       not_root = e.stepped.not_root;
+      packs = small_on g.row.SLOTS (size_of old + 256 * cond (c.args.known == 0) 0 1) e.step.growth.blocks.0 mid new k.forest (with_child (root_of k.forest) mid.ordered (take i key) (get_or key i 0)).children k.table k.holds
+          (e.stepped.tree k.forest (take i key) k.holds (λ is. k.ascending (sym k.settings.ordered ∙ is)) k.at)
+          (child_labels (cells c.loop-index.table) k.forest mid.ordered (take i key) (get_or key i 0) c.loop-index.node k.at c.loop-index.invariant.not_root) e.step.growth.blocks.1 e.step.growth.blocks.2 e.single c.loop-index.invariant.packs;
     }
 
 pub returns-clause-walked : goal.returns-clause-walked
 returns-clause-walked g c = walked_all g.row.SLOTS (fields c.args.table.now) (fields c.loop-index.table) c.args.key.now c.loop-index.index c.loop-index.node c.loop-index-test.false c.loop-index.invariant.walked
+
+pub returns-clause-leaf : goal.returns-clause-leaf
+returns-clause-leaf g c = (c.loop-index.invariant.leaf, c.loop-index.invariant.not_root)
+
+pub returns-clause-packs : goal.returns-clause-packs
+returns-clause-packs g c = c.loop-index.invariant.packs

@@ -1,4 +1,4 @@
-use Rattle.std.proofs.Common.{FitsSigned, inl, inr, of_z, refl, rules, to_z, w32, subst, sym, ap, ◌∙◌, ◌+◌, arith, ◌≡◌}
+use Rattle.std.proofs.Common.{FitsSigned, inl, inr, of_z, refl, rules, to_z, w32, subst, sym, ap, ◌∙◌, ◌+◌, ◌*◌, arith, ◌≡◌}
 use Rattle.std.proofs.lemmas.Int.{to_z-of_z}
 use Rattle.std.specs.Prelude.{Err, is_some, Some}
 use Rattle.cedar_tree.specs.Tree.{number_at}
@@ -14,6 +14,8 @@ use Rattle.cedar_model.proofs.UpdateLemmas.MarksAfterUpdate.{new_mark, put_keeps
 use Rattle.cedar_model.proofs.UpdateLemmas.StepAnswers.{on_refusal}
 use Rattle.cedar_model.proofs.UpdateLemmas.Ending.{entries_fit, is_put, IsPut, no_more, not_root, number_before, one_more, put_refused}
 use Rattle.cedar_model.proofs.UpdateLemmas.AlongKey.{node_walked, walked_same}
+use Rattle.cedar_model.specs.Edit.Packing.{joins, StaysSmall}
+use Rattle.cedar_edit.proofs.PackingLemmas.{number_small}
 use Rattle.cedar_edit.proofs.PutLemmas.{done_put, refused_put}
 use Rattle.cedar_edit.proofs.keys.put.put_along.Goals as goal
 
@@ -76,12 +78,26 @@ put_new g c =
     (record { table = e.sound; set = λ f w h at. subst (λ v. HoldsTree (size_of new) (cells_in new) (edit_at w (λ _. Some v) (λ u. u) f)) same (e.set f w h at); blocks = e.step.growth.blocks; owned = λ own. (e.owned own).1; own = λ v own. (e.own v own).1; leaf = λ is. elim (e.leaf is) [ inl none ↦ inl none.1 | inr full ↦ inr full ]; root_check = e.step.growth.root_check; settings = e.step.growth.settings })
     (ap (λ n. n + 1) c.entries.ensures ∙ one_more _ _ _ (sym (ap is_some had) ∙ c.is_none-is_new.ensures) c.if-is_new.true))
 
+-- few blocks were made
+small_new : (g : _) (c : goal.After-set_entries g) → StaysSmall (size_of (fields c.args.table.now) + 256 * joins (tree_of (fields c.args.table.now)) c.args.key.now) (fields c.set_entries.new.self)
+small_new g c =
+    let e = c.in_default.ensures in
+    let old = fields c.args.table.now in let mid = fields c.walk_in.new.table in let new = fields c.put_number.new.table in
+    let key = c.args.key.now in
+    let fits : FitsSigned w32 c.args.value = search rules in
+    let same : to_z w32 (of_z w32 c.args.value) ≡ c.args.value = to_z-of_z w32 c.args.value fits in
+    subst (StaysSmall (size_of old + 256 * joins (tree_of old) key)) (sym c.set_entries.ensures) (number_small g.row.SLOTS old mid new key c.in_ok-end.end c.args.value c.requires.key c.in_ok-end.ensures.walked c.in_ok-end.ensures.packs
+    (λ f w h at. subst (λ v. HoldsTree (size_of new) (cells_in new) (edit_at w (λ _. Some v) (λ u. u) f)) same (e.set f w h at)) e.step.growth.blocks e.single)
+
+pub returns-then-is_new-clause-small : goal.returns-then-is_new-clause-small
+returns-then-is_new-clause-small g c = small_new g c
+
 pub returns-then-is_new-clause-puts : goal.returns-then-is_new-clause-puts
 returns-then-is_new-clause-puts g c =
     done_put g.row.SLOTS (fields c.args.table.now) (fields c.set_entries.new.self) c.args.key.now c.args.value c.number_of-held.result
     (number_before g.row.SLOTS (fields c.args.table.now) (fields c.walk_in.new.table) c.args.key.now c.in_ok-end.end c.requires.well_formed c.requires.key c.in_ok-end.ensures.walked c.number_of-held.result
     (λ f w h at. c.number_of-held.ensures _ (at_node _ _ f w c.in_ok-end.end h at)))
-    (put_new g c)
+    (small_new g c) (put_new g c)
 
 -- the number is put over another
 put_over : (g : _) (c : goal.Else-is_new g) → IsPut g.row.SLOTS (fields c.args.table.now) (fields c.put_number.new.table) c.args.key.now c.args.value
@@ -98,12 +114,25 @@ put_over g c =
     (record { table = e.sound; set = λ f w h at. subst (λ v. HoldsTree (size_of new) (cells_in new) (edit_at w (λ _. Some v) (λ u. u) f)) same (e.set f w h at); blocks = e.step.growth.blocks; owned = λ own. (e.owned own).1; own = λ v own. (e.own v own).1; leaf = λ is. elim (e.leaf is) [ inl none ↦ inl none.1 | inr full ↦ inr full ]; root_check = e.step.growth.root_check; settings = e.step.growth.settings })
     (no_more _ _ _ (sym (ap is_some had) ∙ c.is_none-is_new.ensures) c.if-is_new.false)
 
+small_over : (g : _) (c : goal.Else-is_new g) → StaysSmall (size_of (fields c.args.table.now) + 256 * joins (tree_of (fields c.args.table.now)) c.args.key.now) (fields c.put_number.new.table)
+small_over g c =
+    let e = c.in_default.ensures in
+    let old = fields c.args.table.now in let mid = fields c.walk_in.new.table in let new = fields c.put_number.new.table in
+    let key = c.args.key.now in
+    let fits : FitsSigned w32 c.args.value = search rules in
+    let same : to_z w32 (of_z w32 c.args.value) ≡ c.args.value = to_z-of_z w32 c.args.value fits in
+    (number_small g.row.SLOTS old mid new key c.in_ok-end.end c.args.value c.requires.key c.in_ok-end.ensures.walked c.in_ok-end.ensures.packs
+    (λ f w h at. subst (λ v. HoldsTree (size_of new) (cells_in new) (edit_at w (λ _. Some v) (λ u. u) f)) same (e.set f w h at)) e.step.growth.blocks e.single)
+
+pub returns-else-is_new-clause-small : goal.returns-else-is_new-clause-small
+returns-else-is_new-clause-small g c = small_over g c
+
 pub returns-else-is_new-clause-puts : goal.returns-else-is_new-clause-puts
 returns-else-is_new-clause-puts g c =
     done_put g.row.SLOTS (fields c.args.table.now) (fields c.put_number.new.table) c.args.key.now c.args.value c.number_of-held.result
     (number_before g.row.SLOTS (fields c.args.table.now) (fields c.walk_in.new.table) c.args.key.now c.in_ok-end.end c.requires.well_formed c.requires.key c.in_ok-end.ensures.walked c.number_of-held.result
     (λ f w h at. c.number_of-held.ensures _ (at_node _ _ f w c.in_ok-end.end h at)))
-    (put_over g c)
+    (small_over g c) (put_over g c)
 
 pub returns-in_err-end-clause-lacking : goal.returns-in_err-end-clause-lacking
 returns-in_err-end-clause-lacking g c = λ reduced lacks.

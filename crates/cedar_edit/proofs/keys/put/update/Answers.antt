@@ -20,6 +20,9 @@ use Rattle.cedar_model.proofs.UpdateLemmas.Ending.{refuses_on}
 use Rattle.cedar_model.proofs.UpdateLemmas.BlocksMade.{made_framed}
 use Rattle.cedar_model.proofs.UpdateLemmas.WayAndPut.{all_made, each_moved, fewer_made, some_or_none}
 use Rattle.cedar_model.proofs.UpdateLemmas.AlongKey.{key_some}
+use Rattle.cedar_model.specs.Edit.Packing.{joins}
+use Rattle.cedar_model.proofs.MeaningLemmas.TreeOf.{tree_of_is}
+use Rattle.cedar_edit.proofs.PackingLemmas.{moved_joins, packs_after}
 use Rattle.cedar_edit.proofs.PutLemmas.{refused_put, two_bytes}
 use Rattle.cedar_edit.proofs.keys.put.update.Goals as goal
 
@@ -75,6 +78,7 @@ returns-in-Err-clause-puts g c =
             | inl made ↦ absurd made.0
             | inr full ↦ inr (full.0, subst (λ (T : Fields). NoPlace (size_of T) (cells_in T)) same full.1)
           ];
+      packs = tt;
       modes = record { ordered = back.frame.settings.ordered ∙ next.modes.ordered ∙ way.modes.ordered; max_trial = back.frame.settings.max_trial ∙ next.modes.max_trial ∙ way.modes.max_trial };
     }
 
@@ -88,6 +92,13 @@ returns-in-Ok-clause-puts g c =
     let first = way.blocks in
     let made = all_made (fields c.args.table.now) (fields c.make_way.new.table) (fields c.put_along.new.table) (length c.args.key.now) c.in_ok-moved.moved none (first.0, first.1, first.3) (next.blocks.0, next.blocks.1, next.blocks.3)
     (λ n is. let k = c.in_ok-moved.ensures.moved n is in let rest = c.in-Ok.ensures.lacking k.1 k.2 in (rest.0, rest.1, rest.3)) in
+    let old = fields c.args.table.now in
+    let moved_or_same : (fields c.make_way.new.table ≡ old) ⊎ (joins (tree_of old) c.args.key.now ≡ 1) = elim (some_or_none c.in_ok-moved.moved) [
+      | inl none_moved ↦ inl (none none_moved)
+      | inr some ↦
+          let one = moved_joins (size_of old) old (cells_in (fields c.make_way.new.table)) (tree_of old).children c.args.key.now some.0 c.requires.well_formed.stands (c.in_ok-moved.ensures.moves some.0 some.1) in
+          inr (ap (λ (t : Tree). joins t c.args.key.now) (tree_of_is old (tree_of old).children c.requires.well_formed.stands) ∙ one)
+    ] in
     record {
       well_formed = next.well_formed;
       put = next.put ∙ ap (λ v. put (tree_of (fields c.make_way.new.table)) (fields c.make_way.new.table).ordered c.args.key.now v) same_value
@@ -106,6 +117,7 @@ returns-in-Ok-clause-puts g c =
             | inl made ↦ inl (tt, subst (λ (T : Fields). MakesBlocks 0 T (fields c.put_along.new.table)) same made.1)
             | inr full ↦ inr (full.0, subst (λ (T : Fields). NoPlace (size_of T) (cells_in T)) same full.1)
           ];
+      packs = packs_after (fields c.args.table.now) (fields c.make_way.new.table) (fields c.put_along.new.table) c.args.key.now first.0 first.1 first.3 way.tree c.in_ok-moved.ensures.made moved_or_same c.in-Ok.ensures.small;
       modes = record { ordered = next.modes.ordered ∙ way.modes.ordered; max_trial = next.modes.max_trial ∙ way.modes.max_trial };
     }
 

@@ -1,4 +1,4 @@
-use Rattle.std.proofs.Common.{rules, ◌≢◌, ◌∙◌, sym}
+use Rattle.std.proofs.Common.{inl, inr, rules, ◌≢◌, ◌∙◌, sym}
 use Rattle.std.specs.Prelude.{pos}
 use Rattle.cedar_model.specs.Meaning.Family.{below}
 use Rattle.cedar_model.specs.Edit.NodeEdits.{IsNodeOf}
@@ -6,7 +6,8 @@ use Rattle.cedar_table.specs.Table.Views.{cells, fields}
 use Rattle.cedar_model.specs.Table.TableFields.{size_of}
 use Rattle.cedar_model.proofs.UpdateLemmas.BlocksMade.{growth_framed}
 use Rattle.cedar_model.proofs.UpdateLemmas.ChildReached.{child_added}
-use Rattle.cedar_edit.proofs.LeafLemmas.{leaf_alone}
+use Rattle.cedar_model.specs.Edit.Packing.{MakesIfFull}
+use Rattle.cedar_edit.proofs.LeafLemmas.{leaf_alone, single_taken}
 use Rattle.cedar_edit.proofs.StepLemmas.{refused_step}
 use Rattle.cedar_edit.proofs.keys.step.extend_leaf.Goals as goal
 
@@ -50,3 +51,10 @@ pub returns-clause-absent : goal.returns-clause-absent
 returns-clause-absent g c =
     let n = c.requires.node in
     leaf_alone (size_of (fields c.args.table.now)) (cells c.args.table.now) (fields c.args.table.now).ordered n.0 c.args.node n.1 c.requires.not_root c.requires.leaf _
+
+pub returns-clause-single : goal.returns-clause-single
+returns-clause-single g c =
+    let room = c.in_ok-slot.ensures in
+    let add = c.add_only.ensures in
+    let made : MakesIfFull (fields c.args.table.now) (fields c.first_base.new.table) = elim room.made [ inl none ↦ inl none.1 | inr full ↦ inr full ] in
+    single_taken (fields c.args.table.now) (fields c.first_base.new.table) (fields c.add_only.new.table) c.in_ok-slot.slot (below (cells c.first_base.new.table) c.args.node c.args.label) made add.frame room.keeps add.keeps room.slot room.placed.free add.taken

@@ -9,7 +9,7 @@ use Rattle.cedar_model.proofs.UpdateLemmas.BlocksMade.{found_blocks, growth_fram
 use Rattle.cedar_model.proofs.EditLemmas.FirstBase.{held_still, leaf_based, LeafBased}
 use Rattle.cedar_model.proofs.MeaningLemmas.ExclusiveOr.{xor_within}
 use Rattle.cedar_model.specs.Edit.Steps.{MayAddBlock}
-use Rattle.cedar_edit.proofs.LeafLemmas.{found_below, leaf_alone, still_alone}
+use Rattle.cedar_edit.proofs.LeafLemmas.{found_below, kept_based, leaf_alone, still_alone}
 use Rattle.cedar_edit.proofs.StepLemmas.{refused_step}
 use Rattle.cedar_edit.proofs.keys.step.first_base.Goals as goal
 
@@ -85,3 +85,6 @@ returns-clause-alone g c =
     let n = c.requires.node in
     still_alone (cells c.args.table.now) (cells c.find_place.new.self) (cells c.set_base.new.self) c.args.node _ c.in_ok-slot.ensures.held c.set_base.ensures.rebased
     (leaf_alone (size_of (fields c.args.table.now)) (cells c.args.table.now) (fields c.args.table.now).ordered n.0 c.args.node n.1 c.requires.not_root c.requires.leaf)
+
+pub returns-clause-keeps : goal.returns-clause-keeps
+returns-clause-keeps g c = kept_based (cells c.args.table.now) (cells c.find_place.new.self) (cells c.set_base.new.self) c.args.node _ c.in_ok-slot.ensures.held c.set_base.ensures.rebased

@@ -3,11 +3,13 @@ use Rattle.std.proofs.lemmas.Int.{to_z-of_z}
 use Rattle.cedar_tree.specs.Edits.{edit_at}
 use Rattle.cedar_model.specs.Meaning.StandsFor.{HoldsTree}
 use Rattle.cedar_model.specs.Edit.NodeEdits.{IsNodeOf}
+use Rattle.cedar_model.specs.Meaning.Family.{below}
 use Rattle.cedar_table.specs.Table.Views.{cells, fields}
 use Rattle.cedar_model.specs.Table.TableFields.{size_of}
 use Rattle.cedar_model.proofs.UpdateLemmas.BlocksMade.{growth_framed, made_framed}
 use Rattle.cedar_model.proofs.UpdateLemmas.MarksAfterPut.{kept_then_put, slot_put}
-use Rattle.cedar_edit.proofs.LeafLemmas.{leaf_alone}
+use Rattle.cedar_model.specs.Edit.Packing.{MakesIfFull}
+use Rattle.cedar_edit.proofs.LeafLemmas.{leaf_alone, single_taken}
 use Rattle.cedar_edit.proofs.StepLemmas.{refused_step}
 use Rattle.cedar_edit.proofs.keys.step.number_leaf.Goals as goal
 
@@ -64,3 +66,10 @@ returns-clause-made g c = elim c.in_ok-slot.ensures.made [
   | inl made ↦ inl (tt, made_framed 0 (fields c.args.table.now) (fields c.first_base.new.table) (fields c.set_only.new.table) made.1 c.set_only.ensures.frame)
   | inr full ↦ inr full
 ]
+
+pub returns-clause-single : goal.returns-clause-single
+returns-clause-single g c =
+    let room = c.in_ok-slot.ensures in
+    let set = c.set_only.ensures in
+    let made : MakesIfFull (fields c.args.table.now) (fields c.first_base.new.table) = elim room.made [ inl none ↦ inl none.1 | inr full ↦ inr full ] in
+    single_taken (fields c.args.table.now) (fields c.first_base.new.table) (fields c.set_only.new.table) c.in_ok-slot.slot (below (cells c.first_base.new.table) c.args.node 0) made set.frame room.keeps set.keeps room.slot room.placed.free set.taken

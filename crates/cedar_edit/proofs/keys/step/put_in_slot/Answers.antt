@@ -16,6 +16,7 @@ use Rattle.cedar_model.proofs.EditLemmas.Room.{based_node, not_free_held}
 use Rattle.cedar_model.proofs.UpdateLemmas.ChildReached.{label_inside, owner_ranged}
 use Rattle.cedar_model.proofs.MeaningLemmas.NodeAtPath.{at_node}
 use Rattle.cedar_model.proofs.MeaningLemmas.SearchStep.{never_nothing}
+use Rattle.cedar_model.proofs.UpdateLemmas.StepAnswers.{on_success}
 use Rattle.cedar_edit.proofs.keys.step.put_in_slot.Goals as goal
 
 pub slot_below-slot-requires : goal.slot_below-slot-requires
@@ -154,3 +155,17 @@ pub returns-clause-marks : goal.returns-clause-marks
 returns-clause-marks g c =
     let n = c.requires.node.1 in
     slot_put (size_of (fields c.args.table.now)) (cells c.args.table.now) (cells c.set_number-2.new.table) _ n.path c.args.node _ n.holds n.at c.set_number-2.ensures.set
+
+pub returns-then-is_new_leaf-clause-single : goal.returns-then-is_new_leaf-clause-single
+returns-then-is_new_leaf-clause-single g c = on_success c.number_leaf.result _ _ (λ k _. k) c.number_leaf.ensures.single
+
+pub returns-then-is_owned_by-clause-single : goal.returns-then-is_owned_by-clause-single
+returns-then-is_owned_by-clause-single g c = λ bare.
+    elim (c.is_new_leaf.ensures.based (λ t. let f = c.if-is_new_leaf.false in cc)) [ inl root ↦ absurd (c.requires.not_root root.1) | inr based ↦ absurd (based (ap base_in bare)) ]
+
+pub returns-then-is_taken-clause-single : goal.returns-then-is_taken-clause-single
+returns-then-is_taken-clause-single g c = on_success c.put_over.result _ _ (λ _ bare. absurd ((c.is_taken.ensures.taken c.if-is_taken.true).0 (ap base_in bare))) c.put_over.ensures.marks
+
+pub returns-clause-single : goal.returns-clause-single
+returns-clause-single g c = λ bare.
+    elim (c.is_new_leaf.ensures.based (λ t. let f = c.if-is_new_leaf.false in cc)) [ inl root ↦ absurd (c.requires.not_root root.1) | inr based ↦ absurd (based (ap base_in bare)) ]

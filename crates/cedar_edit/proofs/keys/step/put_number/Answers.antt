@@ -15,6 +15,7 @@ use Rattle.cedar_model.proofs.EditLemmas.OwnNumber.{field_paths, kind_is, own_re
 use Rattle.cedar_model.proofs.EditLemmas.NumberMovesOut.{leaf_alone}
 use Rattle.cedar_model.proofs.UpdateLemmas.MarksAfterPut.{own_put}
 use Rattle.cedar_model.proofs.UpdateLemmas.StepAnswers.{on_success}
+use Rattle.cedar_edit.proofs.LeafLemmas.{kept_checks}
 use Rattle.cedar_edit.proofs.keys.step.put_number.Goals as goal
 
 pub set_own_number-requires : goal.set_own_number-requires
@@ -94,3 +95,9 @@ pub returns-clause-marks_own : goal.returns-clause-marks_own
 returns-clause-marks_own g c =
     let no = c.if-keeps_own.false in
     on_success c.put_in_slot.result _ _ (λ _ reduced none_there. let yes = c.keeps_own.ensures.1 (reduced, none_there) in absurd (cc)) c.put_in_slot.ensures.marks
+
+pub returns-then-keeps_own-clause-single : goal.returns-then-keeps_own-clause-single
+returns-then-keeps_own-clause-single g c = λ _. record {
+  keeps = λ x h. kept_checks (cells c.args.table.now) (cells c.set_own_number.new.self) c.set_own_number.ensures.set.check x h;
+  one = inl (framed_none (fields c.args.table.now) (fields c.set_own_number.new.self) c.set_own_number.ensures.frame);
+}

@@ -1,4 +1,4 @@
-use Rattle.std.proofs.Common.{◌≡◌, arith, refl, subst, take}
+use Rattle.std.proofs.Common.{◌≡◌, arith, inl, refl, subst, take}
 use Rattle.cedar_model.specs.Edit.NodeEdits.{IsAt}
 use Rattle.cedar_model.specs.Meaning.Marks.{MovesOut}
 use Rattle.cedar_model.specs.Edit.Steps.{root_of}
@@ -61,3 +61,9 @@ returns-clause-moves g c = λ n is.
     let same : c.in-Some.length ≡ n = cc in
     let out = moves_out g.row.SLOTS (fields c.args.table.now) c.requires.well_formed c.args.key.now c.in-Some.length c.in-Some.ensures.0 own (fields c.move_out.new.table) m.well_formed m.tree at (c.in_ok-move_out.ensures.moved own.0 at) (key_path c.args.key.now c.requires.key) (c.in_ok-move_out.ensures.others own.0 own.1) in
     subst (λ k. MovesOut (cells c.args.table.now) (cells c.move_out.new.table) (root_of (tree_of (fields c.args.table.now)).children) (take k c.args.key.now)) same out
+
+pub returns-then-not-keeps_numbers-clause-made : goal.returns-then-not-keeps_numbers-clause-made
+returns-then-not-keeps_numbers-clause-made g c = inl (made_none _ _ (record { slots = refl; active = refl; len = refl; max_trial = refl }))
+
+pub returns-in_default-clause-made : goal.returns-in_default-clause-made
+returns-in_default-clause-made g c = inl (made_none _ _ (record { slots = refl; active = refl; len = refl; max_trial = refl }))

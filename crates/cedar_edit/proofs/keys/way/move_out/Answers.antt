@@ -1,4 +1,4 @@
-use Rattle.std.proofs.Common.{◌≡◌, ◌∙◌, ap, arith, FitsSigned, None, of_z, refl, rules, Some, subst, sym, to_z, w32}
+use Rattle.std.proofs.Common.{◌≡◌, ◌∙◌, ap, arith, FitsSigned, inl, None, of_z, refl, rules, Some, subst, sym, to_z, w32}
 use Rattle.std.specs.Prelude.{pos}
 use Rattle.std.proofs.lemmas.Int.{to_z-of_z}
 use Rattle.cedar_model.specs.declared.layout.Stored.TheVariants.{OwnNumber}
@@ -69,3 +69,6 @@ pub returns-in_ok-move_number-clause-others : goal.returns-in_ok-move_number-cla
 returns-in_ok-move_number-clause-others g c = λ s on.
     let same = at_same (cells c.args.table.now) c.args.key.now c.in-Some.node s c.in-Some.ensures.2 on in
     subst (KeepsOtherMarks (cells c.args.table.now) (cells c.move_number.new.table)) same c.in_ok-move_number.ensures.others
+
+pub returns-in_default-clause-made : goal.returns-in_default-clause-made
+returns-in_default-clause-made g c = inl (made_none _ _ (record { slots = refl; active = refl; len = refl; max_trial = refl }))

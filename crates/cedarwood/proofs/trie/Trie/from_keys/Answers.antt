@@ -1,7 +1,8 @@
-use Rattle.std.proofs.Common.{◌≡◌, ◌∙◌, ap, sym, subst, rules, inl, None, Err, FitsSigned, List, Option, w32}
+use Rattle.std.proofs.Common.{◌≡◌, ◌∙◌, ap, arith, sym, subst, rules, inl, None, Err, FitsSigned, List, Option, w32}
 use Rattle.std.proofs.lemmas.Int.{to_z-of_z}
 use Rattle.std.proofs.lemmas.Result.{err_from_is_err_and}
 use Rattle.cedar_bulk.specs.Sorted.{entries_by, entries_of, Pair}
+use Rattle.cedar_model.proofs.MeaningLemmas.HeldCount.{count_is_marked}
 use Rattle.cedar_tree.specs.Queries.{Entry}
 use Rattle.cedarwood.specs.declared.error.CedarError.{CedarError}
 use Rattle.cedarwood.specs.Builds.{first_fault}
@@ -64,11 +65,12 @@ returns g c =
     let e = c.in_ok-build_sorted.ensures in
     let b = e.blocks in
     let fits : FitsSigned w32 c.args.builder.max_trial = search rules in
+    let held = count_is_marked g.row.SLOTS _ e.well_formed in
     record {
       built = record {
         faulty = faultless (first_fault pairs) _ fine;
         stored = stored_as g.L.Layout.kind c.args.builder pairs (entries_of c.deref.result.now) _ s.tree
-            (record { tree = e.tree; marks = e.marks; ordered = e.ordered; max_trial = e.max_trial ∙ to_z-of_z w32 c.args.builder.max_trial fits; size = (b.0, b.1, b.2, b.3 ∙ sym (capacity_by_blocks b.0 1 1)) });
+            (record { tree = e.tree; marks = e.marks; ordered = e.ordered; max_trial = e.max_trial ∙ to_z-of_z w32 c.args.builder.max_trial fits; size = (b.0, b.1, b.2, b.3 ∙ sym (capacity_by_blocks b.0 1 1)); packed = omega (arith, held, e.packed) });
         refused = search rules;
       };
     }

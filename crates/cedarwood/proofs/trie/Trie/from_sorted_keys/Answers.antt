@@ -1,8 +1,9 @@
-use Rattle.std.proofs.Common.{◌≡◌, ◌∙◌, ap, sym, rules, None, Err, Option, []}
+use Rattle.std.proofs.Common.{◌≡◌, ◌∙◌, ap, arith, sym, rules, None, Err, Option, []}
 use Rattle.std.proofs.lemmas.Result.{err_from_is_err_and}
 use Rattle.cedar_bulk.specs.Sorted.{entries_by}
 use Rattle.cedarwood.specs.declared.error.CedarError.{CedarError}
 use Rattle.cedarwood.specs.SortedInput.{fault_from}
+use Rattle.cedar_model.proofs.MeaningLemmas.HeldCount.{count_is_marked}
 use Rattle.cedarwood.proofs.DictionaryLemmas.{limit_of}
 use Rattle.cedarwood.proofs.FaultLemmas.{no_fault}
 use Rattle.cedarwood.proofs.GrowthLemmas.{capacity_by_blocks}
@@ -46,10 +47,11 @@ returns g c =
     let first : Option CedarError = fault_from 0 [] (entries_by g.K.AsSlice.items c.args.pairs.now) in
     let fine : first ≡ None = no_fault first c.check_sorted.result tt c.check_sorted.ensures.faulty c.in_ok-check_sorted.was in
     let b = c.in_ok-build_sorted.ensures.blocks in
+    let held = count_is_marked g.row.SLOTS _ c.in_ok-build_sorted.ensures.well_formed in
     record {
       built = record {
         faulty = faultless first _ fine;
-        sorted = record { tree = search rules; marks = search rules; ordered = search rules; max_trial = search rules; size = (b.0, b.1, b.2, b.3 ∙ sym (capacity_by_blocks b.0 1 1)) };
+        sorted = record { tree = search rules; marks = search rules; ordered = search rules; max_trial = search rules; size = (b.0, b.1, b.2, b.3 ∙ sym (capacity_by_blocks b.0 1 1)); packed = omega (arith, held, c.in_ok-build_sorted.ensures.packed) };
         refused = search rules;
       };
     }

@@ -1,6 +1,7 @@
 use Rattle.std.proofs.Common.{rules, ◌≡◌, ℕ, ℤ, ◌<◌, None, Some, Option, IfOk, IsSome, IfSome, true, false, Err, arith, get_or, subst, sym, w32, to_z, of_z, FitsSigned, Result}
 use Rattle.std.proofs.lemmas.Int.{to_z-of_z}
-use Rattle.std.proofs.lemmas.Result.{err_from_is_err_and}
+use Rattle.std.proofs.lemmas.Result.{err_from_is_err_and, on_ok_weaker}
+use Rattle.cedar_model.specs.Edit.Packing.{PacksKey}
 use Rattle.cedar_tree.specs.Tree.{IsSound, number_at}
 use Rattle.cedar_table.specs.Table.Views.{fields}
 use Rattle.cedarwood.specs.declared.error.CedarError.{CedarError}
@@ -16,7 +17,7 @@ use Rattle.cedarwood.proofs.FaultLemmas.{no_fault, key_of, in_range_of}
 use Rattle.cedarwood.proofs.GrowthLemmas.{dictionary_of}
 use Rattle.cedarwood.proofs.MarkedLemmas.{is_marked}
 use Rattle.cedarwood.proofs.OutcomeLemmas.{answer_handed_on, answer_has, fault_updates, if_err_out, is_ok_or_out, is_ok_out, limit_out, memory_out, on_err_out, on_ok_out, outcome_is_told, told_outcome}
-use Rattle.cedarwood.proofs.UpdateLemmas.{why_refused, at_one_byte, fault_of, grows_by, is_refused, is_spare, marks_follow, marks_remain, over_held, state_stays, stored_is}
+use Rattle.cedarwood.proofs.UpdateLemmas.{why_refused, at_one_byte, fault_of, grows_by, is_refused, is_spare, marks_follow, marks_remain, over_held, packs_update, state_stays, stored_is}
 use Rattle.cedarwood.proofs.trie.Trie.insert_bytes.Goals as goal
 
 -- ---- what holds at first
@@ -83,6 +84,7 @@ returns-clause-updated g c =
       spare = λ room _. is_ok_out r (is_spare slots old new d is r key made.0 u.well_formed.table.within u.refused made.2 made.3 room);
       over = over_held slots old new d is r key u.over;
       one_byte = λ b first absent _. is_ok_or_out _ _ r (at_one_byte slots old new d is r key c.self.invariant b (u.one_byte b first) absent);
+      packs = on_ok_out _ r (on_ok_weaker r (λ (p : PacksKey old new key). packs_update slots old new d is r key c.self.invariant u.well_formed p) u.packs);
       max_trial = search (rules, u.modes.max_trial);
     })
 

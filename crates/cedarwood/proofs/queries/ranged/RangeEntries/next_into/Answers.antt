@@ -1,13 +1,16 @@
 use Rattle.std.proofs.Common.{◌≡◌, ◌<◌, ◌∙◌, [], ◌∷◌, ap, arith, FitsSigned, length, option_map, refl, rules, Some, subst, sym, w32, ℤ, List, ℕ}
+use Rattle.std.specs.Prelude.{vec_capacity}
 use Rattle.std.specs.List.{filter}
 use Rattle.std.specs.Borrow.{Bor}
 use Rattle.std.proofs.lemmas.Bool.{true≢false}
 use Rattle.std.proofs.lemmas.Int.{to_z-of_z}
 use Rattle.cedar_tree.specs.Queries.{Entry}
 use Rattle.cedar_tree.specs.Walks.{visited_entries}
+use Rattle.cedar_walk.specs.Keys.{KeyOutgrows}
 use Rattle.cedar_walk.specs.Visits.{left_at}
+use Rattle.cedar_walk.proofs.WalkLemmas.Keys.{long_path}
 use Rattle.cedarwood.specs.RangeWalks.{bounded, follows_end, IsEnd, IsRangePlace}
-use Rattle.cedarwood.proofs.BoundedLemmas.{ended, goes_on, some_left, step_of}
+use Rattle.cedarwood.proofs.BoundedLemmas.{ended, goes_on, next_outgrows, some_left, step_of}
 use Rattle.cedarwood.proofs.RangeLemmas.{range_place, ranged_is}
 use Rattle.cedarwood.proofs.queries.ranged.RangeEntries.next_into.Goals as goal
 
@@ -56,5 +59,19 @@ returns-in-Ok-clause-found g c =
     sym c.self.view_is
     ∙ ap (bounded T start to) c.in-Some.is
     ∙ step_of T start to next found on.0 comes
-    ∙ ap (λ (w : List ℕ). (w, next.number) ∷ bounded T start to found) (sym c.in-Ok.ensures)
+    ∙ ap (λ (w : List ℕ). (w, next.number) ∷ bounded T start to found) (sym c.in-Ok.ensures.written)
     ∙ ap (λ (v : ℤ). (c.write_key.new.key.items, v) ∷ bounded T start to found) (sym (to_z-of_z w32 next.number fits))
+
+pub returns-in-Err-clause-full : goal.returns-in-Err-clause-full
+returns-in-Err-clause-full g c =
+    let T = g.T.Walked.shown c.self.inside.trie.now in
+    let start = c.self.inside.start.now in
+    let to = option_map (λ (bound : Bor (List ℕ)). bound.now) c.self.inside.to in
+    let i = c.self.invariant in
+    let next = c.in-Some.next in
+    let room = vec_capacity c.args.key.now in
+    let here = subst (IsRangePlace T start) c.in-Some.is i.1 in
+    let end = subst (λ x. IsEnd T start to x c.self.inside.end) c.in-Some.is i.3 in
+    let on = goes_on g.T.Walked.slots T i.0 start next here to c.self.inside.end i.2 end (λ e is same. true≢false (sym (c.ends_at.ensures.1 (e, is, sym same)) ∙ c.if-ends_at.false)) in
+    subst (KeyOutgrows room) (sym (ap (bounded T start to) c.in-Some.is) ∙ c.self.view_is)
+    (next_outgrows T start to next room on.0 (long_path T start next.depth next.slot room c.in-Err.ensures.full))

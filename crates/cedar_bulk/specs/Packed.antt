@@ -1,0 +1,64 @@
+-- How full the blocks of a table made of sorted pairs are: one slot alone goes wherever a slot is free, so that blocks are made for nodes
+-- that take several slots at once, or else where all blocks but the first are full.
+use Rattle.std.specs.Prelude.{◌≡◌, ◌⊎◌, ℕ, ◌+◌, ◌*◌, ◌≤◌, nat_lt, cond, ℤ, List, [], ◌∷◌, ◌++◌, length, Option}
+use Rattle.cedar_tree.specs.Tree.{Forest, none, child, Tree}
+use Rattle.cedar_bulk.specs.declared.spans.Span.{Span}
+use Rattle.cedar_model.specs.Edit.Packing.{Packs, TakesOne}
+use Rattle.cedar_model.specs.Meaning.StandsFor.{labels}
+use Rattle.cedar_model.specs.Table.TableFields.{Fields}
+use Rattle.cedar_bulk.specs.Sorted.{entries_by, slot_labels}
+use Rattle.cedar_bulk.specs.Spans.{Filling, IsTreeOfSpan, Part}
+
+-- ---- the tree
+
+-- 1 for a node that takes several slots, having several labels, or a number and a label; 0 for one that takes one or none
+abbrev pub crowd : Option ℤ → List ℕ → ℕ
+crowd number ls = cond (nat_lt 1 (length (slot_labels number ls))) 1 0
+
+-- how many of some siblings, and of the nodes below them, take several slots
+abbrev pub crowded_forest : Forest → ℕ
+crowded_forest none = 0
+crowded_forest (child l n u rest) = crowd n (labels u) + crowded_forest u + crowded_forest rest
+
+-- how many nodes below the root take several slots
+abbrev pub crowded : Tree → ℕ
+crowded t = crowded_forest t.children
+
+-- ---- the table
+
+-- a table of the tree t has at most 255 free slots outside block 0, and 256 others for each node that takes several slots
+abbrev pub IsPacked : Tree → Fields → Type 0
+IsPacked t T = Packs (length (labels t.children)) (256 * crowded t) T
+
+-- ---- one node
+
+-- the node of a span takes one slot, or several
+abbrev pub PacksSpan : {K : Type 0} → (K → List ℕ) → Fields → Fields → Span K → Type 0
+PacksSpan bytes before after span =
+    (t : Tree) → IsTreeOfSpan span.depth (entries_by bytes span.pairs.now) t → TakesOne before after ⊎ (crowd t.number (labels t.children) ≡ 1)
+
+-- ---- a turn
+
+-- n nodes that wait, or that come below these, take several slots
+abbrev pub Crowds : List Part → ℕ → Type 0
+Crowds [] n = n ≡ 0
+Crowds (s ∷ ss) n =
+    (t : Tree) × (m : ℕ) × IsTreeOfSpan s.depth s.entries t × (n ≡ crowd t.number (labels t.children) + crowded t + m) × Crowds ss m
+
+-- a table on the way to the tree with the children g, for which these spans wait, has few free slots for the nodes that it has
+pub record Packed (T : Fields) (spans : List Part) (g : Forest) : Type 0 where
+  pub filled : ℕ
+  pub left : ℕ
+  pub waits : Crowds spans left
+  pub whole : filled + left ≤ crowded_forest g
+  pub packs : Packs (length (labels g)) (256 * filled) T
+
+-- what a table on the way with this span behind others has free, it has at most without the span
+abbrev pub PacksTail : ℕ → Fields → Fields → Part → Type 0
+PacksTail slots before after s =
+    (ps : List Part) (g : Forest) (most spare : ℕ) → Filling slots before (ps ++ s ∷ []) g most → Packs (length (labels g)) spare before
+    → Packs (length (labels g)) spare after
+
+-- a table on the way with these spans, which has few free slots, has few with those ones
+abbrev pub PacksTurn : ℕ → Fields → Fields → List Part → List Part → Type 0
+PacksTurn slots before after parts left = (g : Forest) (most : ℕ) → Filling slots before parts g most → Packed before parts g → Packed after left g

@@ -1,0 +1,49 @@
+-- Why a run of the program ended early, and what is told of it.
+use Rattle.std.specs.Prelude.{◌≡◌, ◌⊎◌, ℕ, Bool, true, is_some, List, Option, codes}
+use Rattle.cedarwood.specs.WatchedDevice.{has_failed}
+use Rattle.cedarwood.specs.Words.{Watched}
+use Rattle.text_lines.specs.Written.{Writes}
+use Rattle.cedar_cli.specs.Options.{Request}
+use Rattle.cedar_cli.specs.declared.program.Fault.{Fault}
+use Rattle.cedar_cli.specs.declared.program.Fault.TheVariants.{Load, Save, Script}
+use Rattle.cedar_cli.specs.declared.script.ScriptError.{ScriptError}
+use Rattle.cedar_cli.specs.declared.script.ScriptError.TheVariants.{Memory, Read, SlotLimit, Write}
+
+-- the line that tells of a fault of a script
+abbrev pub fault_text : ScriptError → List ℕ
+fault_text Read = codes "cedar: read fault\n"
+fault_text Write = codes "cedar: write fault\n"
+fault_text Memory = codes "cedar: out of memory\n"
+fault_text SlotLimit = codes "cedar: slot limit\n"
+
+-- What a fault of a script shows of its devices, of which the tests before a run (`unread`, of the reader) and after it tell: a reader or a
+-- writer that has failed; or memory or slots were wanting, and then no read of the run failed.
+abbrev pub ShowsCause : Bool → Bool → Bool → ScriptError → Type 0
+ShowsCause unread read written Read = read ≡ true
+ShowsCause unread read written Write = written ≡ true
+ShowsCause unread read written fault = read ≡ unread
+
+-- a run ended early, by a fault of its script that shows its cause, or by that of a load or a save that was asked for
+abbrev pub EndsBy : Request → Bool → Bool → Bool → Fault → Type 0
+EndsBy asked unread read written (Script fault) = ShowsCause unread read written fault
+EndsBy asked unread read written (Load e) = is_some asked.load ≡ true
+EndsBy asked unread read written (Save e) = is_some asked.save ≡ true
+
+-- a line was written, or a call of the writer failed
+abbrev pub WritesOrFailed : {E : Type 0} → (E → Option (List ℕ)) → Watched E → Watched E → List ℕ → Type 0
+WritesOrFailed contents before after line = Writes contents before after line ⊎ (has_failed after ≡ true)
+
+-- a fault is reported: one of the script by its line and status 1, and one of a load or a save by status 3
+abbrev pub IsReported : {E : Type 0} → (E → Option (List ℕ)) → Watched E → Watched E → Fault → ℕ → Type 0
+IsReported contents before after (Script fault) status = (status ≡ 1) × WritesOrFailed contents before after (fault_text fault)
+IsReported contents before after (Load e) status = status ≡ 3
+IsReported contents before after (Save e) status = status ≡ 3
+
+-- the line of some fault of a script was written, which shows its cause
+abbrev pub TellsCause : {E : Type 0} → (E → Option (List ℕ)) → Watched E → Watched E → Bool → Bool → Bool → Type 0
+TellsCause contents before after unread read written =
+    (fault : ScriptError) × ShowsCause unread read written fault × WritesOrFailed contents before after (fault_text fault)
+
+-- a load or a save was asked for
+abbrev pub AsksForFile : Request → Type 0
+AsksForFile asked = (is_some asked.load ≡ true) ⊎ (is_some asked.save ≡ true)

@@ -1,0 +1,132 @@
+-- Bytes that are written by one call behind another.
+use Rattle.std.specs.Prelude.{IsTrue}
+use Rattle.std.proofs.Common.{◌≡◌, ℕ, ◌+◌, ◌-◌, ◌≤◌, Bool, true, false, List, [], ◌∷◌, ◌++◌, length, take, drop, slice_range, refl, sym, ◌∙◌, ap, subst, arith, append-nil, append_assoc, length-append, length-drop, length-take-le, take-append-drop}
+use Rattle.std.proofs.lemmas.Bool.{le-leb}
+use Rattle.std.proofs.lemmas.List.{drop-drop, drop_all, drop_at, take_all, take_at, take_rest}
+use lib.Seq.{take-add}
+use Rattle.cedar_journal.specs.Device.{Follows, Only, Torn}
+use Rattle.cedar_disk.specs.Calls.{Call, MayLeave, is_usable_after, opened, overlaid, seen_after, synced, written}
+use Rattle.cedar_disk.specs.Runs.{AreWritten, Spoils}
+use Rattle.cedar_journal.proofs.Tears.{torn_same, torn_then}
+use Rattle.cedar_disk.proofs.Steps.{both, elapses_none, elapses_on, overlaid_length, synced_only}
+
+-- ---- bytes over bytes
+
+overlaid_none : (file : List ℕ) (at : ℕ) → overlaid file at [] ≡ file
+overlaid_none file at =
+    let here : at + 0 ≡ at = omega arith in
+    ap (λ (l : List ℕ). l ++ drop (at + 0) file) (append-nil (take at file)) ∙ ap (λ (k : ℕ). take at file ++ drop k file) here ∙ take-append-drop at file
+
+overlaid_more : (file : List ℕ) (at : ℕ) (front more : List ℕ) → at ≤ length file → overlaid (overlaid file at front) (at + length front) more ≡ overlaid file at (front ++ more)
+overlaid_more file at front more within =
+    let m = at + length front in
+    let a = take at file ++ front in
+    let d = drop m file in
+    let size : length a ≡ m = omega (arith, length-append (take at file) front, length-take-le at file within) in
+    let head : take m (a ++ d) ≡ a = take_at a d m size in
+    let tail : drop (m + length more) (a ++ d) ≡ drop (m + length more) file =
+    sym (drop-drop (length more) m (a ++ d)) ∙ ap (λ (l : List ℕ). drop (length more) l) (drop_at a d m size) ∙ drop-drop (length more) m file in
+    let end : m + length more ≡ at + length (front ++ more) = omega (arith, length-append front more) in
+    ap (λ (l : List ℕ). l ++ more ++ drop (m + length more) (a ++ d)) head
+    ∙ ap (λ (l : List ℕ). a ++ more ++ l) tail
+    ∙ ap (λ (l : List ℕ). l ++ drop (m + length more) file) (append_assoc (take at file) front more)
+    ∙ ap (λ (k : ℕ). take at file ++ (front ++ more) ++ drop k file) end
+
+-- a whole file
+overlaid_all : (bytes : List ℕ) → overlaid [] 0 bytes ≡ bytes
+overlaid_all bytes = ap (λ (l : List ℕ). bytes ++ l) (drop_all (0 + length bytes) [] (omega arith)) ∙ append-nil bytes
+
+-- ---- calls
+
+spoils_none : (at size : ℕ) (calls : List Call) → Spoils at size calls calls
+spoils_none at size calls = record {
+  crash = λ c left. (c, left, torn_same at size c);
+  time = elapses_none calls;
+  faults = omega arith;
+  within = λ within. within;
+}
+
+pub are_written_none : (at size : ℕ) (calls : List Call) → AreWritten at size [] calls calls
+are_written_none at size calls = record {
+  seen = sym (overlaid_none (seen_after calls) at);
+  usable = λ usable. usable;
+  spoils = spoils_none at size calls;
+}
+
+module _ (at size : ℕ) (front : List ℕ) (old now : List Call) (fits : at ≤ length (seen_after old)) (so_far : AreWritten at size front old now) where
+  begins : (from : ℕ) → from ≤ at + length front → from ≤ length (seen_after now)
+  begins from high = omega (arith, high, ap length so_far.seen, overlaid_length at front (seen_after old) fits)
+
+  -- a call that wrote more bytes, or all those or some if it failed
+  spoils_more : (from : ℕ) (more : List ℕ) → at ≤ from → from ≤ at + length front → length front + length more ≤ size → (ok : Bool)
+      → Follows (Torn at size) (MayLeave old) (MayLeave (written from more ok ∷ now))
+  spoils_more from more low high room ok c left =
+      let earlier = so_far.spoils.crash left.0 left.1 in
+      (earlier.0, earlier.1, torn_then at size from (length more) earlier.0 left.0 c low (omega (arith, high, room)) earlier.2 left.2)
+
+  pub are_written_more : (from : ℕ) (more : List ℕ) → from ≡ at + length front → length front + length more ≤ size → AreWritten at size (front ++ more) old (written from more true ∷ now)
+  are_written_more from more is room = record {
+    seen =
+        ap (λ (f : List ℕ). overlaid f from more) so_far.seen ∙ ap (λ (k : ℕ). overlaid (overlaid (seen_after old) at front) k more) is
+        ∙ overlaid_more (seen_after old) at front more fits;
+    usable = λ usable. both _ _ (so_far.usable usable) refl;
+    spoils = record {
+      crash = spoils_more from more (omega (arith, is)) (omega (arith, is)) room true;
+      time = elapses_on (written from more true) old now so_far.spoils.time (λ c left. (c, left, torn_same from (length more) c));
+      faults = so_far.spoils.faults;
+      within = λ within. both _ _ (le-leb from (length (seen_after now)) (begins from (omega (arith, is)))) (so_far.spoils.within within);
+    };
+  }
+
+  pub spoils_failed : (from : ℕ) (more : List ℕ) → at ≤ from → from ≤ at + length front → length front + length more ≤ size → Spoils at size old (written from more false ∷ now)
+  spoils_failed from more low high room = record {
+    crash = spoils_more from more low high room false;
+    time = elapses_on (written from more false) old now so_far.spoils.time (λ c left. (c, left, torn_same from (length more) c));
+    faults = omega (arith, so_far.spoils.faults);
+    within = λ within. both _ _ (le-leb from (length (seen_after now)) (begins from high)) (so_far.spoils.within within);
+  }
+
+-- ---- the loop
+
+fronts : (bytes : List ℕ) (done n : ℕ) → take done bytes ++ take n (slice_range bytes done (length bytes)) ≡ take (done + n) bytes
+fronts bytes done n = ap (λ (l : List ℕ). take done bytes ++ take n l) (take_rest bytes done) ∙ sym (take-add done n bytes)
+
+module _ (bytes : List ℕ) (done : ℕ) (within : done ≤ length bytes) where
+  front_length : length (take done bytes) ≡ done
+  front_length = length-take-le done bytes within
+
+  rest_length : length (slice_range bytes done (length bytes)) ≡ length bytes - done
+  rest_length = ap length (take_rest bytes done) ∙ length-drop done bytes
+
+module _ (at done from : ℕ) (bytes : List ℕ) (old now new : List Call) (fits : at ≤ length (seen_after old)) (within : done ≤ length bytes)
+    (so_far : AreWritten at (length bytes) (take done bytes) old now) where
+  pub wrote_more : (n : ℕ) → from ≡ at + done → done + n ≤ length bytes → new ≡ written from (take n (slice_range bytes done (length bytes))) true ∷ now
+      → AreWritten at (length bytes) (take (done + n) bytes) old new
+  wrote_more n is room noted =
+      let more = take n (slice_range bytes done (length bytes)) in
+      let front = front_length bytes done within in
+      let size : length more ≡ n = length-take-le n (slice_range bytes done (length bytes)) (omega (arith, rest_length bytes done within, room)) in
+      subst (λ (l : List Call). AreWritten at (length bytes) (take (done + n) bytes) old l) (sym noted)
+      (subst (λ (l : List ℕ). AreWritten at (length bytes) l old (written from more true ∷ now)) (fronts bytes done n)
+      (are_written_more at (length bytes) (take done bytes) old now fits so_far from more (omega (arith, is, front)) (omega (arith, front, size, room))))
+
+  pub wrote_perhaps : at ≤ from → from ≤ at + done → new ≡ written from (slice_range bytes done (length bytes)) false ∷ now → Spoils at (length bytes) old new
+  wrote_perhaps low high noted =
+      let front = front_length bytes done within in
+      subst (λ (l : List Call). Spoils at (length bytes) old l) (sym noted)
+      (spoils_failed at (length bytes) (take done bytes) old now fits so_far from (slice_range bytes done (length bytes)) low (omega (arith, high, front))
+      (omega (arith, front, rest_length bytes done within, within)))
+
+-- at its end
+pub wrote_all : (at done : ℕ) (bytes : List ℕ) (old now : List Call) → length bytes ≤ done → AreWritten at (length bytes) (take done bytes) old now → AreWritten at (length bytes) bytes old now
+wrote_all at done bytes old now all so_far = subst (λ (l : List ℕ). AreWritten at (length bytes) l old now) (take_all done bytes all) so_far
+
+-- ---- a new file
+
+pub new_file : (bytes : List ℕ) (start now : List Call) → start ≡ opened [] ∷ [] → AreWritten 0 (length bytes) bytes start now → seen_after now ≡ bytes
+new_file bytes start now is so_far = so_far.seen ∙ ap (λ (l : List Call). overlaid (seen_after l) 0 bytes) is ∙ overlaid_all bytes
+
+pub new_file_only : (bytes : List ℕ) (start now new : List Call) → start ≡ opened [] ∷ [] → AreWritten 0 (length bytes) bytes start now → new ≡ synced true ∷ now → Only bytes (MayLeave new)
+new_file_only bytes start now new is so_far noted =
+    let usable : IsTrue (is_usable_after now) = so_far.usable (subst (λ (l : List Call). IsTrue (is_usable_after l)) (sym is) refl) in
+    subst (λ (l : List Call). Only bytes (MayLeave l)) (sym noted) (λ c left. synced_only now usable c left ∙ new_file bytes start now is so_far)

@@ -1,0 +1,40 @@
+-- The name of a file that is written beside another one.
+use Rattle.std.specs.Prelude.{◌≡◌, ◌≢◌, ◌<◌, ◌≤◌, ◌⊎◌, ◌+◌, ◌/◌, ◌%◌, ◌==◌, ◌++◌, ◌∷◌, [], codes, if◌then◌else◌, length, nat_lt, ℕ, List, take}
+use Rattle.std.specs.Str.{NoCharPasses}
+
+-- what ends the name of a file while it is written
+abbrev pub new_suffix : List ℕ
+new_suffix = codes ".new"
+
+-- What stands before that: nothing, or a full stop and a number of one digit or two, as `.7`.
+abbrev pub mark_of : ℕ → List ℕ
+mark_of number = if number == 0 then [] else if nat_lt number 10 then 46 ∷ (48 + number) ∷ [] else 46 ∷ (48 + number / 10) ∷ (48 + number % 10) ∷ []
+
+-- no character of a name is a slash
+abbrev pub HasNoSlash : List ℕ → Type 0
+HasNoSlash name = NoCharPasses (λ c. c == 47) name
+
+-- What is kept of a name that further bytes follow: a front, so that both are no longer than the 255 bytes that a name may have; all of
+-- it, if it is short enough, and otherwise so little that both are shorter than it.
+pub record KeepsFront (more : ℕ) (name kept : List ℕ) : Type 0 where
+  pub front : kept ≡ take (length kept) name
+  pub room : length kept + more ≤ 255
+  pub whole : length name + more ≤ 255 → kept ≡ name
+  pub other : (kept ≡ name) ⊎ (length kept + more < length name)
+
+-- A path beside another one, which it never is: in the same folder, with what is kept of that one's last name, and the suffix.
+pub record IsBeside (path beside : List ℕ) : Type 0 where
+  pub folder : List ℕ
+  pub name : List ℕ
+  pub kept : List ℕ
+  pub number : ℕ
+  pub whole : path ≡ folder ++ name
+  pub last : HasNoSlash name
+  pub few : number < 100
+  pub keeps : KeepsFront (length (mark_of number ++ new_suffix)) name kept
+  pub is : beside ≡ folder ++ (kept ++ (mark_of number ++ new_suffix))
+  pub other : beside ≢ path
+
+-- a path beside another one, as a fact with one proof
+abbrev pub LiesBeside : List ℕ → List ℕ → Type 0
+LiesBeside path beside = ∥ IsBeside path beside ∥₁

@@ -1,0 +1,17 @@
+-- What a new file holds.
+use Rattle.std.specs.Prelude.{ℕ, List}
+use Rattle.std.specs.declared.io.traits.Read as read
+use Rattle.std.specs.declared.io.traits.Write as write
+use Rattle.std.specs.declared.io.traits.Seek as seek
+use Rattle.cedar_disk.specs.declared.whole.NewFile.{NewFile}
+use Rattle.cedar_disk.specs.Calls.{Call, seen_after}
+use Rattle.cedar_disk.specs.NotedFiles.{noted_calls}
+
+module _ {F G D : Type 0} {r : read.Ghosts G} {w : write.Ghosts G} {s : seek.Ghosts G} {d : read.Ghosts D} where
+  -- the calls on it, of which the newest comes first
+  abbrev pub new_calls : NewFile F G D r w s d → List Call
+  new_calls new = noted_calls new.file
+
+  -- what was written to it
+  abbrev pub new_bytes : NewFile F G D r w s d → List ℕ
+  new_bytes new = seen_after (new_calls new)

@@ -1,0 +1,12 @@
+-- What is known of a file whose calls are noted.
+use Rattle.std.specs.Prelude.{Bool, List}
+use Rattle.cedar_disk.specs.declared.noted.Noted.{Noted}
+use Rattle.cedar_disk.specs.Calls.{Call}
+
+-- the calls on it, of which the newest comes first
+abbrev pub noted_calls : {T : Type 0} → Noted T → List Call
+noted_calls file = file.history.calls
+
+-- it lies beside the one that it is to replace
+abbrev pub is_beside : {T : Type 0} → Noted T → Bool
+is_beside file = file.is_beside

@@ -1,0 +1,40 @@
+-- What calls on a file do one behind another: time goes on, bytes are written in as many calls as the system takes, and a file takes the
+-- name of another one.
+use Rattle.std.specs.Prelude.{◌≡◌, ◌⊎◌, ◌<◌, ◌≤◌, ◌^◌, ℕ, true, false, List, ◌∷◌, length, take, IsTrue}
+use Rattle.cedar_journal.specs.Device.{Elapses, Follows, Torn}
+use Rattle.cedar_disk.specs.Calls.{Call, LeftSince, MayLeave, all_within, faults_in, is_usable_after, named, overlaid, refused_call, renamed, seen_after, written}
+use Rattle.cedar_disk.specs.declared.wrote.Wrote.{Wrote}
+use Rattle.cedar_disk.specs.declared.wrote.Wrote.TheVariants.{Bytes, Nothing, Failed}
+
+-- a write of these bytes at this offset, as it is noted: exactly those that the system took, or that any of them may be there
+abbrev pub write_call : ℕ → List ℕ → Wrote → Call
+write_call at bytes (Bytes n) = written at (take n bytes) true
+write_call at bytes Nothing = refused_call
+write_call at bytes (Failed e) = written at bytes false
+
+-- of n bytes at this offset some were taken
+abbrev pub TookSome : ℕ → ℕ → Wrote → Type 0
+TookSome at n (Bytes count) = (0 < count) × (count ≤ n) × (at < 2 ^ 63)
+TookSome at n Nothing = Unit {0}
+TookSome at n (Failed e) = Unit {0}
+
+-- Time goes on from the one list to the other: what a crash may leave now, or might have left before, and nothing else.
+abbrev pub TimePasses : List Call → List Call → Type 0
+TimePasses old new = Elapses (length old) (length new) (LeftSince old) (LeftSince new) (MayLeave new)
+
+-- Between these calls nothing was changed but n bytes at this offset, in part or whole.
+pub record Spoils (at n : ℕ) (old new : List Call) : Type 0 where
+  pub crash : Follows (Torn at n) (MayLeave old) (MayLeave new)
+  pub time : TimePasses old new
+  pub faults : faults_in old ≤ faults_in new
+  pub within : IsTrue (all_within old) → IsTrue (all_within new)
+
+-- And these bytes were written there, the first of those n. No call failed but such as changed nothing.
+pub record AreWritten (at n : ℕ) (bytes : List ℕ) (old new : List Call) : Type 0 where
+  pub seen : seen_after new ≡ overlaid (seen_after old) at bytes
+  pub usable : IsTrue (is_usable_after old) → IsTrue (is_usable_after new)
+  pub spoils : Spoils at n old new
+
+-- The file of these bytes was given the name, or not; or it was, and that isn't known to be on the disk.
+abbrev pub IsUnplaced : List ℕ → List Call → List Call → Type 0
+IsUnplaced bytes old new = (new ≡ renamed bytes false ∷ old) ⊎ (new ≡ named false ∷ renamed bytes true ∷ old)

@@ -1,0 +1,384 @@
+//! A file and the calls on it. Whatever is done to its bytes and its name is done here, and each call of the system is noted with its answer.
+//!
+//! No contract can say what the system does. So this is believed: that each function here makes the call that its clause notes. The fields
+//! are private, so that no other module notes a call, or takes one that failed for one that was made.
+
+ghost use Rattle.std.specs.Prelude.{◌≡◌, ◌≤◌, ◌<◌, ◌^◌, ◌∷◌, [], false, IfOk, is_ok, length, OnErr, OnOk, true};
+ghost use Rattle.cedar_disk.specs.NotedFiles.{is_beside, noted_calls};
+ghost use Rattle.cedar_disk.specs.Words.{call_with, LiesBeside, MayLeave, named, Only, opened, refused_call, renamed, seen_after, shortened, synced, took_name, TookSome, write_call};
+
+use crate::OpenError;
+use crate::history::History;
+use crate::system::{keep_owner, open_file, open_folder, read_all, resolve};
+use crate::wrote::Wrote;
+use std::alloc::Allocator;
+use std::fs::{self, Metadata, OpenFile, OpenOptions};
+use std::io::{self, Read, Seek, SeekFrom, Write};
+use std::os::unix::fs::OpenOptionsExt;
+use std::path::PathBuf;
+use std::rt::Files;
+
+const OPENED: u64 = 0;
+
+const WRITTEN: u64 = 1;
+
+const SHORTENED: u64 = 2;
+
+const SYNCED: u64 = 3;
+
+const RENAMED: u64 = 4;
+
+const NAMED: u64 = 5;
+
+const REFUSED: u64 = 6;
+
+const TOOK_NAME: u64 = 7;
+
+/// No file is longer.
+const MAX_OFFSET: usize = (1 << 63) - 1;
+
+/// Where a file lies: its folder and its path.
+#[derive(Drop)]
+pub(crate) struct Place<F: Files + Drop, A: Allocator> {
+    files: F,
+    folder: F::File,
+    path: PathBuf<A>,
+}
+
+/// A file, with the calls on it.
+#[derive(Drop)]
+pub(crate) struct Noted<T: Read + Write + Seek + OpenFile + Drop> {
+    file: T,
+    // Whether it is the one beside.
+    is_beside: bool,
+    history: History,
+}
+
+/// The calls on a file that was made beside the one at a path: what was done there, each call with its answer. It occupies no memory.
+#[derive(Drop)]
+pub struct PathCalls {
+    history: History,
+}
+
+impl<F: Files + Drop, A: Allocator + Copy> Place<F, A> {
+    ghost use Rattle.cedar_disk.specs.PathFiles.{place_path};
+
+    /// Finds the file at `path`, or creates it. Links in the path are followed now and not later.
+    pub(crate) fn find(files: F, alloc: A, path: &str) -> Result<Place<F, A>, OpenError> {
+        let path = resolve(&files, alloc, path)?;
+        let folder = open_folder(&files, path.as_str())?;
+        Ok(Place {
+            files,
+            folder,
+            path,
+        })
+    }
+
+    /// Puts the file and its name on the disk, and reads it.
+    pub(crate) fn open(&self, alloc: A) -> io::Result<(Noted<F::File>, Vec<u8, A>)>
+        ensures noted { IfOk result (λ read. noted_calls read.0 ≡ opened read.1.items ∷ []) }
+        ensures name { IfOk result (λ read. is_beside read.0 ≡ false) }
+    {
+        let mut file = open_file(&self.files, self.path.as_str())?;
+        file.sync_all()?;
+        self.folder.sync_all()?;
+        let bytes = read_all(&mut file, alloc)?;
+        let mut history = History::new();
+        history.note(&[OPENED, 0, 1], &bytes);
+        let noted = Noted {
+            file,
+            is_beside: false,
+            history,
+        };
+        Ok((noted, bytes))
+    }
+
+    /// Returns the files that it lies among.
+    pub(crate) fn files(&self) -> &F {
+        &self.files
+    }
+
+    /// Returns the path.
+    pub(crate) fn path(&self) -> &str
+        ensures { result.now ≡ place_path self.now }
+    {
+        self.path.as_str()
+    }
+}
+
+/// Makes a file beside the one at a path, to be written from its start on. Nothing that has the name is opened, and no link is followed.
+pub(crate) fn make_beside<F: Files>(
+    files: &F,
+    name: &str,
+    _path: &str,
+    mode: u32,
+) -> io::Result<Noted<F::File>>
+    requires names { LiesBeside _path.now name.now }
+    ensures noted { IfOk result (λ made. noted_calls made ≡ opened [] ∷ []) }
+    ensures name { IfOk result (λ made. is_beside made ≡ true) }
+{
+    let file = OpenOptions::new()
+        .write(true)
+        .create_new(true)
+        .mode(mode)
+        .open(files, name)?;
+    let mut history = History::new();
+    history.note(&[OPENED, 0, 1], &[]);
+    Ok(Noted {
+        file,
+        is_beside: true,
+        history,
+    })
+}
+
+impl<T: Read + Write + Seek + OpenFile + Drop> Noted<T> {
+    ghost use Rattle.cedar_disk.specs.PathFiles.{path_calls, place_path};
+
+    fn note(&mut self, kind: u64, at: usize, ok: bool, bytes: &[u8])
+        ensures noted { noted_calls self.new ≡ call_with kind at ok bytes.now ∷ noted_calls self.old }
+        ensures name { is_beside self.new ≡ is_beside self.old }
+    {
+        self.history.note(&[kind, at as u64, u64::from(ok)], bytes);
+    }
+
+    // Notes a call with its answer, and returns that.
+    fn answered(
+        &mut self,
+        kind: u64,
+        at: usize,
+        bytes: &[u8],
+        answer: io::Result<()>,
+    ) -> io::Result<()>
+        ensures noted { noted_calls self.new ≡ call_with kind at (is_ok result) bytes.now ∷ noted_calls self.old }
+        ensures same { result ≡ answer }
+        ensures name { is_beside self.new ≡ is_beside self.old }
+    {
+        match answer {
+            Ok(()) => {
+                self.note(kind, at, true, bytes);
+                Ok(())
+            }
+            Err(error) => {
+                self.note(kind, at, false, bytes);
+                Err(error)
+            }
+        }
+    }
+
+    /// Notes a call of the device for which none of the system is made.
+    pub(crate) fn refuse(&mut self)
+        ensures noted { noted_calls self.new ≡ refused_call ∷ noted_calls self.old }
+        ensures name { is_beside self.new ≡ is_beside self.old }
+    {
+        self.note(REFUSED, 0, false, &[]);
+    }
+
+    /// Writes some of the bytes, the first of them at `at`.
+    pub(crate) fn write(&mut self, at: usize, bytes: &[u8]) -> Wrote
+        ensures noted { noted_calls self.new ≡ write_call at bytes.now result ∷ noted_calls self.old }
+        ensures took { TookSome at (length bytes.now) result }
+        ensures name { is_beside self.new ≡ is_beside self.old }
+    {
+        let wrote = write_some(&mut self.file, at, bytes);
+        self.note_write(at, bytes, wrote);
+        wrote
+    }
+
+    // Notes what a call did that writes.
+    fn note_write(&mut self, at: usize, bytes: &[u8], wrote: Wrote)
+        requires took { TookSome at (length bytes.now) wrote }
+        ensures noted { noted_calls self.new ≡ write_call at bytes.now wrote ∷ noted_calls self.old }
+        ensures name { is_beside self.new ≡ is_beside self.old }
+    {
+        match wrote {
+            Wrote::Bytes(count) => self.note(WRITTEN, at, true, &bytes[..count]),
+            Wrote::Nothing => self.refuse(),
+            Wrote::Failed(_) => self.note(WRITTEN, at, false, bytes),
+        }
+    }
+
+    /// Writes some of the bytes at the end of a file that was made beside another one: there the last call ended.
+    pub(crate) fn append(&mut self, end: usize, bytes: &[u8]) -> Wrote
+        requires beside { is_beside self.old ≡ true }
+        requires end { end ≡ length (seen_after (noted_calls self.old)) }
+        ensures noted { noted_calls self.new ≡ write_call end bytes.now result ∷ noted_calls self.old }
+        ensures took { TookSome end (length bytes.now) result }
+        ensures name { is_beside self.new ≡ is_beside self.old }
+    {
+        let wrote = write_on(&mut self.file, end, bytes);
+        self.note_write(end, bytes, wrote);
+        wrote
+    }
+
+    /// Hands on what the file itself holds back: nothing, if it is one of the system.
+    pub(crate) fn flush(&mut self) -> io::Result<()>
+        ensures noted { noted_calls self.new ≡ noted_calls self.old }
+        ensures name { is_beside self.new ≡ is_beside self.old }
+    {
+        self.file.flush()
+    }
+
+    /// Returns what the system says of the file.
+    pub(crate) fn metadata(&self) -> io::Result<Metadata> {
+        self.file.metadata()
+    }
+
+    /// Gives a file beside another one that one's owner, as far as the system allows it, and its permissions, if the system has any.
+    pub(crate) fn look_like<F: Files>(
+        &self,
+        files: &F,
+        name: &str,
+        other: &Metadata,
+    ) -> io::Result<()> {
+        keep_owner(&self.file, files, name, other);
+        match self.file.set_permissions(other.permissions()) {
+            Err(error) if error.kind() == io::ErrorKind::Unsupported => Ok(()),
+            answer => answer,
+        }
+    }
+
+    /// Cuts the file to its first `len` bytes.
+    pub(crate) fn cut(&mut self, len: usize) -> io::Result<()>
+        ensures noted { noted_calls self.new ≡ shortened len (is_ok result) ∷ noted_calls self.old }
+        ensures name { is_beside self.new ≡ is_beside self.old }
+    {
+        let answer = self.file.set_len(len as u64);
+        self.answered(SHORTENED, len, &[], answer)
+    }
+
+    /// Waits until the disk has the bytes and the length, and of a file beside the permissions too.
+    pub(crate) fn sync(&mut self) -> io::Result<()>
+        ensures noted { noted_calls self.new ≡ synced (is_ok result) ∷ noted_calls self.old }
+        ensures name { is_beside self.new ≡ is_beside self.old }
+    {
+        let answer = if self.is_beside {
+            self.file.sync_all()
+        } else {
+            self.file.sync_data()
+        };
+        self.answered(SYNCED, 0, &[], answer)
+    }
+
+    /// Gives this file, which lies beside, the name of the other one; or removes it, if that fails.
+    pub(crate) fn take_name<F: Files + Drop, A: Allocator>(
+        &mut self,
+        place: &Place<F, A>,
+        name: &str,
+        other: Noted<T>,
+        bytes: &[u8],
+    ) -> io::Result<()>
+        requires beside { is_beside self.old ≡ true }
+        requires names { LiesBeside (place_path place.now) name.now }
+        requires other { is_beside other ≡ false }
+        requires bytes { seen_after (noted_calls self.old) ≡ bytes.now }
+        requires durable { Only bytes.now (MayLeave (noted_calls self.old)) }
+        ensures noted { noted_calls self.new ≡ renamed bytes.now (is_ok result) ∷ noted_calls other }
+        ensures name { is_beside self.new ≡ false }
+    {
+        let Noted { history, .. } = other;
+        let path = place.path.as_str();
+        let answer = fs::rename(&place.files, name, path);
+        if answer.is_err() {
+            self.remove(&place.files, name, path);
+        }
+        self.is_beside = false;
+        self.history = history;
+        self.answered(RENAMED, 0, bytes, answer)
+    }
+
+    /// Waits until the disk has the file's name.
+    pub(crate) fn sync_name<F: Files + Drop, A: Allocator>(
+        &mut self,
+        place: &Place<F, A>,
+    ) -> io::Result<()>
+        ensures noted { noted_calls self.new ≡ named (is_ok result) ∷ noted_calls self.old }
+        ensures name { is_beside self.new ≡ is_beside self.old }
+    {
+        self.sync_folder(&place.folder)
+    }
+
+    /// Gives this file, which lies beside the one at a path, that one's name.
+    pub(crate) fn take_path<F: Files>(
+        &mut self,
+        files: &F,
+        name: &str,
+        path: &str,
+    ) -> io::Result<()>
+        requires beside { is_beside self.old ≡ true }
+        requires names { LiesBeside path.now name.now }
+        requires durable { Only (seen_after (noted_calls self.old)) (MayLeave (noted_calls self.old)) }
+        ensures noted { noted_calls self.new ≡ took_name (is_ok result) ∷ noted_calls self.old }
+        ensures kept { OnErr result (is_beside self.new ≡ true) }
+        ensures taken { OnOk result (is_beside self.new ≡ false) }
+    {
+        let answer = fs::rename(files, name, path);
+        self.is_beside = answer.is_err();
+        self.answered(TOOK_NAME, 0, &[], answer)
+    }
+
+    /// Waits until the disk has the names of a folder.
+    pub(crate) fn sync_folder<D: OpenFile>(&mut self, folder: &D) -> io::Result<()>
+        ensures noted { noted_calls self.new ≡ named (is_ok result) ∷ noted_calls self.old }
+        ensures name { is_beside self.new ≡ is_beside self.old }
+    {
+        let answer = folder.sync_all();
+        self.answered(NAMED, 0, &[], answer)
+    }
+
+    /// Removes the file, which lies beside the one at a path.
+    pub(crate) fn remove<F: Files>(&self, files: &F, name: &str, _path: &str)
+        requires beside { is_beside self.now ≡ true }
+        requires names { LiesBeside _path.now name.now }
+    {
+        let _ = fs::remove_file(files, name);
+    }
+
+    /// Returns what was done.
+    pub(crate) fn into_calls(self) -> PathCalls
+        ensures { path_calls result ≡ noted_calls self }
+    {
+        let Noted { history, .. } = self;
+        PathCalls { history }
+    }
+}
+
+// Writes some of the bytes by one call.
+fn write_some<T: Write + Seek>(file: &mut T, at: usize, bytes: &[u8]) -> Wrote
+    ensures { TookSome at (length bytes.now) result }
+{
+    if at > MAX_OFFSET {
+        return Wrote::Failed(io::ErrorKind::FileTooLarge.into());
+    }
+    told(at, bytes, write_once(file, at, bytes))
+}
+
+fn write_once<T: Write + Seek>(file: &mut T, at: usize, bytes: &[u8]) -> io::Result<usize>
+    ensures { IfOk result (λ count. count ≤ length bytes.now) }
+{
+    file.seek(SeekFrom::Start(at as u64))?;
+    file.write(bytes)
+}
+
+// Writes some of the bytes by one call, where the last one ended.
+fn write_on<T: Write>(file: &mut T, at: usize, bytes: &[u8]) -> Wrote
+    ensures { TookSome at (length bytes.now) result }
+{
+    if at > MAX_OFFSET {
+        return Wrote::Failed(io::ErrorKind::FileTooLarge.into());
+    }
+    told(at, bytes, file.write(bytes))
+}
+
+// What a call did, by its answer. A call that takes none of some bytes has failed.
+fn told(at: usize, _bytes: &[u8], answer: io::Result<usize>) -> Wrote
+    requires offset { at < 2 ^ 63 }
+    requires bound { IfOk answer (λ count. count ≤ length _bytes.now) }
+    ensures { TookSome at (length _bytes.now) result }
+{
+    match answer {
+        Ok(0) => Wrote::Failed(io::ErrorKind::WriteZero.into()),
+        Ok(count) => Wrote::Bytes(count),
+        Err(error) if error.kind() == io::ErrorKind::Interrupted => Wrote::Nothing,
+        Err(error) => Wrote::Failed(error),
+    }
+}

@@ -1,0 +1,222 @@
+//! Files that are written beside the one at a path and take its place once they are whole.
+
+ghost use Rattle.std.specs.Prelude.{◌≡◌, ◌∷◌, [], false, IfErr, IfOk, IsTrue, length, OnOk, Some, true};
+ghost use Rattle.cedar_disk.specs.Words.{asked_after, LiesBeside, is_usable_after, IsPlaced, IsWholeBeside, IsUnplacedAt, opened, seen_after};
+ghost use Rattle.cedar_disk.specs.NotedFiles.{is_beside, noted_calls};
+
+use crate::names::{NAMES, PATH_LEN, name_beside};
+use crate::noted::{Noted, PathCalls, make_beside};
+use crate::system::{file_at, open_folder};
+use crate::wrote::Wrote;
+use arrayvec::ArrayString;
+use std::fs::Metadata;
+use std::io::{self, ErrorKind, Write};
+use std::rt::Files;
+
+/// The permissions of a file that is to take the place of another one, until it is whole.
+pub(crate) const OWN_MODE: u32 = 0o600;
+
+/// Those of a file that is at a path for the first time, less what the process masks.
+const NEW_MODE: u32 = 0o666;
+
+/// A file that is written beside the one at a path, whose place it is to take. Either `put_in_place` or `give_up` ends it.
+///
+/// It is written to as any writer. Once a write has failed, each later one fails, and so does `put_in_place`.
+#[derive(Drop)]
+pub struct NewFile<'a, F: Files> {
+    files: &'a F,
+    path: &'a str,
+    folder: F::File,
+    name: ArrayString<PATH_LEN>,
+    former: Option<Metadata>,
+    file: Noted<F::File>,
+    len: usize,
+    has_failed: bool,
+    ghost at_end: { len ≡ length (seen_after (noted_calls file)) },
+    ghost sound: { has_failed ≡ false → IsTrue (is_usable_after (noted_calls file)) },
+    ghost unasked: { asked_after (noted_calls file) ≡ false },
+    ghost beside: { is_beside file ≡ true },
+    ghost named: { LiesBeside path.now name.bytes },
+}
+
+/// Why a file wasn't given its place.
+#[derive(Drop)]
+pub struct NotPlaced {
+    /// The system's error.
+    pub error: io::Error,
+    /// What was done.
+    pub calls: PathCalls,
+}
+
+impl<'a, F: Files> NewFile<'a, F> {
+    ghost use Rattle.cedar_disk.specs.NewFiles.{new_bytes, new_calls};
+    ghost use Rattle.cedar_disk.specs.PathFiles.{path_calls};
+
+    /// Makes it, in the folder of `path`: `PATH.new`, or, where a name is taken, `PATH.1.new` and so on to `PATH.99.new`. Nothing that has
+    /// such a name is opened, followed or removed. If a file is at the path, nobody else may read the new one until it is whole.
+    ///
+    /// # Errors
+    /// Those of looking at the path, of opening its folder and of making the file. `AlreadyExists` if all names are taken,
+    /// `InvalidFilename` if the path is too long for one, `Unsupported` if something other than a file is at the path. Nothing was made then.
+    pub fn beside(files: &'a F, path: &'a str) -> io::Result<NewFile<'a, F>>
+        ensures empty { IfOk result (λ new. new_bytes new ≡ []) }
+    {
+        let former = file_at(files, path)?;
+        let folder = open_folder(files, path)?;
+        let mode = if former.is_some() { OWN_MODE } else { NEW_MODE };
+        let (name, file) = make_named(files, path, mode)?;
+        Ok(NewFile {
+            files,
+            path,
+            folder,
+            name,
+            former,
+            file,
+            len: 0,
+            has_failed: false,
+        })
+    }
+
+    /// Gives it the place: first the old file's owner, as far as the system allows it, and permissions; then it is synced, renamed to the
+    /// path, and the folder is synced. A link at the path is replaced, and not what it leads to.
+    ///
+    /// # Errors
+    /// That of the call that failed. If the file doesn't have the name, what was at the path is there still, and the new file is removed. If
+    /// only the folder wasn't synced, the new file is at the path, and a crash may bring back what was there.
+    pub fn put_in_place(mut self) -> Result<PathCalls, NotPlaced>
+        //= A new file that was given its place has the bytes that were written to it, and the disk had them, before it was renamed to the path;
+        //  then the folder was synced.
+        ensures placed { IfOk result (λ calls. IsPlaced (new_bytes self.entry) (path_calls calls)) }
+        //= Where that fails, nothing was done at the path; or the file was whole and on the disk before a rename that failed, or before a sync
+        //  of the folder that did.
+        ensures unplaced { IfErr result (λ failed. IsUnplacedAt (new_bytes self.entry) (path_calls failed.calls)) }
+    {
+        if let Err(error) = self.make_ready() {
+            return Err(self.removed(error));
+        }
+        self.take_place()
+    }
+
+    /// Removes it: for a save that failed. Nothing else is touched.
+    pub fn give_up(self) {
+        self.file.remove(self.files, self.name.as_str(), self.path);
+    }
+
+    /// Gives it the old file's owner and permissions, and waits until the disk has it.
+    fn make_ready(&mut self) -> io::Result<()>
+        ensures ready { OnOk result (IsWholeBeside (new_bytes self.old) (new_calls self.new)) }
+    {
+        if self.has_failed {
+            return Err(ErrorKind::Other.into());
+        }
+        if let Some(former) = &self.former {
+            self.file.look_like(self.files, self.name.as_str(), former)?;
+        }
+        match self.file.sync() {
+            Ok(()) => Ok(()),
+            Err(error) => {
+                self.has_failed = true;
+                Err(error)
+            }
+        }
+    }
+
+    /// Removes it, and tells why.
+    fn removed(self, error: io::Error) -> NotPlaced
+        ensures { path_calls result.calls ≡ new_calls self.entry }
+    {
+        self.file.remove(self.files, self.name.as_str(), self.path);
+        let NewFile { file, .. } = self;
+        NotPlaced {
+            error,
+            calls: file.into_calls(),
+        }
+    }
+
+    /// Renames it to the path, and puts that on the disk.
+    fn take_place(self) -> Result<PathCalls, NotPlaced>
+        requires ready { IsWholeBeside (new_bytes self) (new_calls self) }
+        ensures placed { IfOk result (λ calls. IsPlaced (new_bytes self.entry) (path_calls calls)) }
+        ensures unplaced { IfErr result (λ failed. IsUnplacedAt (new_bytes self.entry) (path_calls failed.calls)) }
+    {
+        let NewFile {
+            files,
+            path,
+            folder,
+            name,
+            mut file,
+            ..
+        } = self;
+        if let Err(error) = file.take_path(files, name.as_str(), path) {
+            file.remove(files, name.as_str(), path);
+            return Err(NotPlaced {
+                error,
+                calls: file.into_calls(),
+            });
+        }
+        match file.sync_folder(&folder) {
+            Ok(()) => Ok(file.into_calls()),
+            Err(error) => Err(NotPlaced {
+                error,
+                calls: file.into_calls(),
+            }),
+        }
+    }
+}
+
+impl<F: Files> Write for NewFile<'_, F> {
+    ghost use Rattle.cedar_disk.specs.NewFiles.{new_bytes};
+
+    //= What was written to a new file is known: exactly the bytes of the writes that succeeded.
+    ghost contents = { λ new. Some (new_bytes new) };
+
+    fn write(&mut self, buf: &[u8]) -> io::Result<usize> {
+        if self.has_failed {
+            return Err(ErrorKind::Other.into());
+        }
+        if buf.len() > usize::MAX - self.len {
+            return Err(ErrorKind::FileTooLarge.into());
+        }
+        if buf.is_empty() {
+            return Ok(0);
+        }
+        match self.file.append(self.len, buf) {
+            Wrote::Bytes(count) => {
+                self.len += count;
+                Ok(count)
+            }
+            Wrote::Nothing => Err(ErrorKind::Interrupted.into()),
+            Wrote::Failed(error) => {
+                self.has_failed = true;
+                Err(error)
+            }
+        }
+    }
+
+    fn flush(&mut self) -> io::Result<()> {
+        self.file.flush()
+    }
+}
+
+/// Makes a file beside the one at a path, of the first name that isn't taken.
+pub(crate) fn make_named<F: Files>(
+    files: &F,
+    path: &str,
+    mode: u32,
+) -> io::Result<(ArrayString<PATH_LEN>, Noted<F::File>)>
+    ensures named { IfOk result (λ made. LiesBeside path.now made.0.bytes) }
+    ensures noted { IfOk result (λ made. noted_calls made.1 ≡ opened [] ∷ []) }
+    ensures beside { IfOk result (λ made. is_beside made.1 ≡ true) }
+{
+    for number in 0..NAMES {
+        let Some(name) = name_beside(path, number) else {
+            return Err(ErrorKind::InvalidFilename.into());
+        };
+        match make_beside(files, name.as_str(), path, mode) {
+            Ok(file) => return Ok((name, file)),
+            Err(error) if error.kind() == ErrorKind::AlreadyExists => {}
+            Err(error) => return Err(error),
+        }
+    }
+    Err(ErrorKind::AlreadyExists.into())
+}

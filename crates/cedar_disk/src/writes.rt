@@ -1,0 +1,143 @@
+//! Bytes written by as many calls as the system takes for them.
+
+ghost use Rattle.std.specs.Prelude.{◌≡◌, ◌<◌, ◌≤◌, ◌∷◌, [], false, IfErr, IfOk, length, OnErr, OnOk, true};
+ghost use Rattle.cedar_disk.specs.Words.{AreWritten, faults_in, IsUnplaced, LiesBeside, MayLeave, named, Only, opened, renamed, seen_after, Spoils};
+ghost use Rattle.cedar_disk.specs.NotedFiles.{is_beside, noted_calls};
+ghost use Rattle.cedar_disk.specs.PathFiles.{place_path};
+
+use crate::names::PATH_LEN;
+use crate::noted::{Noted, Place};
+use crate::whole::{OWN_MODE, make_named};
+use crate::wrote::Wrote;
+use arrayvec::ArrayString;
+use cedar_journal::DeviceError;
+use std::alloc::Allocator;
+use std::fs::OpenFile;
+use std::io::{self, Read, Seek, Write};
+use std::rt::Files;
+
+/// Writes all of the bytes from the byte `at` on.
+///
+/// # Errors
+/// `Failed` if a call failed. Then any of the bytes may be there.
+pub(crate) fn write_all<T: Read + Write + Seek + OpenFile + Drop>(
+    file: &mut Noted<T>,
+    at: usize,
+    bytes: &[u8],
+) -> Result<(), DeviceError>
+    requires within { at ≤ length (seen_after (noted_calls file.old)) }
+    ensures written { OnOk result (AreWritten at (length bytes.now) bytes.now (noted_calls file.old) (noted_calls file.new)) }
+    ensures spoils { Spoils at (length bytes.now) (noted_calls file.old) (noted_calls file.new) }
+    ensures failed { IfErr result (λ e. e ≡ DeviceError.Failed) }
+    ensures faults { OnErr result (faults_in (noted_calls file.old) < faults_in (noted_calls file.new)) }
+    ensures name { is_beside file.new ≡ is_beside file.old }
+{
+    let mut done = 0;
+    let mut tries = u64::MAX;
+    while done < bytes.len() {
+        match file.write(at.saturating_add(done), &bytes[done..]) {
+            Wrote::Bytes(count) => done += count,
+            Wrote::Nothing => {
+                if tries == 0 {
+                    return Err(DeviceError::Failed);
+                }
+                tries -= 1;
+            }
+            Wrote::Failed(_) => return Err(DeviceError::Failed),
+        }
+    }
+    Ok(())
+}
+
+/// Makes a file of these bytes beside the one of a place, with that one's owner and permissions, and puts it on the disk. Returns it with
+/// its name.
+///
+/// # Errors
+/// `Failed` if a call failed. If a file was made, it is removed then.
+pub(crate) fn make_file<F: Files + Drop, A: Allocator + Copy>(
+    place: &Place<F, A>,
+    like: &Noted<F::File>,
+    bytes: &[u8],
+) -> Result<(ArrayString<PATH_LEN>, Noted<F::File>), DeviceError>
+    ensures names { IfOk result (λ made. LiesBeside (place_path place.now) made.0.bytes) }
+    ensures name { IfOk result (λ made. is_beside made.1 ≡ true) }
+    ensures bytes { IfOk result (λ made. seen_after (noted_calls made.1) ≡ bytes.now) }
+    ensures durable { IfOk result (λ made. Only bytes.now (MayLeave (noted_calls made.1))) }
+{
+    let files = place.files();
+    let path = place.path();
+    let Ok((name, mut file)) = make_named(files, path, OWN_MODE) else {
+        return Err(DeviceError::Failed);
+    };
+    match fill_like(&mut file, files, name.as_str(), like, bytes) {
+        Ok(()) => Ok((name, file)),
+        Err(error) => {
+            file.remove(files, name.as_str(), path);
+            Err(error)
+        }
+    }
+}
+
+/// Gives a file that was made another one's owner and permissions, and fills it.
+fn fill_like<T: Read + Write + Seek + OpenFile + Drop, F: Files>(
+    file: &mut Noted<T>,
+    files: &F,
+    name: &str,
+    like: &Noted<T>,
+    bytes: &[u8],
+) -> Result<(), DeviceError>
+    requires made { noted_calls file.old ≡ opened [] ∷ [] }
+    ensures bytes { OnOk result (seen_after (noted_calls file.new) ≡ bytes.now) }
+    ensures durable { OnOk result (Only bytes.now (MayLeave (noted_calls file.new))) }
+    ensures name { is_beside file.new ≡ is_beside file.old }
+{
+    let Ok(looks) = like.metadata() else {
+        return Err(DeviceError::Failed);
+    };
+    if file.look_like(files, name, &looks).is_err() {
+        return Err(DeviceError::Failed);
+    }
+    fill(file, bytes)
+}
+
+/// Writes a file that was made, and puts it on the disk.
+fn fill<T: Read + Write + Seek + OpenFile + Drop>(
+    file: &mut Noted<T>,
+    bytes: &[u8],
+) -> Result<(), DeviceError>
+    requires made { noted_calls file.old ≡ opened [] ∷ [] }
+    ensures bytes { OnOk result (seen_after (noted_calls file.new) ≡ bytes.now) }
+    ensures durable { OnOk result (Only bytes.now (MayLeave (noted_calls file.new))) }
+    ensures name { is_beside file.new ≡ is_beside file.old }
+{
+    write_all(file, 0, bytes)?;
+    if file.sync().is_err() {
+        return Err(DeviceError::Failed);
+    }
+    Ok(())
+}
+
+/// Gives the file beside the name of another one, and puts that on the disk.
+///
+/// # Errors
+/// That of a call that failed. The disk has the one file or the other then.
+pub(crate) fn put_in_place<T: Read + Write + Seek + OpenFile + Drop, F: Files + Drop, A: Allocator>(
+    file: &mut Noted<T>,
+    place: &Place<F, A>,
+    name: &str,
+    other: Noted<T>,
+    bytes: &[u8],
+) -> io::Result<()>
+    requires beside { is_beside file.old ≡ true }
+    requires names { LiesBeside (place_path place.now) name.now }
+    requires other { is_beside other ≡ false }
+    requires bytes { seen_after (noted_calls file.old) ≡ bytes.now }
+    requires durable { Only bytes.now (MayLeave (noted_calls file.old)) }
+    ensures placed { OnOk result (noted_calls file.new ≡ named true ∷ renamed bytes.now true ∷ noted_calls other) }
+    ensures unknown { OnErr result (IsUnplaced bytes.now (noted_calls other) (noted_calls file.new)) }
+    ensures name { is_beside file.new ≡ false }
+{
+    file.take_name(place, name, other, bytes)?;
+    file.sync_name(place)?;
+    Ok(())
+}

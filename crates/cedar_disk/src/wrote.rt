@@ -1,0 +1,14 @@
+//! What a call that writes did.
+
+use std::io;
+
+/// How many bytes a call wrote.
+#[derive(Clone, Copy)]
+pub(crate) enum Wrote {
+    /// The first so many, one or more.
+    Bytes(usize),
+    /// None: a signal came first.
+    Nothing,
+    /// It failed, so any of them may be there.
+    Failed(io::Error),
+}
