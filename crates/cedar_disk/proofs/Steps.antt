@@ -5,7 +5,7 @@ use Rattle.std.proofs.lemmas.Bool.{and_parts, false≢true, leb-true}
 use Rattle.cedar_journal.specs.Device.{Cut, Elapses, Follows, LeavesOnly, Only, Torn}
 use Rattle.cedar_journal.proofs.Moments as moments
 use Rattle.cedar_journal.proofs.Tears.{cut_same, cut_taken, torn_held, torn_same}
-use Rattle.cedar_disk.specs.Calls.{Call, LeftSince, MayLeave, NextLeft, CallState, all_within, faults_in, is_usable_after, named, next_seen, next_state, overlaid, refused_call, renamed, seen_after, shortened, state_after, synced, within_by, written}
+use Rattle.cedar_disk.specs.Calls.{Call, LeftSince, MayLeave, NextLeft, CallState, all_within, faults_in, is_named_after, is_usable_after, named, next_seen, next_state, overlaid, refused_call, renamed, seen_after, shortened, state_after, synced, within_by, written}
 use Rattle.cedar_disk.specs.Laws.{counts_now, only_now}
 use Rattle.cedar_disk.specs.Runs.{IsUnplaced}
 
@@ -76,16 +76,19 @@ synced_file old new usable is =
     (only, subst (λ (f : List ℕ). Only f (MayLeave new)) (sym (ap seen_after is)) only)
 
 -- and behind that of the folder the name of another file
-pub named_only : (calls : List Call) (bytes : List ℕ) → IsTrue (is_usable_after calls) → Only bytes (MayLeave (named true ∷ renamed bytes true ∷ calls))
-named_only calls bytes usable c left =
-    let flag : ((is_usable_after calls && true) && true) ≡ true = both _ _ (both _ _ usable refl) refl in
+pub named_only : (calls : List Call) (bytes : List ℕ) → IsTrue (is_named_after calls) → Only bytes (MayLeave (named true ∷ renamed bytes true ∷ calls))
+named_only calls bytes known c left =
+    let flag : ((is_named_after calls && true) && true) ≡ true = both _ _ (both _ _ known refl) refl in
     subst (λ (b : Bool). NextLeft 5 0 b [] bytes (MayLeave (renamed bytes true ∷ calls)) c) flag left
 
-pub named_file : (old new : List Call) (bytes : List ℕ) → IsTrue (is_usable_after old) → new ≡ named true ∷ renamed bytes true ∷ old → Only bytes (MayLeave new)
-named_file old new bytes usable is = subst (λ (l : List Call). Only bytes (MayLeave l)) (sym is) (named_only old bytes usable)
+pub named_file : (old new : List Call) (bytes : List ℕ) → IsTrue (is_named_after old) → new ≡ named true ∷ renamed bytes true ∷ old → Only bytes (MayLeave new)
+named_file old new bytes known is = subst (λ (l : List Call). Only bytes (MayLeave l)) (sym is) (named_only old bytes known)
 
-pub usable_again : (calls : List Call) (bytes : List ℕ) → IsTrue (is_usable_after calls) → IsTrue (is_usable_after (named true ∷ renamed bytes true ∷ calls))
-usable_again calls bytes usable = both _ _ (both _ _ usable refl) refl
+pub usable_again : (calls : List Call) (bytes : List ℕ) → IsTrue (is_named_after calls) → IsTrue (is_usable_after (named true ∷ renamed bytes true ∷ calls))
+usable_again calls bytes known = both _ _ (both _ _ known refl) refl
+
+pub named_again : (calls : List Call) (bytes : List ℕ) → IsTrue (is_named_after calls) → IsTrue (is_named_after (named true ∷ renamed bytes true ∷ calls))
+named_again calls bytes known = both _ _ (both _ _ known refl) refl
 
 -- ---- The calls of a device, of whose calls old were made before and new are made now.
 
@@ -120,7 +123,7 @@ module _ (old : List Call) (bytes : List ℕ) where
   rename_leaves ok c left = left
 
   pub name_leaves : (ok : Bool) (c : List ℕ) → MayLeave (named ok ∷ renamed bytes true ∷ old) c → MayLeave old c ⊎ (c ≡ bytes)
-  name_leaves ok = takes (ok && ((is_usable_after old && true) && ok))
+  name_leaves ok = takes (ok && ((is_named_after old && true) && ok))
     where
       takes : (b : Bool) (c : List ℕ) → NextLeft 5 0 b [] bytes (MayLeave (renamed bytes true ∷ old)) c → MayLeave old c ⊎ (c ≡ bytes)
       takes true c now = inr now
@@ -185,7 +188,7 @@ module _ (old new : List Call) (bytes : List ℕ) (ok : Bool) (is : new ≡ name
 
 module _ (old : List Call) (bytes : List ℕ) where
   has_new : (ok : Bool) (c : List ℕ) → c ≡ bytes → MayLeave (named ok ∷ renamed bytes true ∷ old) c
-  has_new ok = puts (ok && ((is_usable_after old && true) && ok))
+  has_new ok = puts (ok && ((is_named_after old && true) && ok))
     where
       puts : (b : Bool) (c : List ℕ) → c ≡ bytes → NextLeft 5 0 b [] bytes (MayLeave (renamed bytes true ∷ old)) c
       puts true c is = is

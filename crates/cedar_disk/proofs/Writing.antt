@@ -44,6 +44,7 @@ spoils_none at size calls = record {
   time = elapses_none calls;
   faults = omega arith;
   within = λ within. within;
+  known = λ known. known;
 }
 
 pub are_written_none : (at size : ℕ) (calls : List Call) → AreWritten at size [] calls calls
@@ -75,6 +76,7 @@ module _ (at size : ℕ) (front : List ℕ) (old now : List Call) (fits : at ≤
       time = elapses_on (written from more true) old now so_far.spoils.time (λ c left. (c, left, torn_same from (length more) c));
       faults = so_far.spoils.faults;
       within = λ within. both _ _ (le-leb from (length (seen_after now)) (begins from (omega (arith, is)))) (so_far.spoils.within within);
+      known = so_far.spoils.known;
     };
   }
 
@@ -84,6 +86,7 @@ module _ (at size : ℕ) (front : List ℕ) (old now : List Call) (fits : at ≤
     time = elapses_on (written from more false) old now so_far.spoils.time (λ c left. (c, left, torn_same from (length more) c));
     faults = omega (arith, so_far.spoils.faults);
     within = λ within. both _ _ (le-leb from (length (seen_after now)) (begins from high)) (so_far.spoils.within within);
+    known = so_far.spoils.known;
   }
 
 -- ---- the loop

@@ -58,28 +58,34 @@ next_seen (suc (suc (suc zero))) at ok bytes file = file
 next_seen (suc (suc (suc (suc zero)))) at ok bytes file = if ok then bytes else file
 next_seen (suc (suc (suc (suc (suc more))))) at ok bytes file = file
 
--- What may be asked of a file: anything, since no call has failed but such as changed nothing; or only that the folder is synced, since
--- another file has just taken its name. Where both are false, nothing: what the disk has isn't known any more.
+-- What may be asked of a file: anything, since no call has failed but such as changed nothing; only that the folder is synced, since another
+-- file has just taken its name; and that another file takes its name, since no such call has failed. Where all are false, nothing: what the
+-- disk has under that name isn't known any more.
 abbrev pub CallState : Type 0
-CallState = Bool × Bool
+CallState = Bool × Bool × Bool
 
--- A sync that follows on a failed one proves nothing, nor does one between a rename and the sync of the folder.
+-- A sync that follows on a failed one proves nothing, nor does one between a rename and the sync of the folder. A file that takes the name is
+-- another one, so what has failed on the old one counts no more.
 abbrev pub next_state : ℕ → Bool → CallState → CallState
-next_state zero ok s = (true, false)
-next_state (suc zero) ok s = (s.0 && ok, false)
-next_state (suc (suc zero)) ok s = (s.0 && ok, false)
-next_state (suc (suc (suc zero))) ok s = (s.0 && ok, false)
-next_state (suc (suc (suc (suc zero)))) ok s = (false, s.0 && ok)
-next_state (suc (suc (suc (suc (suc zero))))) ok s = (s.1 && ok, false)
+next_state zero ok s = (true, false, true)
+next_state (suc zero) ok s = (s.0 && ok, false, s.2)
+next_state (suc (suc zero)) ok s = (s.0 && ok, false, s.2)
+next_state (suc (suc (suc zero))) ok s = (s.0 && ok, false, s.2)
+next_state (suc (suc (suc (suc zero)))) ok s = (false, s.2 && ok, false)
+next_state (suc (suc (suc (suc (suc zero))))) ok s = (s.1 && ok, false, s.1 && ok)
 next_state (suc (suc (suc (suc (suc (suc more)))))) ok s = s
 
 abbrev pub state_after : List Call → CallState
-state_after [] = (false, false)
+state_after [] = (false, false, false)
 state_after (call ∷ earlier) = next_state call.0 call.2 (state_after earlier)
 
 -- no call has failed but such as changed nothing, and the file's name is on the disk
 abbrev pub is_usable_after : List Call → Bool
 is_usable_after calls = (state_after calls).0
+
+-- no call that gave the file's name to another one has failed, nor the sync of the folder after it
+abbrev pub is_named_after : List Call → Bool
+is_named_after calls = (state_after calls).2
 
 -- What a crash leaves in a call or behind it, but for what it might have left before the call: by what it might leave then, and by what a
 -- read returned then. The flag: the call succeeded, and the file is usable.

@@ -2,7 +2,7 @@
 -- name of another one.
 use Rattle.std.specs.Prelude.{◌≡◌, ◌⊎◌, ◌<◌, ◌≤◌, ◌^◌, ℕ, true, false, List, ◌∷◌, length, take, IsTrue}
 use Rattle.cedar_journal.specs.Device.{Elapses, Follows, Torn}
-use Rattle.cedar_disk.specs.Calls.{Call, LeftSince, MayLeave, all_within, faults_in, is_usable_after, named, overlaid, refused_call, renamed, seen_after, written}
+use Rattle.cedar_disk.specs.Calls.{Call, LeftSince, MayLeave, all_within, faults_in, is_named_after, is_usable_after, named, overlaid, refused_call, renamed, seen_after, written}
 use Rattle.cedar_disk.specs.declared.wrote.Wrote.{Wrote}
 use Rattle.cedar_disk.specs.declared.wrote.Wrote.TheVariants.{Bytes, Nothing, Failed}
 
@@ -28,6 +28,7 @@ pub record Spoils (at n : ℕ) (old new : List Call) : Type 0 where
   pub time : TimePasses old new
   pub faults : faults_in old ≤ faults_in new
   pub within : IsTrue (all_within old) → IsTrue (all_within new)
+  pub known : IsTrue (is_named_after old) → IsTrue (is_named_after new)
 
 -- And these bytes were written there, the first of those n. No call failed but such as changed nothing.
 pub record AreWritten (at n : ℕ) (bytes : List ℕ) (old new : List Call) : Type 0 where

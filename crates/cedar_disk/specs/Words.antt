@@ -1,6 +1,6 @@
 -- The words that the contracts of this crate cite, from one place. `Accounts`, `FileDevices`, `NewFiles`, `NotedFiles` and `PathFiles` name structs whose ghost fields
 -- cite these words: they are imported beside it.
-pub use Rattle.cedar_disk.specs.Calls.{all_within, Call, call_of, call_with, faults_in, is_usable_after, LeftSince, MayLeave, named, opened}
+pub use Rattle.cedar_disk.specs.Calls.{all_within, Call, call_of, call_with, faults_in, is_named_after, is_usable_after, LeftSince, MayLeave, named, opened}
 pub use Rattle.cedar_disk.specs.Calls.{overlaid, refused_call, renamed, seen_after, shortened, synced, took_name}
 pub use Rattle.cedar_disk.specs.Errors.{TellsKind}
 pub use Rattle.cedar_disk.specs.Laws.{counts_now, only_now}

@@ -1,7 +1,7 @@
 //! A file, and what the calls on it so far make of it. `specs/Calls.antt` has the model.
 
 ghost use Rattle.std.specs.Prelude.{◌≡◌, ◌<◌, ◌≤◌, ◌⊎◌, ◌∷◌, [], false, IsTrue, length, List, OnErr, OnOk, take, true, ℕ};
-ghost use Rattle.cedar_disk.specs.Words.{all_within, Cut, faults_in, Follows, LiesBeside, TimePasses, HasCause, is_usable_after, LeavesOnly, LeftSince, MayLeave, Only, opened, overlaid, refused_call, seen_after, Torn};
+ghost use Rattle.cedar_disk.specs.Words.{all_within, Cut, faults_in, Follows, LiesBeside, TimePasses, HasCause, is_named_after, is_usable_after, LeavesOnly, LeftSince, MayLeave, Only, opened, overlaid, refused_call, seen_after, Torn};
 ghost use Rattle.cedar_disk.specs.NotedFiles.{is_beside, noted_calls};
 
 use crate::noted::{Noted, Place};
@@ -21,7 +21,10 @@ pub(crate) struct Account<T: Read + Write + Seek + OpenFile + Drop> {
     is_dirty: bool,
     /// Whether a call has failed that may have changed something.
     has_failed: bool,
+    /// Whether a call has failed that was to give the name to another file.
+    has_lost_name: bool,
     ghost usable: { has_failed ≡ false → IsTrue (is_usable_after (noted_calls file)) },
+    ghost known: { has_lost_name ≡ false → IsTrue (is_named_after (noted_calls file)) },
     ghost clean: { is_dirty ≡ false → Only (seen_after (noted_calls file)) (MayLeave (noted_calls file)) },
     ghost within: { IsTrue (all_within (noted_calls file)) },
     ghost placed: { is_beside file ≡ false },
@@ -41,6 +44,7 @@ impl<T: Read + Write + Seek + OpenFile + Drop> Account<T> {
             file,
             is_dirty: false,
             has_failed: false,
+            has_lost_name: false,
         }
     }
 
@@ -49,6 +53,13 @@ impl<T: Read + Write + Seek + OpenFile + Drop> Account<T> {
         ensures { IsTrue result → IsTrue (is_usable_after (calls_of self.now)) }
     {
         !self.has_failed
+    }
+
+    /// Returns whether another file may take the name: no call for that has failed before.
+    pub(crate) fn has_name(&self) -> bool
+        ensures { IsTrue result → IsTrue (is_named_after (calls_of self.now)) }
+    {
+        !self.has_lost_name
     }
 
     /// Notes a call of the device for which none of the system is made, and returns its error.
@@ -127,7 +138,7 @@ impl<T: Read + Write + Seek + OpenFile + Drop> Account<T> {
         &self.file
     }
 
-    /// Gives another file the name of this one, which it replaces.
+    /// Gives another file the name of this one, which it replaces. Whatever has failed on this one counts no more then.
     ///
     /// # Errors
     /// `Failed` if a call failed: the disk has the one or the other.
@@ -138,7 +149,7 @@ impl<T: Read + Write + Seek + OpenFile + Drop> Account<T> {
         fresh: Noted<T>,
         bytes: &[u8],
     ) -> Result<(), DeviceError>
-        requires usable { IsTrue (is_usable_after (calls_of self.old)) }
+        requires known { IsTrue (is_named_after (calls_of self.old)) }
         requires name { is_beside fresh ≡ true }
         requires names { LiesBeside (place_path place.now) name.now }
         requires bytes { seen_after (noted_calls fresh) ≡ bytes.now }
@@ -156,11 +167,13 @@ impl<T: Read + Write + Seek + OpenFile + Drop> Account<T> {
         match put_in_place(&mut self.file, place, name, old, bytes) {
             Ok(()) => {
                 self.is_dirty = false;
+                self.has_failed = false;
                 Ok(())
             }
             Err(_) => {
                 self.is_dirty = true;
                 self.has_failed = true;
+                self.has_lost_name = true;
                 Err(DeviceError::Failed)
             }
         }

@@ -16,8 +16,9 @@ use std::rt::Files;
 /// It holds the bytes that were read when it was opened, until it is first written, cut or replaced. From then on a read fails with
 /// `Failed`: nothing would show whether what comes is what was written. Open the file again to read it.
 ///
-/// Once a system call has failed to write, cut, sync or rename, each later call fails with `Failed`: after a sync that failed
-/// no other one shows what the disk has. Open the file again.
+/// Once a system call has failed to write, cut or sync, each later one but `replace` fails with `Failed`: after a sync that failed no other
+/// one shows what the disk has. `replace` puts another file in its place, with which the device goes on. Once a system call has failed to
+/// rename or to sync the folder, each later call fails with `Failed`. Open the file again, and replace its bytes with what was read.
 ///
 /// A `sync` asks nothing of the system if nothing was written or cut since the last one.
 #[derive(Drop)]
@@ -104,7 +105,7 @@ impl<F: Files + Drop, A: Allocator + Copy> Device for FileDevice<F, A> {
 
 impl<F: Files + Drop, A: Allocator + Copy> ReplaceDevice for FileDevice<F, A> {
     fn replace(&mut self, bytes: &[u8]) -> Result<(), ReplaceError> {
-        if !self.account.is_usable() {
+        if !self.account.has_name() {
             self.account.refuse();
             return Err(ReplaceError::Failed);
         }

@@ -2,18 +2,19 @@ use Rattle.std.proofs.Common.{◌≡◌, ◌∷◌, ℕ, List, true, subst, sym,
 use Rattle.std.specs.Prelude.{IsTrue}
 use Rattle.std.proofs.lemmas.Bool.{false≢true}
 use Rattle.cedar_disk.specs.NotedFiles.{noted_calls}
-use Rattle.cedar_disk.specs.Calls.{Call, MayLeave, all_within, is_usable_after, named, renamed, seen_after}
+use Rattle.cedar_disk.specs.Calls.{Call, MayLeave, all_within, is_named_after, is_usable_after, named, renamed, seen_after}
 use Rattle.cedar_disk.specs.Runs.{IsUnplaced}
 use Rattle.cedar_journal.specs.Device.{Only}
-use Rattle.cedar_disk.proofs.Steps.{named_file, named_leaves, names, names_elapse, placed_faults, unplaced_elapse, unplaced_faults, unplaced_leaves, unplaced_names, unplaced_within, usable_again}
+use Rattle.cedar_disk.proofs.Steps.{named_again, named_file, named_leaves, names, names_elapse, placed_faults, unplaced_elapse, unplaced_faults, unplaced_leaves, unplaced_names, unplaced_within, usable_again}
 use Rattle.cedar_disk.proofs.account.Account.replace.Goals as goal
 
 pub invariant_of-self : goal.invariant_of-self
 invariant_of-self g c =
     let is : noted_calls c.put_in_place.new.file ≡ named true ∷ renamed c.args.bytes.now true ∷ noted_calls c.args.self.now.file = search rules in
-    let only = named_file (noted_calls c.args.self.now.file) (noted_calls c.put_in_place.new.file) c.args.bytes.now c.requires.usable is in
+    let only = named_file (noted_calls c.args.self.now.file) (noted_calls c.put_in_place.new.file) c.args.bytes.now c.requires.known is in
     record {
-      usable = λ _. subst (λ (l : List Call). IsTrue (is_usable_after l)) (sym is) (usable_again (noted_calls c.args.self.now.file) c.args.bytes.now c.requires.usable);
+      usable = λ _. subst (λ (l : List Call). IsTrue (is_usable_after l)) (sym is) (usable_again (noted_calls c.args.self.now.file) c.args.bytes.now c.requires.known);
+      known = λ _. subst (λ (l : List Call). IsTrue (is_named_after l)) (sym is) (named_again (noted_calls c.args.self.now.file) c.args.bytes.now c.requires.known);
       clean = λ _. subst (λ (f : List ℕ). Only f (MayLeave (noted_calls c.put_in_place.new.file))) (sym (ap seen_after is)) only;
       within = subst (λ (l : List Call). IsTrue (all_within l)) (sym is) c.args.self.now.within;
       placed = search rules;
@@ -24,6 +25,7 @@ invariant_of-self-in-Err g c =
     let is : IsUnplaced c.args.bytes.now (noted_calls c.args.self.now.file) (noted_calls c.put_in_place.new.file) = search rules in
     record {
       usable = λ no. absurd (false≢true (sym no));
+      known = λ no. absurd (false≢true (sym no));
       clean = λ no. absurd (false≢true (sym no));
       within = unplaced_within c.args.bytes.now (noted_calls c.args.self.now.file) (noted_calls c.put_in_place.new.file) is c.args.self.now.within;
       placed = search rules;
@@ -37,7 +39,7 @@ returns-in-Ok-clause-replaced g c =
 pub returns-in-Ok-clause-durable : goal.returns-in-Ok-clause-durable
 returns-in-Ok-clause-durable g c =
     let is : noted_calls c.put_in_place.new.file ≡ named true ∷ renamed c.args.bytes.now true ∷ noted_calls c.args.self.now.file = search rules in
-    named_file (noted_calls c.args.self.now.file) (noted_calls c.put_in_place.new.file) c.args.bytes.now c.requires.usable is
+    named_file (noted_calls c.args.self.now.file) (noted_calls c.put_in_place.new.file) c.args.bytes.now c.requires.known is
 
 pub returns-in-Ok-clause-crash : goal.returns-in-Ok-clause-crash
 returns-in-Ok-clause-crash g c =

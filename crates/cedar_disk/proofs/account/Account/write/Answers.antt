@@ -7,6 +7,7 @@ use Rattle.cedar_disk.proofs.account.Account.write.Goals as goal
 pub invariant_of-self : goal.invariant_of-self
 invariant_of-self g c = record {
   usable = λ _. c.in-Ok.ensures.written.usable c.requires.usable;
+  known = λ is. c.in-Ok.ensures.spoils.known (c.args.self.now.known is);
   clean = λ is. absurd (false≢true (sym is));
   within = c.in-Ok.ensures.spoils.within c.args.self.now.within;
   placed = c.in-Ok.ensures.name ∙ c.args.self.now.placed;
@@ -15,6 +16,7 @@ invariant_of-self g c = record {
 pub invariant_of-self-in-Err : goal.invariant_of-self-in-Err
 invariant_of-self-in-Err g c = record {
   usable = λ is. absurd (false≢true (sym is));
+  known = λ is. c.in-Err.ensures.spoils.known (c.args.self.now.known is);
   clean = λ is. absurd (false≢true (sym is));
   within = c.in-Err.ensures.spoils.within c.args.self.now.within;
   placed = c.in-Err.ensures.name ∙ c.args.self.now.placed;

@@ -4,12 +4,12 @@ use Rattle.cedar_disk.specs.Calls.{refused_call}
 use Rattle.cedar_disk.proofs.Steps.{leaves, refused_keeps}
 use Rattle.cedar_disk.proofs.file.FileDeviceReplaceDevice.replace.Goals as goal
 
-pub returns-then-not-is_usable-clause-crash : goal.returns-then-not-is_usable-clause-crash
-returns-then-not-is_usable-clause-crash g c =
+pub returns-then-not-has_name-clause-crash : goal.returns-then-not-has_name-clause-crash
+returns-then-not-has_name-clause-crash g c =
     λ d left. inl (refused_keeps (calls_of c.args.self.now.account) (calls_of c.refuse.new.self) c.refuse.ensures.calls d left)
 
-pub returns-then-not-is_usable-clause-any_moment : goal.returns-then-not-is_usable-clause-any_moment
-returns-then-not-is_usable-clause-any_moment g c =
+pub returns-then-not-has_name-clause-any_moment : goal.returns-then-not-has_name-clause-any_moment
+returns-then-not-has_name-clause-any_moment g c =
     let old = calls_of c.args.self.now.account in
     let new = calls_of c.refuse.new.self in
     let is = c.refuse.ensures.calls in
