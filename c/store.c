@@ -1,23 +1,19 @@
-/* Stores: dictionaries whose changes are in a file before they are acknowledged. The proved library says what is to be done to the file, step
- * by step; this part does it. It is tested (tests/c/store.c) and not proved. cedar.h says what the calls do. */
-#define _XOPEN_SOURCE 700
+/* Stores: dictionaries whose changes are in a file before they are acknowledged. The proved library says what is to be done to the file,
+ * step by step; this part does it. It is tested (tests/c/store.c, tests/c/openings.c) and not proved. cedar.h says what the calls do. */
 #include "cedar.h"
+#include "disk.h"
 #include "plan.h"
 
 #include <errno.h>
-#include <fcntl.h>
 #include <stdlib.h>
 #include <string.h>
-#include <sys/stat.h>
-#include <unistd.h>
-
-enum { FIRST_ROOM = 1 << 16 };
 
 /* No record is longer. */
 static const size_t LONGEST = UINT32_MAX;
 
 struct cedar_store_file {
-    int number;
+    disk_file disk;
+    bool is_to_read;
     bool has_failed;
     size_t end;      /* where its records end */
     uint8_t *bytes;  /* those of a plan */
@@ -27,153 +23,80 @@ struct cedar_store_file {
     size_t filled;   /* how many bytes their records have, behind the head of a group */
 };
 
-/* ---- the calls of the system, each again where a signal has interrupted it */
-
-static int open_at(const char *path, int flags) {
-    int number;
-    do {
-        number = open(path, flags | O_CLOEXEC, 0666);
-    } while (number < 0 && errno == EINTR);
-    return number;
-}
-
-static bool sync_data(int number) {
-    int done;
-    do {
-        done = fdatasync(number);
-    } while (done != 0 && errno == EINTR);
-    return done == 0;
-}
-
-static bool sync_all(int number) {
-    int done;
-    do {
-        done = fsync(number);
-    } while (done != 0 && errno == EINTR);
-    return done == 0;
-}
-
-static bool cut(int number, size_t length) {
-    int done;
-    do {
-        done = ftruncate(number, (off_t)length);
-    } while (done != 0 && errno == EINTR);
-    return done == 0 && sync_data(number);
-}
-
-static bool write_at(int number, size_t at, const uint8_t *bytes, size_t length) {
-    while (length > 0) {
-        ssize_t count = pwrite(number, bytes, length, (off_t)at);
-        if (count < 0 && errno != EINTR) return false;
-        if (count < 0) continue;
-        at += (size_t)count;
-        bytes += count;
-        length -= (size_t)count;
-    }
-    return sync_data(number);
-}
-
 /* ---- plans */
 
 /* Does what a plan says, up to the first step that fails. */
-static bool carry_out(int number, const cedar_plan *plan, const uint8_t *bytes) {
+static bool carry_out(const disk_file *disk, const cedar_plan *plan, const uint8_t *bytes) {
     for (size_t i = 0; i < plan->count; i++) {
         const cedar_step *step = &plan->steps[i];
-        bool is_done = step->kind == CEDAR_PLAN_CUT ? cut(number, step->at) : write_at(number, step->at, bytes + step->from, step->length);
-        if (!is_done) return false;
+        bool is_cut = step->kind == CEDAR_PLAN_CUT;
+        if (!(is_cut ? disk_cut(disk, step->at) : disk_write(disk, step->at, bytes + step->from, step->length))) return false;
     }
     return true;
 }
 
 /* ---- a file that is opened */
 
-/* Puts the name of the file on the disk: that in the folder where links lead to. */
-static uint32_t sync_name(const char *path) {
-    char *real = realpath(path, NULL);
-    if (real == NULL) return errno == ENOMEM ? CEDAR_MEMORY : CEDAR_STORE_DEVICE;
-    char *slash = strrchr(real, '/');
-    slash[slash == real] = '\0';
-    int folder = open_at(real, O_RDONLY | O_DIRECTORY);
-    free(real);
-    if (folder < 0) return CEDAR_STORE_DEVICE;
-    bool is_synced = sync_all(folder);
-    int cause = errno;
-    close(folder);
-    errno = cause;
-    return is_synced ? CEDAR_OK : CEDAR_STORE_DEVICE;
-}
-
-/* Opens the file, made if it is missing, and puts it and its name on the disk. */
-static uint32_t open_synced(const char *path, int *number) {
-    struct stat about;
-    *number = open_at(path, O_RDWR | O_CREAT);
-    if (*number < 0 || fstat(*number, &about) != 0) return CEDAR_STORE_DEVICE;
-    if (!S_ISREG(about.st_mode)) {
-        errno = EINVAL;
-        return CEDAR_STORE_DEVICE;
-    }
-    if (!sync_all(*number)) return CEDAR_STORE_DEVICE;
-    return sync_name(path);
-}
-
-/* Reads the file to its end, into memory that the caller frees, also after an error. */
-static uint32_t read_whole(int number, uint8_t **bytes, size_t *length) {
-    size_t room = 0;
-    for (;;) {
-        if (*length == room) {
-            if (room > PTRDIFF_MAX / 2) return CEDAR_MEMORY;
-            room = room == 0 ? FIRST_ROOM : 2 * room;
-            uint8_t *grown = realloc(*bytes, room);
-            if (grown == NULL) return CEDAR_MEMORY;
-            *bytes = grown;
-        }
-        ssize_t count = read(number, *bytes + *length, room - *length);
-        if (count < 0 && errno == EINTR) continue;
-        if (count < 0) return CEDAR_STORE_DEVICE;
-        if (count == 0) return CEDAR_OK;
-        *length += (size_t)count;
-    }
-}
-
-/* Reads the dictionary of the file, and makes the file ready for changes. */
+/* Reads the dictionary of the file, and makes the file ready for changes, unless it is opened to read. */
 static uint32_t make_ready(cedar_store *s, bool is_reduced) {
     struct cedar_store_file *file = s->file;
     uint8_t *bytes = NULL, buffer[CEDAR_PLAN_OPENING];
     size_t length = 0;
     cedar_plan plan;
-    uint32_t status = read_whole(file->number, &bytes, &length);
+    uint32_t status = disk_read(&file->disk, &bytes, &length);
     if (status == CEDAR_OK) status = cedar_plan_open(&s->dictionary, is_reduced, bytes, length, &file->end, buffer, sizeof buffer, &plan);
-    if (status == CEDAR_OK && !carry_out(file->number, &plan, buffer)) status = CEDAR_STORE_DEVICE;
+    if (status == CEDAR_OK && !file->is_to_read && !carry_out(&file->disk, &plan, buffer)) status = CEDAR_STORE_DEVICE;
     int cause = errno;
     free(bytes);
     errno = cause;
     return status;
 }
 
-static uint32_t open_store(cedar_store *s, bool is_reduced, const char *path) {
-    cedar_store fresh = CEDAR_STORE_CLOSED;
-    fresh.file = calloc(1, sizeof *fresh.file);
-    if (fresh.file == NULL) return CEDAR_MEMORY;
-    fresh.file->every = 1;
-    uint32_t status = open_synced(path, &fresh.file->number);
-    if (status == CEDAR_OK) status = make_ready(&fresh, is_reduced);
+/* Opens a closed one. After an error it is closed again. */
+static uint32_t open_closed(cedar_store *s, const char *path, uint32_t how) {
+    s->file = calloc(1, sizeof *s->file);
+    if (s->file == NULL) return CEDAR_MEMORY;
+    s->file->every = 1;
+    s->file->is_to_read = (how & CEDAR_OPEN_TO_READ) != 0;
+    uint32_t status = disk_open(&s->file->disk, path, how);
+    if (status == CEDAR_OK) status = make_ready(s, (how & CEDAR_OPEN_REDUCED) != 0);
     int cause = errno;
-    if (status == CEDAR_OK) {
-        cedar_store_close(s);
-        *s = fresh;
-    } else {
-        cedar_store_close(&fresh);
-    }
+    if (status != CEDAR_OK) cedar_store_close(s);
     errno = cause;
     return status;
 }
 
+/* Whether the bits are known ones, and can be met together. */
+static bool is_how(uint32_t how) {
+    uint32_t what = how & ~(uint32_t)CEDAR_OPEN_REDUCED;
+    /* What is opened to read has to be there anyway. */
+    return what == 0 || what == CEDAR_OPEN_NEW || (what & ~(uint32_t)(CEDAR_OPEN_EXISTING | CEDAR_OPEN_TO_READ)) == 0;
+}
+
+uint32_t cedar_store_open_with(cedar_store *s, const char *path, uint32_t how) {
+    if (!is_how(how)) {
+        errno = EINVAL;
+        return CEDAR_STORE_DEVICE;
+    }
+    /* It is closed first: it may have the lock of the very file. */
+    if (s->file != NULL && !s->file->has_failed) {
+        uint32_t status = cedar_store_sync(s);
+        if (status != CEDAR_OK) return status;
+    }
+    cedar_store_close(s);
+    return open_closed(s, path, how);
+}
+
 uint32_t cedar_store_open(cedar_store *s, const char *path) {
-    return open_store(s, false, path);
+    return cedar_store_open_with(s, path, 0);
 }
 
 uint32_t cedar_store_open_reduced(cedar_store *s, const char *path) {
-    return open_store(s, true, path);
+    return cedar_store_open_with(s, path, CEDAR_OPEN_REDUCED);
+}
+
+uint32_t cedar_store_open_to_read(cedar_store *s, const char *path) {
+    return cedar_store_open_with(s, path, CEDAR_OPEN_TO_READ);
 }
 
 bool cedar_store_failed(const cedar_store *s) {
@@ -188,7 +111,7 @@ size_t cedar_store_waiting(const cedar_store *s) {
 
 /* Acknowledges what a plan does, or says that the device has failed. */
 static uint32_t acknowledge(struct cedar_store_file *file, const cedar_plan *plan) {
-    if (carry_out(file->number, plan, file->bytes)) return CEDAR_OK;
+    if (carry_out(&file->disk, plan, file->bytes)) return CEDAR_OK;
     file->has_failed = true;
     return CEDAR_STORE_DEVICE;
 }
@@ -197,6 +120,7 @@ static uint32_t acknowledge(struct cedar_store_file *file, const cedar_plan *pla
 static uint32_t write_waiting(struct cedar_store_file *file) {
     cedar_plan plan;
     if (file->waiting == 0) return CEDAR_OK;
+    if (disk_is_inherited(&file->disk)) return CEDAR_STORE_LOCKED;
     uint32_t status = cedar_plan_group(file->filled, &file->end, file->bytes, file->room, &plan);
     file->waiting = 0;
     file->filled = 0;
@@ -223,7 +147,7 @@ void cedar_store_close(cedar_store *s) {
     cedar_free(&s->dictionary);
     if (file == NULL) return;
     sync_store(file);
-    if (file->number >= 0) close(file->number);
+    disk_close(&file->disk);
     free(file->bytes);
     free(file);
     s->file = NULL;
@@ -253,7 +177,10 @@ static uint32_t grow(struct cedar_store_file *file, size_t room) {
 /* Whether a store takes changes, and has room for the record of one with a key of so many bytes. A longer one is refused without. */
 static uint32_t prepare(struct cedar_store_file *file, size_t length) {
     if (file == NULL) return CEDAR_IS_CLOSED;
+    if (file->is_to_read) return CEDAR_STORE_READ_ONLY;
     if (file->has_failed) return CEDAR_STORE_FAILED;
+    /* One that waits is looked at when it is written. */
+    if (file->every == 1 && disk_is_inherited(&file->disk)) return CEDAR_STORE_LOCKED;
     size_t room = length > LONGEST ? CEDAR_PLAN_CHANGE : length + CEDAR_PLAN_CHANGE;
     if (file->every == 1) return grow(file, room);
     /* The record of a group is no longer than others are. */
@@ -270,7 +197,7 @@ static uint32_t take_up(struct cedar_store_file *file, size_t end, const cedar_p
     }
     file->filled += plan->steps[0].length;
     file->waiting++;
-    return file->waiting == file->every ? write_waiting(file) : CEDAR_OK;
+    return file->every != 0 && file->waiting >= file->every ? write_waiting(file) : CEDAR_OK;
 }
 
 uint32_t cedar_store_insert(cedar_store *s, const uint8_t *key, size_t length, int32_t value, bool *held, int32_t *before,

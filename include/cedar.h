@@ -97,7 +97,9 @@ enum {
     CEDAR_STORE_DEVICE = 42,   /* a call on the file failed: see errno */
     CEDAR_STORE_FAILED = 43,   /* a call failed in an earlier change: open the file again */
     CEDAR_STORE_TOO_LONG = 44, /* the key has 2^32 - 5 bytes or more */
-    CEDAR_STORE_FULL = 45      /* the file's records end after 2^60 bytes */
+    CEDAR_STORE_FULL = 45,     /* the file's records end after 2^60 bytes */
+    CEDAR_STORE_LOCKED = 47,   /* another program, or another variable, has the store open */
+    CEDAR_STORE_READ_ONLY = 48 /* the store was opened to read */
 };
 
 /* Opens *d with an empty dictionary. If *d is open, the new dictionary replaces the old one. Returns CEDAR_OK, or CEDAR_MEMORY; then *d is
@@ -444,8 +446,12 @@ uint32_t cedar_replace_file(const char *path, const uint8_t *bytes, size_t lengt
 
 /* Stores: dictionaries whose changes are in a file before they are acknowledged. The proved library decides what is written to the file,
  * and in which order; the calls of the system are C beside it, tested and not proved. No crash of the process or the machine takes an
- * acknowledged change away, if the disk keeps what it has acknowledged, and nobody else writes to the file: it isn't locked. docs/STORE.md
- * describes the file. */
+ * acknowledged change away, if the disk keeps what it has acknowledged, and no program writes to the file but by a store. docs/STORE.md
+ * describes the file.
+ *
+ * A store is locked as long as it is open (flock), against every program that opens it by this library, by the crates, or by ./roskvidh.
+ * After a fork the child writes nothing: its changes, and its cedar_store_sync, return CEDAR_STORE_LOCKED. The lock ends once the parent
+ * has closed the store, or has ended, and each such child has closed it, started another program, or ended. */
 
 /* A store. It is initialised with CEDAR_STORE_CLOSED, and only these calls change it. It may be moved. */
 typedef struct cedar_store {
@@ -455,20 +461,39 @@ typedef struct cedar_store {
 
 #define CEDAR_STORE_CLOSED { CEDAR_CLOSED, NULL }
 
-/* Opens *s with the store of the file at a path. If *s is open, the new store replaces the old one. A missing file is created. All changes
- * in the file are made again, which takes their time, and memory for the file's bytes. What a crash has left of a change that wasn't
- * acknowledged is cut off. Returns:
+/* Opens *s with the store of the file at a path. A missing file is created. All changes in the file are made again, which takes their time,
+ * and memory for the file's bytes. What a crash has left of a change that wasn't acknowledged is cut off. Returns:
  *
  * - CEDAR_OK.
+ * - CEDAR_STORE_LOCKED if the store is open already, in another program or by another variable. Nothing was written.
  * - CEDAR_STORE_FOREIGN, CEDAR_STORE_CORRUPT, CEDAR_MEMORY or CEDAR_SLOT_LIMIT: nothing was written.
  * - CEDAR_STORE_DEVICE if a call on the file failed, or if the path has something other than a file (EINVAL): errno has the reason, and the
  *   file still has the same dictionary.
  *
- * After an error *s is as it was. */
+ * If *s is open it is closed first, as cedar_store_close does. But if it has changes that wait and these can't be put on the disk, this is
+ * what the call returns, with the statuses of cedar_store_sync, and it opens nothing. After any other error *s is closed. */
 uint32_t cedar_store_open(cedar_store *s, const char *path);
 
 /* As cedar_store_open, with a dictionary of the reduced layout. The file itself has no layout. */
 uint32_t cedar_store_open_reduced(cedar_store *s, const char *path);
+
+/* Opens a store to look at it. It takes no lock, and nothing is created or written: the file, its folder and its disk may be such as can
+ * only be read. It works beside a program that changes the store. *s then has the changes that were acknowledged before the call, and of
+ * those that are made in the course of it the first ones. Later ones it doesn't see. Each change of *s returns CEDAR_STORE_READ_ONLY and
+ * changes nothing. Otherwise as cedar_store_open. */
+uint32_t cedar_store_open_to_read(cedar_store *s, const char *path);
+
+/* How a store is opened, as bits. */
+enum {
+    CEDAR_OPEN_REDUCED = 1,  /* with a dictionary of the reduced layout */
+    CEDAR_OPEN_EXISTING = 2, /* a missing file isn't created: errno is ENOENT */
+    CEDAR_OPEN_NEW = 4,      /* only a missing file is opened: errno is EEXIST if there is one, also by a link */
+    CEDAR_OPEN_TO_READ = 8   /* as cedar_store_open_to_read */
+};
+
+/* As cedar_store_open, with these bits. Bits that aren't known, or can't be met together, are refused with CEDAR_STORE_DEVICE and EINVAL,
+ * and *s is as it was. */
+uint32_t cedar_store_open_with(cedar_store *s, const char *path, uint32_t how);
 
 /* Lends the dictionary of a store to the calls that take a const dictionary. It is closed if the store is. It lives as long as *s. */
 CEDAR_INLINE const cedar_dictionary *cedar_store_dictionary(const cedar_store *s) {

@@ -584,16 +584,21 @@ private:
     friend class store;
 };
 
+/// How a store is opened: a missing file is created; it has to be there; it has to be missing; or only to look at the store, beside
+/// whoever changes it, without a lock, and without a write.
+enum class opening { created, existing, fresh, to_read };
+
 /// A dictionary whose changes are in the file at a path before they are acknowledged. Once a change returns, it is on the disk, and no
-/// crash of the process or the machine takes it away. A change that a crash interrupts is there as a whole or not at all. Nobody else may
-/// write to the file meanwhile. A store is moved and not copied. One that was moved from is closed: changes throw the error
-/// CEDAR_IS_CLOSED.
+/// crash of the process or the machine takes it away. A change that a crash interrupts is there as a whole or not at all. It is locked as
+/// long as it is open, unless it was opened to read: cedar.h says against whom, and what a forked child may do. A store is moved and not
+/// copied. One that was moved from is closed: changes throw the error CEDAR_IS_CLOSED.
 class store {
 public:
-    /// Opens the file, creates it if it is missing, and makes its changes again. Throws CEDAR_STORE_FOREIGN, CEDAR_STORE_CORRUPT,
-    /// CEDAR_SLOT_LIMIT, std::bad_alloc, and std::system_error if a call on the file failed.
-    explicit store(const std::string &path, layout kind = layout::standard) {
-        const std::uint32_t status = (kind == layout::reduced ? cedar_store_open_reduced : cedar_store_open)(&inside_, path.c_str());
+    /// Opens the file, and makes its changes again. Throws CEDAR_STORE_LOCKED if the store is open already, in another program or in this
+    /// one; CEDAR_STORE_FOREIGN, CEDAR_STORE_CORRUPT, CEDAR_SLOT_LIMIT, std::bad_alloc, and std::system_error if a call on the file failed,
+    /// with ENOENT or EEXIST for a file that has to be there, or has to be missing.
+    explicit store(const std::string &path, layout kind = layout::standard, opening how = opening::created) {
+        const std::uint32_t status = cedar_store_open_with(&inside_, path.c_str(), bits_of(kind, how));
         if (status == CEDAR_STORE_DEVICE) detail::throw_file_error(errno, path);
         check(status, 0);
     }
@@ -625,7 +630,7 @@ public:
     /// Stores a value at a key, and replaces the value that the key holds, if any. Throws CEDAR_EMPTY_KEY, CEDAR_NUL_BYTE,
     /// CEDAR_INVALID_VALUE, CEDAR_SLOT_LIMIT, CEDAR_STORE_TOO_LONG, CEDAR_STORE_FULL and std::bad_alloc; then nothing has changed. Throws
     /// std::system_error if a call on the file failed: the dictionary has the change, and the file has it or not. From then on it throws
-    /// CEDAR_STORE_FAILED.
+    /// CEDAR_STORE_FAILED. If the store was opened to read, it throws CEDAR_STORE_READ_ONLY.
     void update(std::string_view key, std::int32_t value) { insert(key, value); }
 
     /// As update, and returns the value that the key held before, if it held one.
@@ -661,6 +666,16 @@ public:
     bool failed() const noexcept { return cedar_store_failed(&inside_); }
 
 private:
+    static std::uint32_t bits_of(layout kind, opening how) noexcept {
+        const std::uint32_t reduced = kind == layout::reduced ? CEDAR_OPEN_REDUCED : 0;
+        switch (how) {
+        case opening::existing: return reduced | CEDAR_OPEN_EXISTING;
+        case opening::fresh: return reduced | CEDAR_OPEN_NEW;
+        case opening::to_read: return reduced | CEDAR_OPEN_TO_READ;
+        default: return reduced;
+        }
+    }
+
     // Takes the variable over after each change, and throws what a status says.
     void check(std::uint32_t status, std::size_t position) {
         const int number = errno;

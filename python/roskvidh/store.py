@@ -4,19 +4,30 @@ import os
 from contextlib import contextmanager
 from typing import Any, Iterable, Iterator, Literal, TypeVar, Union, overload
 
+from . import _core
 from .cedar import Cedar, Pairs, _pairs_of, _restore
 from .words import Words
 
 K = TypeVar("K", bytes, str)
 Self = TypeVar("Self", bound="Store[Any]")
 Path = Union[str, "os.PathLike[str]"]
+Mode = Literal["c", "w", "x", "r"]
+
+_MODES = {"c": 0, "w": _core.OPEN_EXISTING, "x": _core.OPEN_NEW, "r": _core.OPEN_TO_READ}
 
 
 class Store(Words[K]):
-    """A mapping like Cedar, kept in the file at a path. A missing file is created.
+    """A mapping like Cedar, kept in the file at a path.
 
     Once a change returns, it is on the disk, and no crash of the process or the machine takes it away. A change that a crash interrupts is
-    there as a whole or not at all. Each change waits for the disk, and the file grows by each. Nobody else may write to the file meanwhile.
+    there as a whole or not at all. Each change waits for the disk, and the file grows by each.
+
+    `mode` says how the file is opened: "c" creates a missing one, "w" wants one, "x" creates one and wants none, and "r" only reads.
+    Otherwise a missing file raises FileNotFoundError, and one that is there FileExistsError.
+
+    As long as it is open the store is locked. Whoever opens it meanwhile, also in this process, gets a CedarError with the status 47. With
+    "r" there is no lock: the file isn't written, and may be changed by another program meanwhile. The mapping has what was on the disk when
+    it was opened, and each change of it raises CedarError with the status 48. A forked child writes nothing: its changes raise CedarError.
 
     With sync_every=n a change waits until n of them go to the disk as one; with 0 it waits for sync(). A crash takes away those that wait,
     all of them or none, and no others. batch() does so for the changes of a block.
@@ -37,21 +48,33 @@ class Store(Words[K]):
     >>> folder.cleanup()
     """
 
-    __slots__ = ("__weakref__", "_sync_every_now", "path")
+    __slots__ = ("__weakref__", "_mode", "_sync_every_now", "path")
 
     @overload
-    def __init__(self: "Store[bytes]", path: Path, *, text: Literal[False] = ..., reduced: bool = ..., sync_every: int = ...) -> None: ...
+    def __init__(
+        self: "Store[bytes]", path: Path, *, text: Literal[False] = ..., reduced: bool = ..., sync_every: int = ..., mode: Mode = ...
+    ) -> None: ...
 
     @overload
-    def __init__(self: "Store[str]", path: Path, *, text: Literal[True], reduced: bool = ..., sync_every: int = ...) -> None: ...
+    def __init__(
+        self: "Store[str]", path: Path, *, text: Literal[True], reduced: bool = ..., sync_every: int = ..., mode: Mode = ...
+    ) -> None: ...
 
     @overload
-    def __init__(self: "Store[Any]", path: Path, *, text: bool, reduced: bool = ..., sync_every: int = ...) -> None: ...
+    def __init__(self: "Store[Any]", path: Path, *, text: bool, reduced: bool = ..., sync_every: int = ..., mode: Mode = ...) -> None: ...
 
-    def __init__(self, path: Path, *, text: bool = False, reduced: bool = False, sync_every: int = 1) -> None:
+    def __init__(self, path: Path, *, text: bool = False, reduced: bool = False, sync_every: int = 1, mode: Mode = "c") -> None:
+        if mode not in _MODES:
+            raise ValueError(f"a mode is one of {', '.join(map(repr, _MODES))}, and not {mode!r}")
         self.path = os.fspath(path)
-        self._open_store(os.fsencode(self.path), text, reduced)
+        self._open_store(os.fsencode(self.path), text, reduced, _MODES[mode])
+        self._mode = mode
         self.sync_every = sync_every
+
+    @property
+    def mode(self) -> Mode:
+        """How it was opened: "c", "w", "x" or "r"."""
+        return self._mode
 
     @property
     def sync_every(self) -> int:

@@ -359,12 +359,14 @@ PyObject *core_load(Core *core, PyObject *arguments) {
     return install(core, &fresh, settings);
 }
 
-/* Opens the store of the file at a path. */
+/* Opens the store of the file at a path, by the bits of cedar_store_open_with. */
 PyObject *core_open_store(Core *core, PyObject *arguments) {
     const char *path;
+    unsigned how;
     Settings settings = {0};
     cedar_store fresh = CEDAR_STORE_CLOSED;
-    if (!PyArg_ParseTuple(arguments, "ypp", &path, &settings.is_text, &settings.is_reduced)) return NULL;
+    if (!PyArg_ParseTuple(arguments, "yppI", &path, &settings.is_text, &settings.is_reduced, &how)) return NULL;
+    if (settings.is_reduced) how |= CEDAR_OPEN_REDUCED;
     if (core->is_open) {
         PyErr_SetString(PyExc_ValueError, "the store is open already");
         return NULL;
@@ -372,7 +374,7 @@ PyObject *core_open_store(Core *core, PyObject *arguments) {
     uint32_t status;
     int cause;
     Py_BEGIN_ALLOW_THREADS
-    status = (settings.is_reduced ? cedar_store_open_reduced : cedar_store_open)(&fresh, path);
+    status = cedar_store_open_with(&fresh, path, how);
     cause = errno;
     Py_END_ALLOW_THREADS
     errno = cause;

@@ -210,6 +210,8 @@ static int fill(PyObject *module) {
     Py_XDECREF(core);
     if (done < 0) return -1;
     if (PyModule_AddIntConstant(module, "MIN_VALUE", CEDAR_MIN_VALUE) < 0 || PyModule_AddIntConstant(module, "MAX_VALUE", CEDAR_MAX_VALUE) < 0) return -1;
+    if (PyModule_AddIntConstant(module, "OPEN_EXISTING", CEDAR_OPEN_EXISTING) < 0 || PyModule_AddIntConstant(module, "OPEN_NEW", CEDAR_OPEN_NEW) < 0) return -1;
+    if (PyModule_AddIntConstant(module, "OPEN_TO_READ", CEDAR_OPEN_TO_READ) < 0) return -1;
     return PyModule_AddIntConstant(module, "LOAD_LIMIT", CEDAR_LOAD_LIMIT);
 }
 

@@ -1,5 +1,6 @@
 """Stores: changes that are there when the file is opened again, beside a dict; refused files; a disk that fails; processes that are killed."""
 
+import os
 import pickle
 import random
 import signal
@@ -20,6 +21,32 @@ with Store(sys.argv[1], reduced=sys.argv[2] == "1") as s:
     for number in range(len(s), 10**9):
         s[str(number).encode()] = number
         print(number, flush=True)
+"""
+
+# Opens a store, and writes how many keys it has, or the status.
+OPENS = """
+import sys
+from roskvidh import CedarError, Store
+try:
+    with Store(sys.argv[1]) as s:
+        print(len(s))
+except CedarError as refused:
+    print(refused.status)
+"""
+
+# Opens a store for each of its changes, as often as it is locked.
+TAKES_TURNS = """
+import sys, time
+from roskvidh import CedarError, Store
+i = 0
+while i < 20:
+    try:
+        with Store(sys.argv[1]) as s:
+            s[b"%s.%d" % (sys.argv[2].encode(), i)] = i
+        i += 1
+    except CedarError as refused:
+        assert refused.status == 47
+        time.sleep(0.001)
 """
 
 # Stores numbers until the file may not grow any more.
@@ -170,6 +197,72 @@ class Stores(unittest.TestCase):
             s[b"\xff"] = 1
         with self.assertRaises(ValueError):
             Store(self.path, text=True)
+
+    def refused(self, status, call):
+        with self.assertRaises(CedarError) as caught:
+            call()
+        self.assertEqual(caught.exception.status, status)
+
+    def test_locked(self):
+        with Store(self.path) as s:
+            s[b"net"] = 7
+            data = self.path.read_bytes()
+            self.refused(47, lambda: Store(self.path))
+            opens = [sys.executable, "-c", OPENS, str(self.path)]
+            self.assertEqual(subprocess.run(opens, stdout=subprocess.PIPE, text=True, check=True).stdout, "47\n")
+            self.assertEqual(self.path.read_bytes(), data)
+            s[b"nets"] = 8
+        self.assertEqual(subprocess.run(opens, stdout=subprocess.PIPE, text=True, check=True).stdout, "2\n")
+
+    def test_many_processes(self):
+        """Each opens the store for each of its changes, and all of these are there."""
+        writers = [subprocess.Popen([sys.executable, "-c", TAKES_TURNS, str(self.path), str(number)]) for number in range(3)]
+        for writer in writers:
+            self.assertEqual(writer.wait(), 0)
+        with Store(self.path) as s:
+            self.assertEqual(dict(s), {b"%d.%d" % (number, i): i for number in range(3) for i in range(20)})
+
+    def test_read(self):
+        with self.assertRaises(FileNotFoundError):
+            Store(self.path, mode="r")
+        self.assertFalse(self.path.exists())
+        with Store(self.path, mode="x", sync_every=0) as s:
+            s[b"net"] = 7
+            s.sync()
+            s[b"nets"] = 8
+            data = self.path.read_bytes()
+            with Store(self.path, mode="r") as reader:
+                self.assertEqual((dict(reader), reader.mode, s.mode, reader.failed), ({b"net": 7}, "r", "x", False))
+                for change in (lambda: reader.update({b"a": 1}), lambda: reader.pop(b"net"), reader.clear, lambda: reader.setdefault(b"b", 2)):
+                    self.refused(48, change)
+                s.sync()
+                self.assertEqual((len(reader), len(s)), (1, 2))
+            self.assertNotEqual(self.path.read_bytes(), data)
+        with self.assertRaises(FileExistsError):
+            Store(self.path, mode="x")
+        with self.assertRaises(FileNotFoundError):
+            Store(self.path.parent / "none", mode="w")
+        with self.assertRaises(ValueError):
+            Store(self.path, mode="rb")
+        with Store(self.path, mode="w", text=True) as s:
+            self.assertEqual((dict(s), s.mode), ({"net": 7, "nets": 8}, "w"))
+
+    def test_forked(self):
+        with Store(self.path) as s:
+            s[b"net"] = 7
+            child = os.fork()
+            if child == 0:
+                try:
+                    s[b"ten"] = 9
+                except CedarError as refused:
+                    s.close()
+                    os._exit(refused.status)
+                os._exit(0)
+            self.assertEqual(os.WEXITSTATUS(os.waitpid(child, 0)[1]), 47)
+            self.refused(47, lambda: Store(self.path))
+            s[b"nets"] = 8
+        with Store(self.path) as s:
+            self.assertEqual(dict(s), {b"net": 7, b"nets": 8})
 
     def test_a_disk_that_fails(self):
         """The file may not grow past a limit: a change fails, and what was acknowledged stays."""

@@ -40,6 +40,7 @@ int __real_open(const char *path, int flags, mode_t mode);
 ssize_t __real_read(int file, void *bytes, size_t length);
 ssize_t __real_pwrite(int file, const void *bytes, size_t length, off_t at);
 int __real_ftruncate(int file, off_t length);
+int __real_flock(int file, int how);
 int __real_fsync(int file);
 int __real_fdatasync(int file);
 void *__real_malloc(size_t size);
@@ -71,6 +72,7 @@ ssize_t __wrap_pwrite(int file, const void *bytes, size_t length, off_t at) {
     return -1;
 }
 int __wrap_ftruncate(int file, off_t length) { return fails('c') ? -1 : __real_ftruncate(file, length); }
+int __wrap_flock(int file, int how) { return fails('l') ? -1 : __real_flock(file, how); }
 int __wrap_fsync(int file) { return fails('S') ? -1 : __real_fsync(file); }
 int __wrap_fdatasync(int file) { return fails('s') ? -1 : __real_fdatasync(file); }
 static bool lacks(void) {
@@ -187,13 +189,12 @@ static void check_refused(const void *data, size_t length, uint32_t status) {
     write_file(data, length);
     CHECK(cedar_store_open(&s, path) == status && s.file == NULL && count(&s) == 0);
     CHECK(read_file(found) == length && memcmp(found, data, length) == 0);
-    /* An open one stays as it is. */
+    /* One that was open is closed. */
     unlink(path);
     CHECK(cedar_store_open(&open, path) == CEDAR_OK && update(&open, "net", 7) == CEDAR_OK);
     unlink(path);
     write_file(data, length);
-    CHECK(cedar_store_open(&open, path) == status && at(&open, "net") == 7 && update(&open, "net", 8) == CEDAR_OK);
-    cedar_store_close(&open);
+    CHECK(cedar_store_open(&open, path) == status && open.file == NULL && at(&open, "net") == -1 && update(&open, "net", 8) == CEDAR_IS_CLOSED);
 }
 
 static void check_files(const char *folder) {
@@ -268,13 +269,13 @@ static void check_calls(void) {
     cedar_store s = CEDAR_STORE_CLOSED;
     unlink(path);
     begin(NONE, 0);
-    CHECK(cedar_store_open(&s, path) == CEDAR_OK && strcmp(calls, "SScswswsws") == 0);
+    CHECK(cedar_store_open(&s, path) == CEDAR_OK && strcmp(calls, "lSScswswsws") == 0);
     begin(NONE, 0);
     CHECK(update(&s, "net", 7) == CEDAR_OK && strcmp(calls, "wsws") == 0);
     begin(NONE, 0);
     CHECK(erase(&s, "ten") == CEDAR_OK && strcmp(calls, "") == 0 && erase(&s, "net") == CEDAR_OK && strcmp(calls, "wsws") == 0);
     begin(NONE, 0);
-    CHECK(cedar_store_open(&s, path) == CEDAR_OK && strcmp(calls, "SScsws") == 0);
+    CHECK(cedar_store_open(&s, path) == CEDAR_OK && strcmp(calls, "lSScsws") == 0);
     cedar_store_close(&s);
 }
 
@@ -316,12 +317,14 @@ static void check_group(bool is_reduced) {
 static bool check_group_change(enum fault which, long step) {
     cedar_store s = CEDAR_STORE_CLOSED;
     open_new(&s, false);
-    CHECK(update(&s, "net", 7) == CEDAR_OK && cedar_store_sync_every(&s, 0) == CEDAR_OK);
+    CHECK(update(&s, "net", 7) == CEDAR_OK);
+    cedar_store_close(&s);
     pid_t child = which == ENDS_THE_PROCESS ? fork() : 0;
     CHECK(child >= 0);
     uint32_t status = CEDAR_STORE_DEVICE;
     bool came = true, all = true;
     if (child == 0) {
+        CHECK(cedar_store_open(&s, path) == CEDAR_OK && cedar_store_sync_every(&s, 0) == CEDAR_OK);
         begin(which, step);
         all = update(&s, "a", 1) == CEDAR_OK && erase(&s, "net") == CEDAR_OK && update(&s, "ab", 2) == CEDAR_OK;
         status = cedar_store_sync(&s);

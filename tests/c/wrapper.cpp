@@ -434,6 +434,17 @@ std::string random_key() {
 }
 
 // The walks of a text as the map's keys say.
+// A call is refused with a status.
+void has_status(std::uint32_t status, const std::function<void()> &call) {
+    try {
+        call();
+    } catch (const roskvidh::error &error) {
+        CHECK(error.status() == status);
+        return;
+    }
+    CHECK(false);
+}
+
 // A store, opened again and again, that is moved and fails.
 void stores(layout kind, const std::string &folder) {
     const std::string path = folder + "/words.store";
@@ -458,16 +469,24 @@ void stores(layout kind, const std::string &folder) {
         roskvidh::store s(path, kind);
         s.sync_every(3);
         s.update("x", 1);
-        CHECK(s.waiting() == 1 && s.erase("x") && s.waiting() == 2 && roskvidh::store(path, kind).words().size() == 1000);
+        CHECK(s.waiting() == 1 && s.erase("x") && s.waiting() == 2);
+        roskvidh::store looks(path, kind, roskvidh::opening::to_read);
+        CHECK(looks.words().size() == 1000 && looks.words().kind() == kind);
+        has_status(CEDAR_STORE_READ_ONLY, [&] { looks.update("x", 1); });
+        has_status(CEDAR_STORE_LOCKED, [&] { roskvidh::store(path, kind); });
         s.sync();
         CHECK(s.waiting() == 0);
         s.sync_every(0);
         s.update("y", 1);
         CHECK(s.erase("y") && s.waiting() == 2);
     }
-    CHECK(roskvidh::store(path, kind).words().size() == 1000);
+    CHECK(roskvidh::store(path, kind, roskvidh::opening::existing).words().size() == 1000);
     lacks_memory([&] { roskvidh::store(path, kind); });
     no_file(path + "/none", [&] { roskvidh::store(path + "/none", kind); });
+    no_file(path, [&] { roskvidh::store(path, kind, roskvidh::opening::fresh); });
+    no_file(path + ".none", [&] { roskvidh::store(path + ".none", kind, roskvidh::opening::existing); });
+    no_file(path + ".none", [&] { roskvidh::store(path + ".none", kind, roskvidh::opening::to_read); });
+    CHECK(std::remove((path + ".none").c_str()) != 0);
     std::FILE *file = std::fopen(path.c_str(), "wb");
     CHECK(file != nullptr && std::fputs("no store at all", file) >= 0 && std::fclose(file) == 0);
     refused(CEDAR_STORE_FOREIGN, std::nullopt, "the file is not of a store", [&] { roskvidh::store(path, kind); });
