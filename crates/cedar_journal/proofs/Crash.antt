@@ -1,17 +1,16 @@
 -- What a crash leaves in each step of a record's way into the file, and of a repair.
-use Rattle.std.proofs.Common.{◌≡◌, ℕ, ◌+◌, ◌-◌, ◌≤◌, ◌<◌, false, List, [], ◌∷◌, ◌++◌, length, get_or, take, drop, sym, ◌∙◌, ap, subst, arith, append_assoc, length-append, length-drop, take-append-drop, length-take-le}
-use Rattle.std.proofs.lemmas.List.{take_at, drop_at, drop_more, take_all, drop_all, append-nil, length-take}
-use Rattle.std.proofs.lemmas.Bool.{false_from_ne_true}
+use Rattle.std.proofs.Common.{◌≡◌, inl, inr, ℕ, ◌+◌, ◌-◌, ◌≤◌, ◌<◌, List, [], ◌∷◌, ◌++◌, length, get_or, take, drop, Some, sym, ◌∙◌, ap, subst, arith, append_assoc, length-append, length-drop, length-take, take-append-drop, length-take-le}
+use Rattle.std.proofs.lemmas.List.{take_at, drop_at, drop_more, take_all, drop_all, append-nil}
+use Rattle.cedar_journal.specs.declared.format.Format.{Format}
 use Rattle.cedar_journal.specs.Device.{Holds, Torn, Cut, Follows, Only}
-use Rattle.cedar_journal.specs.Records.{payloads_in, has_record, framed, AreWholeRecords, EndsAt}
-use Rattle.cedar_journal.specs.Files.{HasHeader}
-use Rattle.cedar_journal.specs.Journal.{IsSettled, IsStaged}
-use Rattle.cedar_journal.proofs.Fronts.{record_of, MayHave, front_and, take_both, behind_closed, behind_gate, framed_apart, nothing_behind, written_is_front, written_stands}
-use Rattle.cedar_journal.proofs.Reading.{cut_lacks, record_is_whole}
+use Rattle.cedar_journal.specs.Files.{HasRecords, IsWholeFront, added, recovered}
+use Rattle.cedar_journal.specs.Formats.{frame_of, record_head, opening, overhead, records_read, stands}
+use Rattle.cedar_journal.specs.Journal.{IsBeforeOrAfter, IsSettled, IsStaged}
+use Rattle.cedar_journal.proofs.Fronts.{take_both}
+use Rattle.cedar_journal.proofs.Headers.{front_alone, front_and, front_stands, one_more}
+use Rattle.cedar_journal.proofs.Headers as headers
+use Rattle.cedar_journal.proofs.Readings.{closed_end, few_end, framed_apart, opening_open, record_size, shut, staged_reads, written}
 use Rattle.cedar_journal.proofs.Tears.{torn_front}
-
-pub length-framed : (bytes : List ℕ) → length (framed bytes) ≡ length bytes + 5
-length-framed bytes = omega (arith, length-append bytes (0 ∷ []))
 
 -- ---- a file that is a front, a gate and a rest
 
@@ -28,13 +27,11 @@ module _ (front : List ℕ) (end : ℕ) (ends : length front ≡ end) where
   through : (gate : ℕ) (rest : List ℕ) → take (end + 1) (front ++ gate ∷ rest) ≡ front ++ gate ∷ []
   through gate rest = ap (λ (l : List ℕ). take (end + 1) l) (sym (append_assoc front (gate ∷ []) rest)) ∙ take_at (front ++ gate ∷ []) rest (end + 1) (long gate)
 
-  pub torn_behind : (n : ℕ) (rest c : List ℕ) → AreWholeRecords front → Torn (end + 1) n (front ++ 0 ∷ rest) c → payloads_in c ≡ payloads_in front
-  torn_behind n rest c is_front torn =
+  pub torn_behind : (n : ℕ) (rest c : List ℕ) → Torn (end + 1) n (front ++ 0 ∷ rest) c → c ≡ front ++ 0 ∷ drop (end + 1) c
+  torn_behind n rest c torn =
       let kept : take (end + 1) c ≡ front ++ 0 ∷ [] =
       torn_front (end + 1) n (front ++ 0 ∷ rest) c (omega (arith, length-append front (0 ∷ rest), ends)) torn ∙ through 0 rest in
-      let all : c ≡ front ++ 0 ∷ drop (end + 1) c =
-      sym (take-append-drop (end + 1) c) ∙ ap (λ (l : List ℕ). l ++ drop (end + 1) c) kept ∙ append_assoc front (0 ∷ []) (drop (end + 1) c) in
-      ap payloads_in all ∙ behind_closed front 0 (drop (end + 1) c) is_front (omega arith)
+      sym (take-append-drop (end + 1) c) ∙ ap (λ (l : List ℕ). l ++ drop (end + 1) c) kept ∙ append_assoc front (0 ∷ []) (drop (end + 1) c)
 
   pub written_behind : (bytes rest c : List ℕ) → Holds (front ++ 0 ∷ rest) (end + 1) bytes c → c ≡ front ++ 0 ∷ (bytes ++ drop (end + 1 + length bytes) (front ++ 0 ∷ rest))
   written_behind bytes rest c holds =
@@ -52,36 +49,34 @@ module _ (front : List ℕ) (end : ℕ) (ends : length front ≡ end) where
       let kept : take end c ≡ front = torn_front end 1 (front ++ 0 ∷ rest) c (omega (arith, length-append front (0 ∷ rest), ends)) torn ∙ front_is 0 rest in
       sym (take-append-drop end c) ∙ ap (λ (l : List ℕ). l ++ drop end c) kept ∙ ap (λ (l : List ℕ). front ++ l) more
 
-  pub written_gate : (rest c : List ℕ) → Holds (front ++ 0 ∷ rest) end (1 ∷ []) c → c ≡ front ++ 1 ∷ rest
-  written_gate rest c holds =
+  pub written_gate : (gate : ℕ) (rest c : List ℕ) → Holds (front ++ 0 ∷ rest) end (gate ∷ []) c → c ≡ front ++ gate ∷ rest
+  written_gate gate rest c holds =
       holds
-      ∙ ap (λ (l : List ℕ). l ++ (1 ∷ []) ++ drop (end + 1) (front ++ 0 ∷ rest)) (front_is 0 rest)
-      ∙ ap (λ (l : List ℕ). front ++ (1 ∷ []) ++ l) (rest_is 0 rest)
-      ∙ append_assoc front (1 ∷ []) rest
+      ∙ ap (λ (l : List ℕ). l ++ (gate ∷ []) ++ drop (end + 1) (front ++ 0 ∷ rest)) (front_is 0 rest)
+      ∙ ap (λ (l : List ℕ). front ++ (gate ∷ []) ++ l) (rest_is 0 rest)
+      ∙ append_assoc front (gate ∷ []) rest
 
 -- ---- the states of a journal
 
-module _ {D : Type 0} (seen : D → List ℕ) (may_leave : D → List ℕ → Type 0) (device : D) where
-  pub settled_at : (end : ℕ) (front rest : List ℕ) → length front ≡ end → AreWholeRecords front → HasHeader front → seen device ≡ front ++ 0 ∷ rest → Only (seen device) (may_leave device) → IsSettled seen may_leave device end
-  settled_at end front rest ends is_front header is only =
+module _ {D : Type 0} (seen : D → List ℕ) (may_leave : D → List ℕ → Type 0) (device : D) (f : Format) where
+  pub settled_at : (end : ℕ) (front rest : List ℕ) → length front ≡ end → IsWholeFront f front → seen device ≡ front ++ 0 ∷ rest → Only (seen device) (may_leave device)
+      → IsSettled seen may_leave device f end
+  settled_at end front rest ends is_front is only =
       let first : take end (seen device) ≡ front = ap (λ (l : List ℕ). take end l) is ∙ front_is front end ends 0 rest in
       let last : drop (end + 1) (seen device) ≡ rest = ap (λ (l : List ℕ). drop (end + 1) l) is ∙ rest_is front end ends 0 rest in
       record {
         split = is ∙ sym (λ i. first i ++ 0 ∷ last i);
-        whole = subst AreWholeRecords (sym first) is_front;
-        header = (header.0, ap payloads_in is ∙ behind_closed front 0 rest is_front (omega arith) ∙ header.1);
+        front = subst (IsWholeFront f) (sym first) is_front;
         durable = only;
       }
 
-  pub staged_at : (end : ℕ) (front bytes tail : List ℕ) → length front ≡ end → AreWholeRecords front → HasHeader front → length bytes < 4294967296 → end < 1152921504606846976 → seen device ≡ front ++ 0 ∷ (framed bytes ++ tail) → Only (seen device) (may_leave device) → IsStaged seen may_leave device end bytes
-  staged_at end front bytes tail ends is_front header short room is only =
-      let size : length (front ++ 0 ∷ framed bytes) ≡ end + 6 + length bytes = omega (arith, length-append front (0 ∷ framed bytes), length-framed bytes, ends) in
-      let last : drop (end + 1) (seen device) ≡ framed bytes ++ tail = ap (λ (l : List ℕ). drop (end + 1) l) is ∙ rest_is front end ends 0 (framed bytes ++ tail) in
-      let apart : seen device ≡ (front ++ 0 ∷ framed bytes) ++ tail = is ∙ sym (append_assoc front (0 ∷ framed bytes) tail) in
-      let far : drop (end + 6 + length bytes) (seen device) ≡ tail = ap (λ (l : List ℕ). drop (end + 6 + length bytes) l) apart ∙ drop_at (front ++ 0 ∷ framed bytes) tail (end + 6 + length bytes) size in
+  pub staged_at : (end : ℕ) (front bytes tail : List ℕ) → length front ≡ end → IsWholeFront f front → length bytes < 4294967296 → end < 1152921504606846976
+      → seen device ≡ front ++ 0 ∷ (frame_of f bytes ++ tail) → Only (seen device) (may_leave device) → IsStaged seen may_leave device f end bytes
+  staged_at end front bytes tail ends is_front short room is only =
       record {
-        settled = settled_at end front (framed bytes ++ tail) ends is_front header is only;
-        staged = last ∙ ap (λ (l : List ℕ). framed bytes ++ l) (sym far);
+        settled = settled_at end front (frame_of f bytes ++ tail) ends is_front is only;
+        rest = tail;
+        staged = ap (λ (l : List ℕ). drop (end + 1) l) is ∙ rest_is front end ends 0 (frame_of f bytes ++ tail);
         short = short;
         room = room;
       }
@@ -90,86 +85,96 @@ module _ {D : Type 0} (seen : D → List ℕ) (may_leave : D → List ℕ → Ty
 pub front_ends : (file : List ℕ) (end : ℕ) → file ≡ take end file ++ 0 ∷ drop (end + 1) file → length (take end file) ≡ end
 front_ends file end split = omega (arith, ap length split, length-append (take end file) (0 ∷ drop (end + 1) file), length-take end file)
 
-module _ (file : List ℕ) (end : ℕ) (split : file ≡ take end file ++ 0 ∷ drop (end + 1) file) (whole : AreWholeRecords (take end file)) where
+-- a file at rest
+module _ (file : List ℕ) (f : Format) (end : ℕ) (split : file ≡ take end file ++ 0 ∷ drop (end + 1) file) (front : IsWholeFront f (take end file)) where
   ends : length (take end file) ≡ end
   ends = front_ends file end split
 
-  pub stands_for : payloads_in file ≡ payloads_in (take end file)
-  stands_for = ap payloads_in split ∙ behind_closed (take end file) 0 (drop (end + 1) file) whole (omega arith)
+  pub stands_for : recovered file ≡ Some front.0
+  stands_for = ap recovered split ∙ headers.front_ends f (take end file) front.0 front.1 (0 ∷ drop (end + 1) file) (shut f (drop (end + 1) file))
 
-  pub stage_crash : (n : ℕ) (old new : List ℕ → Type 0) → Only file old → Follows (Torn (end + 1) n) old new → (c : List ℕ) → new c → payloads_in c ≡ payloads_in file
+  pub closed_stands : (c rest : List ℕ) → c ≡ take end file ++ 0 ∷ rest → recovered c ≡ recovered file
+  closed_stands c rest is = ap recovered is ∙ headers.front_ends f (take end file) front.0 front.1 (0 ∷ rest) (shut f rest) ∙ sym stands_for
+
+  pub stage_crash : (n : ℕ) (old new : List ℕ → Type 0) → Only file old → Follows (Torn (end + 1) n) old new → (c : List ℕ) → new c → recovered c ≡ recovered file
   stage_crash n old new only follows c left =
       let from = follows c left in
-      torn_behind (take end file) end ends n (drop (end + 1) file) c whole (subst (λ f. Torn (end + 1) n f c) (only from.0 from.1 ∙ split) from.2) ∙ sym stands_for
+      closed_stands c (drop (end + 1) c) (torn_behind (take end file) end ends n (drop (end + 1) file) c (subst (λ d. Torn (end + 1) n d c) (only from.0 from.1 ∙ split) from.2))
 
   pub staged_file : (bytes c : List ℕ) → Holds file (end + 1) bytes c → c ≡ take end file ++ 0 ∷ (bytes ++ drop (end + 1 + length bytes) (take end file ++ 0 ∷ drop (end + 1) file))
-  staged_file bytes c holds = written_behind (take end file) end ends bytes (drop (end + 1) file) c (subst (λ f. Holds f (end + 1) bytes c) split holds)
+  staged_file bytes c holds = written_behind (take end file) end ends bytes (drop (end + 1) file) c (subst (λ d. Holds d (end + 1) bytes c) split holds)
 
-  module _ (bytes tail : List ℕ) (staged : drop (end + 1) file ≡ framed bytes ++ tail) (short : length bytes < 4294967296) where
-    pub gate_crash : (old new : List ℕ → Type 0) → Only file old → Follows (Torn end 1) old new → (c : List ℕ) → new c → MayHave (payloads_in file) bytes c
+  module _ (bytes tail : List ℕ) (staged : drop (end + 1) file ≡ frame_of f bytes ++ tail) (short : length bytes < 4294967296) where
+    pub gate_crash : (old new : List ℕ → Type 0) → Only file old → Follows (Torn end 1) old new → (c : List ℕ) → new c → IsBeforeOrAfter (recovered file) bytes c
     gate_crash old new only follows c left =
         let from = follows c left in
-        let is : c ≡ take end file ++ get_or c end 0 ∷ drop (end + 1) file = torn_gate (take end file) end ends (drop (end + 1) file) c (subst (λ f. Torn end 1 f c) (only from.0 from.1 ∙ split) from.2) in
-        let is_staged : c ≡ take end file ++ get_or c end 0 ∷ (framed bytes ++ tail) = is ∙ ap (λ (l : List ℕ). take end file ++ get_or c end 0 ∷ l) staged in
-        subst (λ f. MayHave (payloads_in file) bytes f) (sym is_staged)
-        (subst (λ (ps : List (List ℕ)). MayHave ps bytes (take end file ++ get_or c end 0 ∷ (framed bytes ++ tail))) (sym stands_for)
-        (behind_gate (take end file) bytes tail (get_or c end 0) whole short))
+        let gate = get_or c end 0 in
+        let is : c ≡ take end file ++ gate ∷ (frame_of f bytes ++ tail) =
+        torn_gate (take end file) end ends (drop (end + 1) file) c (subst (λ d. Torn end 1 d c) (only from.0 from.1 ∙ split) from.2)
+        ∙ ap (λ (l : List ℕ). take end file ++ gate ∷ l) staged in
+        elim (staged_reads f bytes tail gate short) [
+          | inl none ↦ inl (ap recovered is ∙ headers.front_ends f (take end file) front.0 front.1 (gate ∷ (frame_of f bytes ++ tail)) none ∙ sym stands_for)
+          | inr more ↦ inr (one_more file c bytes front.0 stands_for (ap recovered is ∙ front_stands f (take end file) front.0 front.1 (gate ∷ (frame_of f bytes ++ tail)) (bytes ∷ []) more))
+        ]
 
     -- the front is longer by the record
-    pub opened_file : (c : List ℕ) → Holds file end (1 ∷ []) c → c ≡ (take end file ++ record_of bytes) ++ 0 ∷ tail
+    abbrev pub longer : List ℕ
+    longer = take end file ++ (opening f ∷ (record_head f bytes ++ bytes))
+
+    pub opened_file : (c : List ℕ) → Holds file end (opening f ∷ []) c → c ≡ longer ++ 0 ∷ tail
     opened_file c holds =
-        written_gate (take end file) end ends (drop (end + 1) file) c (subst (λ f. Holds f end (1 ∷ []) c) split holds)
-        ∙ ap (λ (l : List ℕ). take end file ++ 1 ∷ l) staged
-        ∙ ap (λ (l : List ℕ). take end file ++ l) (framed_apart bytes tail 1)
-        ∙ sym (append_assoc (take end file) (record_of bytes) (0 ∷ tail))
+        written_gate (take end file) end ends (opening f) (drop (end + 1) file) c (subst (λ d. Holds d end (opening f ∷ []) c) split holds)
+        ∙ ap (λ (l : List ℕ). take end file ++ opening f ∷ l) staged
+        ∙ ap (λ (l : List ℕ). take end file ++ l) (framed_apart f bytes tail (opening f))
+        ∙ sym (append_assoc (take end file) (opening f ∷ (record_head f bytes ++ bytes)) (0 ∷ tail))
 
-    pub longer_ends : length (take end file ++ record_of bytes) ≡ end + (5 + length bytes)
-    longer_ends = omega (arith, ends, length-append (take end file) (record_of bytes))
+    pub longer_ends : length longer ≡ end + (overhead f + length bytes)
+    longer_ends = omega (arith, ends, record_size f bytes, length-append (take end file) (opening f ∷ (record_head f bytes ++ bytes)))
 
-    pub longer_whole : AreWholeRecords (take end file ++ record_of bytes)
-    longer_whole = front_and (take end file) (record_of bytes) whole (written_is_front bytes short)
+    pub longer_front : IsWholeFront f longer
+    longer_front = (front.0 ++ bytes ∷ [], front_and f (take end file) (opening f ∷ (record_head f bytes ++ bytes)) front.0 (bytes ∷ []) front.1 (written f (opening f) bytes (opening_open f) short))
 
-    pub longer_stands : payloads_in ((take end file ++ record_of bytes) ++ 0 ∷ tail) ≡ payloads_in file ++ bytes ∷ []
-    longer_stands =
-        behind_closed (take end file ++ record_of bytes) 0 tail longer_whole (omega arith)
-        ∙ whole (record_of bytes)
-        ∙ ap (λ (l : List (List ℕ)). payloads_in (take end file) ++ l) (written_stands bytes short)
-        ∙ ap (λ (l : List (List ℕ)). l ++ bytes ∷ []) (sym stands_for)
+    pub opened_stands : (c : List ℕ) → c ≡ longer ++ 0 ∷ tail → recovered c ≡ added bytes (recovered file)
+    unfolding longer_front
+    opened_stands c is =
+        one_more file c bytes front.0 stands_for (ap recovered is ∙ headers.front_ends f longer longer_front.0 longer_front.1 (0 ∷ tail) (shut f tail))
 
 -- ---- a repair
 
-few_lack : (rest : List ℕ) → length rest ≤ 1 → has_record rest ≡ false
-few_lack rest few = false_from_ne_true _ (λ has. let fits = record_is_whole rest has in absurd (omega (arith, few, fits)))
+module _ (file : List ℕ) (f : Format) (end : ℕ) (at : HasRecords file f end) where
+  pub file_size : length (take end file) ≡ end
+  file_size = length-take-le end file at.within
 
-module _ (file : List ℕ) (end : ℕ) (at : EndsAt file end) where
-  size : length (take end file) ≡ end
-  size = length-take-le end file at.within
+  pub stays : recovered (take end file) ≡ recovered file
+  stays =
+      front_alone f (take end file) at.front.0 at.front.1
+      ∙ sym (ap recovered (sym (take-append-drop end file)) ∙ headers.front_ends f (take end file) at.front.0 at.front.1 (drop end file) (closed_end f (drop end file) at.no_more))
 
-  pub stays : payloads_in (take end file) ≡ payloads_in file
-  stays = sym (ap payloads_in (sym (take-append-drop end file)) ∙ nothing_behind (take end file) (drop end file) at.whole at.no_more)
+  -- nothing that counts stands behind the records
+  behind_them : (c rest : List ℕ) → c ≡ take end file ++ rest → records_read f rest ≡ stands [] → recovered c ≡ recovered file
+  behind_them c rest is ends =
+      ap recovered is ∙ headers.front_ends f (take end file) at.front.0 at.front.1 rest ends ∙ sym (front_alone f (take end file) at.front.0 at.front.1) ∙ stays
 
   -- any cut keeps the records
-  pub cut_keeps : (c : List ℕ) → Cut end file c → payloads_in c ≡ payloads_in file
+  pub cut_keeps : (c : List ℕ) → Cut end file c → recovered c ≡ recovered file
   cut_keeps c cut =
       let n = length c - end in
       let more : length c ≡ end + n = omega (arith, cut.no_shorter, at.within) in
-      let is : c ≡ take end file ++ take n (drop end file) = sym cut.front ∙ ap (λ (k : ℕ). take k file) more ∙ take_both end n file at.within in
-      ap payloads_in is ∙ nothing_behind (take end file) (take n (drop end file)) at.whole (cut_lacks n (drop end file) at.no_more) ∙ stays
+      behind_them c (take n (drop end file)) (sym cut.front ∙ ap (λ (k : ℕ). take k file) more ∙ take_both end n file at.within) (at.no_more n)
 
   -- one byte behind them is no record
-  pub torn_end : (c : List ℕ) → Torn end 1 (take end file) c → payloads_in c ≡ payloads_in file
+  pub torn_end : (c : List ℕ) → Torn end 1 (take end file) c → recovered c ≡ recovered file
   torn_end c torn =
-      let kept : take end c ≡ take end file = torn_front end 1 (take end file) c (omega (arith, size)) torn ∙ take_all end (take end file) (omega (arith, size)) in
-      let is : c ≡ take end file ++ drop end c = sym (take-append-drop end c) ∙ ap (λ (l : List ℕ). l ++ drop end c) kept in
-      let few : length (drop end c) ≤ 1 = omega (arith, length-drop end c, size, torn.no_longer) in
-      ap payloads_in is ∙ nothing_behind (take end file) (drop end c) at.whole (few_lack (drop end c) few) ∙ stays
+      let kept : take end c ≡ take end file = torn_front end 1 (take end file) c (omega (arith, file_size)) torn ∙ take_all end (take end file) (omega (arith, file_size)) in
+      let few : length (drop end c) ≤ 1 = omega (arith, length-drop end c, file_size, torn.no_longer) in
+      behind_them c (drop end c) (sym (take-append-drop end c) ∙ ap (λ (l : List ℕ). l ++ drop end c) kept) (few_end f (drop end c) few)
 
   pub written_end : (c : List ℕ) → Holds (take end file) end (0 ∷ []) c → c ≡ take end file ++ 0 ∷ []
   written_end c holds =
       holds
-      ∙ ap (λ (l : List ℕ). l ++ (0 ∷ []) ++ drop (end + 1) (take end file)) (take_all end (take end file) (omega (arith, size)))
-      ∙ ap (λ (l : List ℕ). take end file ++ (0 ∷ []) ++ l) (drop_all (end + 1) (take end file) (omega (arith, size)))
+      ∙ ap (λ (l : List ℕ). l ++ (0 ∷ []) ++ drop (end + 1) (take end file)) (take_all end (take end file) (omega (arith, file_size)))
+      ∙ ap (λ (l : List ℕ). take end file ++ (0 ∷ []) ++ l) (drop_all (end + 1) (take end file) (omega (arith, file_size)))
       ∙ append-nil (take end file ++ 0 ∷ [])
 
-  pub file_size : length (take end file) ≡ end
-  file_size = size
+  pub closed_same : (c : List ℕ) → c ≡ take end file ++ 0 ∷ [] → recovered c ≡ recovered file
+  closed_same c is = behind_them c (0 ∷ []) is (shut f [])

@@ -1,9 +1,8 @@
 -- What the code finds at the front of some bytes.
 use Rattle.std.proofs.Common.{◌≡◌, ◌≢◌, ℕ, ◌+◌, ◌≤◌, ◌<◌, true, false, List, length, take, drop, get_or, ◌∙◌, ap, arith, length-drop, length-take-le}
 use Rattle.std.proofs.lemmas.Bool.{false_from_ne_true}
-use Rattle.cedar_journal.specs.Records.{payload_length, payload, behind_record, has_record, AreWholeRecords}
+use Rattle.cedar_journal.specs.Records.{payload_length, payload, behind_record, has_record}
 use Rattle.cedar_journal.proofs.Reading.{record_is_whole, gate_is_open, is_record}
-use Rattle.cedar_journal.proofs.Fronts.{longer_front}
 
 pub lacks_short : (file : List ℕ) → length file < 5 → has_record file ≡ false
 lacks_short file low = false_from_ne_true _ (λ has. let fits = record_is_whole file has in absurd (omega (arith, low, fits)))
@@ -27,8 +26,3 @@ unfolding behind_record
 found_behind file n m is same fits =
     let size : length (take m (drop 5 file)) ≡ m = length-take-le m (drop 5 file) (omega (arith, same, fits, length-drop 5 file)) in
     (omega (arith, size, same, fits), ap (λ k. drop (5 + k) file) (size ∙ same ∙ is))
-
-pub one_more : (file bytes : List ℕ) (end : ℕ) → end ≤ length file → AreWholeRecords (take end file) → has_record (drop end file) ≡ true → bytes ≡ payload (drop end file) → AreWholeRecords (take (end + (5 + length bytes)) file)
-one_more file bytes end fits front has is =
-    let size : length bytes ≡ payload_length (drop end file) = ap length is ∙ length-payload (drop end file) has in
-    longer_front file end (5 + length bytes) fits front has (omega (arith, size))

@@ -1,10 +1,9 @@
 -- Fronts of files that are whole records.
-use Rattle.std.proofs.Common.{◌≡◌, ◌≢◌, ◌⊎◌, inl, inr, ℕ, zero, suc, ◌+◌, ◌≤◌, ◌<◌, true, false, List, [], ◌∷◌, ◌++◌, length, take, drop, get_or, refl, sym, ◌∙◌, ap, subst, arith, length-take-le, append_assoc}
-use Rattle.std.proofs.lemmas.List.{append-nil, get_or-take, drop_all, take_all}
-use Rattle.std.proofs.lemmas.Bool.{cases_eq}
-use Rattle.cedar_journal.specs.Records.{payload_length, payload, behind_record, has_record, payloads_in, AreWholeRecords, length_bytes, framed}
+use Rattle.std.proofs.Common.{◌≡◌, ℕ, zero, suc, ◌+◌, ◌≤◌, ◌<◌, true, List, [], ◌∷◌, ◌++◌, length, take, drop, get_or, refl, sym, ◌∙◌, ap, arith, length-take-le, append_assoc}
+use Rattle.std.proofs.lemmas.List.{get_or-take, drop_all, take_all}
+use Rattle.cedar_journal.specs.Records.{payload_length, payload, behind_record, has_record, payloads_in, AreWholeRecords, length_bytes}
 use Rattle.cedar_journal.proofs.Numbers.{told_length}
-use Rattle.cedar_journal.proofs.Reading.{record_is_whole, gate_is_open, is_record, closed, nothing_there, payloads_first, payloads_none, still_there, same_payload, behind_and_rest}
+use Rattle.cedar_journal.proofs.Reading.{record_is_whole, gate_is_open, is_record, nothing_there, payloads_first, payloads_none, still_there, same_payload, behind_and_rest}
 
 pub front_of_none : AreWholeRecords []
 front_of_none rest = ap (λ (l : List (List ℕ)). l ++ payloads_in rest) (sym (payloads_none [] nothing_there))
@@ -47,22 +46,6 @@ take_both (suc m) n (x ∷ l) fits =
     let more : suc m + n ≡ suc (m + n) = omega arith in
     ap (λ (k : ℕ). take k (x ∷ l)) more ∙ ap (λ (k : List ℕ). x ∷ k) (take_both m n l (omega (arith, fits)))
 
-pub longer_front : (file : List ℕ) (end n : ℕ) → end ≤ length file → AreWholeRecords (take end file) → has_record (drop end file) ≡ true → n ≡ 5 + payload_length (drop end file) → AreWholeRecords (take (end + n) file)
-longer_front file end n fits front has is =
-    let first = first_of n (drop end file) has is in
-    subst AreWholeRecords (sym (take_both end n file fits)) (front_and (take end file) (take n (drop end file)) front (record_is_front (take n (drop end file)) first.0 first.1))
-
--- ---- behind a front
-
--- a gate that isn't open ends the records, whatever stands behind it
-pub behind_closed : (front : List ℕ) (gate : ℕ) (rest : List ℕ) → AreWholeRecords front → gate ≢ 1 → payloads_in (front ++ gate ∷ rest) ≡ payloads_in front
-behind_closed front gate rest is_front shut =
-    is_front (gate ∷ rest) ∙ ap (λ (l : List (List ℕ)). payloads_in front ++ l) (payloads_none (gate ∷ rest) (closed gate rest shut)) ∙ append-nil (payloads_in front)
-
-pub nothing_behind : (front rest : List ℕ) → AreWholeRecords front → has_record rest ≡ false → payloads_in (front ++ rest) ≡ payloads_in front
-nothing_behind front rest is_front lacks =
-    is_front rest ∙ ap (λ (l : List (List ℕ)). payloads_in front ++ l) (payloads_none rest lacks) ∙ append-nil (payloads_in front)
-
 -- a written record, its gate open
 abbrev pub record_of : List ℕ → List ℕ
 record_of bytes = 1 ∷ length_bytes (length bytes) ++ bytes
@@ -87,21 +70,3 @@ module _ (bytes : List ℕ) (short : length bytes < 4294967296) where
 
   pub written_stands : payloads_in (record_of bytes) ≡ bytes ∷ []
   written_stands = one_record (record_of bytes) written_is_record written_alone ∙ ap (λ (l : List ℕ). l ∷ []) written_payload
-
-pub framed_apart : (bytes tail : List ℕ) (gate : ℕ) → gate ∷ (framed bytes ++ tail) ≡ (gate ∷ (length_bytes (length bytes) ++ bytes)) ++ (0 ∷ tail)
-framed_apart bytes tail gate = ap (λ (l : List ℕ). gate ∷ (length_bytes (length bytes) ++ l)) (append_assoc bytes (0 ∷ []) tail)
-
--- there is one payload more than these, or there isn't
-abbrev pub MayHave : List (List ℕ) → List ℕ → List ℕ → Type 0
-MayHave payloads bytes file = (payloads_in file ≡ payloads) ⊎ (payloads_in file ≡ payloads ++ bytes ∷ [])
-
--- a staged record behind any gate counts or it doesn't
-pub behind_gate : (front bytes tail : List ℕ) (gate : ℕ) → AreWholeRecords front → length bytes < 4294967296 → MayHave (payloads_in front) bytes (front ++ gate ∷ (framed bytes ++ tail))
-behind_gate front bytes tail gate is_front short = elim (cases_eq gate 1) [
-  | inl is_open ↦ inr (
-      ap (λ g. payloads_in (front ++ g ∷ (framed bytes ++ tail))) is_open
-      ∙ is_front (1 ∷ (framed bytes ++ tail))
-      ∙ ap (λ (l : List (List ℕ)). payloads_in front ++ l) (
-      ap payloads_in (framed_apart bytes tail 1) ∙ nothing_behind (record_of bytes) (0 ∷ tail) (written_is_front bytes short) (closed 0 tail (omega arith)) ∙ written_stands bytes short))
-  | inr shut ↦ inl (behind_closed front gate (framed bytes ++ tail) is_front shut)
-]

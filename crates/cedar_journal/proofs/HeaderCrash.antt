@@ -1,9 +1,9 @@
 -- What a crash leaves of a header that is under way.
 use Rattle.std.proofs.Common.{◌≡◌, ℕ, List, [], ◌∷◌, length, get_or, sym, ◌∙◌, ap, arith}
 use Rattle.std.specs.Prelude.{Some}
+use Rattle.cedar_journal.specs.declared.format.Format.TheVariants.{Summed}
 use Rattle.cedar_journal.specs.Device.{Torn, Cut}
-use Rattle.cedar_journal.specs.Records.{framed}
-use Rattle.cedar_journal.specs.Files.{journal_magic, recovered, IsNewFile}
+use Rattle.cedar_journal.specs.Files.{IsNewFile, header_frame, recovered}
 use Rattle.cedar_journal.proofs.Crash.{torn_gate}
 use Rattle.cedar_journal.proofs.Tears.{torn_front}
 use Rattle.cedar_journal.proofs.Headers.{cut_stands, empty_stands, byte_stands, closed_stands, gate_stands}
@@ -25,5 +25,5 @@ torn_frame (gate ∷ rest) torn =
     ap (λ g. recovered (g ∷ rest)) shut ∙ closed_stands rest (omega (arith, torn.no_longer))
 
 -- the gate
-pub torn_gate_of_header : (c : List ℕ) → Torn 0 1 (0 ∷ framed journal_magic) c → recovered c ≡ Some []
-torn_gate_of_header c torn = ap recovered (torn_gate [] 0 (omega arith) (framed journal_magic) c torn) ∙ gate_stands (get_or c 0 0)
+pub torn_gate_of_header : (c : List ℕ) → Torn 0 1 (0 ∷ header_frame Summed) c → recovered c ≡ Some []
+torn_gate_of_header c torn = ap recovered (torn_gate [] 0 (omega arith) (header_frame Summed) c torn) ∙ gate_stands (get_or c 0 0)

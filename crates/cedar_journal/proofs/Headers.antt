@@ -1,45 +1,127 @@
--- What a file stands for, by its first record; and headers that a crash has cut short.
+-- What a file is read as, by its header; and headers that a crash has cut short.
 use Rattle.std.specs.Prelude.{◌&&◌, ◌||◌, ◌==◌, nat_eq, nat_le}
-use Rattle.std.proofs.Common.{◌≡◌, ◌≢◌, ◌⊎◌, inl, inr, ⊎_elim, ℕ, zero, suc, ◌+◌, ◌≤◌, ◌<◌, Bool, true, false, cond, List, [], ◌∷◌, ◌++◌, length, take, drop, Option, Some, None, refl, sym, ◌∙◌, ap, arith, length-take}
+use Rattle.std.proofs.Common.{◌≡◌, ◌≢◌, ◌⊎◌, inl, inr, ℕ, zero, suc, ◌≤◌, ◌<◌, Bool, true, false, List, [], ◌∷◌, ◌++◌, length, take, drop, Option, Some, None, refl, sym, subst, ◌∙◌, ap, arith, append_assoc, length-append, length-take, take-append-drop}
 use Rattle.std.specs.List.{starts_with}
 use Rattle.std.specs.Cmp.Lexicographic.{pointwise, same_text}
-use Rattle.std.proofs.lemmas.Bool.{cases_eq, le-leb, leb-true, false≢true, and_parts, eq-eqb, ne_eqb, false_from_ne_true}
-use Rattle.cedar_journal.specs.Records.{payload_length, payload, behind_record, has_record, payloads_in, framed, EndsAt}
-use Rattle.cedar_journal.specs.Files.{journal_magic, is_begun, behind_header, recovered, added, HasHeader, HasRecords, IsNewFile}
-use Rattle.cedar_journal.specs.Journal.{IsBeforeOrAfter}
-use Rattle.cedar_journal.proofs.Reading.{closed, cut_lacks, nothing_there, payloads_first, payloads_none, record_is_whole}
-use Rattle.cedar_journal.proofs.Fronts.{MayHave, record_of, behind_closed, written_is_front, written_stands}
-use Rattle.cedar_journal.proofs.Found.{lacks_short, length-payload}
+use Rattle.std.proofs.lemmas.Bool.{cases_Bool, cases_eq, cond-true, cond-false, le-leb, leb-true, false≢true, and_parts, eq-eqb, ne_eqb}
+use Rattle.std.proofs.lemmas.List.{append-nil}
+use Rattle.cedar_journal.specs.declared.format.Format.{Format}
+use Rattle.cedar_journal.specs.declared.format.Format.TheVariants.{Plain, Summed}
+use Rattle.cedar_journal.specs.Formats.{ArePieces, read_behind, records_read, stands}
+use Rattle.cedar_journal.specs.Files.{IsFileFront, IsNewFile, IsWholeFront, added, file_reading, format_of, header_frame, journal_header, is_begun, read_by, recovered, recovered_by}
+use Rattle.cedar_journal.proofs.Readings.{behind_behind, few_end, nothing_read}
 
--- ---- by the payloads of all records, the header's too
+-- ---- by the header
 
-pub with_header : (file : List ℕ) (payloads : List (List ℕ)) → payloads_in file ≡ journal_magic ∷ payloads → recovered file ≡ Some payloads
-unfolding recovered
-with_header file payloads is = ap (λ (l : List (List ℕ)). behind_header (is_begun file) l) is
+pub named_reads : (file : List ℕ) (f : Format) → format_of file ≡ Some f → file_reading file ≡ Some (read_behind 13 [] (records_read f (drop 13 file)))
+unfolding file_reading
+named_reads file f named = ap (λ (o : Option Format). read_by o file) named
 
-pub without_record : (file : List ℕ) → is_begun file ≡ true → payloads_in file ≡ [] → recovered file ≡ Some []
-unfolding recovered
-without_record file begun is = ap (λ (l : List (List ℕ)). behind_header (is_begun file) l) is ∙ ap (λ b. behind_header b []) begun
+pub header_names : (f : Format) (rest : List ℕ) → format_of (journal_header f ++ rest) ≡ Some f
+unfolding format_of
+header_names Plain rest = refl
+header_names Summed rest = refl
 
-pub another_name : (file first : List ℕ) (payloads : List (List ℕ)) → payloads_in file ≡ first ∷ payloads → pointwise nat_eq first journal_magic ≡ false → recovered file ≡ None
-unfolding recovered
-another_name file first payloads is other = ap (λ (l : List (List ℕ)). behind_header (is_begun file) l) is ∙ ap (λ b. cond b (Some payloads) None) other
+pub header_is_front : (f : Format) → IsFileFront f (journal_header f) []
+header_is_front f rest = named_reads (journal_header f ++ rest) f (header_names f rest) ∙ ap (λ (l : List ℕ). Some (read_behind 13 [] (records_read f l))) (header_off f rest) ∙ ap (λ n. Some (read_behind n [] (records_read f rest))) (header_long f)
+  where
+    header_off : (f : Format) (rest : List ℕ) → drop 13 (journal_header f ++ rest) ≡ rest
+    header_off Plain rest = refl
+    header_off Summed rest = refl
 
-pub never_begun : (file : List ℕ) → is_begun file ≡ false → payloads_in file ≡ [] → recovered file ≡ None
-unfolding recovered
-never_begun file begun is = ap (λ (l : List (List ℕ)). behind_header (is_begun file) l) is ∙ ap (λ b. behind_header b []) begun
+    header_long : (f : Format) → 13 ≡ length (journal_header f)
+    header_long Plain = refl
+    header_long Summed = refl
 
-module _ (file c : List ℕ) (header : HasHeader file) where
-  pub same_stands : payloads_in c ≡ payloads_in file → recovered c ≡ recovered file
-  same_stands same = with_header c header.0 (same ∙ header.1) ∙ sym (with_header file header.0 header.1)
+starts_there : (file header : List ℕ) → starts_with nat_eq file header ≡ true → header ≡ take (length header) file
+starts_there file header is = same_text header (take (length header) file) (sym is)
 
-  pub one_more_stands : (bytes : List ℕ) → payloads_in c ≡ payloads_in file ++ bytes ∷ [] → recovered c ≡ added bytes (recovered file)
-  one_more_stands bytes same =
-      with_header c (header.0 ++ bytes ∷ []) (same ∙ ap (λ (l : List (List ℕ)). l ++ bytes ∷ []) header.1)
-      ∙ ap (λ (o : Option (List (List ℕ))). added bytes o) (sym (with_header file header.0 header.1))
+some_is : {A : Type 0} (a b : A) → Some a ≡ Some b → a ≡ b
+some_is {A = A} a b e = let same : ◌≡◌ {A = Option A} (Some a) (Some b) = e in cc
 
-  pub either_stands : (bytes : List ℕ) → MayHave (payloads_in file) bytes c → IsBeforeOrAfter (recovered file) bytes c
-  either_stands bytes = ⊎_elim (λ same. inl (same_stands same)) (λ more. inr (one_more_stands bytes more))
+pub none_is : {A : Type 0} (a : A) → None ≡ Some a → ⊥
+none_is {A = A} a e = let apart : ◌≡◌ {A = Option A} None (Some a) = e in cc
+
+pub named_header : (file : List ℕ) (f : Format) → format_of file ≡ Some f → journal_header f ≡ take 13 file
+unfolding format_of
+named_header file f named = elim (cases_Bool (starts_with nat_eq file (journal_header Summed))) [
+  | inl second ↦
+      let is : Summed ≡ f = some_is Summed f (sym (cond-true _ _ _ second) ∙ named) in
+      subst (λ g. journal_header g ≡ take 13 file) is (starts_there file (journal_header Summed) second)
+  | inr other ↦ elim (cases_Bool (starts_with nat_eq file (journal_header Plain))) [
+    | inl first ↦
+        let is : Plain ≡ f = some_is Plain f (sym (cond-false _ _ _ other ∙ cond-true _ _ _ first) ∙ named) in
+        subst (λ g. journal_header g ≡ take 13 file) is (starts_there file (journal_header Plain) first)
+    | inr none ↦ absurd (none_is f (sym (cond-false _ _ _ other ∙ cond-false _ _ _ none) ∙ named))
+  ]
+]
+
+-- what the code finds
+pub second_named : (file : List ℕ) → starts_with nat_eq file (journal_header Summed) ≡ true → Some Summed ≡ format_of file
+unfolding format_of
+second_named file is = sym (cond-true _ _ _ is)
+
+module _ (file : List ℕ) (other : starts_with nat_eq file (journal_header Summed) ≡ false) where
+  pub first_named : starts_with nat_eq file (journal_header Plain) ≡ true → Some Plain ≡ format_of file
+  unfolding format_of
+  first_named is = sym (cond-false _ _ _ other ∙ cond-true _ _ _ is)
+
+  pub none_named : starts_with nat_eq file (journal_header Plain) ≡ false → None ≡ format_of file
+  unfolding format_of
+  none_named lacks = sym (cond-false _ _ _ other ∙ cond-false _ _ _ lacks)
+
+header_size : (f : Format) → length (journal_header f) ≡ 13
+header_size Plain = refl
+header_size Summed = refl
+
+pub named_long : (file : List ℕ) (f : Format) → format_of file ≡ Some f → 13 ≤ length file
+named_long file f named = let size = ap length (named_header file f named) in omega (arith, size, header_size f, length-take 13 file)
+
+pub named_front : (file : List ℕ) (f : Format) → format_of file ≡ Some f → IsWholeFront f (take 13 file)
+named_front file f named = ([], subst (λ (l : List ℕ). IsFileFront f l []) (named_header file f named) (header_is_front f))
+
+-- the header of a front is that of what it is the front of
+pub header_stays : (front rest : List ℕ) (f : Format) → format_of front ≡ Some f → format_of (front ++ rest) ≡ Some f
+header_stays front rest f named =
+    let apart : front ++ rest ≡ journal_header f ++ (drop 13 front ++ rest) =
+    ap (λ (l : List ℕ). l ++ rest) (sym (take-append-drop 13 front) ∙ ap (λ (l : List ℕ). l ++ drop 13 front) (sym (named_header front f named)))
+    ∙ append_assoc (journal_header f) (drop 13 front) rest in
+    ap format_of apart ∙ header_names f (drop 13 front ++ rest)
+
+-- ---- fronts
+
+pub front_and : (f : Format) (a b : List ℕ) (ps qs : List (List ℕ)) → IsFileFront f a ps → ArePieces f b qs → IsFileFront f (a ++ b) (ps ++ qs)
+front_and f a b ps qs first second rest =
+    ap file_reading (append_assoc a b rest) ∙ first (b ++ rest) ∙ ap (λ r. Some (read_behind (length a) ps r)) (second rest)
+    ∙ ap Some (behind_behind (length a) (length b) ps qs (records_read f rest))
+    ∙ ap (λ n. Some (read_behind n (ps ++ qs) (records_read f rest))) (sym (length-append a b))
+
+module _ (f : Format) (front : List ℕ) (ps : List (List ℕ)) (is_front : IsFileFront f front ps) where
+  pub front_stands : (rest : List ℕ) (qs : List (List ℕ)) → records_read f rest ≡ stands qs → recovered (front ++ rest) ≡ Some (ps ++ qs)
+  unfolding recovered
+  front_stands rest qs is = ap recovered_by (is_front rest ∙ ap (λ r. Some (read_behind (length front) ps r)) is)
+
+  pub front_ends : (rest : List ℕ) → records_read f rest ≡ stands [] → recovered (front ++ rest) ≡ Some ps
+  front_ends rest is = front_stands rest [] is ∙ ap Some (append-nil ps)
+
+  pub front_alone : recovered front ≡ Some ps
+  front_alone = ap recovered (sym (append-nil front)) ∙ front_ends [] (nothing_read f)
+
+pub one_more : (file c payload : List ℕ) (ps : List (List ℕ)) → recovered file ≡ Some ps → recovered c ≡ Some (ps ++ payload ∷ []) → recovered c ≡ added payload (recovered file)
+one_more file c payload ps was is = is ∙ sym (ap (added payload) was)
+
+-- ---- no header
+
+pub begun_stands : (file : List ℕ) → format_of file ≡ None → is_begun file ≡ true → recovered file ≡ Some []
+unfolding recovered file_reading
+begun_stands file unnamed begun = ap recovered_by (ap (λ (o : Option Format). read_by o file) unnamed ∙ cond-true (is_begun file) _ _ begun)
+
+pub is_new : (file : List ℕ) → format_of file ≡ None → is_begun file ≡ true → IsNewFile file
+is_new file unnamed begun = record { unnamed = unnamed; begun = begun; stands = begun_stands file unnamed begun }
+
+pub foreign_reads : (file : List ℕ) → format_of file ≡ None → is_begun file ≡ false → file_reading file ≡ None
+unfolding file_reading
+foreign_reads file unnamed begun = ap (λ (o : Option Format). read_by o file) unnamed ∙ cond-false (is_begun file) _ _ begun
 
 -- ---- headers that are cut short
 
@@ -65,17 +147,17 @@ pub none_begun : (file : List ℕ) → length file ≡ 0 → true ≡ is_begun f
 none_begun [] none = sym empty_begun
 none_begun (x ∷ file) none = absurd (omega (arith, none))
 
-pub byte_begun : (gate : ℕ) → is_begun (gate ∷ []) ≡ true
+byte_begun : (gate : ℕ) → is_begun (gate ∷ []) ≡ true
 unfolding is_begun
 byte_begun gate = refl
 
-pub framed_begun : (gate : ℕ) → is_begun (gate ∷ framed journal_magic) ≡ true
+framed_begun : (gate : ℕ) → is_begun (gate ∷ header_frame Summed) ≡ true
 unfolding is_begun
 framed_begun gate = refl
 
-pub closed_begun : (rest : List ℕ) → length rest ≤ 13 → is_begun (0 ∷ rest) ≡ true
+closed_begun : (rest : List ℕ) → length rest ≤ 13 → is_begun (0 ∷ rest) ≡ true
 unfolding is_begun
-closed_begun rest few = or_else _ _ (le-leb (length (0 ∷ rest)) 14 (omega (arith, few)))
+closed_begun rest few = or_else _ _ (or_else _ _ (le-leb (length (0 ∷ rest)) 14 (omega (arith, few))))
 
 cut_starts : (m : ℕ) (xs ys : List ℕ) → pointwise nat_eq xs (take (length xs) ys) ≡ true → pointwise nat_eq (take m xs) (take (length (take m xs)) ys) ≡ true
 cut_starts zero xs ys starts = refl
@@ -85,98 +167,91 @@ cut_starts (suc m) (x ∷ xs) (y ∷ ys) starts =
     let parts = and_parts (nat_eq x y) (pointwise nat_eq xs (take (length xs) ys)) starts in
     both (nat_eq x y) (pointwise nat_eq (take m xs) (take (length (take m xs)) ys)) parts.0 (cut_starts m xs ys parts.1)
 
-pub cut_begun : (n : ℕ) (file : List ℕ) → is_begun file ≡ true → is_begun (take n file) ≡ true
+cut_begun : (n : ℕ) (file : List ℕ) → is_begun file ≡ true → is_begun (take n file) ≡ true
 unfolding is_begun
 cut_begun zero file begun = refl
 cut_begun (suc n) [] begun = refl
-cut_begun (suc n) (x ∷ file) begun = elim (or_parts _ _ begun) [
-  | inl starts ↦ either _ _ (cut_starts n file (framed journal_magic) starts)
-  | inr few ↦
-      let parts = and_parts (x == 0) (nat_le (length (x ∷ file)) 14) few in
-      let size = length-take n file in
-      or_else _ _ (both (x == 0) (nat_le (length (x ∷ take n file)) 14) parts.0
-      (le-leb (length (x ∷ take n file)) 14 (omega (arith, size, leb-true (length (x ∷ file)) 14 parts.1))))
-]
+cut_begun (suc n) (x ∷ file) begun =
+    let front = take n file in
+    let second = starts_with nat_eq (header_frame Summed) front in
+    let first = starts_with nat_eq (header_frame Plain) front in
+    let shut = x == 0 && nat_le (length (x ∷ front)) 14 in
+    elim (or_parts _ _ begun) [
+      | inl starts ↦ either second (first || shut) (cut_starts n file (header_frame Summed) starts)
+      | inr others ↦ elim (or_parts _ _ others) [
+        | inl starts ↦ or_else second (first || shut) (either first shut (cut_starts n file (header_frame Plain) starts))
+        | inr few ↦
+            let parts = and_parts (x == 0) (nat_le (length (x ∷ file)) 14) few in
+            let size = length-take n file in
+            or_else second (first || shut) (or_else first shut (both (x == 0) (nat_le (length (x ∷ front)) 14) parts.0
+            (le-leb (length (x ∷ front)) 14 (omega (arith, size, leb-true (length (x ∷ file)) 14 parts.1)))))
+      ]
+    ]
 
 -- what the code finds
-module _ (file rest : List ℕ) (gate : ℕ) (same : file ≡ gate ∷ rest) (starts : Bool) (value : starts ≡ starts_with nat_eq (framed journal_magic) rest) where
-  pub starts_begun : starts ≡ true → starts ≡ is_begun file
+module _ (file rest : List ℕ) (gate : ℕ) (same : file ≡ gate ∷ rest) (second first : Bool) (by_second : second ≡ starts_with nat_eq (header_frame Summed) rest) where
+  pub second_begun : second ≡ true → second ≡ is_begun file
   unfolding is_begun
-  starts_begun is = is ∙ sym (ap is_begun same ∙ either _ _ (sym value ∙ is))
+  second_begun is = is ∙ sym (ap is_begun same ∙ either _ _ (sym by_second ∙ is))
 
-  not_started : starts ≡ false → is_begun file ≡ (gate == 0 && nat_le (length file) 14)
-  unfolding is_begun
-  not_started lacks =
-      ap is_begun same ∙ ap (λ b. b || (gate == 0 && nat_le (length (gate ∷ rest)) 14)) (sym value ∙ lacks)
-      ∙ ap (λ (l : List ℕ). gate == 0 && nat_le (length l) 14) (sym same)
+  module _ (by_first : first ≡ starts_with nat_eq (header_frame Plain) rest) (lacks : second ≡ false) where
+    pub first_begun : first ≡ true → first ≡ is_begun file
+    unfolding is_begun
+    first_begun is = is ∙ sym (ap is_begun same ∙ or_else _ _ (either _ _ (sym by_first ∙ is)))
 
-  pub shut_begun : starts ≡ false → gate ≡ 0 → nat_le (length file) 14 ≡ is_begun file
-  shut_begun lacks shut = sym (not_started lacks ∙ ap (λ b. b && nat_le (length file) 14) (eq-eqb gate 0 shut))
+    not_started : first ≡ false → is_begun file ≡ (gate == 0 && nat_le (length file) 14)
+    unfolding is_begun
+    not_started none =
+        ap is_begun same ∙ ap (λ b. b || (starts_with nat_eq (header_frame Plain) rest || (gate == 0 && nat_le (length (gate ∷ rest)) 14))) (sym by_second ∙ lacks)
+        ∙ ap (λ b. b || (gate == 0 && nat_le (length (gate ∷ rest)) 14)) (sym by_first ∙ none)
+        ∙ ap (λ (l : List ℕ). gate == 0 && nat_le (length l) 14) (sym same)
 
-  pub ajar_begun : starts ≡ false → gate ≢ 0 → nat_eq gate 0 ≡ is_begun file
-  ajar_begun lacks ajar =
-      let is : nat_eq gate 0 ≡ false = ne_eqb gate 0 ajar in
-      is ∙ sym (not_started lacks ∙ ap (λ b. b && nat_le (length file) 14) is)
+    pub shut_begun : first ≡ false → gate ≡ 0 → nat_le (length file) 14 ≡ is_begun file
+    shut_begun none shut = sym (not_started none ∙ ap (λ b. b && nat_le (length file) 14) (eq-eqb gate 0 shut))
+
+    pub ajar_begun : first ≡ false → gate ≢ 0 → nat_eq gate 0 ≡ is_begun file
+    ajar_begun none ajar =
+        let is : nat_eq gate 0 ≡ false = ne_eqb gate 0 ajar in
+        is ∙ sym (not_started none ∙ ap (λ b. b && nat_le (length file) 14) is)
 
 -- ---- what a crash leaves of a file that has no whole header
 
-pub no_record : (file : List ℕ) → payloads_in file ≡ [] → has_record file ≡ false
-no_record file is = false_from_ne_true _ (λ has. nothing_first (sym (payloads_first file has) ∙ is))
-  where
-    nothing_first : {first : List ℕ} {payloads : List (List ℕ)} → first ∷ payloads ≡ [] → ⊥
-    nothing_first same = absurd (omega (arith, ap length same))
+none_from : (o : Option Format) → ((f : Format) → o ≡ Some f → ⊥) → o ≡ None
+none_from None not = refl
+none_from (Some f) not = absurd (not f refl)
 
 pub cut_stands : (n : ℕ) (file : List ℕ) → IsNewFile file → recovered (take n file) ≡ Some []
-cut_stands n file new = without_record (take n file) (cut_begun n file new.begun) (payloads_none (take n file) (cut_lacks n file (no_record file new.no_record)))
+cut_stands n file new =
+    begun_stands (take n file)
+    (none_from _ (λ f named. none_is f (sym new.unnamed ∙ ap format_of (sym (take-append-drop n file)) ∙ header_stays (take n file) (drop n file) f named)))
+    (cut_begun n file new.begun)
+
+-- a gate that isn't open begins no header
+shut_unnamed : (gate : ℕ) (rest : List ℕ) → gate ≢ 1 → format_of (gate ∷ rest) ≡ None
+shut_unnamed gate rest shut = none_from _ (λ f named. shut (first_gate f (named_header (gate ∷ rest) f named)))
+  where
+    first_gate : (f : Format) → journal_header f ≡ take 13 (gate ∷ rest) → gate ≡ 1
+    first_gate Plain is = let same : 1 ∷ drop 1 (journal_header Plain) ≡ gate ∷ take 12 rest = is in cc
+    first_gate Summed is = let same : 1 ∷ drop 1 (journal_header Summed) ≡ gate ∷ take 12 rest = is in cc
+
+few_unnamed : (file : List ℕ) → length file < 13 → format_of file ≡ None
+few_unnamed file few = none_from _ (λ f named. let long = named_long file f named in absurd (omega (arith, few, long)))
 
 pub empty_stands : recovered [] ≡ Some []
-empty_stands = without_record [] empty_begun (payloads_none [] nothing_there)
+empty_stands = begun_stands [] (few_unnamed [] (omega arith)) empty_begun
 
 pub byte_stands : (gate : ℕ) → recovered (gate ∷ []) ≡ Some []
-byte_stands gate = without_record (gate ∷ []) (byte_begun gate) (payloads_none (gate ∷ []) (lacks_short (gate ∷ []) (omega arith)))
+byte_stands gate = begun_stands (gate ∷ []) (few_unnamed (gate ∷ []) (omega arith)) (byte_begun gate)
 
 pub closed_stands : (rest : List ℕ) → length rest ≤ 13 → recovered (0 ∷ rest) ≡ Some []
-closed_stands rest few = without_record (0 ∷ rest) (closed_begun rest few) (payloads_none (0 ∷ rest) (closed 0 rest (omega arith)))
-
-magic_short : length journal_magic < 4294967296
-magic_short = omega arith
+closed_stands rest few = begun_stands (0 ∷ rest) (shut_unnamed 0 rest (omega arith)) (closed_begun rest few)
 
 -- the whole header, and the closed gate behind it
-pub header_is_front : (rest : List ℕ) → payloads_in (record_of journal_magic ++ rest) ≡ payloads_in (record_of journal_magic) ++ payloads_in rest
-header_is_front = written_is_front journal_magic magic_short
+pub header_stands : recovered (1 ∷ header_frame Summed) ≡ Some []
+header_stands = front_ends Summed (journal_header Summed) [] (header_is_front Summed) (0 ∷ []) (few_end Summed (0 ∷ []) (omega arith))
 
-pub header_is_there : HasHeader (record_of journal_magic)
-header_is_there = ([], written_stands journal_magic magic_short)
-
-pub header_stands : recovered (1 ∷ framed journal_magic) ≡ Some []
-header_stands = with_header (1 ∷ framed journal_magic) [] (behind_closed (record_of journal_magic) 0 [] header_is_front (omega arith) ∙ written_stands journal_magic magic_short)
-
-pub gate_stands : (gate : ℕ) → recovered (gate ∷ framed journal_magic) ≡ Some []
+pub gate_stands : (gate : ℕ) → recovered (gate ∷ header_frame Summed) ≡ Some []
 gate_stands gate = elim (cases_eq gate 1) [
-  | inl is_open ↦ ap (λ g. recovered (g ∷ framed journal_magic)) is_open ∙ header_stands
-  | inr shut ↦ without_record (gate ∷ framed journal_magic) (framed_begun gate) (payloads_none (gate ∷ framed journal_magic) (closed gate (framed journal_magic) shut))
+  | inl is_open ↦ ap (λ g. recovered (g ∷ header_frame Summed)) is_open ∙ header_stands
+  | inr shut ↦ begun_stands (gate ∷ header_frame Summed) (shut_unnamed gate (header_frame Summed) shut) (framed_begun gate)
 ]
-
--- ---- the extent of a file
-
-pub has_records : (file : List ℕ) (end : ℕ) → EndsAt file end → has_record file ≡ true → pointwise nat_eq (payload file) journal_magic ≡ true → HasRecords file end
-unfolding behind_record
-has_records file end ends has named =
-    let is : payload file ≡ journal_magic = same_text (payload file) journal_magic (sym named) in
-    let size : payload_length file ≡ 8 = sym (length-payload file has) ∙ ap length is in
-    let header : payloads_in file ≡ journal_magic ∷ payloads_in (drop 13 file) =
-    payloads_first file has ∙ (λ i. is i ∷ payloads_in (drop (5 + size i) file)) in
-    record {
-      ends = ends;
-      within = omega (arith, record_is_whole file has, size);
-      header = header;
-      stands = with_header file (payloads_in (drop 13 file)) header;
-    }
-
-pub header_of : (file : List ℕ) (end : ℕ) → HasRecords file end → HasHeader file
-header_of file end r = (payloads_in (drop 13 file), r.header)
-
-pub is_new : (file : List ℕ) → has_record file ≡ false → is_begun file ≡ true → IsNewFile file
-is_new file lacks begun =
-    let none = payloads_none file lacks in
-    record { begun = begun; no_record = none; stands = without_record file begun none }

@@ -1,11 +1,15 @@
+pub mod Accepted
 pub mod Crash
 pub mod Found
+pub mod Framed
 pub mod Fronts
 pub mod HeaderCrash
 pub mod Headers
 pub mod Images
 pub mod Kept
 pub mod Moments
+pub mod Nexts
 pub mod Numbers
 pub mod Reading
+pub mod Readings
 pub mod Tears

@@ -1,52 +1,105 @@
--- What a journal's file stands for. Its first record is the header, whose payload names what the file is.
-use Rattle.std.specs.Prelude.{◌≡◌, ℕ, ◌≤◌, ◌&&◌, ◌||◌, ◌==◌, nat_eq, nat_le, Bool, true, List, [], ◌∷◌, ◌++◌, length, drop, get_or, cond, Option, Some, None}
-use Rattle.std.specs.Cmp.Lexicographic.{pointwise}
+-- What a journal's file stands for. Its first record is the header, whose payload names what the file is, and the format of the others.
+use Rattle.std.specs.Prelude.{◌≡◌, ℕ, ◌≤◌, ◌<◌, ◌&&◌, ◌||◌, ◌==◌, nat_eq, nat_le, Bool, true, List, [], ◌∷◌, ◌++◌, length, take, drop, get_or, cond, Option, Some, None}
 use Rattle.std.specs.List.{starts_with}
+use Rattle.cedar_journal.specs.declared.format.Format.{Format}
+use Rattle.cedar_journal.specs.declared.format.Format.TheVariants.{Plain, Summed}
 use Rattle.cedar_journal.specs.declared.records.Extent.{Extent}
 use Rattle.cedar_journal.specs.declared.records.Extent.TheVariants.{New, Until}
-use Rattle.cedar_journal.specs.Records.{payloads_in, framed, EndsAt}
+use Rattle.cedar_journal.specs.declared.records.FileFault.{FileFault}
+use Rattle.cedar_journal.specs.declared.records.FileFault.TheVariants as fault
+use Rattle.cedar_journal.specs.declared.records.Next.{Next}
+use Rattle.cedar_journal.specs.declared.records.Next.TheVariants as next
+use Rattle.cedar_journal.specs.Formats.{ArePieces, AreUndamaged, Reading, read_behind, damaged, payloads_read, records_read, stands}
+use Rattle.cedar_journal.specs.Records.{framed}
 
--- the payload of the header: "CEDARJ" and two zeros
-abbrev pub journal_magic : List ℕ
-journal_magic = 67 ∷ 69 ∷ 68 ∷ 65 ∷ 82 ∷ 74 ∷ 0 ∷ 0 ∷ []
+-- the payload of a header: "CEDARJ" and two bytes that name the version
+abbrev pub magic_of : Format → List ℕ
+magic_of Plain = 67 ∷ 69 ∷ 68 ∷ 65 ∷ 82 ∷ 74 ∷ 0 ∷ 0 ∷ []
+magic_of Summed = 67 ∷ 69 ∷ 68 ∷ 65 ∷ 82 ∷ 74 ∷ 2 ∷ 253 ∷ []
+
+-- what stands behind a header's gate, and the closed gate behind it
+abbrev pub header_frame : Format → List ℕ
+header_frame format = framed (magic_of format)
+
+-- a header: its gate is open
+abbrev pub journal_header : Format → List ℕ
+journal_header format = 1 ∷ 8 ∷ 0 ∷ 0 ∷ 0 ∷ magic_of format
+
+-- the format that a file's header names; None if there is no whole header
+unfoldable pub format_of : List ℕ → Option Format
+format_of file =
+    cond (starts_with nat_eq file (journal_header Summed)) (Some Summed)
+    (cond (starts_with nat_eq file (journal_header Plain)) (Some Plain) None)
 
 -- A header that a crash has cut short: behind its gate, whatever that is, stands a front of what belongs there; or its gate is closed, and
 -- there are no more bytes than a header and a closed gate have. An empty file is one.
 unfoldable pub is_begun : List ℕ → Bool
-is_begun file = starts_with nat_eq (framed journal_magic) (drop 1 file) || (get_or file 0 0 == 0 && nat_le (length file) 14)
+is_begun file =
+    starts_with nat_eq (header_frame Summed) (drop 1 file) || (starts_with nat_eq (header_frame Plain) (drop 1 file) || (get_or file 0 0 == 0 && nat_le (length file) 14))
 
--- the payloads behind the header; None if there is another record in its place, or none and the file wasn't begun either
-abbrev pub behind_header : Bool → List (List ℕ) → Option (List (List ℕ))
-behind_header begun [] = cond begun (Some []) None
-behind_header begun (first ∷ payloads) = cond (pointwise nat_eq first journal_magic) (Some payloads) None
+-- by the format of the header
+abbrev pub read_by : Option Format → List ℕ → Option Reading
+read_by None file = cond (is_begun file) (Some (stands [])) None
+read_by (Some format) file = Some (read_behind 13 [] (records_read format (drop 13 file)))
 
--- The payloads that a file stands for, whatever a crash made of it. None: it is a file of another kind.
+-- What a file is read as, whatever a crash made of it. None: it is of another kind.
+unfoldable pub file_reading : List ℕ → Option Reading
+file_reading file = read_by (format_of file) file
+
+-- the payloads of a reading
+abbrev pub recovered_by : Option Reading → Option (List (List ℕ))
+recovered_by None = None
+recovered_by (Some (damaged at)) = None
+recovered_by (Some (stands payloads)) = Some payloads
+
+-- The payloads that a file stands for, whatever a crash made of it. None: it is refused.
 unfoldable pub recovered : List ℕ → Option (List (List ℕ))
-recovered file = behind_header (is_begun file) (payloads_in file)
+recovered file = recovered_by (file_reading file)
 
 -- and one more
 abbrev pub added : List ℕ → Option (List (List ℕ)) → Option (List (List ℕ))
 added payload None = None
 added payload (Some payloads) = Some (payloads ++ payload ∷ [])
 
--- the header is whole
-abbrev pub HasHeader : List ℕ → Type 0
-HasHeader file = (payloads : List (List ℕ)) × (payloads_in file ≡ journal_magic ∷ payloads)
+-- a file's header and whole records with these payloads, and no more: what follows is read as if it stood alone
+abbrev pub IsFileFront : Format → List ℕ → List (List ℕ) → Type 0
+IsFileFront format front payloads = (rest : List ℕ) → file_reading (front ++ rest) ≡ Some (read_behind (length front) payloads (records_read format rest))
 
--- the file is a journal's, its header is whole, and its whole records end here
-pub record HasRecords (file : List ℕ) (end : ℕ) : Type 0 where
-  pub ends : EndsAt file end
-  pub within : 13 ≤ length file
-  pub header : payloads_in file ≡ journal_magic ∷ payloads_in (drop 13 file)
-  pub stands : recovered file ≡ Some (payloads_in (drop 13 file))
+abbrev pub IsWholeFront : Format → List ℕ → Type 0
+IsWholeFront format front = (payloads : List (List ℕ)) × IsFileFront format front payloads
+
+-- nothing that counts begins there, whatever is cut off
+abbrev pub EndsThere : Format → List ℕ → Type 0
+EndsThere format rest = (n : ℕ) → records_read format (take n rest) ≡ stands []
+
+-- the file is a journal's of this format, its header is whole, and its whole records end here
+pub record HasRecords (file : List ℕ) (format : Format) (end : ℕ) : Type 0 where
+  pub named : format_of file ≡ Some format
+  pub within : end ≤ length file
+  pub some : 13 ≤ end
+  pub front : IsWholeFront format (take end file)
+  pub no_more : EndsThere format (drop end file)
+  pub sound : AreUndamaged format (drop 13 file)
+  pub stands : recovered file ≡ Some (payloads_read (records_read format (drop 13 file)))
 
 -- the file is a journal's that has no whole header yet
 pub record IsNewFile (file : List ℕ) : Type 0 where
+  pub unnamed : format_of file ≡ None
   pub begun : is_begun file ≡ true
-  pub no_record : payloads_in file ≡ []
   pub stands : recovered file ≡ Some []
 
 -- how far it goes
 abbrev pub HasExtent : List ℕ → Extent → Type 0
 HasExtent file New = IsNewFile file
-HasExtent file (Until end) = HasRecords file end
+HasExtent file (Until format end) = HasRecords file format end
+
+-- why it is refused
+abbrev pub IsFault : List ℕ → FileFault → Type 0
+IsFault file fault.Foreign = file_reading file ≡ None
+IsFault file (fault.Damaged at) = file_reading file ≡ Some (damaged at)
+
+-- what is at the start of some records
+abbrev pub IsFoundThere : Format → List ℕ → Next → Type 0
+IsFoundThere format bytes (next.Record n) = (0 < n) × (n ≤ length bytes) × (payloads : List (List ℕ)) × ArePieces format (take n bytes) payloads
+IsFoundThere format bytes next.End = EndsThere format bytes
+IsFoundThere format bytes next.Damaged = records_read format bytes ≡ damaged 0

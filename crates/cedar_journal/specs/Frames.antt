@@ -1,6 +1,6 @@
 use Rattle.std.specs.Prelude.{ℕ, List}
 use Rattle.cedar_journal.specs.declared.frame.Frame.{Frame}
-use Rattle.cedar_journal.specs.Records.{unframed}
+use Rattle.cedar_journal.specs.Formats.{unframed}
 
 -- the payload that a frame is of
 abbrev pub payload_of : {A : Type 0} → Frame A → List ℕ

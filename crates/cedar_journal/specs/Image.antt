@@ -1,8 +1,9 @@
 -- What a file made in memory stands for.
 use Rattle.std.specs.Prelude.{ℕ, List}
+use Rattle.cedar_journal.specs.declared.format.Format.TheVariants.{Summed}
 use Rattle.cedar_journal.specs.declared.image.Image.{Image}
+use Rattle.cedar_journal.specs.Formats.{payloads_read, records_read}
 use Rattle.cedar_journal.specs.Images.{records_of}
-use Rattle.cedar_journal.specs.Records.{payloads_in}
 
 -- its bytes
 abbrev pub image_bytes : {A : Type 0} → Image A → List ℕ
@@ -10,4 +11,4 @@ image_bytes image = image.bytes.items
 
 -- the payloads behind its header
 abbrev pub payloads_of : {A : Type 0} → Image A → List (List ℕ)
-payloads_of image = payloads_in (records_of image.bytes.items)
+payloads_of image = payloads_read (records_read Summed (records_of image.bytes.items))

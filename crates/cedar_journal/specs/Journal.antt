@@ -1,21 +1,22 @@
 -- What a journal's file is between two calls, and what a crash makes of it.
 use Rattle.std.specs.Prelude.{◌≡◌, ◌⊎◌, ℕ, ◌+◌, ◌<◌, List, ◌∷◌, ◌++◌, length, take, drop, Option, Some}
+use Rattle.cedar_journal.specs.declared.format.Format.{Format}
 use Rattle.cedar_journal.specs.Device.{Only}
-use Rattle.cedar_journal.specs.Records.{AreWholeRecords, framed}
-use Rattle.cedar_journal.specs.Files.{recovered, added, HasHeader}
+use Rattle.cedar_journal.specs.Files.{IsWholeFront, added, recovered}
+use Rattle.cedar_journal.specs.Formats.{frame_of}
 
--- The file is whole records, of which the first is the header, a closed gate and whatever is behind that, all of it on the disk. The records
+-- The file is a header that names this format, whole records, a closed gate and whatever is behind that, all of it on the disk. The records
 -- end here.
-pub record IsSettled {D : Type 0} (seen : D → List ℕ) (may_leave : D → List ℕ → Type 0) (device : D) (end : ℕ) : Type 0 where
+pub record IsSettled {D : Type 0} (seen : D → List ℕ) (may_leave : D → List ℕ → Type 0) (device : D) (format : Format) (end : ℕ) : Type 0 where
   pub split : seen device ≡ take end (seen device) ++ 0 ∷ drop (end + 1) (seen device)
-  pub whole : AreWholeRecords (take end (seen device))
-  pub header : HasHeader (seen device)
+  pub front : IsWholeFront format (take end (seen device))
   pub durable : Only (seen device) (may_leave device)
 
 -- and behind the closed gate stands a record of this payload, with a closed gate of its own behind it
-pub record IsStaged {D : Type 0} (seen : D → List ℕ) (may_leave : D → List ℕ → Type 0) (device : D) (end : ℕ) (payload : List ℕ) : Type 0 where
-  pub settled : IsSettled seen may_leave device end
-  pub staged : drop (end + 1) (seen device) ≡ framed payload ++ drop (end + 6 + length payload) (seen device)
+pub record IsStaged {D : Type 0} (seen : D → List ℕ) (may_leave : D → List ℕ → Type 0) (device : D) (format : Format) (end : ℕ) (payload : List ℕ) : Type 0 where
+  pub settled : IsSettled seen may_leave device format end
+  pub rest : List ℕ
+  pub staged : drop (end + 1) (seen device) ≡ frame_of format payload ++ rest
   pub short : length payload < 4294967296
   pub room : end < 1152921504606846976
 

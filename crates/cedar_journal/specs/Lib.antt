@@ -1,10 +1,12 @@
 pub mod Device
 pub mod Fields
 pub mod Files
+pub mod Formats
 pub mod Frames
 pub mod Image
 pub mod Images
 pub mod Journal
+pub mod Laws
 pub mod Memory
 pub mod Past
 pub mod Records

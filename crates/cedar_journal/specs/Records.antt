@@ -1,6 +1,6 @@
--- Records of bytes, one after another. A record is a gate, the length of its payload in four bytes, the lowest first, and the payload. It
--- counts if its gate is open (1) and all of it is there.
-use Rattle.std.specs.Prelude.{◌≡◌, ℕ, zero, suc, ◌+◌, ◌-◌, ◌*◌, ◌/◌, ◌%◌, ◌≤◌, ◌&&◌, ◌==◌, nat_le, Bool, false, List, [], ◌∷◌, ◌++◌, length, take, drop, get_or, cond}
+-- Records of version 1, one after another. A record is a gate, the length of its payload in four bytes, the lowest first, and the payload.
+-- It counts if its gate is open (1) and all of it is there.
+use Rattle.std.specs.Prelude.{◌≡◌, ℕ, zero, suc, ◌+◌, ◌*◌, ◌/◌, ◌%◌, ◌&&◌, ◌==◌, nat_le, Bool, List, [], ◌∷◌, ◌++◌, length, take, drop, get_or, cond}
 
 -- the length that a record tells, whether it is there or not
 abbrev pub payload_length : List ℕ → ℕ
@@ -31,12 +31,6 @@ payloads_in bytes = first_payloads (length bytes) bytes
 abbrev pub AreWholeRecords : List ℕ → Type 0
 AreWholeRecords front = (rest : List ℕ) → payloads_in (front ++ rest) ≡ payloads_in front ++ payloads_in rest
 
--- the whole records, up to the first that doesn't count, end here
-pub record EndsAt (bytes : List ℕ) (end : ℕ) : Type 0 where
-  pub within : end ≤ length bytes
-  pub whole : AreWholeRecords (take end bytes)
-  pub no_more : has_record (drop end bytes) ≡ false
-
 -- a length in four bytes, the lowest first
 abbrev pub length_bytes : ℕ → List ℕ
 length_bytes n = n % 256 ∷ n / 256 % 256 ∷ n / 65536 % 256 ∷ n / 16777216 % 256 ∷ []
@@ -44,7 +38,3 @@ length_bytes n = n % 256 ∷ n / 256 % 256 ∷ n / 65536 % 256 ∷ n / 16777216 
 -- what stands behind a record's gate, and the closed gate behind it
 abbrev pub framed : List ℕ → List ℕ
 framed payload = length_bytes (length payload) ++ (payload ++ 0 ∷ [])
-
--- the payload that a frame of these bytes has
-abbrev pub unframed : List ℕ → List ℕ
-unframed bytes = take (length bytes - 5) (drop 4 bytes)

@@ -1,12 +1,13 @@
 -- The words that the contracts of this crate cite, from one place.
 pub use Rattle.cedar_journal.specs.Device.{Cut, Elapses, Follows, HasCause, Holds, LeavesOnly, Only, Torn}
-pub use Rattle.cedar_journal.specs.Files.{added, HasExtent, HasRecords, is_begun, IsNewFile, recovered}
+pub use Rattle.cedar_journal.specs.Files.{added, file_reading, format_of, HasExtent, HasRecords, is_begun, IsFault, IsNewFile, IsFoundThere, recovered}
+pub use Rattle.cedar_journal.specs.Formats.{read_behind, damaged, AreUndamaged, opening, overhead, records_read, stands}
 pub use Rattle.cedar_journal.specs.Frames.{payload_of}
 pub use Rattle.cedar_journal.specs.Image.{image_bytes, payloads_of}
 pub use Rattle.cedar_journal.specs.Journal.{IsBeforeOrAfter, IsSettled, IsStaged, StandsForEither}
 pub use Rattle.cedar_journal.specs.Memory.{memory_bytes}
 pub use Rattle.cedar_journal.specs.Past.{HadBeen, only_bytes}
-pub use Rattle.cedar_journal.specs.Records.{behind_record, EndsAt, has_record, payload}
+pub use Rattle.cedar_journal.specs.Records.{behind_record, has_record, payload}
 pub use Rattle.cedar_journal.specs.Replacing.{device_memory, IfKept}
 pub use Rattle.cedar_journal.specs.declared.device.DeviceError.TheVariants.{Memory}
 pub use Rattle.cedar_journal.specs.declared.journal.JournalError.TheVariants.{Device}

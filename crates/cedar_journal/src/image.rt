@@ -1,18 +1,18 @@
 //! A journal's file made in memory, to replace another one at one stroke.
 
 ghost use Rattle.std.specs.Prelude.{◌+◌, ◌++◌, ◌≡◌, ◌∷◌, [], IfOk, length, OnErr, OnOk};
-ghost use Rattle.cedar_journal.specs.Fields.{AreWholeRecords, image_of, records_of};
+ghost use Rattle.cedar_journal.specs.Fields.{AreWhole, image_of, records_of, Summed};
 
-use crate::Frame;
-use crate::records::HEADER_FRAME;
+use crate::records::{SUMMED_HEADER, open_gate};
+use crate::{Format, Frame};
 use std::alloc::{AllocError, Allocator};
 
-/// The bytes of a journal's file that is at rest: the header, whole records, and a closed gate after them.
+/// The bytes of a journal's file of version 2 that is at rest: the header, whole records, and a closed gate after them.
 #[derive(Drop)]
 pub struct Image<A: Allocator> {
     bytes: Vec<u8, A>,
     ghost shape: { bytes.items ≡ image_of (records_of bytes.items) },
-    ghost whole: { AreWholeRecords (records_of bytes.items) },
+    ghost whole: { AreWhole Summed (records_of bytes.items) },
 }
 
 impl<A: Allocator> Image<A> {
@@ -27,9 +27,9 @@ impl<A: Allocator> Image<A> {
         ensures none { IfOk result (λ image. payloads_of image ≡ []) }
         ensures length { IfOk result (λ image. length (image_bytes image) ≡ 14) }
     {
-        let mut bytes = Vec::with_capacity(alloc, HEADER_FRAME.len() + 1)?;
-        bytes.push(1)?;
-        bytes.extend_from_slice(&HEADER_FRAME)?;
+        let mut bytes = Vec::with_capacity(alloc, SUMMED_HEADER.len() + 1)?;
+        bytes.extend_from_slice(&SUMMED_HEADER)?;
+        bytes.push(0)?;
         Ok(Image { bytes })
     }
 
@@ -41,12 +41,12 @@ impl<A: Allocator> Image<A> {
         //= An image to which a record is pushed stands for one more payload, this one, and is longer by the record; a refused one is as it
         //  was. [with longer, refused]
         ensures pushed { OnOk result (payloads_of self.new ≡ payloads_of self.old ++ payload_of frame.now ∷ []) }
-        ensures longer { OnOk result (length (image_bytes self.new) ≡ length (image_bytes self.old) + 5 + length (payload_of frame.now)) }
+        ensures longer { OnOk result (length (image_bytes self.new) ≡ length (image_bytes self.old) + 9 + length (payload_of frame.now)) }
         ensures refused { OnErr result (image_bytes self.new ≡ image_bytes self.old) }
     {
         let gate = self.bytes.len() - 1;
-        self.bytes.extend_from_slice(frame.bytes())?;
-        self.bytes[gate] = 1;
+        self.bytes.extend_from_slice(frame.bytes(Format::Summed))?;
+        self.bytes[gate] = open_gate(Format::Summed);
         Ok(())
     }
 

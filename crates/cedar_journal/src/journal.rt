@@ -1,13 +1,14 @@
 //! The journal: a record is written after a closed gate, and counts once its gate is opened.
 //!
 //! A closed gate (0) comes after the last record. It is on the disk before anything is written after it, and is opened by a write of its
-//! own after a sync. So no checksum is trusted.
+//! own after a sync. So no sum is trusted: those of version 2 only show that somebody else has changed the file.
 
 ghost use Rattle.std.specs.Prelude.{◌+◌, ◌<◌, ◌^◌, ◌≡◌, ◌≤◌, IfErr, IfOk, IsErrOf, length, OnErr, OnOk, Some};
 ghost use Rattle.cedar_journal.specs.Words.{added, Device, HasExtent, IfKept, image_bytes, IsBeforeOrAfter, IsSettled, IsStaged, LeavesOnly, Only, payload_of, payloads_of, recovered, StandsForEither};
 
+use crate::records::open_gate;
 use crate::repair::make_ready;
-use crate::{Device, DeviceError, Extent, Frame, Image, ReplaceDevice, ReplaceError};
+use crate::{Device, DeviceError, Extent, Format, Frame, Image, ReplaceDevice, ReplaceError};
 use std::alloc::Allocator;
 
 /// The last place at which the records may end for one more to be written.
@@ -31,11 +32,13 @@ impl From<DeviceError> for JournalError {
     }
 }
 
-/// A device, and where its records end.
+/// A device, the format of its records, and where they end.
 #[derive(Drop)]
 pub struct Journal<D: Device> {
     /// The file. A read of it changes nothing; whoever writes to it has to open it again.
     pub device: D,
+    /// How its records are written.
+    pub format: Format,
     /// The place of the closed gate after the last record.
     pub end: usize,
 }
@@ -52,7 +55,7 @@ impl<D: Device> Journal<D> {
         requires extent { HasExtent (D.seen device) extent }
 
         //= An opened journal is at rest and on the disk, and stands for the payloads that the file stood for.
-        ensures settled { IfOk result (λ journal. IsSettled D.seen D.may_leave journal.device journal.end
+        ensures settled { IfOk result (λ journal. IsSettled D.seen D.may_leave journal.device journal.format journal.end
             × (recovered (D.seen journal.device) ≡ recovered (D.seen device))) }
 
         //= A crash at any moment while it is opened leaves the same payloads, and never a file of another kind; even if a device fails.
@@ -67,7 +70,11 @@ impl<D: Device> Journal<D> {
     {
         let mut device = device;
         match make_ready(&mut device, extent) {
-            Ok(end) => Ok(Journal { device, end }),
+            Ok((format, end)) => Ok(Journal {
+                device,
+                format,
+                end,
+            }),
             Err(error) => Err((error, device)),
         }
     }
@@ -78,11 +85,12 @@ impl<D: Device> Journal<D> {
     /// # Errors
     /// `Full` if the records end after `MAX_END`: nothing is written. `Device` if the device fails: open the file again.
     pub fn stage<A: Allocator>(&mut self, frame: &Frame<A>) -> Result<(), JournalError>
-        requires { IsSettled D.seen D.may_leave self.old.device self.old.end }
+        requires { IsSettled D.seen D.may_leave self.old.device self.old.format self.old.end }
 
-        //= A staged record is after the closed gate, on the disk; the payloads stay the same. [with end, same]
-        ensures staged { OnOk result (IsStaged D.seen D.may_leave self.new.device self.old.end (payload_of frame.now)) }
+        //= A staged record is after the closed gate, on the disk; the payloads stay the same. [with end, format, same]
+        ensures staged { OnOk result (IsStaged D.seen D.may_leave self.new.device self.old.format self.old.end (payload_of frame.now)) }
         ensures end { self.new.end ≡ self.old.end }
+        ensures format { self.new.format ≡ self.old.format }
         ensures same { OnOk result (recovered (D.seen self.new.device) ≡ recovered (D.seen self.old.device)) }
 
         //= A crash at any moment while a record is staged leaves the payloads as they were.
@@ -100,7 +108,8 @@ impl<D: Device> Journal<D> {
         if self.end >= MAX_END {
             return Err(JournalError::Full);
         }
-        self.device.write_at(self.end + 1, frame.bytes())?;
+        self.device
+            .write_at(self.end + 1, frame.bytes(self.format))?;
         self.device.sync()?;
         Ok(())
     }
@@ -110,11 +119,11 @@ impl<D: Device> Journal<D> {
     /// # Errors
     /// The device's. The record may or may not count: open the file again.
     pub fn commit<A: Allocator>(&mut self, frame: &Frame<A>) -> Result<(), DeviceError>
-        requires { IsStaged D.seen D.may_leave self.old.device self.old.end (payload_of frame.now) }
+        requires { IsStaged D.seen D.may_leave self.old.device self.old.format self.old.end (payload_of frame.now) }
 
         //= Once a record is acknowledged, the file is at rest and on the disk, and stands for one more payload, this one. [with settled]
         ensures acknowledged { OnOk result (recovered (D.seen self.new.device) ≡ added (payload_of frame.now) (recovered (D.seen self.old.device))) }
-        ensures settled { OnOk result (IsSettled D.seen D.may_leave self.new.device self.new.end) }
+        ensures settled { OnOk result (IsSettled D.seen D.may_leave self.new.device self.new.format self.new.end) }
 
         //= A crash at any moment of it leaves the payloads from before it, with or without the new one.
         ensures any_moment { LeavesOnly D.moment D.left_since self.old.device self.new.device
@@ -124,9 +133,9 @@ impl<D: Device> Journal<D> {
         ensures failed { IsErrOf result DeviceError.Failed → D.faults self.old.device < D.faults self.new.device }
         ensures faults { D.faults self.old.device ≤ D.faults self.new.device }
     {
-        self.device.write_at(self.end, &[1])?;
+        self.device.write_at(self.end, &[open_gate(self.format)])?;
         self.device.sync()?;
-        self.end += frame.len();
+        self.end += frame.len(self.format);
         Ok(())
     }
 
@@ -136,11 +145,11 @@ impl<D: Device> Journal<D> {
     /// `Full` if the records end after `MAX_END`: nothing is written. `Device` if the device fails: the record may or may not count;
     /// open the file again.
     pub fn append<A: Allocator>(&mut self, frame: &Frame<A>) -> Result<(), JournalError>
-        requires { IsSettled D.seen D.may_leave self.old.device self.old.end }
+        requires { IsSettled D.seen D.may_leave self.old.device self.old.format self.old.end }
 
         //= Once a record is appended, the file is at rest and on the disk, and stands for one more payload, this one. [with settled]
         ensures acknowledged { OnOk result (recovered (D.seen self.new.device) ≡ added (payload_of frame.now) (recovered (D.seen self.old.device))) }
-        ensures settled { OnOk result (IsSettled D.seen D.may_leave self.new.device self.new.end) }
+        ensures settled { OnOk result (IsSettled D.seen D.may_leave self.new.device self.new.format self.new.end) }
 
         //= A crash at any moment of that leaves the payloads from before it, with or without the new one.
         ensures any_moment { LeavesOnly D.moment D.left_since self.old.device self.new.device
@@ -161,18 +170,18 @@ impl<D: Device> Journal<D> {
 }
 
 impl<D: ReplaceDevice> Journal<D> {
-    /// Replaces all records with others, at one stroke.
+    /// Replaces all records with others, of version 2, at one stroke.
     ///
     /// # Errors
     /// `Kept` if the records are those from before, and the journal goes on. `Failed` if they are those or the new ones: open the
     /// file again.
     pub fn replace<A: Allocator>(&mut self, image: &Image<A>) -> Result<(), ReplaceError>
-        requires { IsSettled D.seen D.may_leave self.old.device self.old.end }
+        requires { IsSettled D.seen D.may_leave self.old.device self.old.format self.old.end }
 
         //= Once the records of a journal are replaced, the file has the image's bytes, is at rest and on the disk, and stands for its
         //  payloads. [with settled, bytes, end]
         ensures replaced { OnOk result (recovered (D.seen self.new.device) ≡ Some (payloads_of image.now)) }
-        ensures settled { OnOk result (IsSettled D.seen D.may_leave self.new.device self.new.end) }
+        ensures settled { OnOk result (IsSettled D.seen D.may_leave self.new.device self.new.format self.new.end) }
         ensures bytes { OnOk result (D.seen self.new.device ≡ image_bytes image.now) }
         ensures end { OnOk result (self.new.end + 1 ≡ length (image_bytes image.now)) }
 
@@ -181,10 +190,11 @@ impl<D: ReplaceDevice> Journal<D> {
             (StandsForEither (recovered (D.seen self.old.device)) (payloads_of image.now)) }
 
         //= If the call reports that the records are kept, the file has the bytes from before, is at rest and on the disk. [with kept_bytes,
-        //  kept_end]
-        ensures kept { IfKept result (IsSettled D.seen D.may_leave self.new.device self.new.end) }
+        //  kept_end, kept_format]
+        ensures kept { IfKept result (IsSettled D.seen D.may_leave self.new.device self.new.format self.new.end) }
         ensures kept_bytes { IfKept result (D.seen self.new.device ≡ D.seen self.old.device) }
         ensures kept_end { OnErr result (self.new.end ≡ self.old.end) }
+        ensures kept_format { OnErr result (self.new.format ≡ self.old.format) }
 
         //= The call reports that the disk failed only if it did. [with kept_failed, faults]
         ensures failed { IsErrOf result ReplaceError.Failed → D.faults self.old.device < D.faults self.new.device }
@@ -192,6 +202,7 @@ impl<D: ReplaceDevice> Journal<D> {
         ensures faults { D.faults self.old.device ≤ D.faults self.new.device }
     {
         self.device.replace(image.bytes())?;
+        self.format = Format::Summed;
         self.end = image.bytes().len() - 1;
         Ok(())
     }

@@ -3,18 +3,25 @@
 #![tactic(auto)]
 
 mod device;
+mod format;
 mod frame;
 mod image;
 mod journal;
+mod laws;
 mod memory;
 mod records;
 mod repair;
 mod replace;
 
 pub use device::{Device, DeviceError};
-pub use frame::{Frame, FrameError, MAX_PAYLOAD};
+pub use format::Format;
+pub use frame::{Frame, FrameError, MAX_PAYLOAD, push_frame};
 pub use image::Image;
 pub use journal::{Journal, JournalError, MAX_END};
+pub use laws::crashes_are_accepted;
 pub use memory::Memory;
-pub use records::{Extent, ForeignFile, HEADER_LEN, MAGIC, extent_of, first_payload};
+pub use records::{
+    Extent, FileFault, HEADER_LEN, PLAIN_HEADER, SUMMED_HEADER, extent_of, first_payload,
+    next_payload,
+};
 pub use replace::{ReplaceDevice, ReplaceError};

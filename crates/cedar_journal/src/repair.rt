@@ -4,13 +4,16 @@ ghost use Rattle.std.specs.Prelude.{◌<◌, ◌∷◌, ◌≡◌, ◌≤◌, []
 ghost use Rattle.cedar_journal.specs.Words.{HasExtent, HasRecords, IsNewFile, IsSettled, LeavesOnly, Only, recovered};
 
 use crate::records::{HEADER_FRAME, HEADER_LEN};
-use crate::{Device, DeviceError, Extent};
+use crate::{Device, DeviceError, Extent, Format};
 
-/// Returns where the records end. A closed gate follows them now.
-pub(crate) fn make_ready<D: Device>(device: &mut D, extent: Extent) -> Result<usize, DeviceError>
+/// Returns the format of the records, and where they end. A closed gate follows them now.
+pub(crate) fn make_ready<D: Device>(
+    device: &mut D,
+    extent: Extent,
+) -> Result<(Format, usize), DeviceError>
     requires restarted { Only (D.seen device.old) (D.may_leave device.old) }
     requires extent { HasExtent (D.seen device.old) extent }
-    ensures settled { IfOk result (λ end. IsSettled D.seen D.may_leave device.new end) }
+    ensures settled { IfOk result (λ at. IsSettled D.seen D.may_leave device.new at.0 at.1) }
     ensures same { OnOk result (recovered (D.seen device.new) ≡ recovered (D.seen device.old)) }
     ensures any_moment { LeavesOnly D.moment D.left_since device.old device.new
         (λ c. recovered c ≡ recovered (D.seen device.old)) }
@@ -20,20 +23,20 @@ pub(crate) fn make_ready<D: Device>(device: &mut D, extent: Extent) -> Result<us
         Extent::New => {
             clear(device)?;
             write_header(device)?;
-            Ok(HEADER_LEN)
+            Ok((Format::Summed, HEADER_LEN))
         }
-        Extent::Until(end) => {
-            close_behind(device, end)?;
-            Ok(end)
+        Extent::Until(format, end) => {
+            close_behind(device, format, end)?;
+            Ok((format, end))
         }
     }
 }
 
 /// Puts a closed gate after the whole records.
-fn close_behind<D: Device>(device: &mut D, end: usize) -> Result<(), DeviceError>
+fn close_behind<D: Device>(device: &mut D, format: Format, end: usize) -> Result<(), DeviceError>
     requires restarted { Only (D.seen device.old) (D.may_leave device.old) }
-    requires records { HasRecords (D.seen device.old) end }
-    ensures settled { OnOk result (IsSettled D.seen D.may_leave device.new end) }
+    requires records { HasRecords (D.seen device.old) format end }
+    ensures settled { OnOk result (IsSettled D.seen D.may_leave device.new format end) }
     ensures same { OnOk result (recovered (D.seen device.new) ≡ recovered (D.seen device.old)) }
     ensures any_moment { LeavesOnly D.moment D.left_since device.old device.new
         (λ c. recovered c ≡ recovered (D.seen device.old)) }
@@ -68,7 +71,7 @@ fn clear<D: Device>(device: &mut D) -> Result<(), DeviceError>
 fn write_header<D: Device>(device: &mut D) -> Result<(), DeviceError>
     requires cleared { D.seen device.old ≡ 0 ∷ [] }
     requires durable { Only (D.seen device.old) (D.may_leave device.old) }
-    ensures settled { OnOk result (IsSettled D.seen D.may_leave device.new 13) }
+    ensures settled { OnOk result (IsSettled D.seen D.may_leave device.new Format.Summed 13) }
     ensures none { OnOk result (recovered (D.seen device.new) ≡ Some []) }
     ensures any_moment { LeavesOnly D.moment D.left_since device.old device.new (λ c. recovered c ≡ Some []) }
     ensures failed { IsErrOf result DeviceError.Failed → D.faults device.old < D.faults device.new }

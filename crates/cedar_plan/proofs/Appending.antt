@@ -1,12 +1,11 @@
 -- A record is appended by its plan.
 use Rattle.std.proofs.Common.{◌≡◌, inl, inr, ℕ, ◌+◌, ◌≤◌, ◌<◌, List, [], ◌∷◌, ◌++◌, length, take, drop, refl, sym, ◌∙◌, ap, subst, arith, length-append}
-use Rattle.cedar_journal.proofs.Fronts.{behind_closed}
+use Rattle.cedar_journal.specs.declared.format.Format.{Format}
 use Rattle.cedar_journal.specs.Device.{Torn}
-use Rattle.cedar_journal.specs.Files.{HasHeader, added, recovered}
+use Rattle.cedar_journal.specs.Files.{added, recovered}
+use Rattle.cedar_journal.specs.Formats.{frame_of, opening, overhead}
 use Rattle.cedar_journal.specs.Journal.{IsBeforeOrAfter, IsSettled, IsStaged}
-use Rattle.cedar_journal.specs.Records.{framed, length_bytes, payloads_in}
-use Rattle.cedar_journal.proofs.Crash.{front_ends, gate_crash, longer_ends, longer_stands, longer_whole, opened_file, settled_at, stage_crash, staged_at, staged_file, stands_for}
-use Rattle.cedar_journal.proofs.Headers.{either_stands, one_more_stands, same_stands}
+use Rattle.cedar_journal.proofs.Crash.{closed_stands, front_ends, gate_crash, longer, longer_ends, longer_front, opened_file, opened_stands, settled_at, stage_crash, staged_at, staged_file}
 use Rattle.cedar_disk.specs.Calls.{Call, MayLeave, overlaid, seen_after}
 use Rattle.cedar_plan.specs.Safety.{IsAppended, IsAtRest}
 use Rattle.cedar_plan.specs.Works.{append_works}
@@ -19,99 +18,78 @@ itself file = file
 abbrev Lasts : List ℕ → List ℕ → Type 0
 Lasts file c = c ≡ file
 
-module _ (file : List ℕ) (end : ℕ) (payload : List ℕ) (s : IsSettled itself Lasts file end) (short : length payload < 4294967296) (room : end < 1152921504606846976) where
+module _ (file : List ℕ) (f : Format) (end : ℕ) (payload : List ℕ) (s : IsSettled itself Lasts file f end) (short : length payload < 4294967296) (room : end < 1152921504606846976) where
   abbrev P : List ℕ → Type 0
   P = IsBeforeOrAfter (recovered file) payload
 
   abbrev staged : List ℕ
-  staged = overlaid file (end + 1) (framed payload)
+  staged = overlaid file (end + 1) (frame_of f payload)
 
   abbrev written : List ℕ
-  written = overlaid staged end (1 ∷ [])
+  written = overlaid staged end (opening f ∷ [])
 
-  ends : length (take end file) ≡ end
-  ends = front_ends file end s.split
-
-  front_header : HasHeader (take end file)
-  front_header = (s.header.0, sym (stands_for file end s.split s.whole) ∙ s.header.1)
-
-  is_staged : IsStaged itself Lasts staged end payload
+  is_staged : IsStaged itself Lasts staged f end payload
   is_staged =
-      staged_at itself Lasts staged end (take end file) payload _ ends s.whole front_header short room
-      (staged_file file end s.split s.whole (framed payload) staged refl) (λ c left. left)
-
-  abbrev tail : List ℕ
-  tail = drop (end + 6 + length payload) staged
+      staged_at itself Lasts staged f end (take end file) payload _ (front_ends file end s.split) s.front short room
+      (staged_file file f end s.split s.front (frame_of f payload) staged refl) (λ c left. left)
 
   same : recovered staged ≡ recovered file
-  same = same_stands file staged s.header
-      (ap payloads_in (staged_file file end s.split s.whole (framed payload) staged refl) ∙ behind_closed (take end file) 0 _ s.whole (omega arith)
-      ∙ sym (stands_for file end s.split s.whole))
+  same = closed_stands file f end s.split s.front staged _ (staged_file file f end s.split s.front (frame_of f payload) staged refl)
+
+  is_opened : written ≡ longer staged f end is_staged.settled.split is_staged.settled.front payload is_staged.rest is_staged.staged short ++ 0 ∷ is_staged.rest
+  is_opened = opened_file staged f end is_staged.settled.split is_staged.settled.front payload is_staged.rest is_staged.staged short written refl
 
   more : recovered written ≡ added payload (recovered file)
   more =
-      one_more_stands staged written is_staged.settled.header payload
-      (ap payloads_in (opened_file staged end is_staged.settled.split is_staged.settled.whole payload tail is_staged.staged short written refl)
-      ∙ longer_stands staged end is_staged.settled.split is_staged.settled.whole payload tail is_staged.staged short)
+      opened_stands staged f end is_staged.settled.split is_staged.settled.front payload is_staged.rest is_staged.staged short written is_opened
       ∙ ap (added payload) same
 
-  first_torn : (c : List ℕ) → Torn (end + 1) (length (framed payload)) file c → P c
+  first_torn : (c : List ℕ) → Torn (end + 1) (length (frame_of f payload)) file c → P c
   first_torn c torn =
-      inl (same_stands file c s.header
-      (stage_crash file end s.split s.whole (length (framed payload)) (Lasts file) (λ d. Torn (end + 1) (length (framed payload)) file d) (λ d left. left) (λ d t. (file, refl, t)) c torn))
+      inl (stage_crash file f end s.split s.front (length (frame_of f payload)) (Lasts file) (λ d. Torn (end + 1) (length (frame_of f payload)) file d) (λ d left. left) (λ d t. (file, refl, t)) c torn)
 
   second_torn : (c : List ℕ) → Torn end 1 staged c → P c
   second_torn c torn =
       subst (λ r. IsBeforeOrAfter r payload c) same
-      (either_stands staged c is_staged.settled.header payload
-      (gate_crash staged end is_staged.settled.split is_staged.settled.whole payload tail is_staged.staged short (Lasts staged) (λ d. Torn end 1 staged d) (λ d left. left) (λ d t. (staged, refl, t)) c torn))
+      (gate_crash staged f end is_staged.settled.split is_staged.settled.front payload is_staged.rest is_staged.staged short (Lasts staged) (λ d. Torn end 1 staged d) (λ d left. left) (λ d t. (staged, refl, t)) c torn)
 
   first_fits : end + 1 ≤ length file
-  first_fits = omega (arith, ends, ap length s.split, length-append (take end file) (0 ∷ drop (end + 1) file))
+  first_fits = omega (arith, front_ends file end s.split, ap length s.split, length-append (take end file) (0 ∷ drop (end + 1) file))
 
   second_fits : end ≤ length staged
   second_fits =
       let split = is_staged.settled.split in
       omega (arith, front_ends staged end split, ap length split, length-append (take end staged) (0 ∷ drop (end + 1) staged))
 
-  pub keeps : Keep (append_works end payload) file P
+  pub keeps : Keep (append_works f end payload) file P
   keeps = (inl refl, first_fits, first_torn, (inl same, second_fits, second_torn, inr more))
 
   pub is_more : recovered written ≡ added payload (recovered file)
   is_more = more
 
-  pub settled : (calls : List Call) → Has calls written → IsSettled seen_after MayLeave calls (end + 5 + length payload)
+  pub settled : (calls : List Call) → Has calls written → IsSettled seen_after MayLeave calls f (end + overhead f + length payload)
   settled calls has =
       let split = is_staged.settled.split in
-      let whole = is_staged.settled.whole in
-      let front = take end staged ++ ((1 ∷ length_bytes (length payload)) ++ payload) in
-      let is = opened_file staged end split whole payload tail is_staged.staged short written refl in
-      let is_front = longer_whole staged end split whole payload tail is_staged.staged short in
-      let stands = longer_stands staged end split whole payload tail is_staged.staged short in
-      let header = is_staged.settled.header in
-      let front_has : HasHeader front = (
-        header.0 ++ payload ∷ [],
-        sym (behind_closed front 0 tail is_front (omega arith)) ∙ stands ∙ ap (λ (l : List (List ℕ)). l ++ payload ∷ []) header.1,
-      ) in
-      let far : end + (5 + length payload) ≡ end + 5 + length payload = omega arith in
-      subst (λ n. IsSettled seen_after MayLeave calls n) far
-      (settled_at seen_after MayLeave calls (end + (5 + length payload)) front tail
-      (longer_ends staged end split whole payload tail is_staged.staged short) is_front front_has (has.seen ∙ is)
-      (λ c left. has.only c left ∙ sym has.seen))
+      let front = is_staged.settled.front in
+      let far : end + (overhead f + length payload) ≡ end + overhead f + length payload = omega arith in
+      subst (λ n. IsSettled seen_after MayLeave calls f n) far
+      (settled_at seen_after MayLeave calls f (end + (overhead f + length payload)) (longer staged f end split front payload is_staged.rest is_staged.staged short) is_staged.rest
+      (longer_ends staged f end split front payload is_staged.rest is_staged.staged short) (longer_front staged f end split front payload is_staged.rest is_staged.staged short)
+      (has.seen ∙ is_opened) (λ c left. has.only c left ∙ sym has.seen))
 
 -- the same file, seen by itself
-alone : (calls : List Call) (end : ℕ) → IsSettled seen_after MayLeave calls end → IsSettled itself Lasts (seen_after calls) end
-alone calls end s = record { split = s.split; whole = s.whole; header = s.header; durable = λ c left. left }
+alone : (calls : List Call) (f : Format) (end : ℕ) → IsSettled seen_after MayLeave calls f end → IsSettled itself Lasts (seen_after calls) f end
+alone calls f end s = record { split = s.split; front = s.front; durable = λ c left. left }
 
-pub append_is_safe : (calls : List Call) (end : ℕ) (payload : List ℕ) → IsAtRest calls end → length payload < 4294967296 → end < 1152921504606846976 → IsAppended calls end payload
-append_is_safe calls end payload rest short room =
+pub append_is_safe : (calls : List Call) (f : Format) (end : ℕ) (payload : List ℕ) → IsAtRest calls f end → length payload < 4294967296 → end < 1152921504606846976 → IsAppended calls f end payload
+append_is_safe calls f end payload rest short room =
     let file = seen_after calls in
-    let s = alone calls end rest.settled in
+    let s = alone calls f end rest.settled in
     let has : Has calls file = record { seen = refl; only = rest.settled.durable; within = rest.within; usable = rest.usable } in
-    let keep = keeps file end payload s short room in
-    let now = all_have (append_works end payload) calls file (IsBeforeOrAfter (recovered file) payload) has keep in
+    let keep = keeps file f end payload s short room in
+    let now = all_have (append_works f end payload) calls file (IsBeforeOrAfter (recovered file) payload) has keep in
     record {
-      rest = record { settled = settled file end payload s short room _ now; within = now.within; usable = now.usable };
-      more = ap recovered now.seen ∙ is_more file end payload s short room;
-      any_moment = λ after out. all_leave (append_works end payload) calls after file (IsBeforeOrAfter (recovered file) payload) has keep out;
+      rest = record { settled = settled file f end payload s short room _ now; within = now.within; usable = now.usable };
+      more = ap recovered now.seen ∙ is_more file f end payload s short room;
+      any_moment = λ after out. all_leave (append_works f end payload) calls after file (IsBeforeOrAfter (recovered file) payload) has keep out;
     }

@@ -1,15 +1,15 @@
 -- What the steps of a plan say.
 use Rattle.std.specs.Prelude.{ℕ, ◌==◌, if◌then◌else◌, List, [], ◌∷◌, take, drop, map}
-use Rattle.cedar_journal.specs.Files.{journal_magic}
-use Rattle.cedar_journal.specs.Records.{framed}
+use Rattle.cedar_journal.specs.declared.format.Format.TheVariants.{Summed}
+use Rattle.cedar_journal.specs.Files.{header_frame}
 use Rattle.cedar_plan.specs.Works.{Work, cut_to, write_to}
 use Rattle.cedar_plan.specs.declared.plan.Plan.{Plan}
 use Rattle.cedar_plan.specs.declared.plan.Step.{Step}
 use Rattle.cedar_plan.specs.declared.plan.TheConstants.{CUT}
 
--- the first record of a journal, and the closed gate behind it
+-- the header of a new journal, and the closed gate behind it
 abbrev pub header : List ℕ
-header = 1 ∷ framed journal_magic
+header = 1 ∷ header_frame Summed
 
 -- what a step does whose plan has these bytes
 abbrev pub work_of : List ℕ → Step → Work

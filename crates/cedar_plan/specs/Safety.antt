@@ -1,16 +1,18 @@
 -- What becomes of a file whose plans are carried out.
 use Rattle.std.specs.Prelude.{◌≡◌, ℕ, ◌+◌, ◌<◌, List, [], ◌∷◌, length, IsTrue}
+use Rattle.cedar_journal.specs.declared.format.Format.{Format}
 use Rattle.cedar_journal.specs.declared.records.Extent.{Extent}
 use Rattle.cedar_journal.specs.Device.{LeavesOnly}
 use Rattle.cedar_journal.specs.Files.{HasExtent, added, recovered}
+use Rattle.cedar_journal.specs.Formats.{overhead}
 use Rattle.cedar_journal.specs.Journal.{IsBeforeOrAfter, IsSettled}
 use Rattle.cedar_disk.specs.Calls.{Call, LeftSince, MayLeave, all_within, is_usable_after, opened, seen_after}
-use Rattle.cedar_plan.specs.Works.{AreCarriedOut, all_done, append_works, end_of, opening_works}
+use Rattle.cedar_plan.specs.Works.{AreCarriedOut, all_done, append_works, end_of, format_in, opening_works}
 
--- After these calls the file is whole records, a closed gate at `end` and whatever is behind that, all of it on the disk; and no call has
--- failed.
-pub record IsAtRest (calls : List Call) (end : ℕ) : Type 0 where
-  pub settled : IsSettled seen_after MayLeave calls end
+-- After these calls the file is a header that names this format, whole records, a closed gate at `end` and whatever is behind that, all of
+-- it on the disk; and no call has failed.
+pub record IsAtRest (calls : List Call) (format : Format) (end : ℕ) : Type 0 where
+  pub settled : IsSettled seen_after MayLeave calls format end
   pub within : IsTrue (all_within calls)
   pub usable : IsTrue (is_usable_after calls)
 
@@ -19,19 +21,19 @@ abbrev pub CrashLeaves : List Call → List Call → (List ℕ → Type 0) → T
 CrashLeaves = LeavesOnly length LeftSince
 
 -- a record of this payload is appended to a file at rest
-pub record IsAppended (calls : List Call) (end : ℕ) (payload : List ℕ) : Type 0 where
-  pub rest : IsAtRest (all_done (append_works end payload) calls) (end + 5 + length payload)
-  pub more : recovered (seen_after (all_done (append_works end payload) calls)) ≡ added payload (recovered (seen_after calls))
-  pub any_moment : (after : List Call) → AreCarriedOut (append_works end payload) calls after
+pub record IsAppended (calls : List Call) (format : Format) (end : ℕ) (payload : List ℕ) : Type 0 where
+  pub rest : IsAtRest (all_done (append_works format end payload) calls) format (end + overhead format + length payload)
+  pub more : recovered (seen_after (all_done (append_works format end payload) calls)) ≡ added payload (recovered (seen_after calls))
+  pub any_moment : (after : List Call) → AreCarriedOut (append_works format end payload) calls after
       → CrashLeaves calls after (IsBeforeOrAfter (recovered (seen_after calls)) payload)
 
 abbrev pub AppendsAreSafe : Type 0
-AppendsAreSafe = (calls : List Call) (end : ℕ) (payload : List ℕ) → IsAtRest calls end → length payload < 4294967296
-    → end < 1152921504606846976 → IsAppended calls end payload
+AppendsAreSafe = (calls : List Call) (format : Format) (end : ℕ) (payload : List ℕ) → IsAtRest calls format end → length payload < 4294967296
+    → end < 1152921504606846976 → IsAppended calls format end payload
 
 -- a file of these bytes, which was synced and then read, is opened
 pub record IsOpened (file : List ℕ) (extent : Extent) : Type 0 where
-  pub rest : IsAtRest (all_done (opening_works extent) (opened file ∷ [])) (end_of extent)
+  pub rest : IsAtRest (all_done (opening_works extent) (opened file ∷ [])) (format_in extent) (end_of extent)
   pub same : recovered (seen_after (all_done (opening_works extent) (opened file ∷ []))) ≡ recovered file
   pub any_moment : (after : List Call) → AreCarriedOut (opening_works extent) (opened file ∷ []) after
       → CrashLeaves (opened file ∷ []) after (λ c. recovered c ≡ recovered file)

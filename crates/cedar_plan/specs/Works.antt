@@ -2,8 +2,10 @@
 use Rattle.std.specs.Prelude.{◌≡◌, ◌⊎◌, ℕ, ◌+◌, true, false, List, [], ◌∷◌}
 use Rattle.cedar_journal.specs.declared.records.Extent.{Extent}
 use Rattle.cedar_journal.specs.declared.records.Extent.TheVariants.{New, Until}
-use Rattle.cedar_journal.specs.Files.{journal_magic}
-use Rattle.cedar_journal.specs.Records.{framed}
+use Rattle.cedar_journal.specs.declared.format.Format.{Format}
+use Rattle.cedar_journal.specs.declared.format.Format.TheVariants.{Summed}
+use Rattle.cedar_journal.specs.Files.{header_frame}
+use Rattle.cedar_journal.specs.Formats.{frame_of, opening}
 use Rattle.cedar_disk.specs.Calls.{Call, shortened, synced, written}
 
 -- the file is cut to this length; or these bytes are written at this offset
@@ -31,16 +33,21 @@ AreCarriedOut [] before after = after ≡ before
 AreCarriedOut (work ∷ works) before after = FailsIn work before after ⊎ AreCarriedOut works (after_work work before) after
 
 -- a record of a payload is written behind the closed gate at `end`, and then that is opened
-abbrev pub append_works : ℕ → List ℕ → List Work
-append_works end payload = write_to (end + 1) (framed payload) ∷ write_to end (1 ∷ []) ∷ []
+abbrev pub append_works : Format → ℕ → List ℕ → List Work
+append_works format end payload = write_to (end + 1) (frame_of format payload) ∷ write_to end (opening format ∷ []) ∷ []
 
 -- The file is cut behind its whole records, and a closed gate is written there. Of a new one nothing is left, and it gets a closed gate, the
 -- header behind that, and an open gate in the place of the closed one.
 abbrev pub opening_works : Extent → List Work
-opening_works New = cut_to 0 ∷ write_to 0 (0 ∷ []) ∷ write_to 1 (framed journal_magic) ∷ write_to 0 (1 ∷ []) ∷ []
-opening_works (Until end) = cut_to end ∷ write_to end (0 ∷ []) ∷ []
+opening_works New = cut_to 0 ∷ write_to 0 (0 ∷ []) ∷ write_to 1 (header_frame Summed) ∷ write_to 0 (1 ∷ []) ∷ []
+opening_works (Until format end) = cut_to end ∷ write_to end (0 ∷ []) ∷ []
 
--- where the records of an opened file end
+-- the format of the records of an opened file
+abbrev pub format_in : Extent → Format
+format_in New = Summed
+format_in (Until format end) = format
+
+-- where they end
 abbrev pub end_of : Extent → ℕ
 end_of New = 13
-end_of (Until end) = end
+end_of (Until format end) = end

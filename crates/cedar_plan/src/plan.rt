@@ -1,9 +1,9 @@
 //! Plans: the steps by which a file is opened, and by which a record is appended; and records as they are written.
 
 ghost use Rattle.std.specs.Prelude.{◌≡◌, ◌+◌, ◌<◌, ◌^◌, ◌++◌, ◌∷◌, ℕ, ◌≤◌, IfOk, IsErrOf, length, List};
-ghost use Rattle.cedar_plan.specs.Words.{append_works, framed, header, opening_works, works_of};
+ghost use Rattle.cedar_plan.specs.Words.{append_works, frame_of, header, opening, opening_works, overhead, works_of, Format, Plain, Summed};
 
-use cedar_journal::{Extent, FrameError, MAX_PAYLOAD};
+use cedar_journal::{Extent, Format, FrameError, MAX_PAYLOAD, push_frame};
 use std::alloc::Allocator;
 
 /// The kind of a step that cuts the file to its first `at` bytes, and waits until the disk has that.
@@ -12,8 +12,8 @@ pub const CUT: u32 = 0;
 /// The kind of a step that writes bytes from the byte `at` on, and waits until the disk has them.
 pub const WRITE: u32 = 1;
 
-/// The record that each journal begins with, its gate open, and the closed gate after it.
-pub const HEADER: [u8; 14] = *b"\x01\x08\0\0\0CEDARJ\0\0\0";
+/// The header of a new journal, whose records are of version 2, and the closed gate after it.
+pub const HEADER: [u8; 14] = *b"\x01\x08\0\0\0CEDARJ\x02\xfd\0";
 
 /// One step. A write writes `length` of the plan's bytes from `from` on.
 #[repr(C)]
@@ -79,7 +79,7 @@ pub fn plan_opening(extent: Extent) -> Plan
                 length: 1,
             },
         },
-        Extent::Until(end) => Plan {
+        Extent::Until(_, end) => Plan {
             count: 2,
             first: Step {
                 kind: CUT,
@@ -104,9 +104,9 @@ pub fn plan_opening(extent: Extent) -> Plan
 pub fn plan_append(end: usize, size: usize) -> Plan
     requires room { end < 2 ^ 60 }
     requires some { 0 < size }
-    //= The plan of a record writes it after the closed gate, and then opens that.
-    ensures { (payload : List ℕ) (rest : List ℕ) → size ≡ 6 + length payload
-        → works_of ((1 ∷ framed payload) ++ rest) result ≡ append_works end payload }
+    //= The plan of a record of either format writes it after the closed gate, and then opens that.
+    ensures { (format : Format) (payload : List ℕ) (rest : List ℕ) → size ≡ 1 + overhead format + length payload
+        → works_of ((opening format ∷ frame_of format payload) ++ rest) result ≡ append_works format end payload }
 {
     Plan {
         count: 2,
@@ -127,21 +127,37 @@ pub fn plan_append(end: usize, size: usize) -> Plan
     }
 }
 
-/// Returns the record of a payload as it is in a file once it counts, and the closed gate after it. It allocates 6 bytes more than
-/// the payload has.
+/// Returns the record of a payload as it is in a file of this format once it counts, and the closed gate after it. It allocates 6 bytes
+/// more than the payload has, or 10 in version 2.
 ///
 /// # Errors
 /// `TooLong` if the payload is longer than `MAX_PAYLOAD`, `Memory` if the allocation failed.
-pub fn record_of<A: Allocator>(alloc: A, payload: &[u8]) -> Result<Vec<u8, A>, FrameError>
-    //= A record for a plan is an open gate, the frame of its payload, and a closed gate; exactly a payload of 2^32 bytes or more is refused
-    //  as too long. [with long, refused]
-    ensures written { IfOk result (λ bytes. bytes.items ≡ 1 ∷ framed payload.now) }
+pub fn record_of<A: Allocator>(
+    alloc: A,
+    format: Format,
+    payload: &[u8],
+) -> Result<Vec<u8, A>, FrameError>
+    //= A record for a plan is an open gate, the frame of its payload, and a closed gate, as the format has them; exactly a payload of 2^32
+    //  bytes or more is refused as too long. [with long, refused]
+    ensures written { IfOk result (λ bytes. bytes.items ≡ opening format ∷ frame_of format payload.now) }
     ensures long { IsErrOf result FrameError.TooLong → 2 ^ 32 ≤ length payload.now }
     ensures refused { 2 ^ 32 ≤ length payload.now → IsErrOf result FrameError.TooLong }
 {
     if payload.len() > MAX_PAYLOAD {
         return Err(FrameError::TooLong);
     }
+    match format {
+        Format::Plain => plain_record(alloc, payload),
+        Format::Summed => summed_record(alloc, payload),
+    }
+}
+
+/// The record of a payload in version 1.
+fn plain_record<A: Allocator>(alloc: A, payload: &[u8]) -> Result<Vec<u8, A>, FrameError>
+    requires { length payload.now < 2 ^ 32 }
+    ensures written { IfOk result (λ bytes. bytes.items ≡ 1 ∷ frame_of Plain payload.now) }
+    ensures memory { IsErrOf result FrameError.TooLong → ⊥ }
+{
     let len = payload.len();
     let mut bytes = Vec::with_capacity(alloc, len + 6)?;
     bytes.push(1)?;
@@ -151,5 +167,17 @@ pub fn record_of<A: Allocator>(alloc: A, payload: &[u8]) -> Result<Vec<u8, A>, F
     bytes.push((len / 16777216 % 256) as u8)?;
     bytes.extend_from_slice(payload)?;
     bytes.push(0)?;
+    Ok(bytes)
+}
+
+/// The record of a payload in version 2.
+fn summed_record<A: Allocator>(alloc: A, payload: &[u8]) -> Result<Vec<u8, A>, FrameError>
+    requires { length payload.now < 2 ^ 32 }
+    ensures written { IfOk result (λ bytes. bytes.items ≡ 255 ∷ frame_of Summed payload.now) }
+    ensures memory { IsErrOf result FrameError.TooLong → ⊥ }
+{
+    let mut bytes = Vec::with_capacity(alloc, payload.len() + 10)?;
+    bytes.push(255)?;
+    push_frame(&mut bytes, payload)?;
     Ok(bytes)
 }

@@ -60,6 +60,7 @@ module _ (bytes b p : List ℕ) (at : ℕ) (here : b ≡ drop at bytes) (there :
   stopped first s (error.Refused e) same wants = wants
   stopped first s (error.RefusedAt index e) same none = none
   stopped first s error.Foreign same none = none
+  stopped first s (error.Damaged place) same none = none
   stopped first s error.TooLong same none = none
   stopped first s error.Full same none = none
   stopped first s (error.Device e) same none = none

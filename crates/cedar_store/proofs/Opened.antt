@@ -2,15 +2,24 @@
 use Rattle.std.specs.Prelude.{Result, Ok, Err, IfErr, IsErrOf, ◌^◌}
 use Rattle.std.proofs.Common.{◌≡◌, ℕ, ◌<◌, ◌≤◌, List, sym, ◌∙◌, ap, subst, arith}
 use Rattle.cedar_journal.specs.declared.device.DeviceError.TheVariants.{Failed}
+use Rattle.cedar_journal.specs.declared.records.FileFault.{FileFault}
+use Rattle.cedar_journal.specs.declared.records.FileFault.TheVariants as fault
+use Rattle.cedar_journal.specs.Files.{IsFault}
 use Rattle.cedar_journal.specs.declared.journal.JournalError.{JournalError}
 use Rattle.cedar_journal.specs.declared.journal.JournalError.TheVariants as journal
 use Rattle.cedar_store.specs.declared.error.DurableError.{DurableError}
 use Rattle.cedar_store.specs.declared.error.DurableError.TheVariants as error
 use Rattle.cedar_store.specs.Causes.{IsOfDevice, LoadCause, OpenCause}
-use Rattle.cedar_store.specs.Told.{journal_error}
+use Rattle.cedar_store.specs.Told.{file_error, journal_error}
+
+-- what is told of a file that is refused
+pub file_cause : (file : List ℕ) (why : FileFault) → IsFault file why → LoadCause file (file_error why)
+file_cause file fault.Foreign is = is
+file_cause file (fault.Damaged at) is = is
 
 open_cause : (file : List ℕ) (before now : ℕ) (e : DurableError) → LoadCause file e → OpenCause file before now e
 open_cause file before now error.Foreign cause = cause
+open_cause file before now (error.Damaged place) cause = cause
 open_cause file before now error.Corrupt cause = cause
 open_cause file before now (error.Refused e) cause = cause
 open_cause file before now (error.RefusedAt index e) cause = cause

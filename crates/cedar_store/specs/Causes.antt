@@ -1,7 +1,8 @@
 -- What an error of a store says.
 use Rattle.std.specs.Prelude.{◌≡◌, ◌⊎◌, ℕ, ◌<◌, ◌≤◌, Bool, true, List, length, Option, None, Some, IsSome}
 use Rattle.cedar_journal.specs.declared.device.DeviceError.TheVariants.{Failed}
-use Rattle.cedar_journal.specs.Files.{recovered}
+use Rattle.cedar_journal.specs.Files.{file_reading, recovered}
+use Rattle.cedar_journal.specs.Formats.{damaged}
 use Rattle.cedar_tree.specs.State.{State}
 use Rattle.cedarwood.specs.declared.error.CedarError.{CedarError}
 use Rattle.cedarwood.specs.declared.error.CedarError.TheVariants as cedar
@@ -18,10 +19,11 @@ ReplayCause outcome error.Corrupt = outcome ≡ None
 ReplayCause outcome (error.Refused e) = IsShortage e
 ReplayCause outcome _ = ⊥
 
--- Why no dictionary was made of a file's bytes: it is of another kind; it is a journal's, and one of its records is no change, or memory or
--- slots were wanting.
+-- Why no dictionary was made of a file's bytes: it is of another kind; or the record at this place is damaged; it is a journal's, and one of
+-- its records is no change, or memory or slots were wanting.
 abbrev pub LoadCause : List ℕ → DurableError → Type 0
-LoadCause file error.Foreign = recovered file ≡ None
+LoadCause file error.Foreign = file_reading file ≡ None
+LoadCause file (error.Damaged at) = file_reading file ≡ Some (damaged at)
 LoadCause file error.Corrupt = IsCorrupt file
 LoadCause file (error.Refused e) = IsSome (recovered file) × IsShortage e
 LoadCause file _ = ⊥

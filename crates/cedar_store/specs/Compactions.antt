@@ -20,7 +20,7 @@ is_beyond (Beyond factor spare) bytes end = nat_lt (bytes + bytes * (max factor 
 -- how many bytes a file has that has one record for each of these entries
 abbrev pub compacted_length : List Entry → ℕ
 compacted_length [] = 14
-compacted_length (e ∷ entries) = 10 + length e.0 + compacted_length entries
+compacted_length (e ∷ entries) = 14 + length e.0 + compacted_length entries
 
 -- behind some payloads stands one more, the put of a value at a key
 pub record IsPutBehind (key : List ℕ) (v : ℤ) (before after : List (List ℕ)) : Type 0 where

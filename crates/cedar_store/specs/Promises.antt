@@ -12,7 +12,7 @@ use Rattle.cedar_store.specs.declared.store.Store.{Store}
 
 -- unless it has failed, its file stands for its dictionary
 abbrev pub IsReadyStore : {T A D : Type 0} → (D → List ℕ) → (D → List ℕ → Type 0) → (T → State) → Store T A D → Type 0
-IsReadyStore seen may_leave state store = IsReady seen may_leave store.journal.device store.journal.end (state store.words) store.failed
+IsReadyStore seen may_leave state store = IsReady seen may_leave store.journal.device store.journal.format store.journal.end (state store.words) store.failed
 
 -- it hasn't failed, and its dictionary has this state
 abbrev pub HasState : {T A D : Type 0} → (T → State) → Store T A D → State → Type 0

@@ -10,6 +10,7 @@ use Rattle.cedar_store.specs.declared.error.DurableError.TheVariants as error
 abbrev pub durable_error_text : DurableError → List ℕ
 durable_error_text error.Foreign = codes "the file is of another kind"
 durable_error_text error.Corrupt = codes "a record of the file is no change of a dictionary"
+durable_error_text (error.Damaged at) = codes "the record at byte " ++ (decimal at ++ codes " of the file is damaged")
 durable_error_text (error.Refused e) = error_text e
 durable_error_text (error.RefusedAt index e) = codes "change " ++ (decimal index ++ (codes " of the batch: " ++ error_text e))
 durable_error_text error.TooLong = codes "the record would have 2^32 bytes or more"

@@ -2,6 +2,8 @@
 use Rattle.std.specs.Prelude.{List, map}
 use Rattle.cedar_journal.specs.declared.frame.FrameError.{FrameError}
 use Rattle.cedar_journal.specs.declared.frame.FrameError.TheVariants as frame
+use Rattle.cedar_journal.specs.declared.records.FileFault.{FileFault}
+use Rattle.cedar_journal.specs.declared.records.FileFault.TheVariants as fault
 use Rattle.cedar_journal.specs.declared.journal.JournalError.{JournalError}
 use Rattle.cedar_journal.specs.declared.journal.JournalError.TheVariants as journal
 use Rattle.cedarwood.specs.declared.error.CedarError.TheVariants.{Memory}
@@ -9,7 +11,11 @@ use Rattle.cedar_store.specs.Changes.{Change, put_at, erase_at}
 use Rattle.cedar_store.specs.declared.change.Change.{Change as ToldChange}
 use Rattle.cedar_store.specs.declared.change.Change.TheVariants as change
 use Rattle.cedar_store.specs.declared.error.DurableError.{DurableError}
-use Rattle.cedar_store.specs.declared.error.DurableError.TheVariants.{Device, Full, Refused, TooLong}
+use Rattle.cedar_store.specs.declared.error.DurableError.TheVariants.{Damaged, Device, Foreign, Full, Refused, TooLong}
+
+abbrev pub file_error : FileFault → DurableError
+file_error fault.Foreign = Foreign
+file_error (fault.Damaged at) = Damaged at
 
 abbrev pub frame_error : FrameError → DurableError
 frame_error frame.Memory = Refused Memory

@@ -1,6 +1,7 @@
 -- The words that the clauses of this crate cite, from one place.
 pub use Rattle.cedar_journal.specs.Device.{LeavesOnly, Only}
 pub use Rattle.cedar_journal.specs.Files.{HasExtent, added, recovered}
+pub use Rattle.cedar_journal.specs.Formats.{AreUndamaged, payloads_read, records_read}
 pub use Rattle.cedar_journal.specs.Frames.{payload_of}
 pub use Rattle.cedar_journal.specs.Image.{image_bytes, payloads_of}
 pub use Rattle.cedar_journal.specs.Journal.{IsBeforeOrAfter, IsSettled, StandsForEither}
@@ -15,7 +16,7 @@ pub use Rattle.cedar_store.specs.Promises.{CrashLeavesEither, CrashLeavesState, 
 pub use Rattle.cedar_store.specs.Puts.{IsPut}
 pub use Rattle.cedar_store.specs.Shown.{compact_error_text, durable_error_text}
 pub use Rattle.cedar_store.specs.Store.{IsConsistent, IsReady}
-pub use Rattle.cedar_store.specs.Told.{change_told, changes_told, frame_error, journal_error}
+pub use Rattle.cedar_store.specs.Told.{change_told, changes_told, file_error, frame_error, journal_error}
 pub use Rattle.cedar_store.specs.Undo.{IsPutOf}
 pub use Rattle.cedar_store.specs.declared.error.DurableError.TheVariants.{Device, Foreign, Full, Refused, TooLong}
 pub use Rattle.cedar_tree.specs.State.{State, new_state}

@@ -12,8 +12,8 @@ use cedarwood::{Entries, Walked};
 use std::alloc::Allocator;
 
 impl<T: Words, A: Allocator + Copy, D: ReplaceDevice> Store<T, A, D> {
-    /// Replaces the file that has all changes by one with a record for each entry. It is made beside that, so what was acknowledged stays,
-    /// whenever the process or the machine stops.
+    /// Replaces the file that has all changes by one of version 2 with a record for each entry. It is made beside that, so what was
+    /// acknowledged stays, whenever the process or the machine stops.
     ///
     /// # Errors
     /// `Memory`, `TooLong` and `Kept`: the old file is there, and the store goes on with it. `Failed`: the device failed, or the store has
@@ -51,7 +51,7 @@ impl<T: Words, A: Allocator + Copy, D: ReplaceDevice> Store<T, A, D> {
 
     /// Writes a record of a change that the dictionary has, and makes the file short if it has grown too long.
     pub(crate) fn acknowledge(&mut self, frame: &Frame<A>) -> Result<(), DurableError>
-        requires settled { IsSettled D.seen D.may_leave self.old.journal.device self.old.journal.end }
+        requires settled { IsSettled D.seen D.may_leave self.old.journal.device self.old.journal.format self.old.journal.end }
         requires usable { self.old.failed ≡ false }
         requires room { self.old.journal.end < 2 ^ 60 }
         requires stands { option_and_then (λ s. after s (payload_of frame.now)) (state_of (D.seen self.old.journal.device)) ≡ Some (T.state self.old.words) }
@@ -70,7 +70,7 @@ impl<T: Words, A: Allocator + Copy, D: ReplaceDevice> Store<T, A, D> {
     /// Compacts the file if it is too long for what the entries take. It is looked at again once it is so much longer than it is now: so
     /// all looks together cost no more than what was written, times a constant.
     fn compact_if_due(&mut self) -> Result<(), DurableError>
-        requires consistent { IsConsistent D.seen D.may_leave self.old.journal.device self.old.journal.end (T.state self.old.words) }
+        requires consistent { IsConsistent D.seen D.may_leave self.old.journal.device self.old.journal.format self.old.journal.end (T.state self.old.words) }
         requires usable { self.old.failed ≡ false }
         ensures ready { IsReadyStore D.seen D.may_leave T.state self.new }
         ensures done { OnOk result (self.new.failed ≡ false) }
@@ -93,7 +93,7 @@ impl<T: Words, A: Allocator + Copy, D: ReplaceDevice> Store<T, A, D> {
 
     /// Replaces the file by one of the entries, if it is too long for these.
     fn replace_if_shorter(&mut self, image: &Image<A>) -> Result<(), DurableError>
-        requires consistent { IsConsistent D.seen D.may_leave self.old.journal.device self.old.journal.end (T.state self.old.words) }
+        requires consistent { IsConsistent D.seen D.may_leave self.old.journal.device self.old.journal.format self.old.journal.end (T.state self.old.words) }
         requires usable { self.old.failed ≡ false }
         requires made { replayed new_state (payloads_of image.now) ≡ Some (T.state self.old.words) }
         requires looked_at { self.old.base ≡ self.old.journal.end }
@@ -118,7 +118,7 @@ impl<T: Words, A: Allocator + Copy, D: ReplaceDevice> Store<T, A, D> {
 
     /// Replaces the file by one that stands for the dictionary.
     fn put_in_place(&mut self, image: &Image<A>) -> Result<(), ReplaceError>
-        requires consistent { IsConsistent D.seen D.may_leave self.old.journal.device self.old.journal.end (T.state self.old.words) }
+        requires consistent { IsConsistent D.seen D.may_leave self.old.journal.device self.old.journal.format self.old.journal.end (T.state self.old.words) }
         requires usable { self.old.failed ≡ false }
         requires made { replayed new_state (payloads_of image.now) ≡ Some (T.state self.old.words) }
         ensures ready { IsReadyStore D.seen D.may_leave T.state self.new }
@@ -174,7 +174,7 @@ fn push_entry<B: Allocator + Copy>(
 ) -> Result<(), CompactError>
     requires { fault key.now value ≡ None }
     ensures pushed { OnOk result (IsPutBehind key.now value (payloads_of image.old) (payloads_of image.new)) }
-    ensures longer { OnOk result (length (image_bytes image.new) ≡ length (image_bytes image.old) + (10 + length key.now)) }
+    ensures longer { OnOk result (length (image_bytes image.new) ≡ length (image_bytes image.old) + (14 + length key.now)) }
     ensures cause { IfErr result (λ error. IsBeforeReplacing error) }
 {
     let payload = put_payload(alloc, key, value)?;

@@ -1,9 +1,9 @@
 //! Why a call of a store is refused, and the texts of that, each of which a contract knows byte by byte.
 
 ghost use Rattle.std.specs.Prelude.{◌≡◌};
-ghost use Rattle.cedar_store.specs.Words.{durable_error_text, frame_error, journal_error, Device, Foreign, Full, Memory, Refused, Some, TooLong};
+ghost use Rattle.cedar_store.specs.Words.{durable_error_text, file_error, frame_error, journal_error, Device, Full, Memory, Refused, Some, TooLong};
 
-use cedar_journal::{DeviceError, ForeignFile, FrameError, JournalError};
+use cedar_journal::{DeviceError, FileFault, FrameError, JournalError};
 use cedarwood::CedarError;
 use std::alloc::{AllocError, AllocFailed};
 use std::error::Error;
@@ -16,6 +16,9 @@ pub enum DurableError {
     Foreign,
     /// A record of the file is not a change of a dictionary. Nothing has been written.
     Corrupt,
+    /// The record that begins at this byte of the file was changed by somebody else: it isn't whole, or has another sum. Nothing has been
+    /// written.
+    Damaged(usize),
     /// The pair has a fault, or memory or slots were refused. Nothing has changed.
     Refused(CedarError),
     /// A change of a batch has a fault, or memory or slots were refused for it. Nothing has changed.
@@ -35,12 +38,15 @@ pub enum DurableError {
     Failed,
 }
 
-impl From<ForeignFile> for DurableError {
-    //= A file of another kind is reported as `Foreign`.
-    ghost from_gives = { λ _ error. error ≡ Foreign };
+impl From<FileFault> for DurableError {
+    //= A file of another kind is reported as `Foreign`, and one with a damaged record as `Damaged`, with the record's place.
+    ghost from_gives = { λ fault error. error ≡ file_error fault };
 
-    fn from(_: ForeignFile) -> DurableError {
-        DurableError::Foreign
+    fn from(fault: FileFault) -> DurableError {
+        match fault {
+            FileFault::Foreign => DurableError::Foreign,
+            FileFault::Damaged(at) => DurableError::Damaged(at),
+        }
     }
 }
 
@@ -113,6 +119,10 @@ impl fmt::Display for DurableError {
             DurableError::Foreign => f.write_str("the file is of another kind"),
             DurableError::Corrupt => f.write_str(
                 "a record of the file is no change of a dictionary",
+            ),
+            DurableError::Damaged(at) => write!(
+                f,
+                "the record at byte {at} of the file is damaged"
             ),
             DurableError::Refused(error) => write!(f, "{error}"),
             DurableError::RefusedAt { index, error } => {

@@ -1,11 +1,11 @@
 //! The changes of a file, made again.
 
 ghost use Rattle.std.specs.Prelude.{◌*◌, ◌+◌, ◌≡◌, IfErr, IfOk, OnOk, Some, option_map};
-ghost use Rattle.cedar_store.specs.Words.{after, all_changed, batch_of, change_of, changed, new_state, payloads_in, put_of, replayed, state_of, HasExtent, IsShortage, LoadCause, ReplayCause};
+ghost use Rattle.cedar_store.specs.Words.{after, all_changed, batch_of, change_of, changed, payloads_read, new_state, put_of, records_read, replayed, state_of, HasExtent, IsShortage, AreUndamaged, LoadCause, ReplayCause};
 
 use crate::DurableError;
 use crate::words::{Made, Words};
-use cedar_journal::{Extent, HEADER_LEN, extent_of, first_payload};
+use cedar_journal::{Extent, Format, HEADER_LEN, extent_of, first_payload, next_payload};
 use cedarwood::{CedarError, MAX_VALUE};
 use std::alloc::Allocator;
 
@@ -21,13 +21,14 @@ pub const BATCH: u8 = 2;
 /// Returns the dictionary that a file's bytes stand for, and how far the file goes.
 ///
 /// # Errors
-/// `Foreign` if the file is of another kind, `Corrupt` if a record is not a change, `Refused` if memory or slots were refused.
+/// `Foreign` if the file is of another kind, `Damaged` if a record is damaged, `Corrupt` if one is not a change, `Refused` if memory or slots
+/// were refused.
 pub fn words_of<T: Made<A>, A: Allocator>(
     alloc: A,
     bytes: &[u8],
 ) -> Result<(T, Extent), DurableError>
     requires limit { T.limit }
-    //= A file's bytes are read as the dictionary that they stand for. They are refused as foreign or corrupt exactly as by an opening.
+    //= A file's bytes are read as the dictionary that they stand for. They are refused exactly as by an opening.
     //  [with extent, cause]
     ensures made { IfOk result (λ found. state_of bytes.now ≡ Some (T.state found.0)) }
     ensures extent { IfOk result (λ found. HasExtent bytes.now found.1) }
@@ -48,19 +49,20 @@ fn make_changes<T: Words>(words: &mut T, bytes: &[u8], extent: Extent) -> Result
 {
     match extent {
         Extent::New => Ok(()),
-        Extent::Until(_) => replay(words, &bytes[HEADER_LEN..]),
+        Extent::Until(format, _) => replay(words, format, &bytes[HEADER_LEN..]),
     }
 }
 
 /// Makes the changes of some records, one after another.
-fn replay<T: Words>(words: &mut T, bytes: &[u8]) -> Result<(), DurableError>
-    ensures state { OnOk result (replayed (T.state words.old) (payloads_in bytes.now) ≡ Some (T.state words.new)) }
-    ensures cause { IfErr result (λ error. ReplayCause (replayed (T.state words.old) (payloads_in bytes.now)) error) }
+fn replay<T: Words>(words: &mut T, format: Format, bytes: &[u8]) -> Result<(), DurableError>
+    requires sound { AreUndamaged format bytes.now }
+    ensures state { OnOk result (replayed (T.state words.old) (payloads_read (records_read format bytes.now)) ≡ Some (T.state words.new)) }
+    ensures cause { IfErr result (λ error. ReplayCause (replayed (T.state words.old) (payloads_read (records_read format bytes.now))) error) }
 {
     let mut at = 0;
-    while let Some(payload) = first_payload(&bytes[at..]) {
+    while let Some(payload) = next_payload(format, &bytes[at..]) {
         apply(words, payload)?;
-        at += 5 + payload.len();
+        at += format.overhead() + payload.len();
     }
     Ok(())
 }

@@ -70,8 +70,8 @@ impl<T: Made<A>, A: Allocator + Copy, D: Device> Store<T, A, D> {
     /// header.
     ///
     /// # Errors
-    /// With the device: `Foreign` if the file is of another kind, `Corrupt` if a record is not a change, `Refused` if memory or slots were
-    /// refused; then nothing has been written. `Device` if the device failed; the file stands for the same dictionary.
+    /// With the device: `Foreign` if the file is of another kind, `Damaged` if a record is damaged, `Corrupt` if one is not a change, `Refused`
+    /// if memory or slots were refused; then nothing has been written. `Device` if the device failed; the file stands for the same dictionary.
     pub fn open(alloc: A, device: D) -> Result<Self, (DurableError, D)>
         requires limit { T.limit }
         // After a restart, what is read is what is on the disk.
@@ -80,7 +80,7 @@ impl<T: Made<A>, A: Allocator + Copy, D: Device> Store<T, A, D> {
         //= An opened store is ready, and its dictionary is the one that the file stood for. So no store is opened of a file of another
         //  kind, or of one with a record that is no change. [with made, sound]
         ensures ready { IfOk result (λ store. (store.failed ≡ false)
-            × IsConsistent D.seen D.may_leave store.journal.device store.journal.end (T.state store.words)) }
+            × IsConsistent D.seen D.may_leave store.journal.device store.journal.format store.journal.end (T.state store.words)) }
         ensures made { IfOk result (λ store. state_of (D.seen device) ≡ Some (T.state store.words)) }
         ensures sound { IfOk result (λ _. IsCorrupt (D.seen device) → ⊥) }
 
@@ -91,8 +91,9 @@ impl<T: Made<A>, A: Allocator + Copy, D: Device> Store<T, A, D> {
         ensures any_moment_err { IfErr result (λ e. LeavesOnly D.moment D.left_since device e.1
             (λ c. state_of c ≡ state_of (D.seen device))) }
 
-        //= A file is refused as foreign exactly if it is of another kind, as corrupt if one of its records is no change, and otherwise only
-        //  for lack of memory or slots, or if the device failed, which reported `Failed` only if the disk has failed.
+        //= A file is refused as foreign only if it is of another kind, as damaged if a record is damaged, at the place of the first such
+        //  one, as corrupt if one of its records is no change, and otherwise only for lack of memory or slots, or if the device failed,
+        //  which reported `Failed` only if the disk has failed.
         ensures cause { IfErr result (λ e. OpenCause (D.seen device) (D.faults device) (D.faults e.1) e.0) }
 
         //= A file that is refused for any other reason than the device stays byte for byte as it was, whenever a crash comes. [with seen]
@@ -361,9 +362,9 @@ impl<T: Words, A: Allocator + Copy, D: ReplaceDevice> Store<T, A, D> {
 
     /// Writes a record of a change that the dictionary has.
     pub(crate) fn append(&mut self, frame: &Frame<A>) -> Result<(), DurableError>
-        requires settled { IsSettled D.seen D.may_leave self.old.journal.device self.old.journal.end }
+        requires settled { IsSettled D.seen D.may_leave self.old.journal.device self.old.journal.format self.old.journal.end }
         requires room { self.old.journal.end < 2 ^ 60 }
-        ensures settled { OnOk result (IsSettled D.seen D.may_leave self.new.journal.device self.new.journal.end) }
+        ensures settled { OnOk result (IsSettled D.seen D.may_leave self.new.journal.device self.new.journal.format self.new.journal.end) }
         ensures acknowledged { OnOk result (recovered (D.seen self.new.journal.device) ≡ added (payload_of frame.now) (recovered (D.seen self.old.journal.device))) }
         ensures failed { OnOk result (self.new.failed ≡ self.old.failed) }
         ensures faults { D.faults self.old.journal.device ≤ D.faults self.new.journal.device }

@@ -1,7 +1,7 @@
 //! What ends a run.
 
 use cedar_disk::OpenError;
-use cedar_journal::{DeviceError, ForeignFile, FrameError, JournalError};
+use cedar_journal::{DeviceError, FileFault, FrameError, JournalError};
 use cedar_store::{CompactError, DurableError};
 use cedarwood::CedarError;
 use std::alloc::{AllocError, AllocFailed};
@@ -21,6 +21,8 @@ pub(crate) enum Fault {
     Foreign,
     /// The record of this number isn't the one that was written.
     Broken(u64),
+    /// The record at this byte isn't whole or has another sum.
+    Damaged(usize),
     /// A record isn't a change of a dictionary.
     Corrupt,
     /// The store failed before.
@@ -37,6 +39,7 @@ impl fmt::Display for Fault {
             Fault::Disk => f.write_str("the disk failed"),
             Fault::Foreign => f.write_str("the file is of another kind"),
             Fault::Broken(number) => write!(f, "record {number} is another one"),
+            Fault::Damaged(at) => write!(f, "the record at byte {at} is damaged"),
             Fault::Corrupt => f.write_str("a record is no change"),
             Fault::Failed => f.write_str("the device failed before"),
             Fault::Full => f.write_str("the journal is full"),
@@ -93,9 +96,12 @@ impl From<JournalError> for Fault {
     }
 }
 
-impl From<ForeignFile> for Fault {
-    fn from(_: ForeignFile) -> Self {
-        Fault::Foreign
+impl From<FileFault> for Fault {
+    fn from(fault: FileFault) -> Self {
+        match fault {
+            FileFault::Foreign => Fault::Foreign,
+            FileFault::Damaged(at) => Fault::Damaged(at),
+        }
     }
 }
 
@@ -109,6 +115,7 @@ impl From<DurableError> for Fault {
     fn from(error: DurableError) -> Self {
         match error {
             DurableError::Foreign => Fault::Foreign,
+            DurableError::Damaged(at) => Fault::Damaged(at),
             DurableError::Corrupt => Fault::Corrupt,
             DurableError::Refused(error) => error.into(),
             DurableError::RefusedAt { error, .. } => error.into(),

@@ -4,20 +4,20 @@ ghost use Rattle.cedar_journal.specs.Words.{IfOk, IsSettled, OnOk, Only};
 
 use crate::fault::Fault;
 use cedar_disk::ReplaceDevice;
-use cedar_journal::{Device, Extent, Frame, HEADER_LEN, Journal, extent_of, first_payload};
+use cedar_journal::{Device, Extent, Format, Frame, HEADER_LEN, Journal, extent_of, next_payload};
 use std::alloc::{AllocError, Global};
 
 /// Opens what is on a device, and tests whether each record is the one of its number. Also returns how many there are.
 pub(crate) fn open<D: Device + Drop>(device: D, alloc: Global) -> Result<(Journal<D>, u64), Fault>
     requires restarted { Only (D.seen device) (D.may_leave device) }
-    ensures settled { IfOk result (λ kept. IsSettled D.seen D.may_leave kept.0.device kept.0.end) }
+    ensures settled { IfOk result (λ kept. IsSettled D.seen D.may_leave kept.0.device kept.0.format kept.0.end) }
 {
     let mut device = device;
     let bytes = device.read(alloc)?;
     let extent = extent_of(&bytes)?;
     let count = match extent {
         Extent::New => 0,
-        Extent::Until(_) => records(alloc, &bytes)?,
+        Extent::Until(format, _) => records(alloc, format, &bytes)?,
     };
     match Journal::open(device, extent) {
         Ok(journal) => Ok((journal, count)),
@@ -31,8 +31,8 @@ pub(crate) fn put<D: Device>(
     alloc: Global,
     number: u64,
 ) -> Result<(), Fault>
-    requires { IsSettled D.seen D.may_leave journal.old.device journal.old.end }
-    ensures { OnOk result (IsSettled D.seen D.may_leave journal.new.device journal.new.end) }
+    requires { IsSettled D.seen D.may_leave journal.old.device journal.old.format journal.old.end }
+    ensures { OnOk result (IsSettled D.seen D.may_leave journal.new.device journal.new.format journal.new.end) }
 {
     let payload = payload(alloc, number)?;
     let frame = Frame::new(alloc, &payload)?;
@@ -51,16 +51,16 @@ pub(crate) fn rewrite<D: ReplaceDevice + Drop>(device: D, alloc: Global) -> Resu
 }
 
 /// Returns how many records a journal's file has, each of which has to be the one of its number.
-fn records(alloc: Global, file: &[u8]) -> Result<u64, Fault> {
+fn records(alloc: Global, format: Format, file: &[u8]) -> Result<u64, Fault> {
     let mut rest = file.get(HEADER_LEN..).unwrap_or_default();
     let mut count = 0;
     for number in 0..file.len() as u64 {
-        let Some(found) = first_payload(rest) else {
+        let Some(found) = next_payload(format, rest) else {
             break;
         };
         expect(alloc, found, number)?;
         count = number + 1;
-        rest = &rest[5 + found.len()..];
+        rest = &rest[format.overhead() + found.len()..];
     }
     Ok(count)
 }

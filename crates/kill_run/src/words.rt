@@ -30,7 +30,7 @@ pub(crate) fn open<D: ReplaceDevice + Drop>(
     compaction: Compaction,
 ) -> Result<CedarStore<Global, D>, Fault>
     requires restarted { Only (D.seen device) (D.may_leave device) }
-    ensures ready { IfOk result (λ store. IsReady D.seen D.may_leave store.journal.device store.journal.end (store.words.state) store.failed) }
+    ensures ready { IfOk result (λ store. IsReady D.seen D.may_leave store.journal.device store.journal.format store.journal.end (store.words.state) store.failed) }
 {
     match CedarStore::open(alloc, device) {
         Ok(mut store) => {
@@ -47,8 +47,8 @@ pub(crate) fn change<D: ReplaceDevice>(
     alloc: Global,
     number: u64,
 ) -> Result<(), Fault>
-    requires { IsReady D.seen D.may_leave store.old.journal.device store.old.journal.end (store.old.words.state) store.old.failed }
-    ensures { OnOk result (IsReady D.seen D.may_leave store.new.journal.device store.new.journal.end (store.new.words.state) store.new.failed) }
+    requires { IsReady D.seen D.may_leave store.old.journal.device store.old.journal.format store.old.journal.end (store.old.words.state) store.old.failed }
+    ensures { OnOk result (IsReady D.seen D.may_leave store.new.journal.device store.new.journal.format store.new.journal.end (store.new.words.state) store.new.failed) }
 {
     let key = key(alloc, number)?;
     match change_of(number, key.as_str()) {
@@ -70,8 +70,8 @@ pub(crate) fn change_together<D: ReplaceDevice>(
     first: u64,
     count: u64,
 ) -> Result<(), Fault>
-    requires { IsReady D.seen D.may_leave store.old.journal.device store.old.journal.end (store.old.words.state) store.old.failed }
-    ensures { OnOk result (IsReady D.seen D.may_leave store.new.journal.device store.new.journal.end (store.new.words.state) store.new.failed) }
+    requires { IsReady D.seen D.may_leave store.old.journal.device store.old.journal.format store.old.journal.end (store.old.words.state) store.old.failed }
+    ensures { OnOk result (IsReady D.seen D.may_leave store.new.journal.device store.new.journal.format store.new.journal.end (store.new.words.state) store.new.failed) }
 {
     let mut keys = Vec::new(alloc);
     for turn in 0..count {

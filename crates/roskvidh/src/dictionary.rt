@@ -3,7 +3,7 @@
 use crate::fault::Fault;
 use crate::input::read_all;
 use crate::request::Dictionary;
-use cedar_journal::{MAGIC, first_payload};
+use cedar_journal::{PLAIN_HEADER, SUMMED_HEADER};
 use cedar_store::words_of;
 use cedarwood::{CedarPersistenceError, DefaultLayout, Layout, ReducedLayout, Trie, Watched};
 use std::alloc::Global;
@@ -60,7 +60,7 @@ pub(crate) fn open<'m, F: Files>(
 /// What a file is, by its first bytes. Nothing is consumed from the reader.
 fn kind_of<R: BufRead>(reader: &mut R) -> Result<Kind, CedarPersistenceError> {
     let head = reader.fill_buf()?;
-    Ok(if first_payload(head) == Some(MAGIC.as_slice()) {
+    Ok(if head.starts_with(&SUMMED_HEADER) || head.starts_with(&PLAIN_HEADER) {
         Kind::Store
     } else if head.get(LAYOUT_PLACE).copied() == Some(REDUCED_LAYOUT) {
         Kind::Reduced

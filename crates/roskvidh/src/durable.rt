@@ -84,7 +84,7 @@ fn open_store<'m, D: ReplaceDevice + Drop>(
     path: &'m str,
 ) -> Result<CedarStore<Global, D>, Fault<'m>>
     requires restarted { Only (D.seen device) (D.may_leave device) }
-    ensures ready { IfOk result (λ store. IsReady D.seen D.may_leave store.journal.device store.journal.end (store.words.state) store.failed) }
+    ensures ready { IfOk result (λ store. IsReady D.seen D.may_leave store.journal.device store.journal.format store.journal.end (store.words.state) store.failed) }
 {
     match CedarStore::open(alloc, device) {
         Ok(store) => Ok(store),

@@ -3,4 +3,4 @@ use Rattle.kill_run.proofs.append_to.Given as goal
 
 -- the journal is at rest before each record
 abbrev pub invariant-loop-turn : goal.invariant-loop-turn
-invariant-loop-turn g l = IsSettled g.D.Device.seen g.D.Device.may_leave l.journal.device l.journal.end
+invariant-loop-turn g l = IsSettled g.D.Device.seen g.D.Device.may_leave l.journal.device l.journal.format l.journal.end

@@ -1,22 +1,55 @@
-use Rattle.std.proofs.Common.{◌≡◌, ◌-◌, length, take, drop, ◌∙◌, ap, sym, arith, length-drop}
-use Rattle.std.proofs.lemmas.List.{take_all}
-use Rattle.cedar_journal.specs.Records.{has_record, payload}
-use Rattle.cedar_journal.proofs.Fronts.{front_of_none}
-use Rattle.cedar_journal.proofs.Found.{one_more}
+use Rattle.std.proofs.Common.{◌+◌, drop, subst, arith, length-drop}
+use Rattle.cedar_journal.specs.Files.{IsFoundThere}
+use Rattle.cedar_journal.proofs.Headers.{named_front, named_long}
+use Rattle.cedar_journal.proofs.Nexts.{all_records, damaged_there, longer_front, next_there, only_end}
 use Rattle.cedar_journal.proofs.records.end_of.Goals as goal
 
-pub loop-found-init : goal.loop-found-init
-loop-found-init c = record { within = omega arith; whole = front_of_none }
+pub slice_bounds-next_of-count : goal.slice_bounds-next_of-count
+slice_bounds-next_of-count c = omega (arith, named_long c.args.bytes.now c.args.format c.requires)
 
-pub loop-found-preserved : goal.loop-found-preserved
-loop-found-preserved c =
-    let before = c.loop-found.invariant in
-    let rest = drop c.loop-found.end c.args.bytes.now in
-    let some = c.in-Some.ensures.some in
-    let there = c.in-Some.ensures.behind.0 in
-    let size = length-drop c.loop-found.end c.args.bytes.now in
-    let same : take (length c.args.bytes.now - c.loop-found.end) rest ≡ rest = take_all (length c.args.bytes.now - c.loop-found.end) rest (omega (arith, size)) in
+pub slice_bounds-next_of-start : goal.slice_bounds-next_of-start
+slice_bounds-next_of-start c = omega (arith, named_long c.args.bytes.now c.args.format c.requires)
+
+pub loop-next-init : goal.loop-next-init
+loop-next-init c = record {
+  some = omega arith;
+  within = named_long c.args.bytes.now c.args.format c.requires;
+  front = named_front c.args.bytes.now c.args.format c.requires;
+  next = next_there c.args.format c.args.bytes.now 13 c.next_of-next.result c.next_of-next.ensures;
+}
+
+pub loop-next-preserved : goal.loop-next-preserved
+loop-next-preserved c =
+    let before = c.loop-next.invariant in
+    let f = c.args.format in
+    let bytes = c.args.bytes.now in
+    let end = c.loop-next.end in
+    let n = c.in-Record.size in
+    let found = subst (IsFoundThere f (drop end bytes)) c.in-Record.is before.next in
+    let fits = found.1 in
+    let size = length-drop end bytes in
     record {
-      within = omega (arith, before.within, there, ap length same, size);
-      whole = one_more c.args.bytes.now c.in-Some.found.now c.loop-found.end before.within before.whole (ap has_record (sym same) ∙ some.0) (some.1 ∙ ap payload same);
+      some = omega (arith, before.some);
+      within = omega (arith, before.within, fits, size);
+      front = longer_front bytes f end before.within before.front n (found.2, found.3);
+      next = next_there f bytes (end + n) c.next_of-next-in-Record.result c.next_of-next-in-Record.ensures;
     }
+
+pub returns-in_default-next : goal.returns-in_default-next
+returns-in_default-next c =
+    let before = c.loop-next.invariant in
+    let f = c.args.format in
+    let bytes = c.args.bytes.now in
+    let end = c.loop-next.end in
+    record {
+      ok = all_records bytes f end before.within before.front c.requires before.some (only_end f (drop end bytes) c.loop-next.next before.next c.in_default.not-Record c.in_default-next.not-Damaged);
+      err = tt;
+    }
+
+pub returns-in-Damaged-clause-err : goal.returns-in-Damaged-clause-err
+returns-in-Damaged-clause-err c =
+    let before = c.loop-next.invariant in
+    let f = c.args.format in
+    let bytes = c.args.bytes.now in
+    let end = c.loop-next.end in
+    damaged_there bytes f end before.within before.front (subst (IsFoundThere f (drop end bytes)) c.in-Damaged.is before.next)

@@ -1,9 +1,14 @@
-use Rattle.std.proofs.Common.{◌-◌, ◌≤◌, length, take}
-use Rattle.cedar_journal.specs.Records.{AreWholeRecords}
+use Rattle.std.proofs.Common.{◌-◌, ◌≤◌, length, take, drop}
+use Rattle.cedar_journal.specs.Files.{IsFoundThere, IsWholeFront}
 use Rattle.cedar_journal.proofs.records.end_of.Given as goal
 
-abbrev pub invariant-loop-found : goal.invariant-loop-found
-invariant-loop-found l = record { within : l.end ≤ length l.bytes; whole : AreWholeRecords (take l.end l.bytes) }
+abbrev pub invariant-loop-next : goal.invariant-loop-next
+invariant-loop-next l = record {
+  some : 13 ≤ l.end;
+  within : l.end ≤ length l.bytes;
+  front : IsWholeFront l.format (take l.end l.bytes);
+  next : IsFoundThere l.format (drop l.end l.bytes) l.next;
+}
 
-abbrev pub decreases-loop-found : goal.decreases-loop-found
-decreases-loop-found l = length l.bytes - l.end
+abbrev pub decreases-loop-next : goal.decreases-loop-next
+decreases-loop-next l = length l.bytes - l.end

@@ -1,12 +1,11 @@
-use Rattle.std.proofs.Common.{◌≡◌, ℕ, List, [], ◌∷◌, sym, ◌∙◌, ap, subst, arith}
+use Rattle.std.proofs.Common.{◌≡◌, ℕ, List, [], ◌∷◌, sym, ◌∙◌, ap, refl, subst}
 use Rattle.std.specs.Prelude.{Some}
 use Rattle.cedar_journal.specs.Device.{Holds, Only, Torn}
-use Rattle.cedar_journal.specs.Records.{framed}
-use Rattle.cedar_journal.specs.Files.{journal_magic, recovered}
+use Rattle.cedar_journal.specs.declared.format.Format.TheVariants.{Summed}
+use Rattle.cedar_journal.specs.Files.{header_frame, journal_header, recovered}
 use Rattle.cedar_journal.proofs.Moments.{started, goes_on}
 use Rattle.cedar_journal.proofs.Crash.{settled_at}
-use Rattle.cedar_journal.proofs.Fronts.{record_of}
-use Rattle.cedar_journal.proofs.Headers.{byte_stands, header_is_front, header_is_there, header_stands}
+use Rattle.cedar_journal.proofs.Headers.{byte_stands, header_is_front, header_stands}
 use Rattle.cedar_journal.proofs.HeaderCrash.{torn_frame, torn_gate_of_header}
 use Rattle.cedar_journal.proofs.repair.write_header.Goals as goal
 
@@ -43,8 +42,8 @@ returns-in_err-write_at-2-clause-any_moment g c =
     torn_frame f (subst (λ d. Torn 1 13 d f) (c.requires.durable from.0 from.1 ∙ c.requires.cleared) from.2) in
     let step1 = goes_on g.D.Device.moment g.D.Device.left_since c.args.device.now c.args.device.now c.write_at.new.self P _ at_start c.write_at.ensures.time after_write in
     let step2 = goes_on g.D.Device.moment g.D.Device.left_since c.args.device.now c.write_at.new.self c.sync.new.self P _ step1 c.sync.ensures.time (λ f now. after_write f (c.sync.ensures.crash f now)) in
-    let written : g.D.Device.seen c.write_at.new.self ≡ 0 ∷ framed journal_magic =
-    subst (λ f. Holds f 1 (framed journal_magic) (g.D.Device.seen c.write_at.new.self)) c.requires.cleared c.in_ok-write_at.ensures.written in
+    let written : g.D.Device.seen c.write_at.new.self ≡ 0 ∷ header_frame Summed =
+    subst (λ f. Holds f 1 (header_frame Summed) (g.D.Device.seen c.write_at.new.self)) c.requires.cleared c.in_ok-write_at.ensures.written in
     let after_gate : (f : List ℕ) → g.D.Device.may_leave c.write_at-2.new.self f → P f = λ f now.
     let from = c.write_at-2.ensures.crash f now in
     torn_gate_of_header f (subst (λ d. Torn 0 1 d f) (c.in_ok-sync.ensures.durable from.0 from.1 ∙ written) from.2) in
@@ -61,8 +60,8 @@ returns-in_err-sync-2-clause-any_moment g c =
     torn_frame f (subst (λ d. Torn 1 13 d f) (c.requires.durable from.0 from.1 ∙ c.requires.cleared) from.2) in
     let step1 = goes_on g.D.Device.moment g.D.Device.left_since c.args.device.now c.args.device.now c.write_at.new.self P _ at_start c.write_at.ensures.time after_write in
     let step2 = goes_on g.D.Device.moment g.D.Device.left_since c.args.device.now c.write_at.new.self c.sync.new.self P _ step1 c.sync.ensures.time (λ f now. after_write f (c.sync.ensures.crash f now)) in
-    let written : g.D.Device.seen c.write_at.new.self ≡ 0 ∷ framed journal_magic =
-    subst (λ f. Holds f 1 (framed journal_magic) (g.D.Device.seen c.write_at.new.self)) c.requires.cleared c.in_ok-write_at.ensures.written in
+    let written : g.D.Device.seen c.write_at.new.self ≡ 0 ∷ header_frame Summed =
+    subst (λ f. Holds f 1 (header_frame Summed) (g.D.Device.seen c.write_at.new.self)) c.requires.cleared c.in_ok-write_at.ensures.written in
     let after_gate : (f : List ℕ) → g.D.Device.may_leave c.write_at-2.new.self f → P f = λ f now.
     let from = c.write_at-2.ensures.crash f now in
     torn_gate_of_header f (subst (λ d. Torn 0 1 d f) (c.in_ok-sync.ensures.durable from.0 from.1 ∙ written) from.2) in
@@ -80,8 +79,8 @@ returns-clause-any_moment g c =
     torn_frame f (subst (λ d. Torn 1 13 d f) (c.requires.durable from.0 from.1 ∙ c.requires.cleared) from.2) in
     let step1 = goes_on g.D.Device.moment g.D.Device.left_since c.args.device.now c.args.device.now c.write_at.new.self P _ at_start c.write_at.ensures.time after_write in
     let step2 = goes_on g.D.Device.moment g.D.Device.left_since c.args.device.now c.write_at.new.self c.sync.new.self P _ step1 c.sync.ensures.time (λ f now. after_write f (c.sync.ensures.crash f now)) in
-    let written : g.D.Device.seen c.write_at.new.self ≡ 0 ∷ framed journal_magic =
-    subst (λ f. Holds f 1 (framed journal_magic) (g.D.Device.seen c.write_at.new.self)) c.requires.cleared c.in_ok-write_at.ensures.written in
+    let written : g.D.Device.seen c.write_at.new.self ≡ 0 ∷ header_frame Summed =
+    subst (λ f. Holds f 1 (header_frame Summed) (g.D.Device.seen c.write_at.new.self)) c.requires.cleared c.in_ok-write_at.ensures.written in
     let after_gate : (f : List ℕ) → g.D.Device.may_leave c.write_at-2.new.self f → P f = λ f now.
     let from = c.write_at-2.ensures.crash f now in
     torn_gate_of_header f (subst (λ d. Torn 0 1 d f) (c.in_ok-sync.ensures.durable from.0 from.1 ∙ written) from.2) in
@@ -92,18 +91,18 @@ returns-clause-any_moment g c =
 pub returns-clause-settled : goal.returns-clause-settled
 returns-clause-settled g c =
     let seen = g.D.Device.seen in
-    let written : seen c.write_at.new.self ≡ 0 ∷ framed journal_magic =
-    subst (λ f. Holds f 1 (framed journal_magic) (seen c.write_at.new.self)) c.requires.cleared c.in_ok-write_at.ensures.written in
-    let is : seen c.sync-2.new.self ≡ 1 ∷ framed journal_magic =
+    let written : seen c.write_at.new.self ≡ 0 ∷ header_frame Summed =
+    subst (λ f. Holds f 1 (header_frame Summed) (seen c.write_at.new.self)) c.requires.cleared c.in_ok-write_at.ensures.written in
+    let is : seen c.sync-2.new.self ≡ 1 ∷ header_frame Summed =
     c.sync-2.ensures.seen ∙ subst (λ f. Holds f 0 (1 ∷ []) (seen c.write_at-2.new.self)) (c.sync.ensures.seen ∙ written) c.in_ok-write_at-2.ensures.written in
     let durable = subst (λ f. Only f (g.D.Device.may_leave c.sync-2.new.self)) (sym c.sync-2.ensures.seen) c.in_ok-sync-2.ensures.durable in
-    settled_at seen g.D.Device.may_leave c.sync-2.new.self 13 (record_of journal_magic) [] (omega arith) header_is_front header_is_there is durable
+    settled_at seen g.D.Device.may_leave c.sync-2.new.self Summed 13 (journal_header Summed) [] refl ([], header_is_front Summed) is durable
 
 pub returns-clause-none : goal.returns-clause-none
 returns-clause-none g c =
     let seen = g.D.Device.seen in
-    let written : seen c.write_at.new.self ≡ 0 ∷ framed journal_magic =
-    subst (λ f. Holds f 1 (framed journal_magic) (seen c.write_at.new.self)) c.requires.cleared c.in_ok-write_at.ensures.written in
-    let is : seen c.sync-2.new.self ≡ 1 ∷ framed journal_magic =
+    let written : seen c.write_at.new.self ≡ 0 ∷ header_frame Summed =
+    subst (λ f. Holds f 1 (header_frame Summed) (seen c.write_at.new.self)) c.requires.cleared c.in_ok-write_at.ensures.written in
+    let is : seen c.sync-2.new.self ≡ 1 ∷ header_frame Summed =
     c.sync-2.ensures.seen ∙ subst (λ f. Holds f 0 (1 ∷ []) (seen c.write_at-2.new.self)) (c.sync.ensures.seen ∙ written) c.in_ok-write_at-2.ensures.written in
     ap recovered is ∙ header_stands

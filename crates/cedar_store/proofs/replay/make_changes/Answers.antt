@@ -1,7 +1,7 @@
 use Rattle.std.specs.Prelude.{Some, OnOk, IfErr}
 use Rattle.std.proofs.Common.{◌≡◌, ◌-◌, ◌∙◌, length, take, drop, ap, sym, subst}
 use Rattle.cedar_journal.specs.Files.{HasExtent}
-use Rattle.cedar_journal.specs.Records.{payloads_in}
+use Rattle.cedar_journal.specs.Formats.{AreUndamaged, payloads_read, records_read}
 use Rattle.cedar_tree.specs.State.{new_state}
 use Rattle.cedar_store.specs.Causes.{ReplayCause}
 use Rattle.cedar_store.specs.Changes.{replayed}
@@ -12,16 +12,24 @@ use Rattle.cedar_store.proofs.replay.make_changes.Goals as goal
 pub returns-in-New-clause-state : goal.returns-in-New-clause-state
 returns-in-New-clause-state g c = new_stands c.args.bytes.now (subst (HasExtent c.args.bytes.now) c.in-New.is c.requires.extent) ∙ ap Some (sym c.requires.new)
 
+pub replay-requires : goal.replay-requires
+replay-requires g c =
+    let file = c.args.bytes.now in
+    let records = subst (HasExtent file) c.in-Until.is c.requires.extent in
+    subst (AreUndamaged c.in-Until.field-0) (sym (rest_is 13 file)) records.sound
+
 pub returns-in-Until-clause-state : goal.returns-in-Until-clause-state
 returns-in-Until-clause-state g c =
     let file = c.args.bytes.now in
+    let f = c.in-Until.field-0 in
     let records = subst (HasExtent file) c.in-Until.is c.requires.extent in
-    let same = (λ i. replayed (c.requires.new i) (payloads_in (rest_is 13 file i))) ∙ sym (records_stand file c.in-Until.field-0 records) in
+    let same = (λ i. replayed (c.requires.new i) (payloads_read (records_read f (rest_is 13 file i)))) ∙ sym (records_stand file f c.in-Until.field-1 records) in
     subst (λ o. OnOk c.replay.result (o ≡ Some (g.T.Words.state c.replay.new.words))) same c.replay.ensures.state
 
 pub returns-in-Until-clause-cause : goal.returns-in-Until-clause-cause
 returns-in-Until-clause-cause g c =
     let file = c.args.bytes.now in
+    let f = c.in-Until.field-0 in
     let records = subst (HasExtent file) c.in-Until.is c.requires.extent in
-    let same : replayed (g.T.Words.state c.args.words.now) (payloads_in (take (length file - 13) (drop 13 file))) ≡ replayed new_state (payloads_in (drop 13 file)) = (λ i. replayed (c.requires.new i) (payloads_in (rest_is 13 file i))) in
-    load_causes file c.in-Until.field-0 c.replay.result records (subst (λ o. IfErr c.replay.result (λ e. ReplayCause o e)) same c.replay.ensures.cause)
+    let same : replayed (g.T.Words.state c.args.words.now) (payloads_read (records_read f (take (length file - 13) (drop 13 file)))) ≡ replayed new_state (payloads_read (records_read f (drop 13 file))) = (λ i. replayed (c.requires.new i) (payloads_read (records_read f (rest_is 13 file i)))) in
+    load_causes file f c.in-Until.field-1 c.replay.result records (subst (λ o. IfErr c.replay.result (λ e. ReplayCause o e)) same c.replay.ensures.cause)

@@ -5,17 +5,17 @@ use Rattle.cedar_journal.proofs.image.Image.new.Goals as goal
 
 pub invariant_of-result : goal.invariant_of-result
 invariant_of-result g c =
-    let bytes = c.extend_from_slice.new.self.items in
+    let bytes = c.push.new.self.items in
     let is : bytes ≡ image_of [] = search rules in
     record { shape = new_shape bytes is; whole = new_whole bytes is }
 
 pub returns-clause-none : goal.returns-clause-none
 returns-clause-none g c =
-    let bytes = c.extend_from_slice.new.self.items in
+    let bytes = c.push.new.self.items in
     let is : bytes ≡ image_of [] = search rules in
     new_payloads bytes is
 
 pub returns-clause-length : goal.returns-clause-length
 returns-clause-length g c =
-    let is : c.extend_from_slice.new.self.items ≡ image_of [] = search rules in
+    let is : c.push.new.self.items ≡ image_of [] = search rules in
     ap length is

@@ -11,8 +11,8 @@ invariant_of-self-2 g c =
     let frame = c.bytes.result.now in
     let joined : c.extend_from_slice.new.self.items ≡ old ++ frame = search rules in
     let size : c.len-gate.result ≡ length old = search rules in
-    let new = slice_set c.extend_from_slice.new.self.items (c.len-gate.result - 1) 1 in
-    let is : new ≡ slice_set (old ++ frame) (length old - 1) 1 = λ i. slice_set (joined i) (size i - 1) 1 in
+    let new = slice_set c.extend_from_slice.new.self.items (c.len-gate.result - 1) c.open_gate.result in
+    let is : new ≡ slice_set (old ++ frame) (length old - 1) 255 = λ i. slice_set (joined i) (size i - 1) (c.open_gate.ensures i) in
     record {
       shape = next_shape old frame new (payload_of c.args.frame.now) image.shape image.whole c.bytes.ensures.short c.bytes.ensures.bytes is;
       whole = next_whole old frame new (payload_of c.args.frame.now) image.shape image.whole c.bytes.ensures.short c.bytes.ensures.bytes is;
@@ -25,6 +25,6 @@ returns-clause-pushed g c =
     let frame = c.bytes.result.now in
     let joined : c.extend_from_slice.new.self.items ≡ old ++ frame = search rules in
     let size : c.len-gate.result ≡ length old = search rules in
-    let new = slice_set c.extend_from_slice.new.self.items (c.len-gate.result - 1) 1 in
-    let is : new ≡ slice_set (old ++ frame) (length old - 1) 1 = λ i. slice_set (joined i) (size i - 1) 1 in
+    let new = slice_set c.extend_from_slice.new.self.items (c.len-gate.result - 1) c.open_gate.result in
+    let is : new ≡ slice_set (old ++ frame) (length old - 1) 255 = λ i. slice_set (joined i) (size i - 1) (c.open_gate.ensures i) in
     next_payloads old frame new (payload_of c.args.frame.now) image.shape image.whole c.bytes.ensures.short c.bytes.ensures.bytes is

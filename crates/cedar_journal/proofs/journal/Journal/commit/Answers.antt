@@ -1,13 +1,11 @@
-use Rattle.std.proofs.Common.{◌≡◌, inl, ℕ, ◌+◌, List, [], ◌∷◌, ◌++◌, length, take, drop, sym, ◌∙◌, ap, subst, arith}
-use Rattle.cedar_journal.specs.Device.{Only}
-use Rattle.cedar_journal.specs.Records.{payloads_in}
-use Rattle.cedar_journal.specs.Files.{recovered, HasHeader}
+use Rattle.std.proofs.Common.{◌≡◌, inl, ℕ, ◌+◌, List, [], ◌∷◌, length, sym, ◌∙◌, ap, subst}
+use Rattle.cedar_journal.specs.Device.{Holds, Only}
+use Rattle.cedar_journal.specs.Files.{recovered}
+use Rattle.cedar_journal.specs.Formats.{overhead}
 use Rattle.cedar_journal.specs.Frames.{payload_of}
 use Rattle.cedar_journal.specs.Journal.{IsBeforeOrAfter, IsSettled}
 use Rattle.cedar_journal.proofs.Moments.{started, goes_on}
-use Rattle.cedar_journal.proofs.Crash.{gate_crash, opened_file, longer_ends, longer_whole, longer_stands, settled_at}
-use Rattle.cedar_journal.proofs.Fronts.{behind_closed, record_of}
-use Rattle.cedar_journal.proofs.Headers.{either_stands, one_more_stands}
+use Rattle.cedar_journal.proofs.Crash.{gate_crash, longer, longer_ends, longer_front, opened_file, opened_stands, settled_at}
 use Rattle.cedar_journal.proofs.journal.Journal.commit.Goals as goal
 
 pub returns-in_err-write_at-clause-any_moment : goal.returns-in_err-write_at-clause-any_moment
@@ -17,8 +15,7 @@ returns-in_err-write_at-clause-any_moment g c =
     let file = g.D.Device.seen c.args.self.now.device in
     let bytes = payload_of c.args.frame.now in
     let here : (f : List ℕ) → g.D.Device.may_leave c.write_at.new.self f → P f = λ f now.
-    either_stands file f s.header bytes
-    (gate_crash file c.args.self.now.end s.split s.whole bytes _ c.requires.staged c.requires.short _ _ s.durable c.write_at.ensures.crash f now) in
+    gate_crash file c.args.self.now.format c.args.self.now.end s.split s.front bytes c.requires.rest c.requires.staged c.requires.short _ _ s.durable c.write_at.ensures.crash f now in
     let at_start = started g.D.Device.moment g.D.Device.left_since c.args.self.now.device P (λ f left. inl (ap recovered (s.durable f (g.met.D.Device.only_now c.args.self.now.device f left)))) in
     goes_on g.D.Device.moment g.D.Device.left_since c.args.self.now.device c.args.self.now.device c.write_at.new.self P _ at_start c.write_at.ensures.time here
 
@@ -29,8 +26,7 @@ returns-in_err-sync-clause-any_moment g c =
     let file = g.D.Device.seen c.args.self.now.device in
     let bytes = payload_of c.args.frame.now in
     let here : (f : List ℕ) → g.D.Device.may_leave c.write_at.new.self f → P f = λ f now.
-    either_stands file f s.header bytes
-    (gate_crash file c.args.self.now.end s.split s.whole bytes _ c.requires.staged c.requires.short _ _ s.durable c.write_at.ensures.crash f now) in
+    gate_crash file c.args.self.now.format c.args.self.now.end s.split s.front bytes c.requires.rest c.requires.staged c.requires.short _ _ s.durable c.write_at.ensures.crash f now in
     let at_start = started g.D.Device.moment g.D.Device.left_since c.args.self.now.device P (λ f left. inl (ap recovered (s.durable f (g.met.D.Device.only_now c.args.self.now.device f left)))) in
     let opened = goes_on g.D.Device.moment g.D.Device.left_since c.args.self.now.device c.args.self.now.device c.write_at.new.self P _ at_start c.write_at.ensures.time here in
     goes_on g.D.Device.moment g.D.Device.left_since c.args.self.now.device c.write_at.new.self c.sync.new.self P _ opened c.sync.ensures.time (λ f now. here f (c.sync.ensures.crash f now))
@@ -42,8 +38,7 @@ returns-clause-any_moment g c =
     let file = g.D.Device.seen c.args.self.now.device in
     let bytes = payload_of c.args.frame.now in
     let here : (f : List ℕ) → g.D.Device.may_leave c.write_at.new.self f → P f = λ f now.
-    either_stands file f s.header bytes
-    (gate_crash file c.args.self.now.end s.split s.whole bytes _ c.requires.staged c.requires.short _ _ s.durable c.write_at.ensures.crash f now) in
+    gate_crash file c.args.self.now.format c.args.self.now.end s.split s.front bytes c.requires.rest c.requires.staged c.requires.short _ _ s.durable c.write_at.ensures.crash f now in
     let at_start = started g.D.Device.moment g.D.Device.left_since c.args.self.now.device P (λ f left. inl (ap recovered (s.durable f (g.met.D.Device.only_now c.args.self.now.device f left)))) in
     let opened = goes_on g.D.Device.moment g.D.Device.left_since c.args.self.now.device c.args.self.now.device c.write_at.new.self P _ at_start c.write_at.ensures.time here in
     goes_on g.D.Device.moment g.D.Device.left_since c.args.self.now.device c.write_at.new.self c.sync.new.self P _ opened c.sync.ensures.time (λ f now. here f (c.sync.ensures.crash f now))
@@ -53,31 +48,27 @@ returns-clause-acknowledged g c =
     let s = c.requires.settled in
     let seen = g.D.Device.seen in
     let file = seen c.args.self.now.device in
+    let f = c.args.self.now.format in
     let end = c.args.self.now.end in
     let bytes = payload_of c.args.frame.now in
-    let tail = drop (end + 6 + length bytes) file in
-    let is = c.sync.ensures.seen ∙ opened_file file end s.split s.whole bytes tail c.requires.staged c.requires.short (seen c.write_at.new.self) c.in_ok-write_at.ensures.written in
-    one_more_stands file (seen c.sync.new.self) s.header bytes (ap payloads_in is ∙ longer_stands file end s.split s.whole bytes tail c.requires.staged c.requires.short)
+    let gate = subst (λ x. Holds file end (x ∷ []) (seen c.write_at.new.self)) c.open_gate.ensures c.in_ok-write_at.ensures.written in
+    let is = c.sync.ensures.seen ∙ opened_file file f end s.split s.front bytes c.requires.rest c.requires.staged c.requires.short (seen c.write_at.new.self) gate in
+    opened_stands file f end s.split s.front bytes c.requires.rest c.requires.staged c.requires.short (seen c.sync.new.self) is
 
 pub returns-clause-settled : goal.returns-clause-settled
 returns-clause-settled g c =
     let s = c.requires.settled in
     let seen = g.D.Device.seen in
     let file = seen c.args.self.now.device in
+    let f = c.args.self.now.format in
     let end = c.args.self.now.end in
     let bytes = payload_of c.args.frame.now in
-    let tail = drop (end + 6 + length bytes) file in
-    let front = take end file ++ record_of bytes in
+    let tail = c.requires.rest in
     let staged = c.requires.staged in
-    let is = c.sync.ensures.seen ∙ opened_file file end s.split s.whole bytes tail staged c.requires.short (seen c.write_at.new.self) c.in_ok-write_at.ensures.written in
-    let durable = subst (λ f. Only f (g.D.Device.may_leave c.sync.new.self)) (sym c.sync.ensures.seen) c.in_ok-sync.ensures.durable in
-    let whole = longer_whole file end s.split s.whole bytes tail staged c.requires.short in
-    let stands = longer_stands file end s.split s.whole bytes tail staged c.requires.short in
-    let header : HasHeader front = (
-      s.header.0 ++ bytes ∷ [],
-      sym (behind_closed front 0 tail whole (omega arith)) ∙ stands ∙ ap (λ (l : List (List ℕ)). l ++ bytes ∷ []) s.header.1,
-    ) in
-    let same : end + c.len.result ≡ end + (5 + length bytes) = ap (λ n. end + n) c.len.ensures in
-    subst (λ n. IsSettled seen g.D.Device.may_leave c.sync.new.self n) (sym same)
-    (settled_at seen g.D.Device.may_leave c.sync.new.self (end + (5 + length bytes)) front tail
-    (longer_ends file end s.split s.whole bytes tail staged c.requires.short) whole header is durable)
+    let gate = subst (λ x. Holds file end (x ∷ []) (seen c.write_at.new.self)) c.open_gate.ensures c.in_ok-write_at.ensures.written in
+    let is = c.sync.ensures.seen ∙ opened_file file f end s.split s.front bytes tail staged c.requires.short (seen c.write_at.new.self) gate in
+    let durable = subst (λ d. Only d (g.D.Device.may_leave c.sync.new.self)) (sym c.sync.ensures.seen) c.in_ok-sync.ensures.durable in
+    let same : end + c.len.result ≡ end + (overhead f + length bytes) = ap (λ n. end + n) c.len.ensures in
+    subst (λ n. IsSettled seen g.D.Device.may_leave c.sync.new.self f n) (sym same)
+    (settled_at seen g.D.Device.may_leave c.sync.new.self f (end + (overhead f + length bytes)) (longer file f end s.split s.front bytes tail staged c.requires.short) tail
+    (longer_ends file f end s.split s.front bytes tail staged c.requires.short) (longer_front file f end s.split s.front bytes tail staged c.requires.short) is durable)
