@@ -16,12 +16,12 @@ pub replay-requires : goal.replay-requires
 replay-requires g c =
     let file = c.args.bytes.now in
     let records = subst (HasExtent file) c.in-Until.is c.requires.extent in
-    subst (AreUndamaged c.in-Until.field-0) (sym (rest_is 13 file)) records.sound
+    record { sound = subst (AreUndamaged c.in-Until.format) (sym (rest_is 13 file)) records.sound }
 
 pub returns-in-Until-clause-state : goal.returns-in-Until-clause-state
 returns-in-Until-clause-state g c =
     let file = c.args.bytes.now in
-    let f = c.in-Until.field-0 in
+    let f = c.in-Until.format in
     let records = subst (HasExtent file) c.in-Until.is c.requires.extent in
     let same = (λ i. replayed (c.requires.new i) (payloads_read (records_read f (rest_is 13 file i)))) ∙ sym (records_stand file f c.in-Until.field-1 records) in
     subst (λ o. OnOk c.replay.result (o ≡ Some (g.T.Words.state c.replay.new.words))) same c.replay.ensures.state
@@ -29,7 +29,7 @@ returns-in-Until-clause-state g c =
 pub returns-in-Until-clause-cause : goal.returns-in-Until-clause-cause
 returns-in-Until-clause-cause g c =
     let file = c.args.bytes.now in
-    let f = c.in-Until.field-0 in
+    let f = c.in-Until.format in
     let records = subst (HasExtent file) c.in-Until.is c.requires.extent in
     let same : replayed (g.T.Words.state c.args.words.now) (payloads_read (records_read f (take (length file - 13) (drop 13 file)))) ≡ replayed new_state (payloads_read (records_read f (drop 13 file))) = (λ i. replayed (c.requires.new i) (payloads_read (records_read f (rest_is 13 file i)))) in
     load_causes file f c.in-Until.field-1 c.replay.result records (subst (λ o. IfErr c.replay.result (λ e. ReplayCause o e)) same c.replay.ensures.cause)

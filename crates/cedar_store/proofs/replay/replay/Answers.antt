@@ -6,7 +6,7 @@ use Rattle.cedar_store.proofs.Reading.{ended, next_sound, one_turn, stopped}
 use Rattle.cedar_store.proofs.replay.replay.Goals as goal
 
 pub loop-payload-init : goal.loop-payload-init
-loop-payload-init g c = record { within = omega arith; sound = c.requires; same = refl }
+loop-payload-init g c = record { within = omega arith; sound = c.requires.sound; same = refl }
 
 pub loop-payload-preserved : goal.loop-payload-preserved
 loop-payload-preserved g c =
