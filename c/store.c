@@ -1,32 +1,11 @@
 /* Stores: dictionaries whose changes are in a file before they are acknowledged. The proved library says what is to be done to the file,
  * step by step; this part does it. It is tested (tests/c/store.c, tests/c/openings.c) and not proved. cedar.h says what the calls do. */
-#include "cedar.h"
-#include "disk.h"
-#include "plan.h"
+#include "store.h"
 
 #include <errno.h>
 #include <stdlib.h>
-#include <string.h>
 
-/* No record is longer. */
-static const size_t LONGEST = UINT32_MAX;
-
-struct cedar_store_file {
-    disk_file disk;
-    bool is_to_read;
-    bool has_failed;
-    size_t end;      /* where its records end */
-    uint8_t *bytes;  /* those of a plan */
-    size_t room;
-    size_t every;    /* how many changes go to the disk together, or 0 */
-    size_t waiting;  /* how many wait for that */
-    size_t filled;   /* how many bytes their records have, behind the head of a group */
-};
-
-/* ---- plans */
-
-/* Does what a plan says, up to the first step that fails. */
-static bool carry_out(const disk_file *disk, const cedar_plan *plan, const uint8_t *bytes) {
+bool store_carry_out(const disk_file *disk, const cedar_plan *plan, const uint8_t *bytes) {
     for (size_t i = 0; i < plan->count; i++) {
         const cedar_step *step = &plan->steps[i];
         bool is_cut = step->kind == CEDAR_PLAN_CUT;
@@ -45,7 +24,7 @@ static uint32_t make_ready(cedar_store *s, bool is_reduced) {
     cedar_plan plan;
     uint32_t status = disk_read(&file->disk, &bytes, &length);
     if (status == CEDAR_OK) status = cedar_plan_open(&s->dictionary, is_reduced, bytes, length, &file->end, buffer, sizeof buffer, &plan);
-    if (status == CEDAR_OK && !file->is_to_read && !carry_out(&file->disk, &plan, buffer)) status = CEDAR_STORE_DEVICE;
+    if (status == CEDAR_OK && !file->is_to_read && !store_carry_out(&file->disk, &plan, buffer)) status = CEDAR_STORE_DEVICE;
     int cause = errno;
     free(bytes);
     errno = cause;
@@ -109,27 +88,25 @@ size_t cedar_store_waiting(const cedar_store *s) {
 
 /* ---- changes on the disk */
 
-/* Acknowledges what a plan does, or says that the device has failed. */
-static uint32_t acknowledge(struct cedar_store_file *file, const cedar_plan *plan) {
-    if (carry_out(&file->disk, plan, file->bytes)) return CEDAR_OK;
+uint32_t store_acknowledge(struct cedar_store_file *file, const cedar_plan *plan) {
+    if (store_carry_out(&file->disk, plan, file->bytes)) return CEDAR_OK;
     file->has_failed = true;
     return CEDAR_STORE_DEVICE;
 }
 
-/* Puts the changes that wait on the disk, as one record. */
-static uint32_t write_waiting(struct cedar_store_file *file) {
+uint32_t store_write_waiting(struct cedar_store_file *file) {
     cedar_plan plan;
     if (file->waiting == 0) return CEDAR_OK;
     if (disk_is_inherited(&file->disk)) return CEDAR_STORE_LOCKED;
     uint32_t status = cedar_plan_group(file->filled, &file->end, file->bytes, file->room, &plan);
     file->waiting = 0;
     file->filled = 0;
-    return status == CEDAR_OK ? acknowledge(file, &plan) : status;
+    return status == CEDAR_OK ? store_acknowledge(file, &plan) : status;
 }
 
 static uint32_t sync_store(struct cedar_store_file *file) {
     if (file == NULL) return CEDAR_IS_CLOSED;
-    return file->has_failed ? CEDAR_STORE_FAILED : write_waiting(file);
+    return file->has_failed ? CEDAR_STORE_FAILED : store_write_waiting(file);
 }
 
 uint32_t cedar_store_sync(cedar_store *s) {
@@ -162,8 +139,7 @@ static uint8_t *place_of(const struct cedar_store_file *file, size_t *room) {
     return file->bytes + before;
 }
 
-/* Makes room for so many bytes. */
-static uint32_t grow(struct cedar_store_file *file, size_t room) {
+uint32_t store_grow(struct cedar_store_file *file, size_t room) {
     if (room <= file->room) return CEDAR_OK;
     size_t most = file->every == 1 || file->room > SIZE_MAX / 2 ? 0 : 2 * file->room;
     if (room < most) room = most;
@@ -174,18 +150,23 @@ static uint32_t grow(struct cedar_store_file *file, size_t room) {
     return CEDAR_OK;
 }
 
-/* Whether a store takes changes, and has room for the record of one with a key of so many bytes. A longer one is refused without. */
-static uint32_t prepare(struct cedar_store_file *file, size_t length) {
+uint32_t store_takes_changes(const struct cedar_store_file *file) {
     if (file == NULL) return CEDAR_IS_CLOSED;
     if (file->is_to_read) return CEDAR_STORE_READ_ONLY;
-    if (file->has_failed) return CEDAR_STORE_FAILED;
+    return file->has_failed ? CEDAR_STORE_FAILED : CEDAR_OK;
+}
+
+/* Whether a store takes changes, and has room for the record of one with a key of so many bytes. A longer one is refused without. */
+static uint32_t prepare(struct cedar_store_file *file, size_t length) {
+    uint32_t status = store_takes_changes(file);
+    if (status != CEDAR_OK) return status;
     /* One that waits is looked at when it is written. */
     if (file->every == 1 && disk_is_inherited(&file->disk)) return CEDAR_STORE_LOCKED;
-    size_t room = length > LONGEST ? CEDAR_PLAN_CHANGE : length + CEDAR_PLAN_CHANGE;
-    if (file->every == 1) return grow(file, room);
+    size_t room = length > LONGEST_RECORD ? CEDAR_PLAN_CHANGE : length + CEDAR_PLAN_CHANGE;
+    if (file->every == 1) return store_grow(file, room);
     /* The record of a group is no longer than others are. */
     room += CEDAR_PLAN_GROUP + file->filled;
-    return room > LONGEST ? CEDAR_STORE_TOO_LONG : grow(file, room);
+    return room > LONGEST_RECORD ? CEDAR_STORE_TOO_LONG : store_grow(file, room);
 }
 
 /* Acknowledges a change that the dictionary has: it is on the disk then, or it waits. Its plan's first step writes all of its record but
@@ -193,11 +174,11 @@ static uint32_t prepare(struct cedar_store_file *file, size_t length) {
 static uint32_t take_up(struct cedar_store_file *file, size_t end, const cedar_plan *plan) {
     if (file->every == 1) {
         file->end = end;
-        return acknowledge(file, plan);
+        return store_acknowledge(file, plan);
     }
     file->filled += plan->steps[0].length;
     file->waiting++;
-    return file->every != 0 && file->waiting >= file->every ? write_waiting(file) : CEDAR_OK;
+    return file->every != 0 && file->waiting >= file->every ? store_write_waiting(file) : CEDAR_OK;
 }
 
 uint32_t cedar_store_insert(cedar_store *s, const uint8_t *key, size_t length, int32_t value, bool *held, int32_t *before,

@@ -515,6 +515,24 @@ uint32_t cedar_store_insert(cedar_store *s, const uint8_t *key, size_t length, i
  * cedar_store_update, except that no pair has a fault and no slots are needed. */
 uint32_t cedar_store_erase(cedar_store *s, const uint8_t *key, size_t length, bool *held);
 
+/* A change of a batch: a value is put at a key, or if is_erasure the key is removed. */
+typedef struct cedar_change {
+    const uint8_t *key;
+    size_t length;
+    int32_t value;
+    bool is_erasure;
+} cedar_change;
+
+/* Makes changes as one: all of them, or none. To drop them, don't make this call. They leave what they would leave one after another: of
+ * each key the last one counts. Their record goes to the disk at once, after that of changes that wait, whatever cedar_store_sync_every
+ * says, and a crash at any moment leaves a file with all of them or with none. It costs two syncs, and sorts the keys.
+ *
+ * After any error but CEDAR_STORE_DEVICE none is made, in the dictionary or in the file, though changes that waited may be on the disk by
+ * then. *refused is the index of the first change whose pair has a fault, and *position that of a byte 0 in its key; and if memory or slots
+ * run out at an update, *refused is the index of that. Both may be null. Otherwise the errors are those of cedar_store_update;
+ * CEDAR_STORE_TOO_LONG says that all changes together have too many bytes for a record. */
+uint32_t cedar_store_apply(cedar_store *s, const cedar_change *changes, size_t count, size_t *refused, size_t *position);
+
 /* Sets how many changes go to the disk together from now on. With 1, the setting at first, each change is on the disk before it is
  * acknowledged. With a larger number, CEDAR_OK says that the dictionary has the change, and the change waits: the last of so many puts all
  * of them on the disk. With 0 they wait for cedar_store_sync. A crash takes away those that wait, all of them or none, and no others. Their

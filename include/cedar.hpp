@@ -584,6 +584,24 @@ private:
     friend class store;
 };
 
+/// A change of a batch: a value is put at a key, or without a value the key is removed.
+struct change {
+    std::string_view key;
+    std::optional<std::int32_t> value;
+};
+
+/// A batch that was refused since one of its changes has a fault.
+class batch_error : public error {
+public:
+    batch_error(std::uint32_t status, std::optional<std::size_t> position, std::size_t index) : error(status, position), index_(index) {}
+
+    /// The index of the change.
+    std::size_t index() const noexcept { return index_; }
+
+private:
+    std::size_t index_;
+};
+
 /// How a store is opened: a missing file is created; it has to be there; it has to be missing; or only to look at the store, beside
 /// whoever changes it, without a lock, and without a write.
 enum class opening { created, existing, fresh, to_read };
@@ -648,6 +666,20 @@ public:
         bool held = false;
         check(cedar_store_erase(&inside_, detail::bytes(key), key.size(), &held), 0);
         return held;
+    }
+
+    /// Makes changes as one: all of them, or none. To drop them, don't make this call. Of each key the last change counts. They are on the
+    /// disk when it returns, whatever sync_every says, and a crash at any moment leaves all of them or none. If a pair has a fault, it
+    /// throws batch_error. Otherwise it throws as update does.
+    void apply(const std::vector<change> &changes) {
+        std::vector<cedar_change> listed;
+        listed.reserve(changes.size() + 1); // so that data() isn't null
+        for (const change &one : changes) listed.push_back({detail::bytes(one.key), one.key.size(), one.value.value_or(0), !one.value});
+        std::size_t refused = 0, position = 0;
+        const std::uint32_t status = cedar_store_apply(&inside_, listed.data(), listed.size(), &refused, &position);
+        if (status == CEDAR_NUL_BYTE) throw batch_error(status, position, refused);
+        if (status == CEDAR_EMPTY_KEY || status == CEDAR_INVALID_VALUE) throw batch_error(status, std::nullopt, refused);
+        check(status, 0);
     }
 
     /// Sets how many changes go to the disk together from now on. With 1, the setting at first, each is there before it returns. With more,

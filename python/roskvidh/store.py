@@ -2,7 +2,7 @@
 
 import os
 from contextlib import contextmanager
-from typing import Any, Iterable, Iterator, Literal, TypeVar, Union, overload
+from typing import Any, Iterable, Iterator, List, Literal, Optional, Tuple, TypeVar, Union, overload
 
 from . import _core
 from .cedar import Cedar, Pairs, _pairs_of, _restore
@@ -30,10 +30,10 @@ class Store(Words[K]):
     it was opened, and each change of it raises CedarError with the status 48. A forked child writes nothing: its changes raise CedarError.
 
     With sync_every=n a change waits until n of them go to the disk as one; with 0 it waits for sync(). A crash takes away those that wait,
-    all of them or none, and no others. batch() does so for the changes of a block.
+    all of them or none, and no others. batch() makes the changes of a block as one, or none of them.
 
-    A call on the file that fails raises OSError. From then on each change raises CedarError and changes nothing, and look-ups go on; open the file
-    again.
+    A call on the file that fails raises OSError. From then on each change raises CedarError and changes nothing, and look-ups go on; open
+    the file again.
 
     >>> import os, tempfile
     >>> folder = tempfile.TemporaryDirectory()
@@ -88,7 +88,7 @@ class Store(Words[K]):
 
     @property
     def waiting(self) -> int:
-        """How many changes wait for the disk."""
+        """How many changes wait for the disk, or for the ends of this thread's blocks."""
         return self._waiting()
 
     def sync(self) -> None:
@@ -97,27 +97,38 @@ class Store(Words[K]):
 
     @contextmanager
     def batch(self) -> Iterator[None]:
-        """Puts the changes of a block on the disk as one when the block ends, also by an exception: a crash leaves all of them or none.
+        """Makes the changes of a block as one when it ends: they are on the disk then, whatever sync_every says, and a crash leaves all of
+        them or none. If the block ends by an exception none of them is made.
+
+        Within the block its thread sees its own changes by calls of one key: s[key], key in s, get, pop, setdefault, popitem. All other
+        calls, as len, iterations and searches in texts, show the store as it was before the block, and so do all calls of other threads.
+        What other threads change meanwhile isn't of the block. A block in a block is a part of it: what it changes is made with the outer
+        block's changes, or dropped by itself. A block is one thread's: with asyncio don't await within it.
 
         >>> import os, tempfile
         >>> with tempfile.TemporaryDirectory() as folder, Store(os.path.join(folder, "words.store")) as s:
         ...     with s.batch():
         ...         s[b"net"] = 7
         ...         s[b"nets"] = 8
-        ...         s.waiting
-        ...     s.waiting
-        2
-        0
+        ...         s.waiting, s[b"net"], len(s)
+        ...     s.waiting, len(s)
+        ...     try:
+        ...         with s.batch():
+        ...             del s[b"net"]
+        ...             raise KeyError
+        ...     except KeyError:
+        ...         dict(s)
+        (2, 7, 0)
+        (0, 2)
+        {b'net': 7, b'nets': 8}
         """
-        before = self.sync_every
-        if before == 0:  # the changes of a batch in a batch are of the outer one
-            yield
-            return
-        self.sync_every = 0
+        block = self._begin_block()
         try:
             yield
-        finally:
-            self.sync_every = before
+        except BaseException:
+            self._end_block(block, False)
+            raise
+        self._end_block(block, True)
 
     def close(self) -> None:
         """Puts the changes that wait on the disk, and closes the file. Does nothing if the store is closed."""
@@ -133,7 +144,7 @@ class Store(Words[K]):
         return self._has_failed()
 
     def update(self, pairs: Pairs[K] = (), /, **keywords: int) -> None:  # type: ignore[override]
-        """Stores the pairs of a mapping or of an iterable as a batch: if one fails, those before it are stored."""
+        """Stores the pairs of a mapping or of an iterable as a batch: the last value of a key counts. If one is refused, none is stored."""
         with self.batch():
             for key, value in _pairs_of(pairs):
                 self[key] = value
@@ -143,16 +154,29 @@ class Store(Words[K]):
     def clear(self) -> None:
         """Removes all keys, as a batch."""
         with self.batch():
-            for key in list(self):
-                del self[key]
+            for key in self._held_keys():
+                self.pop(key, None)
 
     def erase_prefix(self, prefix: K, /) -> int:
         """Removes each key that begins with a prefix, as a batch, and returns how many there were."""
-        keys = list(self.keys(prefix))
         with self.batch():
-            for key in keys:
-                del self[key]
-        return len(keys)
+            return sum(self.pop(key, None) is not None for key in self._held_keys(prefix))
+
+    def popitem(self) -> Tuple[K, int]:
+        """Removes some key and returns it with its value. An empty store raises KeyError."""
+        if not self._is_in_block():
+            return super().popitem()
+        for key in self._held_keys():
+            return key, self.pop(key)
+        raise KeyError("popitem(): dictionary is empty")
+
+    def _held_keys(self, prefix: Optional[K] = None) -> List[K]:
+        """The keys that begin with a prefix, as the thread sees them in its blocks."""
+        held = list(self if prefix is None else self.keys(prefix))
+        if not self._is_in_block():
+            return held
+        begun = [key for key in self._block_keys() if prefix is None or key.startswith(prefix)]
+        return [key for key in held if key in self] + begun
 
     def erase_all(self, keys: Iterable[K], /) -> int:
         """Removes the keys of an iterable, as a batch, and returns how many of them were held."""

@@ -29,6 +29,7 @@ typedef struct Core {
     int32_t max_trial;
     size_t keys_changed;      /* how often a key came or went: an iteration ends by an error then */
     size_t values_changed;    /* how often a key's value was replaced */
+    PyObject *blocks;         /* of blocks.c; NULL where no thread is in a block */
 } Core;
 
 /* The flags of the types. Headers from 3.10 on leave the last one out of the default ones, and Python 3.8 then frees what it still uses
@@ -84,6 +85,18 @@ PyObject *core_get(Core *core, PyObject *arguments);
 PyObject *core_pop(Core *core, PyObject *arguments);
 PyObject *core_setdefault(Core *core, PyObject *arguments);
 int key_erase(Core *core, const uint8_t *at, size_t length);
+
+/* blocks.c: changes of a store that are made as one. What the first two answer is an error where it is below 0. */
+enum { BLOCK_SILENT = 2 };
+int block_is_open(Core *core);
+int block_find(Core *core, const uint8_t *at, size_t length, int32_t *value);
+int block_put(Core *core, const Span *span, int32_t value);
+int block_erase(Core *core, const uint8_t *at, size_t length);
+Py_ssize_t block_count(Core *core);
+PyObject *core_begin_block(Core *core, PyObject *nothing);
+PyObject *core_end_block(Core *core, PyObject *arguments);
+PyObject *core_block_keys(Core *core, PyObject *nothing);
+PyObject *core_is_in_block(Core *core, PyObject *nothing);
 
 /* gather.c: keys with their values, in memory of their own. */
 

@@ -3,11 +3,17 @@
 
 #include <errno.h>
 
+/* Whether a key is held, and its value: a thread sees what it has changed in its blocks. The caller has seen that it may go ahead. */
+static int look_up(Core *core, const uint8_t *at, size_t length, int32_t *value) {
+    int found = core->blocks ? block_find(core, at, length, value) : BLOCK_SILENT;
+    return found == BLOCK_SILENT ? cedar_get(&core->store.dictionary, at, length, value) : found;
+}
+
 static int find(Core *core, PyObject *key, int32_t *value) {
     Span span;
     if (span_take(core, key, &span) < 0) return -1;
     int found = core_ready(core);
-    if (found == 0) found = cedar_get(&core->store.dictionary, span.at, span.length, value);
+    if (found == 0) found = look_up(core, span.at, span.length, value);
     Py_DECREF(span.owner);
     return found;
 }
@@ -69,6 +75,8 @@ static int store(Core *core, const Span *span, int32_t value) {
     bool held = false;
     size_t position = 0;
     uint32_t status;
+    int in_block = core->blocks ? block_is_open(core) : 0;
+    if (in_block != 0) return in_block < 0 ? -1 : block_put(core, span, value);
     if (insert(core, span, value, &held, &position, &status) < 0) return -1;
     if (status == CEDAR_NUL_BYTE) return fail_at(status, "byte", position);
     /* The dictionary has the change also where the device has failed. */
@@ -78,11 +86,19 @@ static int store(Core *core, const Span *span, int32_t value) {
     return status == CEDAR_OK ? 0 : fail_with(status);
 }
 
+static int erase_in_block(Core *core, const uint8_t *at, size_t length) {
+    int32_t unwanted;
+    int held = look_up(core, at, length, &unwanted);
+    return held > 0 && block_erase(core, at, length) < 0 ? -1 : held;
+}
+
 /* Removes a key, and says whether it was held. The caller has seen that it may go ahead. */
 int key_erase(Core *core, const uint8_t *at, size_t length) {
     bool held = false;
     uint32_t status = CEDAR_OK;
     Turn turn;
+    int in_block = core->blocks ? block_is_open(core) : 0;
+    if (in_block != 0) return in_block < 0 ? -1 : erase_in_block(core, at, length);
     if (!core->store.file) {
         held = cedar_erase(&core->store.dictionary, at, length);
     } else {
@@ -122,7 +138,7 @@ PyObject *core_pop(Core *core, PyObject *arguments) {
     int32_t value;
     if (span_take(core, key, &span) < 0) return NULL;
     int held = core_ready(core);
-    if (held == 0) held = cedar_get(&core->store.dictionary, span.at, span.length, &value);
+    if (held == 0) held = look_up(core, span.at, span.length, &value);
     if (held > 0) held = key_erase(core, span.at, span.length);
     Py_DECREF(span.owner);
     if (held < 0) return NULL;
@@ -139,7 +155,7 @@ PyObject *core_setdefault(Core *core, PyObject *arguments) {
     int32_t value, number;
     if (value_take(otherwise, &number) < 0 || span_take(core, key, &span) < 0) return NULL;
     int held = core_ready(core);
-    if (held == 0) held = cedar_get(&core->store.dictionary, span.at, span.length, &value);
+    if (held == 0) held = look_up(core, span.at, span.length, &value);
     if (held == 0) {
         value = number;
         if (store(core, &span, number) < 0) held = -1;

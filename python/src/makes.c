@@ -423,8 +423,8 @@ PyObject *core_sync_every(Core *core, PyObject *given) {
 
 PyObject *core_waiting(Core *core, PyObject *nothing) {
     (void)nothing;
-    if (core_ready(core) < 0) return NULL;
-    return PyLong_FromSize_t(cedar_store_waiting(&core->store));
+    Py_ssize_t in_blocks = core_ready(core) < 0 ? -1 : block_count(core);
+    return in_blocks < 0 ? NULL : PyLong_FromSize_t(cedar_store_waiting(&core->store) + (size_t)in_blocks);
 }
 
 PyObject *core_has_failed(Core *core, PyObject *nothing) {

@@ -18,6 +18,7 @@ static PyObject *core_make(PyTypeObject *type, PyObject *arguments, PyObject *ke
 /* Nobody has the object any more. It is in use only in a forked child whose parent was in a call; then its memory is left alone. */
 static void core_dealloc(Core *core) {
     PyTypeObject *type = Py_TYPE(core);
+    Py_CLEAR(core->blocks);
     if (!core->in_use) {
         cedar_store_close(&core->store);
         if (core->turn) PyThread_free_lock(core->turn);
@@ -155,6 +156,10 @@ static PyMethodDef core_methods[] = {
     {"_sync", (PyCFunction)core_sync, METH_NOARGS, NULL},
     {"_sync_every", (PyCFunction)core_sync_every, METH_O, NULL},
     {"_waiting", (PyCFunction)core_waiting, METH_NOARGS, NULL},
+    {"_begin_block", (PyCFunction)core_begin_block, METH_NOARGS, NULL},
+    {"_end_block", (PyCFunction)core_end_block, METH_VARARGS, NULL},
+    {"_block_keys", (PyCFunction)core_block_keys, METH_NOARGS, NULL},
+    {"_is_in_block", (PyCFunction)core_is_in_block, METH_NOARGS, NULL},
     {"_dump", (PyCFunction)core_dump, METH_O, NULL},
     {"_update", (PyCFunction)core_update, METH_O, NULL},
     {"_walk", (PyCFunction)core_walk, METH_VARARGS, NULL},

@@ -68,6 +68,26 @@ except CedarError as refused:
 """
 
 
+# Changes more in a block than the file may have.
+BLOCK_FAILS = """
+import resource, signal, sys
+from roskvidh import CedarError, Store
+signal.signal(signal.SIGXFSZ, signal.SIG_IGN)
+s = Store(sys.argv[1])
+s[b"net"] = 7
+resource.setrlimit(resource.RLIMIT_FSIZE, (200, 200))
+try:
+    with s.batch():
+        for number in range(100):
+            s[b"%d" % number] = number
+except OSError:
+    try:
+        s[b"x"] = 1
+    except CedarError as refused:
+        print(s.failed, refused.status)
+"""
+
+
 class Stores(unittest.TestCase):
     def setUp(self):
         folder = tempfile.TemporaryDirectory()
@@ -108,7 +128,8 @@ class Stores(unittest.TestCase):
             self.assertEqual((s.erase_prefix(b"ne"), dict(s)), (2, {b"ten": MAX_VALUE}))
             with self.assertRaises(CedarError):
                 s.update([(b"a", 1), (b"", 2), (b"b", 3)])
-            self.assertEqual(dict(s), {b"a": 1, b"ten": MAX_VALUE})
+            self.assertEqual(dict(s), {b"ten": MAX_VALUE})
+            s[b"a"] = 1
             self.assertEqual((type(s.copy()), s.copy() == s, s | {b"b": 2}), (Cedar, True, {b"a": 1, b"b": 2, b"ten": MAX_VALUE}))
             self.assertEqual(({b"b": 2} | s, repr(s)[:7]), ({b"a": 1, b"b": 2, b"ten": MAX_VALUE}, "Store('"))
             s.shrink()
@@ -140,14 +161,14 @@ class Stores(unittest.TestCase):
                 with s.batch():
                     s[b"c"] = 3
                 s.update({b"d": 4})
-                self.assertEqual((s.waiting, s.sync_every), (3, 0))
-            self.assertEqual((s.waiting, s.sync_every), (0, 3))
-            with self.assertRaises(KeyError):
-                with s.batch():
-                    s[b"e"] = 5
-                    del s[b"x"]
-            self.assertEqual((s.waiting, s.sync_every), (0, 3))
+                self.assertEqual((s.waiting, s.sync_every, len(s)), (3, 3, 2))
+            self.assertEqual((s.waiting, s.sync_every, len(s)), (0, 3, 5))
             s.sync_every = 0
+            s[b"w"] = 9
+            with s.batch():
+                s[b"e"] = 5
+            with Store(self.path, mode="r") as reader:
+                self.assertEqual((s.waiting, dict(reader)), (0, dict(s)))
             s[b"f"] = 6
             with self.assertRaises(OverflowError):
                 s.sync_every = -1
@@ -160,7 +181,119 @@ class Stores(unittest.TestCase):
             s.waiting
         s.close()
         with Store(self.path) as s:
-            self.assertEqual(dict(s), {b"nets": 8, b"a": 1, b"b": 2, b"c": 3, b"d": 4, b"e": 5, b"f": 6})
+            self.assertEqual(dict(s), {b"nets": 8, b"a": 1, b"b": 2, b"c": 3, b"d": 4, b"e": 5, b"f": 6, b"w": 9})
+
+    def test_dropped(self):
+        """A block that ends by an exception leaves nothing, in the mapping and in the file."""
+        with Store(self.path) as s:
+            s.update({b"net": 7, b"nets": 8})
+            data = self.path.read_bytes()
+            for error in (KeyError, ValueError, KeyboardInterrupt, GeneratorExit):
+                with self.assertRaises(error):
+                    with s.batch():
+                        s[b"a"] = 1
+                        s[b"net"] = 9
+                        del s[b"nets"]
+                        s.update({b"b": 2})
+                        self.assertEqual((s[b"net"], b"nets" in s, b"a" in s, s.get(b"b"), s.waiting, len(s)), (9, False, True, 2, 4, 2))
+                        raise error
+                self.assertEqual((dict(s), s.waiting, self.path.read_bytes()), ({b"net": 7, b"nets": 8}, 0, data))
+            for key, value, status in [(b"", 1, 4), (b"a\0", 1, 5), (b"a", -1, 6)]:
+                with self.assertRaises(CedarError) as caught:
+                    with s.batch():
+                        s[b"x"] = 1
+                        s[key] = value
+                self.assertEqual((caught.exception.status, dict(s), self.path.read_bytes()), (status, {b"net": 7, b"nets": 8}, data))
+            with self.assertRaises(ValueError):
+                with s.batch():
+                    s[b"a"] = 1
+                    s.close()
+        with Store(self.path) as s:
+            self.assertEqual(dict(s), {b"net": 7, b"nets": 8})
+
+    def test_blocks(self):
+        """A block sees what it has changed by calls of one key, and a block in a block is dropped by itself."""
+        for text in (False, True):
+            self.path.unlink(missing_ok=True)
+            net, nets, ten, a = ("net", "nets", "ten", "aß") if text else (b"net", b"nets", b"ten", b"a")
+            with Store(self.path, text=text) as s:
+                s.update({net: 7, ten: 9})
+                with s.batch():
+                    self.assertEqual((s.pop(net), s.pop(net, None), s.setdefault(net, 1), s.setdefault(net, 2), s[net]), (7, None, 1, 1, 1))
+                    with self.assertRaises(KeyError):
+                        del s[nets]
+                    s[nets] = 2
+                    with self.assertRaises(RuntimeError):
+                        with s.batch():
+                            s[a] = 5
+                            del s[nets]
+                            self.assertEqual((s[a], nets in s, s.get(nets, 3)), (5, False, 3))
+                            raise RuntimeError
+                    self.assertEqual((a in s, s[nets], dict(s.items())), (False, 2, {net: 7, ten: 9}))
+                    with s.batch():
+                        s[a] = 6
+                    self.assertEqual(s[a], 6)
+                self.assertEqual(dict(s), {a: 6, net: 1, nets: 2, ten: 9})
+                with s.batch():
+                    s[net + net] = 3
+                    self.assertEqual((s.erase_prefix(net), net in s, net + net in s, s.erase_all([ten, ten, net])), (3, False, False, 1))
+                    self.assertEqual((s.popitem(), s.setdefault(ten, 4)), ((a, 6), 4))
+                self.assertEqual(dict(s), {ten: 4})
+                with s.batch():
+                    s[a] = 1
+                    s.clear()
+                    s[net] = 2
+                    self.assertEqual(s.popitem(), (net, 2))
+                    with self.assertRaises(KeyError):
+                        s.popitem()
+                self.assertEqual(dict(s), {})
+
+    def test_blocks_of_threads(self):
+        """What another thread changes isn't of the block: it is on the disk at once, and stays where the block is dropped."""
+        with Store(self.path) as s:
+            s[b"net"] = 7
+            def change():
+                s[b"net"] = 8
+                s[b"ten"] = 9
+                with s.batch():
+                    s[b"nor"] = 1
+                with Store(self.path, mode="r") as reader:
+                    seen.append((s.waiting, s.get(b"a"), dict(reader)))
+            for error in (None, RuntimeError):
+                seen = []
+                try:
+                    with s.batch():
+                        s[b"a"] = 1
+                        thread = threading.Thread(target=change)
+                        thread.start()
+                        thread.join()
+                        self.assertEqual(seen, [(0, None, {b"net": 8, b"nor": 1, b"ten": 9})])
+                        self.assertEqual((s[b"a"], s[b"net"], s.waiting), (1, 8, 1))
+                        if error is None:
+                            del s[b"a"]
+                        else:
+                            raise error
+                except RuntimeError:
+                    pass
+                self.assertEqual(dict(s), {b"net": 8, b"nor": 1, b"ten": 9})
+            # A block that another thread ends.
+            def block():
+                with s.batch():
+                    s[b"b"] = 2
+                    yield
+            begun = block()
+            next(begun)
+            thread = threading.Thread(target=begun.close)
+            thread.start()
+            thread.join()
+            s[b"c"] = 3
+            self.assertEqual((s.waiting, b"b" in s, s[b"c"]), (0, False, 3))
+
+    def test_a_block_on_a_disk_that_fails(self):
+        run = subprocess.run([sys.executable, "-c", BLOCK_FAILS, str(self.path)], stdout=subprocess.PIPE, text=True, check=True)
+        self.assertEqual(run.stdout, "True 43\n")
+        with Store(self.path) as s:
+            self.assertEqual(dict(s), {b"net": 7})
 
     def test_errors(self):
         with Store(self.path) as s:

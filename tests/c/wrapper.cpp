@@ -476,6 +476,17 @@ void stores(layout kind, const std::string &folder) {
         has_status(CEDAR_STORE_LOCKED, [&] { roskvidh::store(path, kind); });
         s.sync();
         CHECK(s.waiting() == 0);
+        s.apply({{"x", 1}, {"nets", 5}, {"network", std::nullopt}, {"x", std::nullopt}, {"none", std::nullopt}});
+        CHECK(!s.words().get("x") && !s.words().get("network") && s.words().get("nets") == 5 && s.words().size() == 1000);
+        s.apply({});
+        try {
+            s.apply({{"a", 1}, {"nets", std::nullopt}, {std::string_view("ne\0t", 4), 2}});
+            CHECK(!"a fault was refused");
+        } catch (const roskvidh::batch_error &e) {
+            CHECK(e.status() == CEDAR_NUL_BYTE && e.position() == 2u && e.index() == 2);
+        }
+        lacks_memory([&] { s.apply({{"net", 1}, {"k2", std::nullopt}, {"nets", 2}}); });
+        CHECK(!s.words().get("net") && s.words().get("k2") == 2 && s.words().get("nets") == 5 && s.words().size() == 1000);
         s.sync_every(0);
         s.update("y", 1);
         CHECK(s.erase("y") && s.waiting() == 2);

@@ -1,0 +1,40 @@
+/* What the parts of a store share: c/store.c has its opening and single changes, c/batch.c changes that are made as one. No program sees
+ * this: build-c keeps it inside. */
+#ifndef ROSKVIDH_STORE_H
+#define ROSKVIDH_STORE_H
+
+#include "cedar.h"
+#include "disk.h"
+#include "plan.h"
+
+/* No record is longer. */
+#define LONGEST_RECORD ((size_t)UINT32_MAX)
+
+struct cedar_store_file {
+    disk_file disk;
+    bool is_to_read;
+    bool has_failed;
+    size_t end;      /* where its records end */
+    uint8_t *bytes;  /* those of a plan */
+    size_t room;
+    size_t every;    /* how many changes go to the disk together, or 0 */
+    size_t waiting;  /* how many wait for that */
+    size_t filled;   /* how many bytes their records have, behind the head of a group */
+};
+
+/* Does what a plan says, up to the first step that fails. */
+bool store_carry_out(const disk_file *disk, const cedar_plan *plan, const uint8_t *bytes);
+
+/* Whether a store takes changes: CEDAR_OK, or why it doesn't. */
+uint32_t store_takes_changes(const struct cedar_store_file *file);
+
+/* Makes room for the bytes of a plan. */
+uint32_t store_grow(struct cedar_store_file *file, size_t room);
+
+/* Puts the changes that wait on the disk, as one record. */
+uint32_t store_write_waiting(struct cedar_store_file *file);
+
+/* Acknowledges what a plan does, or says that the device has failed. */
+uint32_t store_acknowledge(struct cedar_store_file *file, const cedar_plan *plan);
+
+#endif

@@ -1,0 +1,196 @@
+/* The blocks `with store.batch():`. What a thread changes within one is noted here, and made as one when the block ends. Other threads
+ * don't see it meanwhile, and what they change goes its own way.
+ *
+ * `blocks` of a store has a list for each thread that is in a block, with a layer for each of its blocks, the innermost last. A layer is a
+ * dict from keys to values, or to None where a key is taken out. */
+#include "core.h"
+
+#include <errno.h>
+#include <stdlib.h>
+#include <string.h>
+
+/* The layers of this thread; NULL where it is in no block, or with an error. */
+static PyObject *layers_of(Core *core) {
+    if (!core->blocks) return NULL;
+    PyObject *thread = PyLong_FromUnsignedLong(PyThread_get_thread_ident());
+    if (!thread) return NULL;
+    PyObject *layers = PyDict_GetItemWithError(core->blocks, thread);
+    Py_DECREF(thread);
+    return layers;
+}
+
+/* Whether this thread is in a block. */
+int block_is_open(Core *core) {
+    if (layers_of(core)) return 1;
+    return PyErr_Occurred() ? -1 : 0;
+}
+
+/* What this thread's blocks say of a key: BLOCK_SILENT, or whether it is held, and its value. */
+int block_find(Core *core, const uint8_t *at, size_t length, int32_t *value) {
+    PyObject *layers = layers_of(core), *found = NULL;
+    if (!layers) return PyErr_Occurred() ? -1 : BLOCK_SILENT;
+    PyObject *key = PyBytes_FromStringAndSize((const char *)at, (Py_ssize_t)length);
+    if (!key) return -1;
+    for (Py_ssize_t i = PyList_Size(layers); !found && i > 0; i--) {
+        found = PyDict_GetItemWithError(PyList_GetItem(layers, i - 1), key);
+        if (!found && PyErr_Occurred()) break;
+    }
+    Py_DECREF(key);
+    if (!found) return PyErr_Occurred() ? -1 : BLOCK_SILENT;
+    if (found == Py_None) return 0;
+    *value = (int32_t)PyLong_AsLong(found);
+    return 1;
+}
+
+static int note(Core *core, const uint8_t *at, size_t length, PyObject *value) {
+    PyObject *layers = layers_of(core), *key = PyBytes_FromStringAndSize((const char *)at, (Py_ssize_t)length);
+    int done = -1;
+    if (layers && key && value) done = PyDict_SetItem(PyList_GetItem(layers, PyList_Size(layers) - 1), key, value);
+    Py_XDECREF(key);
+    return done;
+}
+
+/* Notes a value at a key in this thread's innermost block. The key's faults are told at once. */
+int block_put(Core *core, const Span *span, int32_t value) {
+    const uint8_t *nul = span->length == 0 ? NULL : memchr(span->at, 0, span->length);
+    if (span->length == 0) return fail_with(CEDAR_EMPTY_KEY);
+    if (nul) return fail_at(CEDAR_NUL_BYTE, "byte", (size_t)(nul - span->at));
+    PyObject *number = PyLong_FromLong(value);
+    int done = note(core, span->at, span->length, number);
+    Py_XDECREF(number);
+    return done;
+}
+
+/* Notes in this thread's innermost block that a key is taken out. */
+int block_erase(Core *core, const uint8_t *at, size_t length) {
+    return note(core, at, length, Py_None);
+}
+
+/* Adds a layer to those of this thread. */
+static int add_layer(Core *core, PyObject *layer) {
+    PyObject *layers = layers_of(core);
+    if (layers) return PyList_Append(layers, layer);
+    if (PyErr_Occurred() || (!core->blocks && !(core->blocks = PyDict_New()))) return -1;
+    PyObject *thread = PyLong_FromUnsignedLong(PyThread_get_thread_ident());
+    layers = PyList_New(0);
+    int done = thread && layers && PyList_Append(layers, layer) == 0 ? PyDict_SetItem(core->blocks, thread, layers) : -1;
+    Py_XDECREF(thread);
+    Py_XDECREF(layers);
+    return done;
+}
+
+/* Begins a block of this thread, and returns its layer. */
+PyObject *core_begin_block(Core *core, PyObject *nothing) {
+    (void)nothing;
+    if (core_ready(core) < 0) return NULL;
+    PyObject *layer = PyDict_New();
+    if (layer && add_layer(core, layer) < 0) Py_CLEAR(layer);
+    return layer;
+}
+
+/* Takes a layer away, whoever has begun it. *below is the one below it, or NULL. Says whether it was there. */
+static int take_layer(Core *core, PyObject *layer, PyObject **below) {
+    PyObject *thread, *layers;
+    Py_ssize_t next = 0;
+    while (core->blocks && PyDict_Next(core->blocks, &next, &thread, &layers)) {
+        for (Py_ssize_t i = 0; i < PyList_Size(layers); i++) {
+            if (PyList_GetItem(layers, i) != layer) continue;
+            *below = i > 0 ? PyList_GetItem(layers, i - 1) : NULL;
+            if (PyList_SetSlice(layers, i, i + 1, NULL) < 0) return -1;
+            if (PyList_Size(layers) > 0) return 1;
+            Py_INCREF(thread);
+            int done = PyDict_DelItem(core->blocks, thread);
+            Py_DECREF(thread);
+            if (PyDict_Size(core->blocks) == 0) Py_CLEAR(core->blocks);
+            return done < 0 ? -1 : 1;
+        }
+    }
+    return 0;
+}
+
+/* The changes of a layer, which lends their keys. */
+static cedar_change *changes_of(PyObject *layer, size_t *count) {
+    PyObject *key, *value;
+    Py_ssize_t next = 0, length;
+    char *at;
+    cedar_change *changes = calloc((size_t)PyDict_Size(layer), sizeof *changes);
+    if (!changes) fail_with(CEDAR_MEMORY);
+    while (changes && PyDict_Next(layer, &next, &key, &value)) {
+        PyBytes_AsStringAndSize(key, &at, &length);
+        bool is_erasure = value == Py_None;
+        int32_t number = is_erasure ? 0 : (int32_t)PyLong_AsLong(value);
+        changes[(*count)++] = (cedar_change){(const uint8_t *)at, (size_t)length, number, is_erasure};
+    }
+    return changes;
+}
+
+/* Makes the changes of a layer as one. */
+static int apply(Core *core, PyObject *layer) {
+    Turn turn;
+    size_t count = 0;
+    if (PyDict_Size(layer) == 0) return 0;
+    cedar_change *changes = changes_of(layer, &count);
+    if (!changes) return -1;
+    if (turn_begin(core, true, &turn) < 0) {
+        free(changes);
+        return -1;
+    }
+    uint32_t status = cedar_store_apply(&core->store, changes, count, NULL, NULL);
+    int cause = errno;
+    turn_end(&turn);
+    free(changes);
+    errno = cause;
+    /* The dictionary has the changes also where the device has failed. */
+    if (status == CEDAR_OK || status == CEDAR_STORE_DEVICE) {
+        core->keys_changed++;
+        core->values_changed++;
+    }
+    return status == CEDAR_OK ? 0 : fail_with(status);
+}
+
+/* Ends a block: its changes are made, or become those of the block around it; or they are dropped. */
+PyObject *core_end_block(Core *core, PyObject *arguments) {
+    PyObject *layer, *below = NULL;
+    int is_kept;
+    if (!PyArg_ParseTuple(arguments, "Op", &layer, &is_kept)) return NULL;
+    int done = take_layer(core, layer, &below);
+    if (done > 0 && is_kept) done = below ? PyDict_Update(below, layer) : apply(core, layer);
+    if (done < 0) return NULL;
+    Py_RETURN_NONE;
+}
+
+/* The keys that this thread's blocks have put and the dictionary hasn't got. */
+PyObject *core_block_keys(Core *core, PyObject *nothing) {
+    (void)nothing;
+    PyObject *all = PyDict_New(), *list = PyList_New(0), *layers = layers_of(core), *key, *value;
+    Py_ssize_t next = 0, length;
+    char *at;
+    int32_t unwanted;
+    int done = all && list && !PyErr_Occurred() && core_ready(core) == 0 ? 0 : -1;
+    for (Py_ssize_t i = 0; done == 0 && layers && i < PyList_Size(layers); i++) done = PyDict_Update(all, PyList_GetItem(layers, i));
+    while (done == 0 && PyDict_Next(all, &next, &key, &value)) {
+        PyBytes_AsStringAndSize(key, &at, &length);
+        if (value == Py_None || cedar_get(&core->store.dictionary, (const uint8_t *)at, (size_t)length, &unwanted)) continue;
+        PyObject *given = key_give(core, (const uint8_t *)at, (size_t)length);
+        done = given ? PyList_Append(list, given) : -1;
+        Py_XDECREF(given);
+    }
+    Py_XDECREF(all);
+    if (done < 0) Py_CLEAR(list);
+    return list;
+}
+
+PyObject *core_is_in_block(Core *core, PyObject *nothing) {
+    (void)nothing;
+    int is_open = core_ready(core) < 0 ? -1 : block_is_open(core);
+    return is_open < 0 ? NULL : PyBool_FromLong(is_open);
+}
+
+/* How many keys the blocks of this thread have changed, each block for itself. */
+Py_ssize_t block_count(Core *core) {
+    PyObject *layers = layers_of(core);
+    Py_ssize_t count = 0;
+    if (!layers) return PyErr_Occurred() ? -1 : 0;
+    for (Py_ssize_t i = 0; i < PyList_Size(layers); i++) count += PyDict_Size(PyList_GetItem(layers, i));
+    return count;
+}
