@@ -191,5 +191,5 @@ uint32_t cedar_store_apply(cedar_store *s, const cedar_change *changes, size_t c
     s->file->filled = 0;
     free(b.changes);
     errno = cause;
-    return status;
+    return status == CEDAR_OK ? store_compact_if_due(s) : status;
 }

@@ -3,9 +3,11 @@
 #define _DEFAULT_SOURCE /* flock */
 #include "disk.h"
 #include "cedar.h"
+#include "paths.h"
 
 #include <errno.h>
 #include <fcntl.h>
+#include <stdio.h>
 #include <stdlib.h>
 #include <string.h>
 #include <sys/file.h>
@@ -14,6 +16,10 @@
 
 /* How often a path is opened whose file is replaced meanwhile. */
 enum { FIRST_ROOM = 1 << 16, TRIED_OPENINGS = 100 };
+
+/* How many bytes a name has at most, and what stands behind that of a file in its replacement's. */
+enum { LONGEST_NAME = 255 };
+static const char BESIDE[] = ".cedar-compaction";
 
 /* ---- the calls of the system, each again where a signal has interrupted it */
 
@@ -147,6 +153,79 @@ static uint32_t open_locked(disk_file *file, const char *path, int flags, bool *
     return status == CEDAR_STORE_DEVICE && errno == ENOENT ? CEDAR_OK : status;
 }
 
+/* ---- a file that is replaced */
+
+/* The name of the file by which another one is replaced, in memory that the caller frees. */
+static char *name_beside(const disk_file *file) {
+    size_t length = strlen(file->name);
+    if (length + sizeof BESIDE - 1 > LONGEST_NAME) {
+        errno = ENAMETOOLONG;
+        return NULL;
+    }
+    char *name = malloc(length + sizeof BESIDE);
+    if (name == NULL) return NULL;
+    memcpy(name, file->name, length);
+    memcpy(name + length, BESIDE, sizeof BESIDE);
+    return name;
+}
+
+/* Removes what a crash has left of a replacement: the lock says that nobody is at it. What isn't a file stays. */
+static void remove_leftover(const disk_file *file) {
+    struct stat left;
+    char *name = name_beside(file);
+    if (name == NULL) return;
+    if (fstatat(file->folder, name, &left, AT_SYMLINK_NOFOLLOW) == 0 && S_ISREG(left.st_mode)) unlinkat(file->folder, name, 0);
+    free(name);
+}
+
+void disk_give_up(const disk_file *file, disk_file *beside) {
+    int cause = errno;
+    if (beside->number >= 0) unlinkat(file->folder, beside->name, 0);
+    errno = cause;
+    disk_close(beside);
+}
+
+/* Opens the file beside, which nobody else has: its name is new, and it isn't readable for others. */
+static bool open_beside(const disk_file *file, disk_file *beside) {
+    struct stat old;
+    beside->name = name_beside(file);
+    if (beside->name == NULL || fstat(file->number, &old) != 0) return false;
+    do {
+        beside->number = openat(file->folder, beside->name, O_RDWR | O_CREAT | O_EXCL | O_NOFOLLOW | O_CLOEXEC, 0600);
+    } while (beside->number < 0 && errno == EINTR);
+    return beside->number >= 0 && lock(beside->number) && paths_take_rights(beside->number, &old);
+}
+
+bool disk_make_beside(const disk_file *file, disk_file *beside) {
+    bool is_it = false;
+    *beside = (disk_file)DISK_CLOSED;
+    if (look_again(file, &is_it) != CEDAR_OK) return false;
+    if (!is_it) {
+        errno = ESTALE;
+        return false;
+    }
+    if (open_beside(file, beside)) return true;
+    disk_give_up(file, beside);
+    return false;
+}
+
+bool disk_take_place(disk_file *file, disk_file *beside, bool *is_unsure) {
+    bool is_synced = sync_all(beside->number);
+    if (!is_synced || renameat(file->folder, beside->name, file->folder, file->name) != 0) {
+        *is_unsure = is_synced;
+        disk_give_up(file, beside);
+        return false;
+    }
+    close(file->number);
+    file->number = beside->number;
+    beside->number = -1;
+    disk_close(beside);
+    *is_unsure = !sync_all(file->folder);
+    return !*is_unsure;
+}
+
+/* ---- an opening */
+
 /* The flags by which a file is opened that changes may be written to. */
 static int flags_of(uint32_t how) {
     if (how & CEDAR_OPEN_EXISTING) return O_RDWR;
@@ -164,5 +243,6 @@ uint32_t disk_open(disk_file *file, const char *path, uint32_t how) {
         if (status != CEDAR_OK) return status;
     }
     file->process = getpid();
+    remove_leftover(file);
     return sync_all(file->number) && sync_all(file->folder) ? CEDAR_OK : CEDAR_STORE_DEVICE;
 }

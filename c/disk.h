@@ -28,6 +28,17 @@ uint32_t disk_read(const disk_file *file, uint8_t **bytes, size_t *length);
 bool disk_cut(const disk_file *file, size_t length);
 bool disk_write(const disk_file *file, size_t at, const uint8_t *bytes, size_t length);
 
+/* Makes an empty file beside one that is open for changes, to replace it: of the name with .cedar-compaction behind it, which nothing has,
+ * with its owner and mode, and locked. Returns false if that can't be done, also if the file that is open has lost its name (ESTALE). */
+bool disk_make_beside(const disk_file *file, disk_file *beside);
+
+/* Puts the file beside it on the disk, gives it the name, and goes on with it. Returns false if a call failed: the file beside is removed
+ * then, if it hasn't the name. *is_unsure is set where it isn't known which of both has the name, or would have it behind a crash. */
+bool disk_take_place(disk_file *file, disk_file *beside, bool *is_unsure);
+
+/* Removes the file beside, and closes it. errno stays. */
+void disk_give_up(const disk_file *file, disk_file *beside);
+
 /* Whether another process has opened it, of which this one was forked. */
 bool disk_is_inherited(const disk_file *file);
 

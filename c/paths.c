@@ -1,5 +1,6 @@
 /* Files by their paths, over the proved library. This part is tested (tests/c/paths.c) and not proved. cedar.h says what the calls do. */
 #define _POSIX_C_SOURCE 200809L
+#include "paths.h"
 #include "cedar.h"
 
 #include <errno.h>
@@ -172,9 +173,7 @@ static bool is_refused_owner(int number) {
     return number == EPERM || number == EINVAL || number == ENOSYS || number == ENOTSUP;
 }
 
-/* Gives a new file the old one's owner, group and mode. Where it can't have both owner and group, it gets the group if it can have that,
- * and doesn't get the bits by which others run it as these two. */
-static bool take_rights(int file, const struct stat *old) {
+bool paths_take_rights(int file, const struct stat *old) {
     mode_t mode = old->st_mode & 07777;
     if (!set_owner(file, old->st_uid, old->st_gid)) {
         if (!is_refused_owner(errno)) return false;
@@ -186,7 +185,7 @@ static bool take_rights(int file, const struct stat *old) {
 
 /* Writes a file that was made, and waits until the disk has it. Others can't read it before it is whole, unless there was no old file. */
 static bool fill_file(int file, const struct stat *old, const uint8_t *bytes, size_t length) {
-    bool is_written = write_bytes(file, bytes, length) && (old == NULL || take_rights(file, old)) && sync_file(file);
+    bool is_written = write_bytes(file, bytes, length) && (old == NULL || paths_take_rights(file, old)) && sync_file(file);
     return close_written(file, is_written);
 }
 

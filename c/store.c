@@ -5,6 +5,9 @@
 #include <errno.h>
 #include <stdlib.h>
 
+/* When a store's file is made short by itself, as in Rattle. */
+enum { DEFAULT_FACTOR = 2, DEFAULT_SPARE = 1 << 16 };
+
 bool store_carry_out(const disk_file *disk, const cedar_plan *plan, const uint8_t *bytes) {
     for (size_t i = 0; i < plan->count; i++) {
         const cedar_step *step = &plan->steps[i];
@@ -36,6 +39,8 @@ static uint32_t open_closed(cedar_store *s, const char *path, uint32_t how) {
     s->file = calloc(1, sizeof *s->file);
     if (s->file == NULL) return CEDAR_MEMORY;
     s->file->every = 1;
+    s->file->factor = DEFAULT_FACTOR;
+    s->file->spare = DEFAULT_SPARE;
     s->file->is_to_read = (how & CEDAR_OPEN_TO_READ) != 0;
     uint32_t status = disk_open(&s->file->disk, path, how);
     if (status == CEDAR_OK) status = make_ready(s, (how & CEDAR_OPEN_REDUCED) != 0);
@@ -59,7 +64,7 @@ uint32_t cedar_store_open_with(cedar_store *s, const char *path, uint32_t how) {
     }
     /* It is closed first: it may have the lock of the very file. */
     if (s->file != NULL && !s->file->has_failed) {
-        uint32_t status = cedar_store_sync(s);
+        uint32_t status = store_write_waiting(s->file);
         if (status != CEDAR_OK) return status;
     }
     cedar_store_close(s);
@@ -110,7 +115,8 @@ static uint32_t sync_store(struct cedar_store_file *file) {
 }
 
 uint32_t cedar_store_sync(cedar_store *s) {
-    return sync_store(s->file);
+    uint32_t status = sync_store(s->file);
+    return status == CEDAR_OK ? store_compact_if_due(s) : status;
 }
 
 uint32_t cedar_store_sync_every(cedar_store *s, size_t changes) {
@@ -171,14 +177,19 @@ static uint32_t prepare(struct cedar_store_file *file, size_t length) {
 
 /* Acknowledges a change that the dictionary has: it is on the disk then, or it waits. Its plan's first step writes all of its record but
  * the first byte. */
-static uint32_t take_up(struct cedar_store_file *file, size_t end, const cedar_plan *plan) {
+static uint32_t take_up(cedar_store *s, size_t end, const cedar_plan *plan) {
+    struct cedar_store_file *file = s->file;
+    uint32_t status;
     if (file->every == 1) {
         file->end = end;
-        return store_acknowledge(file, plan);
+        status = store_acknowledge(file, plan);
+    } else {
+        file->filled += plan->steps[0].length;
+        file->waiting++;
+        if (file->every == 0 || file->waiting < file->every) return CEDAR_OK;
+        status = store_write_waiting(file);
     }
-    file->filled += plan->steps[0].length;
-    file->waiting++;
-    return file->every != 0 && file->waiting >= file->every ? store_write_waiting(file) : CEDAR_OK;
+    return status == CEDAR_OK ? store_compact_if_due(s) : status;
 }
 
 uint32_t cedar_store_insert(cedar_store *s, const uint8_t *key, size_t length, int32_t value, bool *held, int32_t *before,
@@ -194,7 +205,7 @@ uint32_t cedar_store_insert(cedar_store *s, const uint8_t *key, size_t length, i
     status = cedar_plan_put(&s->dictionary, key, length, value, &end, place, room, &plan, &was_held, &was, &at);
     if (status == CEDAR_NUL_BYTE && position != NULL) *position = at;
     if (status != CEDAR_OK) return status;
-    status = take_up(s->file, end, &plan);
+    status = take_up(s, end, &plan);
     if (status != CEDAR_OK) return status;
     if (held != NULL) *held = was_held;
     if (before != NULL && was_held) *before = was;
@@ -213,7 +224,7 @@ uint32_t cedar_store_erase(cedar_store *s, const uint8_t *key, size_t length, bo
     size_t room, end = s->file->end;
     uint8_t *place = place_of(s->file, &room);
     status = cedar_plan_erase(&s->dictionary, key, length, &end, place, room, &plan, &was_held);
-    if (status == CEDAR_OK && was_held) status = take_up(s->file, end, &plan);
+    if (status == CEDAR_OK && was_held) status = take_up(s, end, &plan);
     if (status == CEDAR_OK && held != NULL) *held = was_held;
     return status;
 }

@@ -1,5 +1,5 @@
-/* What the parts of a store share: c/store.c has its opening and single changes, c/batch.c changes that are made as one. No program sees
- * this: build-c keeps it inside. */
+/* What the parts of a store share: c/store.c has its opening and single changes, c/batch.c changes that are made as one, c/compact.c the
+ * file that is made short. No program sees this: build-c keeps it inside. */
 #ifndef ROSKVIDH_STORE_H
 #define ROSKVIDH_STORE_H
 
@@ -14,12 +14,17 @@ struct cedar_store_file {
     disk_file disk;
     bool is_to_read;
     bool has_failed;
-    size_t end;      /* where its records end */
-    uint8_t *bytes;  /* those of a plan */
+    bool is_unsure;             /* it has failed when another file got its name */
+    size_t end;                 /* where its records end */
+    uint8_t *bytes;             /* those of a plan */
     size_t room;
-    size_t every;    /* how many changes go to the disk together, or 0 */
-    size_t waiting;  /* how many wait for that */
-    size_t filled;   /* how many bytes their records have, behind the head of a group */
+    size_t every;               /* how many changes go to the disk together, or 0 */
+    size_t waiting;             /* how many wait for that */
+    size_t filled;              /* how many bytes their records have, behind the head of a group */
+    size_t factor;              /* when it is made short by itself: cedar_store_compact_beyond */
+    size_t spare;
+    size_t base;                /* how long it was when that was looked at */
+    uint32_t last_compaction;
 };
 
 /* Does what a plan says, up to the first step that fails. */
@@ -33,6 +38,9 @@ uint32_t store_grow(struct cedar_store_file *file, size_t room);
 
 /* Puts the changes that wait on the disk, as one record. */
 uint32_t store_write_waiting(struct cedar_store_file *file);
+
+/* Makes the file short if it is too long for what its entries take. It fails only where the store has failed then. */
+uint32_t store_compact_if_due(cedar_store *s);
 
 /* Acknowledges what a plan does, or says that the device has failed. */
 uint32_t store_acknowledge(struct cedar_store_file *file, const cedar_plan *plan);

@@ -95,11 +95,12 @@ enum {
     CEDAR_STORE_FOREIGN = 40,  /* the file is not a store */
     CEDAR_STORE_CORRUPT = 41,  /* one of its records is not a change */
     CEDAR_STORE_DEVICE = 42,   /* a call on the file failed: see errno */
-    CEDAR_STORE_FAILED = 43,   /* a call failed in an earlier change: open the file again */
+    CEDAR_STORE_FAILED = 43,   /* a call failed in an earlier change: cedar_store_compact is the way on */
     CEDAR_STORE_TOO_LONG = 44, /* the key has 2^32 - 5 bytes or more */
     CEDAR_STORE_FULL = 45,     /* the file's records end after 2^60 bytes */
     CEDAR_STORE_LOCKED = 47,   /* another program, or another variable, has the store open */
-    CEDAR_STORE_READ_ONLY = 48 /* the store was opened to read */
+    CEDAR_STORE_READ_ONLY = 48, /* the store was opened to read */
+    CEDAR_STORE_KEPT = 49      /* the file wasn't replaced by a shorter one: see errno */
 };
 
 /* Opens *d with an empty dictionary. If *d is open, the new dictionary replaces the old one. Returns CEDAR_OK, or CEDAR_MEMORY; then *d is
@@ -504,7 +505,8 @@ CEDAR_INLINE const cedar_dictionary *cedar_store_dictionary(const cedar_store *s
  * as cedar_store_sync_every says. CEDAR_IS_CLOSED, the first fault of the pair as of cedar_update, CEDAR_MEMORY, CEDAR_SLOT_LIMIT,
  * CEDAR_STORE_TOO_LONG and CEDAR_STORE_FULL leave the dictionary's keys and the file as they were. After CEDAR_STORE_DEVICE (errno has the
  * reason) the dictionary has the change, and the file has it or not. From then on each change returns CEDAR_STORE_FAILED and changes
- * nothing, until the file is opened again. */
+ * nothing, until cedar_store_compact has written all that the dictionary has to a new file. To open the file again isn't enough where the
+ * machine may stop: what the system shows of a file after a failed call, the disk needn't have. */
 uint32_t cedar_store_update(cedar_store *s, const uint8_t *key, size_t length, int32_t value, size_t *position);
 
 /* As cedar_store_update. After CEDAR_OK *held says whether the key held a value before, and if so *before is that value. */
@@ -546,6 +548,36 @@ uint32_t cedar_store_sync(cedar_store *s);
 
 /* Returns how many changes wait. 0 if closed. */
 size_t cedar_store_waiting(const cedar_store *s);
+
+/* Replaces the file by one that has the dictionary's entries alone, on the disk: some 10 bytes and the key for each. The changes that wait
+ * are in it too. A store that has failed in a change goes on then, with all that its dictionary has. It takes the time of all entries, and
+ * memory for 4 MiB and the longest key. A crash at any moment leaves the old file or the new one, which stand for the same dictionary.
+ *
+ * The new file is made beside the old one, under its name with `.cedar-compaction` behind it. It has its mode, and its owner if the system
+ * allows it, and is locked. If a crash leaves it there, the next opening removes it. Returns:
+ *
+ * - CEDAR_OK; CEDAR_IS_CLOSED; CEDAR_STORE_READ_ONLY; CEDAR_STORE_LOCKED in a forked child.
+ * - CEDAR_MEMORY and CEDAR_STORE_KEPT: the old file is there, and the store is as it was. After CEDAR_STORE_KEPT errno has the reason, as
+ *   ENOSPC; EEXIST if there is a folder or a link of that name; ESTALE if the path has another file by now.
+ * - CEDAR_STORE_DEVICE if the new file couldn't be given the name, or its folder couldn't be put on the disk: errno has the reason. The
+ *   path has one of both files. The store has failed, and later calls of cedar_store_compact return CEDAR_STORE_FAILED. */
+uint32_t cedar_store_compact(cedar_store *s);
+
+/* Sets when changes compact the file by themselves: if it has more than factor times the bytes that it would have behind a compaction, and
+ * `spare` bytes more. At first these are 2 and 65536. A factor of 1 counts as 2, and with 0 no change does it. A change does so last, once
+ * it is on the disk. If that fails, it is no error of the change: cedar_store_last_compaction tells it. Only if the store has failed then,
+ * the change returns CEDAR_STORE_DEVICE. Returns CEDAR_OK or CEDAR_IS_CLOSED. */
+uint32_t cedar_store_compact_beyond(cedar_store *s, size_t factor, size_t spare);
+
+/* Returns the status of the last compaction since the store was opened, called or by itself. CEDAR_OK if there was none. */
+uint32_t cedar_store_last_compaction(const cedar_store *s);
+
+/* Returns how many bytes the file has, without changes that wait. 0 if closed. */
+size_t cedar_store_file_len(const cedar_store *s);
+
+/* Writes how many bytes the file would have behind a compaction. It takes the time of all entries. Returns CEDAR_OK, CEDAR_IS_CLOSED or
+ * CEDAR_MEMORY. */
+uint32_t cedar_store_compacted_len(const cedar_store *s, size_t *length);
 
 /* Returns whether the device has failed in a change. False if closed. */
 bool cedar_store_failed(const cedar_store *s);

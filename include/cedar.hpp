@@ -648,7 +648,7 @@ public:
     /// Stores a value at a key, and replaces the value that the key holds, if any. Throws CEDAR_EMPTY_KEY, CEDAR_NUL_BYTE,
     /// CEDAR_INVALID_VALUE, CEDAR_SLOT_LIMIT, CEDAR_STORE_TOO_LONG, CEDAR_STORE_FULL and std::bad_alloc; then nothing has changed. Throws
     /// std::system_error if a call on the file failed: the dictionary has the change, and the file has it or not. From then on it throws
-    /// CEDAR_STORE_FAILED. If the store was opened to read, it throws CEDAR_STORE_READ_ONLY.
+    /// CEDAR_STORE_FAILED, until compact() has written all to a new file. If the store was opened to read, it throws CEDAR_STORE_READ_ONLY.
     void update(std::string_view key, std::int32_t value) { insert(key, value); }
 
     /// As update, and returns the value that the key held before, if it held one.
@@ -694,6 +694,30 @@ public:
     /// Returns how many changes wait.
     std::size_t waiting() const noexcept { return cedar_store_waiting(&inside_); }
 
+    /// Replaces the file by one that has the entries alone. A store that has failed in a change goes on then, with all that the dictionary
+    /// has. cedar.h says how it is done. Throws std::system_error: if failed() isn't true then, or was true before, the old file is there
+    /// and the store is as it was; otherwise the new file couldn't be given the name, and the store has failed for good. Also throws
+    /// std::bad_alloc, CEDAR_IS_CLOSED, CEDAR_STORE_READ_ONLY and CEDAR_STORE_FAILED.
+    void compact() { check(cedar_store_compact(&inside_), 0); }
+
+    /// Sets when changes compact the file by themselves, last: if it has more than factor times the bytes that it would have behind a
+    /// compaction, and `spare` bytes more. At first these are 2 and 65536; with a factor of 0 no change does it. Throws CEDAR_IS_CLOSED.
+    void compact_beyond(std::size_t factor, std::size_t spare) { check(cedar_store_compact_beyond(&inside_, factor, spare), 0); }
+
+    /// Returns the status of the last compaction since the store was opened, called or by itself. CEDAR_OK if there was none.
+    std::uint32_t last_compaction() const noexcept { return cedar_store_last_compaction(&inside_); }
+
+    /// Returns how many bytes the file has, without changes that wait.
+    std::size_t file_size() const noexcept { return cedar_store_file_len(&inside_); }
+
+    /// Returns how many bytes the file would have behind a compaction. It takes the time of all entries. Throws std::bad_alloc and
+    /// CEDAR_IS_CLOSED.
+    std::size_t compacted_size() const {
+        std::size_t length = 0;
+        detail::check(cedar_store_compacted_len(&inside_, &length));
+        return length;
+    }
+
     /// Returns whether a change has failed on the disk.
     bool failed() const noexcept { return cedar_store_failed(&inside_); }
 
@@ -712,7 +736,9 @@ private:
     void check(std::uint32_t status, std::size_t position) {
         const int number = errno;
         words_.inside_ = inside_.dictionary;
-        if (status == CEDAR_STORE_DEVICE) throw std::system_error(number, std::generic_category(), "the file of a store");
+        if (status == CEDAR_STORE_DEVICE || status == CEDAR_STORE_KEPT) {
+            throw std::system_error(number, std::generic_category(), "the file of a store");
+        }
         detail::check(status, position);
     }
 

@@ -20,7 +20,7 @@ class Store(Words[K]):
     """A mapping like Cedar, kept in the file at a path.
 
     Once a change returns, it is on the disk, and no crash of the process or the machine takes it away. A change that a crash interrupts is
-    there as a whole or not at all. Each change waits for the disk, and the file grows by each.
+    there as a whole or not at all. Each change waits for the disk, and the file grows by each, until a change compacts it (`compaction`).
 
     `mode` says how the file is opened: "c" creates a missing one, "w" wants one, "x" creates one and wants none, and "r" only reads.
     Otherwise a missing file raises FileNotFoundError, and one that is there FileExistsError.
@@ -32,8 +32,8 @@ class Store(Words[K]):
     With sync_every=n a change waits until n of them go to the disk as one; with 0 it waits for sync(). A crash takes away those that wait,
     all of them or none, and no others. batch() makes the changes of a block as one, or none of them.
 
-    A call on the file that fails raises OSError. From then on each change raises CedarError and changes nothing, and look-ups go on; open
-    the file again.
+    A call on the file that fails raises OSError. From then on each change raises CedarError and changes nothing, and look-ups go on, until
+    compact() has written all to a new file.
 
     >>> import os, tempfile
     >>> folder = tempfile.TemporaryDirectory()
@@ -48,7 +48,7 @@ class Store(Words[K]):
     >>> folder.cleanup()
     """
 
-    __slots__ = ("__weakref__", "_mode", "_sync_every_now", "path")
+    __slots__ = ("__weakref__", "_compaction_now", "_mode", "_sync_every_now", "path")
 
     @overload
     def __init__(
@@ -70,6 +70,7 @@ class Store(Words[K]):
         self._open_store(os.fsencode(self.path), text, reduced, _MODES[mode])
         self._mode = mode
         self.sync_every = sync_every
+        self.compaction = (2, 65536)
 
     @property
     def mode(self) -> Mode:
@@ -129,6 +130,49 @@ class Store(Words[K]):
             self._end_block(block, False)
             raise
         self._end_block(block, True)
+
+    def compact(self) -> None:
+        """Replaces the file by one that has the entries alone. A store that has failed in a change goes on then, with all that it holds.
+
+        After an OSError the old file is there, and the store is as it was, unless the new file couldn't be given the name: then the store
+        has failed for good.
+
+        >>> import os, tempfile
+        >>> with tempfile.TemporaryDirectory() as folder, Store(os.path.join(folder, "words.store")) as s:
+        ...     s[b"net"] = 7
+        ...     s[b"net"] = 8
+        ...     before = s.file_size
+        ...     s.compact()
+        ...     s.file_size < before, dict(s)
+        (True, {b'net': 8})
+        """
+        self._compact()
+
+    @property
+    def compaction(self) -> Optional[Tuple[int, int]]:
+        """When a change compacts the file, last: if it has more than so many times the bytes that compact() would leave, and so many bytes
+        more. None: never. A compaction that fails is no error of the change: last_compaction tells it."""
+        return self._compaction_now
+
+    @compaction.setter
+    def compaction(self, beyond: Optional[Tuple[int, int]]) -> None:
+        factor, spare = beyond or (0, 0)
+        self._compact_beyond(factor, spare)
+        self._compaction_now = (factor, spare) if factor else None
+
+    @property
+    def last_compaction(self) -> int:
+        """The status of the last compaction since the store was opened, called or by itself: 0 if it was done, or if there was none."""
+        return self._file_figures()[1]
+
+    @property
+    def file_size(self) -> int:
+        """How many bytes the file has, without changes that wait."""
+        return self._file_figures()[0]
+
+    def compacted_size(self) -> int:
+        """Returns how many bytes the file would have behind a compaction. It takes the time of all entries."""
+        return self._compacted_size()
 
     def close(self) -> None:
         """Puts the changes that wait on the disk, and closes the file. Does nothing if the store is closed."""

@@ -421,6 +421,49 @@ PyObject *core_sync_every(Core *core, PyObject *given) {
     return sync_by(core, cedar_store_sync_every, changes);
 }
 
+static uint32_t compact_now(cedar_store *s, size_t unused) {
+    (void)unused;
+    return cedar_store_compact(s);
+}
+
+PyObject *core_compact(Core *core, PyObject *nothing) {
+    (void)nothing;
+    return sync_by(core, compact_now, 0);
+}
+
+PyObject *core_compact_beyond(Core *core, PyObject *arguments) {
+    Py_ssize_t factor, spare;
+    if (!PyArg_ParseTuple(arguments, "nn", &factor, &spare)) return NULL;
+    if (factor < 0 || spare < 0) {
+        PyErr_SetString(PyExc_ValueError, "a compaction has a factor and a number of bytes, each 0 or more");
+        return NULL;
+    }
+    if (core_ready(core) < 0) return NULL;
+    uint32_t status = cedar_store_compact_beyond(&core->store, (size_t)factor, (size_t)spare);
+    if (status == CEDAR_OK) Py_RETURN_NONE;
+    fail_with(status);
+    return NULL;
+}
+
+/* How long the file is, and the status of the last compaction. */
+PyObject *core_file_figures(Core *core, PyObject *nothing) {
+    (void)nothing;
+    if (core_ready(core) < 0) return NULL;
+    return Py_BuildValue("nk", (Py_ssize_t)cedar_store_file_len(&core->store), (unsigned long)cedar_store_last_compaction(&core->store));
+}
+
+PyObject *core_compacted_size(Core *core, PyObject *nothing) {
+    (void)nothing;
+    Turn turn;
+    size_t length = 0;
+    if (turn_begin(core, true, &turn) < 0) return NULL;
+    uint32_t status = cedar_store_compacted_len(&core->store, &length);
+    turn_end(&turn);
+    if (status == CEDAR_OK) return PyLong_FromSize_t(length);
+    fail_with(status);
+    return NULL;
+}
+
 PyObject *core_waiting(Core *core, PyObject *nothing) {
     (void)nothing;
     Py_ssize_t in_blocks = core_ready(core) < 0 ? -1 : block_count(core);

@@ -88,6 +88,29 @@ except OSError:
 """
 
 
+# Fails in a change, and goes on by a compaction.
+GOES_ON = """
+import resource, signal, sys
+from roskvidh import CedarError, Store
+signal.signal(signal.SIGXFSZ, signal.SIG_IGN)
+soft, hard = resource.getrlimit(resource.RLIMIT_FSIZE)
+with Store(sys.argv[1]) as s:
+    s[b"net"] = 7
+    resource.setrlimit(resource.RLIMIT_FSIZE, (100, hard))
+    try:
+        s[b"x" * 300] = 8
+    except OSError:
+        try:
+            s[b"a"] = 1
+        except CedarError as refused:
+            print(s.failed, refused.status, end=" ")
+    resource.setrlimit(resource.RLIMIT_FSIZE, (soft, hard))
+    s.compact()
+    print(s.failed)
+    s[b"ten"] = 9
+"""
+
+
 class Stores(unittest.TestCase):
     def setUp(self):
         folder = tempfile.TemporaryDirectory()
@@ -294,6 +317,49 @@ class Stores(unittest.TestCase):
         self.assertEqual(run.stdout, "True 43\n")
         with Store(self.path) as s:
             self.assertEqual(dict(s), {b"net": 7})
+
+    def test_compacted(self):
+        with Store(self.path, sync_every=50) as s:
+            self.assertEqual((s.compaction, s.last_compaction, s.file_size), ((2, 65536), 0, self.path.stat().st_size))
+            for number in range(8000):
+                s[b"counter"] = number
+                self.assertLess(s.file_size, 70000)
+            self.assertEqual((dict(s), s.last_compaction), ({b"counter": 7999}, 0))
+            s[b"net"] = 7
+            shorter = s.compacted_size()
+            with Store(self.path, mode="r") as reader:
+                s.compact()
+                self.assertEqual((s.waiting, s.file_size, self.path.stat().st_size), (0, shorter, shorter))
+                self.assertEqual(len(reader), 1)
+                self.refused(48, reader.compact)
+            s.compaction = None
+            for number in range(8000):
+                s[b"counter"] = number
+            self.assertGreater(self.path.stat().st_size, 8000 * 17)
+            beside = self.path.with_name(self.path.name + ".cedar-compaction")
+            beside.mkdir()
+            with self.assertRaises(FileExistsError):
+                s.compact()
+            s.compaction = (2, 0)
+            s.update({b"nets": 8})
+            self.assertEqual((s.compaction, s.last_compaction, s.failed), ((2, 0), 49, False))
+            self.assertGreater(self.path.stat().st_size, 8000 * 17)
+            beside.rmdir()
+            for wrong in ((-1, 0), (2, -1)):
+                with self.assertRaises(ValueError):
+                    s.compaction = wrong
+        with Store(self.path) as s:
+            s.compact()
+            self.assertEqual(dict(s), {b"counter": 7999, b"net": 7, b"nets": 8})
+        for call in (s.compact, s.compacted_size, lambda: s.file_size):
+            with self.assertRaises(ValueError):
+                call()
+
+    def test_compacted_after_a_failure(self):
+        run = subprocess.run([sys.executable, "-c", GOES_ON, str(self.path)], stdout=subprocess.PIPE, text=True, check=True)
+        with Store(self.path) as s:
+            self.assertEqual(dict(s), {b"net": 7, b"x" * 300: 8, b"ten": 9})
+        self.assertEqual(run.stdout, "True 43 False\n")
 
     def test_errors(self):
         with Store(self.path) as s:
