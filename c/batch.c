@@ -76,7 +76,7 @@ static uint32_t note_last(batch *b, const cedar_change *changes, size_t count) {
 
 /* Makes room for all records. */
 static uint32_t make_room(batch *b) {
-    b->room = CEDAR_PLAN_GROUP + 1;
+    b->room = store_head(b->file->is_summed) + 1;
     for (size_t i = 0; i < b->count; i++) {
         size_t length = b->changes[i].change->length;
         if (length > LONGEST_RECORD || b->room > LONGEST_RECORD) return CEDAR_STORE_TOO_LONG;
@@ -88,7 +88,7 @@ static uint32_t make_room(batch *b) {
 /* ---- how they are made */
 
 static uint8_t *place_of(const batch *b, size_t *room) {
-    size_t before = CEDAR_PLAN_GROUP + b->file->filled;
+    size_t before = store_head(b->file->is_summed) + b->file->filled;
     *room = b->file->room - before;
     return b->file->bytes + before;
 }
@@ -100,7 +100,7 @@ static uint32_t write_erasure(batch *b, cedar_dictionary *beside, const cedar_ch
     size_t room, end = b->file->end;
     uint8_t *place = place_of(b, &room);
     uint32_t status = cedar_update(beside, change->key, change->length, 0, NULL);
-    if (status == CEDAR_OK) status = cedar_plan_erase(beside, change->key, change->length, &end, place, room, &plan, &held);
+    if (status == CEDAR_OK) status = cedar_plan_erase(beside, change->key, change->length, false, &end, place, room, &plan, &held);
     if (status == CEDAR_OK) b->file->filled += plan.steps[0].length;
     return status;
 }
@@ -126,8 +126,8 @@ static uint32_t make_update(batch *b, const cedar_change *change) {
     int32_t before;
     size_t position, room, end = b->file->end;
     uint8_t *place = place_of(b, &room);
-    uint32_t status = cedar_plan_put(b->dictionary, change->key, change->length, change->value, &end, place, room, &plan, &held, &before,
-                                     &position);
+    uint32_t status = cedar_plan_put(b->dictionary, change->key, change->length, change->value, false, &end, place, room, &plan, &held,
+                                     &before, &position);
     if (status == CEDAR_OK) b->file->filled += plan.steps[0].length;
     return status;
 }
@@ -170,7 +170,7 @@ static uint32_t make_all(batch *b, const cedar_change *changes, size_t count, si
     if (status == CEDAR_OK) status = write_erasures(b);
     if (status == CEDAR_OK) status = make_updates(b, changes, refused);
     if (status != CEDAR_OK || b->file->filled == 0) return status;
-    status = cedar_plan_group(b->file->filled, &b->file->end, b->file->bytes, b->file->room, &plan);
+    status = cedar_plan_group(b->file->filled, b->file->is_summed, &b->file->end, b->file->bytes, b->file->room, &plan);
     if (status != CEDAR_OK) {
         take_back(b, b->count);
         return status;

@@ -80,6 +80,7 @@ static uint32_t take_entries(const cedar_dictionary *d, take_entry take, void *i
 typedef struct made {
     disk_file disk;
     cedar_dictionary beside; /* has one key at a time: the calls that change it make the records */
+    bool is_summed;
     size_t end;
     uint8_t *bytes;
     size_t room;
@@ -90,7 +91,7 @@ typedef struct made {
 static uint32_t write_group(made *m) {
     cedar_plan plan;
     if (m->filled == 0) return CEDAR_OK;
-    uint32_t status = cedar_plan_group(m->filled, &m->end, m->bytes, m->room, &plan);
+    uint32_t status = cedar_plan_group(m->filled, m->is_summed, &m->end, m->bytes, m->room, &plan);
     m->filled = 0;
     if (status != CEDAR_OK) return status;
     return store_carry_out(&m->disk, &plan, m->bytes) ? CEDAR_OK : CEDAR_STORE_KEPT;
@@ -112,10 +113,11 @@ static uint32_t add_record(void *into, const uint8_t *key, size_t length, int32_
     cedar_plan plan;
     bool held;
     int32_t before;
-    size_t position, end = m->end, from = CEDAR_PLAN_GROUP + m->filled;
+    size_t position, end = m->end, from = store_head(m->is_summed) + m->filled;
     uint32_t status = make_room(m, from + length + CEDAR_PLAN_CHANGE);
     if (status == CEDAR_OK) {
-        status = cedar_plan_put(&m->beside, key, length, value, &end, m->bytes + from, m->room - from, &plan, &held, &before, &position);
+        status = cedar_plan_put(&m->beside, key, length, value, false, &end, m->bytes + from, m->room - from, &plan, &held, &before,
+                                &position);
     }
     if (status != CEDAR_OK) return status;
     cedar_erase(&m->beside, key, length);
@@ -128,7 +130,8 @@ static uint32_t begin(made *m, const disk_file *old) {
     uint8_t buffer[CEDAR_PLAN_OPENING];
     static const uint8_t NONE[1];
     cedar_plan plan;
-    uint32_t status = cedar_plan_open(&m->beside, true, NONE, 0, &m->end, buffer, sizeof buffer, &plan);
+    size_t damaged_at;
+    uint32_t status = cedar_plan_open(&m->beside, true, NONE, 0, &m->is_summed, &m->end, &damaged_at, buffer, sizeof buffer, &plan);
     if (status != CEDAR_OK) return status;
     return disk_make_beside(old, &m->disk) && store_carry_out(&m->disk, &plan, buffer) ? CEDAR_OK : CEDAR_STORE_KEPT;
 }
@@ -137,6 +140,7 @@ static uint32_t begin(made *m, const disk_file *old) {
 static uint32_t put_in_place(struct cedar_store_file *file, made *m) {
     if (disk_take_place(&file->disk, &m->disk, &file->is_unsure)) {
         file->has_failed = false;
+        file->is_summed = m->is_summed;
         file->end = file->base = m->end;
         file->waiting = file->filled = 0;
         return CEDAR_OK;
@@ -148,7 +152,7 @@ static uint32_t put_in_place(struct cedar_store_file *file, made *m) {
 }
 
 static uint32_t compact(cedar_store *s) {
-    made m = {DISK_CLOSED, CEDAR_CLOSED, 0, NULL, 0, 0};
+    made m = {DISK_CLOSED, CEDAR_CLOSED, false, 0, NULL, 0, 0};
     uint32_t status = begin(&m, &s->file->disk);
     if (status == CEDAR_OK) status = take_entries(&s->dictionary, add_record, &m);
     if (status == CEDAR_OK) status = write_group(&m);
@@ -171,7 +175,7 @@ uint32_t cedar_store_compact(cedar_store *s) {
 
 /* ---- when it is done */
 
-/* How long the new file would be: the header with a closed gate, and groups. */
+/* How long the new file would be: the header with a closed gate, and groups with sums. */
 typedef struct measured {
     size_t length;
     size_t filled;
@@ -181,8 +185,8 @@ static uint32_t add_length(void *into, const uint8_t *key, size_t length, int32_
     (void)key;
     (void)value;
     measured *m = into;
-    size_t record = length + CEDAR_PLAN_CHANGE - 1;
-    if (m->filled == 0) m->length += CEDAR_PLAN_GROUP;
+    size_t record = length + CEDAR_PLAN_PART;
+    if (m->filled == 0) m->length += CEDAR_PLAN_SUMMED_GROUP;
     m->length += record;
     m->filled += record;
     if (m->filled >= FULL_GROUP) m->filled = 0;

@@ -22,23 +22,29 @@ typedef struct cedar_plan {
     cedar_step steps[CEDAR_PLAN_MOST];
 } cedar_plan;
 
-/* How many bytes the plan of an opening has, how many more than its key that of a change has at most, and how many stand in front of the
- * records of a group. */
-enum { CEDAR_PLAN_OPENING = 14, CEDAR_PLAN_CHANGE = 11, CEDAR_PLAN_GROUP = 6 };
+/* How many bytes the plan of an opening has; how many more than its key that of a change has at most; and how many more than its key an
+ * update has among those of a group. */
+enum { CEDAR_PLAN_OPENING = 14, CEDAR_PLAN_CHANGE = 15, CEDAR_PLAN_PART = 10 };
 
-/* The bytes are those of the file, which was synced before it was read. Once the plan is carried out the records end at *end. */
-uint32_t cedar_plan_open(cedar_dictionary *d, bool is_reduced, const uint8_t *bytes, size_t length, size_t *end, uint8_t *buffer,
-                         size_t room, cedar_plan *plan);
+/* How many bytes stand in front of the records of a group: in a file whose records have sums, and in one of version 1. */
+enum { CEDAR_PLAN_SUMMED_GROUP = 10, CEDAR_PLAN_GROUP = 6 };
+
+/* The bytes are those of the file, which was synced before it was read. Once the plan is carried out the records end at *end, and
+ * *is_summed says whether they have sums. With CEDAR_STORE_DAMAGED *damaged_at is where in the file the first such record begins. */
+uint32_t cedar_plan_open(cedar_dictionary *d, bool is_reduced, const uint8_t *bytes, size_t length, bool *is_summed, size_t *end,
+                         size_t *damaged_at, uint8_t *buffer, size_t room, cedar_plan *plan);
 
 /* The change is made in the dictionary, and its plan is told: it is acknowledged once the plan is carried out. *end is where the records end
- * before the plan, and then where they end behind it. Nothing is to be carried out of an erasure that answers CEDAR_OK and *held false. */
-uint32_t cedar_plan_put(cedar_dictionary *d, const uint8_t *key, size_t length, int32_t value, size_t *end, uint8_t *buffer, size_t room,
-                        cedar_plan *plan, bool *held, int32_t *before, size_t *position);
-uint32_t cedar_plan_erase(cedar_dictionary *d, const uint8_t *key, size_t length, size_t *end, uint8_t *buffer, size_t room,
+ * before the plan, and then where they end behind it. Nothing is to be carried out of an erasure that answers CEDAR_OK and *held false.
+ * `is_summed` is what the opening told, or false for a record that waits for those of a group. */
+uint32_t cedar_plan_put(cedar_dictionary *d, const uint8_t *key, size_t length, int32_t value, bool is_summed, size_t *end,
+                        uint8_t *buffer, size_t room, cedar_plan *plan, bool *held, int32_t *before, size_t *position);
+uint32_t cedar_plan_erase(cedar_dictionary *d, const uint8_t *key, size_t length, bool is_summed, size_t *end, uint8_t *buffer, size_t room,
                           cedar_plan *plan, bool *held);
 
-/* Makes one record of those of several changes, which stand behind the first CEDAR_PLAN_GROUP bytes of the buffer, one behind another, each
- * without its last byte, and have so many bytes together; behind them there is room for a byte. The plan's bytes begin with that record. */
-uint32_t cedar_plan_group(size_t length, size_t *end, uint8_t *buffer, size_t room, cedar_plan *plan);
+/* Makes one record of those of several changes, which stand behind the first CEDAR_PLAN_SUMMED_GROUP or CEDAR_PLAN_GROUP bytes of the
+ * buffer, one behind another, each without a sum and without its last byte, and have so many bytes together; behind them there is room for
+ * a byte. The plan's bytes begin with that record. */
+uint32_t cedar_plan_group(size_t length, bool is_summed, size_t *end, uint8_t *buffer, size_t room, cedar_plan *plan);
 
 #endif

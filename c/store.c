@@ -26,7 +26,10 @@ static uint32_t make_ready(cedar_store *s, bool is_reduced) {
     size_t length = 0;
     cedar_plan plan;
     uint32_t status = disk_read(&file->disk, &bytes, &length);
-    if (status == CEDAR_OK) status = cedar_plan_open(&s->dictionary, is_reduced, bytes, length, &file->end, buffer, sizeof buffer, &plan);
+    if (status == CEDAR_OK) {
+        status = cedar_plan_open(&s->dictionary, is_reduced, bytes, length, &file->is_summed, &file->end, &s->damaged_at, buffer,
+                                 sizeof buffer, &plan);
+    }
     if (status == CEDAR_OK && !file->is_to_read && !store_carry_out(&file->disk, &plan, buffer)) status = CEDAR_STORE_DEVICE;
     int cause = errno;
     free(bytes);
@@ -38,6 +41,7 @@ static uint32_t make_ready(cedar_store *s, bool is_reduced) {
 static uint32_t open_closed(cedar_store *s, const char *path, uint32_t how) {
     s->file = calloc(1, sizeof *s->file);
     if (s->file == NULL) return CEDAR_MEMORY;
+    s->damaged_at = 0;
     s->file->every = 1;
     s->file->factor = DEFAULT_FACTOR;
     s->file->spare = DEFAULT_SPARE;
@@ -103,7 +107,7 @@ uint32_t store_write_waiting(struct cedar_store_file *file) {
     cedar_plan plan;
     if (file->waiting == 0) return CEDAR_OK;
     if (disk_is_inherited(&file->disk)) return CEDAR_STORE_LOCKED;
-    uint32_t status = cedar_plan_group(file->filled, &file->end, file->bytes, file->room, &plan);
+    uint32_t status = cedar_plan_group(file->filled, file->is_summed, &file->end, file->bytes, file->room, &plan);
     file->waiting = 0;
     file->filled = 0;
     return status == CEDAR_OK ? store_acknowledge(file, &plan) : status;
@@ -138,9 +142,18 @@ void cedar_store_close(cedar_store *s) {
 
 /* ---- changes */
 
+size_t store_head(bool is_summed) {
+    return is_summed ? CEDAR_PLAN_SUMMED_GROUP : CEDAR_PLAN_GROUP;
+}
+
+/* Whether the record of a change has a sum. One that waits has none, since the record of all that wait has one. */
+static bool has_sum(const struct cedar_store_file *file) {
+    return file->every == 1 && file->is_summed;
+}
+
 /* Where the record of a change is written: first, or behind those that wait. */
 static uint8_t *place_of(const struct cedar_store_file *file, size_t *room) {
-    size_t before = file->every == 1 ? 0 : CEDAR_PLAN_GROUP + file->filled;
+    size_t before = file->every == 1 ? 0 : store_head(file->is_summed) + file->filled;
     *room = file->room - before;
     return file->bytes + before;
 }
@@ -171,7 +184,7 @@ static uint32_t prepare(struct cedar_store_file *file, size_t length) {
     size_t room = length > LONGEST_RECORD ? CEDAR_PLAN_CHANGE : length + CEDAR_PLAN_CHANGE;
     if (file->every == 1) return store_grow(file, room);
     /* The record of a group is no longer than others are. */
-    room += CEDAR_PLAN_GROUP + file->filled;
+    room += store_head(file->is_summed) + file->filled;
     return room > LONGEST_RECORD ? CEDAR_STORE_TOO_LONG : store_grow(file, room);
 }
 
@@ -202,7 +215,7 @@ uint32_t cedar_store_insert(cedar_store *s, const uint8_t *key, size_t length, i
     if (status != CEDAR_OK) return status;
     size_t room, end = s->file->end;
     uint8_t *place = place_of(s->file, &room);
-    status = cedar_plan_put(&s->dictionary, key, length, value, &end, place, room, &plan, &was_held, &was, &at);
+    status = cedar_plan_put(&s->dictionary, key, length, value, has_sum(s->file), &end, place, room, &plan, &was_held, &was, &at);
     if (status == CEDAR_NUL_BYTE && position != NULL) *position = at;
     if (status != CEDAR_OK) return status;
     status = take_up(s, end, &plan);
@@ -223,7 +236,7 @@ uint32_t cedar_store_erase(cedar_store *s, const uint8_t *key, size_t length, bo
     if (status != CEDAR_OK) return status;
     size_t room, end = s->file->end;
     uint8_t *place = place_of(s->file, &room);
-    status = cedar_plan_erase(&s->dictionary, key, length, &end, place, room, &plan, &was_held);
+    status = cedar_plan_erase(&s->dictionary, key, length, has_sum(s->file), &end, place, room, &plan, &was_held);
     if (status == CEDAR_OK && was_held) status = take_up(s, end, &plan);
     if (status == CEDAR_OK && held != NULL) *held = was_held;
     return status;

@@ -15,6 +15,7 @@ struct cedar_store_file {
     bool is_to_read;
     bool has_failed;
     bool is_unsure;             /* it has failed when another file got its name */
+    bool is_summed;             /* whether its records have sums */
     size_t end;                 /* where its records end */
     uint8_t *bytes;             /* those of a plan */
     size_t room;
@@ -29,6 +30,9 @@ struct cedar_store_file {
 
 /* Does what a plan says, up to the first step that fails. */
 bool store_carry_out(const disk_file *disk, const cedar_plan *plan, const uint8_t *bytes);
+
+/* How many bytes stand in front of the records of a group, in a file whose records have sums or not. */
+size_t store_head(bool is_summed);
 
 /* Whether a store takes changes: CEDAR_OK, or why it doesn't. */
 uint32_t store_takes_changes(const struct cedar_store_file *file);

@@ -98,6 +98,7 @@ enum {
     CEDAR_STORE_FAILED = 43,   /* a call failed in an earlier change: cedar_store_compact is the way on */
     CEDAR_STORE_TOO_LONG = 44, /* the key has 2^32 - 5 bytes or more */
     CEDAR_STORE_FULL = 45,     /* the file's records end after 2^60 bytes */
+    CEDAR_STORE_DAMAGED = 46,  /* one of its records was changed by somebody else: see cedar_store_damaged_at */
     CEDAR_STORE_LOCKED = 47,   /* another program, or another variable, has the store open */
     CEDAR_STORE_READ_ONLY = 48, /* the store was opened to read */
     CEDAR_STORE_KEPT = 49      /* the file wasn't replaced by a shorter one: see errno */
@@ -458,9 +459,10 @@ uint32_t cedar_replace_file(const char *path, const uint8_t *bytes, size_t lengt
 typedef struct cedar_store {
     cedar_dictionary dictionary;
     struct cedar_store_file *file;
+    size_t damaged_at;
 } cedar_store;
 
-#define CEDAR_STORE_CLOSED { CEDAR_CLOSED, NULL }
+#define CEDAR_STORE_CLOSED { CEDAR_CLOSED, NULL, 0 }
 
 /* Opens *s with the store of the file at a path. A missing file is created. All changes in the file are made again, which takes their time,
  * and memory for the file's bytes. What a crash has left of a change that wasn't acknowledged is cut off. Returns:
@@ -468,6 +470,8 @@ typedef struct cedar_store {
  * - CEDAR_OK.
  * - CEDAR_STORE_LOCKED if the store is open already, in another program or by another variable. Nothing was written.
  * - CEDAR_STORE_FOREIGN, CEDAR_STORE_CORRUPT, CEDAR_MEMORY or CEDAR_SLOT_LIMIT: nothing was written.
+ * - CEDAR_STORE_DAMAGED if a record isn't whole, or has another sum, which no crash leaves. Nothing was written. cedar_store_damaged_at
+ *   says where in the file it begins. Records of a file of version 1 have no sums (docs/STORE.md).
  * - CEDAR_STORE_DEVICE if a call on the file failed, or if the path has something other than a file (EINVAL): errno has the reason, and the
  *   file still has the same dictionary.
  *
@@ -495,6 +499,11 @@ enum {
 /* As cedar_store_open, with these bits. Bits that aren't known, or can't be met together, are refused with CEDAR_STORE_DEVICE and EINVAL,
  * and *s is as it was. */
 uint32_t cedar_store_open_with(cedar_store *s, const char *path, uint32_t how);
+
+/* Returns at which byte of the file the damaged record begins, if the last opening of *s returned CEDAR_STORE_DAMAGED. Otherwise 0. */
+CEDAR_INLINE size_t cedar_store_damaged_at(const cedar_store *s) {
+    return s->damaged_at;
+}
 
 /* Lends the dictionary of a store to the calls that take a const dictionary. It is closed if the store is. It lives as long as *s. */
 CEDAR_INLINE const cedar_dictionary *cedar_store_dictionary(const cedar_store *s) {

@@ -56,7 +56,7 @@ public:
     std::uint32_t status() const noexcept { return status_; }
 
     /// For CEDAR_NUL_BYTE, the place of the first byte 0 in the key. For CEDAR_DUPLICATE_KEY and CEDAR_KEYS_NOT_SORTED, the index of the
-    /// pair. Otherwise nothing.
+    /// pair. For CEDAR_STORE_DAMAGED, the byte of the file at which the damaged record begins. Otherwise nothing.
     std::optional<std::size_t> position() const noexcept { return position_; }
 
 private:
@@ -64,7 +64,8 @@ private:
         std::uint8_t none = 0;
         std::string text(cedar_status_text(status, &none, 0), ' ');
         if (!text.empty()) cedar_status_text(status, reinterpret_cast<std::uint8_t *>(text.data()), text.size());
-        if (position) text += (status == CEDAR_NUL_BYTE ? " (at byte " : " (at pair ") + std::to_string(*position) + ")";
+        const bool is_byte = status == CEDAR_NUL_BYTE || status == CEDAR_STORE_DAMAGED;
+        if (position) text += (is_byte ? " (at byte " : " (at pair ") + std::to_string(*position) + ")";
         return text;
     }
 
@@ -112,7 +113,8 @@ inline void check(std::uint32_t status, std::size_t position = 0) {
     case CEDAR_MEMORY: throw std::bad_alloc();
     case CEDAR_NUL_BYTE:
     case CEDAR_DUPLICATE_KEY:
-    case CEDAR_KEYS_NOT_SORTED: throw error(status, position);
+    case CEDAR_KEYS_NOT_SORTED:
+    case CEDAR_STORE_DAMAGED: throw error(status, position);
     default: throw error(status, std::nullopt);
     }
 }
@@ -613,12 +615,12 @@ enum class opening { created, existing, fresh, to_read };
 class store {
 public:
     /// Opens the file, and makes its changes again. Throws CEDAR_STORE_LOCKED if the store is open already, in another program or in this
-    /// one; CEDAR_STORE_FOREIGN, CEDAR_STORE_CORRUPT, CEDAR_SLOT_LIMIT, std::bad_alloc, and std::system_error if a call on the file failed,
-    /// with ENOENT or EEXIST for a file that has to be there, or has to be missing.
+    /// one; CEDAR_STORE_FOREIGN, CEDAR_STORE_CORRUPT, CEDAR_STORE_DAMAGED, CEDAR_SLOT_LIMIT, std::bad_alloc, and std::system_error if a
+    /// call on the file failed, with ENOENT or EEXIST for a file that has to be there, or has to be missing.
     explicit store(const std::string &path, layout kind = layout::standard, opening how = opening::created) {
         const std::uint32_t status = cedar_store_open_with(&inside_, path.c_str(), bits_of(kind, how));
         if (status == CEDAR_STORE_DEVICE) detail::throw_file_error(errno, path);
-        check(status, 0);
+        check(status, cedar_store_damaged_at(&inside_));
     }
     store(const store &) = delete;
     store &operator=(const store &) = delete;

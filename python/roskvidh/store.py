@@ -32,6 +32,8 @@ class Store(Words[K]):
     With sync_every=n a change waits until n of them go to the disk as one; with 0 it waits for sync(). A crash takes away those that wait,
     all of them or none, and no others. batch() makes the changes of a block as one, or none of them.
 
+    A file with a record that somebody else has changed raises a CedarError with the status 46, whose text says where that record begins.
+
     A call on the file that fails raises OSError. From then on each change raises CedarError and changes nothing, and look-ups go on, until
     compact() has written all to a new file.
 

@@ -382,11 +382,13 @@ class Stores(unittest.TestCase):
         self.assertEqual((repr(s), s.closed), ("<Store, closed>", True))
 
     def test_refused_files(self):
-        for data, status in [(b"no store at all", 40), (b"\1\x08\0\0\0CEDARJ\0\0\1\1\0\0\0\7", 41)]:
+        damaged = b"\1\x08\0\0\0CEDARJ\2\xfd\xff\x47\x9c\x42\x09\4\0\0\0\0nit"
+        for data, status in [(b"no store at all", 40), (b"\1\x08\0\0\0CEDARJ\0\0\1\1\0\0\0\7", 41), (damaged, 46)]:
             self.path.write_bytes(data)
             with self.assertRaises(CedarError) as caught:
                 Store(self.path)
             self.assertEqual((caught.exception.status, self.path.read_bytes()), (status, data))
+            self.assertEqual("(at byte 13)" in str(caught.exception), status == 46)
         with self.assertRaises(IsADirectoryError):
             Store(self.path.parent)
         with self.assertRaises(FileNotFoundError):

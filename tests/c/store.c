@@ -150,24 +150,67 @@ static void check_errors(void) {
     cedar_store_close(&s);
 }
 
-/* What is told of a change, and each byte of the file that it makes: docs/STORE.md. */
-static void check_bytes(bool is_reduced) {
-    static const uint8_t wanted[] = "\1\x08\0\0\0CEDARJ\0\0"
-                                    "\1\x08\0\0\0\1\7\0\0\0net"
-                                    "\1\x08\0\0\0\1\xfd\xff\xff\x7fnet"
-                                    "\1\4\0\0\0\0net"; /* and the closed gate, which ends the text */
+/* The header of a file of version 1, and a closed gate. */
+static const uint8_t PLAIN[] = "\1\x08\0\0\0CEDARJ\0\0";
+
+/* A new store, or one whose file is of version 1. */
+static void open_version(cedar_store *s, bool is_reduced, bool is_plain) {
+    open_new(s, is_reduced);
+    if (!is_plain) return;
+    write_file(PLAIN, sizeof PLAIN);
+    CHECK((is_reduced ? cedar_store_open_reduced : cedar_store_open)(s, path) == CEDAR_OK);
+}
+
+static void check_found(const uint8_t *wanted, size_t length) {
     static uint8_t found[FILE_ROOM];
+    CHECK(read_file(found) == length && memcmp(found, wanted, length) == 0);
+}
+
+/* What is told of a change, and each byte of the file that it makes: docs/STORE.md. */
+static void check_bytes(bool is_reduced, bool is_plain) {
+    static const uint8_t wanted[] = "\1\x08\0\0\0CEDARJ\2\xfd"
+                                    "\xff\x22\3\xac\x55\x08\0\0\0\1\7\0\0\0net"
+                                    "\xff\x96\xb6\x2e\x8e\x08\0\0\0\1\xfd\xff\xff\x7fnet"
+                                    "\xff\x47\x9c\x42\x09\4\0\0\0\0net"; /* and the closed gate, which ends the text */
+    static const uint8_t plain[] = "\1\x08\0\0\0CEDARJ\0\0"
+                                   "\1\x08\0\0\0\1\7\0\0\0net"
+                                   "\1\x08\0\0\0\1\xfd\xff\xff\x7fnet"
+                                   "\1\4\0\0\0\0net";
     cedar_store s = CEDAR_STORE_CLOSED;
     bool held = true;
     int32_t before = 5;
-    open_new(&s, is_reduced);
+    open_version(&s, is_reduced, is_plain);
     CHECK(cedar_is_reduced(cedar_store_dictionary(&s)) == is_reduced);
     CHECK(cedar_store_insert(&s, bytes("net"), 3, 7, &held, &before, NULL) == CEDAR_OK && !held && before == 5);
     CHECK(cedar_store_insert(&s, bytes("net"), 3, CEDAR_MAX_VALUE, &held, &before, NULL) == CEDAR_OK && held && before == 7);
     CHECK(at(&s, "net") == CEDAR_MAX_VALUE && count(&s) == 1);
     CHECK(erase(&s, "ne") == CEDAR_OK && cedar_store_erase(&s, bytes("net"), 3, &held) == CEDAR_OK && held && count(&s) == 0);
-    CHECK(read_file(found) == sizeof wanted && memcmp(found, wanted, sizeof wanted) == 0);
+    check_found(is_plain ? plain : wanted, is_plain ? sizeof plain : sizeof wanted);
     cedar_store_close(&s);
+}
+
+/* Each bit of a small file of version 2, turned: the file is refused, and nothing is written to it, or it has the same keys. */
+static void check_bits(bool is_group) {
+    static uint8_t whole[FILE_ROOM];
+    cedar_store s = CEDAR_STORE_CLOSED;
+    open_new(&s, false);
+    if (is_group) CHECK(cedar_store_sync_every(&s, 0) == CEDAR_OK);
+    CHECK(update(&s, "net", 7) == CEDAR_OK && update(&s, "nets", 8) == CEDAR_OK && erase(&s, "net") == CEDAR_OK);
+    cedar_store_close(&s);
+    size_t length = read_file(whole), refused = 0;
+    for (size_t bit = 0; bit < 8 * length; bit++) {
+        whole[bit / 8] ^= (uint8_t)(1 << bit % 8);
+        write_file(whole, length);
+        uint32_t status = cedar_store_open(&s, path);
+        CHECK(status == CEDAR_OK || status == CEDAR_STORE_FOREIGN || status == CEDAR_STORE_DAMAGED);
+        CHECK(cedar_store_damaged_at(&s) <= bit / 8 && (cedar_store_damaged_at(&s) >= sizeof PLAIN - 1) == (status == CEDAR_STORE_DAMAGED));
+        if (status == CEDAR_OK) CHECK(count(&s) == 1 && at(&s, "nets") == 8);
+        else check_found(whole, length);
+        refused += status != CEDAR_OK;
+        cedar_store_close(&s);
+        whole[bit / 8] ^= (uint8_t)(1 << bit % 8);
+    }
+    CHECK(refused > 7 * length);
 }
 
 /* A store goes on where it was, also in the other layout. */
@@ -205,6 +248,11 @@ static void check_files(const char *folder) {
     check_refused("\1\x08\0\0\0CEDARJ\0\0\1\1\0\0\0\7", 19, CEDAR_STORE_CORRUPT);
     check_refused("\1\x08\0\0\0CEDARJ\0\0\1\x05\0\0\0\1\1\0\0\0", 23, CEDAR_STORE_CORRUPT);
     check_refused("\1\x08\0\0\0CEDARJ\0\0\1\x06\0\0\0\1\xff\xff\xff\xff.", 24, CEDAR_STORE_CORRUPT);
+    check_refused("\1\x08\0\0\0CEDARJ\2\xfd\xff\x47\x9c\x42\x09\4\0\0\0\0nit", 26, CEDAR_STORE_DAMAGED);
+    check_refused("\1\x08\0\0\0CEDARJ\2\xfd\xff\x47\x9c\x42\x09\4\0\0\0\0ne", 25, CEDAR_STORE_DAMAGED);
+    CHECK(cedar_store_open(&s, path) == CEDAR_STORE_DAMAGED && cedar_store_damaged_at(&s) == 13);
+    write_file("\1\x08\0\0\0CEDARJ\2\xfd\xff\x47\x9c\x42\x09\4\0\0\0\0net\xff\x22", 28);
+    CHECK(cedar_store_open(&s, path) == CEDAR_STORE_DAMAGED && cedar_store_damaged_at(&s) == 26);
     /* What a crash may leave. */
     write_file("\0", 1);
     CHECK(cedar_store_open(&s, path) == CEDAR_OK && count(&s) == 0 && update(&s, "net", 7) == CEDAR_OK);
@@ -279,24 +327,27 @@ static void check_calls(void) {
     cedar_store_close(&s);
 }
 
-/* Changes that go to the disk together: which calls they make, what waits, and each byte of the file. */
-static void check_group(bool is_reduced) {
-    static const uint8_t wanted[] = "\1\x08\0\0\0CEDARJ\0\0"
-                                    "\1\x24\0\0\0\2\1\x08\0\0\0\1\7\0\0\0net"
+/* Changes that go to the disk together: which calls they make, what waits, and each byte of the file. Their own records have no sums. */
+static void check_group(bool is_reduced, bool is_plain) {
+    static const uint8_t wanted[] = "\1\x08\0\0\0CEDARJ\2\xfd"
+                                    "\xff\x85\x86\x3f\x8f\x24\0\0\0\2\1\x08\0\0\0\1\7\0\0\0net"
                                     "\1\x08\0\0\0\1\xfd\xff\xff\x7fnet"
                                     "\1\4\0\0\0\0net"; /* and the closed gate, which ends the text */
-    static uint8_t found[FILE_ROOM];
+    static const uint8_t plain[] = "\1\x08\0\0\0CEDARJ\0\0"
+                                   "\1\x24\0\0\0\2\1\x08\0\0\0\1\7\0\0\0net"
+                                   "\1\x08\0\0\0\1\xfd\xff\xff\x7fnet"
+                                   "\1\4\0\0\0\0net";
     cedar_store s = CEDAR_STORE_CLOSED;
     bool held = true;
     CHECK(cedar_store_sync(&s) == CEDAR_IS_CLOSED && cedar_store_sync_every(&s, 3) == CEDAR_IS_CLOSED && cedar_store_waiting(&s) == 0);
-    open_new(&s, is_reduced);
+    open_version(&s, is_reduced, is_plain);
     CHECK(cedar_store_sync_every(&s, 3) == CEDAR_OK);
     begin(NONE, 0);
     CHECK(update(&s, "net", 7) == CEDAR_OK && update(&s, "", 7) == CEDAR_EMPTY_KEY && erase(&s, "ten") == CEDAR_OK);
     CHECK(cedar_store_waiting(&s) == 1 && at(&s, "net") == 7);
     CHECK(update(&s, "net", CEDAR_MAX_VALUE) == CEDAR_OK && cedar_store_waiting(&s) == 2 && strcmp(calls, "") == 0);
     CHECK(cedar_store_erase(&s, bytes("net"), 3, &held) == CEDAR_OK && held && cedar_store_waiting(&s) == 0 && strcmp(calls, "wsws") == 0);
-    CHECK(read_file(found) == sizeof wanted && memcmp(found, wanted, sizeof wanted) == 0);
+    check_found(is_plain ? plain : wanted, is_plain ? sizeof plain : sizeof wanted);
     begin(NONE, 0);
     CHECK(cedar_store_sync(&s) == CEDAR_OK && strcmp(calls, "") == 0);
     CHECK(update(&s, "net", 8) == CEDAR_OK && cedar_store_sync(&s) == CEDAR_OK && strcmp(calls, "wsws") == 0);
@@ -424,12 +475,13 @@ static bool check_end(long step, bool is_erasure) {
 int main(int argument_count, char **arguments) {
     CHECK(argument_count == 2 && snprintf(path, sizeof path, "%s/test.store", arguments[1]) > 0);
     check_errors();
-    for (int is_reduced = 0; is_reduced < 2; is_reduced++) check_bytes(is_reduced);
+    for (int kind = 0; kind < 4; kind++) check_bytes(kind % 2, kind / 2);
+    for (int is_group = 0; is_group < 2; is_group++) check_bits(is_group);
     check_again();
     check_files(arguments[1]);
     for (int is_reduced = 0; is_reduced < 2; is_reduced++) check_runs(is_reduced);
     check_calls();
-    for (int is_reduced = 0; is_reduced < 2; is_reduced++) check_group(is_reduced);
+    for (int kind = 0; kind < 4; kind++) check_group(kind % 2, kind / 2);
     for (enum fault which = FAILS; which <= ENDS_THE_PROCESS; which++) {
         long step = 0;
         while (step < LAST_STEP && check_group_change(which, step)) step++;

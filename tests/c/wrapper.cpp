@@ -508,6 +508,10 @@ void stores(layout kind, const std::string &folder) {
     std::FILE *file = std::fopen(path.c_str(), "wb");
     CHECK(file != nullptr && std::fputs("no store at all", file) >= 0 && std::fclose(file) == 0);
     refused(CEDAR_STORE_FOREIGN, std::nullopt, "the file is not of a store", [&] { roskvidh::store(path, kind); });
+    const std::string damaged("\1\x08\0\0\0CEDARJ\2\xfd\xff\x47\x9c\x42\x09\4\0\0\0\0nit", 26);
+    file = std::fopen(path.c_str(), "wb");
+    CHECK(file != nullptr && std::fwrite(damaged.data(), 1, damaged.size(), file) == damaged.size() && std::fclose(file) == 0);
+    refused(CEDAR_STORE_DAMAGED, 13, "a record of the store's file is damaged (at byte 13)", [&] { roskvidh::store(path, kind); });
     std::remove(path.c_str());
 }
 

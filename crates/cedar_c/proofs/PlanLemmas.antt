@@ -1,14 +1,15 @@
 -- What a plan makes of a file that stands for a dictionary.
 use Rattle.std.specs.Prelude.{ℤ, IfSome, OnOk, option_and_then, option_map, Option, Some, Result, Ok, Err}
 use Rattle.std.proofs.Common.{◌≡◌, ℕ, ◌+◌, ◌<◌, List, [], ◌∷◌, ◌++◌, length, refl, sym, ◌∙◌, ap, subst, arith}
+use Rattle.cedar_journal.specs.declared.format.Format.{Format}
 use Rattle.cedar_journal.specs.declared.records.Extent.{Extent}
 use Rattle.cedar_journal.specs.Files.{HasExtent, recovered}
+use Rattle.cedar_journal.specs.Formats.{frame_of, opening, overhead}
 use Rattle.cedar_journal.specs.Journal.{IsBeforeOrAfter}
-use Rattle.cedar_journal.specs.Records.{framed}
 use Rattle.cedar_journal.proofs.Moments as moments
 use Rattle.cedar_disk.specs.Calls.{LeftSince, opened, seen_after}
 use Rattle.cedar_plan.specs.Plans.{works_of}
-use Rattle.cedar_plan.specs.Works.{Work, append_works, end_of, opening_works}
+use Rattle.cedar_plan.specs.Works.{Work, append_works, end_of, format_in, opening_works}
 use Rattle.cedar_plan.specs.declared.plan.Plan.{Plan}
 use Rattle.cedar_plan.proofs.Appending.{append_is_safe}
 use Rattle.cedar_plan.proofs.Opening.{opening_is_safe}
@@ -26,51 +27,55 @@ use Rattle.cedar_c.specs.declared.any.AnyCedar.{AnyCedar}
 pub makes : (payload : List ℕ) (change : Change) (s : State) → change_of payload ≡ Some change → after s payload ≡ Some (changed s change)
 makes payload change s has = ap (option_map (all_changed s)) (one_change payload change has)
 
-module _ (end : ℕ) (payload : List ℕ) (s t : State) (short : length payload < 4294967296) (room : end < 1152921504606846976) (told : after s payload ≡ Some t) where
-  pub is_change : (to : ℕ) (works : List Work) → works ≡ append_works end payload → end + 5 + length payload ≡ to → IsChangePlan works end to s t
+module _ (f : Format) (end : ℕ) (payload : List ℕ) (s t : State) (short : length payload < 4294967296) (room : end < 1152921504606846976) (told : after s payload ≡ Some t) where
+  pub is_change : (to : ℕ) (works : List Work) → works ≡ append_works f end payload → end + overhead f + length payload ≡ to → IsChangePlan works f end to s t
   is_change to works is far =
-      subst (λ (l : List Work). IsChangePlan l end to s t) (sym is)
-      (subst (λ n. IsChangePlan (append_works end payload) end n s t) far
+      subst (λ (l : List Work). IsChangePlan l f end to s t) (sym is)
+      (subst (λ n. IsChangePlan (append_works f end payload) f end n s t) far
       (record {
         kept = λ calls kept.
-            let safe = append_is_safe calls end payload kept.rest short room in
+            let safe = append_is_safe calls f end payload kept.rest short room in
             record { rest = safe.rest; same = state_added (seen_after calls) _ payload s t kept.same told safe.more };
         any_moment = λ calls later kept out.
-            let safe = append_is_safe calls end payload kept.rest short room in
+            let safe = append_is_safe calls f end payload kept.rest short room in
             moments.weakens length LeftSince calls later (IsBeforeOrAfter (recovered (seen_after calls)) payload) (IsEither s t)
             (λ c outcome. either (seen_after calls) c payload s t kept.same told outcome) (safe.any_moment later out);
       }))
 
 pub is_opening : (bytes : List ℕ) (extent : Extent) (works : List Work) (s : State) → HasExtent bytes extent → works ≡ opening_works extent → state_of bytes ≡ Some s
-    → IsOpening bytes works (end_of extent) s
+    → IsOpening bytes works (format_in extent) (end_of extent) s
 is_opening bytes extent works s has is stands =
     let safe = opening_is_safe bytes extent has in
     let same : (c : List ℕ) → recovered c ≡ recovered bytes → state_of c ≡ Some s = λ c is. ap (option_and_then (replayed new_state)) is ∙ stands in
-    subst (λ (l : List Work). IsOpening bytes l (end_of extent) s) (sym is)
+    subst (λ (l : List Work). IsOpening bytes l (format_in extent) (end_of extent) s) (sym is)
     (record {
       kept = record { rest = safe.rest; same = same _ safe.same };
       any_moment = λ later out.
           moments.weakens length LeftSince (opened bytes ∷ []) later (λ c. recovered c ≡ recovered bytes) (λ c. state_of c ≡ Some s) same (safe.any_moment later out);
     })
 
+-- a plan appends whatever record of this size its bytes begin with
+abbrev pub PlansAppend : Plan → ℕ → ℕ → Type 0
+PlansAppend plan size end =
+    (f : Format) (payload rest : List ℕ) → size ≡ 1 + overhead f + length payload → works_of ((opening f ∷ frame_of f payload) ++ rest) plan ≡ append_works f end payload
+
 -- the plan of a record in a buffer
-pub planned_by : (change : Change) (end n size to : ℕ) (buffer : List ℕ) (plan : Plan) (s : State) → IsRecord change end n size buffer
-    → ((payload rest : List ℕ) → size ≡ 6 + length payload → works_of ((1 ∷ framed payload) ++ rest) plan ≡ append_works end payload)
-    → to + 1 ≡ end + size → IsChangePlan (works_of buffer plan) end to s (changed s change)
-planned_by change end n size to buffer plan s r works far =
-    is_change end r.payload s (changed s change) (omega (arith, r.short, r.long)) r.room (makes r.payload change s r.has) to (works_of buffer plan)
-    (ap (λ (b : List ℕ). works_of b plan) r.written ∙ works r.payload r.rest (omega (arith, r.size_is, r.long))) (omega (arith, far, r.size_is, r.long))
+pub planned_by : (change : Change) (f : Format) (end n size to : ℕ) (buffer : List ℕ) (plan : Plan) (s : State) → IsRecord change f end n size buffer
+    → PlansAppend plan size end → to + 1 ≡ end + size → IsChangePlan (works_of buffer plan) f end to s (changed s change)
+planned_by change f end n size to buffer plan s r works far =
+    is_change f end r.payload s (changed s change) (omega (arith, r.short, r.long)) r.room (makes r.payload change s r.has) to (works_of buffer plan)
+    (ap (λ (b : List ℕ). works_of b plan) r.written ∙ works f r.payload r.rest (omega (arith, r.size_is, r.long))) (omega (arith, far, r.size_is, r.long))
 
 -- what a handle has that was opened just now
 pub opened_has : (P : State → Type 0) (o : Option AnyCedar) (a : AnyCedar) → o ≡ Some a → P (dictionary_in a).state → IfSome (option_map (λ b. (dictionary_in b).state) o) P
 opened_has P o a is has = subst (λ (x : Option AnyCedar). IfSome (option_map (λ b. (dictionary_in b).state) x) P) (sym is) has
 
 -- the plan of a put, whose value a word of the machine held meanwhile
-pub put_planned : (key : List ℕ) (w v : ℤ) (end n size to : ℕ) (buffer : List ℕ) (plan : Plan) (s : State) → IsRecord (put_at key w) end n size buffer → w ≡ v
-    → ((payload rest : List ℕ) → size ≡ 6 + length payload → works_of ((1 ∷ framed payload) ++ rest) plan ≡ append_works end payload)
-    → to + 1 ≡ end + size → IsChangePlan (works_of buffer plan) end to s (stored s key v)
-put_planned key w v end n size to buffer plan s r same works far =
-    subst (λ x. IsChangePlan (works_of buffer plan) end to s (stored s key x)) same (planned_by (put_at key w) end n size to buffer plan s r works far)
+pub put_planned : (key : List ℕ) (w v : ℤ) (f : Format) (end n size to : ℕ) (buffer : List ℕ) (plan : Plan) (s : State)
+    → IsRecord (put_at key w) f end n size buffer → w ≡ v → PlansAppend plan size end → to + 1 ≡ end + size
+    → IsChangePlan (works_of buffer plan) f end to s (stored s key v)
+put_planned key w v f end n size to buffer plan s r same works far =
+    subst (λ x. IsChangePlan (works_of buffer plan) f end to s (stored s key x)) same (planned_by (put_at key w) f end n size to buffer plan s r works far)
 
 -- what a call says of `Ok` that isn't refused
 pub not_refused : {E : Type 0} (r : Result (Unit {0}) E) (P : Type 0) → OnOk r P → ((e : E) → r ≡ Err e → ⊥) → P

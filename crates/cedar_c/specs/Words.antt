@@ -7,13 +7,13 @@ pub use Rattle.cedar_c.specs.Cuts.{IsLeastCut, LacksPlacesForCut, prices, Writes
 pub use Rattle.cedar_c.specs.Entries.{bytes_lacking, EndsPage, entries_behind_key, PageOf, TellsEntries, TellsPage, visited_key, WritesNothing, WritesPage}
 pub use Rattle.cedar_c.specs.Files.{early_refusal, file_in, file_status, is_reduced_byte, IsFileOf, LacksOrCorrupt, TellsNoTable}
 pub use Rattle.cedar_c.specs.Files.{layout_named, minor_of, TellsHeader, TellsJust}
-pub use Rattle.cedar_c.specs.Groups.{AddsChange, IsGroup, LacksGroup}
+pub use Rattle.cedar_c.specs.Groups.{AddsChange, group_head, IsGroup, LacksGroup}
 pub use Rattle.cedar_c.specs.Layouts.{dictionary_in, HasToGrow, layout_if, layout_of}
 pub use Rattle.cedar_c.specs.Lending.{as_shown, LendsCedar, LendsSeen}
 pub use Rattle.cedar_c.specs.Matches.{filled_from, filled_matches, Fit, front_keys, lengthened, longer, match_of, predicted_keys}
 pub use Rattle.cedar_c.specs.Opens.{OpensBuilt, OpensLoaded, OpensNew}
 pub use Rattle.cedar_c.specs.Pairs.{build_fault, entries_in, keys_in, MayWantSlots, named_keys, StoresFront, StoresPart, taken_pair}
-pub use Rattle.cedar_c.specs.Plans.{IsChangePlan, IsErasurePlan, IsOpening, IsPutPlan, LacksChange, LacksRecord, TellsWhy, store_status}
+pub use Rattle.cedar_c.specs.Plans.{damage_of, format_if, IsChangePlan, IsErasurePlan, IsOpening, IsPutPlan, LacksChange, LacksRecord, TellsWhy, store_status}
 pub use Rattle.cedar_c.specs.Readings.{shown_figure, shown_in, shown_layout, shown_tree}
 pub use Rattle.cedar_c.specs.Scans.{found_keywords, found_spot, found_spots, found_token, found_tokens, WritesOn, WritesPiece}
 pub use Rattle.cedar_c.specs.Shrinks.{Shrinks}
@@ -24,11 +24,14 @@ pub use Rattle.cedar_format.specs.Format.{header_answer}
 pub use Rattle.cedar_format.specs.Refusal.{refusal_of}
 pub use Rattle.cedar_format.specs.Tables.{IsTableFile, table_bytes}
 pub use Rattle.cedar_journal.specs.Files.{HasExtent}
-pub use Rattle.cedar_journal.specs.Records.{framed}
+pub use Rattle.cedar_journal.specs.Formats.{frame_of, opening, overhead}
+pub use Rattle.cedar_journal.specs.Records.{length_bytes}
+pub use Rattle.cedar_journal.specs.declared.format.Format.{Format}
+pub use Rattle.cedar_journal.specs.declared.format.Format.TheVariants.{Plain, Summed}
 pub use Rattle.cedar_model.specs.Meaning.WellFormed.{IsWellFormed, tree_of}
 pub use Rattle.cedar_model.specs.Table.Layouts.{default_layout, layout_byte, reduced_layout}
 pub use Rattle.cedar_plan.specs.Plans.{works_of}
-pub use Rattle.cedar_plan.specs.Works.{append_works, end_of}
+pub use Rattle.cedar_plan.specs.Works.{append_works, end_of, format_in}
 pub use Rattle.cedar_store.specs.Causes.{LoadCause}
 pub use Rattle.cedar_store.specs.Changes.{erase_at, put_at}
 pub use Rattle.cedar_store.specs.Files.{state_of}

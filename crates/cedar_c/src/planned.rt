@@ -2,32 +2,37 @@
 //! the change. These exports are the library's own, and no program sees them.
 
 ghost use Rattle.std.specs.Prelude.{◌≡◌, ◌≢◌, ◌⊎◌, ◌↔◌, ◌+◌, ◌<◌, ◌≤◌, ◌^◌, ◌++◌, ◌∷◌, ℕ, List, IfErr, IfOk, IfSome, IsFalse, IsSome, IsTrue, None, Some, length, option_map, take};
-ghost use Rattle.cedar_c.specs.Words.{AddsChange, append_works, content, dictionary_in, end_of, erase_at, erased, fault, framed, HasExtent, IsChangePlan, IsErasurePlan, IsOpening, IsPutPlan, LacksChange, LacksRecord, layout_if, layout_in, layout_of, LoadCause, number_at, position_of, put_at, state_in, state_of, status_of, store_status, stored, TellsWhy, tree_in, works_of};
+ghost use Rattle.cedar_c.specs.Words.{AddsChange, append_works, content, damage_of, dictionary_in, end_of, erase_at, erased, fault, Format, format_if, format_in, frame_of, HasExtent, IsChangePlan, IsErasurePlan, IsOpening, IsPutPlan, LacksChange, LacksRecord, layout_if, layout_in, layout_of, LoadCause, number_at, opening, overhead, position_of, put_at, state_in, state_of, status_of, store_status, stored, TellsWhy, tree_in, works_of};
 
 use crate::any::AnyCedar;
 use crate::handle::Handle;
-use crate::records::{check_pair, place, write_erasure, write_put};
-use crate::status::{CLOSED, NO_ROOM, OK, OTHER, STORE_CORRUPT, STORE_FOREIGN, tell};
-use cedar_journal::{Extent, HEADER_LEN};
+use crate::records::{check_pair, format_if, place, write_erasure, write_put};
+use crate::status::{
+    CLOSED, NO_ROOM, OK, OTHER, STORE_CORRUPT, STORE_DAMAGED, STORE_FOREIGN, tell,
+};
+use cedar_journal::{Extent, Format, HEADER_LEN};
 use cedar_plan::{HEADER, Plan, plan_append, plan_opening};
 use cedar_store::{DurableError, words_of};
 use cedarwood::CedarError;
 use std::alloc::Global;
 
 /// Opens a handle with the dictionary that a file's bytes stand for. If the handle is open, the new one replaces the old one. The file was
-/// synced, and then read. It writes the plan by which the file is made ready, whose bytes it writes into the first places of a buffer, and
-/// where the records end then.
+/// synced, and then read. It writes the plan by which the file is made ready, whose bytes it writes into the first places of a buffer, where
+/// the records end then, and whether they have sums.
 ///
 /// # Errors
 /// `NO_ROOM` if the buffer has fewer than 14 places, `STORE_FOREIGN` if the file is of another kind, `STORE_CORRUPT` if one of its records
-/// is no change, `MEMORY` and `SLOT_LIMIT`. Then the handle is as it was, and nothing is written.
+/// is no change, `MEMORY` and `SLOT_LIMIT`. `STORE_DAMAGED` if somebody else has changed a record; it writes where that begins. Then the
+/// handle is as it was, and nothing else is written.
 #[unsafe(no_mangle)]
 pub extern "C" fn cedar_plan_open(
     handle: &mut Handle,
     alloc: Global,
     is_reduced: bool,
     bytes: &[u8],
+    is_summed: &mut bool,
     end: &mut usize,
+    damaged_at: &mut usize,
     buffer: &mut [u8],
     plan: &mut Plan,
 ) -> u32
@@ -37,13 +42,13 @@ pub extern "C" fn cedar_plan_open(
 
     //= Once the plan of an opening is carried out, the file is at rest, on the disk, and stands for that dictionary. A crash at any moment,
     //  even if a step fails, leaves a file that stands for it. [by IsOpening]
-    ensures ready { result ≡ OK → IfSome (state_in handle.new) (IsOpening bytes.now (works_of buffer.new plan.new) end.new) }
+    ensures ready { result ≡ OK → IfSome (state_in handle.new) (IsOpening bytes.now (works_of buffer.new plan.new) (format_if is_summed.new) end.new) }
 
-    //= A file is refused by its number as foreign or corrupt exactly as by a store, or for lack of memory or slots. Then the handle has
-    //  what it had, and no plan is written. [with kept, told; by LoadCause]
-    ensures refused { (result ≡ OK) ⊎ ((result ≡ NO_ROOM) × (length buffer.old < 14)) ⊎ TellsWhy bytes.now result }
+    //= A file is refused by its number as foreign, corrupt or damaged exactly as by a store, with the place of the damage, or for lack of
+    //  memory or slots. Then the handle has what it had, and no plan is written. [with kept, told; by LoadCause]
+    ensures refused { (result ≡ OK) ⊎ ((result ≡ NO_ROOM) × (length buffer.old < 14)) ⊎ TellsWhy bytes.now damaged_at.old damaged_at.new result }
     ensures kept { (result ≡ OK) ⊎ (content handle.new ≡ content handle.old) }
-    ensures told { (result ≡ OK) ⊎ ((end.new ≡ end.old) × (plan.new ≡ plan.old)) }
+    ensures told { (result ≡ OK) ⊎ ((is_summed.new ≡ is_summed.old) × (end.new ≡ end.old) × (plan.new ≡ plan.old)) }
 {
     if let Err(status) = place(&HEADER, buffer) {
         return status;
@@ -52,28 +57,30 @@ pub extern "C" fn cedar_plan_open(
         Ok((cedar, extent)) => {
             let _ = handle.take(alloc);
             *handle = Handle::of(cedar);
+            *is_summed = has_sums(extent);
             *end = end_of(extent);
             *plan = plan_opening(extent);
             OK
         }
-        Err(error) => tell_unread(error),
+        Err(error) => tell_unread(error, damaged_at),
     }
 }
 
 /// Stores a value at a key, and writes whether the key was held before, and with which value. It writes the change's record into the first
 /// places of a buffer, whose other places may be written to as well, and the plan by which that is appended where the records end; then
-/// they end elsewhere.
+/// they end elsewhere. The record has a sum if those of the file have one. One that waits for those of a group has none.
 ///
 /// # Errors
 /// `CLOSED`, and the number of the pair's first fault; `STORE_FULL` if the records end after 2^60 bytes; `STORE_TOO_LONG` if the key has
-/// 2^32 - 5 bytes or more; `NO_ROOM` if the buffer has fewer places than the key has bytes and 11 more; `MEMORY` and `SLOT_LIMIT`. Then the
-/// dictionary holds what it held, and nothing is reported.
+/// 2^32 - 5 bytes or more; `NO_ROOM` if the buffer has fewer places than the key has bytes and 11 more, or 15 with a sum; `MEMORY` and
+/// `SLOT_LIMIT`. Then the dictionary holds what it held, and nothing is reported.
 #[unsafe(no_mangle)]
 pub extern "C" fn cedar_plan_put(
     handle: &mut Handle,
     alloc: Global,
     key: &[u8],
     value: i32,
+    is_summed: bool,
     end: &mut usize,
     buffer: &mut [u8],
     plan: &mut Plan,
@@ -95,21 +102,32 @@ pub extern "C" fn cedar_plan_put(
 
     //= Once the plan of a put is carried out, a file that stood for the dictionary from before it stands for the one with it, on the disk.
     //  A crash at any moment, even if a step fails, leaves the one or the other. [by IsChangePlan]
-    ensures planned { result ≡ OK → IfSome (state_in handle.old) (λ s. IsChangePlan (works_of buffer.new plan.new) end.old end.new s (stored s key.now value)) }
+    ensures planned { result ≡ OK → IfSome (state_in handle.old) (λ s. IsChangePlan (works_of buffer.new plan.new) (format_if is_summed) end.old end.new s (stored s key.now value)) }
 
-    //= What a put that returns `OK` has written is the record of its change, which may follow those of a group without its last byte. The
-    //  same holds of an erasure of a key that was held. [also cedar_plan_erase]
-    ensures recorded { result ≡ OK → AddsChange (put_at key.now value) (take (length key.now + 10) buffer.new) }
+    //= What a put without a sum that returns `OK` has written is the record of its change, which may follow those of a group without its
+    //  last byte. The same holds of an erasure of a key that was held. [also cedar_plan_erase]
+    ensures recorded { result ≡ OK → IsFalse is_summed → AddsChange (put_at key.now value) (take (length key.now + 10) buffer.new) }
 
     //= A put returns the number of the pair's first fault, with the position of a byte 0. Otherwise it is refused only if the records end
     //  too far back, the record is too long or finds no room, or for lack of memory or slots. [with refused]
     ensures faulty { IsSome (content handle.old) → IfSome (fault key.now value) (λ e. (result ≡ status_of e) × (position.new ≡ position_of position.old e)) }
-    ensures refused { IsSome (content handle.old) → fault key.now value ≡ None → LacksChange end.old (length key.now + 5) (length buffer.old) result }
+    ensures refused { IsSome (content handle.old) → fault key.now value ≡ None → LacksChange (format_if is_summed) end.old (length key.now + 5) (length buffer.old) result }
 {
     if !handle.is_open() {
         return CLOSED;
     }
-    handle.held.lend().plan_put(alloc, key, value, end, buffer, plan, held, before, position)
+    handle.held.lend().plan_put(
+        alloc,
+        key,
+        value,
+        format_if(is_summed),
+        end,
+        buffer,
+        plan,
+        held,
+        before,
+        position,
+    )
 }
 
 /// Removes a key, and writes whether it was held; if it was, it writes the record and the plan as `cedar_plan_put` does. Otherwise nothing
@@ -123,6 +141,7 @@ pub extern "C" fn cedar_plan_erase(
     handle: &mut Handle,
     alloc: Global,
     key: &[u8],
+    is_summed: bool,
     end: &mut usize,
     buffer: &mut [u8],
     plan: &mut Plan,
@@ -142,12 +161,12 @@ pub extern "C" fn cedar_plan_erase(
     //= Once the plan of an erasure is carried out, a file that stood for the dictionary from before it stands for the one without the key,
     //  on the disk. A crash at any moment, even if a step fails, leaves the one or the other. [by IsChangePlan]
     ensures planned { result ≡ OK → IsTrue held.new
-        → IfSome (state_in handle.old) (λ s. IsChangePlan (works_of buffer.new plan.new) end.old end.new s (erased s key.now)) }
+        → IfSome (state_in handle.old) (λ s. IsChangePlan (works_of buffer.new plan.new) (format_if is_summed) end.old end.new s (erased s key.now)) }
 
-    ensures recorded { result ≡ OK → IsTrue held.new → AddsChange (erase_at key.now) (take (length key.now + 6) buffer.new) }
+    ensures recorded { result ≡ OK → IsTrue held.new → IsFalse is_summed → AddsChange (erase_at key.now) (take (length key.now + 6) buffer.new) }
 
     //= An erasure is refused only if the records end too far back, the record is too long or finds no room, or for lack of memory.
-    ensures refused { IsSome (content handle.old) → (result ≡ OK) ⊎ LacksRecord end.old (length key.now + 1) (length buffer.old) result }
+    ensures refused { IsSome (content handle.old) → (result ≡ OK) ⊎ LacksRecord (format_if is_summed) end.old (length key.now + 1) (length buffer.old) result }
 {
     if !handle.is_open() {
         return CLOSED;
@@ -155,16 +174,21 @@ pub extern "C" fn cedar_plan_erase(
     handle
         .held
         .lend()
-        .plan_erase(alloc, key, end, buffer, plan, held)
+        .plan_erase(alloc, key, format_if(is_summed), end, buffer, plan, held)
 }
 
-/// The number of why a file wasn't read as a dictionary.
-fn tell_unread(error: DurableError) -> u32
-    ensures { result ≡ store_status error }
+/// The number of why a file wasn't read as a dictionary. It writes where a damaged record begins.
+fn tell_unread(error: DurableError, damaged_at: &mut usize) -> u32
+    ensures status { result ≡ store_status error }
+    ensures place { damaged_at.new ≡ damage_of damaged_at.old error }
 {
     match error {
         DurableError::Foreign => STORE_FOREIGN,
         DurableError::Corrupt => STORE_CORRUPT,
+        DurableError::Damaged(at) => {
+            *damaged_at = at;
+            STORE_DAMAGED
+        }
         DurableError::Refused(error) => {
             let mut position = 0;
             tell(error, &mut position)
@@ -179,7 +203,17 @@ fn end_of(extent: Extent) -> usize
 {
     match extent {
         Extent::New => HEADER_LEN,
-        Extent::Until(end) => end,
+        Extent::Until(_, end) => end,
+    }
+}
+
+/// Whether the records of a file have sums once it is opened that goes as far as this.
+fn has_sums(extent: Extent) -> bool
+    ensures { format_if result ≡ format_in extent }
+{
+    match extent {
+        Extent::New | Extent::Until(Format::Summed, _) => true,
+        Extent::Until(Format::Plain, _) => false,
     }
 }
 
@@ -235,6 +269,7 @@ impl AnyCedar {
         alloc: Global,
         key: &[u8],
         value: i32,
+        format: Format,
         end: &mut usize,
         buffer: &mut [u8],
         plan: &mut Plan,
@@ -249,15 +284,15 @@ impl AnyCedar {
         ensures before { result ≡ OK → IfSome (number_at (dictionary_in self.old).state.tree key.now) (λ v. before.new ≡ v) }
         ensures untold { (result ≡ OK) ⊎ ((held.new ≡ held.old) × (before.new ≡ before.old) × (end.new ≡ end.old) × (plan.new ≡ plan.old)) }
         ensures layout { layout_of self.new ≡ layout_of self.old }
-        ensures planned { result ≡ OK → IsPutPlan (works_of buffer.new plan.new) end.old end.new (dictionary_in self.old).state key.now value }
-        ensures recorded { result ≡ OK → AddsChange (put_at key.now value) (take (length key.now + 10) buffer.new) }
+        ensures planned { result ≡ OK → IsPutPlan (works_of buffer.new plan.new) format end.old end.new (dictionary_in self.old).state key.now value }
+        ensures recorded { result ≡ OK → format ≡ Plain → AddsChange (put_at key.now value) (take (length key.now + 10) buffer.new) }
         ensures faulty { IfSome (fault key.now value) (λ e. (result ≡ status_of e) × (position.new ≡ position_of position.old e)) }
-        ensures refused { fault key.now value ≡ None → LacksChange end.old (length key.now + 5) (length buffer.old) result }
+        ensures refused { fault key.now value ≡ None → LacksChange format end.old (length key.now + 5) (length buffer.old) result }
     {
         if let Err(error) = check_pair(key, value) {
             return tell(error, position);
         }
-        let size = match write_put(alloc, *end, key, value, buffer) {
+        let size = match write_put(alloc, format, *end, key, value, buffer) {
             Ok(size) => size,
             Err(status) => return status,
         };
@@ -279,6 +314,7 @@ impl AnyCedar {
         &mut self,
         alloc: Global,
         key: &[u8],
+        format: Format,
         end: &mut usize,
         buffer: &mut [u8],
         plan: &mut Plan,
@@ -292,15 +328,15 @@ impl AnyCedar {
         ensures untold { (result ≡ OK) ⊎ ((held.new ≡ held.old) × (end.new ≡ end.old) × (plan.new ≡ plan.old)) }
         ensures layout { layout_of self.new ≡ layout_of self.old }
         ensures planned { result ≡ OK → IsTrue held.new
-            → IsErasurePlan (works_of buffer.new plan.new) end.old end.new (dictionary_in self.old).state key.now }
-        ensures recorded { result ≡ OK → IsTrue held.new → AddsChange (erase_at key.now) (take (length key.now + 6) buffer.new) }
-        ensures refused { (result ≡ OK) ⊎ LacksRecord end.old (length key.now + 1) (length buffer.old) result }
+            → IsErasurePlan (works_of buffer.new plan.new) format end.old end.new (dictionary_in self.old).state key.now }
+        ensures recorded { result ≡ OK → IsTrue held.new → format ≡ Plain → AddsChange (erase_at key.now) (take (length key.now + 6) buffer.new) }
+        ensures refused { (result ≡ OK) ⊎ LacksRecord format end.old (length key.now + 1) (length buffer.old) result }
     {
         if !self.contains_key_bytes(key) {
             *held = false;
             return OK;
         }
-        match write_erasure(alloc, *end, key, buffer) {
+        match write_erasure(alloc, format, *end, key, buffer) {
             Ok(size) => {
                 self.erase_bytes(key);
                 go_on(size, end, plan);
@@ -317,8 +353,8 @@ pub(crate) fn go_on(size: usize, end: &mut usize, plan: &mut Plan)
     requires room { end.old < 2 ^ 60 }
     requires record { 6 ≤ size }
     requires short { size < 2 ^ 33 }
-    ensures planned { (payload : List ℕ) (rest : List ℕ) → size ≡ 6 + length payload
-        → works_of ((1 ∷ framed payload) ++ rest) plan.new ≡ append_works end.old payload }
+    ensures planned { (format : Format) (payload : List ℕ) (rest : List ℕ) → size ≡ 1 + overhead format + length payload
+        → works_of ((opening format ∷ frame_of format payload) ++ rest) plan.new ≡ append_works format end.old payload }
     ensures end { end.new + 1 ≡ end.old + size }
 {
     *plan = plan_append(*end, size);

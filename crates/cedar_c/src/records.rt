@@ -1,35 +1,36 @@
 //! The records of changes, written into a buffer of the caller's.
 
 ghost use Rattle.std.specs.Prelude.{◌==◌, ◌≡◌, ◌+◌, ◌<◌, ◌^◌, ◌++◌, ◌∷◌, ℕ, IfErr, IfOk, IfSome, IsOk, List, None, OnOk, length, position};
-ghost use Rattle.cedar_c.specs.Words.{erase_at, fault, framed, IsRecord, key_fault, LacksRecord, put_at, value_fault};
+ghost use Rattle.cedar_c.specs.Words.{erase_at, fault, format_if, frame_of, IsRecord, key_fault, LacksRecord, opening, overhead, put_at, value_fault};
 
 use crate::save::copy_whole;
 use crate::status::{MEMORY, NO_ROOM, OK, STORE_FULL, STORE_TOO_LONG};
-use cedar_journal::{FrameError, MAX_END};
+use cedar_journal::{Format, FrameError, MAX_END};
 use cedar_plan::record_of;
 use cedar_store::{erase_payload, put_payload};
 use cedarwood::{CedarError, MAX_VALUE, MIN_VALUE};
 use std::alloc::Global;
 
-/// Writes the record of a put into the first places of a buffer, for a file whose records end here, and returns how many bytes it has. The
-/// pair has no fault.
+/// Writes the record of a put into the first places of a buffer, for a file with records of this format that end here, and returns how many
+/// bytes it has. The pair has no fault.
 ///
 /// # Errors
 /// The number of why there is none: the records end too far back, the payload is too long, the buffer is too short, or an allocation was
 /// refused.
 pub(crate) fn write_put(
     alloc: Global,
+    format: Format,
     end: usize,
     key: &[u8],
     value: i32,
     buffer: &mut [u8],
 ) -> Result<usize, u32>
     requires { fault key.now value ≡ None }
-    ensures written { IfOk result (λ size. IsRecord (put_at key.now value) end (length key.now + 5) size buffer.new) }
-    ensures refused { IfErr result (λ status. LacksRecord end (length key.now + 5) (length buffer.old) status) }
+    ensures written { IfOk result (λ size. IsRecord (put_at key.now value) format end (length key.now + 5) size buffer.new) }
+    ensures refused { IfErr result (λ status. LacksRecord format end (length key.now + 5) (length buffer.old) status) }
 {
     match put_payload(alloc, key, value) {
-        Ok(payload) => match write_record(alloc, end, &payload, buffer) {
+        Ok(payload) => match write_record(alloc, format, end, &payload, buffer) {
             Ok(size) => Ok(size),
             Err(status) => Err(status),
         },
@@ -40,15 +41,16 @@ pub(crate) fn write_put(
 /// As `write_put`, of an erasure.
 pub(crate) fn write_erasure(
     alloc: Global,
+    format: Format,
     end: usize,
     key: &[u8],
     buffer: &mut [u8],
 ) -> Result<usize, u32>
-    ensures written { IfOk result (λ size. IsRecord (erase_at key.now) end (length key.now + 1) size buffer.new) }
-    ensures refused { IfErr result (λ status. LacksRecord end (length key.now + 1) (length buffer.old) status) }
+    ensures written { IfOk result (λ size. IsRecord (erase_at key.now) format end (length key.now + 1) size buffer.new) }
+    ensures refused { IfErr result (λ status. LacksRecord format end (length key.now + 1) (length buffer.old) status) }
 {
     match erase_payload(alloc, key) {
-        Ok(payload) => match write_record(alloc, end, &payload, buffer) {
+        Ok(payload) => match write_record(alloc, format, end, &payload, buffer) {
             Ok(size) => Ok(size),
             Err(status) => Err(status),
         },
@@ -56,24 +58,41 @@ pub(crate) fn write_erasure(
     }
 }
 
-/// Writes the record of a payload into the first places of a buffer, for a file whose records end here.
-fn write_record(alloc: Global, end: usize, payload: &[u8], buffer: &mut [u8]) -> Result<usize, u32>
-    ensures size { IfOk result (λ size. size ≡ 6 + length payload.now) }
+/// Writes the record of a payload into the first places of a buffer, for a file with records of this format that end here.
+fn write_record(
+    alloc: Global,
+    format: Format,
+    end: usize,
+    payload: &[u8],
+    buffer: &mut [u8],
+) -> Result<usize, u32>
+    ensures size { IfOk result (λ size. size ≡ 1 + overhead format + length payload.now) }
     ensures short { OnOk result (length payload.now < 2 ^ 32) }
     ensures room { OnOk result (end < 2 ^ 60) }
-    ensures written { OnOk result ((rest : List ℕ) × (buffer.new ≡ (1 ∷ framed payload.now) ++ rest)) }
-    ensures refused { IfErr result (λ status. LacksRecord end (length payload.now) (length buffer.old) status) }
+    ensures written { OnOk result ((rest : List ℕ) × (buffer.new ≡ (opening format ∷ frame_of format payload.now) ++ rest)) }
+    ensures refused { IfErr result (λ status. LacksRecord format end (length payload.now) (length buffer.old) status) }
 {
     if end >= MAX_END {
         return Err(STORE_FULL);
     }
-    match record_of(alloc, payload) {
+    match record_of(alloc, format, payload) {
         Ok(record) => match place(&record, buffer) {
             Ok(()) => Ok(record.len()),
             Err(status) => Err(status),
         },
         Err(FrameError::TooLong) => Err(STORE_TOO_LONG),
         Err(FrameError::Memory) => Err(MEMORY),
+    }
+}
+
+/// The format of records that have a sum or not.
+pub(crate) fn format_if(is_summed: bool) -> Format
+    ensures { result ≡ format_if is_summed }
+{
+    if is_summed {
+        Format::Summed
+    } else {
+        Format::Plain
     }
 }
 

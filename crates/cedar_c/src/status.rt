@@ -93,6 +93,9 @@ pub(crate) const STORE_TOO_LONG: u32 = 44;
 /// The records of the store's file end after 2^60 bytes.
 pub(crate) const STORE_FULL: u32 = 45;
 
+/// A record of the store's file was changed by somebody else.
+pub(crate) const STORE_DAMAGED: u32 = 46;
+
 /// The number of an error. If a byte 0 was refused, it writes its position, and if a key isn't above the one before it, the index of its
 /// pair.
 pub(crate) fn tell(error: CedarError, position: &mut usize) -> u32
@@ -167,6 +170,7 @@ fn text_of(status: u32) -> &'static str
         STORE_FAILED => "the store has failed: open its file again",
         STORE_TOO_LONG => "the change is too long for a record",
         STORE_FULL => "the store's file is too long",
+        STORE_DAMAGED => "a record of the store's file is damaged",
         _ => "an error without a text",
     }
 }

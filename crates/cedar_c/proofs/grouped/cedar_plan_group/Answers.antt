@@ -1,12 +1,19 @@
-use Rattle.std.proofs.Common.{take, drop, arith, length-drop}
+use Rattle.std.proofs.Common.{◌≡◌, ◌+◌, length, take, drop, subst, arith, length-drop}
 use Rattle.std.proofs.lemmas.List.{length-take-le}
+use Rattle.cedar_plan.specs.Plans.{works_of}
+use Rattle.cedar_c.specs.Groups.{IsGroup, group_head}
 use Rattle.cedar_c.proofs.GroupLemmas.{is_group}
+use Rattle.cedar_c.proofs.PlanLemmas.{PlansAppend}
 use Rattle.cedar_c.proofs.grouped.cedar_plan_group.Goals as goal
 
--- src/grouped.rt:22:1
 pub returns-clause-planned : goal.returns-clause-planned
 returns-clause-planned c ok =
-    let size = length-drop 6 c.args.buffer.now in
-    is_group c.args.end.now c.go_on.new.end c.args.size (take c.args.size (drop 6 c.args.buffer.now)) c.frame_group.ensures.0 c.frame_group.new.buffer c.go_on.new.plan
-    c.in_default.ensures.room (length-take-le c.args.size (drop 6 c.args.buffer.now) (omega (arith, size, c.in_default.ensures.places))) c.in_default.ensures.short
-    c.frame_group.ensures.1 c.go_on.ensures.planned c.go_on.ensures.end
+    let f = c.format_if.result in
+    let b = c.args.buffer.now in
+    let n = c.args.size in
+    let head = c.head_len.ensures in
+    let long = length-take-le n (drop (group_head f) b) (omega (arith, length-drop (group_head f) b, c.in_default.ensures.places)) in
+    subst (λ g. IsGroup (works_of c.frame_group.new.buffer c.go_on.new.plan) g c.args.end.now c.go_on.new.end (take n (drop (group_head g) b))) c.format_if.ensures
+    (is_group f c.args.end.now c.go_on.new.end n (take n (drop (group_head f) b)) c.frame_group.new.buffer c.go_on.new.plan c.in_default.ensures.room long
+    c.in_default.ensures.short c.frame_group.ensures (subst (λ k. PlansAppend c.go_on.new.plan (n + k + 1) c.args.end.now) head c.go_on.ensures.planned)
+    (subst (λ k. c.go_on.new.end + 1 ≡ c.args.end.now + (n + k + 1)) head c.go_on.ensures.end))

@@ -1,9 +1,9 @@
 use Rattle.std.proofs.Common.{◌≡◌, ◌∙◌, ℕ, List, ap, subst, sym}
 use Rattle.cedar_plan.specs.Plans.{works_of}
-use Rattle.cedar_plan.specs.Works.{opening_works}
+use Rattle.cedar_plan.specs.Works.{end_of, opening_works}
 use Rattle.cedar_c.specs.Content.{content}
 use Rattle.cedar_c.specs.Layouts.{dictionary_in}
-use Rattle.cedar_c.specs.Plans.{IsOpening}
+use Rattle.cedar_c.specs.Plans.{IsOpening, format_if}
 use Rattle.cedar_c.proofs.PlanLemmas.{is_opening, not_refused, opened_has}
 use Rattle.cedar_c.proofs.planned.cedar_plan_open.Goals as goal
 
@@ -15,6 +15,8 @@ returns-in-Ok-clause-ready c = λ ok.
     let s = (dictionary_in c.in-Ok.cedar.value).state in
     let placed = not_refused _ _ c.place.ensures.written c.in_default.not-Err in
     let works : works_of buffer plan ≡ opening_works c.in-Ok.extent = ap (λ (b : List ℕ). works_of b plan) placed.1 ∙ c.plan_opening.ensures placed.0 in
-    opened_has (IsOpening bytes (works_of buffer plan) c.end_of.result) (content c.of.result) c.in-Ok.cedar.value c.of.ensures
-    (subst (λ n. IsOpening bytes (works_of buffer plan) n s) (sym c.end_of.ensures)
-    (is_opening bytes c.in-Ok.extent (works_of buffer plan) s c.in-Ok.ensures.extent works c.in-Ok.ensures.stands))
+    let extent = c.in-Ok.extent in
+    opened_has (IsOpening bytes (works_of buffer plan) (format_if c.has_sums.result) c.end_of.result) (content c.of.result) c.in-Ok.cedar.value c.of.ensures
+    (subst (λ n. IsOpening bytes (works_of buffer plan) (format_if c.has_sums.result) n s) (sym c.end_of.ensures)
+    (subst (λ f. IsOpening bytes (works_of buffer plan) f (end_of extent) s) (sym c.has_sums.ensures)
+    (is_opening bytes extent (works_of buffer plan) s c.in-Ok.ensures.extent works c.in-Ok.ensures.stands)))

@@ -7,10 +7,10 @@ use Rattle.cedar_c.proofs.any.AnyCedar.plan_erase.Goals as goal
 
 pub returns-in-Ok-clause-planned : goal.returns-in-Ok-clause-planned
 returns-in-Ok-clause-planned c = λ ok held.
-    planned_by (erase_at c.args.key.now) c.args.end.now (length c.args.key.now + 1) c.in-Ok.size c.go_on.new.end c.write_erasure.new.buffer c.go_on.new.plan
+    planned_by (erase_at c.args.key.now) c.args.format c.args.end.now (length c.args.key.now + 1) c.in-Ok.size c.go_on.new.end c.write_erasure.new.buffer c.go_on.new.plan
     (dictionary_in c.args.self.now).state c.in-Ok.ensures.written c.go_on.ensures.planned c.go_on.ensures.end
 
 pub returns-in-Ok-clause-recorded : goal.returns-in-Ok-clause-recorded
-returns-in-Ok-clause-recorded c = λ ok held.
-    adds_change (erase_at c.args.key.now) c.args.end.now (length c.args.key.now + 1) c.in-Ok.size (length c.args.key.now + 6) c.write_erasure.new.buffer (omega arith)
-    c.in-Ok.ensures.written
+returns-in-Ok-clause-recorded c = λ ok held plain.
+    adds_change (erase_at c.args.key.now) c.args.format c.args.end.now (length c.args.key.now + 1) c.in-Ok.size (length c.args.key.now + 6) c.write_erasure.new.buffer (omega arith)
+    c.in-Ok.ensures.written plain
