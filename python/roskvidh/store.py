@@ -2,7 +2,7 @@
 
 import os
 from contextlib import contextmanager
-from typing import Any, Iterable, Iterator, List, Literal, Optional, Tuple, TypeVar, Union, overload
+from typing import Any, Iterable, Iterator, Literal, Optional, Tuple, TypeVar, Union, overload
 
 from . import _core
 from .cedar import Cedar, Pairs, _pairs_of, _restore
@@ -103,17 +103,17 @@ class Store(Words[K]):
         """Makes the changes of a block as one when it ends: they are on the disk then, whatever sync_every says, and a crash leaves all of
         them or none. If the block ends by an exception none of them is made.
 
-        Within the block its thread sees its own changes by calls of one key: s[key], key in s, get, pop, setdefault, popitem. All other
-        calls, as len, iterations and searches in texts, show the store as it was before the block, and so do all calls of other threads.
-        What other threads change meanwhile isn't of the block. A block in a block is a part of it: what it changes is made with the outer
-        block's changes, or dropped by itself. A block is one thread's: with asyncio don't await within it.
+        Within the block its thread sees its own changes, but for searches in texts (prefixes, longest_prefix, scan, segment, keywords,
+        cheapest), copies and saves: these show the store as it was before the block, and so do all calls of other threads. What other
+        threads change meanwhile isn't of the block. A block in a block is a part of it: what it changes is made with the outer block's
+        changes, or dropped by itself. A block is one thread's: with asyncio don't await within it.
 
         >>> import os, tempfile
         >>> with tempfile.TemporaryDirectory() as folder, Store(os.path.join(folder, "words.store")) as s:
         ...     with s.batch():
         ...         s[b"net"] = 7
         ...         s[b"nets"] = 8
-        ...         s.waiting, s[b"net"], len(s)
+        ...         s.waiting, dict(s)
         ...     s.waiting, len(s)
         ...     try:
         ...         with s.batch():
@@ -121,7 +121,7 @@ class Store(Words[K]):
         ...             raise KeyError
         ...     except KeyError:
         ...         dict(s)
-        (2, 7, 0)
+        (2, {b'net': 7, b'nets': 8})
         (0, 2)
         {b'net': 7, b'nets': 8}
         """
@@ -200,29 +200,21 @@ class Store(Words[K]):
     def clear(self) -> None:
         """Removes all keys, as a batch."""
         with self.batch():
-            for key in self._held_keys():
+            for key in list(self):
                 self.pop(key, None)
 
     def erase_prefix(self, prefix: K, /) -> int:
         """Removes each key that begins with a prefix, as a batch, and returns how many there were."""
         with self.batch():
-            return sum(self.pop(key, None) is not None for key in self._held_keys(prefix))
+            return sum(self.pop(key, None) is not None for key in self.keys(prefix))
 
     def popitem(self) -> Tuple[K, int]:
         """Removes some key and returns it with its value. An empty store raises KeyError."""
         if not self._is_in_block():
             return super().popitem()
-        for key in self._held_keys():
+        for key in self:
             return key, self.pop(key)
         raise KeyError("popitem(): dictionary is empty")
-
-    def _held_keys(self, prefix: Optional[K] = None) -> List[K]:
-        """The keys that begin with a prefix, as the thread sees them in its blocks."""
-        held = list(self if prefix is None else self.keys(prefix))
-        if not self._is_in_block():
-            return held
-        begun = [key for key in self._block_keys() if prefix is None or key.startswith(prefix)]
-        return [key for key in held if key in self] + begun
 
     def erase_all(self, keys: Iterable[K], /) -> int:
         """Removes the keys of an iterable, as a batch, and returns how many of them were held."""

@@ -159,25 +159,89 @@ PyObject *core_end_block(Core *core, PyObject *arguments) {
     Py_RETURN_NONE;
 }
 
-/* The keys that this thread's blocks have put and the dictionary hasn't got. */
-PyObject *core_block_keys(Core *core, PyObject *nothing) {
-    (void)nothing;
-    PyObject *all = PyDict_New(), *list = PyList_New(0), *layers = layers_of(core), *key, *value;
-    Py_ssize_t next = 0, length;
-    char *at;
+/* ---- what a thread sees of its blocks */
+
+/* All that this thread's blocks have changed, as one layer; NULL where it is in no block, or with an error. */
+static PyObject *merged_layers(Core *core) {
+    PyObject *layers = layers_of(core), *all = layers ? PyDict_New() : NULL;
+    for (Py_ssize_t i = 0; all && i < PyList_Size(layers); i++) {
+        if (PyDict_Update(all, PyList_GetItem(layers, i)) < 0) Py_CLEAR(all);
+    }
+    return all;
+}
+
+static Span span_of(PyObject *key) {
+    char *at = NULL;
+    Py_ssize_t length = 0;
+    PyBytes_AsStringAndSize(key, &at, &length);
+    return (Span){key, (const uint8_t *)at, (size_t)length};
+}
+
+static bool is_below(const Span *key, const Span *bound) {
+    int order = memcmp(key->at, bound->at, key->length < bound->length ? key->length : bound->length);
+    return order < 0 || (order == 0 && key->length < bound->length);
+}
+
+static bool is_within(const Bounds *bounds, const Span *key) {
+    const Span *prefix = bounds->prefix;
+    if (prefix && (key->length < prefix->length || memcmp(key->at, prefix->at, prefix->length) != 0)) return false;
+    return (!bounds->low || !is_below(key, bounds->low)) && (!bounds->high || is_below(key, bounds->high));
+}
+
+/* How many keys with a prefix there are more for this thread than in the dictionary: fewer, if it is below 0. */
+int block_more(Core *core, const Span *prefix, Py_ssize_t *more) {
+    PyObject *all = merged_layers(core), *key, *value;
+    Py_ssize_t next = 0;
     int32_t unwanted;
-    int done = all && list && !PyErr_Occurred() && core_ready(core) == 0 ? 0 : -1;
-    for (Py_ssize_t i = 0; done == 0 && layers && i < PyList_Size(layers); i++) done = PyDict_Update(all, PyList_GetItem(layers, i));
-    while (done == 0 && PyDict_Next(all, &next, &key, &value)) {
-        PyBytes_AsStringAndSize(key, &at, &length);
-        if (value == Py_None || cedar_get(&core->store.dictionary, (const uint8_t *)at, (size_t)length, &unwanted)) continue;
-        PyObject *given = key_give(core, (const uint8_t *)at, (size_t)length);
-        done = given ? PyList_Append(list, given) : -1;
-        Py_XDECREF(given);
+    while (all && PyDict_Next(all, &next, &key, &value)) {
+        Span span = span_of(key);
+        if (!is_within(&(Bounds){prefix, NULL, NULL}, &span)) continue;
+        bool was_held = cedar_get(&core->store.dictionary, span.at, span.length, &unwanted);
+        *more += (value != Py_None) - was_held;
     }
     Py_XDECREF(all);
-    if (done < 0) Py_CLEAR(list);
-    return list;
+    return PyErr_Occurred() ? -1 : 0;
+}
+
+/* Adds a key with what the blocks say of it, which they then don't say any more; or else with what it held. */
+static int merge_one(PyObject *all, const uint8_t *key, cedar_match match, Gathered *merged) {
+    PyObject *name = PyBytes_FromStringAndSize((const char *)key, (Py_ssize_t)match.length);
+    PyObject *value = name ? PyDict_GetItemWithError(all, name) : NULL;
+    bool is_erased = value == Py_None;
+    int done = PyErr_Occurred() ? -1 : 0;
+    if (value && !is_erased) match.value = (int32_t)PyLong_AsLong(value);
+    if (value) done = PyDict_DelItem(all, name);
+    if (done == 0 && !is_erased && !gathered_append(merged, key, match)) done = fail_with(CEDAR_MEMORY);
+    Py_XDECREF(name);
+    return done;
+}
+
+static int merge_all(PyObject *all, const Bounds *bounds, const Gathered *gathered, Gathered *merged) {
+    PyObject *key, *value;
+    Py_ssize_t next = 0;
+    const uint8_t *at = gathered->bytes;
+    for (size_t i = 0; i < gathered->count; at += gathered->matches[i++].length) {
+        if (merge_one(all, at, gathered->matches[i], merged) < 0) return -1;
+    }
+    while (PyDict_Next(all, &next, &key, &value)) {
+        Span span = span_of(key);
+        if (value == Py_None || !is_within(bounds, &span)) continue;
+        if (!gathered_append(merged, span.at, (cedar_match){(int32_t)PyLong_AsLong(value), span.length})) return fail_with(CEDAR_MEMORY);
+    }
+    return gathered_sort(merged) ? 0 : fail_with(CEDAR_MEMORY);
+}
+
+/* Makes what was gathered from the dictionary what this thread sees. */
+int block_merge(Core *core, const Bounds *bounds, Gathered *gathered) {
+    Gathered merged = {0};
+    PyObject *all = merged_layers(core);
+    if (!all) return PyErr_Occurred() ? -1 : 0;
+    int done = merge_all(all, bounds, gathered, &merged);
+    Py_DECREF(all);
+    Gathered unwanted = done < 0 ? merged : *gathered;
+    if (done == 0) *gathered = merged;
+    gathered_free(&unwanted);
+    return done;
 }
 
 PyObject *core_is_in_block(Core *core, PyObject *nothing) {

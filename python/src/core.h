@@ -88,14 +88,24 @@ int key_erase(Core *core, const uint8_t *at, size_t length);
 
 /* blocks.c: changes of a store that are made as one. What the first two answer is an error where it is below 0. */
 enum { BLOCK_SILENT = 2 };
+
+/* Which keys are wanted: those that begin with a prefix, from `low` on and before `high`; NULL is no bound. */
+typedef struct Bounds {
+    const Span *prefix;
+    const Span *low;
+    const Span *high;
+} Bounds;
+
+struct Gathered;
 int block_is_open(Core *core);
 int block_find(Core *core, const uint8_t *at, size_t length, int32_t *value);
 int block_put(Core *core, const Span *span, int32_t value);
 int block_erase(Core *core, const uint8_t *at, size_t length);
 Py_ssize_t block_count(Core *core);
+int block_more(Core *core, const Span *prefix, Py_ssize_t *more);
+int block_merge(Core *core, const Bounds *bounds, struct Gathered *gathered);
 PyObject *core_begin_block(Core *core, PyObject *nothing);
 PyObject *core_end_block(Core *core, PyObject *arguments);
-PyObject *core_block_keys(Core *core, PyObject *nothing);
 PyObject *core_is_in_block(Core *core, PyObject *nothing);
 
 /* gather.c: keys with their values, in memory of their own. */
@@ -111,6 +121,8 @@ typedef struct Gathered {
 } Gathered;
 
 void gathered_free(Gathered *gathered);
+bool gathered_append(Gathered *gathered, const uint8_t *key, cedar_match match);
+bool gathered_sort(Gathered *gathered);
 bool gather_all(const cedar *dictionary, Gathered *gathered);
 bool gather_below(const cedar *dictionary, const Span *prefix, bool is_ordered, Gathered *gathered);
 bool gather_between(const cedar *dictionary, const Span *low, const Span *high, bool is_ordered, Gathered *gathered);

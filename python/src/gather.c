@@ -35,7 +35,7 @@ static bool make_room(void **memory, size_t *room, size_t needed, size_t size) {
     return true;
 }
 
-static bool append(Gathered *gathered, const uint8_t *key, cedar_match match) {
+bool gathered_append(Gathered *gathered, const uint8_t *key, cedar_match match) {
     if (!make_room((void **)&gathered->bytes, &gathered->room, gathered->size + match.length, 1)) return false;
     if (!make_room((void **)&gathered->matches, &gathered->places, gathered->count + 1, sizeof match)) return false;
     memcpy(gathered->bytes + gathered->size, key, match.length);
@@ -108,7 +108,7 @@ static int by_key(const void *left, const void *right) {
     return order ? order : (a->match.length > b->match.length) - (a->match.length < b->match.length);
 }
 
-static bool sort(Gathered *gathered) {
+bool gathered_sort(Gathered *gathered) {
     Gathered sorted = {0};
     Entry *entries = malloc((gathered->count + 1) * sizeof *entries);
     bool done = entries != NULL;
@@ -118,7 +118,7 @@ static bool sort(Gathered *gathered) {
         key += gathered->matches[i].length;
     }
     if (done) qsort(entries, gathered->count, sizeof *entries, by_key);
-    for (size_t i = 0; done && i < gathered->count; i++) done = append(&sorted, entries[i].key, entries[i].match);
+    for (size_t i = 0; done && i < gathered->count; i++) done = gathered_append(&sorted, entries[i].key, entries[i].match);
     free(entries);
     Gathered unsorted = *gathered;
     *gathered = sorted;
@@ -197,7 +197,7 @@ static bool search_children(Search *search, size_t left) {
 static bool search_node(Search *search, size_t keys) {
     cedar_match match = {0, search->depth};
     if (cedar_get(search->dictionary, search->path, search->depth, &match.value)) {
-        if (!append(search->found, search->path, match)) return false;
+        if (!gathered_append(search->found, search->path, match)) return false;
         keys--;
     }
     return search_children(search, keys);
@@ -207,12 +207,12 @@ static bool search_node(Search *search, size_t keys) {
 static bool gather_wanted(const cedar *dictionary, const Wanted *wanted, bool is_ordered, Gathered *gathered) {
     if (!gather_all(dictionary, gathered)) return false;
     keep(wanted, gathered);
-    return is_ordered || sort(gathered);
+    return is_ordered || gathered_sort(gathered);
 }
 
 /* The keys that begin with a prefix, ascending by bytes. False where memory is wanted. */
 bool gather_below(const cedar *dictionary, const Span *prefix, bool is_ordered, Gathered *gathered) {
-    return gather_page(dictionary, prefix, gathered) && (is_ordered || gathered->count == 0 || sort(gathered));
+    return gather_page(dictionary, prefix, gathered) && (is_ordered || gathered->count == 0 || gathered_sort(gathered));
 }
 
 /* Puts a child of a node on a bound on the list, if there are keys below it. */
@@ -239,7 +239,7 @@ static bool bounded_node(Search *search, Node node, const Wanted *wanted, size_t
     cedar_match match = {0, depth};
     if (is_on_high && depth == wanted->high->length) return true;
     if (!is_on_low && cedar_get(search->dictionary, search->path, depth, &match.value)) {
-        if (!append(search->found, search->path, match)) return false;
+        if (!gathered_append(search->found, search->path, match)) return false;
         ++*total;
     }
     if (!make_room((void **)&search->path, &search->room, depth + 1, 1)) return false;
@@ -302,7 +302,7 @@ bool gather_any(const cedar *dictionary, Gathered *gathered) {
         }
         done = done && found > 0;
     }
-    done = done && append(gathered, search.path, match);
+    done = done && gathered_append(gathered, search.path, match);
     search_end(&search);
     return done;
 }

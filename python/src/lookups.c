@@ -36,7 +36,10 @@ int core_contains(Core *core, PyObject *key) {
 }
 
 Py_ssize_t core_length(Core *core) {
-    return core_ready(core) < 0 ? -1 : (Py_ssize_t)cedar_len(&core->store.dictionary);
+    if (core_ready(core) < 0) return -1;
+    Py_ssize_t more = 0;
+    if (core->blocks && block_more(core, NULL, &more) < 0) return -1;
+    return (Py_ssize_t)cedar_len(&core->store.dictionary) + more;
 }
 
 PyObject *core_get(Core *core, PyObject *arguments) {

@@ -162,7 +162,6 @@ static PyMethodDef core_methods[] = {
     {"_compacted_size", (PyCFunction)core_compacted_size, METH_NOARGS, NULL},
     {"_begin_block", (PyCFunction)core_begin_block, METH_NOARGS, NULL},
     {"_end_block", (PyCFunction)core_end_block, METH_VARARGS, NULL},
-    {"_block_keys", (PyCFunction)core_block_keys, METH_NOARGS, NULL},
     {"_is_in_block", (PyCFunction)core_is_in_block, METH_NOARGS, NULL},
     {"_dump", (PyCFunction)core_dump, METH_O, NULL},
     {"_update", (PyCFunction)core_update, METH_O, NULL},

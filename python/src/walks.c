@@ -107,6 +107,15 @@ static int prefix_take(Core *core, PyObject *given, Span *prefix) {
     return 0;
 }
 
+/* Ends what gathers from the dictionary: a thread sees what it has changed in its blocks. */
+static int walk_filled(Walk *walk, bool is_done, const Bounds *bounds) {
+    Core *core = walk->core;
+    walk->keys_changed = core->keys_changed;
+    walk->values_changed = core->values_changed;
+    if (!is_done) return fail_with(CEDAR_MEMORY);
+    return core->blocks ? block_merge(core, bounds, &walk->gathered) : 0;
+}
+
 static int walk_fill(Walk *walk, const Span *prefix, bool is_all) {
     Core *core = walk->core;
     Turn turn;
@@ -114,9 +123,7 @@ static int walk_fill(Walk *walk, const Span *prefix, bool is_all) {
     bool done = is_all ? gather_all(&core->store.dictionary, &walk->gathered)
                        : gather_below(&core->store.dictionary, prefix, core->is_ordered, &walk->gathered);
     turn_end(&turn);
-    walk->keys_changed = core->keys_changed;
-    walk->values_changed = core->values_changed;
-    return done ? 0 : fail_with(CEDAR_MEMORY);
+    return walk_filled(walk, done, &(Bounds){is_all ? NULL : prefix, NULL, NULL});
 }
 
 /* An iteration that has gathered nothing yet. */
@@ -156,9 +163,7 @@ static int range_fill(Walk *walk, const Span *low, const Span *high) {
     if (core_ready(core) < 0 || turn_begin(core, cedar_len(&core->store.dictionary) >= LONG_COUNT, &turn) < 0) return -1;
     bool done = gather_between(&core->store.dictionary, low, high, core->is_ordered, &walk->gathered);
     turn_end(&turn);
-    walk->keys_changed = core->keys_changed;
-    walk->values_changed = core->values_changed;
-    return done ? 0 : fail_with(CEDAR_MEMORY);
+    return walk_filled(walk, done, &(Bounds){NULL, low, high});
 }
 
 /* An iteration over the keys from one on and before another; None is no bound. */
@@ -183,13 +188,15 @@ PyObject *core_count(Core *core, PyObject *given) {
     cedar_match unused;
     size_t count = 0;
     if (span_take(core, given, &prefix) < 0) return NULL;
+    Py_ssize_t more = 0;
     int begun = begin_below(core, &prefix, &turn);
     if (begun == 0) {
         count = cedar_predictions(&core->store.dictionary, prefix.at, prefix.length, &unused, 0);
         turn_end(&turn);
+        if (core->blocks) begun = block_more(core, &prefix, &more);
     }
     Py_DECREF(prefix.owner);
-    return begun < 0 ? NULL : PyLong_FromSize_t(count);
+    return begun < 0 ? NULL : PyLong_FromSsize_t((Py_ssize_t)count + more);
 }
 
 static PyObject *prefixes_give(Core *core, const Span *text, const cedar_match *matches, size_t count) {

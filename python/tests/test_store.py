@@ -184,7 +184,7 @@ class Stores(unittest.TestCase):
                 with s.batch():
                     s[b"c"] = 3
                 s.update({b"d": 4})
-                self.assertEqual((s.waiting, s.sync_every, len(s)), (3, 3, 2))
+                self.assertEqual((s.waiting, s.sync_every, len(s)), (3, 3, 5))
             self.assertEqual((s.waiting, s.sync_every, len(s)), (0, 3, 5))
             s.sync_every = 0
             s[b"w"] = 9
@@ -218,7 +218,7 @@ class Stores(unittest.TestCase):
                         s[b"net"] = 9
                         del s[b"nets"]
                         s.update({b"b": 2})
-                        self.assertEqual((s[b"net"], b"nets" in s, b"a" in s, s.get(b"b"), s.waiting, len(s)), (9, False, True, 2, 4, 2))
+                        self.assertEqual((s[b"net"], b"nets" in s, b"a" in s, s.get(b"b"), s.waiting, len(s)), (9, False, True, 2, 4, 3))
                         raise error
                 self.assertEqual((dict(s), s.waiting, self.path.read_bytes()), ({b"net": 7, b"nets": 8}, 0, data))
             for key, value, status in [(b"", 1, 4), (b"a\0", 1, 5), (b"a", -1, 6)]:
@@ -252,10 +252,12 @@ class Stores(unittest.TestCase):
                             del s[nets]
                             self.assertEqual((s[a], nets in s, s.get(nets, 3)), (5, False, 3))
                             raise RuntimeError
-                    self.assertEqual((a in s, s[nets], dict(s.items())), (False, 2, {net: 7, ten: 9}))
+                    self.assertEqual((a in s, s[nets], dict(s.items())), (False, 2, {net: 1, nets: 2, ten: 9}))
                     with s.batch():
                         s[a] = 6
-                    self.assertEqual(s[a], 6)
+                    self.assertEqual((list(s), len(s), dict(s)), ([a, net, nets, ten], 4, {a: 6, net: 1, nets: 2, ten: 9}))
+                    self.assertEqual((list(s.items(net)), list(s.values(a)), list(s.irange(net, nets))), ([(net, 1), (nets, 2)], [6], [net]))
+                    self.assertEqual((len(s.keys(net)), len(s.keys(ten)), s.longest_prefix(nets)), (2, 1, (net, 7)))
                 self.assertEqual(dict(s), {a: 6, net: 1, nets: 2, ten: 9})
                 with s.batch():
                     s[net + net] = 3
@@ -269,7 +271,34 @@ class Stores(unittest.TestCase):
                     self.assertEqual(s.popitem(), (net, 2))
                     with self.assertRaises(KeyError):
                         s.popitem()
+                    self.assertEqual((len(s), list(s)), (0, []))
                 self.assertEqual(dict(s), {})
+
+    def test_blocks_beside_a_dict(self):
+        chance = random.Random(7)
+        with Store(self.path) as s:
+            plain = {}
+            for _ in range(60):
+                before = dict(plain)
+                try:
+                    with s.batch():
+                        for number in range(chance.randint(0, 12)):
+                            key = bytes(chance.choices(b"abc", k=chance.randint(1, 3)))
+                            if chance.random() < 0.4:
+                                self.assertEqual(s.pop(key, None), plain.pop(key, None))
+                            else:
+                                s[key] = plain[key] = number
+                            low, high = sorted(bytes(chance.choices(b"abc", k=2)) for _ in range(2))
+                            self.assertEqual((list(s.items()), len(s)), (sorted(plain.items()), len(plain)))
+                            self.assertEqual(list(s.irange(low, high)), [k for k in sorted(plain) if low <= k < high])
+                            self.assertEqual(list(s.keys(low)), [k for k in sorted(plain) if k.startswith(low)])
+                        if chance.random() < 0.3:
+                            raise RuntimeError
+                except RuntimeError:
+                    plain = before
+                self.assertEqual(dict(s), plain)
+        with Store(self.path) as s:
+            self.assertEqual(dict(s), plain)
 
     def test_blocks_of_threads(self):
         """What another thread changes isn't of the block: it is on the disk at once, and stays where the block is dropped."""
