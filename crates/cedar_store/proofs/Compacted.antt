@@ -1,9 +1,21 @@
 -- A file that has one record for each entry of a dictionary.
-use Rattle.std.specs.Prelude.{◌&&◌, ◌-◌, ◌*◌, fold, int_le, max, nat_lt, pos, Bool, false, IfErr, IsErrAnd, OnOk, Result, Ok, Err, option_and_then, option_map, Option, Some, None, IfSome}
-use Rattle.std.proofs.Common.{◌≡◌, ℕ, zero, suc, ◌+◌, ℤ, true, List, [], ◌∷◌, ◌++◌, refl, sym, ◌∙◌, ap, subst, arith}
+use Rattle.std.specs.Prelude.{◌&&◌, ◌-◌, ◌*◌, fold, int_le, max, nat_lt, pos, Bool, false, IfErr, IsErrAnd, IsErrOf, OnOk, Result, Ok, Err, option_and_then, option_map, Option, Some, None, IfSome}
+use Rattle.std.proofs.Common.{◌≡◌, ◌⊎◌, inl, inr, ⊎_elim, ◌<◌, ℕ, zero, suc, ◌+◌, ℤ, true, List, [], ◌∷◌, ◌++◌, drop, take, refl, sym, ◌∙◌, ap, subst, arith}
+use Rattle.std.proofs.lemmas.Bool.{false≢true}
 use Rattle.std.proofs.lemmas.Bool.Decides.{nat_tests}
 use Rattle.std.specs.List.{AllByRecursion, Contains}
-use Rattle.cedar_journal.specs.Files.{recovered, added}
+use Rattle.cedar_journal.specs.declared.device.DeviceError.{DeviceError}
+use Rattle.cedar_journal.specs.declared.device.DeviceError.TheVariants as device
+use Rattle.cedar_journal.specs.declared.replace.ReplaceError.{ReplaceError}
+use Rattle.cedar_journal.specs.declared.replace.ReplaceError.TheVariants as replace
+use Rattle.cedar_journal.specs.declared.format.Format.{Format}
+use Rattle.cedar_journal.specs.declared.format.Format.TheVariants.{Summed}
+use Rattle.cedar_journal.specs.Files.{IsWholeFront, recovered, added}
+use Rattle.cedar_journal.specs.Formats.{AreWhole, payloads_read, records_read}
+use Rattle.cedar_journal.specs.Images.{image_of, records_of}
+use Rattle.cedar_journal.specs.Journal.{IsSettled}
+use Rattle.cedar_journal.specs.Replacing.{IfKept}
+use Rattle.cedar_journal.proofs.Images.{image_stands}
 use Rattle.cedar_tree.specs.Queries.{Entry, walk}
 use Rattle.cedar_tree.specs.State.{State, new_state}
 use Rattle.cedar_tree.specs.Tree.{AllNumbers, IsAscending, IsKey, IsPath, IsSound, Tree, number_at, put}
@@ -20,8 +32,9 @@ use Rattle.cedar_store.specs.declared.compaction.Compaction.{Compaction}
 use Rattle.cedar_store.specs.declared.compaction.Compaction.TheVariants.{Never, Beyond}
 use Rattle.cedar_store.specs.declared.compaction.CompactError.{CompactError}
 use Rattle.cedar_store.specs.declared.compaction.CompactError.TheVariants as error
-use Rattle.cedar_store.specs.Compactions.{CompactCause, is_beyond, IsBeforeReplacing, LeavesFile}
-use Rattle.cedar_store.specs.Files.{state_of}
+use Rattle.cedar_store.specs.Compactions.{CompactCause, is_beyond, IsBeforeReplacing, LeavesFile, replace_error}
+use Rattle.cedar_store.specs.Files.{AddsRecord, StandsFor, state_of}
+use Rattle.cedar_store.specs.Store.{IsConsistent, IsReady}
 use Rattle.cedar_store.proofs.States.{replayed_more}
 
 -- ---- no entry of a dictionary has a fault
@@ -119,14 +132,82 @@ pub handed_over : {X E : Type 0} (r : Result X E) (e : E) (P : E → Type 0) →
 handed_over (Ok x) e P is holds = tt
 handed_over (Err x) e P is holds = subst P (sym is) holds
 
-pub before_cause : (failed : Bool) (before now : ℕ) (e : CompactError) → IsBeforeReplacing e → CompactCause failed before now e
-before_cause failed before now error.Memory cause = cause
-before_cause failed before now error.TooLong cause = cause
-before_cause failed before now (error.Kept e) cause = absurd cause
-before_cause failed before now error.Failed cause = absurd cause
+pub before_cause : (before now : ℕ) (e : CompactError) → IsBeforeReplacing e → CompactCause before now e
+before_cause before now error.Memory cause = cause
+before_cause before now error.TooLong cause = cause
+before_cause before now (error.Kept e) cause = absurd cause
+before_cause before now error.Failed cause = absurd cause
 
-pub before_leaves : (e : CompactError) (fails stays : Type 0) → IsBeforeReplacing e → stays → LeavesFile e fails stays
-before_leaves error.Memory fails stays cause holds = holds
-before_leaves error.TooLong fails stays cause holds = holds
-before_leaves (error.Kept e) fails stays cause holds = holds
-before_leaves error.Failed fails stays cause holds = absurd cause
+pub before_leaves : (e : CompactError) (fails keeps stays : Type 0) → IsBeforeReplacing e → stays → LeavesFile e fails keeps stays
+before_leaves error.Memory fails keeps stays cause holds = holds
+before_leaves error.TooLong fails keeps stays cause holds = holds
+before_leaves (error.Kept e) fails keeps stays cause holds = absurd cause
+before_leaves error.Failed fails keeps stays cause holds = absurd cause
+
+pub replaced_cause : (before now : ℕ) (e : ReplaceError) (r : Result (Unit {0}) ReplaceError) → r ≡ Err e → (IsErrOf r replace.Failed → before < now)
+    → (IsErrOf r (replace.Kept device.Failed) → before < now) → CompactCause before now (replace_error e)
+replaced_cause before now replace.Failed r is failed kept = failed is
+replaced_cause before now (replace.Kept d) r is failed kept = λ same. kept (is ∙ ap (λ x. Err (replace.Kept x)) same)
+
+pub replaced_leaves : (e : ReplaceError) (r : Result (Unit {0}) ReplaceError) (fails keeps stays : Type 0) → r ≡ Err e → (IsErrOf r replace.Failed → fails) → IfKept r keeps
+    → LeavesFile (replace_error e) fails keeps stays
+replaced_leaves replace.Failed r fails keeps stays is failed kept = failed is
+replaced_leaves (replace.Kept d) r fails keeps stays is failed kept = subst (λ q. IfKept q keeps) is kept
+
+pub at_kept : (P : Type 0) (e : ReplaceError) (d : DeviceError) → e ≡ replace.Kept d → IfKept {T = Unit {0}} (Err e) P → P
+at_kept P e d is holds = subst (λ x. IfKept {T = Unit {0}} (Err x) P) is holds
+
+-- ---- the file that is there
+
+pub stands_of_image : (bytes f : List ℕ) (s : State) → bytes ≡ image_of (records_of bytes) → AreWhole Summed (records_of bytes)
+    → replayed new_state (payloads_read (records_read Summed (records_of bytes))) ≡ Some s → f ≡ bytes → state_of f ≡ Some s
+stands_of_image bytes f s shape whole made is = ap (option_and_then (replayed new_state)) (ap recovered (is ∙ shape) ∙ image_stands (records_of bytes) whole) ∙ made
+
+-- what is left of a file that was to be replaced by these bytes, as they are shown
+pub image_or_before : (before : List ℕ → Type 0) (bytes shown : List ℕ) (s : State) → bytes ≡ image_of (records_of bytes) → AreWhole Summed (records_of bytes)
+    → replayed new_state (payloads_read (records_read Summed (records_of bytes))) ≡ Some s → shown ≡ bytes → (f : List ℕ) → before f ⊎ (f ≡ shown) → before f ⊎ StandsFor s f
+image_or_before before bytes shown s shape whole made same f = ⊎_elim (λ was. inl was) (λ is. inr (stands_of_image bytes f s shape whole made (is ∙ same)))
+
+module _ {D : Type 0} (seen : D → List ℕ) (may_leave : D → List ℕ → Type 0) where
+  -- a crash leaves nothing else of a file that is consistent
+  pub only_state : (d : D) (f : Format) (end : ℕ) (s : State) → IsConsistent seen may_leave d f end s → (c : List ℕ) → may_leave d c ⊎ StandsFor s c → StandsFor s c
+  only_state d f end s is c = ⊎_elim (λ left. ap state_of (is.settled.durable c left) ∙ is.same) (λ stands. stands)
+
+  kept_settled : (old new : D) (format : Format) (end : ℕ) → seen new ≡ seen old → ((c : List ℕ) → may_leave new c → may_leave old c)
+      → IsSettled seen may_leave old format end → IsSettled seen may_leave new format end
+  kept_settled old new format end same fewer is = record {
+    split = subst (λ (f : List ℕ). f ≡ take end f ++ 0 ∷ drop (end + 1) f) (sym same) is.split;
+    front = subst (λ (f : List ℕ). IsWholeFront format (take end f)) (sym same) is.front;
+    durable = λ c left. is.durable c (fewer c left) ∙ sym same;
+  }
+
+  -- what the device has kept is as ready as it was
+  pub kept_ready : (old new : D) (format : Format) (end n : ℕ) (s t : State) (failed now : Bool) → seen new ≡ seen old → ((c : List ℕ) → may_leave new c → may_leave old c) → n ≡ end → t ≡ s
+      → now ≡ failed → IsReady seen may_leave old format end s failed → IsReady seen may_leave new format n t now
+  kept_ready old new format end n s t failed now same fewer ends is still ready = record {
+    ordered = ap (λ u. u.ordered) is ∙ ready.ordered;
+    consistent = λ usable.
+        let before = ready.consistent (sym still ∙ usable) in
+        subst (λ m. IsConsistent seen may_leave new format m t) (sym ends)
+        (record { settled = kept_settled old new format end same fewer before.settled; same = ap state_of same ∙ before.same ∙ ap (λ u. Some u) (sym is) });
+  }
+
+  -- nothing is said of the file of a store that has failed
+  pub failed_ready : (d : D) (format : Format) (end : ℕ) (s : State) (failed : Bool) → failed ≡ true → s.ordered ≡ true → IsReady seen may_leave d format end s failed
+  failed_ready d format end s failed is ordered = record { ordered = ordered; consistent = λ usable. absurd (false≢true (sym usable ∙ is)) }
+
+-- ---- what an acknowledged change has done to the file
+
+pub on_ok : {X E P Q : Type 0} (r : Result X E) → (P → Q) → OnOk r P → OnOk r Q
+on_ok (Ok x) so holds = so holds
+on_ok (Err e) so holds = tt
+
+-- a file that has one record more, and was looked at
+pub still_more : {S : Type 0} (before between after payload : List ℕ) → recovered between ≡ added payload (recovered before) → (after ≡ between) ⊎ S
+    → (recovered after ≡ added payload (recovered before)) ⊎ S
+still_more before between after payload more = ⊎_elim (λ same. inl (ap recovered same ∙ more)) (λ short. inr short)
+
+-- that record has these changes
+pub recorded_in : {S : Type 0} (before after payload : List ℕ) (changes : List Change) → changes_of payload ≡ Some changes
+    → (recovered after ≡ added payload (recovered before)) ⊎ S → AddsRecord changes before after ⊎ S
+recorded_in before after payload changes told = ⊎_elim (λ more. inl (record { payload = payload; behind = more; change = told })) (λ short. inr short)

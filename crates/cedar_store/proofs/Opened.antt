@@ -1,6 +1,6 @@
 -- Why a file isn't opened, and a record not written.
 use Rattle.std.specs.Prelude.{Result, Ok, Err, IfErr, IsErrOf, ◌^◌}
-use Rattle.std.proofs.Common.{◌≡◌, ℕ, ◌<◌, ◌≤◌, List, sym, ◌∙◌, ap, subst, arith}
+use Rattle.std.proofs.Common.{◌≡◌, inl, inr, ℕ, ◌<◌, ◌≤◌, List, sym, ◌∙◌, ap, subst, arith}
 use Rattle.cedar_journal.specs.declared.device.DeviceError.TheVariants.{Failed}
 use Rattle.cedar_journal.specs.declared.records.FileFault.{FileFault}
 use Rattle.cedar_journal.specs.declared.records.FileFault.TheVariants as fault
@@ -9,7 +9,7 @@ use Rattle.cedar_journal.specs.declared.journal.JournalError.{JournalError}
 use Rattle.cedar_journal.specs.declared.journal.JournalError.TheVariants as journal
 use Rattle.cedar_store.specs.declared.error.DurableError.{DurableError}
 use Rattle.cedar_store.specs.declared.error.DurableError.TheVariants as error
-use Rattle.cedar_store.specs.Causes.{IsOfDevice, LoadCause, OpenCause}
+use Rattle.cedar_store.specs.Causes.{IsOfDevice, LoadCause, OpenCause, ReadCause}
 use Rattle.cedar_store.specs.Told.{file_error, journal_error}
 
 -- what is told of a file that is refused
@@ -21,7 +21,7 @@ open_cause : (file : List ℕ) (before now : ℕ) (e : DurableError) → LoadCau
 open_cause file before now error.Foreign cause = cause
 open_cause file before now (error.Damaged place) cause = cause
 open_cause file before now error.Corrupt cause = cause
-open_cause file before now (error.Refused e) cause = cause
+open_cause file before now (error.Refused e) cause = inr cause
 open_cause file before now (error.RefusedAt index e) cause = cause
 open_cause file before now error.TooLong cause = cause
 open_cause file before now error.Full cause = cause
@@ -31,6 +31,17 @@ open_cause file before now error.Failed cause = cause
 pub open_causes : {T : Type 0} (bytes file : List ℕ) (before now : ℕ) (r : Result T DurableError) → bytes ≡ file → IfErr r (λ e. LoadCause bytes e) → IfErr r (λ e. OpenCause file before now e)
 open_causes bytes file before now (Ok x) same cause = tt
 open_causes bytes file before now (Err e) same cause = open_cause file before now e (subst (λ f. LoadCause f e) same cause)
+
+pub read_cause : (file : List ℕ) (before now : ℕ) (e : DurableError) → ReadCause before now e → OpenCause file before now e
+read_cause file before now (error.Device e) cause = λ _. cause.1
+read_cause file before now (error.Refused e) cause = inl cause
+read_cause file before now error.Foreign cause = absurd cause
+read_cause file before now (error.Damaged place) cause = absurd cause
+read_cause file before now error.Corrupt cause = absurd cause
+read_cause file before now (error.RefusedAt index e) cause = absurd cause
+read_cause file before now error.TooLong cause = absurd cause
+read_cause file before now error.Full cause = absurd cause
+read_cause file before now error.Failed cause = absurd cause
 
 -- a record that isn't written is not, once there is room for it, for the device alone
 pub journal_cause : (end before now : ℕ) (e : JournalError) (r : Result (Unit {0}) JournalError) (told : DurableError) → told ≡ journal_error e → r ≡ Err e

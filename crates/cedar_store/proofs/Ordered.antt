@@ -38,3 +38,7 @@ file_keeps (Some ps) = replayed_keeps ps new_state
 
 pub is_ordered : (file : List ℕ) (s : State) → state_of file ≡ Some s → s.ordered ≡ true
 is_ordered file s is = subst (Keeps new_state) is (file_keeps (recovered file))
+
+-- no change of some makes another one of it
+pub stays_ordered : (changes : List Change) (s : State) → s.ordered ≡ true → (all_changed s changes).ordered ≡ true
+stays_ordered changes s is = all_changed_keeps changes s ∙ is

@@ -8,7 +8,7 @@ use Rattle.cedar_tree.specs.State.{State, new_state}
 use Rattle.cedar_store.specs.Changes.{Change, changes_of, all_changed, after, replayed}
 use Rattle.cedar_store.specs.Files.{state_of, has_no_change, IsCorrupt, IsEither}
 
-none_is : {A : Type 0} {a : A} → None ≡ Some a → ⊥
+pub none_is : {A : Type 0} {a : A} → None ≡ Some a → ⊥
 none_is e = absurd (false≢true (ap is_some e))
 
 -- ---- a record more

@@ -27,6 +27,10 @@ pub nothing_told : (changes : List ToldChange) → nat_eq (length changes) 0 ≡
 nothing_told [] none_there = refl
 nothing_told (c ∷ changes) none_there = let none_left = eqb-true (length (c ∷ changes)) 0 none_there in absurd (omega (arith, none_left))
 
+pub no_changes : (changes : List ToldChange) → nat_eq (length changes) 0 ≡ true → changes ≡ []
+no_changes [] none_there = refl
+no_changes (c ∷ changes) none_there = let none_left = eqb-true (length (c ∷ changes)) 0 none_there in absurd (omega (arith, none_left))
+
 -- one update more
 pub updated_more : (s : State) (changes : List Change) (n : ℕ) → n < length changes
     → all_updated s (take (n + 1) changes) ≡ only_updated (all_updated s (take n changes)) (change_at changes n)

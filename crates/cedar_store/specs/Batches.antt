@@ -8,6 +8,8 @@ use Rattle.cedarwood.specs.declared.error.CedarError.{CedarError}
 use Rattle.cedarwood.specs.Fault.{fault}
 use Rattle.cedar_store.specs.Changes.{Change, put_at, erase_at, change_of}
 use Rattle.cedar_store.specs.Undo.{IsPutOf}
+use Rattle.cedar_store.specs.declared.error.DurableError.{DurableError}
+use Rattle.cedar_store.specs.declared.error.DurableError.TheVariants.{RefusedAt}
 
 -- the change at an index
 abbrev pub change_at : List Change → ℕ → Change
@@ -49,6 +51,16 @@ change_fault (erase_at key) = None
 
 abbrev pub IsFaultless : Change → Type 0
 IsFaultless c = change_fault c ≡ None
+
+-- that it has this fault is told with its index; if it has none, what is told of those behind it
+abbrev pub fault_at : ℕ → Option CedarError → Option DurableError → Option DurableError
+fault_at n (Some e) later = Some (RefusedAt n e)
+fault_at n None later = later
+
+-- the first of some changes that has a fault, as it is told; the first of them has this index
+abbrev pub first_refused : ℕ → List Change → Option DurableError
+first_refused n [] = None
+first_refused n (c ∷ changes) = fault_at n (change_fault c) (first_refused (n + 1) changes)
 
 -- what an update puts a value at is a key
 abbrev pub HasKey : Change → Type 0

@@ -28,10 +28,18 @@ LoadCause file error.Corrupt = IsCorrupt file
 LoadCause file (error.Refused e) = IsSome (recovered file) × IsShortage e
 LoadCause file _ = ⊥
 
--- Why a file wasn't opened: as above, or the device failed, which has told so often before and now that it did.
+-- Why a file wasn't opened: as above, or there was no memory for its bytes, or the device failed, which has told so often before and now that
+-- it did.
 abbrev pub OpenCause : List ℕ → ℕ → ℕ → DurableError → Type 0
 OpenCause file before now (error.Device e) = e ≡ Failed → before < now
+OpenCause file before now (error.Refused e) = (e ≡ cedar.Memory) ⊎ (IsSome (recovered file) × IsShortage e)
 OpenCause file before now e = LoadCause file e
+
+-- why it wasn't read: there was no memory for its bytes, or the disk failed
+abbrev pub ReadCause : ℕ → ℕ → DurableError → Type 0
+ReadCause before now (error.Device e) = (e ≡ Failed) × (before < now)
+ReadCause before now (error.Refused e) = e ≡ cedar.Memory
+ReadCause before now _ = ⊥
 
 -- the device hasn't been written to
 abbrev pub IsBeforeWrites : DurableError → Type 0

@@ -1,5 +1,5 @@
 -- When a file is compacted, what it has then, and why it wasn't.
-use Rattle.std.specs.Prelude.{◌≡◌, ◌⊎◌, ◌<◌, ℕ, ◌+◌, ◌-◌, ◌*◌, max, nat_lt, ℤ, Bool, true, false, List, [], ◌∷◌, ◌++◌, length, Some}
+use Rattle.std.specs.Prelude.{◌≡◌, ◌<◌, ℕ, ◌+◌, ◌-◌, ◌*◌, max, nat_lt, ℤ, Bool, false, List, [], ◌∷◌, ◌++◌, length, Some}
 use Rattle.cedar_journal.specs.declared.device.DeviceError.TheVariants as device
 use Rattle.cedar_journal.specs.declared.frame.FrameError.{FrameError}
 use Rattle.cedar_journal.specs.declared.frame.FrameError.TheVariants as frame
@@ -11,6 +11,10 @@ use Rattle.cedar_store.specs.declared.compaction.Compaction.{Compaction}
 use Rattle.cedar_store.specs.declared.compaction.Compaction.TheVariants.{Never, Beyond}
 use Rattle.cedar_store.specs.declared.compaction.CompactError.{CompactError}
 use Rattle.cedar_store.specs.declared.compaction.CompactError.TheVariants.{Memory, TooLong, Kept, Failed}
+
+-- the rule of a store that was opened: twice what the entries take, and 64 KiB
+abbrev pub default_rule : Compaction
+default_rule = Beyond 2 65536
 
 -- a file whose records end here is too long for so many bytes
 abbrev pub is_beyond : Compaction → ℕ → ℕ → Bool
@@ -46,13 +50,15 @@ IsBeforeReplacing TooLong = Unit {0}
 IsBeforeReplacing _ = ⊥
 
 -- Why a file wasn't compacted: no file was made in memory; or the device kept the old one, or failed, which has told so often before and now
--- that it did; or the store has failed before.
-abbrev pub CompactCause : Bool → ℕ → ℕ → CompactError → Type 0
-CompactCause failed before now (Kept e) = (failed ≡ false) × (e ≡ device.Failed → before < now)
-CompactCause failed before now Failed = (failed ≡ true) ⊎ (before < now)
-CompactCause failed before now e = IsBeforeReplacing e
+-- that it did.
+abbrev pub CompactCause : ℕ → ℕ → CompactError → Type 0
+CompactCause before now (Kept e) = e ≡ device.Failed → before < now
+CompactCause before now Failed = before < now
+CompactCause before now e = IsBeforeReplacing e
 
--- what an error of a compaction leaves: one thing where it can't be known which file is there, another one else
-abbrev pub LeavesFile : CompactError → Type 0 → Type 0 → Type 0
-LeavesFile Failed fails stays = fails
-LeavesFile _ fails stays = stays
+-- What an error of a compaction leaves: one thing where it can't be known which file is there, another one where the device kept the old
+-- one, and a third one where it wasn't asked.
+abbrev pub LeavesFile : CompactError → Type 0 → Type 0 → Type 0 → Type 0
+LeavesFile Failed fails keeps stays = fails
+LeavesFile (Kept e) fails keeps stays = keeps
+LeavesFile _ fails keeps stays = stays

@@ -1,8 +1,8 @@
 -- The dictionary that a file stands for.
 use Rattle.std.specs.Prelude.{◌≡◌, ◌⊎◌, ℕ, Bool, true, false, ◌||◌, not, is_some, List, [], ◌∷◌, Option, Some, option_and_then}
-use Rattle.cedar_journal.specs.Files.{recovered}
+use Rattle.cedar_journal.specs.Files.{added, recovered}
 use Rattle.cedar_tree.specs.State.{State, new_state}
-use Rattle.cedar_store.specs.Changes.{changes_of, replayed}
+use Rattle.cedar_store.specs.Changes.{Change, changes_of, replayed}
 
 -- The state after the changes of all records that count. None: the file is of another kind, or one of its records is no change.
 abbrev pub state_of : List ℕ → Option State
@@ -24,3 +24,9 @@ IsEither before after file = (state_of file ≡ Some before) ⊎ (state_of file 
 -- the file stands for this state
 abbrev pub StandsFor : State → List ℕ → Type 0
 StandsFor state file = state_of file ≡ Some state
+
+-- a file has the records of another one, and behind them one more, of these changes
+pub record AddsRecord (changes : List Change) (before after : List ℕ) : Type 0 where
+  pub payload : List ℕ
+  pub behind : recovered after ≡ added payload (recovered before)
+  pub change : changes_of payload ≡ Some changes

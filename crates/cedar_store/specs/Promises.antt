@@ -1,16 +1,17 @@
 -- What each change of a store promises: of the store before it and after it.
-use Rattle.std.specs.Prelude.{◌≡◌, ℕ, true, false, List, Option}
+use Rattle.std.specs.Prelude.{◌≡◌, ◌⊎◌, ℕ, true, false, List, Ok, Option, Some}
 use Rattle.cedar_journal.specs.Device.{LeavesOnly}
 use Rattle.cedar_tree.specs.State.{State}
 use Rattle.cedarwood.specs.declared.error.CedarError.{CedarError}
 use Rattle.cedar_store.specs.Causes.{BatchCause, ChangeCause, EraseCause, IsOfDevice, Leaves}
 use Rattle.cedar_store.specs.Changes.{Change}
-use Rattle.cedar_store.specs.Files.{IsEither, StandsFor}
+use Rattle.cedar_store.specs.Files.{AddsRecord, IsEither, StandsFor}
 use Rattle.cedar_store.specs.Store.{IsReady}
+use Rattle.cedar_store.specs.declared.compaction.Compaction.TheVariants.{Never}
 use Rattle.cedar_store.specs.declared.error.DurableError.{DurableError}
 use Rattle.cedar_store.specs.declared.store.Store.{Store}
 
--- unless it has failed, its file stands for its dictionary
+-- its labels ascend; and unless it has failed, its file stands for its dictionary
 abbrev pub IsReadyStore : {T A D : Type 0} → (D → List ℕ) → (D → List ℕ → Type 0) → (T → State) → Store T A D → Type 0
 IsReadyStore seen may_leave state store = IsReady seen may_leave store.journal.device store.journal.format store.journal.end (state store.words) store.failed
 
@@ -26,6 +27,24 @@ CrashLeavesEither moment left_since state old new after =
 -- a crash at any moment of the call leaves a file that stands for the dictionary
 abbrev pub CrashLeavesState : {T A D : Type 0} → (D → ℕ) → (D → ℕ → List ℕ → Type 0) → (T → State) → Store T A D → Store T A D → Type 0
 CrashLeavesState moment left_since state old new = LeavesOnly moment left_since old.journal.device new.journal.device (StandsFor (state old.words))
+
+-- a crash at any moment of the call leaves a file that stands for the dictionary, or what it might have left before
+abbrev pub CrashLeavesStateOrOld : {T A D : Type 0} → (D → ℕ) → (D → ℕ → List ℕ → Type 0) → (D → List ℕ → Type 0) → (T → State) → Store T A D → Store T A D → Type 0
+CrashLeavesStateOrOld moment left_since may_leave state old new =
+    LeavesOnly moment left_since old.journal.device new.journal.device (λ c. may_leave old.journal.device c ⊎ StandsFor (state old.words) c)
+
+-- the file has a record for each entry, which only a rule other than `Never` does, and `last_compaction` tells it
+abbrev pub IsShortened : {T A D : Type 0} → Store T A D → Store T A D → Type 0
+IsShortened old new = (old.compaction ≡ Never → ⊥) × (new.last_compaction ≡ Some (Ok tt))
+
+-- the file has one record more, of these changes, or it was made short
+abbrev pub IsRecordedIn : {T A D : Type 0} → (D → List ℕ) → Store T A D → Store T A D → List Change → Type 0
+IsRecordedIn seen old new changes = AddsRecord changes (seen old.journal.device) (seen new.journal.device) ⊎ IsShortened old new
+
+-- what a compaction leaves where the device kept the file: bytes and store are as they were, and so is what a crash may leave
+abbrev pub KeepsFile : {T A D : Type 0} → (D → List ℕ) → (D → List ℕ → Type 0) → Store T A D → Store T A D → Type 0
+KeepsFile seen may_leave old new =
+    (new.failed ≡ old.failed) × (seen new.journal.device ≡ seen old.journal.device) × ((c : List ℕ) → may_leave new.journal.device c → may_leave old.journal.device c)
 
 -- what an error leaves: a store that has failed, whose dictionary has the change; or all as it was
 abbrev pub LeavesStore : {T A D : Type 0} → (T → State) → Store T A D → Store T A D → State → DurableError → Type 0

@@ -17,11 +17,11 @@ durable_error_text error.TooLong = codes "the record would have 2^32 bytes or mo
 durable_error_text error.Full = codes "the records of the file end behind 2^60 bytes"
 durable_error_text (error.Device device.Memory) = codes "the device is out of memory"
 durable_error_text (error.Device device.Failed) = codes "the device failed"
-durable_error_text error.Failed = codes "the device failed in an earlier change: open the file again"
+durable_error_text error.Failed = codes "the device failed in an earlier change: compact the store"
 
 abbrev pub compact_error_text : CompactError → List ℕ
 compact_error_text compact.Memory = codes "out of memory: the file is as it was"
 compact_error_text compact.TooLong = codes "the record of an entry would have 2^32 bytes or more"
 compact_error_text (compact.Kept device.Memory) = codes "the device is out of memory: the file is as it was"
 compact_error_text (compact.Kept device.Failed) = codes "the device kept the file as it was"
-compact_error_text compact.Failed = codes "the device failed: open the file again"
+compact_error_text compact.Failed = codes "the device failed: the old file is there or the new one"

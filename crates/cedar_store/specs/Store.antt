@@ -1,5 +1,5 @@
 -- What holds of a store between two calls.
-use Rattle.std.specs.Prelude.{◌≡◌, ℕ, Bool, false, List, Some}
+use Rattle.std.specs.Prelude.{◌≡◌, ℕ, Bool, false, true, List, Some}
 use Rattle.cedar_journal.specs.declared.format.Format.{Format}
 use Rattle.cedar_journal.specs.Journal.{IsSettled}
 use Rattle.cedar_tree.specs.State.{State}
@@ -10,6 +10,7 @@ pub record IsConsistent {D : Type 0} (seen : D → List ℕ) (may_leave : D → 
   pub settled : IsSettled seen may_leave device format end
   pub same : state_of (seen device) ≡ Some state
 
--- a store that hasn't failed is consistent
-abbrev pub IsReady : {D : Type 0} → (D → List ℕ) → (D → List ℕ → Type 0) → D → Format → ℕ → State → Bool → Type 0
-IsReady seen may_leave device format end state failed = failed ≡ false → IsConsistent seen may_leave device format end state
+-- The labels of its dictionary ascend. Unless it has failed, it is consistent.
+pub record IsReady {D : Type 0} (seen : D → List ℕ) (may_leave : D → List ℕ → Type 0) (device : D) (format : Format) (end : ℕ) (state : State) (failed : Bool) : Type 0 where
+  pub ordered : state.ordered ≡ true
+  pub consistent : failed ≡ false → IsConsistent seen may_leave device format end state

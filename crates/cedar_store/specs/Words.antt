@@ -7,12 +7,12 @@ pub use Rattle.cedar_journal.specs.Image.{image_bytes, payloads_of}
 pub use Rattle.cedar_journal.specs.Journal.{IsBeforeOrAfter, IsSettled, StandsForEither}
 pub use Rattle.cedar_journal.specs.Records.{payloads_in}
 pub use Rattle.cedar_journal.specs.Replacing.{IfKept}
-pub use Rattle.cedar_store.specs.Batches.{AreHeld, HasKey, IsFaultless, IsHeld, IsRecorded, all_erased_late, all_updated, batch_length, change_at, change_fault, change_length, is_put_by, late_erased, only_updated, puts, record_of}
-pub use Rattle.cedar_store.specs.Causes.{BatchCause, ChangeCause, EraseCause, FrameCause, IsBeforeWrites, IsOfDevice, IsRefusedAt, Leaves, LoadCause, OpenCause, PayloadCause, PrepareCause, ReplayCause}
+pub use Rattle.cedar_store.specs.Batches.{AreHeld, HasKey, IsFaultless, IsHeld, IsRecorded, all_erased_late, all_updated, batch_length, change_at, change_fault, change_length, first_refused, is_put_by, late_erased, only_updated, puts, record_of}
+pub use Rattle.cedar_store.specs.Causes.{BatchCause, ChangeCause, EraseCause, FrameCause, IsBeforeWrites, IsOfDevice, IsRefusedAt, Leaves, LoadCause, OpenCause, PayloadCause, PrepareCause, ReadCause, ReplayCause}
 pub use Rattle.cedar_store.specs.Changes.{after, all_changed, batch_of, change_of, changed, changes_of, erase_at, number_of_bytes, put_at, put_of, replayed}
-pub use Rattle.cedar_store.specs.Compactions.{compact_error, CompactCause, compacted_length, CompactMemory, is_beyond, IsBeforeReplacing, IsPutBehind, LeavesFile, replace_error}
-pub use Rattle.cedar_store.specs.Files.{IsCorrupt, IsEither, StandsFor, state_of}
-pub use Rattle.cedar_store.specs.Promises.{CrashLeavesEither, CrashLeavesState, FailsByDevice, HasState, IsBatchCause, IsChangeCause, IsEraseCause, IsReadyStore, LeavesStore}
+pub use Rattle.cedar_store.specs.Compactions.{compact_error, CompactCause, compacted_length, CompactMemory, default_rule, is_beyond, IsBeforeReplacing, IsPutBehind, LeavesFile, replace_error}
+pub use Rattle.cedar_store.specs.Files.{AddsRecord, IsCorrupt, IsEither, StandsFor, state_of}
+pub use Rattle.cedar_store.specs.Promises.{CrashLeavesEither, CrashLeavesState, CrashLeavesStateOrOld, FailsByDevice, HasState, IsBatchCause, IsChangeCause, IsEraseCause, IsReadyStore, IsRecordedIn, IsShortened, KeepsFile, LeavesStore}
 pub use Rattle.cedar_store.specs.Puts.{IsPut}
 pub use Rattle.cedar_store.specs.Shown.{compact_error_text, durable_error_text}
 pub use Rattle.cedar_store.specs.Store.{IsConsistent, IsReady}
@@ -21,7 +21,7 @@ pub use Rattle.cedar_store.specs.Undo.{IsPutOf}
 pub use Rattle.cedar_store.specs.declared.error.DurableError.TheVariants.{Device, Foreign, Full, Refused, TooLong}
 pub use Rattle.cedar_tree.specs.State.{State, new_state}
 pub use Rattle.cedar_tree.specs.Tree.{IsAscending}
-pub use Rattle.cedarwood.specs.Words.{IsLimit, IsShortage, IsSound, all_stored, erased, fault, number_at, outcome, stored, value_fault, walk}
+pub use Rattle.cedarwood.specs.Words.{IsLimit, IsShortage, IsSound, all_stored, erased, fault, key_fault, number_at, outcome, stored, value_fault, walk}
 pub use Rattle.cedarwood.specs.declared.error.CedarError.TheVariants.{Memory}
 pub use Rattle.std.specs.List.{AllByRecursion}
 pub use Rattle.std.specs.Prelude.{Some}

@@ -4,9 +4,10 @@
 //! erasures once nothing can be refused any more. One whose key a later change puts again isn't made at all. What each key holds in the end
 //! is what its last change sets, so the tree is the one that all changes leave in their order.
 
-ghost use Rattle.std.specs.Prelude.{◌+◌, ◌<◌, ◌^◌, ◌≡◌, ◌≤◌, ◌⊎◌, IfErr, IfOk, List, OnErr, OnOk, Some, drop, false, if◌then◌else◌, length, true, ℕ};
-ghost use Rattle.cedar_store.specs.Words.{all_changed, all_erased_late, all_updated, change_at, change_fault, change_told, changes_of, changes_told, erased, is_put_by, late_erased, only_updated, payload_of, puts, AllByRecursion, AreHeld, HasKey, IsFaultless, IsHeld, IsRefusedAt, IsShortage, PrepareCause, State};
+ghost use Rattle.std.specs.Prelude.{◌+◌, ◌<◌, ◌^◌, ◌≡◌, ◌≤◌, ◌⊎◌, IfErr, IfOk, IfSome, List, OnErr, OnOk, Some, drop, false, if◌then◌else◌, length, true, ℕ};
+ghost use Rattle.cedar_store.specs.Words.{all_changed, all_erased_late, all_updated, change_at, change_fault, change_told, changes_of, changes_told, erased, first_refused, is_put_by, late_erased, only_updated, payload_of, puts, AllByRecursion, AreHeld, HasKey, IsFaultless, IsHeld, IsRefusedAt, IsShortage, PrepareCause, State};
 
+use crate::faults::first_refused;
 use crate::frames::batch_frame;
 use crate::words::{Words, take_back};
 use crate::{Change, DurableError};
@@ -27,14 +28,31 @@ pub(crate) fn make<T: Words, A: Allocator + Copy>(
     ensures faultless { OnOk result (AllByRecursion IsFaultless (changes_told changes.now)) }
     ensures change { IfOk result (λ frame. changes_of (payload_of frame) ≡ Some (changes_told changes.now)) }
     ensures room { OnOk result (end < 2 ^ 60) }
+    ensures faulty { IfSome (first_refused 0 (changes_told changes.now)) (λ error. result ≡ Err error) }
     ensures err { OnErr result ((T.state words.new) ≡ (T.state words.old)) }
     ensures cause { IfErr result (λ error. PrepareCause (changes_told changes.now) end error) }
 {
     // A dictionary is sound, and its labels ascend: so what each key holds decides its tree.
     let _ = words.count();
-    let batch = prepare(words, alloc, end, changes)?;
-    erase_rest(words, changes);
-    Ok(batch)
+    match prepare(words, alloc, end, changes) {
+        Ok(batch) => {
+            erase_rest(words, changes);
+            Ok(batch)
+        }
+        Err(error) => Err(reason(changes, end, error)),
+    }
+}
+
+/// Why a batch isn't made: its first fault, whatever came before that, or else what kept it from being prepared.
+fn reason(changes: &[Change<'_>], end: usize, error: DurableError) -> DurableError
+    requires { PrepareCause (changes_told changes.now) end error }
+    ensures fault { IfSome (first_refused 0 (changes_told changes.now)) (λ told. result ≡ told) }
+    ensures cause { PrepareCause (changes_told changes.now) end result }
+{
+    match first_refused(changes) {
+        Some(told) => told,
+        None => error,
+    }
 }
 
 /// Makes the updates of a batch, and the batch's record for a file whose records end here. If anything is refused, no update stays.

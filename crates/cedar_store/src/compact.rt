@@ -1,13 +1,13 @@
 //! A store's file made short: one record for each entry.
 
-ghost use Rattle.std.specs.Prelude.{◌+◌, ◌<◌, ◌^◌, ◌≡◌, ◌≤◌, false, IfErr, IfOk, IsErrOf, length, None, OnOk, option_and_then, Some, true};
-ghost use Rattle.cedar_store.specs.Words.{after, all_stored, AllByRecursion, CompactCause, compacted_length, CrashLeavesState, FailsByDevice, fault, IfKept, image_bytes, is_beyond, IsBeforeReplacing, IsConsistent, IsEither, IsPutBehind, IsReadyStore, IsSettled, LeavesFile, LeavesOnly, new_state, payload_of, payloads_of, replayed, State, state_of, walk};
+ghost use Rattle.std.specs.Prelude.{◌+◌, ◌-◌, ◌<◌, ◌^◌, ◌≡◌, ◌⊎◌, false, IfErr, IfOk, IsErrOf, length, None, OnOk, option_and_then, Some, true};
+ghost use Rattle.cedar_store.specs.Words.{added, after, all_stored, AllByRecursion, CompactCause, compacted_length, CrashLeavesState, CrashLeavesStateOrOld, FailsByDevice, fault, IfKept, image_bytes, is_beyond, IsBeforeReplacing, IsConsistent, IsEither, IsPutBehind, IsReadyStore, IsSettled, IsShortened, KeepsFile, LeavesFile, LeavesOnly, new_state, payload_of, payloads_of, recovered, replayed, State, state_of, walk};
 
 use crate::frames::put_payload;
 use crate::store::Store;
 use crate::words::Words;
 use crate::{CompactError, DurableError};
-use cedar_journal::{DeviceError, Frame, Image, ReplaceDevice, ReplaceError};
+use cedar_journal::{DeviceError, Format, Frame, Image, ReplaceDevice, ReplaceError};
 use cedarwood::{Entries, Walked};
 use std::alloc::Allocator;
 
@@ -15,33 +15,77 @@ impl<T: Words, A: Allocator + Copy, D: ReplaceDevice> Store<T, A, D> {
     /// Replaces the file that has all changes by one of version 2 with a record for each entry. It is made beside that, so what was
     /// acknowledged stays, whenever the process or the machine stops.
     ///
+    /// A store that has failed goes on after it: what the dictionary has is on the disk then, with the change at which the device failed.
+    ///
     /// # Errors
-    /// `Memory`, `TooLong` and `Kept`: the old file is there, and the store goes on with it. `Failed`: the device failed, or the store has
-    /// failed before; one of both files is there. Open it again.
+    /// `Memory` and `TooLong`: nothing has changed. `Kept`: the old file is there, as it was. After these the store goes on, unless it had
+    /// failed before. `Failed`: the device failed, and so has the store; the old file is there or the new one.
     pub fn compact(&mut self) -> Result<(), CompactError>
         requires ready { IsReadyStore D.seen D.may_leave T.state self.old }
 
         //= A file that was compacted has one record for each entry and nothing else. It stands for the dictionary, on the disk, and the
-        //  dictionary is as it was. [with ready, words]
+        //  dictionary is as it was. So a store that had failed goes on. [with ready, words]
         ensures compacted { OnOk result ((self.new.failed ≡ false)
             × (length (D.seen self.new.journal.device) ≡ compacted_length (walk (T.state self.old.words).tree))) }
         ensures ready { IsReadyStore D.seen D.may_leave T.state self.new }
         ensures words { self.new.words ≡ self.old.words }
 
-        //= A crash at any moment of a compaction leaves a file that stands for the dictionary.
+        //= A compaction leaves the rule as it was, and what came of it is told from then on. [with told]
+        ensures rule { self.new.compaction ≡ self.old.compaction }
+        ensures told { self.new.last_compaction ≡ Some result }
+
+        //= A crash at any moment of a compaction leaves a file that stands for the dictionary. If the store had failed before, it leaves
+        //  such a file or what it might have left before. [with any_moment_failed]
         ensures any_moment { self.old.failed ≡ false → CrashLeavesState D.moment D.left_since T.state self.old self.new }
+        ensures any_moment_failed { CrashLeavesStateOrOld D.moment D.left_since D.may_leave T.state self.old self.new }
 
-        //= A compaction fails only if the store has failed before, for lack of memory, if the record of an entry would be too long, or if
-        //  the device failed or kept the file.
-        ensures cause { IfErr result (λ e. CompactCause self.old.failed (D.faults self.old.journal.device) (D.faults self.new.journal.device) e) }
+        //= A compaction fails only for lack of memory, if the record of an entry would be too long, or if the device failed or kept the
+        //  file.
+        ensures cause { IfErr result (λ e. CompactCause (D.faults self.old.journal.device) (D.faults self.new.journal.device) e) }
 
-        //= After `Failed` the store has failed. After any other error the file is as it was, byte for byte, and the store goes on.
-        ensures err { IfErr result (λ e. LeavesFile e (self.new.failed ≡ true)
-            ((self.new.failed ≡ self.old.failed) × (D.seen self.new.journal.device ≡ D.seen self.old.journal.device))) }
+        //= After `Failed` the store has failed. After `Kept` the file is as it was, byte for byte, and so is what a crash may leave. After
+        //  any other error nothing was asked of the device. After these the store has failed only if it had before.
+        ensures err { IfErr result (λ e. LeavesFile e (self.new.failed ≡ true) (KeepsFile D.seen D.may_leave self.old self.new)
+            ((self.new.failed ≡ self.old.failed) × (self.new.journal ≡ self.old.journal))) }
     {
-        if self.failed {
-            return Err(CompactError::Failed);
-        }
+        let result = self.write_anew();
+        self.last_compaction = Some(result);
+        result
+    }
+
+    /// Returns how many bytes shorter the file would be if it were compacted now. The new file is made in memory for that, in the time and
+    /// the memory that its entries take.
+    ///
+    /// # Errors
+    /// `Memory` and `TooLong`, as of `compact`.
+    pub fn bytes_to_gain(&self) -> Result<usize, CompactError>
+        //= A store says how many bytes shorter its file would be if it were compacted, or 0; or there is no memory, or the record of an
+        //  entry would be too long. [with cause]
+        ensures gain { IfOk result (λ bytes. bytes ≡ self.now.journal.end - (compacted_length (walk (T.state self.now.words).tree) - 1)) }
+        ensures cause { IfErr result (λ error. IsBeforeReplacing error) }
+    {
+        let image = self.words.image(self.alloc)?;
+        Ok(
+            self.journal
+                .end
+                .saturating_sub(image.bytes().len().saturating_sub(1)),
+        )
+    }
+
+    /// Replaces the file by one with a record for each entry.
+    fn write_anew(&mut self) -> Result<(), CompactError>
+        requires ready { IsReadyStore D.seen D.may_leave T.state self.old }
+        ensures compacted { OnOk result ((self.new.failed ≡ false)
+            × (length (D.seen self.new.journal.device) ≡ compacted_length (walk (T.state self.old.words).tree))) }
+        ensures ready { IsReadyStore D.seen D.may_leave T.state self.new }
+        ensures words { self.new.words ≡ self.old.words }
+        ensures rule { self.new.compaction ≡ self.old.compaction }
+        ensures any_moment { self.old.failed ≡ false → CrashLeavesState D.moment D.left_since T.state self.old self.new }
+        ensures any_moment_failed { CrashLeavesStateOrOld D.moment D.left_since D.may_leave T.state self.old self.new }
+        ensures cause { IfErr result (λ e. CompactCause (D.faults self.old.journal.device) (D.faults self.new.journal.device) e) }
+        ensures err { IfErr result (λ e. LeavesFile e (self.new.failed ≡ true) (KeepsFile D.seen D.may_leave self.old self.new)
+            ((self.new.failed ≡ self.old.failed) × (self.new.journal ≡ self.old.journal))) }
+    {
         let image = self.words.image(self.alloc)?;
         match self.put_in_place(&image) {
             Ok(()) => Ok(()),
@@ -54,12 +98,16 @@ impl<T: Words, A: Allocator + Copy, D: ReplaceDevice> Store<T, A, D> {
         requires settled { IsSettled D.seen D.may_leave self.old.journal.device self.old.journal.format self.old.journal.end }
         requires usable { self.old.failed ≡ false }
         requires room { self.old.journal.end < 2 ^ 60 }
+        requires ordered { (T.state self.old.words).ordered ≡ true }
         requires stands { option_and_then (λ s. after s (payload_of frame.now)) (state_of (D.seen self.old.journal.device)) ≡ Some (T.state self.old.words) }
         ensures ready { IsReadyStore D.seen D.may_leave T.state self.new }
         ensures done { OnOk result (self.new.failed ≡ false) }
         ensures due { OnOk result (is_beyond self.new.compaction self.new.base self.new.journal.end ≡ false) }
+        ensures recorded { OnOk result ((recovered (D.seen self.new.journal.device) ≡ added (payload_of frame.now) (recovered (D.seen self.old.journal.device)))
+            ⊎ IsShortened self.old self.new) }
         ensures err { IfErr result (FailsByDevice D.faults self.old self.new) }
         ensures words { self.new.words ≡ self.old.words }
+        ensures rule { self.new.compaction ≡ self.old.compaction }
         ensures any_moment { (s : State) → state_of (D.seen self.old.journal.device) ≡ Some s
             → LeavesOnly D.moment D.left_since self.old.journal.device self.new.journal.device (IsEither s (T.state self.old.words)) }
     {
@@ -72,11 +120,14 @@ impl<T: Words, A: Allocator + Copy, D: ReplaceDevice> Store<T, A, D> {
     fn compact_if_due(&mut self) -> Result<(), DurableError>
         requires consistent { IsConsistent D.seen D.may_leave self.old.journal.device self.old.journal.format self.old.journal.end (T.state self.old.words) }
         requires usable { self.old.failed ≡ false }
+        requires ordered { (T.state self.old.words).ordered ≡ true }
         ensures ready { IsReadyStore D.seen D.may_leave T.state self.new }
         ensures done { OnOk result (self.new.failed ≡ false) }
         ensures due { OnOk result (is_beyond self.new.compaction self.new.base self.new.journal.end ≡ false) }
+        ensures recorded { OnOk result ((D.seen self.new.journal.device ≡ D.seen self.old.journal.device) ⊎ IsShortened self.old self.new) }
         ensures err { IfErr result (FailsByDevice D.faults self.old self.new) }
         ensures words { self.new.words ≡ self.old.words }
+        ensures rule { self.new.compaction ≡ self.old.compaction }
         ensures any_moment { CrashLeavesState D.moment D.left_since T.state self.old self.new }
     {
         let end = self.journal.end;
@@ -87,7 +138,10 @@ impl<T: Words, A: Allocator + Copy, D: ReplaceDevice> Store<T, A, D> {
         // Lack of memory and a device that keeps the file are no errors of the change, which is acknowledged.
         match self.words.image(self.alloc) {
             Ok(image) => self.replace_if_shorter(&image),
-            Err(_) => Ok(()),
+            Err(error) => {
+                self.last_compaction = Some(Err(error));
+                Ok(())
+            }
         }
     }
 
@@ -95,12 +149,15 @@ impl<T: Words, A: Allocator + Copy, D: ReplaceDevice> Store<T, A, D> {
     fn replace_if_shorter(&mut self, image: &Image<A>) -> Result<(), DurableError>
         requires consistent { IsConsistent D.seen D.may_leave self.old.journal.device self.old.journal.format self.old.journal.end (T.state self.old.words) }
         requires usable { self.old.failed ≡ false }
+        requires ordered { (T.state self.old.words).ordered ≡ true }
         requires made { replayed new_state (payloads_of image.now) ≡ Some (T.state self.old.words) }
         requires looked_at { self.old.base ≡ self.old.journal.end }
         ensures ready { IsReadyStore D.seen D.may_leave T.state self.new }
         ensures done { OnOk result ((self.new.failed ≡ false) × (self.new.base ≡ self.new.journal.end)) }
+        ensures recorded { OnOk result ((D.seen self.new.journal.device ≡ D.seen self.old.journal.device) ⊎ IsShortened self.old self.new) }
         ensures err { IfErr result (FailsByDevice D.faults self.old self.new) }
         ensures words { self.new.words ≡ self.old.words }
+        ensures rule { self.new.compaction ≡ self.old.compaction }
         ensures any_moment { CrashLeavesState D.moment D.left_since T.state self.old self.new }
     {
         if !self
@@ -110,30 +167,42 @@ impl<T: Words, A: Allocator + Copy, D: ReplaceDevice> Store<T, A, D> {
             return Ok(());
         }
         match self.put_in_place(image) {
-            Ok(()) => Ok(()),
-            Err(ReplaceError::Kept(_)) => Ok(()),
-            Err(ReplaceError::Failed) => Err(DurableError::Device(DeviceError::Failed)),
+            Ok(()) => {
+                self.last_compaction = Some(Ok(()));
+                Ok(())
+            }
+            Err(ReplaceError::Kept(error)) => {
+                self.last_compaction = Some(Err(CompactError::Kept(error)));
+                Ok(())
+            }
+            Err(ReplaceError::Failed) => {
+                self.last_compaction = Some(Err(CompactError::Failed));
+                Err(DurableError::Device(DeviceError::Failed))
+            }
         }
     }
 
-    /// Replaces the file by one that stands for the dictionary.
+    /// Replaces the file by one that stands for the dictionary, whatever the file has that is there.
     fn put_in_place(&mut self, image: &Image<A>) -> Result<(), ReplaceError>
-        requires consistent { IsConsistent D.seen D.may_leave self.old.journal.device self.old.journal.format self.old.journal.end (T.state self.old.words) }
-        requires usable { self.old.failed ≡ false }
         requires made { replayed new_state (payloads_of image.now) ≡ Some (T.state self.old.words) }
-        ensures ready { IsReadyStore D.seen D.may_leave T.state self.new }
+        ensures ready { IsReadyStore D.seen D.may_leave T.state self.old → IsReadyStore D.seen D.may_leave T.state self.new }
         ensures done { OnOk result ((self.new.failed ≡ false) × (self.new.base ≡ self.new.journal.end)) }
         ensures bytes { OnOk result (D.seen self.new.journal.device ≡ image_bytes image.now) }
-        ensures kept { IfKept result ((self.new.failed ≡ false) × (self.new.base ≡ self.old.base) × (self.new.journal.end ≡ self.old.journal.end)) }
-        ensures kept_bytes { IfKept result (D.seen self.new.journal.device ≡ D.seen self.old.journal.device) }
+        ensures kept { IfKept result (KeepsFile D.seen D.may_leave self.old self.new) }
+        ensures kept_end { IfKept result ((self.new.base ≡ self.old.base) × (self.new.journal.end ≡ self.old.journal.end)) }
         ensures failed { IsErrOf result ReplaceError.Failed → (self.new.failed ≡ true) × (D.faults self.old.journal.device < D.faults self.new.journal.device) }
         ensures kept_failed { IsErrOf result (ReplaceError.Kept DeviceError.Failed) → D.faults self.old.journal.device < D.faults self.new.journal.device }
         ensures words { self.new.words ≡ self.old.words }
-        ensures any_moment { CrashLeavesState D.moment D.left_since T.state self.old self.new }
+        ensures rule { self.new.compaction ≡ self.old.compaction }
+        ensures any_moment { CrashLeavesStateOrOld D.moment D.left_since D.may_leave T.state self.old self.new }
     {
-        match self.journal.replace(image) {
+        match self.journal.device.replace(image.bytes()) {
             Ok(()) => {
-                self.base = self.journal.end;
+                let end = image.bytes().len().saturating_sub(1);
+                self.journal.format = Format::Summed;
+                self.journal.end = end;
+                self.base = end;
+                self.failed = false;
                 Ok(())
             }
             Err(ReplaceError::Kept(error)) => Err(ReplaceError::Kept(error)),

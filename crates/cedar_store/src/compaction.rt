@@ -1,7 +1,7 @@
 //! When a file is compacted, and why it wasn't.
 
 ghost use Rattle.std.specs.Prelude.{◌≡◌};
-ghost use Rattle.cedar_store.specs.Words.{compact_error, compact_error_text, CompactMemory, is_beyond, replace_error, Some};
+ghost use Rattle.cedar_store.specs.Words.{compact_error, compact_error_text, CompactMemory, default_rule, is_beyond, replace_error, Some};
 
 use cedar_journal::{DeviceError, FrameError, ReplaceError};
 use std::alloc::AllocError;
@@ -11,7 +11,7 @@ use std::fmt;
 /// When a store compacts its file by itself, at the end of a change.
 #[derive(Clone, Copy, Debug, PartialEq, Eq)]
 pub enum Compaction {
-    /// Never: only `compact` does it.
+    /// Never: only `compact` does it, and each change makes the file longer.
     Never,
     /// If the file is longer than `factor` times what its entries take, and `spare` bytes more.
     Beyond {
@@ -23,6 +23,9 @@ pub enum Compaction {
 }
 
 impl Default for Compaction {
+    //= The rule of a store that was opened is: twice what the entries take, and 64 KiB.
+    ghost is_default = { λ rule. rule ≡ default_rule };
+
     /// Twice what the entries take, and 64 KiB.
     fn default() -> Self {
         Compaction::Beyond {
@@ -54,9 +57,9 @@ pub enum CompactError {
     Memory,
     /// The record of an entry would have 2^32 bytes or more. Nothing has changed.
     TooLong,
-    /// The device kept the file as it was. Nothing has changed, and the store goes on.
+    /// The device kept the file as it was. Nothing has changed.
     Kept(DeviceError),
-    /// The device failed, in this call or in an earlier change: open the file again.
+    /// The device failed: the old file is there or the new one. Open the file again, and compact it then.
     Failed,
 }
 
@@ -109,7 +112,9 @@ impl fmt::Display for CompactError {
             CompactError::Kept(DeviceError::Failed) => {
                 f.write_str("the device kept the file as it was")
             }
-            CompactError::Failed => f.write_str("the device failed: open the file again"),
+            CompactError::Failed => {
+                f.write_str("the device failed: the old file is there or the new one")
+            }
         }
     }
 }

@@ -21,7 +21,7 @@ pub enum DurableError {
     Damaged(usize),
     /// The pair has a fault, or memory or slots were refused. Nothing has changed.
     Refused(CedarError),
-    /// A change of a batch has a fault, or memory or slots were refused for it. Nothing has changed.
+    /// A change of a batch has a fault, or if none has one, memory or slots were refused for it. Nothing has changed.
     RefusedAt {
         /// The index of the change, counted from 0.
         index: usize,
@@ -32,9 +32,10 @@ pub enum DurableError {
     TooLong,
     /// The file's records end after 2^60 bytes. Nothing has changed.
     Full,
-    /// The device failed. From then on each change is refused by `Failed`, until the file is opened again.
+    /// The device failed. In a change: the dictionary has it, and the file has it or not. From then on each change is refused by `Failed`,
+    /// until `compact` has written the dictionary to a new file.
     Device(DeviceError),
-    /// The device failed in an earlier change: open the file again.
+    /// The device failed in an earlier change. Nothing has changed: compact the store, or open the file again and compact it then.
     Failed,
 }
 
@@ -133,7 +134,7 @@ impl fmt::Display for DurableError {
             DurableError::Device(DeviceError::Memory) => f.write_str("the device is out of memory"),
             DurableError::Device(DeviceError::Failed) => f.write_str("the device failed"),
             DurableError::Failed => {
-                f.write_str("the device failed in an earlier change: open the file again")
+                f.write_str("the device failed in an earlier change: compact the store")
             }
         }
     }

@@ -8,6 +8,7 @@ mod change;
 mod compact;
 mod compaction;
 mod error;
+mod faults;
 mod frames;
 mod replay;
 mod store;

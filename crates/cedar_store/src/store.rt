@@ -1,21 +1,21 @@
 //! The store: a dictionary, and the journal of its changes.
 
-ghost use Rattle.std.specs.Prelude.{◌+◌, ◌<◌, ◌^◌, ◌≡◌, ◌≤◌, IfErr, IfOk, IfSome, IsOk, OnOk, Some, [], false, if◌then◌else◌, is_some, length, true};
-ghost use Rattle.cedar_store.specs.Words.{added, all_changed, changes_told, erased, fault, number_at, payload_of, recovered, state_of, stored, AllByRecursion, HasExtent, IsBeforeOrAfter, IsBeforeWrites, IsConsistent, IsCorrupt, IsFaultless, IsSettled, LeavesOnly, Only, OpenCause, CrashLeavesEither, FailsByDevice, HasState, IsBatchCause, IsChangeCause, IsEraseCause, IsReadyStore, LeavesStore};
+ghost use Rattle.std.specs.Prelude.{◌+◌, ◌<◌, ◌^◌, ◌≡◌, ◌≤◌, ◌∷◌, IfErr, IfOk, IfSome, IsOk, OnOk, Some, [], false, if◌then◌else◌, is_some, length, true};
+ghost use Rattle.cedar_store.specs.Words.{added, all_changed, changes_told, erase_at, erased, fault, first_refused, number_at, payload_of, recovered, state_of, stored, AllByRecursion, HasExtent, IsBeforeOrAfter, IsBeforeWrites, IsCorrupt, IsFaultless, IsRecordedIn, IsSettled, LeavesOnly, Only, OpenCause, put_at, ReadCause, CrashLeavesEither, FailsByDevice, HasState, IsBatchCause, IsChangeCause, IsEraseCause, IsReadyStore, LeavesStore};
 
 use crate::batch::make;
 use crate::frames::{erase_frame, put_frame};
 use crate::replay::words_of;
 use crate::words::{Made, Words, take_back};
-use crate::{Change, Compaction, DurableError};
-use cedar_journal::{Device, Extent, Frame, Journal, ReplaceDevice};
-use cedarwood::{Cedar, ReducedCedar};
+use crate::{Change, CompactError, Compaction, DurableError};
+use cedar_journal::{Device, DeviceError, Extent, Frame, Journal, ReplaceDevice};
+use cedarwood::{Cedar, CedarError, ReducedCedar};
 use std::alloc::Allocator;
 
 /// A dictionary whose changes are on a device before they are acknowledged.
 ///
-/// Once the device has failed in a change, the dictionary has that change and the file may lack it. So each later change is refused until
-/// the device is opened again; look-ups go on.
+/// Once the device has failed in a change, the dictionary has that change and the file may lack it. So each later change is refused, until
+/// [`Store::compact`] has written the dictionary to a new file; look-ups go on.
 #[derive(Drop)]
 pub struct Store<T: Words, A: Allocator, D: Device> {
     pub(crate) alloc: A,
@@ -25,6 +25,8 @@ pub struct Store<T: Words, A: Allocator, D: Device> {
     pub(crate) compaction: Compaction,
     // Where the records ended at the last test of whether the file is too long: 0 before.
     pub(crate) base: usize,
+    // What came of the last compaction, if there was one.
+    pub(crate) last_compaction: Option<Result<(), CompactError>>,
 }
 
 /// The default store of a dictionary.
@@ -59,10 +61,14 @@ fn read_file<A: Allocator, D: Device>(alloc: A, device: &mut D) -> Result<Vec<u8
     ensures seen { D.seen device.new ≡ D.seen device.old }
     ensures durable { Only (D.seen device.new) (D.may_leave device.new) }
     ensures any_moment { LeavesOnly D.moment D.left_since device.old device.new (λ c. c ≡ D.seen device.old) }
-    ensures cause { IfErr result (λ error. OpenCause (D.seen device.old) (D.faults device.old) (D.faults device.new) error) }
+    ensures cause { IfErr result (λ error. ReadCause (D.faults device.old) (D.faults device.new) error) }
     ensures faults { D.faults device.old ≤ D.faults device.new }
 {
-    Ok(device.read(alloc)?)
+    match device.read(alloc) {
+        Ok(bytes) => Ok(bytes),
+        Err(DeviceError::Memory) => Err(DurableError::Refused(CedarError::Memory)),
+        Err(DeviceError::Failed) => Err(DurableError::Device(DeviceError::Failed)),
+    }
 }
 
 impl<T: Made<A>, A: Allocator + Copy, D: Device> Store<T, A, D> {
@@ -71,7 +77,8 @@ impl<T: Made<A>, A: Allocator + Copy, D: Device> Store<T, A, D> {
     ///
     /// # Errors
     /// With the device: `Foreign` if the file is of another kind, `Damaged` if a record is damaged, `Corrupt` if one is not a change, `Refused`
-    /// if memory or slots were refused; then nothing has been written. `Device` if the device failed; the file stands for the same dictionary.
+    /// if memory or slots were refused, also the memory for the file's bytes; then nothing has been written. `Device` if the device failed; the
+    /// file stands for the same dictionary.
     pub fn open(alloc: A, device: D) -> Result<Self, (DurableError, D)>
         requires limit { T.limit }
         // After a restart, what is read is what is on the disk.
@@ -79,10 +86,14 @@ impl<T: Made<A>, A: Allocator + Copy, D: Device> Store<T, A, D> {
 
         //= An opened store is ready, and its dictionary is the one that the file stood for. So no store is opened of a file of another
         //  kind, or of one with a record that is no change. [with made, sound]
-        ensures ready { IfOk result (λ store. (store.failed ≡ false)
-            × IsConsistent D.seen D.may_leave store.journal.device store.journal.format store.journal.end (T.state store.words)) }
+        ensures ready { IfOk result (λ store. (store.failed ≡ false) × IsReadyStore D.seen D.may_leave T.state store) }
         ensures made { IfOk result (λ store. state_of (D.seen device) ≡ Some (T.state store.words)) }
         ensures sound { IfOk result (λ _. IsCorrupt (D.seen device) → ⊥) }
+
+        //= A store that was opened compacts its file by itself once it is longer than twice what its entries take, and 64 KiB. No
+        //  compaction is told yet. [with told]
+        ensures rule { IfOk result (λ store. store.compaction ≡ Compaction.Beyond 2 65536) }
+        ensures told { IfOk result (λ store. store.last_compaction ≡ None) }
 
         //= A crash at any moment while it is opened leaves a file that stands for the same dictionary, even if it isn't opened. [with
         //  any_moment_err]
@@ -110,6 +121,7 @@ impl<T: Made<A>, A: Allocator + Copy, D: Device> Store<T, A, D> {
                     failed: false,
                     compaction: Compaction::default(),
                     base: 0,
+                    last_compaction: None,
                 }),
                 Err((error, device)) => Err((DurableError::Device(error), device)),
             },
@@ -127,7 +139,8 @@ impl<T: Words, A: Allocator + Copy, D: Device> Store<T, A, D> {
         &self.words
     }
 
-    /// Whether the device has failed in a change. Then each later change is refused, until the file is opened again.
+    /// Whether the device has failed in a change or a compaction. Then each later change is refused, until `compact` has written the
+    /// dictionary to a new file.
     pub fn has_failed(&self) -> bool
         //= A store says whether it has failed.
         ensures { result ≡ self.now.failed }
@@ -141,6 +154,23 @@ impl<T: Words, A: Allocator + Copy, D: Device> Store<T, A, D> {
         ensures { result ≡ self.journal.device }
     {
         self.journal.device
+    }
+
+    /// Returns how many bytes the header and the records of the file take. The file has one byte more, a closed gate, and after that maybe
+    /// what a crash or an error has left.
+    pub fn file_len(&self) -> usize
+        //= A store says where the records of its file end.
+        ensures { result ≡ self.now.journal.end }
+    {
+        self.journal.end
+    }
+
+    /// Returns what came of the last compaction since the store was opened, by a call or by the rule: None if there was none.
+    pub fn last_compaction(&self) -> Option<Result<(), CompactError>>
+        //= A store says what came of the last compaction.
+        ensures { result ≡ self.now.last_compaction }
+    {
+        self.last_compaction
     }
 
     /// When the store compacts its file by itself.
@@ -182,6 +212,16 @@ impl<T: Words, A: Allocator + Copy, D: ReplaceDevice> Store<T, A, D> {
         //  without. [also insert, update_bytes, update]
         ensures any_moment { CrashLeavesEither D.moment D.left_since T.state self.old self.new (stored (T.state self.old.words) key.now value) }
 
+        //= On a store that has failed no change is made: dictionary, file and rule are as they were. [with untouched; also insert,
+        //  update_bytes, update]
+        ensures failed { self.old.failed ≡ true → result ≡ Err DurableError.Failed }
+        ensures untouched { self.old.failed ≡ true → self.new ≡ self.old }
+
+        //= A change leaves the rule as it was. It adds one record to those of the file, and leaves them, unless the rule is another one
+        //  than `Never`: then the file may have been made short instead, which is told. [with recorded; also insert, update_bytes, update]
+        ensures rule { self.new.compaction ≡ self.old.compaction }
+        ensures recorded { OnOk result (IsRecordedIn D.seen self.old self.new (put_at key.now value ∷ [])) }
+
         //= A pair that has a fault is refused with its first one, if the store hasn't failed. [also insert, update_bytes, update]
         ensures faulty { self.old.failed ≡ false → IfSome (fault key.now value) (λ e. result ≡ Err (DurableError.Refused e)) }
 
@@ -219,6 +259,10 @@ impl<T: Words, A: Allocator + Copy, D: ReplaceDevice> Store<T, A, D> {
         ensures ready { IsReadyStore D.seen D.may_leave T.state self.new }
         ensures held { IfOk result (λ held. held ≡ number_at (T.state self.old.words).tree key.now) }
         ensures any_moment { CrashLeavesEither D.moment D.left_since T.state self.old self.new (stored (T.state self.old.words) key.now value) }
+        ensures failed { self.old.failed ≡ true → result ≡ Err DurableError.Failed }
+        ensures untouched { self.old.failed ≡ true → self.new ≡ self.old }
+        ensures rule { self.new.compaction ≡ self.old.compaction }
+        ensures recorded { OnOk result (IsRecordedIn D.seen self.old self.new (put_at key.now value ∷ [])) }
         ensures faulty { self.old.failed ≡ false → IfSome (fault key.now value) (λ e. result ≡ Err (DurableError.Refused e)) }
         ensures cause { IfErr result (IsChangeCause D.faults self.old self.new (fault key.now value) (length key.now + 5)) }
         ensures err { IfErr result (LeavesStore T.state self.old self.new (stored (T.state self.old.words) key.now value)) }
@@ -235,6 +279,10 @@ impl<T: Words, A: Allocator + Copy, D: ReplaceDevice> Store<T, A, D> {
         ensures stored { OnOk result (HasState T.state self.new (stored (T.state self.old.words) key.now value)) }
         ensures ready { IsReadyStore D.seen D.may_leave T.state self.new }
         ensures any_moment { CrashLeavesEither D.moment D.left_since T.state self.old self.new (stored (T.state self.old.words) key.now value) }
+        ensures failed { self.old.failed ≡ true → result ≡ Err DurableError.Failed }
+        ensures untouched { self.old.failed ≡ true → self.new ≡ self.old }
+        ensures rule { self.new.compaction ≡ self.old.compaction }
+        ensures recorded { OnOk result (IsRecordedIn D.seen self.old self.new (put_at key.now value ∷ [])) }
         ensures faulty { self.old.failed ≡ false → IfSome (fault key.now value) (λ e. result ≡ Err (DurableError.Refused e)) }
         ensures cause { IfErr result (IsChangeCause D.faults self.old self.new (fault key.now value) (length key.now + 5)) }
         ensures err { IfErr result (LeavesStore T.state self.old self.new (stored (T.state self.old.words) key.now value)) }
@@ -254,6 +302,10 @@ impl<T: Words, A: Allocator + Copy, D: ReplaceDevice> Store<T, A, D> {
         ensures stored { OnOk result (HasState T.state self.new (stored (T.state self.old.words) key.now value)) }
         ensures ready { IsReadyStore D.seen D.may_leave T.state self.new }
         ensures any_moment { CrashLeavesEither D.moment D.left_since T.state self.old self.new (stored (T.state self.old.words) key.now value) }
+        ensures failed { self.old.failed ≡ true → result ≡ Err DurableError.Failed }
+        ensures untouched { self.old.failed ≡ true → self.new ≡ self.old }
+        ensures rule { self.new.compaction ≡ self.old.compaction }
+        ensures recorded { OnOk result (IsRecordedIn D.seen self.old self.new (put_at key.now value ∷ [])) }
         ensures faulty { self.old.failed ≡ false → IfSome (fault key.now value) (λ e. result ≡ Err (DurableError.Refused e)) }
         ensures cause { IfErr result (IsChangeCause D.faults self.old self.new (fault key.now value) (length key.now + 5)) }
         ensures err { IfErr result (LeavesStore T.state self.old self.new (stored (T.state self.old.words) key.now value)) }
@@ -280,6 +332,14 @@ impl<T: Words, A: Allocator + Copy, D: ReplaceDevice> Store<T, A, D> {
         //= A crash at any moment of an erasure leaves a file that stands for the dictionary from before it, with the change or without.
         //  [also erase]
         ensures any_moment { CrashLeavesEither D.moment D.left_since T.state self.old self.new (erased (T.state self.old.words) key.now) }
+
+        //= On a store that has failed no change is made: dictionary, file and rule are as they were. [with untouched; also erase]
+        ensures failed { self.old.failed ≡ true → result ≡ Err DurableError.Failed }
+        ensures untouched { self.old.failed ≡ true → self.new ≡ self.old }
+
+        //= An erasure leaves the rule as it was, and the file as a change does. [with recorded; also erase]
+        ensures rule { self.new.compaction ≡ self.old.compaction }
+        ensures recorded { IfOk result (λ held. held ≡ true → IsRecordedIn D.seen self.old self.new (erase_at key.now ∷ [])) }
 
         //= An erasure fails only if the store has failed before, for lack of memory, if the record is too long or the records end too far
         //  back, or if the device failed. [also erase]
@@ -312,6 +372,10 @@ impl<T: Words, A: Allocator + Copy, D: ReplaceDevice> Store<T, A, D> {
         ensures answer { IfOk result (λ held. held ≡ is_some (number_at (T.state self.old.words).tree key.now)) }
         ensures missed { IfOk result (λ held. held ≡ false → self.new.journal ≡ self.old.journal) }
         ensures any_moment { CrashLeavesEither D.moment D.left_since T.state self.old self.new (erased (T.state self.old.words) key.now) }
+        ensures failed { self.old.failed ≡ true → result ≡ Err DurableError.Failed }
+        ensures untouched { self.old.failed ≡ true → self.new ≡ self.old }
+        ensures rule { self.new.compaction ≡ self.old.compaction }
+        ensures recorded { IfOk result (λ held. held ≡ true → IsRecordedIn D.seen self.old self.new (erase_at key.now ∷ [])) }
         ensures cause { IfErr result (IsEraseCause D.faults self.old self.new (length key.now + 1)) }
         ensures err { IfErr result (LeavesStore T.state self.old self.new (erased (T.state self.old.words) key.now)) }
     {
@@ -339,6 +403,18 @@ impl<T: Words, A: Allocator + Copy, D: ReplaceDevice> Store<T, A, D> {
         //= A crash at any moment of a batch leaves a file that stands for the dictionary from before it, or for the one with all of its
         //  changes.
         ensures any_moment { CrashLeavesEither D.moment D.left_since T.state self.old self.new (all_changed (T.state self.old.words) (changes_told changes.now)) }
+
+        //= On a store that has failed no batch is made: dictionary, file and rule are as they were. [with untouched]
+        ensures failed { self.old.failed ≡ true → result ≡ Err DurableError.Failed }
+        ensures untouched { self.old.failed ≡ true → self.new ≡ self.old }
+
+        //= A batch leaves the rule as it was, and the file as a change does. [with recorded]
+        ensures rule { self.new.compaction ≡ self.old.compaction }
+        ensures recorded { OnOk result ((changes.now ≡ [] → ⊥) → IsRecordedIn D.seen self.old self.new (changes_told changes.now)) }
+
+        //= A batch in which a pair has a fault is refused with the first such pair's index and fault, whatever memory there is, if the
+        //  store hasn't failed.
+        ensures first { self.old.failed ≡ false → IfSome (first_refused 0 (changes_told changes.now)) (λ e. result ≡ Err e) }
 
         //= A batch in which one pair has a fault is refused. Otherwise it fails only if the store has failed before, for lack of memory or
         //  slots, if the record is too long or the records end too far back, or if the device failed. [with cause]
@@ -370,6 +446,7 @@ impl<T: Words, A: Allocator + Copy, D: ReplaceDevice> Store<T, A, D> {
         ensures faults { D.faults self.old.journal.device ≤ D.faults self.new.journal.device }
         ensures err { IfErr result (FailsByDevice D.faults self.old self.new) }
         ensures words { self.new.words ≡ self.old.words }
+        ensures rule { self.new.compaction ≡ self.old.compaction }
         ensures any_moment { LeavesOnly D.moment D.left_since self.old.journal.device self.new.journal.device
             (IsBeforeOrAfter (recovered (D.seen self.old.journal.device)) (payload_of frame.now)) }
     {

@@ -2,7 +2,7 @@ use Rattle.std.specs.Prelude.{IfOk, Some}
 use Rattle.std.proofs.Common.{◌≡◌, ◌∙◌, sym, subst, rules}
 use Rattle.cedar_journal.specs.Files.{HasExtent}
 use Rattle.cedar_store.specs.Files.{state_of}
-use Rattle.cedar_store.proofs.Opened.{open_causes}
+use Rattle.cedar_store.proofs.Opened.{open_causes, read_cause}
 use Rattle.cedar_store.proofs.Payloads.{handed_on}
 use Rattle.cedar_store.proofs.store.read_words.Goals as goal
 
@@ -23,4 +23,7 @@ returns-clause-cause g c =
     open_causes c.deref.result.now (g.D.Device.seen c.args.device.now) (g.D.Device.faults c.args.device.now) (g.D.Device.faults c.read_file.new.device) c.words_of.result same c.words_of.ensures.cause
 
 pub returns-in_err-bytes-clause-cause : goal.returns-in_err-bytes-clause-cause
-returns-in_err-bytes-clause-cause g c = handed_on c.from_residual.result c.in_err-bytes.field-0.0 _ c.from_residual.ensures.1 c.in_err-bytes.ensures.cause
+returns-in_err-bytes-clause-cause g c =
+    let device = c.args.device.now in
+    handed_on c.from_residual.result c.in_err-bytes.field-0.0 _ c.from_residual.ensures.1
+    (read_cause (g.D.Device.seen device) (g.D.Device.faults device) (g.D.Device.faults c.read_file.new.device) c.in_err-bytes.field-0.0 c.in_err-bytes.ensures.cause)

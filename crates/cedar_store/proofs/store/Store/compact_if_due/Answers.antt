@@ -1,10 +1,8 @@
 use Rattle.cedar_store.proofs.Compacted.{just_looked_at, never_itself, still_usable}
-use Rattle.cedar_store.proofs.Ordered.{is_ordered}
 use Rattle.cedar_store.proofs.store.Store.compact_if_due.Goals as goal
 
 pub replace_if_shorter-requires-clause-made : goal.replace_if_shorter-requires-clause-made
-replace_if_shorter-requires-clause-made g c =
-    c.in-Ok.ensures.made (is_ordered (g.D.Device.seen c.args.self.now.journal.device) (g.T.Words.state c.args.self.now.words) c.requires.consistent.same)
+replace_if_shorter-requires-clause-made g c = c.in-Ok.ensures.made c.requires.ordered
 
 pub returns-in-Ok-clause-due : goal.returns-in-Ok-clause-due
 returns-in-Ok-clause-due g c = just_looked_at c.replace_if_shorter.result _ _ _ _ c.replace_if_shorter.ensures.done

@@ -1,0 +1,3 @@
+mod LifeLemmas
+mod RunLemmas
+mod StepLemmas

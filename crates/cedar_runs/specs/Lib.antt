@@ -1,0 +1,4 @@
+pub mod Lives
+pub mod Runs
+pub mod Steps
+pub mod Words

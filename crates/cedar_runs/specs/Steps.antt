@@ -1,0 +1,82 @@
+-- What a call of a store does to its dictionary, and to what a crash may leave.
+use Rattle.std.specs.Prelude.{◌≡◌, ℕ, Bool, true, false, List}
+use Rattle.cedar_tree.specs.State.{State, erased, stored}
+use Rattle.cedar_store.specs.Changes.{all_changed}
+use Rattle.cedar_store.specs.Files.{IsEither}
+use Rattle.cedar_store.specs.Told.{changes_told}
+use Rattle.cedar_store.specs.declared.compaction.CompactError.{CompactError}
+use Rattle.cedar_store.specs.declared.compaction.CompactError.TheVariants as compact
+use Rattle.cedar_store.specs.declared.error.DurableError.{DurableError}
+use Rattle.cedar_store.specs.declared.error.DurableError.TheVariants as error
+use Rattle.cedar_store.specs.declared.store.Store.{Store}
+use Rattle.cedar_runs.specs.declared.call.StoreCall.{StoreCall}
+use Rattle.cedar_runs.specs.declared.call.StoreCall.TheVariants as call
+use Rattle.cedar_runs.specs.declared.call.Outcome.{Outcome}
+use Rattle.cedar_runs.specs.declared.call.Outcome.TheVariants.{Made, Nothing, Failed}
+
+-- the state after a call
+abbrev pub called : State → StoreCall → State
+called s (call.Update key v) = stored s key.now v
+called s (call.Erase key) = erased s key.now
+called s (call.Batch changes) = all_changed s (changes_told changes.now)
+called s call.Compact = s
+called s (call.Rule compaction) = s
+
+-- what an error of a change says came of it
+abbrev pub outcome_of : DurableError → Outcome
+outcome_of (error.Device e) = Failed
+outcome_of _ = Nothing
+
+-- what an error of a compaction says
+abbrev pub outcome_of_compaction : CompactError → Outcome
+outcome_of_compaction compact.Failed = Failed
+outcome_of_compaction _ = Nothing
+
+-- what an erasure says that found its key, or didn't
+abbrev pub outcome_of_erasure : Bool → Outcome
+outcome_of_erasure true = Made
+outcome_of_erasure false = Nothing
+
+-- a store between two calls: its device, the state of its dictionary, and whether it has failed
+pub record Point (D : Type 0) : Type 0 where
+  pub device : D
+  pub held : State
+  pub failed : Bool
+
+abbrev pub point_of : {T A D : Type 0} → (T → State) → Store T A D → Point D
+point_of state store = record { device = store.journal.device; held = state store.words; failed = store.failed }
+
+-- The dictionary after a call, which would make this state of it.
+abbrev pub held_once : Outcome → State → State → State
+held_once Made held after = after
+held_once Nothing held after = held
+held_once Failed held after = after
+
+-- what counts for sure after it
+abbrev pub sure_once : Outcome → State → State → State
+sure_once Made sure after = after
+sure_once Nothing sure after = sure
+sure_once Failed sure after = sure
+
+abbrev pub failed_once : Outcome → Bool → Bool
+failed_once Made failed = false
+failed_once Nothing failed = failed
+failed_once Failed failed = true
+
+-- what may be there during a call besides what counts for sure: a store that has failed makes no change
+abbrev pub under_way : Bool → State → State → State
+under_way true held after = held
+under_way false held after = after
+
+-- A crash leaves a file that stands for what counts for sure, or for the dictionary. These are one, unless the store has failed.
+pub record IsKnown {D : Type 0} (may_leave : D → List ℕ → Type 0) (sure : State) (p : Point D) : Type 0 where
+  pub one : p.failed ≡ false → sure ≡ p.held
+  pub left : (file : List ℕ) → may_leave p.device file → IsEither sure p.held file
+
+-- A call that would make this state of the dictionary: what it leaves, and what a crash at any moment of it does.
+pub record IsCallStep {D : Type 0} (moment : D → ℕ) (left_since : D → ℕ → List ℕ → Type 0) (may_leave : D → List ℕ → Type 0) (old : Point D) (after : State) (outcome : Outcome) (new : Point D) : Type 0 where
+  pub held : new.held ≡ held_once outcome old.held after
+  pub failed : new.failed ≡ failed_once outcome old.failed
+  pub known : (sure : State) → IsKnown may_leave sure old → IsKnown may_leave (sure_once outcome sure after) new
+  pub crash : (sure : State) → IsKnown may_leave sure old → (file : List ℕ) → left_since new.device (moment old.device) file
+      → IsEither sure (under_way old.failed old.held after) file
