@@ -2,7 +2,7 @@
 
 from typing import Any, Dict, Iterator, List, Mapping, MutableMapping, Optional, Tuple
 
-from roskvidh import Cedar, CedarError, Match, Matches, Stats
+from roskvidh import Cedar, CedarError, Match, Matches, Stats, Store
 
 
 def keys_are_bytes(data: bytes) -> None:
@@ -36,6 +36,20 @@ def keys_are_texts(path: str, plain: Dict[str, int]) -> None:
     with Cedar(text=True) as opened:
         opened["a"] = 1
     print(between, fronts, longest)
+
+
+def stores(path: str) -> None:
+    with Store(path, text=True, mode="w", sync_every=10) as store:
+        with store.batch():
+            store["net"] = 7
+            pair: Tuple[str, int] = store.popitem()
+        store.compaction = None
+        store.compact()
+        beyond: Optional[Tuple[int, int]] = store.compaction
+        print(pair, beyond, store.file_size + store.compacted_size() + store.last_compaction, store.mode)
+    reader: Store[bytes] = Store(path, mode="r")
+    found: int = reader[b"net"]
+    print(found)
 
 
 def either(is_text: bool, given: Mapping[Any, int]) -> Cedar[Any]:

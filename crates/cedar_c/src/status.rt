@@ -96,6 +96,15 @@ pub(crate) const STORE_FULL: u32 = 45;
 /// A record of the store's file was changed by somebody else.
 pub(crate) const STORE_DAMAGED: u32 = 46;
 
+/// The store is open already: only C returns it.
+pub(crate) const STORE_LOCKED: u32 = 47;
+
+/// The store was opened to read: only C returns it.
+pub(crate) const STORE_READ_ONLY: u32 = 48;
+
+/// The store's file wasn't replaced by a shorter one: only C returns it.
+pub(crate) const STORE_KEPT: u32 = 49;
+
 /// The number of an error. If a byte 0 was refused, it writes its position, and if a key isn't above the one before it, the index of its
 /// pair.
 pub(crate) fn tell(error: CedarError, position: &mut usize) -> u32
@@ -167,10 +176,13 @@ fn text_of(status: u32) -> &'static str
         STORE_FOREIGN => "the file is not of a store",
         STORE_CORRUPT => "a record of the store's file is no change",
         STORE_DEVICE => "a call on the store's file failed",
-        STORE_FAILED => "the store has failed: open its file again",
+        STORE_FAILED => "the store has failed: compact it to go on",
         STORE_TOO_LONG => "the change is too long for a record",
         STORE_FULL => "the store's file is too long",
         STORE_DAMAGED => "a record of the store's file is damaged",
+        STORE_LOCKED => "the store is open already, in another program or in this one",
+        STORE_READ_ONLY => "the store was opened to read",
+        STORE_KEPT => "the store's file was kept: a call on the new one failed",
         _ => "an error without a text",
     }
 }
