@@ -12,7 +12,7 @@
 #include <sys/wait.h>
 #include <unistd.h>
 
-enum { FILE_ROOM = 1 << 16, ROUNDS = 40, WRITERS = 4, EACH_WRITES = 25, MANY_TIMES = 1000 };
+enum { FILE_ROOM = 1 << 16, ROUNDS = 40, WRITERS = 4, EACH_WRITES = 25, PAIRS = 300, MANY_TIMES = 1000 };
 
 static char path[4096], other[4096];
 
@@ -337,6 +337,38 @@ static void check_many(void) {
     cedar_store_close(&s);
 }
 
+/* Puts the same numbers at two keys, as one each time, in a file that is made short now and then. */
+static int write_pairs(void) {
+    cedar_store s = CEDAR_STORE_CLOSED;
+    if (cedar_store_open(&s, path) != CEDAR_OK || cedar_store_compact_beyond(&s, 2, 300) != CEDAR_OK) return 1;
+    for (int32_t i = 1; i <= PAIRS; i++) {
+        cedar_change changes[] = {{bytes("one"), 3, i, false}, {bytes("other"), 5, i, false}};
+        if (cedar_store_apply(&s, changes, 2, NULL, NULL) != CEDAR_OK) return 2;
+    }
+    bool was_compacted = cedar_store_file_len(&s) < PAIRS * 20 && cedar_store_last_compaction(&s) == CEDAR_OK;
+    cedar_store_close(&s);
+    return was_compacted ? 0 : 3;
+}
+
+/* A reader sees each of these as a whole, and none that is older than what it has seen. */
+static void check_beside_a_writer(void) {
+    cedar_store s = CEDAR_STORE_CLOSED;
+    int32_t last = -1;
+    int how;
+    open_new(&s);
+    cedar_store_close(&s);
+    pid_t child = fork();
+    CHECK(child >= 0);
+    if (child == 0) _exit(write_pairs());
+    for (pid_t ended = 0; ended == 0;) {
+        ended = waitpid(child, &how, WNOHANG);
+        CHECK(cedar_store_open_to_read(&s, path) == CEDAR_OK && at(&s, "one") == at(&s, "other") && at(&s, "one") >= last);
+        last = at(&s, "one");
+    }
+    CHECK(WIFEXITED(how) && WEXITSTATUS(how) == 0 && last == PAIRS);
+    cedar_store_close(&s);
+}
+
 int main(int argument_count, char **arguments) {
     CHECK(argument_count == 2 && snprintf(path, sizeof path, "%s/opened.store", arguments[1]) > 0);
     CHECK(snprintf(other, sizeof other, "%s/opened.other", arguments[1]) > 0);
@@ -349,6 +381,7 @@ int main(int argument_count, char **arguments) {
     check_read_files();
     check_hows(arguments[1]);
     check_many();
+    check_beside_a_writer();
     unlink(path);
     return 0;
 }
