@@ -1,5 +1,5 @@
 -- What a journal's file stands for. Its first record is the header, whose payload names what the file is, and the format of the others.
-use Rattle.std.specs.Prelude.{◌≡◌, ℕ, ◌≤◌, ◌<◌, ◌&&◌, ◌||◌, ◌==◌, nat_eq, nat_le, Bool, true, List, [], ◌∷◌, ◌++◌, length, take, drop, get_or, cond, Option, Some, None}
+use Rattle.std.specs.Prelude.{◌≡◌, ℕ, ◌-◌, ◌≤◌, ◌<◌, ◌&&◌, ◌||◌, ◌==◌, nat_eq, nat_le, Bool, true, false, List, [], ◌∷◌, ◌++◌, length, take, drop, get_or, slice_index, cond, Option, Some, None}
 use Rattle.std.specs.List.{starts_with}
 use Rattle.cedar_journal.specs.declared.format.Format.{Format}
 use Rattle.cedar_journal.specs.declared.format.Format.TheVariants.{Plain, Summed}
@@ -92,6 +92,20 @@ pub record IsNewFile (file : List ℕ) : Type 0 where
 abbrev pub HasExtent : List ℕ → Extent → Type 0
 HasExtent file New = IsNewFile file
 HasExtent file (Until format end) = HasRecords file format end
+
+-- behind this place there is one byte more, a closed gate
+abbrev pub ends_closed : List ℕ → ℕ → Bool
+ends_closed file end = length file - end == 1 && slice_index file end == 0
+
+-- where the records end, once a new file has its header
+abbrev pub extent_end : Extent → ℕ
+extent_end New = 13
+extent_end (Until format end) = end
+
+-- the file is a header, whole records and a closed gate, and nothing is to be mended
+abbrev pub is_at_rest : List ℕ → Extent → Bool
+is_at_rest file New = false
+is_at_rest file (Until format end) = ends_closed file end
 
 -- why it is refused
 abbrev pub IsFault : List ℕ → FileFault → Type 0

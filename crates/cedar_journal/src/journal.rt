@@ -3,10 +3,10 @@
 //! A closed gate (0) comes after the last record. It is on the disk before anything is written after it, and is opened by a write of its
 //! own after a sync. So no sum is trusted: those of version 2 only show that somebody else has changed the file.
 
-ghost use Rattle.std.specs.Prelude.{◌+◌, ◌<◌, ◌^◌, ◌≡◌, ◌≤◌, IfErr, IfOk, IsErrOf, length, OnErr, OnOk, Some};
-ghost use Rattle.cedar_journal.specs.Words.{added, Device, HasExtent, IfKept, image_bytes, IsBeforeOrAfter, IsSettled, IsStaged, LeavesOnly, Only, payload_of, payloads_of, recovered, StandsForEither};
+ghost use Rattle.std.specs.Prelude.{◌+◌, ◌<◌, ◌^◌, ◌≡◌, ◌≤◌, IfErr, IfOk, IsErrOf, IsOkAnd, length, OnErr, OnOk, Some, true};
+ghost use Rattle.cedar_journal.specs.Words.{added, Device, HasExtent, IfKept, image_bytes, extent_end, is_at_rest, IsBeforeOrAfter, IsSettled, IsStaged, LeavesOnly, Only, payload_of, payloads_of, recovered, StandsForEither};
 
-use crate::records::open_gate;
+use crate::records::{ends_closed, open_gate};
 use crate::repair::make_ready;
 use crate::{Device, DeviceError, Extent, Format, Frame, Image, ReplaceDevice, ReplaceError};
 use std::alloc::Allocator;
@@ -54,19 +54,22 @@ impl<D: Device> Journal<D> {
         requires restarted { Only (D.seen device) (D.may_leave device) }
         requires extent { HasExtent (D.seen device) extent }
 
-        //= An opened journal is at rest and on the disk, and stands for the payloads that the file stood for.
+        //= An opened journal is at rest and on the disk, and stands for the payloads that the file stood for. [also open_read]
         ensures settled { IfOk result (λ journal. IsSettled D.seen D.may_leave journal.device journal.format journal.end
             × (recovered (D.seen journal.device) ≡ recovered (D.seen device))) }
 
         //= A crash at any moment while it is opened leaves the same payloads, and never a file of another kind; even if a device fails.
-        //  [with any_moment_err]
+        //  [with any_moment_err; also open_read]
         ensures any_moment { IfOk result (λ journal. LeavesOnly D.moment D.left_since device journal.device
             (λ c. recovered c ≡ recovered (D.seen device))) }
         ensures any_moment_err { IfErr result (λ e. LeavesOnly D.moment D.left_since device e.1
             (λ c. recovered c ≡ recovered (D.seen device))) }
 
-        //= An opening returns `Failed` only if the disk has failed.
+        //= An opening returns `Failed` only if the disk has failed. [also open_read]
         ensures failed { IfErr result (λ e. e.0 ≡ DeviceError.Failed → D.faults device < D.faults e.1) }
+
+        //= Its records end where the file's did. [also open_read]
+        ensures end { IfOk result (λ journal. journal.end ≡ extent_end extent) }
     {
         let mut device = device;
         match make_ready(&mut device, extent) {
@@ -76,6 +79,46 @@ impl<D: Device> Journal<D> {
                 end,
             }),
             Err(error) => Err((error, device)),
+        }
+    }
+
+    /// `open`, of a file that was read, and has these bytes. If they end with a closed gate after the whole records, there is nothing to mend,
+    /// and no call of the device is made.
+    ///
+    /// # Errors
+    /// As of `open`.
+    pub fn open_read(
+        device: D,
+        extent: Extent,
+        bytes: &[u8],
+    ) -> Result<Journal<D>, (DeviceError, D)>
+        requires restarted { Only (D.seen device) (D.may_leave device) }
+        requires extent { HasExtent (D.seen device) extent }
+        requires bytes { bytes.now ≡ D.seen device }
+        ensures settled { IfOk result (λ journal. IsSettled D.seen D.may_leave journal.device journal.format journal.end
+            × (recovered (D.seen journal.device) ≡ recovered (D.seen device))) }
+        ensures any_moment { IfOk result (λ journal. LeavesOnly D.moment D.left_since device journal.device
+            (λ c. recovered c ≡ recovered (D.seen device))) }
+        ensures any_moment_err { IfErr result (λ e. LeavesOnly D.moment D.left_since device e.1
+            (λ c. recovered c ≡ recovered (D.seen device))) }
+        ensures failed { IfErr result (λ e. e.0 ≡ DeviceError.Failed → D.faults device < D.faults e.1) }
+        ensures end { IfOk result (λ journal. journal.end ≡ extent_end extent) }
+
+        //= Opening a file that is at rest writes nothing: the device is as it was.
+        ensures at_rest { is_at_rest bytes.now extent ≡ true → IsOkAnd result (λ journal. journal.device ≡ device) }
+    {
+        match extent {
+            Extent::New => Journal::open(device, extent),
+            Extent::Until(format, end) => {
+                if ends_closed(bytes, end) {
+                    return Ok(Journal {
+                        device,
+                        format,
+                        end,
+                    });
+                }
+                Journal::open(device, extent)
+            }
         }
     }
 

@@ -1,7 +1,7 @@
 //! Records as bytes: what is at the start of some bytes, where whole records end, and how far the file of a journal goes.
 
 ghost use Rattle.std.specs.Prelude.{◌*◌, ◌+◌, ◌∷◌, ◌≡◌, ◌≤◌, ◌↔◌, [], drop, false, get_or, IfErr, IfNone, IfOk, IfSome, IsErr, length, None, Some, true};
-ghost use Rattle.cedar_journal.specs.Words.{read_behind, behind_record, damaged, file_reading, format_of, HasExtent, HasRecords, has_record, is_begun, IsFault, IsFoundThere, AreUndamaged, opening, overhead, payload, records_read, recovered, stands};
+ghost use Rattle.cedar_journal.specs.Words.{read_behind, behind_record, damaged, ends_closed, file_reading, format_of, HasExtent, HasRecords, has_record, is_begun, IsFault, IsFoundThere, AreUndamaged, opening, overhead, payload, records_read, recovered, stands};
 
 use crate::Format;
 use crc32c::crc32c;
@@ -207,6 +207,14 @@ pub fn extent_of(bytes: &[u8]) -> Result<Extent, FileFault>
             Err(FileFault::Foreign)
         }
     }
+}
+
+/// Returns whether one byte is left behind a place, a closed gate.
+pub(crate) fn ends_closed(bytes: &[u8], end: usize) -> bool
+    requires { end ≤ length bytes.now }
+    ensures { result ≡ ends_closed bytes.now end }
+{
+    bytes.len() - end == 1 && bytes[end] == 0
 }
 
 // Returns the format that the header of a file names.

@@ -1,7 +1,7 @@
 //! Calls that make a file that a crash may have left ready for the next record. A crash may cut off each of these calls too.
 
 ghost use Rattle.std.specs.Prelude.{◌<◌, ◌∷◌, ◌≡◌, ◌≤◌, [], IfOk, IsErrOf, OnOk, Some};
-ghost use Rattle.cedar_journal.specs.Words.{HasExtent, HasRecords, IsNewFile, IsSettled, LeavesOnly, Only, recovered};
+ghost use Rattle.cedar_journal.specs.Words.{extent_end, HasExtent, HasRecords, IsNewFile, IsSettled, LeavesOnly, Only, recovered};
 
 use crate::records::{HEADER_FRAME, HEADER_LEN};
 use crate::{Device, DeviceError, Extent, Format};
@@ -14,6 +14,7 @@ pub(crate) fn make_ready<D: Device>(
     requires restarted { Only (D.seen device.old) (D.may_leave device.old) }
     requires extent { HasExtent (D.seen device.old) extent }
     ensures settled { IfOk result (λ at. IsSettled D.seen D.may_leave device.new at.0 at.1) }
+    ensures end { IfOk result (λ at. at.1 ≡ extent_end extent) }
     ensures same { OnOk result (recovered (D.seen device.new) ≡ recovered (D.seen device.old)) }
     ensures any_moment { LeavesOnly D.moment D.left_since device.old device.new
         (λ c. recovered c ≡ recovered (D.seen device.old)) }
