@@ -41,6 +41,10 @@ refused_call = (6, 0, false, [])
 abbrev pub took_name : Bool → Call
 took_name ok = (7, 0, ok, [])
 
+-- the file was locked
+abbrev pub locked : Bool → Call
+locked ok = (8, 0, ok, [])
+
 -- a call from the numbers that it was noted by
 abbrev pub call_of : List ℕ → List ℕ → Call
 call_of numbers bytes = (slice_index numbers 0, slice_index numbers 1, slice_index numbers 2 == 1, bytes)
@@ -126,6 +130,11 @@ all_within (call ∷ earlier) = within_by call.0 call.1 (seen_after earlier) (al
 abbrev pub LeftSince : List Call → ℕ → List ℕ → Type 0
 LeftSince [] t c = ⊥
 LeftSince (call ∷ earlier) t c = MayLeave (call ∷ earlier) c ⊎ ((t ≤ length earlier) × LeftSince earlier t c)
+
+-- the file was locked by one of these calls
+abbrev pub is_locked_after : List Call → Bool
+is_locked_after [] = false
+is_locked_after (call ∷ earlier) = if call.0 == 8 && call.2 then true else is_locked_after earlier
 
 -- how many calls have failed
 abbrev pub faults_in : List Call → ℕ

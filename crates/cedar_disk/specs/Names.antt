@@ -6,7 +6,15 @@ use Rattle.std.specs.Str.{NoCharPasses}
 abbrev pub new_suffix : List ℕ
 new_suffix = codes ".new"
 
--- What stands before that: nothing, or a full stop and a number of one digit or two, as `.7`.
+-- what ends the name of the file that is to take the place of a store's
+abbrev pub compaction_suffix : List ℕ
+compaction_suffix = codes ".cedar-compaction"
+
+-- the path of that file
+abbrev pub compaction_path : List ℕ → List ℕ
+compaction_path path = path ++ compaction_suffix
+
+-- What stands before `.new`: nothing, or a full stop and a number of one digit or two, as `.7`.
 abbrev pub mark_of : ℕ → List ℕ
 mark_of number = if number == 0 then [] else if nat_lt number 10 then 46 ∷ (48 + number) ∷ [] else 46 ∷ (48 + number / 10) ∷ (48 + number % 10) ∷ []
 

@@ -1,7 +1,7 @@
 //! A file, and what the calls on it so far make of it. `specs/Calls.antt` has the model.
 
 ghost use Rattle.std.specs.Prelude.{◌≡◌, ◌<◌, ◌≤◌, ◌⊎◌, ◌∷◌, [], false, IsTrue, length, List, OnErr, OnOk, take, true, ℕ};
-ghost use Rattle.cedar_disk.specs.Words.{all_within, Cut, faults_in, Follows, LiesBeside, TimePasses, HasCause, is_named_after, is_usable_after, LeavesOnly, LeftSince, MayLeave, Only, opened, overlaid, refused_call, seen_after, Torn};
+ghost use Rattle.cedar_disk.specs.Words.{all_within, compaction_path, Cut, faults_in, Follows, TimePasses, HasCause, is_locked_after, is_named_after, is_usable_after, LeavesOnly, LeftSince, locked, MayLeave, Only, opened, overlaid, refused_call, seen_after, Torn};
 ghost use Rattle.cedar_disk.specs.NotedFiles.{is_beside, noted_calls};
 
 use crate::noted::{Noted, Place};
@@ -34,11 +34,11 @@ impl<T: Read + Write + Seek + OpenFile + Drop> Account<T> {
     ghost use Rattle.cedar_disk.specs.Accounts.{calls_of};
     ghost use Rattle.cedar_disk.specs.PathFiles.{place_path};
 
-    /// Takes a file that was opened, and read.
+    /// Takes a file that was locked, opened and read.
     pub(crate) fn of_file(file: Noted<T>, _bytes: &[u8]) -> Account<T>
-        requires noted { noted_calls file ≡ opened _bytes.now ∷ [] }
+        requires noted { noted_calls file ≡ opened _bytes.now ∷ locked true ∷ [] }
         requires name { is_beside file ≡ false }
-        ensures calls { calls_of result ≡ opened _bytes.now ∷ [] }
+        ensures calls { calls_of result ≡ opened _bytes.now ∷ locked true ∷ [] }
     {
         Account {
             file,
@@ -151,7 +151,8 @@ impl<T: Read + Write + Seek + OpenFile + Drop> Account<T> {
     ) -> Result<(), DeviceError>
         requires known { IsTrue (is_named_after (calls_of self.old)) }
         requires name { is_beside fresh ≡ true }
-        requires names { LiesBeside (place_path place.now) name.now }
+        requires names { name.now ≡ compaction_path (place_path place.now) }
+        requires locked { is_locked_after (noted_calls fresh) ≡ true }
         requires bytes { seen_after (noted_calls fresh) ≡ bytes.now }
         requires fresh { Only bytes.now (MayLeave (noted_calls fresh)) }
         ensures replaced { OnOk result (seen_after (calls_of self.new) ≡ bytes.now) }

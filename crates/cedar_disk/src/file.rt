@@ -1,17 +1,19 @@
 //! A file of the operating system as a device.
 
-ghost use Rattle.std.specs.Prelude.{◌≡◌, length, IfOk};
-ghost use Rattle.cedar_disk.specs.Words.{counts_now, faults_in, ForSome, LeftSince, MayLeave, Only, only_now, seen_after};
+ghost use Rattle.std.specs.Prelude.{◌≡◌, [], length, IfOk, true};
+ghost use Rattle.cedar_disk.specs.Words.{counts_now, faults_in, ForSome, is_locked_after, LeftSince, MayLeave, Only, only_now, seen_after};
 ghost use Rattle.cedar_disk.specs.Accounts.{calls_of};
 
 use crate::noted::Place;
+use crate::system::Wanted;
 use crate::writes::make_file;
-use crate::{Account, OpenError};
+use crate::{Account, LockFile, OpenError};
 use cedar_journal::{Device, DeviceError, ReplaceDevice, ReplaceError};
 use std::alloc::Allocator;
+use std::io::ErrorKind;
 use std::rt::Files;
 
-/// A file of the operating system to which nobody else writes.
+/// A file of the operating system to which nobody else writes: it is locked until the device is dropped.
 ///
 /// It holds the bytes that were read when it was opened, until it is first written, cut or replaced. From then on a read fails with
 /// `Failed`: nothing would show whether what comes is what was written. Open the file again to read it.
@@ -32,18 +34,74 @@ pub struct FileDevice<F: Files + Drop, A: Allocator> {
 impl<F: Files + Drop, A: Allocator + Copy> FileDevice<F, A> {
     ghost use Rattle.cedar_disk.specs.FileDevices.{device_calls};
 
-    /// Opens the file at `path`, or creates it, and puts it and its name on the disk. Then it is read.
+    /// Opens the file at `path`, or creates it, locks it, and puts it and its name on the disk. Then it is read.
     ///
-    /// Links in the path are followed now and not later. A file that replaces this one is made beside it, as `NewFile` makes one.
+    /// Links in the path are followed now and not later. A file that replaces this one is made beside it, at the path with
+    /// `.cedar-compaction` after it. What a crash has left of one is removed.
     ///
     /// # Errors
-    /// `Memory` if an allocation failed, `Io` if a system call failed, or if something other than a file is at the path.
+    /// `Locked` if another opening has the file, in this process or another one: then nothing was written. `Memory` if an allocation failed,
+    /// `Io` if a system call failed, or if something other than a file is at the path.
     pub fn open(files: F, alloc: A, path: &str) -> Result<FileDevice<F, A>, OpenError>
-        //= A file that was opened is on the disk: a crash leaves what a read returns.
+    where
+        F::File: LockFile,
+        //= A file that was opened is on the disk: a crash leaves what a read returns. [also open_existing, create_new]
         ensures durable { IfOk result (λ device. Only (seen_after (device_calls device)) (MayLeave (device_calls device))) }
+        //= It was locked before any other call on it. [also open_existing, create_new]
+        ensures locked { IfOk result (λ device. is_locked_after (device_calls device) ≡ true) }
     {
-        let place = Place::find(files, alloc, path)?;
-        let (file, bytes) = place.open(alloc)?;
+        FileDevice::open_wanted(files, alloc, path, Wanted::Any)
+    }
+
+    /// `open`, but only of a file that is there.
+    ///
+    /// # Errors
+    /// As of `open`; `Io` of the kind `NotFound` if nothing is at the path.
+    pub fn open_existing(files: F, alloc: A, path: &str) -> Result<FileDevice<F, A>, OpenError>
+    where
+        F::File: LockFile,
+        ensures durable { IfOk result (λ device. Only (seen_after (device_calls device)) (MayLeave (device_calls device))) }
+        ensures locked { IfOk result (λ device. is_locked_after (device_calls device) ≡ true) }
+    {
+        FileDevice::open_wanted(files, alloc, path, Wanted::Existing)
+    }
+
+    /// `open`, but only of a file that this call creates.
+    ///
+    /// # Errors
+    /// As of `open`; `Io` of the kind `AlreadyExists` if something is at the path, also a link that leads nowhere.
+    pub fn create_new(files: F, alloc: A, path: &str) -> Result<FileDevice<F, A>, OpenError>
+    where
+        F::File: LockFile,
+        ensures durable { IfOk result (λ device. Only (seen_after (device_calls device)) (MayLeave (device_calls device))) }
+        ensures locked { IfOk result (λ device. is_locked_after (device_calls device) ≡ true) }
+        //= A file that was created is empty.
+        ensures empty { IfOk result (λ device. seen_after (device_calls device) ≡ []) }
+    {
+        let device = FileDevice::open_wanted(files, alloc, path, Wanted::New)?;
+        match &device.held {
+            // Another process may have been faster to lock it, and have written it.
+            Some(bytes) if bytes.is_empty() => Ok(device),
+            _ => Err(OpenError::Io(ErrorKind::AlreadyExists.into())),
+        }
+    }
+
+    /// Opens the file that is wanted at a path.
+    fn open_wanted(
+        files: F,
+        alloc: A,
+        path: &str,
+        wanted: Wanted,
+    ) -> Result<FileDevice<F, A>, OpenError>
+    where
+        F::File: LockFile,
+        ensures durable { IfOk result (λ device. Only (seen_after (device_calls device)) (MayLeave (device_calls device))) }
+        ensures locked { IfOk result (λ device. is_locked_after (device_calls device) ≡ true) }
+    {
+        let place = Place::find(files, alloc, path, wanted)?;
+        let file = place.lock()?;
+        place.clear(&file);
+        let (file, bytes) = place.read(file, alloc)?;
         let account = Account::of_file(file, &bytes);
         Ok(FileDevice {
             place,
@@ -103,7 +161,10 @@ impl<F: Files + Drop, A: Allocator + Copy> Device for FileDevice<F, A> {
     }
 }
 
-impl<F: Files + Drop, A: Allocator + Copy> ReplaceDevice for FileDevice<F, A> {
+impl<F: Files + Drop, A: Allocator + Copy> ReplaceDevice for FileDevice<F, A>
+where
+    F::File: LockFile,
+{
     fn replace(&mut self, bytes: &[u8]) -> Result<(), ReplaceError> {
         if !self.account.has_name() {
             self.account.refuse();

@@ -1,7 +1,7 @@
 //! The name of a file that is written beside another one.
 
 ghost use Rattle.std.specs.Prelude.{◌++◌, ◌+◌, ◌<◌, ◌≡◌, ◌≤◌, ◌⊎◌, length, MatchOption, take};
-ghost use Rattle.cedar_disk.specs.Words.{HasNoSlash, LiesBeside, mark_of, new_suffix};
+ghost use Rattle.cedar_disk.specs.Words.{compaction_path, HasNoSlash, LiesBeside, mark_of, new_suffix};
 
 use arrayvec::ArrayString;
 
@@ -10,6 +10,9 @@ pub(crate) const NAMES: usize = 100;
 
 /// What ends such a name.
 const SUFFIX: &str = ".new";
+
+/// What ends the name of the file that is to take the place of a store's. Nobody gives a file such a name.
+const COMPACTION_SUFFIX: &str = ".cedar-compaction";
 
 /// How many bytes a path has at most: Linux takes no longer one.
 pub(crate) const PATH_LEN: usize = 4095;
@@ -32,6 +35,20 @@ pub(crate) fn name_beside(path: &str, number: usize) -> Option<ArrayString<PATH_
         kept_front(name, mark.len() + SUFFIX.len()),
         mark.as_str(),
     )
+}
+
+/// Returns the path of the file that is to take the place of the one at `path`: that path with `.cedar-compaction` after it. None if the
+/// whole is longer than a path may be. Nothing of the path is left out, so no two files have one name for this.
+pub(crate) fn compaction_beside(path: &str) -> Option<ArrayString<PATH_LEN>>
+    ensures { MatchOption result (4078 < length path.now) (λ beside. beside.bytes ≡ compaction_path path.now) }
+{
+    if path.len() > PATH_LEN - COMPACTION_SUFFIX.len() {
+        return None;
+    }
+    let mut beside = ArrayString::new();
+    beside.push_str(path);
+    beside.push_str(COMPACTION_SUFFIX);
+    Some(beside)
 }
 
 /// What stands in a name before its suffix: nothing, or the number behind a full stop.

@@ -5,12 +5,15 @@
 
 ghost use Rattle.std.specs.Prelude.{◌≡◌, ◌≤◌, ◌<◌, ◌^◌, ◌∷◌, [], false, IfOk, is_ok, length, OnErr, OnOk, true};
 ghost use Rattle.cedar_disk.specs.NotedFiles.{is_beside, noted_calls};
-ghost use Rattle.cedar_disk.specs.Words.{call_with, LiesBeside, MayLeave, named, Only, opened, refused_call, renamed, seen_after, shortened, synced, took_name, TookSome, write_call};
+ghost use Rattle.cedar_disk.specs.Words.{call_with, compaction_path, is_locked_after, LiesBeside, locked, MayLeave, named, Only, opened, refused_call, renamed, seen_after, shortened, synced, took_name, TookSome, write_call};
 
-use crate::OpenError;
 use crate::history::History;
-use crate::system::{keep_owner, open_file, open_folder, read_all, resolve};
+use crate::names::compaction_beside;
+use crate::system::{
+    Wanted, is_file_itself, keep_owner, lock_file, open_folder, read_all, resolve,
+};
 use crate::wrote::Wrote;
+use crate::{LockFile, OpenError};
 use std::alloc::Allocator;
 use std::fs::{self, Metadata, OpenFile, OpenOptions};
 use std::io::{self, Read, Seek, SeekFrom, Write};
@@ -33,6 +36,8 @@ const NAMED: u64 = 5;
 const REFUSED: u64 = 6;
 
 const TOOK_NAME: u64 = 7;
+
+const LOCKED: u64 = 8;
 
 /// No file is longer.
 const MAX_OFFSET: usize = (1 << 63) - 1;
@@ -63,9 +68,14 @@ pub struct PathCalls {
 impl<F: Files + Drop, A: Allocator + Copy> Place<F, A> {
     ghost use Rattle.cedar_disk.specs.PathFiles.{place_path};
 
-    /// Finds the file at `path`, or creates it. Links in the path are followed now and not later.
-    pub(crate) fn find(files: F, alloc: A, path: &str) -> Result<Place<F, A>, OpenError> {
-        let path = resolve(&files, alloc, path)?;
+    /// Finds the file that is wanted at `path`, or creates it. Links in the path are followed now and not later.
+    pub(crate) fn find(
+        files: F,
+        alloc: A,
+        path: &str,
+        wanted: Wanted,
+    ) -> Result<Place<F, A>, OpenError> {
+        let path = resolve(&files, alloc, path, wanted)?;
         let folder = open_folder(&files, path.as_str())?;
         Ok(Place {
             files,
@@ -74,23 +84,56 @@ impl<F: Files + Drop, A: Allocator + Copy> Place<F, A> {
         })
     }
 
-    /// Puts the file and its name on the disk, and reads it.
-    pub(crate) fn open(&self, alloc: A) -> io::Result<(Noted<F::File>, Vec<u8, A>)>
-        ensures noted { IfOk result (λ read. noted_calls read.0 ≡ opened read.1.items ∷ []) }
-        ensures name { IfOk result (λ read. is_beside read.0 ≡ false) }
+    /// Opens the file and locks it: before it is synced, read or written.
+    ///
+    /// # Errors
+    /// `Locked` if another opening has it.
+    pub(crate) fn lock(&self) -> Result<Noted<F::File>, OpenError>
+    where
+        F::File: LockFile,
+        ensures noted { IfOk result (λ file. noted_calls file ≡ locked true ∷ []) }
+        ensures name { IfOk result (λ file. is_beside file ≡ false) }
     {
-        let mut file = open_file(&self.files, self.path.as_str())?;
-        file.sync_all()?;
-        self.folder.sync_all()?;
-        let bytes = read_all(&mut file, alloc)?;
+        let file = lock_file(&self.files, self.path.as_str())?;
         let mut history = History::new();
-        history.note(&[OPENED, 0, 1], &bytes);
-        let noted = Noted {
+        history.note(&[LOCKED, 0, 1], &[]);
+        Ok(Noted {
             file,
             is_beside: false,
             history,
+        })
+    }
+
+    /// Removes the file that a crash in a replacement has left beside one that is locked. Whatever else has its name stays.
+    pub(crate) fn clear(&self, _held: &Noted<F::File>)
+        requires held { is_locked_after (noted_calls _held.now) ≡ true }
+    {
+        let path = self.path.as_str();
+        let Some(name) = compaction_beside(path) else {
+            return;
         };
-        Ok((noted, bytes))
+        if is_file_itself(&self.files, name.as_str()) {
+            remove_made(&self.files, name.as_str(), path);
+        }
+    }
+
+    /// Puts a file that was locked, and its name, on the disk, and reads it.
+    pub(crate) fn read(
+        &self,
+        held: Noted<F::File>,
+        alloc: A,
+    ) -> io::Result<(Noted<F::File>, Vec<u8, A>)>
+        requires held { noted_calls held ≡ locked true ∷ [] }
+        requires name { is_beside held ≡ false }
+        ensures noted { IfOk result (λ read. noted_calls read.0 ≡ opened read.1.items ∷ locked true ∷ []) }
+        ensures name { IfOk result (λ read. is_beside read.0 ≡ false) }
+    {
+        let mut file = held;
+        file.file.sync_all()?;
+        self.folder.sync_all()?;
+        let bytes = read_all(&mut file.file, alloc)?;
+        file.history.note(&[OPENED, 0, 1], &bytes);
+        Ok((file, bytes))
     }
 
     /// Returns the files that it lies among.
@@ -114,6 +157,36 @@ pub(crate) fn make_beside<F: Files>(
     mode: u32,
 ) -> io::Result<Noted<F::File>>
     requires names { LiesBeside _path.now name.now }
+    ensures noted { IfOk result (λ made. noted_calls made ≡ opened [] ∷ []) }
+    ensures name { IfOk result (λ made. is_beside made ≡ true) }
+{
+    made(files, name, mode)
+}
+
+/// Makes the file that is to take the place of the one at a path, to be written from its start on. Nothing that has its name is opened, and
+/// no link is followed.
+pub(crate) fn make_successor<F: Files>(
+    files: &F,
+    name: &str,
+    _path: &str,
+    mode: u32,
+) -> io::Result<Noted<F::File>>
+    requires names { name.now ≡ compaction_path _path.now }
+    ensures noted { IfOk result (λ made. noted_calls made ≡ opened [] ∷ []) }
+    ensures name { IfOk result (λ made. is_beside made ≡ true) }
+{
+    made(files, name, mode)
+}
+
+/// Removes such a file.
+pub(crate) fn remove_made<F: Files>(files: &F, name: &str, _path: &str)
+    requires names { name.now ≡ compaction_path _path.now }
+{
+    let _ = fs::remove_file(files, name);
+}
+
+// Makes a file, and notes that.
+fn made<F: Files>(files: &F, name: &str, mode: u32) -> io::Result<Noted<F::File>>
     ensures noted { IfOk result (λ made. noted_calls made ≡ opened [] ∷ []) }
     ensures name { IfOk result (λ made. is_beside made ≡ true) }
 {
@@ -259,7 +332,21 @@ impl<T: Read + Write + Seek + OpenFile + Drop> Noted<T> {
         self.answered(SYNCED, 0, &[], answer)
     }
 
-    /// Gives this file, which lies beside, the name of the other one; or removes it, if that fails.
+    /// Locks the file.
+    ///
+    /// # Errors
+    /// `WouldBlock` if another opening has it locked.
+    pub(crate) fn lock(&mut self) -> io::Result<()>
+    where
+        T: LockFile,
+        ensures noted { noted_calls self.new ≡ locked (is_ok result) ∷ noted_calls self.old }
+        ensures name { is_beside self.new ≡ is_beside self.old }
+    {
+        let answer = self.file.lock_alone();
+        self.answered(LOCKED, 0, &[], answer)
+    }
+
+    /// Gives this file, which lies beside and is locked, the name of the other one; or removes it, if that fails.
     pub(crate) fn take_name<F: Files + Drop, A: Allocator>(
         &mut self,
         place: &Place<F, A>,
@@ -268,7 +355,8 @@ impl<T: Read + Write + Seek + OpenFile + Drop> Noted<T> {
         bytes: &[u8],
     ) -> io::Result<()>
         requires beside { is_beside self.old ≡ true }
-        requires names { LiesBeside (place_path place.now) name.now }
+        requires names { name.now ≡ compaction_path (place_path place.now) }
+        requires locked { is_locked_after (noted_calls self.old) ≡ true }
         requires other { is_beside other ≡ false }
         requires bytes { seen_after (noted_calls self.old) ≡ bytes.now }
         requires durable { Only bytes.now (MayLeave (noted_calls self.old)) }
@@ -279,7 +367,7 @@ impl<T: Read + Write + Seek + OpenFile + Drop> Noted<T> {
         let path = place.path.as_str();
         let answer = fs::rename(&place.files, name, path);
         if answer.is_err() {
-            self.remove(&place.files, name, path);
+            remove_made(&place.files, name, path);
         }
         self.is_beside = false;
         self.history = history;

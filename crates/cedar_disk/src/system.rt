@@ -3,6 +3,7 @@
 ghost use Rattle.std.specs.Prelude.{◌≡◌};
 ghost use Rattle.cedar_disk.specs.Words.{Memory, TellsKind};
 
+use crate::LockFile;
 use std::alloc::{AllocError, Allocator};
 use std::fs;
 use std::fs::{Metadata, OpenFile, OpenOptions};
@@ -16,6 +17,8 @@ use std::rt::Files;
 pub enum OpenError {
     /// An allocation failed.
     Memory,
+    /// Another opening has the file locked. Nothing was written.
+    Locked,
     /// The system's error. `Unsupported`: what is at the path isn't a file.
     Io(io::Error),
 }
@@ -41,16 +44,29 @@ impl From<io::Error> for OpenError {
     }
 }
 
-/// Returns the file's path with no link in it. The file is created if it is missing.
+/// Which file an opening takes.
+#[derive(Clone, Copy, Debug, PartialEq, Eq)]
+pub(crate) enum Wanted {
+    /// The one that is there, or a new one.
+    Any,
+    /// Only one that is there.
+    Existing,
+    /// Only a new one.
+    New,
+}
+
+/// Returns the file's path with no link in it. The file is created, if it may be and is missing.
 pub(crate) fn resolve<F: Files, A: Allocator>(
     files: &F,
     alloc: A,
     path: &str,
+    wanted: Wanted,
 ) -> io::Result<PathBuf<A>> {
     OpenOptions::new()
         .read(true)
         .write(true)
-        .create(true)
+        .create(wanted == Wanted::Any)
+        .create_new(wanted == Wanted::New)
         .open(files, path)?;
     files.canonicalize(alloc, path)
 }
@@ -72,6 +88,48 @@ pub(crate) fn open_file<F: Files>(files: &F, path: &str) -> io::Result<F::File> 
     } else {
         Err(io::ErrorKind::Unsupported.into())
     }
+}
+
+/// How often a file is opened anew since another one has its path by the time it is locked.
+const TRIES: usize = 100;
+
+/// Opens the file at a path to be read and written, and locks it. Whoever replaces a file has it locked, and locks the new one before that
+/// gets the path. So a file that was replaced while it was opened is told by its path, and then the new one is opened.
+pub(crate) fn lock_file<F: Files>(files: &F, path: &str) -> Result<F::File, OpenError>
+where
+    F::File: LockFile,
+{
+    for _ in 0..TRIES {
+        let file = open_file(files, path)?;
+        match file.lock_alone() {
+            Ok(()) => {}
+            Err(error) if error.kind() == io::ErrorKind::WouldBlock => return Err(
+                OpenError::Locked,
+            ),
+            Err(error) => return Err(OpenError::Io(error)),
+        }
+        if leads_to(files, path, &file.metadata()?) {
+            return Ok(file);
+        }
+    }
+    Err(OpenError::Locked)
+}
+
+/// Reads the file at a path as it is, to look at it: it isn't locked, created or written, so it may lie where nothing can be written, and
+/// another program may have it open. Whatever a store has acknowledged before this call begins is in these bytes.
+///
+/// # Errors
+/// `Memory` if an allocation failed, `Io` if a system call failed, or if something other than a file is at the path.
+pub fn read_file<F: Files, A: Allocator>(
+    files: &F,
+    alloc: A,
+    path: &str,
+) -> Result<Vec<u8, A>, OpenError> {
+    let mut file = fs::open(files, path)?;
+    if !file.metadata()?.is_file() {
+        return Err(OpenError::Io(io::ErrorKind::Unsupported.into()));
+    }
+    Ok(read_all(&mut file, alloc)?)
 }
 
 /// Reads all of a file.
@@ -113,6 +171,14 @@ pub(crate) fn keep_owner<T: OpenFile, F: Files>(file: &T, files: &F, name: &str,
     }
     if lchown(files, name, Some(like.uid()), Some(like.gid())).is_err() {
         let _ = lchown(files, name, None, Some(like.gid()));
+    }
+}
+
+/// Whether a file is at a path, and no link to one.
+pub(crate) fn is_file_itself<F: Files>(files: &F, path: &str) -> bool {
+    match fs::symlink_metadata(files, path) {
+        Ok(found) => found.is_file(),
+        Err(_) => false,
     }
 }
 

@@ -1,13 +1,14 @@
 //! Bytes written by as many calls as the system takes for them.
 
 ghost use Rattle.std.specs.Prelude.{◌≡◌, ◌<◌, ◌≤◌, ◌∷◌, [], false, IfErr, IfOk, length, OnErr, OnOk, true};
-ghost use Rattle.cedar_disk.specs.Words.{AreWritten, faults_in, IsUnplaced, LiesBeside, MayLeave, named, Only, opened, renamed, seen_after, Spoils};
+ghost use Rattle.cedar_disk.specs.Words.{AreWritten, compaction_path, faults_in, is_locked_after, IsUnplaced, MayLeave, named, Only, opened, renamed, seen_after, Spoils};
 ghost use Rattle.cedar_disk.specs.NotedFiles.{is_beside, noted_calls};
 ghost use Rattle.cedar_disk.specs.PathFiles.{place_path};
 
-use crate::names::PATH_LEN;
-use crate::noted::{Noted, Place};
-use crate::whole::{OWN_MODE, make_named};
+use crate::LockFile;
+use crate::names::{PATH_LEN, compaction_beside};
+use crate::noted::{Noted, Place, make_successor, remove_made};
+use crate::whole::OWN_MODE;
 use crate::wrote::Wrote;
 use arrayvec::ArrayString;
 use cedar_journal::DeviceError;
@@ -49,8 +50,8 @@ pub(crate) fn write_all<T: Read + Write + Seek + OpenFile + Drop>(
     Ok(())
 }
 
-/// Makes a file of these bytes beside the one of a place, with that one's owner and permissions, and puts it on the disk. Returns it with
-/// its name.
+/// Makes a file of these bytes beside the one of a place, with that one's owner and permissions, puts it on the disk and locks it. Returns
+/// it with its name.
 ///
 /// # Errors
 /// `Failed` if a call failed. If a file was made, it is removed then.
@@ -59,27 +60,33 @@ pub(crate) fn make_file<F: Files + Drop, A: Allocator + Copy>(
     like: &Noted<F::File>,
     bytes: &[u8],
 ) -> Result<(ArrayString<PATH_LEN>, Noted<F::File>), DeviceError>
-    ensures names { IfOk result (λ made. LiesBeside (place_path place.now) made.0.bytes) }
+where
+    F::File: LockFile,
+    ensures names { IfOk result (λ made. made.0.bytes ≡ compaction_path (place_path place.now)) }
+    ensures locked { IfOk result (λ made. is_locked_after (noted_calls made.1) ≡ true) }
     ensures name { IfOk result (λ made. is_beside made.1 ≡ true) }
     ensures bytes { IfOk result (λ made. seen_after (noted_calls made.1) ≡ bytes.now) }
     ensures durable { IfOk result (λ made. Only bytes.now (MayLeave (noted_calls made.1))) }
 {
     let files = place.files();
     let path = place.path();
-    let Ok((name, mut file)) = make_named(files, path, OWN_MODE) else {
+    let Some(name) = compaction_beside(path) else {
+        return Err(DeviceError::Failed);
+    };
+    let Ok(mut file) = make_successor(files, name.as_str(), path, OWN_MODE) else {
         return Err(DeviceError::Failed);
     };
     match fill_like(&mut file, files, name.as_str(), like, bytes) {
         Ok(()) => Ok((name, file)),
         Err(error) => {
-            file.remove(files, name.as_str(), path);
+            remove_made(files, name.as_str(), path);
             Err(error)
         }
     }
 }
 
-/// Gives a file that was made another one's owner and permissions, and fills it.
-fn fill_like<T: Read + Write + Seek + OpenFile + Drop, F: Files>(
+/// Gives a file that was made another one's owner and permissions, fills it and locks it.
+fn fill_like<T: Read + Write + Seek + OpenFile + Drop + LockFile, F: Files>(
     file: &mut Noted<T>,
     files: &F,
     name: &str,
@@ -89,6 +96,7 @@ fn fill_like<T: Read + Write + Seek + OpenFile + Drop, F: Files>(
     requires made { noted_calls file.old ≡ opened [] ∷ [] }
     ensures bytes { OnOk result (seen_after (noted_calls file.new) ≡ bytes.now) }
     ensures durable { OnOk result (Only bytes.now (MayLeave (noted_calls file.new))) }
+    ensures locked { OnOk result (is_locked_after (noted_calls file.new) ≡ true) }
     ensures name { is_beside file.new ≡ is_beside file.old }
 {
     let Ok(looks) = like.metadata() else {
@@ -97,7 +105,11 @@ fn fill_like<T: Read + Write + Seek + OpenFile + Drop, F: Files>(
     if file.look_like(files, name, &looks).is_err() {
         return Err(DeviceError::Failed);
     }
-    fill(file, bytes)
+    fill(file, bytes)?;
+    if file.lock().is_err() {
+        return Err(DeviceError::Failed);
+    }
+    Ok(())
 }
 
 /// Writes a file that was made, and puts it on the disk.
@@ -129,7 +141,8 @@ pub(crate) fn put_in_place<T: Read + Write + Seek + OpenFile + Drop, F: Files + 
     bytes: &[u8],
 ) -> io::Result<()>
     requires beside { is_beside file.old ≡ true }
-    requires names { LiesBeside (place_path place.now) name.now }
+    requires names { name.now ≡ compaction_path (place_path place.now) }
+    requires locked { is_locked_after (noted_calls file.old) ≡ true }
     requires other { is_beside other ≡ false }
     requires bytes { seen_after (noted_calls file.old) ≡ bytes.now }
     requires durable { Only bytes.now (MayLeave (noted_calls file.old)) }

@@ -40,6 +40,21 @@ pub fn words_of<T: Made<A>, A: Allocator>(
     Ok((words, extent))
 }
 
+/// Returns the dictionary that a store's bytes stand for, for whoever only looks. Nothing is written, so the bytes may be those that
+/// `read_file` of `cedar_disk` has read while another program changes the store.
+///
+/// # Errors
+/// As of [`words_of`].
+pub fn read_store<T: Made<A>, A: Allocator>(alloc: A, bytes: &[u8]) -> Result<T, DurableError>
+    requires limit { T.limit }
+    //= A store's bytes that are only looked at give the dictionary that they stand for, and are refused as by an opening. [with cause]
+    ensures made { IfOk result (λ words. state_of bytes.now ≡ Some (T.state words)) }
+    ensures cause { IfErr result (λ error. LoadCause bytes.now error) }
+{
+    let (words, _) = words_of(alloc, bytes)?;
+    Ok(words)
+}
+
 /// Makes the changes of a file that goes as far as this, in a new dictionary.
 fn make_changes<T: Words>(words: &mut T, bytes: &[u8], extent: Extent) -> Result<(), DurableError>
     requires extent { HasExtent bytes.now extent }

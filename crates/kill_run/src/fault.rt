@@ -10,7 +10,7 @@ use std::fmt;
 /// How the program is called.
 const USAGE: &str =
     "append PATH COUNT, rewrite PATH COUNT, list PATH, change PATH FIRST COUNT, batch PATH FIRST COUNT SIZE, \
-    entries PATH or len PATH";
+    entries PATH, len PATH or look PATH";
 
 /// Why a run ended early.
 #[derive(Clone, Copy, Debug)]
@@ -18,6 +18,8 @@ pub(crate) enum Fault {
     Arguments,
     Memory,
     Disk,
+    /// Another program has the file open.
+    Locked,
     Foreign,
     /// The record of this number isn't the one that was written.
     Broken(u64),
@@ -37,6 +39,7 @@ impl fmt::Display for Fault {
             Fault::Arguments => f.write_str(USAGE),
             Fault::Memory => f.write_str("out of memory"),
             Fault::Disk => f.write_str("the disk failed"),
+            Fault::Locked => f.write_str("another program has the file open"),
             Fault::Foreign => f.write_str("the file is of another kind"),
             Fault::Broken(number) => write!(f, "record {number} is another one"),
             Fault::Damaged(at) => write!(f, "the record at byte {at} is damaged"),
@@ -73,6 +76,7 @@ impl From<OpenError> for Fault {
     fn from(error: OpenError) -> Self {
         match error {
             OpenError::Memory => Fault::Memory,
+            OpenError::Locked => Fault::Locked,
             OpenError::Io(_) => Fault::Disk,
         }
     }

@@ -19,7 +19,7 @@ pub(crate) fn open<D: Device + Drop>(device: D, alloc: Global) -> Result<(Journa
         Extent::New => 0,
         Extent::Until(format, _) => records(alloc, format, &bytes)?,
     };
-    match Journal::open(device, extent) {
+    match Journal::open_read(device, extent, &bytes) {
         Ok(journal) => Ok((journal, count)),
         Err((error, _)) => Err(error.into()),
     }

@@ -8,9 +8,10 @@ mod fault;
 mod kept;
 mod words;
 
-use cedar_disk::FileDevice;
+use cedar_disk::{FileDevice, read_file};
 use cedar_journal::{Device, ReplaceDevice};
-use cedar_store::Compaction;
+use cedar_store::{Compaction, read_store};
+use cedarwood::Cedar;
 use fault::Fault;
 use kept::{open, put, rewrite};
 use std::alloc::{AllocError, Global};
@@ -48,6 +49,7 @@ fn answer(rt: &HostRuntime) -> Result<(), Fault> {
         }
         ["entries", path] => entries(rt, path),
         ["len", path] => len(rt, path),
+        ["look", path] => look(rt, path),
         _ => Err(Fault::Arguments),
     }
 }
@@ -178,7 +180,19 @@ fn len(rt: &HostRuntime, path: &str) -> Result<(), Fault> {
 fn entries(rt: &HostRuntime, path: &str) -> Result<(), Fault> {
     let device = FileDevice::open(rt, rt.alloc(), path)?;
     let store = words::open(device, rt.alloc(), words::OFTEN)?;
-    for entry in store.dictionary().entries()? {
+    print_all(rt, store.dictionary())
+}
+
+/// Looks at a dictionary without opening its file to change it, and prints its entries.
+fn look(rt: &HostRuntime, path: &str) -> Result<(), Fault> {
+    let bytes = read_file(rt, rt.alloc(), path)?;
+    let words: Cedar<Global> = read_store(rt.alloc(), &bytes)?;
+    print_all(rt, &words)
+}
+
+/// Prints the entries of a dictionary.
+fn print_all(rt: &HostRuntime, words: &Cedar<Global>) -> Result<(), Fault> {
+    for entry in words.entries()? {
         let (key, value) = entry?;
         let Ok(key) = str::from_utf8(&key) else {
             return Err(Fault::Foreign);

@@ -10,6 +10,7 @@ use crate::input::Source;
 use crate::meter::Meter;
 use crate::request::{Change, Dictionary, How, List};
 use crate::run::found;
+use cedar_disk::LockFile;
 use cedarwood::{DefaultLayout, Layout, ReducedLayout, Trie, Watched};
 use std::alloc::Global;
 use std::io::{Read, Write};
@@ -24,7 +25,10 @@ pub(crate) fn change<'m, F: Files + Copy + Drop, R: Read + Drop, M: Meter + Drop
     asked: Change<'m>,
     source: Source<R, M>,
     errors: &mut Watched<E>,
-) -> Result<bool, Fault<'m>> {
+) -> Result<bool, Fault<'m>>
+where
+    F::File: LockFile,
+{
     if asked.is_store {
         return change_store(alloc, files, dictionary.path, asked.how, source, errors);
     }

@@ -265,7 +265,8 @@ const ADD_NOTES: &str = "\
 A list is as of build. A word that is there gets the list's number, and is told.
 
 A store keeps each change behind those before it, and every command reads it. A list is stored as one change: at status 0 it is on the
-disk, and a crash leaves all of it or none. --limit says nothing of a store. Its file isn't locked: let one program at a time change it.
+disk, and a crash leaves all of it or none. --limit says nothing of a store. It is locked while it is changed: another program that would
+change it meanwhile ends with status 4 and changes nothing. The commands that only look at it don't mind.
 
 Example:
   printf 'nest\\t4\\n' | roskvidh add words.cedar

@@ -4,7 +4,7 @@ use crate::fault::Fault;
 use crate::input::read_all;
 use crate::request::Dictionary;
 use cedar_journal::{PLAIN_HEADER, SUMMED_HEADER};
-use cedar_store::words_of;
+use cedar_store::read_store;
 use cedarwood::{CedarPersistenceError, DefaultLayout, Layout, ReducedLayout, Trie, Watched};
 use std::alloc::Global;
 use std::fs::File;
@@ -96,7 +96,7 @@ fn load_layout<'m, L: Layout, R: Read + Drop>(
     }
 }
 
-/// Makes the dictionary that a store's file stands for. The file doesn't change.
+/// Makes the dictionary that a store's file stands for. The file isn't locked and doesn't change, so another program may change it meanwhile.
 fn load_store<'m, R: Read + Drop>(
     alloc: Global,
     path: &'m str,
@@ -104,8 +104,8 @@ fn load_store<'m, R: Read + Drop>(
 ) -> Result<Trie<DefaultLayout, SLOTS, Global>, Fault<'m>> {
     let mut changes = reader;
     let bytes = read_all(alloc, Some(path), &mut changes)?;
-    match words_of(alloc, &bytes) {
-        Ok((trie, _)) => Ok(trie),
+    match read_store(alloc, &bytes) {
+        Ok(trie) => Ok(trie),
         Err(error) => Err(Fault::Store(path, error)),
     }
 }

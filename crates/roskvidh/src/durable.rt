@@ -8,7 +8,7 @@ use crate::fault::Fault;
 use crate::input::Source;
 use crate::meter::Meter;
 use crate::request::How;
-use cedar_disk::{FileDevice, OpenError};
+use cedar_disk::{FileDevice, LockFile, OpenError};
 use cedar_journal::ReplaceDevice;
 use cedar_store::{CedarStore, Change};
 use cedarwood::{DefaultLayout, Trie, Watched};
@@ -34,10 +34,14 @@ pub(crate) fn change_store<'m, F: Files + Copy + Drop, R: Read + Drop, M: Meter 
     how: How<'m>,
     source: Source<R, M>,
     errors: &mut Watched<E>,
-) -> Result<bool, Fault<'m>> {
+) -> Result<bool, Fault<'m>>
+where
+    F::File: LockFile,
+{
     match FileDevice::open(*files, alloc, path) {
         Ok(device) => change_on(alloc, files, device, path, how, source, errors),
         Err(OpenError::Memory) => Err(Fault::Memory),
+        Err(OpenError::Locked) => Err(Fault::Locked(path)),
         Err(OpenError::Io(error)) => Err(Fault::Read(Some(path), error)),
     }
 }

@@ -17,6 +17,9 @@ const STRICT: &str = "with --strict no such line may stand in a list";
 /// What is told of a dictionary that isn't in the order of bytes.
 const UNORDERED: &str = "it was built --unordered, so no word is the next one";
 
+/// What is told of a store that is locked.
+const LOCKED: &str = "another program has the store open";
+
 /// Why the program did not do what the arguments say.
 #[derive(Drop)]
 pub(crate) enum Fault<'m> {
@@ -26,6 +29,8 @@ pub(crate) enum Fault<'m> {
     Save(&'m str, CedarPersistenceError),
     /// The store of this path can't be opened, or its change can't be made.
     Store(&'m str, DurableError),
+    /// Another program has the store of this path open.
+    Locked(&'m str),
     /// A list or a text can't be read from this path, or from standard input.
     Read(Option<&'m str>, io::Error),
     /// A list has bad or repeated lines, which were reported.
@@ -76,6 +81,7 @@ pub(crate) fn tell<E: Write>(errors: &mut Watched<E>, fault: Fault<'_>) {
         Fault::Read(path, error) => tell_of(errors, name_of(path), error),
         Fault::Strict(path) => tell_input(errors, name_of(path), STRICT),
         Fault::Unordered(path) => tell_input(errors, path, UNORDERED),
+        Fault::Locked(path) => tell_input(errors, path, LOCKED),
         Fault::Write => tell_text(errors, "standard output can't be written"),
         Fault::Memory => tell_text(errors, "out of memory"),
         Fault::SlotLimit => tell_text(errors, "the dictionary has no slot left"),

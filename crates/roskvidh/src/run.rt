@@ -11,6 +11,7 @@ use crate::queries::answer;
 use crate::replace::replace;
 use crate::request::{Asked, Dictionary, Query, Reading, Request, Terminals, tells_progress};
 use crate::texts::read_text;
+use cedar_disk::LockFile;
 use cedarwood::Watched;
 use std::alloc::Global;
 use std::io::{Read, Write};
@@ -29,6 +30,9 @@ pub(crate) const USAGE: u8 = 2;
 /// The status if a file can't be read or written, or memory or slots ran out.
 pub(crate) const FILES: u8 = 3;
 
+/// The status if another program has the store open that was to be changed.
+pub(crate) const LOCKED: u8 = 4;
+
 /// Does what the arguments say, and returns the status to end with. A closed pipe ends it without a word.
 pub(crate) fn run<F: Files + Clock + Copy + Drop, R: Read + Drop, W: Write, E: Write + Drop>(
     alloc: Global,
@@ -39,7 +43,10 @@ pub(crate) fn run<F: Files + Clock + Copy + Drop, R: Read + Drop, W: Write, E: W
     errors: &mut Watched<E>,
     progress: E,
     terminals: Terminals,
-) -> u8 {
+) -> u8
+where
+    F::File: LockFile,
+{
     let is_told = tells_progress(asked, terminals);
     let meter = Progress::new(files, progress, is_told, terminals.errors);
     let source = Source {
@@ -57,15 +64,23 @@ fn end_request<F: Files + Copy + Drop, R: Read + Drop, M: Meter + Drop, W: Write
     source: Source<R, M>,
     writer: &mut Watched<W>,
     errors: &mut Watched<E>,
-) -> u8 {
+) -> u8
+where
+    F::File: LockFile,
+{
     match answer_request(alloc, files, request, source, writer, errors) {
         Ok(true) => DONE,
         Ok(false) => NOT_FOUND,
         Err(Fault::Write) if is_closed(writer) => DONE,
         Err(fault) => {
             let _ = writer.flush();
+            let status = if matches!(fault, Fault::Locked(_)) {
+                LOCKED
+            } else {
+                FILES
+            };
             tell(errors, fault);
-            FILES
+            status
         }
     }
 }
@@ -78,7 +93,10 @@ fn answer_request<'m, F: Files + Copy + Drop, R: Read + Drop, M: Meter + Drop, W
     source: Source<R, M>,
     writer: &mut Watched<W>,
     errors: &mut Watched<E>,
-) -> Result<bool, Fault<'m>> {
+) -> Result<bool, Fault<'m>>
+where
+    F::File: LockFile,
+{
     let found = do_request(alloc, files, request, source, writer, errors)?;
     match writer.flush() {
         Ok(()) => Ok(found),
@@ -94,7 +112,10 @@ fn do_request<'m, F: Files + Copy + Drop, R: Read + Drop, M: Meter + Drop, W: Wr
     source: Source<R, M>,
     writer: &mut Watched<W>,
     errors: &mut Watched<E>,
-) -> Result<bool, Fault<'m>> {
+) -> Result<bool, Fault<'m>>
+where
+    F::File: LockFile,
+{
     match request {
         Request::Build(asked) => found(build(alloc, files, asked, source, errors)),
         Request::Query(dictionary, query) => ask(alloc, files, dictionary, query, writer),
