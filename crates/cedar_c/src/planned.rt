@@ -2,7 +2,7 @@
 //! the change. These exports are the library's own, and no program sees them.
 
 ghost use Rattle.std.specs.Prelude.{◌≡◌, ◌≢◌, ◌⊎◌, ◌↔◌, ◌+◌, ◌<◌, ◌≤◌, ◌^◌, ◌++◌, ◌∷◌, ℕ, List, IfErr, IfOk, IfSome, IsFalse, IsSome, IsTrue, None, Some, length, option_map, take};
-ghost use Rattle.cedar_c.specs.Words.{AddsChange, append_works, content, damage_of, dictionary_in, end_of, erase_at, erased, fault, Format, format_if, format_in, frame_of, HasExtent, IsChangePlan, IsErasurePlan, IsOpening, IsPutPlan, LacksChange, LacksRecord, layout_if, layout_in, layout_of, LoadCause, number_at, opening, overhead, position_of, put_at, state_in, state_of, status_of, store_status, stored, TellsWhy, tree_in, works_of};
+ghost use Rattle.cedar_c.specs.Words.{AddsChange, append_works, content, damage_of, dictionary_in, end_of, erase_at, erased, fault, Format, format_if, format_in, frame_of, HasExtent, IsChangePlan, IsErasurePlan, IsOpening, IsPutPlan, LacksChange, LacksRecord, layout_if, layout_in, layout_of, LoadCause, number_at, opening, overhead, Plain, position_of, put_at, state_in, state_of, status_of, store_status, stored, TellsWhy, tree_in, works_of};
 
 use crate::any::AnyCedar;
 use crate::handle::Handle;
@@ -351,7 +351,7 @@ impl AnyCedar {
 /// Writes the plan by which a record of so many bytes is appended where the records end, and moves that end after it.
 pub(crate) fn go_on(size: usize, end: &mut usize, plan: &mut Plan)
     requires room { end.old < 2 ^ 60 }
-    requires record { 6 ≤ size }
+    requires record { 0 < size }
     requires short { size < 2 ^ 33 }
     ensures planned { (format : Format) (payload : List ℕ) (rest : List ℕ) → size ≡ 1 + overhead format + length payload
         → works_of ((opening format ∷ frame_of format payload) ++ rest) plan.new ≡ append_works format end.old payload }

@@ -8,12 +8,12 @@ use Rattle.cedar_c.proofs.grouped.cedar_plan_group.Goals as goal
 
 pub returns-clause-planned : goal.returns-clause-planned
 returns-clause-planned c ok =
-    let f = c.format_if.result in
+    let f = c.format_if-format.result in
     let b = c.args.buffer.now in
     let n = c.args.size in
     let head = c.head_len.ensures in
     let long = length-take-le n (drop (group_head f) b) (omega (arith, length-drop (group_head f) b, c.in_default.ensures.places)) in
-    subst (λ g. IsGroup (works_of c.frame_group.new.buffer c.go_on.new.plan) g c.args.end.now c.go_on.new.end (take n (drop (group_head g) b))) c.format_if.ensures
+    subst (λ g. IsGroup (works_of c.frame_group.new.buffer c.go_on.new.plan) g c.args.end.now c.go_on.new.end (take n (drop (group_head g) b))) c.format_if-format.ensures
     (is_group f c.args.end.now c.go_on.new.end n (take n (drop (group_head f) b)) c.frame_group.new.buffer c.go_on.new.plan c.in_default.ensures.room long
     c.in_default.ensures.short c.frame_group.ensures (subst (λ k. PlansAppend c.go_on.new.plan (n + k + 1) c.args.end.now) head c.go_on.ensures.planned)
     (subst (λ k. c.go_on.new.end + 1 ≡ c.args.end.now + (n + k + 1)) head c.go_on.ensures.end))
