@@ -1,5 +1,5 @@
 -- Why a file isn't opened, and a record not written.
-use Rattle.std.specs.Prelude.{Result, Ok, Err, IfErr, IsErrOf, ◌^◌}
+use Rattle.std.specs.Prelude.{Result, Err, IsErrOf, ◌^◌}
 use Rattle.std.proofs.Common.{◌≡◌, inl, inr, ℕ, ◌<◌, ◌≤◌, List, sym, ◌∙◌, ap, subst, arith}
 use Rattle.cedar_journal.specs.declared.device.DeviceError.TheVariants.{Failed}
 use Rattle.cedar_journal.specs.declared.records.FileFault.{FileFault}
@@ -28,9 +28,8 @@ open_cause file before now error.Full cause = cause
 open_cause file before now (error.Device e) cause = absurd cause
 open_cause file before now error.Failed cause = cause
 
-pub open_causes : {T : Type 0} (bytes file : List ℕ) (before now : ℕ) (r : Result T DurableError) → bytes ≡ file → IfErr r (λ e. LoadCause bytes e) → IfErr r (λ e. OpenCause file before now e)
-open_causes bytes file before now (Ok x) same cause = tt
-open_causes bytes file before now (Err e) same cause = open_cause file before now e (subst (λ f. LoadCause f e) same cause)
+pub load_cause : (bytes file : List ℕ) (before now : ℕ) (e : DurableError) → bytes ≡ file → LoadCause bytes e → OpenCause file before now e
+load_cause bytes file before now e same cause = open_cause file before now e (subst (λ f. LoadCause f e) same cause)
 
 pub read_cause : (file : List ℕ) (before now : ℕ) (e : DurableError) → ReadCause before now e → OpenCause file before now e
 read_cause file before now (error.Device e) cause = λ _. cause.1

@@ -1,6 +1,6 @@
 -- The words that the clauses of this crate cite, from one place.
 pub use Rattle.cedar_journal.specs.Device.{LeavesOnly, Only}
-pub use Rattle.cedar_journal.specs.Files.{HasExtent, added, recovered}
+pub use Rattle.cedar_journal.specs.Files.{HasExtent, added, ends_closed, format_of, recovered}
 pub use Rattle.cedar_journal.specs.Formats.{AreUndamaged, payloads_read, records_read}
 pub use Rattle.cedar_journal.specs.Frames.{payload_of}
 pub use Rattle.cedar_journal.specs.Image.{image_bytes, payloads_of}

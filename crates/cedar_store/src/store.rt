@@ -1,7 +1,7 @@
 //! The store: a dictionary, and the journal of its changes.
 
 ghost use Rattle.std.specs.Prelude.{◌+◌, ◌<◌, ◌^◌, ◌≡◌, ◌≤◌, ◌∷◌, IfErr, IfOk, IfSome, IsOk, OnOk, Some, [], false, if◌then◌else◌, is_some, length, true};
-ghost use Rattle.cedar_store.specs.Words.{added, all_changed, changes_told, erase_at, erased, fault, first_refused, number_at, payload_of, recovered, state_of, stored, AllByRecursion, HasExtent, IsBeforeOrAfter, IsBeforeWrites, IsCorrupt, IsFaultless, IsRecordedIn, IsSettled, LeavesOnly, Only, OpenCause, put_at, ReadCause, CrashLeavesEither, FailsByDevice, HasState, IsBatchCause, IsChangeCause, IsEraseCause, IsReadyStore, LeavesStore};
+ghost use Rattle.cedar_store.specs.Words.{added, all_changed, changes_told, erase_at, ends_closed, erased, fault, format_of, first_refused, number_at, payload_of, recovered, state_of, stored, AllByRecursion, HasExtent, IsBeforeOrAfter, IsBeforeWrites, IsCorrupt, IsFaultless, IsRecordedIn, IsSettled, LeavesOnly, Only, OpenCause, put_at, ReadCause, CrashLeavesEither, FailsByDevice, HasState, IsBatchCause, IsChangeCause, IsEraseCause, IsReadyStore, LeavesStore};
 
 use crate::batch::make;
 use crate::frames::{erase_frame, put_frame};
@@ -35,15 +35,16 @@ pub type CedarStore<A, D> = Store<Cedar<A>, A, D>;
 /// The store of a dictionary of the reduced layout.
 pub type ReducedStore<A, D> = Store<ReducedCedar<A>, A, D>;
 
-/// Reads a file, and returns the dictionary that it stands for, and how far it goes.
+/// Reads a file, and returns the dictionary that it stands for, how far it goes, and its bytes.
 fn read_words<T: Made<A>, A: Allocator + Copy, D: Device>(
     alloc: A,
     device: &mut D,
-) -> Result<(T, Extent), DurableError>
+) -> Result<(T, Extent, Vec<u8, A>), DurableError>
     requires limit { T.limit }
     requires restarted { Only (D.seen device.old) (D.may_leave device.old) }
     ensures made { IfOk result (λ found. state_of (D.seen device.old) ≡ Some (T.state found.0)) }
     ensures extent { IfOk result (λ found. HasExtent (D.seen device.new) found.1) }
+    ensures bytes { IfOk result (λ found. found.2.items ≡ D.seen device.new) }
     ensures seen { D.seen device.new ≡ D.seen device.old }
     ensures durable { Only (D.seen device.new) (D.may_leave device.new) }
     ensures any_moment { LeavesOnly D.moment D.left_since device.old device.new (λ c. c ≡ D.seen device.old) }
@@ -51,7 +52,8 @@ fn read_words<T: Made<A>, A: Allocator + Copy, D: Device>(
     ensures faults { D.faults device.old ≤ D.faults device.new }
 {
     let bytes = read_file(alloc, device)?;
-    words_of(alloc, &bytes)
+    let (words, extent) = words_of(alloc, &bytes)?;
+    Ok((words, extent, bytes))
 }
 
 /// Reads a file.
@@ -72,8 +74,8 @@ fn read_file<A: Allocator, D: Device>(alloc: A, device: &mut D) -> Result<Vec<u8
 }
 
 impl<T: Made<A>, A: Allocator + Copy, D: Device> Store<T, A, D> {
-    /// Opens a file that a crash may have left: makes its changes again, and cuts the file after the whole records. A new file gets its
-    /// header.
+    /// Opens a file that a crash may have left: makes its changes again, and cuts the file after the whole records, if more follows than a
+    /// closed gate. A new file gets its header.
     ///
     /// # Errors
     /// With the device: `Foreign` if the file is of another kind, `Damaged` if a record is damaged, `Corrupt` if one is not a change, `Refused`
@@ -110,10 +112,15 @@ impl<T: Made<A>, A: Allocator + Copy, D: Device> Store<T, A, D> {
         //= A file that is refused for any other reason than the device stays byte for byte as it was, whenever a crash comes. [with seen]
         ensures untouched { IfErr result (λ e. IsBeforeWrites e.0 → LeavesOnly D.moment D.left_since device e.1 (λ c. c ≡ D.seen device)) }
         ensures seen { IfErr result (λ e. IsBeforeWrites e.0 → D.seen e.1 ≡ D.seen device) }
+
+        //= Opening a file that ends with the closed gate right behind its records writes nothing: it stays byte for byte as it was,
+        //  whenever a crash comes.
+        ensures at_rest { IfOk result (λ store. is_some (format_of (D.seen device)) ≡ true → ends_closed (D.seen device) store.journal.end ≡ true
+            → LeavesOnly D.moment D.left_since device store.journal.device (λ c. c ≡ D.seen device)) }
     {
         let mut device = device;
         match read_words(alloc, &mut device) {
-            Ok((words, extent)) => match Journal::open(device, extent) {
+            Ok((words, extent, bytes)) => match Journal::open_read(device, extent, &bytes) {
                 Ok(journal) => Ok(Store {
                     alloc,
                     journal,
