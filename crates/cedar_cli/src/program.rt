@@ -216,13 +216,13 @@ fn save<L: Layout, const SLOTS: usize, F: Files, A: Allocator + Copy>(
         return Ok(());
     };
     let saved = if options.v1_0 {
-        trie.save_v1_0_to_path(files, path)
+        trie.save_v1_0_to_path_noted(files, path)
     } else {
-        trie.save_to_path(files, path)
+        trie.save_to_path_noted(files, path)
     };
     match saved {
-        Ok(()) => Ok(()),
-        Err(error) => Err(Fault::Save(error)),
+        Ok(_) => Ok(()),
+        Err(failed) => Err(Fault::Save(failed.error)),
     }
 }
 

@@ -25,7 +25,7 @@ asked_before : (b asked : Bool) → (if b then true else asked) ≡ false → as
 asked_before true asked is = absurd (false≢true (sym is))
 asked_before false asked is = is
 
-module _ (before : Content → Bool) (bytes : List ℕ) where
+module _ (before : Content → Bool) (path bytes : List ℕ) where
   abbrev OldOrNew : Content → Type 0
   OldOrNew c = IsTrue (before c) ⊎ (c ≡ Some bytes)
 
@@ -39,13 +39,13 @@ module _ (before : Content → Bool) (bytes : List ℕ) where
 
   module _ (earlier : List Call) (is : IsWholeBeside bytes earlier) where
     -- what the disk has of the file, once it was renamed, and once the folder was synced
-    took_has : (ok : Bool) (d : List ℕ) → MayLeave (took_name ok ∷ earlier) d → d ≡ bytes
+    took_has : (ok : Bool) (d : List ℕ) → MayLeave (took_name path ok ∷ earlier) d → d ≡ bytes
     took_has ok d left = is.durable d left
 
-    named_has : (ok : Bool) (d : List ℕ) → MayLeave (named ok ∷ took_name true ∷ earlier) d → d ≡ bytes
-    named_has ok = takes (ok && is_usable_after (named ok ∷ took_name true ∷ earlier))
+    named_has : (ok : Bool) (d : List ℕ) → MayLeave (named ok ∷ took_name path true ∷ earlier) d → d ≡ bytes
+    named_has ok = takes (ok && is_usable_after (named ok ∷ took_name path true ∷ earlier))
       where
-        takes : (b : Bool) (d : List ℕ) → NextLeft 5 0 b [] (seen_after earlier) (MayLeave (took_name true ∷ earlier)) d → d ≡ bytes
+        takes : (b : Bool) (d : List ℕ) → NextLeft 5 0 b [] (seen_after earlier) (MayLeave (took_name path true ∷ earlier)) d → d ≡ bytes
         takes true d now = now ∙ is.seen
         takes false d left = took_has true d left
 
@@ -56,31 +56,31 @@ module _ (before : Content → Bool) (bytes : List ℕ) where
     either true file c has left = inr (leads file c has left)
     either false file c has left = ⊎_elim (λ was. inl was) (λ new. inr (leads file c has new)) left
 
-    took_always : (ok : Bool) → AlwaysLeaves before OldOrNew (took_name ok ∷ earlier)
+    took_always : (ok : Bool) → AlwaysLeaves before OldOrNew (took_name path ok ∷ earlier)
     took_always ok =
-        ((λ c left. either (placed_after (took_name ok ∷ earlier)) (MayLeave (took_name ok ∷ earlier)) c (took_has ok) left), beside_always earlier is.beside)
+        ((λ c left. either (placed_after (took_name path ok ∷ earlier)) (MayLeave (took_name path ok ∷ earlier)) c (took_has ok) left), beside_always earlier is.beside)
 
-    named_always : (ok : Bool) → AlwaysLeaves before OldOrNew (named ok ∷ took_name true ∷ earlier)
+    named_always : (ok : Bool) → AlwaysLeaves before OldOrNew (named ok ∷ took_name path true ∷ earlier)
     named_always ok =
-        ((λ c left. either (placed_after (named ok ∷ took_name true ∷ earlier)) (MayLeave (named ok ∷ took_name true ∷ earlier)) c (named_has ok) left), took_always true)
+        ((λ c left. either (placed_after (named ok ∷ took_name path true ∷ earlier)) (MayLeave (named ok ∷ took_name path true ∷ earlier)) c (named_has ok) left), took_always true)
 
-    placed_new : (c : Content) → PathLeaves before (named true ∷ took_name true ∷ earlier) c → c ≡ Some bytes
-    placed_new c left = leads (MayLeave (named true ∷ took_name true ∷ earlier)) c (named_has true) left
+    placed_new : (c : Content) → PathLeaves before (named true ∷ took_name path true ∷ earlier) c → c ≡ Some bytes
+    placed_new c left = leads (MayLeave (named true ∷ took_name path true ∷ earlier)) c (named_has true) left
 
-  half_always : (calls : List Call) → IsHalfPlaced bytes calls → AlwaysLeaves before OldOrNew calls
+  half_always : (calls : List Call) → IsHalfPlaced path bytes calls → AlwaysLeaves before OldOrNew calls
   half_always calls half =
       ⊎_elim
       (λ took. subst (λ (l : List Call). AlwaysLeaves before OldOrNew l) (sym took) (took_always half.earlier half.ready false))
       (λ name. subst (λ (l : List Call). AlwaysLeaves before OldOrNew l) (sym name) (named_always half.earlier half.ready false))
       half.is
 
-  always : (calls : List Call) → IsPlaced bytes calls ⊎ IsUnplacedAt bytes calls → AlwaysLeaves before OldOrNew calls
+  always : (calls : List Call) → IsPlaced path bytes calls ⊎ IsUnplacedAt path bytes calls → AlwaysLeaves before OldOrNew calls
   always calls =
       ⊎_elim
-      (λ (placed : IsPlaced bytes calls). subst (λ (l : List Call). AlwaysLeaves before OldOrNew l) (sym placed.is) (named_always placed.earlier placed.ready true))
+      (λ (placed : IsPlaced path bytes calls). subst (λ (l : List Call). AlwaysLeaves before OldOrNew l) (sym placed.is) (named_always placed.earlier placed.ready true))
       (λ unplaced. ⊎_elim (λ beside. beside_always calls beside) (λ half. half_always calls half) unplaced)
 
-  pub kept_or_replaced : (calls : List Call) → IsKeptOrReplaced before bytes calls
+  pub kept_or_replaced : (calls : List Call) → IsKeptOrReplaced before path bytes calls
   kept_or_replaced calls = record {
     read = λ placed. ap seen_after placed.is ∙ placed.ready.seen;
     placed = λ placed c left. placed_new placed.earlier placed.ready c (subst (λ (l : List Call). PathLeaves before l c) placed.is left);
@@ -89,4 +89,4 @@ module _ (before : Content → Bool) (bytes : List ℕ) where
   }
 
 pub safe : WholeFilesAreSafe
-safe before bytes calls = kept_or_replaced before bytes calls
+safe before path bytes calls = kept_or_replaced before path bytes calls

@@ -37,9 +37,9 @@ named ok = (5, 0, ok, [])
 abbrev pub refused_call : Call
 refused_call = (6, 0, false, [])
 
--- this file, which lay beside another one, took that one's name
-abbrev pub took_name : Bool → Call
-took_name ok = (7, 0, ok, [])
+-- this file, which lay beside the one at a path, took that one's name
+abbrev pub took_name : List ℕ → Bool → Call
+took_name path ok = (7, 0, ok, path)
 
 -- the file was locked
 abbrev pub locked : Bool → Call

@@ -8,5 +8,7 @@ pub mod NewFiles
 pub mod NotedFiles
 pub mod PathFiles
 pub mod Runs
+pub mod Sending
+pub mod SpecialFiles
 pub mod Whole
 pub mod Words

@@ -12,6 +12,10 @@ module _ {F G D : Type 0} {r : read.Ghosts G} {w : write.Ghosts G} {s : seek.Gho
   abbrev pub new_calls : NewFile F G D r w s d → List Call
   new_calls new = noted_calls new.file
 
+  -- the path whose place it is to take, as bytes
+  abbrev pub new_path : NewFile F G D r w s d → List ℕ
+  new_path new = new.path.now
+
   -- what was written to it
   abbrev pub new_bytes : NewFile F G D r w s d → List ℕ
   new_bytes new = seen_after (new_calls new)

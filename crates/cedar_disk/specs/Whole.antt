@@ -47,29 +47,29 @@ pub record IsWholeBeside (bytes : List ℕ) (calls : List Call) : Type 0 where
   pub seen : seen_after calls ≡ bytes
   pub durable : Only bytes (MayLeave calls)
 
--- It was given the name, and the folder was synced.
-pub record IsPlaced (bytes : List ℕ) (calls : List Call) : Type 0 where
+-- It was given the name at this path, and the folder was synced.
+pub record IsPlaced (path bytes : List ℕ) (calls : List Call) : Type 0 where
   pub earlier : List Call
   pub ready : IsWholeBeside bytes earlier
-  pub is : calls ≡ named true ∷ took_name true ∷ earlier
+  pub is : calls ≡ named true ∷ took_name path true ∷ earlier
 
 -- One of the two failed.
-pub record IsHalfPlaced (bytes : List ℕ) (calls : List Call) : Type 0 where
+pub record IsHalfPlaced (path bytes : List ℕ) (calls : List Call) : Type 0 where
   pub earlier : List Call
   pub ready : IsWholeBeside bytes earlier
-  pub is : (calls ≡ took_name false ∷ earlier) ⊎ (calls ≡ named false ∷ took_name true ∷ earlier)
+  pub is : (calls ≡ took_name path false ∷ earlier) ⊎ (calls ≡ named false ∷ took_name path true ∷ earlier)
 
 -- Nothing was done at the path; or one of the two failed.
-abbrev pub IsUnplacedAt : List ℕ → List Call → Type 0
-IsUnplacedAt bytes calls = (asked_after calls ≡ false) ⊎ IsHalfPlaced bytes calls
+abbrev pub IsUnplacedAt : List ℕ → List ℕ → List Call → Type 0
+IsUnplacedAt path bytes calls = (asked_after calls ≡ false) ⊎ IsHalfPlaced path bytes calls
 
 -- What becomes of the path: once the file has its place, a crash leaves its bytes; at each moment before, and if a call fails, those or what
 -- was there; and what was there, if nothing was done at the path.
-pub record IsKeptOrReplaced (before : Content → Bool) (bytes : List ℕ) (calls : List Call) : Type 0 where
-  pub read : IsPlaced bytes calls → seen_after calls ≡ bytes
-  pub placed : IsPlaced bytes calls → (c : Content) → PathLeaves before calls c → c ≡ Some bytes
-  pub any_moment : IsPlaced bytes calls ⊎ IsUnplacedAt bytes calls → AlwaysLeaves before (λ c. IsTrue (before c) ⊎ (c ≡ Some bytes)) calls
+pub record IsKeptOrReplaced (before : Content → Bool) (path bytes : List ℕ) (calls : List Call) : Type 0 where
+  pub read : IsPlaced path bytes calls → seen_after calls ≡ bytes
+  pub placed : IsPlaced path bytes calls → (c : Content) → PathLeaves before calls c → c ≡ Some bytes
+  pub any_moment : IsPlaced path bytes calls ⊎ IsUnplacedAt path bytes calls → AlwaysLeaves before (λ c. IsTrue (before c) ⊎ (c ≡ Some bytes)) calls
   pub kept : asked_after calls ≡ false → (c : Content) → PathLeaves before calls c → IsTrue (before c)
 
 abbrev pub WholeFilesAreSafe : Type 0
-WholeFilesAreSafe = (before : Content → Bool) (bytes : List ℕ) (calls : List Call) → IsKeptOrReplaced before bytes calls
+WholeFilesAreSafe = (before : Content → Bool) (path bytes : List ℕ) (calls : List Call) → IsKeptOrReplaced before path bytes calls

@@ -1,5 +1,5 @@
 //! Files of the operating system as devices of the journal: written in place, and replaced at one stroke. And files
-//! that are written beside the one at a path, and take its place once they are whole.
+//! that are written beside the one at a path, and take its place once they are whole; and what isn't a file, written to as it is.
 #![tactic(auto)]
 
 mod account;
@@ -9,6 +9,8 @@ mod laws;
 mod lock;
 mod names;
 mod noted;
+mod sending;
+mod special;
 mod system;
 mod whole;
 mod writes;
@@ -20,5 +22,7 @@ pub use file::FileDevice;
 pub use laws::whole_files_are_safe;
 pub use lock::LockFile;
 pub use noted::PathCalls;
+pub use sending::Sent;
+pub use special::{Special, special_at};
 pub use system::{OpenError, read_file};
 pub use whole::{NewFile, NotPlaced};

@@ -395,13 +395,13 @@ impl<T: Read + Write + Seek + OpenFile + Drop> Noted<T> {
         requires beside { is_beside self.old ≡ true }
         requires names { LiesBeside path.now name.now }
         requires durable { Only (seen_after (noted_calls self.old)) (MayLeave (noted_calls self.old)) }
-        ensures noted { noted_calls self.new ≡ took_name (is_ok result) ∷ noted_calls self.old }
+        ensures noted { noted_calls self.new ≡ took_name path.now (is_ok result) ∷ noted_calls self.old }
         ensures kept { OnErr result (is_beside self.new ≡ true) }
         ensures taken { OnOk result (is_beside self.new ≡ false) }
     {
         let answer = fs::rename(files, name, path);
         self.is_beside = answer.is_err();
-        self.answered(TOOK_NAME, 0, &[], answer)
+        self.answered(TOOK_NAME, 0, path.as_bytes(), answer)
     }
 
     /// Waits until the disk has the names of a folder.

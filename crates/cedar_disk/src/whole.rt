@@ -1,7 +1,7 @@
 //! Files that are written beside the one at a path and take its place once they are whole.
 
 ghost use Rattle.std.specs.Prelude.{◌≡◌, ◌∷◌, [], false, IfErr, IfOk, IsTrue, length, OnOk, Some, true};
-ghost use Rattle.cedar_disk.specs.Words.{asked_after, LiesBeside, is_usable_after, IsPlaced, IsWholeBeside, IsUnplacedAt, opened, seen_after};
+ghost use Rattle.cedar_disk.specs.Words.{asked_after, Keeps, LiesBeside, is_usable_after, IsPlaced, IsWholeBeside, IsUnplacedAt, opened, seen_after, WriteAppends, WritesAtMost};
 ghost use Rattle.cedar_disk.specs.NotedFiles.{is_beside, noted_calls};
 
 use crate::names::{NAMES, PATH_LEN, name_beside};
@@ -49,7 +49,7 @@ pub struct NotPlaced {
 }
 
 impl<'a, F: Files> NewFile<'a, F> {
-    ghost use Rattle.cedar_disk.specs.NewFiles.{new_bytes, new_calls};
+    ghost use Rattle.cedar_disk.specs.NewFiles.{new_bytes, new_calls, new_path};
     ghost use Rattle.cedar_disk.specs.PathFiles.{path_calls};
 
     /// Makes it, in the folder of `path`: `PATH.new`, or, where a name is taken, `PATH.1.new` and so on to `PATH.99.new`. Nothing that has
@@ -60,6 +60,7 @@ impl<'a, F: Files> NewFile<'a, F> {
     /// `InvalidFilename` if the path is too long for one, `Unsupported` if something other than a file is at the path. Nothing was made then.
     pub fn beside(files: &'a F, path: &'a str) -> io::Result<NewFile<'a, F>>
         ensures empty { IfOk result (λ new. new_bytes new ≡ []) }
+        ensures path { IfOk result (λ new. new_path new ≡ path.now) }
     {
         let former = file_at(files, path)?;
         let folder = open_folder(files, path)?;
@@ -86,10 +87,10 @@ impl<'a, F: Files> NewFile<'a, F> {
     pub fn put_in_place(mut self) -> Result<PathCalls, NotPlaced>
         //= A new file that was given its place has the bytes that were written to it, and the disk had them, before it was renamed to the path;
         //  then the folder was synced.
-        ensures placed { IfOk result (λ calls. IsPlaced (new_bytes self.entry) (path_calls calls)) }
+        ensures placed { IfOk result (λ calls. IsPlaced (new_path self.entry) (new_bytes self.entry) (path_calls calls)) }
         //= Where that fails, nothing was done at the path; or the file was whole and on the disk before a rename that failed, or before a sync
         //  of the folder that did.
-        ensures unplaced { IfErr result (λ failed. IsUnplacedAt (new_bytes self.entry) (path_calls failed.calls)) }
+        ensures unplaced { IfErr result (λ failed. IsUnplacedAt (new_path self.entry) (new_bytes self.entry) (path_calls failed.calls)) }
     {
         if let Err(error) = self.make_ready() {
             return Err(self.removed(error));
@@ -105,6 +106,7 @@ impl<'a, F: Files> NewFile<'a, F> {
     /// Gives it the old file's owner and permissions, and waits until the disk has it.
     fn make_ready(&mut self) -> io::Result<()>
         ensures ready { OnOk result (IsWholeBeside (new_bytes self.old) (new_calls self.new)) }
+        ensures path { new_path self.new ≡ new_path self.old }
     {
         if self.has_failed {
             return Err(ErrorKind::Other.into());
@@ -136,8 +138,8 @@ impl<'a, F: Files> NewFile<'a, F> {
     /// Renames it to the path, and puts that on the disk.
     fn take_place(self) -> Result<PathCalls, NotPlaced>
         requires ready { IsWholeBeside (new_bytes self) (new_calls self) }
-        ensures placed { IfOk result (λ calls. IsPlaced (new_bytes self.entry) (path_calls calls)) }
-        ensures unplaced { IfErr result (λ failed. IsUnplacedAt (new_bytes self.entry) (path_calls failed.calls)) }
+        ensures placed { IfOk result (λ calls. IsPlaced (new_path self.entry) (new_bytes self.entry) (path_calls calls)) }
+        ensures unplaced { IfErr result (λ failed. IsUnplacedAt (new_path self.entry) (new_bytes self.entry) (path_calls failed.calls)) }
     {
         let NewFile {
             files,
@@ -165,12 +167,16 @@ impl<'a, F: Files> NewFile<'a, F> {
 }
 
 impl<F: Files> Write for NewFile<'_, F> {
-    ghost use Rattle.cedar_disk.specs.NewFiles.{new_bytes};
+    ghost use Rattle.cedar_disk.specs.NewFiles.{new_bytes, new_path};
 
     //= What was written to a new file is known: exactly the bytes of the writes that succeeded.
     ghost contents = { λ new. Some (new_bytes new) };
 
-    fn write(&mut self, buf: &[u8]) -> io::Result<usize> {
+    fn write(&mut self, buf: &[u8]) -> io::Result<usize>
+        ensures bytes { WriteAppends (Some (new_bytes self.old)) (Some (new_bytes self.new)) result buf.now }
+        ensures bound { WritesAtMost result buf.now }
+        ensures path { new_path self.new ≡ new_path self.old }
+    {
         if self.has_failed {
             return Err(ErrorKind::Other.into());
         }
@@ -193,7 +199,10 @@ impl<F: Files> Write for NewFile<'_, F> {
         }
     }
 
-    fn flush(&mut self) -> io::Result<()> {
+    fn flush(&mut self) -> io::Result<()>
+        ensures bytes { Keeps (Some (new_bytes self.old)) (Some (new_bytes self.new)) }
+        ensures path { new_path self.new ≡ new_path self.old }
+    {
         self.file.flush()
     }
 }

@@ -1,8 +1,11 @@
 -- What was saved is the file of a well-formed table, and all of it.
-use Rattle.std.proofs.Common.{◌≡◌, ℕ, ◌≤◌, ◌∙◌, List, [], ◌++◌, ap, append-nil, None, Option, Result, Ok, Err, OnOk, refl, Some, subst, sym}
+use Rattle.std.proofs.Common.{◌≡◌, ℕ, ◌≤◌, ◌∙◌, List, [], ◌++◌, ap, append-nil, drop, get_or, length, None, Option, Result, Ok, Err, OnOk, refl, Some, subst, sym, take}
+use Rattle.std.proofs.Math.Seq.{take-append_seam}
+use Rattle.std.proofs.lemmas.List.{append_cancel_left}
 use Rattle.std.specs.Io.Buffered.{writer_buffer, writer_contents, writer_inner}
 use Rattle.std.specs.Io.KnownBytes.{append_known, Appends, Keeps}
 use Rattle.std.specs.declared.io.buffered.BufWriter.{BufWriter}
+use Rattle.cedar_disk.specs.Words.{address}
 use Rattle.cedar_model.specs.Table.Layouts.{LayoutKind, layout_byte}
 use Rattle.cedar_model.specs.Table.TableFields.{Fields}
 use Rattle.cedar_model.specs.Meaning.WellFormed.{IsWellFormed}
@@ -48,3 +51,19 @@ written_through contents bytes before after made filled flushed inner unused gro
     let whole : Appends (contents (writer_inner made)) (contents (writer_inner flushed)) bytes =
     buffered_appends bytes (writer_buffer made) (writer_buffer filled) (writer_buffer flushed) (contents (writer_inner made)) (contents (writer_inner filled)) (contents (writer_inner flushed)) unused grown same empty in
     subst (λ w. Appends (contents w) (contents after) bytes) inner (subst (λ w. Appends (contents (writer_inner made)) (contents w) bytes) (sym out) whole)
+
+-- ---- where it was written
+
+-- a path and what follows, told apart
+told_apart : (p q b c : List ℕ) → address p ++ b ≡ address q ++ c → (p ≡ q) × (b ≡ c)
+told_apart p q b c is =
+    let long : length p ≡ length q = ap (λ (l : List ℕ). get_or l 0 0) is in
+    let rest : p ++ b ≡ q ++ c = ap (λ (l : List ℕ). drop 1 l) is in
+    let same : p ≡ q = sym (take-append_seam p b) ∙ ap (λ n. take n (p ++ b)) long ∙ ap (λ l. take (length q) l) rest ∙ take-append_seam q c in
+    (same, append_cancel_left q b c (ap (λ l. l ++ b) (sym same) ∙ rest))
+
+-- what was written behind a path, where nothing stood before
+pub lands : (path whole p b q c : List ℕ) → p ≡ path → b ≡ [] → address q ++ c ≡ (address p ++ b) ++ whole → (q ≡ path) × (c ≡ whole)
+lands path whole p b q c is empty grown =
+    told_apart q path c whole
+    (grown ∙ ap (λ l. (address p ++ l) ++ whole) empty ∙ ap (λ l. l ++ whole) (append-nil (address p)) ∙ ap (λ l. address l ++ whole) is)

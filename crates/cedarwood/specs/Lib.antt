@@ -22,6 +22,7 @@ pub mod Loading
 pub use Rattle.cedar_format.specs.WatchedDevice
 pub mod Unsorted
 pub mod Updates
+pub mod Saves
 pub mod Saving
 pub mod Words
 pub mod RangeWalks

@@ -1,6 +1,10 @@
 -- The words that the public clauses cite, from one place: a caller's crate takes them from here, and so do this crate's own sources.
 pub use Rattle.cedar_bulk.specs.Sorted.{entries_by, entries_of, Pair}
 pub use Rattle.cedar_bulk.specs.SortedMarks.{SortedMarks}
+pub use Rattle.cedar_disk.specs.PathFiles.{path_calls}
+pub use Rattle.cedar_disk.specs.SpecialFiles.{sent_calls}
+pub use Rattle.cedar_disk.specs.Calls.{Call}
+pub use Rattle.cedar_disk.specs.Whole.{Content, IsPlaced, IsUnplacedAt, PathLeaves}
 pub use Rattle.cedar_file.specs.Loading.{LoadsBy}
 pub use Rattle.cedar_format.specs.Format.{CountsWithin, header_answer, IsVersion, need, Passes}
 pub use Rattle.cedar_format.specs.Reading.{IsIo, LacksNoMore, TellsBreaks}
@@ -41,6 +45,7 @@ pub use Rattle.cedarwood.specs.Memory.{CedarFitsInMemory, ReducedFitsInMemory}
 pub use Rattle.cedarwood.specs.OnTable.{dictionary_of, IsOnTable}
 pub use Rattle.cedarwood.specs.RangeWalks.{bounded, entries_between, GivesBetween, GivesRange, IsEnd, IsRangePlace}
 pub use Rattle.cedarwood.specs.Room.{LacksRoom}
+pub use Rattle.cedarwood.specs.Saves.{IsSavedAt, IsUnsavedAt}
 pub use Rattle.cedarwood.specs.Saving.{FailsToWrite, PassesAgain}
 pub use Rattle.cedarwood.specs.Shown.{entry_error_text, error_text, refused_pair_text, shown_text}
 pub use Rattle.cedarwood.specs.Shrinking.{ArePlaces, entry_of, IsEntryPlace, IsMadeOf, IsPutBack, IsRebuilt, IsShrunk, LacksPlaces, PutsBack, PutsEntry}
@@ -60,6 +65,7 @@ pub use Rattle.std.specs.Iterator.SizeHint.{IsWithinCount}
 pub use Rattle.std.specs.List.{All, starts_with}
 pub use Rattle.std.specs.List.Sorted.{IsPermutation}
 pub use Rattle.std.specs.Mem.{FitsInMemory}
+pub use Rattle.std.specs.Option.{ForSome}
 pub use Rattle.std.specs.Ordering.{is_lt, nat_cmp, ordering_then}
 pub use Rattle.std.specs.Prelude.{[], IfErr, IfOk, IsTrue, length, map, MatchResult, OnOk, Some}
 pub use Rattle.std.specs.declared.cmp.Ordering.TheVariants.{Less}

@@ -40,6 +40,8 @@ mod unsorted;
 
 pub use batches::{CACHED_SLOTS, RefusedPair};
 pub use builder::CedarBuilder;
+// What was done at a path, and what becomes of it.
+pub use cedar_disk::{PathCalls, Sent, whole_files_are_safe};
 pub use cedar_format::{
     CedarPersistenceError, Source, Watched, one_table_for_its_bytes, well_formed_tables_pass,
 };
@@ -57,6 +59,7 @@ pub use laws::{
     loaded_files_save_again, prefixed_are_of_all_entries, saved_tables_load_again,
     sorted_is_stored_in_turn,
 };
+pub use persistence::{SaveFailed, Saved};
 pub use queries::counted::CountedPrefixIter;
 pub use queries::cursor::EntryCursor;
 pub use queries::entries::{Entries, EntryError, Utf8Entries};

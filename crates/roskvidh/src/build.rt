@@ -100,9 +100,9 @@ fn build_of<'m, L: Layout, F: Files, R: BufRead, E: Write>(
 ) -> Result<(), Fault<'m>> {
     let bytes = read_all(alloc, asked.list.path, list)?;
     let trie = trie_of::<L, E>(alloc, asked, &bytes, errors)?;
-    match trie.save_to_path(files, asked.output) {
-        Ok(()) => Ok(()),
-        Err(error) => Err(Fault::Save(asked.output, error)),
+    match trie.save_to_path_noted(files, asked.output) {
+        Ok(_) => Ok(()),
+        Err(failed) => Err(Fault::Save(asked.output, failed.error)),
     }
 }
 

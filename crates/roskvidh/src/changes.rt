@@ -177,12 +177,12 @@ fn save<'m, L: Layout, F: Files>(
     asked: Change<'m>,
 ) -> Result<(), Fault<'m>> {
     let saved = if asked.old_format {
-        trie.save_v1_0_to_path(files, asked.output)
+        trie.save_v1_0_to_path_noted(files, asked.output)
     } else {
-        trie.save_to_path(files, asked.output)
+        trie.save_to_path_noted(files, asked.output)
     };
     match saved {
-        Ok(()) => Ok(()),
-        Err(error) => Err(Fault::Save(asked.output, error)),
+        Ok(_) => Ok(()),
+        Err(failed) => Err(Fault::Save(asked.output, failed.error)),
     }
 }

@@ -2,4 +2,5 @@ pub mod Counts
 pub mod Keywords
 pub mod Pages
 pub mod Parts
+pub mod Saves
 pub mod Words

@@ -8,6 +8,7 @@ mod counter;
 mod filter;
 mod glossary;
 mod pages;
+mod saver;
 mod service;
 #[cfg(test)]
 mod tests;

@@ -5,15 +5,17 @@ use crate::counter::count;
 use crate::filter::{has_keyword, keywords_of};
 use crate::glossary::Glossary;
 use crate::pages::{page_behind, page_from};
+use crate::saver::keep;
 use crate::service::publish;
 use crate::tokenizer::{Tokenizer, pieces_of};
 use cedarwood::{
     Cedar, CedarBuilder, CedarError, CedarPersistenceError, DefaultLayout, Trie, Watched,
 };
 use std::alloc::Global;
+use std::cell::Cell;
 use std::process::Abort;
 use std::test::Fail;
-use test_support::Refusing;
+use test_support::{FakeFiles, FilePlan, FileUse, Refusing};
 
 fn expect_number(rt: &impl Abort, words: &Cedar<Global>, key: &[u8], wanted: Option<(i32, usize)>) {
     assert!(rt; search(words, key) == wanted);
@@ -85,6 +87,15 @@ fn save_bytes(alloc: Global, words: &Cedar<Global>) -> Result<Vec<u8>, CedarPers
     Ok(writer.into_inner())
 }
 
+fn expect_kept_file(rt: &impl Abort, words: &Cedar<Global>, file: &[u8]) {
+    let uses = Cell::new(FileUse::NONE);
+    let files = FakeFiles::new(file, FilePlan::GOOD, &uses);
+    assert!(rt; matches!(keep(words, &files, "words.cedar"), Ok(Some(_))));
+    let uses = uses.get();
+    assert!(rt; uses.as_expected && uses.written == file.len());
+    assert!(rt; uses.syncs == 1 && uses.moves == 1 && uses.names == 1);
+}
+
 fn load_bytes(alloc: Global, file: &[u8]) -> Result<Tokenizer, CedarPersistenceError> {
     Tokenizer::load(alloc, &mut Watched::new(file))
 }
@@ -142,6 +153,7 @@ fn terms(rt: HostRuntime) -> Result<(), Fail> {
 fn tokens(rt: HostRuntime) -> Result<(), Fail> {
     let counts = count(rt.alloc(), &["net", "nets"])?;
     let file = save_bytes(rt.alloc(), &counts)?;
+    expect_kept_file(&rt, &counts, &file);
     let tokenizer = load_bytes(rt.alloc(), &file)?;
     expect_tokens(&rt, rt.alloc(), &tokenizer)?;
     expect_cheap_tokens(&rt, rt.alloc(), &tokenizer)?;

@@ -1,10 +1,13 @@
 //! How a dictionary is saved and loaded.
 
 mod load;
+mod outcome;
 mod paths;
 mod replace;
 mod save;
 mod unplaced;
+
+pub use outcome::{SaveFailed, Saved};
 
 pub mod v1 {
     //! Version 1 of the file format, minor 0 and 1: its numbers, headers and fields.

@@ -1,9 +1,11 @@
 //! Files by their paths, through a buffer.
 
-ghost use Rattle.cedarwood.specs.Words.{default_load_limit, FailsToWrite, IfErr, IfOk, IsLimit, IsTableFile, IsWellFormed, LacksByPath, layout_byte, LoadsOpened, OnOk, PassesAgain, table_bytes};
+ghost use Rattle.cedarwood.specs.Words.{default_load_limit, FailsToWrite, IfErr, IfOk, IsLimit, IsSavedAt, IsTableFile, IsUnsavedAt, IsWellFormed, LacksByPath, layout_byte, LoadsOpened, OnOk, PassesAgain, table_bytes};
 
 use crate::persistence::replace::no_room;
-use crate::{CedarPersistenceError, DEFAULT_LOAD_MEMORY_LIMIT, Layout, Trie, Watched};
+use crate::{
+    CedarPersistenceError, DEFAULT_LOAD_MEMORY_LIMIT, Layout, SaveFailed, Saved, Trie, Watched,
+};
 use cedar_format::{FULL_MINOR, MINOR};
 use std::alloc::Allocator;
 use std::fs::File;
@@ -36,7 +38,37 @@ impl<L: Layout, const SLOTS: usize, A: Allocator + Copy> Trie<L, SLOTS, A> {
         //  FailsToWrite]
         ensures err { IfErr result FailsToWrite }
 
-        // What the system's calls do no clause can say. Those that are made are noted: `save_in_place` says which.
+        // What was done at the path this result can't name: that of `save_to_path_noted` does.
+        ensures file { OnOk result (IsTableFile 1 SLOTS self.now.table (table_bytes 1 self.now.table)) }
+        ensures passes { OnOk result (PassesAgain L.kind SLOTS 1 self.now.table) }
+    {
+        match self.save_to_path_noted(files, path) {
+            Ok(_) => Ok(()),
+            Err(failed) => Err(failed.error),
+        }
+    }
+
+    /// `save_to_path`, which tells what it did: proofs about a caller can go by the calls that were made.
+    ///
+    /// ```
+    /// match cedar.save_to_path_noted(files, "words.cedar") {
+    ///     Ok(saved) => assert!(rt; matches!(saved, Saved::Placed(_))),
+    ///     Err(failed) => return Err(failed.error.into()),
+    /// }
+    /// ```
+    ///
+    /// # Errors
+    /// As `save_to_path`, with the calls on a new file that was whole.
+    pub fn save_to_path_noted<F: Files>(&self, files: &F, path: &str) -> Result<Saved, SaveFailed>
+        //= A save to a path that succeeds has given the name there to a new file of exactly the table's bytes, once they were on the disk,
+        //  and has then put the name on the disk. Or what is there isn't a file, and took exactly these bytes. [also
+        //  save_v1_0_to_path_noted; by IsSavedAt]
+        ensures saved { IfOk result (IsSavedAt path.now (table_bytes 1 self.now.table)) }
+
+        //= If it fails once a new file is whole, nothing was done at the path; or the disk had the file's bytes before a rename that failed,
+        //  or before a sync of the folder that did. [also save_v1_0_to_path_noted; by IsUnsavedAt]
+        ensures unplaced { IfErr result (IsUnsavedAt path.now (table_bytes 1 self.now.table)) }
+        ensures err { IfErr result (λ failed. FailsToWrite failed.error) }
         ensures file { OnOk result (IsTableFile 1 SLOTS self.now.table (table_bytes 1 self.now.table)) }
         ensures passes { OnOk result (PassesAgain L.kind SLOTS 1 self.now.table) }
     {
@@ -57,6 +89,34 @@ impl<L: Layout, const SLOTS: usize, A: Allocator + Copy> Trie<L, SLOTS, A> {
         path: &str,
     ) -> Result<(), CedarPersistenceError>
         ensures err { IfErr result FailsToWrite }
+        ensures file { OnOk result (IsTableFile 0 SLOTS self.now.table (table_bytes 0 self.now.table)) }
+        ensures passes { OnOk result (PassesAgain L.kind SLOTS 0 self.now.table) }
+    {
+        match self.save_v1_0_to_path_noted(files, path) {
+            Ok(_) => Ok(()),
+            Err(failed) => Err(failed.error),
+        }
+    }
+
+    /// `save_to_path_noted` in format 1.0.
+    ///
+    /// ```
+    /// match cedar.save_v1_0_to_path_noted(files, "words.cedar") {
+    ///     Ok(saved) => assert!(rt; matches!(saved, Saved::Placed(_))),
+    ///     Err(failed) => return Err(failed.error.into()),
+    /// }
+    /// ```
+    ///
+    /// # Errors
+    /// As `save_to_path_noted`.
+    pub fn save_v1_0_to_path_noted<F: Files>(
+        &self,
+        files: &F,
+        path: &str,
+    ) -> Result<Saved, SaveFailed>
+        ensures saved { IfOk result (IsSavedAt path.now (table_bytes 0 self.now.table)) }
+        ensures unplaced { IfErr result (IsUnsavedAt path.now (table_bytes 0 self.now.table)) }
+        ensures err { IfErr result (λ failed. FailsToWrite failed.error) }
         ensures file { OnOk result (IsTableFile 0 SLOTS self.now.table (table_bytes 0 self.now.table)) }
         ensures passes { OnOk result (PassesAgain L.kind SLOTS 0 self.now.table) }
     {

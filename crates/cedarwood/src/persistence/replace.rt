@@ -1,16 +1,16 @@
 //! Saves by path: a new file takes the place of the one of its name once it is whole.
 
-ghost use Rattle.std.specs.Prelude.{◌≡◌, IfErr, IfOk, OnOk};
+ghost use Rattle.std.specs.Prelude.{◌≡◌, ◌++◌, IfErr, IfOk, None, OnOk};
 ghost use Rattle.cedar_disk.specs.PathFiles.{path_calls};
-ghost use Rattle.cedar_disk.specs.Words.{IsPlaced};
-ghost use Rattle.cedarwood.specs.Words.{AllocationFailed, Appends, FailsToWrite, IsTableFile, IsVersion, PassesAgain, table_bytes};
+ghost use Rattle.cedar_disk.specs.SpecialFiles.{sent_calls, special_told};
+ghost use Rattle.cedar_disk.specs.Words.{IsPlaced, told_after};
+ghost use Rattle.cedarwood.specs.Words.{AllocationFailed, Appends, FailsToWrite, IsSavedAt, IsTableFile, IsUnsavedAt, IsVersion, PassesAgain, table_bytes};
 
 use crate::persistence::unplaced::Unplaced;
-use crate::{CedarPersistenceError, Layout, Trie, Watched};
-use cedar_disk::PathCalls;
+use crate::{CedarPersistenceError, Layout, SaveFailed, Saved, Trie, Watched};
+use cedar_disk::{PathCalls, Sent, Special, special_at};
 use cedar_file::write_table;
 use std::alloc::Allocator;
-use std::fs::{self, File};
 use std::io::{self, BufWriter, Write};
 use std::rt::Files;
 
@@ -24,17 +24,19 @@ impl<L: Layout, const SLOTS: usize, A: Allocator + Copy> Trie<L, SLOTS, A> {
         files: &F,
         path: &str,
         minor: u16,
-    ) -> Result<(), CedarPersistenceError>
+    ) -> Result<Saved, SaveFailed>
         requires version { IsVersion minor }
-        ensures err { IfErr result FailsToWrite }
+        ensures saved { IfOk result (IsSavedAt path.now (table_bytes minor self.now.table)) }
+        ensures unplaced { IfErr result (IsUnsavedAt path.now (table_bytes minor self.now.table)) }
+        ensures err { IfErr result (λ failed. FailsToWrite failed.error) }
         ensures file { OnOk result (IsTableFile minor SLOTS self.now.table (table_bytes minor self.now.table)) }
         ensures passes { OnOk result (PassesAgain L.kind SLOTS minor self.now.table) }
     {
-        if is_special(files, path) {
-            return self.write_special(files, path, minor);
+        match special_at(files, path) {
+            Ok(Some(special)) => Ok(Saved::Sent(self.send(special, minor)?)),
+            Ok(None) => Ok(Saved::Placed(self.save_in_place(files, path, minor)?)),
+            Err(error) => Err(SaveFailed::unwritten(CedarPersistenceError::Io(error))),
         }
-        self.save_in_place(files, path, minor)?;
-        Ok(())
     }
 
     /// Replaces the file at `path`, and returns what was done there.
@@ -43,39 +45,33 @@ impl<L: Layout, const SLOTS: usize, A: Allocator + Copy> Trie<L, SLOTS, A> {
         files: &F,
         path: &str,
         minor: u16,
-    ) -> Result<PathCalls, CedarPersistenceError>
+    ) -> Result<PathCalls, SaveFailed>
         requires version { IsVersion minor }
-
-        //= A save to a path that succeeds has given the name there to a new file of exactly the table's bytes, once they were on the disk,
-        //  and has then put the name on the disk: so its calls are noted. [by IsPlaced]
-        ensures saved { IfOk result (λ calls. IsPlaced (table_bytes minor self.now.table) (path_calls calls)) }
-        ensures err { IfErr result FailsToWrite }
+        ensures saved { IfOk result (λ calls. IsPlaced path.now (table_bytes minor self.now.table) (path_calls calls)) }
+        ensures unplaced { IfErr result (IsUnsavedAt path.now (table_bytes minor self.now.table)) }
+        ensures err { IfErr result (λ failed. FailsToWrite failed.error) }
         ensures file { OnOk result (IsTableFile minor SLOTS self.now.table (table_bytes minor self.now.table)) }
         ensures passes { OnOk result (PassesAgain L.kind SLOTS minor self.now.table) }
     {
         let new = Unplaced::beside(files, path)?;
         match self.write_buffered(new, minor) {
             Ok(whole) => whole.put_in_place(),
-            Err(fault) => Err(told(fault)),
+            Err(fault) => Err(SaveFailed::unwritten(told(fault))),
         }
     }
 
-    /// Writes the dictionary to what is at a path and isn't a file.
-    fn write_special<F: Files>(
-        &self,
-        files: &F,
-        path: &str,
-        minor: u16,
-    ) -> Result<(), CedarPersistenceError>
+    /// Writes the dictionary to what isn't a file, and returns what that took.
+    fn send<T: Write + Drop>(&self, special: Special<T>, minor: u16) -> Result<Sent, SaveFailed>
         requires version { IsVersion minor }
-        ensures err { IfErr result FailsToWrite }
+        ensures sent { IfOk result (λ sent. told_after (sent_calls sent) ≡ special_told special ++ table_bytes minor self.now.table) }
+        ensures none { IfErr result (λ failed. failed.calls ≡ None) }
+        ensures err { IfErr result (λ failed. FailsToWrite failed.error) }
         ensures file { OnOk result (IsTableFile minor SLOTS self.now.table (table_bytes minor self.now.table)) }
         ensures passes { OnOk result (PassesAgain L.kind SLOTS minor self.now.table) }
     {
-        let file = File::create(files, path)?;
-        match self.write_buffered(file, minor) {
-            Ok(_) => Ok(()),
-            Err(fault) => Err(told(fault)),
+        match self.write_buffered(special, minor) {
+            Ok(whole) => Ok(whole.into_sent()),
+            Err(fault) => Err(SaveFailed::unwritten(told(fault))),
         }
     }
 
@@ -125,14 +121,6 @@ fn told(fault: Unwritten) -> CedarPersistenceError
     match fault {
         Unwritten::NoBuffer => no_room(),
         Unwritten::Io(error) => CedarPersistenceError::Io(error),
-    }
-}
-
-/// Whether something is at `path` that isn't a file, such as a pipe or a device: no file may take its place.
-fn is_special<F: Files>(files: &F, path: &str) -> bool {
-    match fs::metadata(files, path) {
-        Ok(found) => !found.is_file(),
-        Err(_) => false,
     }
 }
 

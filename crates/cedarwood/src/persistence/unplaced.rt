@@ -1,13 +1,13 @@
 //! A new file that is removed unless it takes its place.
 
-ghost use Rattle.std.specs.Prelude.{◌≡◌, [], IfErr, IfOk, Some};
-ghost use Rattle.cedar_disk.specs.NewFiles.{new_bytes};
+ghost use Rattle.std.specs.Prelude.{◌≡◌, ◌++◌, [], IfErr, IfOk, None, Some};
+ghost use Rattle.cedar_disk.specs.NewFiles.{new_bytes, new_path};
 ghost use Rattle.cedar_disk.specs.PathFiles.{path_calls};
-ghost use Rattle.cedar_disk.specs.Words.{IsPlaced};
-ghost use Rattle.cedarwood.specs.Words.{FailsToWrite};
+ghost use Rattle.cedar_disk.specs.Words.{address, IsPlaced};
+ghost use Rattle.cedarwood.specs.Words.{FailsToWrite, IsUnsavedAt};
 
-use crate::CedarPersistenceError;
-use cedar_disk::{NewFile, PathCalls};
+use crate::{CedarPersistenceError, SaveFailed};
+use cedar_disk::{NewFile, NotPlaced, PathCalls};
 use std::io::{self, Write};
 use std::rt::Files;
 
@@ -18,28 +18,38 @@ pub(crate) struct Unplaced<'a, F: Files> {
 
 impl<'a, F: Files> Unplaced<'a, F> {
     /// Makes it.
-    pub(crate) fn beside(files: &'a F, path: &'a str) -> io::Result<Unplaced<'a, F>>
+    pub(crate) fn beside(files: &'a F, path: &'a str) -> Result<Unplaced<'a, F>, SaveFailed>
         ensures empty { IfOk result (λ new. new_bytes new.file ≡ []) }
+        ensures path { IfOk result (λ new. new_path new.file ≡ path.now) }
+        ensures none { IfErr result (λ failed. failed.calls ≡ None) }
+        ensures err { IfErr result (λ failed. FailsToWrite failed.error) }
     {
-        let file = NewFile::beside(files, path)?;
-        Ok(Unplaced { file })
+        match NewFile::beside(files, path) {
+            Ok(file) => Ok(Unplaced { file }),
+            Err(error) => Err(SaveFailed::unwritten(CedarPersistenceError::Io(error))),
+        }
     }
 
     /// Gives it its place.
-    pub(crate) fn put_in_place(self) -> Result<PathCalls, CedarPersistenceError>
-        ensures placed { IfOk result (λ calls. IsPlaced (new_bytes self.entry.file) (path_calls calls)) }
-        ensures err { IfErr result FailsToWrite }
+    pub(crate) fn put_in_place(self) -> Result<PathCalls, SaveFailed>
+        ensures placed { IfOk result (λ calls. IsPlaced (new_path self.entry.file) (new_bytes self.entry.file) (path_calls calls)) }
+        ensures unplaced { IfErr result (IsUnsavedAt (new_path self.entry.file) (new_bytes self.entry.file)) }
+        ensures err { IfErr result (λ failed. FailsToWrite failed.error) }
     {
         let Unplaced { file } = self;
         match file.put_in_place() {
             Ok(calls) => Ok(calls),
-            Err(failed) => Err(CedarPersistenceError::Io(failed.error)),
+            Err(NotPlaced { error, calls }) => Err(SaveFailed {
+                error: CedarPersistenceError::Io(error),
+                calls: Some(calls),
+            }),
         }
     }
 }
 
 impl<F: Files> Write for Unplaced<'_, F> {
-    ghost contents = { λ new. Some (new_bytes new.file) };
+    // The path stands before what was written: so whoever wrote through a buffer knows still whose place it is to take.
+    ghost contents = { λ new. Some (address (new_path new.file) ++ new_bytes new.file) };
 
     fn write(&mut self, buf: &[u8]) -> io::Result<usize> {
         self.file.write(buf)

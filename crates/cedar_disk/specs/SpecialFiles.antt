@@ -1,0 +1,18 @@
+-- What is known of something that isn't a file.
+use Rattle.std.specs.Prelude.{ℕ, List}
+use Rattle.cedar_disk.specs.declared.sending.Sent.{Sent}
+use Rattle.cedar_disk.specs.declared.special.Special.{Special}
+use Rattle.cedar_disk.specs.Calls.{Call}
+use Rattle.cedar_disk.specs.Sending.{told_after}
+
+-- the calls on it, of which the newest comes first
+abbrev pub sent_calls : Sent → List Call
+sent_calls sent = sent.history.calls
+
+-- those on one that is open
+abbrev pub special_calls : {T : Type 0} → Special T → List Call
+special_calls special = sent_calls special.sent
+
+-- what these tell
+abbrev pub special_told : {T : Type 0} → Special T → List ℕ
+special_told special = told_after (special_calls special)

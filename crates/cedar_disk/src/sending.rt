@@ -1,0 +1,54 @@
+//! What was written to something that isn't a file, as it was noted.
+
+ghost use Rattle.std.specs.Prelude.{◌≡◌, ◌++◌, IfOk};
+ghost use Rattle.cedar_disk.specs.Words.{address, IsNoFile, told_after};
+
+use crate::history::History;
+use std::fs::Metadata;
+use std::io::{self, ErrorKind};
+
+const FOUND: u64 = 9;
+
+const SENT: u64 = 10;
+
+/// What was written to something that isn't a file.
+#[derive(Drop)]
+pub struct Sent {
+    found: Metadata,
+    history: History,
+    ghost special: { IsNoFile found },
+}
+
+impl Sent {
+    ghost use Rattle.cedar_disk.specs.SpecialFiles.{sent_calls};
+
+    /// Something at a path, once it is open and the system has told what it is. Nothing was written to it.
+    ///
+    /// # Errors
+    /// `Unsupported` if it is a file.
+    pub(crate) fn at(path: &str, found: Metadata) -> io::Result<Sent>
+        ensures { IfOk result (λ sent. told_after (sent_calls sent) ≡ address path.now) }
+    {
+        if found.is_file() {
+            return Err(ErrorKind::Unsupported.into());
+        }
+        let mut history = History::new();
+        history.note(&[FOUND, 0, 1], path.as_bytes());
+        Ok(Sent { found, history })
+    }
+
+    /// Notes bytes that were taken.
+    pub(crate) fn note(&mut self, bytes: &[u8])
+        ensures { told_after (sent_calls self.new) ≡ told_after (sent_calls self.old) ++ bytes.now }
+    {
+        self.history.note(&[SENT, 0, 1], bytes);
+    }
+
+    /// Returns what the system said of it once it was open: it isn't a file.
+    pub fn found(&self) -> &Metadata
+        //= What is written to as it is isn't a file, by what the system says of it once it is open.
+        ensures { IsNoFile result.now }
+    {
+        &self.found
+    }
+}

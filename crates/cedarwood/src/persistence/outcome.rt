@@ -1,0 +1,37 @@
+//! What a save by path did.
+
+ghost use Rattle.std.specs.Prelude.{◌≡◌, None};
+ghost use Rattle.cedarwood.specs.Saving.{FailsToWrite};
+
+use crate::CedarPersistenceError;
+use cedar_disk::{PathCalls, Sent};
+
+/// What a save by path did at the path.
+#[derive(Drop)]
+pub enum Saved {
+    /// A new file took the place of what was there. These are the calls on it.
+    Placed(PathCalls),
+    /// What is there isn't a file, and was written to as it is. This is what it took.
+    Sent(Sent),
+}
+
+/// Why a save by path failed.
+#[derive(Drop)]
+pub struct SaveFailed {
+    /// The fault: `Io`, or `AllocationFailed` with 8192.
+    pub error: CedarPersistenceError,
+    /// The calls on a new file that was written whole. None if there was no such file: then nothing was done at the path, unless what is
+    /// there isn't a file and took a part.
+    pub calls: Option<PathCalls>,
+}
+
+impl SaveFailed {
+    /// A fault before a new file was written whole.
+    pub(crate) fn unwritten(error: CedarPersistenceError) -> SaveFailed
+        requires fault { FailsToWrite error }
+        ensures fault { FailsToWrite result.error }
+        ensures none { result.calls ≡ None }
+    {
+        SaveFailed { error, calls: None }
+    }
+}
