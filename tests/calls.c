@@ -16,8 +16,8 @@
 #include <sys/syscall.h>
 #include <unistd.h>
 
-/* A call: its letter (o opens a file, f the folder, w writes, c cuts, s syncs, r renames, u removes, t tells on standard output), its number,
-   the file it was made on, where or how long, what it answered (an error below 0), and how many bytes follow. */
+/* A call: its letter (o opens a file, f the folder, w writes, c cuts, s syncs, r renames, u removes, t tells on standard output), its
+   number, the file it was made on, where or how long, what it answered (an error below 0), and how many bytes follow. */
 struct __attribute__((packed)) note {
     char kind;
     int64_t number;

@@ -112,11 +112,11 @@ class Watch:
         run.notes = list(notes_in(self.notes)) if os.path.exists(self.notes) else []
         return run
 
-    def look(self, paths):
+    def reopen(self, paths):
         """Opens many files by one process, without syncs: for each what was told of the opening, and the lines of its entries, in order."""
-        run = run_of([PROGRAM, "look", *paths], {"LD_PRELOAD": self.library, "CALLS_SYNC": "0"})
+        run = run_of([PROGRAM, "reopen", *paths], {"LD_PRELOAD": self.library, "CALLS_SYNC": "0"})
         if run.status != 0:
-            sys.exit(f"kill_run look ended with {run.status}: {run.error}")
+            sys.exit(f"kill_run reopen ended with {run.status}: {run.error}")
         found, lines = [], []
         for line in run.lines:
             if line.startswith(b"= "):

@@ -5,7 +5,7 @@
  *   batch PATH FIRST COUNT SIZE   makes changes SIZE at a time as one, and prints each time how many are acknowledged
  *   grow PATH FIRST COUNT SIZE    the same, and the file is never compacted
  *   mend PATH                     compacts the file, and prints how many entries it has
- *   look PATH..                   opens each file, and prints its entries, and then whether it was opened */
+ *   reopen PATH..                 opens each file, and prints its entries, and then whether it was opened */
 #include "cedar.h"
 #include <inttypes.h>
 #include <stdio.h>
@@ -84,7 +84,7 @@ static uint32_t batch(cedar_store *s, uint64_t first, uint64_t count, uint64_t s
     return status;
 }
 
-static void look(const char *path) {
+static void reopen(const char *path) {
     cedar_store s = CEDAR_STORE_CLOSED;
     uint32_t status = cedar_store_open(&s, path);
     char key[KEY_ROOM], line[128] = "= opened";
@@ -123,8 +123,8 @@ static uint32_t answer(cedar_store *s, const char *work, const uint64_t *numbers
 
 int main(int count, char **words) {
     if (count < 3) return 2;
-    if (strcmp(words[1], "look") == 0) {
-        for (int i = 2; i < count; i++) look(words[i]);
+    if (strcmp(words[1], "reopen") == 0) {
+        for (int i = 2; i < count; i++) reopen(words[i]);
         return 0;
     }
     cedar_store s = CEDAR_STORE_CLOSED;

@@ -10,7 +10,8 @@ use std::fmt;
 /// How the program is called.
 const USAGE: &str =
     "append PATH COUNT, rewrite PATH COUNT, list PATH, change PATH FIRST COUNT, batch PATH FIRST COUNT SIZE, \
-    entries PATH, len PATH or look PATH";
+    grow PATH FIRST COUNT SIZE, fill PATH FIRST COUNT SIZE, insist PATH FIRST COUNT, persist PATH FIRST COUNT, mend PATH, \
+    entries PATH, len PATH, look PATH or reopen PATH..";
 
 /// Why a run ended early.
 #[derive(Clone, Copy, Debug)]

@@ -1,5 +1,5 @@
-//! The program that `tests/kill` kills: it appends numbered records to a journal, or makes numbered changes in a dictionary, and lists what
-//! is there.
+//! The program that `tests/kill` kills, and that `tests/power` and `tests/faults` watch: it appends numbered records to a journal, or makes
+//! numbered changes in a dictionary, and lists what is there.
 #![tactic(auto)]
 
 ghost use Rattle.cedar_journal.specs.Words.{Only};
@@ -17,6 +17,7 @@ use kept::{open, put, rewrite};
 use std::alloc::{AllocError, Global};
 use std::env;
 use std::process::ExitCode;
+use words::Keys;
 
 fn main(rt: HostRuntime) -> ExitCode {
     match answer(&rt) {
@@ -40,16 +41,24 @@ fn answer(rt: &HostRuntime) -> Result<(), Fault> {
         ["list", path] => list(rt, path),
         ["change", path, first, count] => change(rt, path, number(first)?, number(count)?),
         ["batch", path, first, count, size] => {
-            let turns = Turns::of(number(first)?, number(count)?, number(size)?);
+            let turns = Turns::of(Keys::Few, number(first)?, number(count)?, number(size)?);
             batch(rt, path, turns, words::OFTEN)
         }
         ["grow", path, first, count, size] => {
-            let turns = Turns::of(number(first)?, number(count)?, number(size)?);
+            let turns = Turns::of(Keys::Few, number(first)?, number(count)?, number(size)?);
             batch(rt, path, turns, Compaction::Never)
         }
+        ["fill", path, first, count, size] => {
+            let turns = Turns::of(Keys::Own, number(first)?, number(count)?, number(size)?);
+            batch(rt, path, turns, Compaction::Never)
+        }
+        ["insist", path, first, count] => insist(rt, path, number(first)?, number(count)?),
+        ["persist", path, first, count] => persist(rt, path, number(first)?, number(count)?),
+        ["mend", path] => mend(rt, path),
         ["entries", path] => entries(rt, path),
         ["len", path] => len(rt, path),
         ["look", path] => look(rt, path),
+        ["reopen", paths @ ..] => reopen(rt, paths),
         _ => Err(Fault::Arguments),
     }
 }
@@ -120,9 +129,71 @@ fn change_on<D: ReplaceDevice + Drop>(
     Ok(())
 }
 
-/// Batches of numbered changes: the number of the first one, how many batches there are, and how many changes each has.
+/// Makes changes as `change` does, and goes on after one that isn't made: then it prints its number and why.
+fn insist(rt: &HostRuntime, path: &str, first: u64, count: u64) -> Result<(), Fault> {
+    insist_on(rt, FileDevice::open(rt, rt.alloc(), path)?, first, count)
+}
+
+fn insist_on<D: ReplaceDevice + Drop>(
+    rt: &HostRuntime,
+    device: D,
+    first: u64,
+    count: u64,
+) -> Result<(), Fault>
+    requires restarted { Only (D.seen device) (D.may_leave device) }
+{
+    let mut store = words::open(device, rt.alloc(), words::OFTEN)?;
+    for turn in 0..count {
+        let number = first.saturating_add(turn);
+        match words::change(&mut store, rt.alloc(), number) {
+            Ok(()) => print(rt, number)?,
+            Err(fault) => tell(rt, number, fault)?,
+        }
+    }
+    Ok(())
+}
+
+/// Makes changes as `insist` does, and after one that isn't made puts the file anew in its place. If that succeeds, it says so.
+fn persist(rt: &HostRuntime, path: &str, first: u64, count: u64) -> Result<(), Fault> {
+    persist_on(rt, FileDevice::open(rt, rt.alloc(), path)?, first, count)
+}
+
+fn persist_on<D: ReplaceDevice + Drop>(
+    rt: &HostRuntime,
+    device: D,
+    first: u64,
+    count: u64,
+) -> Result<(), Fault>
+    requires restarted { Only (D.seen device) (D.may_leave device) }
+{
+    let mut store = words::open(device, rt.alloc(), words::OFTEN)?;
+    for turn in 0..count {
+        let number = first.saturating_add(turn);
+        match words::change(&mut store, rt.alloc(), number) {
+            Ok(()) => print(rt, number)?,
+            Err(fault) => {
+                tell(rt, number, fault)?;
+                if store.compact().is_ok() {
+                    say_mended(rt)?;
+                }
+            }
+        }
+    }
+    Ok(())
+}
+
+fn say_mended(rt: &HostRuntime) -> Result<(), Fault> {
+    match println!(rt; "mended") {
+        Ok(()) => Ok(()),
+        Err(_) => Err(Fault::Output),
+    }
+}
+
+/// Batches of numbered changes: which keys they are about, the number of the first one, how many batches there are, and how many changes
+/// each has.
 #[derive(Clone, Copy)]
 struct Turns {
+    keys: Keys,
     first: u64,
     count: u64,
     size: u64,
@@ -130,9 +201,10 @@ struct Turns {
 
 impl Turns {
     /// Returns `changes` changes, from the number `first` on, in batches of `size`.
-    fn of(first: u64, changes: u64, size: u64) -> Turns {
+    fn of(keys: Keys, first: u64, changes: u64, size: u64) -> Turns {
         let size = size.max(1);
         Turns {
+            keys,
             first,
             count: changes / size,
             size,
@@ -163,10 +235,23 @@ fn batch_on<D: ReplaceDevice + Drop>(
     for turn in 0..turns.count {
         let done = turn.saturating_mul(turns.size);
         let first = turns.first.saturating_add(done);
-        words::change_together(&mut store, rt.alloc(), first, turns.size)?;
+        words::change_together(&mut store, rt.alloc(), turns.keys, first, turns.size)?;
         print(rt, done.saturating_add(turns.size))?;
     }
     Ok(())
+}
+
+/// Opens a dictionary, puts its file anew in its place, and prints how many entries it has.
+fn mend(rt: &HostRuntime, path: &str) -> Result<(), Fault> {
+    mend_on(rt, FileDevice::open(rt, rt.alloc(), path)?)
+}
+
+fn mend_on<D: ReplaceDevice + Drop>(rt: &HostRuntime, device: D) -> Result<(), Fault>
+    requires restarted { Only (D.seen device) (D.may_leave device) }
+{
+    let mut store = words::open(device, rt.alloc(), words::OFTEN)?;
+    store.compact()?;
+    print(rt, store.dictionary().len() as u64)
 }
 
 /// Opens a dictionary, and prints how many entries it has.
@@ -195,13 +280,34 @@ fn print_all(rt: &HostRuntime, words: &Cedar<Global>) -> Result<(), Fault> {
     for entry in words.entries()? {
         let (key, value) = entry?;
         let Ok(key) = str::from_utf8(&key) else {
-            return Err(Fault::Foreign);
+            return Err(Fault::Output);
         };
         if println!(rt; "{key} {value}").is_err() {
             return Err(Fault::Output);
         }
     }
     Ok(())
+}
+
+/// Opens dictionaries, and prints for each its entries and then whether it was opened.
+fn reopen(rt: &HostRuntime, paths: &[&str]) -> Result<(), Fault> {
+    for path in paths {
+        let told = match entries(rt, path) {
+            Ok(()) => println!(rt; "= opened"),
+            Err(fault) => println!(rt; "= {fault}"),
+        };
+        if told.is_err() {
+            return Err(Fault::Output);
+        }
+    }
+    Ok(())
+}
+
+fn tell(rt: &HostRuntime, number: u64, fault: Fault) -> Result<(), Fault> {
+    match println!(rt; "{number}: {fault}") {
+        Ok(()) => Ok(()),
+        Err(_) => Err(Fault::Output),
+    }
 }
 
 fn print(rt: &HostRuntime, number: u64) -> Result<(), Fault> {

@@ -8,8 +8,20 @@ use cedar_journal::ReplaceDevice;
 use cedar_store::{CedarStore, Change, Compaction, Words};
 use std::alloc::{AllocError, Global};
 
-/// How many keys there are.
-const KEYS: u64 = 997;
+/// Which keys the changes are about.
+#[derive(Clone, Copy)]
+pub(crate) enum Keys {
+    /// 997 keys, of which each fifth change erases one.
+    Few,
+    /// One for each change, as long as their numbers are below `MANY`. None erases it.
+    Own,
+}
+
+/// How many keys there are if they are few.
+const FEW: u64 = 997;
+
+/// How many keys there are else, a prime number.
+const MANY: u64 = 10_000_019;
 
 /// One more than the greatest value.
 const VALUES: u64 = 2_147_483_646;
@@ -41,17 +53,17 @@ pub(crate) fn open<D: ReplaceDevice + Drop>(
     }
 }
 
-/// Makes the change of a number.
+/// Makes the change of a number. Whether it is made or not, others can be asked for.
 pub(crate) fn change<D: ReplaceDevice>(
     store: &mut CedarStore<Global, D>,
     alloc: Global,
     number: u64,
 ) -> Result<(), Fault>
     requires { IsReady D.seen D.may_leave store.old.journal.device store.old.journal.format store.old.journal.end (store.old.words.state) store.old.failed }
-    ensures { OnOk result (IsReady D.seen D.may_leave store.new.journal.device store.new.journal.format store.new.journal.end (store.new.words.state) store.new.failed) }
+    ensures { IsReady D.seen D.may_leave store.new.journal.device store.new.journal.format store.new.journal.end (store.new.words.state) store.new.failed }
 {
-    let key = key(alloc, number)?;
-    match change_of(number, key.as_str()) {
+    let key = Keys::Few.text(alloc, number)?;
+    match Keys::Few.change(number, key.as_str()) {
         Change::Erase { key } => {
             store.erase_bytes(key)?;
         }
@@ -67,49 +79,69 @@ pub(crate) fn change<D: ReplaceDevice>(
 pub(crate) fn change_together<D: ReplaceDevice>(
     store: &mut CedarStore<Global, D>,
     alloc: Global,
+    keys: Keys,
     first: u64,
     count: u64,
 ) -> Result<(), Fault>
     requires { IsReady D.seen D.may_leave store.old.journal.device store.old.journal.format store.old.journal.end (store.old.words.state) store.old.failed }
     ensures { OnOk result (IsReady D.seen D.may_leave store.new.journal.device store.new.journal.format store.new.journal.end (store.new.words.state) store.new.failed) }
 {
-    let mut keys = Vec::new(alloc);
+    let mut texts = Vec::new(alloc);
     for turn in 0..count {
-        keys.push(key(alloc, first.saturating_add(turn))?)?;
+        texts.push(keys.text(alloc, first.saturating_add(turn))?)?;
     }
-    let changes = all_numbered(alloc, first, &keys)?;
+    let changes = all_numbered(alloc, keys, first, &texts)?;
     store.apply_batch(&changes)?;
     Ok(())
 }
 
 /// Returns the changes of the numbers from `first` on, which have these keys.
-fn all_numbered(alloc: Global, first: u64, keys: &[String]) -> Result<Vec<Change<'_>>, AllocError> {
+fn all_numbered(
+    alloc: Global,
+    keys: Keys,
+    first: u64,
+    texts: &[String],
+) -> Result<Vec<Change<'_>>, AllocError> {
     let mut changes = Vec::new(alloc);
     let mut number = first;
-    for key in keys {
-        changes.push(change_of(number, key.as_str()))?;
+    for text in texts {
+        changes.push(keys.change(number, text.as_str()))?;
         number = number.saturating_add(1);
     }
     Ok(changes)
 }
 
-/// Returns the change of a number, which has this key: each fifth one erases it, each other one stores a value there.
-fn change_of(number: u64, key: &str) -> Change<'_> {
-    let key = key.as_bytes();
-    if number % 5 == 4 {
-        Change::Erase { key }
-    } else {
-        let value = (number % VALUES) as i32;
-        Change::Update { key, value }
+impl Keys {
+    /// Returns the change of a number, which has this key: it stores a value there, or erases the key.
+    fn change(self, number: u64, key: &str) -> Change<'_> {
+        let key = key.as_bytes();
+        let is_erased = match self {
+            Keys::Few => number % 5 == 4,
+            Keys::Own => false,
+        };
+        if is_erased {
+            Change::Erase { key }
+        } else {
+            let value = (number % VALUES) as i32;
+            Change::Update { key, value }
+        }
     }
-}
 
-/// Returns the key that the change of a number is about: the number of the key, and up to 22 letters after it.
-fn key(alloc: Global, number: u64) -> Result<String, Fault> {
-    let of = number % KEYS * 619 % KEYS;
-    let mut key = format!(in alloc; "{of}")?;
-    for _ in 0..of % 23 {
-        key.push('k')?;
+    /// Returns the key that the change of a number is about: the number of the key, and if keys are few up to 22 letters after it.
+    fn text(self, alloc: Global, number: u64) -> Result<String, Fault> {
+        match self {
+            Keys::Few => {
+                let of = number % FEW * 619 % FEW;
+                let mut key = format!(in alloc; "{of}")?;
+                for _ in 0..of % 23 {
+                    key.push('k')?;
+                }
+                Ok(key)
+            }
+            Keys::Own => {
+                let of = number % MANY * 7_368_787 % MANY;
+                Ok(format!(in alloc; "{of}")?)
+            }
+        }
     }
-    Ok(key)
 }
