@@ -1,5 +1,6 @@
 //! Stores that are changed: a list's entries stored, or its words removed, as one change, of which a crash leaves all or none.
 
+ghost use Rattle.std.specs.Prelude.{◌≡◌, false, OnOk};
 ghost use Rattle.roskvidh.specs.Words.{IfOk, IsReady, Only};
 
 use crate::changes::change_words;
@@ -10,7 +11,7 @@ use crate::meter::Meter;
 use crate::request::How;
 use cedar_disk::{FileDevice, LockFile, OpenError};
 use cedar_journal::ReplaceDevice;
-use cedar_store::{CedarStore, Change};
+use cedar_store::{CedarStore, Change, DurableError};
 use cedarwood::{DefaultLayout, Trie, Watched};
 use std::alloc::{AllocError, Global};
 use std::io::{Read, Write};
@@ -61,9 +62,27 @@ fn change_on<'m, D: ReplaceDevice + Drop, F: Files, R: Read + Drop, M: Meter + D
     let mut store = open_store(alloc, device, path)?;
     let (changes, all) = changes_of(alloc, files, store.dictionary(), how, source, errors)?;
     let batch = batch_of(alloc, &changes)?;
-    match store.apply_batch(&batch) {
+    match apply(&mut store, &batch) {
         Ok(()) => Ok(all),
         Err(error) => Err(Fault::Store(path, error)),
+    }
+}
+
+/// Makes some changes as one. If the device fails, all of the dictionary is written to a new file, since another run would read what the
+/// system shows of the old one, and the disk needn't have that.
+fn apply<D: ReplaceDevice + Drop>(
+    store: &mut CedarStore<Global, D>,
+    batch: &[Change<'_>],
+) -> Result<(), DurableError>
+    requires ready { IsReady D.seen D.may_leave store.old.journal.device store.old.journal.format store.old.journal.end (store.old.words.state) store.old.failed }
+    ensures done { OnOk result (store.new.failed ≡ false) }
+{
+    match store.apply_batch(batch) {
+        Err(DurableError::Device(error)) => match store.compact() {
+            Ok(()) => Ok(()),
+            Err(_) => Err(DurableError::Device(error)),
+        },
+        answer => answer,
     }
 }
 
