@@ -1,7 +1,7 @@
 //! A save whose caller promises what is at the path from then on.
 
-ghost use Rattle.std.specs.Prelude.{IfOk};
-ghost use Rattle.uses.specs.Words.{ForSome, IsThere, path_calls, table_bytes};
+ghost use Rattle.std.specs.Prelude.{IfOk, IfSome};
+ghost use Rattle.uses.specs.Words.{IsThere, path_calls, table_bytes};
 
 use cedarwood::{Cedar, CedarPersistenceError, PathCalls, Saved, whole_files_are_safe};
 use std::alloc::Global;
@@ -17,7 +17,7 @@ pub fn keep<F: Files>(
     path: &str,
 ) -> Result<Option<PathCalls>, CedarPersistenceError>
     //= Whatever crash comes, from now on the path leads to a file of exactly the dictionary's bytes.
-    ensures { IfOk result (λ done. ForSome done (λ calls. IsThere (table_bytes 1 words.now.table) (path_calls calls))) }
+    ensures { IfOk result (λ done. IfSome done (λ calls. IsThere (table_bytes 1 words.now.table) (path_calls calls))) }
 {
     match words.save_to_path_noted(files, path) {
         Ok(Saved::Placed(calls)) => {

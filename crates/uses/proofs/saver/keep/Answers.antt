@@ -1,4 +1,12 @@
+use Rattle.std.proofs.Common.{subst}
+use Rattle.cedarwood.specs.Words.{IsSavedAt, path_calls, table_bytes}
+use Rattle.cedarwood.specs.declared.persistence.outcome.Saved.TheVariants.{Placed}
 use Rattle.uses.proofs.saver.keep.Goals as goal
 
-pub returns-in-Placed : goal.returns-in-Placed
-returns-in-Placed g c = λ before. (c.whole_files_are_safe.ensures before c.args.path.now _ _).placed c.in-Placed.ensures.saved
+pub returns-in-Ok-Placed : goal.returns-in-Ok-Placed
+returns-in-Ok-Placed g c =
+    let path = c.args.path.now in
+    let bytes = table_bytes 1 c.args.words.now.table in
+    let calls = c.in-Ok-Placed.calls in
+    let placed : IsSavedAt path bytes (Placed calls) = subst (λ saved. IsSavedAt path bytes saved) c.in-Ok-Placed.field-0-is c.in-Ok-Placed.ensures.saved in
+    λ before. (c.whole_files_are_safe.ensures before path bytes (path_calls calls)).placed placed
