@@ -2,7 +2,7 @@
 //! numbered changes in a dictionary, and lists what is there.
 #![tactic(auto)]
 
-ghost use Rattle.cedar_journal.specs.Words.{Only};
+ghost use Rattle.cedar_store.specs.Words.{IsReady, Only};
 
 mod fault;
 mod kept;
@@ -10,7 +10,7 @@ mod words;
 
 use cedar_disk::{FileDevice, read_file};
 use cedar_journal::{Device, ReplaceDevice};
-use cedar_store::{Compaction, read_store};
+use cedar_store::{CedarStore, Compaction, read_store};
 use cedarwood::Cedar;
 use fault::Fault;
 use kept::{open, put, rewrite};
@@ -168,16 +168,26 @@ fn persist_on<D: ReplaceDevice + Drop>(
 {
     let mut store = words::open(device, rt.alloc(), words::OFTEN)?;
     for turn in 0..count {
-        let number = first.saturating_add(turn);
-        match words::change(&mut store, rt.alloc(), number) {
-            Ok(()) => print(rt, number)?,
-            Err(fault) => {
-                tell(rt, number, fault)?;
-                if store.compact().is_ok() {
-                    say_mended(rt)?;
-                }
-            }
-        }
+        change_or_mend(rt, &mut store, first.saturating_add(turn))?;
+    }
+    Ok(())
+}
+
+/// Makes the change of a number, or says why not and puts the file anew in its place.
+fn change_or_mend<D: ReplaceDevice>(
+    rt: &HostRuntime,
+    store: &mut CedarStore<Global, D>,
+    number: u64,
+) -> Result<(), Fault>
+    requires { IsReady D.seen D.may_leave store.old.journal.device store.old.journal.format store.old.journal.end (store.old.words.state) store.old.failed }
+    ensures { IsReady D.seen D.may_leave store.new.journal.device store.new.journal.format store.new.journal.end (store.new.words.state) store.new.failed }
+{
+    let Err(fault) = words::change(store, rt.alloc(), number) else {
+        return print(rt, number);
+    };
+    tell(rt, number, fault)?;
+    if words::mend(store) {
+        return say_mended(rt);
     }
     Ok(())
 }

@@ -75,6 +75,14 @@ pub(crate) fn change<D: ReplaceDevice>(
     Ok(())
 }
 
+/// Puts the file anew in its place, and returns whether that succeeded.
+pub(crate) fn mend<D: ReplaceDevice>(store: &mut CedarStore<Global, D>) -> bool
+    requires { IsReady D.seen D.may_leave store.old.journal.device store.old.journal.format store.old.journal.end (store.old.words.state) store.old.failed }
+    ensures { IsReady D.seen D.may_leave store.new.journal.device store.new.journal.format store.new.journal.end (store.new.words.state) store.new.failed }
+{
+    store.compact().is_ok()
+}
+
 /// Makes `count` changes as one, numbered from `first` on.
 pub(crate) fn change_together<D: ReplaceDevice>(
     store: &mut CedarStore<Global, D>,
