@@ -2,7 +2,7 @@
  * call does.
  *
  * An update can be taken back without memory, and an erasure can't: its key would need slots again. So all that needs memory comes first:
- * the records of the erasures, which a dictionary beside the store's makes, and the updates. Once nothing can be refused any more, the
+ * the records of the erasures, which a dictionary beside the store's makes, and the updates. Once the record of all is on the disk, the
  * erasures are made. Of each key the last change counts, so the order of different keys doesn't matter. */
 #include "store.h"
 
@@ -170,13 +170,14 @@ static uint32_t make_all(batch *b, const cedar_change *changes, size_t count, si
     if (status == CEDAR_OK) status = write_erasures(b);
     if (status == CEDAR_OK) status = make_updates(b, changes, refused);
     if (status != CEDAR_OK || b->file->filled == 0) return status;
+    size_t end = b->file->end;
     status = cedar_plan_group(b->file->filled, b->file->is_summed, &b->file->end, b->file->bytes, b->file->room, &plan);
-    if (status != CEDAR_OK) {
-        take_back(b, b->count);
-        return status;
-    }
-    make_erasures(b);
-    return store_acknowledge(b->file, &plan);
+    if (status == CEDAR_OK) status = store_acknowledge(b->file, &plan, end);
+    int cause = errno;
+    if (status == CEDAR_OK || b->file->has_failed) make_erasures(b);
+    else take_back(b, b->count);
+    errno = cause;
+    return status;
 }
 
 uint32_t cedar_store_apply(cedar_store *s, const cedar_change *changes, size_t count, size_t *refused, size_t *position) {

@@ -64,11 +64,19 @@ bool disk_cut(const disk_file *file, size_t length) {
     return done == 0 && sync_data(file->number);
 }
 
-bool disk_write(const disk_file *file, size_t at, const uint8_t *bytes, size_t length) {
+/* Whether there was no room: on the disk, in what its owner may have of it, or in what the process may write. */
+static bool is_want_of_room(int cause) {
+    return cause == ENOSPC || cause == EDQUOT || cause == EFBIG;
+}
+
+bool disk_write(const disk_file *file, size_t at, const uint8_t *bytes, size_t length, bool *is_full) {
     while (length > 0) {
         ssize_t count = pwrite(file->number, bytes, length, (off_t)at);
-        if (count < 0 && errno != EINTR) return false;
-        if (count < 0) continue;
+        if (count < 0 && errno == EINTR) continue;
+        if (count < 0) {
+            *is_full = is_want_of_room(errno);
+            return false;
+        }
         at += (size_t)count;
         bytes += count;
         length -= (size_t)count;

@@ -24,9 +24,10 @@ uint32_t disk_open(disk_file *file, const char *path, uint32_t how);
 /* Reads a file that was just opened to its end, into memory that the caller frees, also after an error. */
 uint32_t disk_read(const disk_file *file, uint8_t **bytes, size_t *length);
 
-/* Cuts the file, or writes to it, and waits until the disk has that. Returns false if a call failed: errno has the reason. */
+/* Cuts the file, or writes to it, and waits until the disk has that. Returns false if a call failed: errno has the reason. *is_full is set
+ * if there was no room for all of the bytes: then the first ones may be there, and nothing else has failed. */
 bool disk_cut(const disk_file *file, size_t length);
-bool disk_write(const disk_file *file, size_t at, const uint8_t *bytes, size_t length);
+bool disk_write(const disk_file *file, size_t at, const uint8_t *bytes, size_t length, bool *is_full);
 
 /* Makes an empty file beside one that is open for changes, to replace it: of the name with .cedar-compaction behind it, which nothing has,
  * with its owner and mode, and locked. Returns false if that can't be done, also if the file that is open has lost its name (ESTALE). */

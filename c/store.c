@@ -8,13 +8,21 @@
 /* When a store's file is made short by itself, as in Rattle. */
 enum { DEFAULT_FACTOR = 2, DEFAULT_SPARE = 1 << 16 };
 
-bool store_carry_out(const disk_file *disk, const cedar_plan *plan, const uint8_t *bytes) {
+/* How many steps of a plan are done: all, or those before the first one that fails. *is_full says whether there was no room for that. */
+static size_t carry_out(const disk_file *disk, const cedar_plan *plan, const uint8_t *bytes, bool *is_full) {
+    *is_full = false;
     for (size_t i = 0; i < plan->count; i++) {
         const cedar_step *step = &plan->steps[i];
-        bool is_cut = step->kind == CEDAR_PLAN_CUT;
-        if (!(is_cut ? disk_cut(disk, step->at) : disk_write(disk, step->at, bytes + step->from, step->length))) return false;
+        bool is_done = step->kind == CEDAR_PLAN_CUT ? disk_cut(disk, step->at)
+                                                    : disk_write(disk, step->at, bytes + step->from, step->length, is_full);
+        if (!is_done) return i;
     }
-    return true;
+    return plan->count;
+}
+
+bool store_carry_out(const disk_file *disk, const cedar_plan *plan, const uint8_t *bytes) {
+    bool is_full;
+    return carry_out(disk, plan, bytes, &is_full) == plan->count;
 }
 
 /* ---- a file that is opened */
@@ -97,8 +105,17 @@ size_t cedar_store_waiting(const cedar_store *s) {
 
 /* ---- changes on the disk */
 
-uint32_t store_acknowledge(struct cedar_store_file *file, const cedar_plan *plan) {
-    if (store_carry_out(&file->disk, plan, file->bytes)) return CEDAR_OK;
+uint32_t store_acknowledge(struct cedar_store_file *file, const cedar_plan *plan, size_t end) {
+    bool is_full;
+    size_t done = carry_out(&file->disk, plan, file->bytes, &is_full);
+    if (done == plan->count) return CEDAR_OK;
+    int cause = errno;
+    /* The first step writes the record behind the closed gate. What is there of it is cut off. */
+    if (done == 0 && is_full && disk_cut(&file->disk, plan->steps[0].at)) {
+        file->end = end;
+        errno = cause;
+        return CEDAR_STORE_NO_ROOM;
+    }
     file->has_failed = true;
     return CEDAR_STORE_DEVICE;
 }
@@ -107,10 +124,13 @@ uint32_t store_write_waiting(struct cedar_store_file *file) {
     cedar_plan plan;
     if (file->waiting == 0) return CEDAR_OK;
     if (disk_is_inherited(&file->disk)) return CEDAR_STORE_LOCKED;
+    size_t end = file->end;
     uint32_t status = cedar_plan_group(file->filled, file->is_summed, &file->end, file->bytes, file->room, &plan);
+    if (status == CEDAR_OK) status = store_acknowledge(file, &plan, end);
+    if (status == CEDAR_STORE_NO_ROOM) return status;
     file->waiting = 0;
     file->filled = 0;
-    return status == CEDAR_OK ? store_acknowledge(file, &plan) : status;
+    return status;
 }
 
 static uint32_t sync_store(struct cedar_store_file *file) {
@@ -194,8 +214,9 @@ static uint32_t take_up(cedar_store *s, size_t end, const cedar_plan *plan) {
     struct cedar_store_file *file = s->file;
     uint32_t status;
     if (file->every == 1) {
+        size_t before = file->end;
         file->end = end;
-        status = store_acknowledge(file, plan);
+        status = store_acknowledge(file, plan, before);
     } else {
         file->filled += plan->steps[0].length;
         file->waiting++;
@@ -203,6 +224,29 @@ static uint32_t take_up(cedar_store *s, size_t end, const cedar_plan *plan) {
         status = store_write_waiting(file);
     }
     return status == CEDAR_OK ? store_compact_if_due(s) : status;
+}
+
+/* Whether a change isn't made, since there is no room for its record. One that waits is, and waits on. */
+static bool lacks_room(const cedar_store *s, uint32_t status) {
+    return status == CEDAR_STORE_NO_ROOM && s->file->every == 1;
+}
+
+/* Takes a put back, which needs no memory. */
+static void take_back(cedar_store *s, const uint8_t *key, size_t length, bool was_held, int32_t was) {
+    int cause = errno;
+    if (was_held) cedar_update(&s->dictionary, key, length, was, NULL);
+    else cedar_erase(&s->dictionary, key, length);
+    errno = cause;
+}
+
+/* Puts a key again that was erased. If there is no memory for it the store has failed. */
+static uint32_t put_again(cedar_store *s, const uint8_t *key, size_t length, int32_t was) {
+    int cause = errno;
+    uint32_t status = cedar_update(&s->dictionary, key, length, was, NULL);
+    errno = cause;
+    if (status == CEDAR_OK) return CEDAR_STORE_NO_ROOM;
+    s->file->has_failed = true;
+    return CEDAR_STORE_DEVICE;
 }
 
 uint32_t cedar_store_insert(cedar_store *s, const uint8_t *key, size_t length, int32_t value, bool *held, int32_t *before,
@@ -219,6 +263,7 @@ uint32_t cedar_store_insert(cedar_store *s, const uint8_t *key, size_t length, i
     if (status == CEDAR_NUL_BYTE && position != NULL) *position = at;
     if (status != CEDAR_OK) return status;
     status = take_up(s, end, &plan);
+    if (lacks_room(s, status)) take_back(s, key, length, was_held, was);
     if (status != CEDAR_OK) return status;
     if (held != NULL) *held = was_held;
     if (before != NULL && was_held) *before = was;
@@ -232,12 +277,15 @@ uint32_t cedar_store_update(cedar_store *s, const uint8_t *key, size_t length, i
 uint32_t cedar_store_erase(cedar_store *s, const uint8_t *key, size_t length, bool *held) {
     cedar_plan plan;
     bool was_held = false;
+    int32_t was = 0;
     uint32_t status = prepare(s->file, length);
     if (status != CEDAR_OK) return status;
     size_t room, end = s->file->end;
     uint8_t *place = place_of(s->file, &room);
+    if (s->file->every == 1) cedar_get(&s->dictionary, key, length, &was);
     status = cedar_plan_erase(&s->dictionary, key, length, has_sum(s->file), &end, place, room, &plan, &was_held);
     if (status == CEDAR_OK && was_held) status = take_up(s, end, &plan);
+    if (lacks_room(s, status)) status = put_again(s, key, length, was);
     if (status == CEDAR_OK && held != NULL) *held = was_held;
     return status;
 }

@@ -40,13 +40,14 @@ uint32_t store_takes_changes(const struct cedar_store_file *file);
 /* Makes room for the bytes of a plan. */
 uint32_t store_grow(struct cedar_store_file *file, size_t room);
 
-/* Puts the changes that wait on the disk, as one record. */
+/* Puts the changes that wait on the disk, as one record. If there is no room for it they go on waiting. */
 uint32_t store_write_waiting(struct cedar_store_file *file);
 
 /* Makes the file short if it is too long for what its entries take. It fails only where the store has failed then. */
 uint32_t store_compact_if_due(cedar_store *s);
 
-/* Acknowledges what a plan does, or says that the device has failed. */
-uint32_t store_acknowledge(struct cedar_store_file *file, const cedar_plan *plan);
+/* Acknowledges what a plan does that writes a record behind those that ended at `end`. If there is no room for the record, the file is as it
+ * was, and so is file->end: CEDAR_STORE_NO_ROOM. Otherwise the device has failed. */
+uint32_t store_acknowledge(struct cedar_store_file *file, const cedar_plan *plan, size_t end);
 
 #endif

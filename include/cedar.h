@@ -101,7 +101,8 @@ enum {
     CEDAR_STORE_DAMAGED = 46,  /* one of its records was changed by somebody else: see cedar_store_damaged_at */
     CEDAR_STORE_LOCKED = 47,   /* another program, or another variable, has the store open */
     CEDAR_STORE_READ_ONLY = 48, /* the store was opened to read */
-    CEDAR_STORE_KEPT = 49      /* the file wasn't replaced by a shorter one: see errno */
+    CEDAR_STORE_KEPT = 49,     /* the file wasn't replaced by a shorter one: see errno */
+    CEDAR_STORE_NO_ROOM = 50   /* there is no room for the change's record: see errno */
 };
 
 /* Opens *d with an empty dictionary. If *d is open, the new dictionary replaces the old one. Returns CEDAR_OK, or CEDAR_MEMORY; then *d is
@@ -512,10 +513,12 @@ CEDAR_INLINE const cedar_dictionary *cedar_store_dictionary(const cedar_store *s
 
 /* Stores a value at a key. If the key holds a value, the new one replaces it. CEDAR_OK acknowledges the change: it is on the disk, or waits
  * as cedar_store_sync_every says. CEDAR_IS_CLOSED, the first fault of the pair as of cedar_update, CEDAR_MEMORY, CEDAR_SLOT_LIMIT,
- * CEDAR_STORE_TOO_LONG and CEDAR_STORE_FULL leave the dictionary's keys and the file as they were. After CEDAR_STORE_DEVICE (errno has the
- * reason) the dictionary has the change, and the file has it or not. From then on each change returns CEDAR_STORE_FAILED and changes
- * nothing, until cedar_store_compact has written all that the dictionary has to a new file. To open the file again isn't enough where the
- * machine may stop: what the system shows of a file after a failed call, the disk needn't have. */
+ * CEDAR_STORE_TOO_LONG and CEDAR_STORE_FULL leave the dictionary's keys and the file as they were. So does CEDAR_STORE_NO_ROOM if the disk
+ * is full, or the file may not be longer (errno has the reason, as ENOSPC); but a change that waits goes on waiting with the others, and
+ * the next one tries again. After CEDAR_STORE_DEVICE (errno has the reason) the dictionary has the change, and the file has it or not. From
+ * then on each change returns CEDAR_STORE_FAILED and changes nothing, until cedar_store_compact has written all that the dictionary has to
+ * a new file. To open the file again isn't enough where the machine may stop: what the system shows of a file after a failed call, the disk
+ * needn't have. */
 uint32_t cedar_store_update(cedar_store *s, const uint8_t *key, size_t length, int32_t value, size_t *position);
 
 /* As cedar_store_update. After CEDAR_OK *held says whether the key held a value before, and if so *before is that value. */
@@ -552,7 +555,8 @@ uint32_t cedar_store_apply(cedar_store *s, const cedar_change *changes, size_t c
 uint32_t cedar_store_sync_every(cedar_store *s, size_t changes);
 
 /* Puts the changes that wait on the disk as one: a crash at any moment leaves a file with all of them or with none. CEDAR_OK: the disk has
- * all changes. Also returns CEDAR_IS_CLOSED, and CEDAR_STORE_DEVICE and CEDAR_STORE_FAILED as cedar_store_update does. */
+ * all changes. Also returns CEDAR_IS_CLOSED, and CEDAR_STORE_DEVICE and CEDAR_STORE_FAILED as cedar_store_update does. After
+ * CEDAR_STORE_NO_ROOM the changes wait on. */
 uint32_t cedar_store_sync(cedar_store *s);
 
 /* Returns how many changes wait. 0 if closed. */

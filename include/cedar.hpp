@@ -650,7 +650,8 @@ public:
     /// Stores a value at a key, and replaces the value that the key holds, if any. Throws CEDAR_EMPTY_KEY, CEDAR_NUL_BYTE,
     /// CEDAR_INVALID_VALUE, CEDAR_SLOT_LIMIT, CEDAR_STORE_TOO_LONG, CEDAR_STORE_FULL and std::bad_alloc; then nothing has changed. Throws
     /// std::system_error if a call on the file failed: the dictionary has the change, and the file has it or not. From then on it throws
-    /// CEDAR_STORE_FAILED, until compact() has written all to a new file. If the store was opened to read, it throws CEDAR_STORE_READ_ONLY.
+    /// CEDAR_STORE_FAILED (also failed() says so; if it doesn't, there was no room, and nothing has changed: see cedar.h), until compact()
+    /// has written all to a new file. If the store was opened to read, it throws CEDAR_STORE_READ_ONLY.
     void update(std::string_view key, std::int32_t value) { insert(key, value); }
 
     /// As update, and returns the value that the key held before, if it held one.
@@ -738,7 +739,7 @@ private:
     void check(std::uint32_t status, std::size_t position) {
         const int number = errno;
         words_.inside_ = inside_.dictionary;
-        if (status == CEDAR_STORE_DEVICE || status == CEDAR_STORE_KEPT) {
+        if (status == CEDAR_STORE_DEVICE || status == CEDAR_STORE_KEPT || status == CEDAR_STORE_NO_ROOM) {
             throw std::system_error(number, std::generic_category(), "the file of a store");
         }
         detail::check(status, position);

@@ -35,7 +35,8 @@ class Store(Words[K]):
     A file with a record that somebody else has changed raises a CedarError with the status 46, whose text says where that record begins.
 
     A call on the file that fails raises OSError. From then on each change raises CedarError and changes nothing, and look-ups go on, until
-    compact() has written all to a new file.
+    compact() has written all to a new file. If the disk only has no room for a change, the OSError says so, and `failed` stays false: the
+    change isn't made, or goes on waiting with others, and the store goes on.
 
     >>> import os, tempfile
     >>> folder = tempfile.TemporaryDirectory()

@@ -49,29 +49,29 @@ while i < 20:
         time.sleep(0.001)
 """
 
-# Stores numbers until the file may not grow any more.
-FAILS = """
-import resource, signal, sys
-from roskvidh import CedarError, Store
+# Stores numbers until the file may not grow any more, and the last one once it may.
+LACKS_ROOM = """
+import errno, resource, signal, sys
+from roskvidh import Store
 signal.signal(signal.SIGXFSZ, signal.SIG_IGN)
-resource.setrlimit(resource.RLIMIT_FSIZE, (200, 200))
+soft, hard = resource.getrlimit(resource.RLIMIT_FSIZE)
+resource.setrlimit(resource.RLIMIT_FSIZE, (200, hard))
 s = Store(sys.argv[1])
 try:
     for number in range(100):
         s[b"%d" % number] = number
 except OSError as error:
-    assert error.errno and s.failed and s[b"%d" % number] == number
-try:
-    s[b"x"] = 1
-except CedarError as refused:
-    print(number, refused.status, b"x" in s)
+    print(error.errno == errno.EFBIG, s.failed, b"%d" % number in s, len(s) == number, end=" ")
+resource.setrlimit(resource.RLIMIT_FSIZE, (soft, hard))
+s[b"%d" % number] = number
+print(number)
 """
 
 
 # Changes more in a block than the file may have.
-BLOCK_FAILS = """
+BLOCK_LACKS_ROOM = """
 import resource, signal, sys
-from roskvidh import CedarError, Store
+from roskvidh import Store
 signal.signal(signal.SIGXFSZ, signal.SIG_IGN)
 s = Store(sys.argv[1])
 s[b"net"] = 7
@@ -81,17 +81,15 @@ try:
         for number in range(100):
             s[b"%d" % number] = number
 except OSError:
-    try:
-        s[b"x"] = 1
-    except CedarError as refused:
-        print(s.failed, refused.status)
+    print(s.failed, len(s))
+s[b"x"] = 1
 """
 
 
-# Fails in a change, and goes on by a compaction.
+# Lacks room for a change, and goes on with a shorter one, and once there is room.
 GOES_ON = """
 import resource, signal, sys
-from roskvidh import CedarError, Store
+from roskvidh import Store
 signal.signal(signal.SIGXFSZ, signal.SIG_IGN)
 soft, hard = resource.getrlimit(resource.RLIMIT_FSIZE)
 with Store(sys.argv[1]) as s:
@@ -100,11 +98,10 @@ with Store(sys.argv[1]) as s:
     try:
         s[b"x" * 300] = 8
     except OSError:
-        try:
-            s[b"a"] = 1
-        except CedarError as refused:
-            print(s.failed, refused.status, end=" ")
+        s[b"a"] = 1
+        print(s.failed, len(s), end=" ")
     resource.setrlimit(resource.RLIMIT_FSIZE, (soft, hard))
+    s[b"x" * 300] = 8
     s.compact()
     print(s.failed)
     s[b"ten"] = 9
@@ -341,11 +338,11 @@ class Stores(unittest.TestCase):
             s[b"c"] = 3
             self.assertEqual((s.waiting, b"b" in s, s[b"c"]), (0, False, 3))
 
-    def test_a_block_on_a_disk_that_fails(self):
-        run = subprocess.run([sys.executable, "-c", BLOCK_FAILS, str(self.path)], stdout=subprocess.PIPE, text=True, check=True)
-        self.assertEqual(run.stdout, "True 43\n")
+    def test_a_block_without_room(self):
+        run = subprocess.run([sys.executable, "-c", BLOCK_LACKS_ROOM, str(self.path)], stdout=subprocess.PIPE, text=True, check=True)
+        self.assertEqual(run.stdout, "False 1\n")
         with Store(self.path) as s:
-            self.assertEqual(dict(s), {b"net": 7})
+            self.assertEqual(dict(s), {b"net": 7, b"x": 1})
 
     def test_compacted(self):
         with Store(self.path, sync_every=50) as s:
@@ -384,11 +381,11 @@ class Stores(unittest.TestCase):
             with self.assertRaises(ValueError):
                 call()
 
-    def test_compacted_after_a_failure(self):
+    def test_compacted_once_there_is_room(self):
         run = subprocess.run([sys.executable, "-c", GOES_ON, str(self.path)], stdout=subprocess.PIPE, text=True, check=True)
         with Store(self.path) as s:
-            self.assertEqual(dict(s), {b"net": 7, b"x" * 300: 8, b"ten": 9})
-        self.assertEqual(run.stdout, "True 43 False\n")
+            self.assertEqual(dict(s), {b"net": 7, b"a": 1, b"x" * 300: 8, b"ten": 9})
+        self.assertEqual(run.stdout, "False 2 False\n")
 
     def test_errors(self):
         with Store(self.path) as s:
@@ -494,14 +491,13 @@ class Stores(unittest.TestCase):
         with Store(self.path) as s:
             self.assertEqual(dict(s), {b"net": 7, b"nets": 8})
 
-    def test_a_disk_that_fails(self):
-        """The file may not grow past a limit: a change fails, and what was acknowledged stays."""
-        run = subprocess.run([sys.executable, "-c", FAILS, str(self.path)], stdout=subprocess.PIPE, text=True, check=True)
-        number, status, held = run.stdout.split()
-        self.assertEqual((status, held), ("43", "False"))
+    def test_a_disk_without_room(self):
+        """The file may not grow past a limit: a change isn't made, and the store goes on once it may."""
+        run = subprocess.run([sys.executable, "-c", LACKS_ROOM, str(self.path)], stdout=subprocess.PIPE, text=True, check=True)
+        *told, number = run.stdout.split()
+        self.assertEqual(told, ["True", "False", "False", "True"])
         with Store(self.path) as s:
-            self.assertIn(len(s), (int(number), int(number) + 1))
-            self.assertEqual(dict(s), {b"%d" % i: i for i in range(len(s))})
+            self.assertEqual(dict(s), {b"%d" % i: i for i in range(int(number) + 1)})
 
     def test_killed(self):
         for turn in range(6):

@@ -22,7 +22,7 @@ static bool is_met(char letter) {
     if (count + 1 < sizeof calls) calls[count] = letter;
     if ((fault != FAILS && fault != ENDS_THE_PROCESS) || left-- != 0) return false;
     if (fault == ENDS_THE_PROCESS) _exit(7);
-    errno = ENOSPC;
+    errno = EIO;
     return true;
 }
 
@@ -215,7 +215,7 @@ static bool check_disk(enum fault which, long step) {
         status = apply_some(&s, NULL);
         if (which == ENDS_THE_PROCESS) _exit(status == CEDAR_OK ? 0 : 1);
         came = end();
-        CHECK(status == CEDAR_OK || (came && status == CEDAR_STORE_DEVICE && errno == ENOSPC && cedar_store_failed(&s)));
+        CHECK(status == CEDAR_OK || (came && status == CEDAR_STORE_DEVICE && errno == EIO && cedar_store_failed(&s)));
         CHECK(status == CEDAR_OK || apply_some(&s, NULL) == CEDAR_STORE_FAILED);
         CHECK(has_all(&s) || (status != CEDAR_OK && has_none(&s, true)));
     } else {

@@ -17,6 +17,7 @@ enum { KEYS = 997, KEY_ROOM = 32, LARGEST = 1000, FACTOR = 2, SPARE = 1024, TURN
 
 static const char *reason_of(uint32_t status) {
     if (status == CEDAR_STORE_FAILED) return "the device failed before";
+    if (status == CEDAR_STORE_NO_ROOM) return "there is no room";
     return status == CEDAR_STORE_DEVICE || status == CEDAR_STORE_KEPT ? "the disk failed" : "another error";
 }
 

@@ -32,7 +32,7 @@ static bool is_met(char letter) {
 static bool fails(char letter) {
     if (!is_met(letter)) return false;
     if (fault == ENDS_THE_PROCESS) _exit(7);
-    errno = fault == IS_INTERRUPTED ? EINTR : ENOSPC;
+    errno = fault == IS_INTERRUPTED ? EINTR : EIO;
     return true;
 }
 
@@ -68,7 +68,7 @@ ssize_t __wrap_pwrite(int file, const void *bytes, size_t length, off_t at) {
         fault = FAILS;
         return (ssize_t)(length / 2);
     }
-    errno = ENOSPC;
+    errno = EIO;
     return -1;
 }
 int __wrap_ftruncate(int file, off_t length) { return fails('c') ? -1 : __real_ftruncate(file, length); }
@@ -381,7 +381,7 @@ static bool check_group_change(enum fault which, long step) {
         status = cedar_store_sync(&s);
         if (which == ENDS_THE_PROCESS) _exit(all && status == CEDAR_OK ? 0 : 1);
         came = end();
-        CHECK(status == CEDAR_OK || (status == CEDAR_STORE_DEVICE && came && errno == ENOSPC && cedar_store_failed(&s)));
+        CHECK(status == CEDAR_OK || (status == CEDAR_STORE_DEVICE && came && errno == EIO && cedar_store_failed(&s)));
         CHECK(which != IS_INTERRUPTED || (all && status == CEDAR_OK));
         CHECK(all || !cedar_store_failed(&s));
         if (status != CEDAR_OK) CHECK(update(&s, "b", 3) == CEDAR_STORE_FAILED && cedar_store_sync(&s) == CEDAR_STORE_FAILED && cedar_store_waiting(&s) == 0);
@@ -422,7 +422,7 @@ static bool check_change(enum fault which, long step, bool is_erasure) {
     uint32_t status = is_erasure ? erase(&s, "nets") : update(&s, "nets", 9);
     bool came = end();
     if (status == CEDAR_STORE_DEVICE) {
-        CHECK(came && errno == ENOSPC && cedar_store_failed(&s));
+        CHECK(came && errno == EIO && cedar_store_failed(&s));
         CHECK(at(&s, "nets") == (is_erasure ? -1 : 9)); /* the dictionary has the change */
         CHECK(update(&s, "ten", 9) == CEDAR_STORE_FAILED && erase(&s, "net") == CEDAR_STORE_FAILED && at(&s, "net") == 7);
     } else if (status == CEDAR_MEMORY) {
@@ -443,7 +443,7 @@ static bool check_opening(enum fault which, long step, bool is_new) {
     begin(which, step);
     uint32_t status = cedar_store_open(&s, path);
     bool came = end();
-    CHECK(status == CEDAR_OK || (came && s.file == NULL && (status == CEDAR_MEMORY || (status == CEDAR_STORE_DEVICE && errno == ENOSPC))));
+    CHECK(status == CEDAR_OK || (came && s.file == NULL && (status == CEDAR_MEMORY || (status == CEDAR_STORE_DEVICE && errno == EIO))));
     CHECK(which != IS_INTERRUPTED || status == CEDAR_OK);
     cedar_store_close(&s);
     CHECK(cedar_store_open(&s, path) == CEDAR_OK && count(&s) == (is_new ? 0 : 1) && at(&s, "net") == (is_new ? -1 : 7));

@@ -1,6 +1,6 @@
 -- The numbers that C is answered.
 use Rattle.std.specs.Prelude.{◌≡◌, ◌⊎◌, ℕ, List, [], ◌∷◌, ◌==◌, codes, if◌then◌else◌, None}
-use Rattle.cedar_c.specs.declared.status.TheConstants.{OK, CLOSED, MEMORY, SLOT_LIMIT, EMPTY_KEY, NUL_BYTE, INVALID_VALUE, INVALID_MAX_TRIAL, DUPLICATE_KEY, KEYS_NOT_SORTED, NO_ROOM, NOT_ASCENDING, FILE_TRUNCATED, FILE_MAGIC, FILE_VERSION, FILE_BYTE_ORDER, FILE_LAYOUT, FILE_HEADER, FILE_MEMORY_LIMIT, FILE_CORRUPT, FILE_TRAILING, FILE_UNREAD, STORE_CORRUPT, STORE_DAMAGED, STORE_DEVICE, STORE_FAILED, STORE_FOREIGN, STORE_FULL, STORE_KEPT, STORE_LOCKED, STORE_READ_ONLY, STORE_TOO_LONG}
+use Rattle.cedar_c.specs.declared.status.TheConstants.{OK, CLOSED, MEMORY, SLOT_LIMIT, EMPTY_KEY, NUL_BYTE, INVALID_VALUE, INVALID_MAX_TRIAL, DUPLICATE_KEY, KEYS_NOT_SORTED, NO_ROOM, NOT_ASCENDING, FILE_TRUNCATED, FILE_MAGIC, FILE_VERSION, FILE_BYTE_ORDER, FILE_LAYOUT, FILE_HEADER, FILE_MEMORY_LIMIT, FILE_CORRUPT, FILE_TRAILING, FILE_UNREAD, STORE_CORRUPT, STORE_DAMAGED, STORE_DEVICE, STORE_FAILED, STORE_FOREIGN, STORE_FULL, STORE_KEPT, STORE_LOCKED, STORE_NO_ROOM, STORE_READ_ONLY, STORE_TOO_LONG}
 use Rattle.cedarwood.specs.Tree.{Tree, number_at}
 use Rattle.cedarwood.specs.declared.error.CedarError.{CedarError}
 use Rattle.cedarwood.specs.declared.error.CedarError.TheVariants.{EmptyKey, NulByte, InvalidValue, InvalidMaxTrial, DuplicateKey, KeysNotSorted, Memory, SlotLimit}
@@ -70,6 +70,7 @@ texts_by_status =
     ∷ (STORE_LOCKED, codes "the store is open already, in another program or in this one")
     ∷ (STORE_READ_ONLY, codes "the store was opened to read")
     ∷ (STORE_KEPT, codes "the store's file was kept: a call on the new one failed")
+    ∷ (STORE_NO_ROOM, codes "there is no room for the change in the store's file")
     ∷ []
 
 -- the text of a number in such a list, and one for all numbers that it doesn't have

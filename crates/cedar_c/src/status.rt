@@ -105,6 +105,9 @@ pub(crate) const STORE_READ_ONLY: u32 = 48;
 /// The store's file wasn't replaced by a shorter one: only C returns it.
 pub(crate) const STORE_KEPT: u32 = 49;
 
+/// There was no room for a change's record: only C returns it.
+pub(crate) const STORE_NO_ROOM: u32 = 50;
+
 /// The number of an error. If a byte 0 was refused, it writes its position, and if a key isn't above the one before it, the index of its
 /// pair.
 pub(crate) fn tell(error: CedarError, position: &mut usize) -> u32
@@ -183,6 +186,7 @@ fn text_of(status: u32) -> &'static str
         STORE_LOCKED => "the store is open already, in another program or in this one",
         STORE_READ_ONLY => "the store was opened to read",
         STORE_KEPT => "the store's file was kept: a call on the new one failed",
+        STORE_NO_ROOM => "there is no room for the change in the store's file",
         _ => "an error without a text",
     }
 }

@@ -5,9 +5,9 @@ use Rattle.std.proofs.lemmas.Bool.{le-leb}
 use Rattle.std.proofs.lemmas.List.{drop-drop, drop_all, drop_at, take_all, take_at, take_rest}
 use lib.Seq.{take-add}
 use Rattle.cedar_journal.specs.Device.{Follows, Only, Torn}
-use Rattle.cedar_disk.specs.Calls.{Call, MayLeave, is_usable_after, opened, overlaid, seen_after, synced, written}
-use Rattle.cedar_disk.specs.Runs.{AreWritten, Spoils}
-use Rattle.cedar_journal.proofs.Tears.{torn_same, torn_then}
+use Rattle.cedar_disk.specs.Calls.{Call, MayLeave, is_usable_after, opened, overlaid, refused_call, seen_after, synced, written}
+use Rattle.cedar_disk.specs.Runs.{AreWritten, AreWrittenInPart, Spoils}
+use Rattle.cedar_journal.proofs.Tears.{torn_held, torn_same, torn_then}
 use Rattle.cedar_disk.proofs.Steps.{both, elapses_none, elapses_on, overlaid_length, synced_only}
 
 -- ---- bytes over bytes
@@ -95,7 +95,7 @@ fronts : (bytes : List ℕ) (done n : ℕ) → take done bytes ++ take n (slice_
 fronts bytes done n = ap (λ (l : List ℕ). take done bytes ++ take n l) (take_rest bytes done) ∙ sym (take-add done n bytes)
 
 module _ (bytes : List ℕ) (done : ℕ) (within : done ≤ length bytes) where
-  front_length : length (take done bytes) ≡ done
+  pub front_length : length (take done bytes) ≡ done
   front_length = length-take-le done bytes within
 
   rest_length : length (slice_range bytes done (length bytes)) ≡ length bytes - done
@@ -119,6 +119,29 @@ module _ (at done from : ℕ) (bytes : List ℕ) (old now new : List Call) (fits
       subst (λ (l : List Call). Spoils at (length bytes) old l) (sym noted)
       (spoils_failed at (length bytes) (take done bytes) old now fits so_far from (slice_range bytes done (length bytes)) low (omega (arith, high, front))
       (omega (arith, front, rest_length bytes done within, within)))
+
+-- there was no room for the next ones
+pub wrote_no_more : (at size : ℕ) (front : List ℕ) (old now new : List Call) → AreWritten at size front old now → new ≡ refused_call ∷ now → AreWritten at size front old new
+wrote_no_more at size front old now new so_far noted =
+    subst (λ (l : List Call). AreWritten at size front old l) (sym noted) (record {
+      seen = so_far.seen;
+      usable = so_far.usable;
+      spoils = record {
+        crash = so_far.spoils.crash;
+        time = elapses_on refused_call old now so_far.spoils.time (λ c left. left);
+        faults = omega (arith, so_far.spoils.faults);
+        within = so_far.spoils.within;
+        known = so_far.spoils.known;
+      };
+    })
+
+-- what a read returns then
+pub torn_in_part : (at : ℕ) (bytes : List ℕ) (old new : List Call) → at ≤ length (seen_after old) → AreWrittenInPart at bytes old new
+    → Torn at (length bytes) (seen_after old) (seen_after new)
+torn_in_part at bytes old new fits part =
+    let file = seen_after old in
+    let torn = torn_held at part.0 file (seen_after new) fits part.2.seen in
+    torn_then at (length bytes) at (length part.0) file file (seen_after new) (omega arith) (omega (arith, part.1)) (torn_same at (length bytes) file) torn
 
 -- at its end
 pub wrote_all : (at done : ℕ) (bytes : List ℕ) (old now : List Call) → length bytes ≤ done → AreWritten at (length bytes) (take done bytes) old now → AreWritten at (length bytes) bytes old now

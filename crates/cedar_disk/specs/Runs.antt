@@ -4,18 +4,21 @@ use Rattle.std.specs.Prelude.{◌≡◌, ◌⊎◌, ◌<◌, ◌≤◌, ◌^◌,
 use Rattle.cedar_journal.specs.Device.{Elapses, Follows, Torn}
 use Rattle.cedar_disk.specs.Calls.{Call, LeftSince, MayLeave, all_within, faults_in, is_named_after, is_usable_after, named, overlaid, refused_call, renamed, seen_after, written}
 use Rattle.cedar_disk.specs.declared.wrote.Wrote.{Wrote}
-use Rattle.cedar_disk.specs.declared.wrote.Wrote.TheVariants.{Bytes, Nothing, Failed}
+use Rattle.cedar_disk.specs.declared.wrote.Wrote.TheVariants.{Bytes, Nothing, Full, Failed}
 
--- a write of these bytes at this offset, as it is noted: exactly those that the system took, or that any of them may be there
+-- A write of these bytes at this offset, as it is noted: exactly those that the system took, or that any of them may be there. Of one that
+-- found no room none are.
 abbrev pub write_call : ℕ → List ℕ → Wrote → Call
 write_call at bytes (Bytes n) = written at (take n bytes) true
 write_call at bytes Nothing = refused_call
+write_call at bytes (Full e) = refused_call
 write_call at bytes (Failed e) = written at bytes false
 
 -- of n bytes at this offset some were taken
 abbrev pub TookSome : ℕ → ℕ → Wrote → Type 0
 TookSome at n (Bytes count) = (0 < count) × (count ≤ n) × (at < 2 ^ 63)
 TookSome at n Nothing = Unit {0}
+TookSome at n (Full e) = Unit {0}
 TookSome at n (Failed e) = Unit {0}
 
 -- Time goes on from the one list to the other: what a crash may leave now, or might have left before, and nothing else.
@@ -35,6 +38,10 @@ pub record AreWritten (at n : ℕ) (bytes : List ℕ) (old new : List Call) : Ty
   pub seen : seen_after new ≡ overlaid (seen_after old) at bytes
   pub usable : IsTrue (is_usable_after old) → IsTrue (is_usable_after new)
   pub spoils : Spoils at n old new
+
+-- Or only the first of them were: for the next there was no room.
+abbrev pub AreWrittenInPart : ℕ → List ℕ → List Call → List Call → Type 0
+AreWrittenInPart at bytes old new = (front : List ℕ) × (length front ≤ length bytes) × AreWritten at (length bytes) front old new
 
 -- The file of these bytes was given the name, or not; or it was, and that isn't known to be on the disk.
 abbrev pub IsUnplaced : List ℕ → List Call → List Call → Type 0

@@ -5,7 +5,7 @@ pub use Rattle.cedar_disk.specs.Calls.{overlaid, refused_call, renamed, seen_aft
 pub use Rattle.cedar_disk.specs.Errors.{TellsKind}
 pub use Rattle.cedar_disk.specs.Laws.{counts_now, only_now}
 pub use Rattle.cedar_disk.specs.Names.{compaction_path, HasNoSlash, LiesBeside, mark_of, new_suffix}
-pub use Rattle.cedar_disk.specs.Runs.{AreWritten, TimePasses, IsUnplaced, Spoils, TookSome, write_call}
+pub use Rattle.cedar_disk.specs.Runs.{AreWritten, AreWrittenInPart, TimePasses, IsUnplaced, Spoils, TookSome, write_call}
 pub use Rattle.cedar_disk.specs.Sending.{address, found_at, IsNoFile, IsSentTo, sent, told_after}
 pub use Rattle.cedar_disk.specs.Whole.{IsPlaced, IsWholeBeside, IsUnplacedAt, PathLeaves, WholeFilesAreSafe, asked_after}
 pub use Rattle.cedar_disk.specs.declared.system.OpenError.TheVariants.{Memory}

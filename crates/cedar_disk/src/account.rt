@@ -1,6 +1,6 @@
 //! A file, and what the calls on it so far make of it. `specs/Calls.antt` has the model.
 
-ghost use Rattle.std.specs.Prelude.{◌≡◌, ◌<◌, ◌≤◌, ◌⊎◌, ◌∷◌, [], false, IsTrue, length, List, OnErr, OnOk, take, true, ℕ};
+ghost use Rattle.std.specs.Prelude.{◌≡◌, ◌<◌, ◌≤◌, ◌⊎◌, ◌∷◌, [], false, IsErrOf, IsTrue, length, List, OnErr, OnOk, take, true, ℕ};
 ghost use Rattle.cedar_disk.specs.Words.{all_within, compaction_path, Cut, faults_in, Follows, TimePasses, HasCause, is_locked_after, is_named_after, is_usable_after, LeavesOnly, LeftSince, locked, MayLeave, Only, opened, overlaid, refused_call, seen_after, Torn};
 ghost use Rattle.cedar_disk.specs.NotedFiles.{is_beside, noted_calls};
 
@@ -71,11 +71,12 @@ impl<T: Read + Write + Seek + OpenFile + Drop> Account<T> {
         DeviceError::Failed
     }
 
-    /// Writes bytes, and past the end too.
+    /// Writes bytes, and past the end too. If there is no room for all of them, the first are there, and the file can still be used.
     pub(crate) fn write(&mut self, at: usize, bytes: &[u8]) -> Result<(), DeviceError>
         requires usable { IsTrue (is_usable_after (calls_of self.old)) }
         requires within { at ≤ length (seen_after (calls_of self.old)) }
         ensures written { OnOk result (seen_after (calls_of self.new) ≡ overlaid (seen_after (calls_of self.old)) at bytes.now) }
+        ensures no_room { IsErrOf result DeviceError.NoRoom → Torn at (length bytes.now) (seen_after (calls_of self.old)) (seen_after (calls_of self.new)) }
         ensures crash { Follows (Torn at (length bytes.now)) (MayLeave (calls_of self.old)) (MayLeave (calls_of self.new)) }
         ensures time { TimePasses (calls_of self.old) (calls_of self.new) }
         ensures cause { HasCause (faults_in (calls_of self.old)) (faults_in (calls_of self.new)) result }
@@ -83,6 +84,7 @@ impl<T: Read + Write + Seek + OpenFile + Drop> Account<T> {
         self.is_dirty = true;
         match write_all(&mut self.file, at, bytes) {
             Ok(()) => Ok(()),
+            Err(DeviceError::NoRoom) => Err(DeviceError::NoRoom),
             Err(error) => {
                 self.has_failed = true;
                 Err(error)

@@ -265,7 +265,7 @@ impl<T: Read + Write + Seek + OpenFile + Drop> Noted<T> {
     {
         match wrote {
             Wrote::Bytes(count) => self.note(WRITTEN, at, true, &bytes[..count]),
-            Wrote::Nothing => self.refuse(),
+            Wrote::Nothing | Wrote::Full(_) => self.refuse(),
             Wrote::Failed(_) => self.note(WRITTEN, at, false, bytes),
         }
     }
@@ -457,7 +457,8 @@ fn write_on<T: Write>(file: &mut T, at: usize, bytes: &[u8]) -> Wrote
     told(at, bytes, file.write(bytes))
 }
 
-// What a call did, by its answer. A call that takes none of some bytes has failed.
+// What a call did, by its answer. A call that takes none of some bytes has failed. One that found no room has written nothing: if there is
+// room for a part, the system takes that, and says how much.
 fn told(at: usize, _bytes: &[u8], answer: io::Result<usize>) -> Wrote
     requires offset { at < 2 ^ 63 }
     requires bound { IfOk answer (λ count. count ≤ length _bytes.now) }
@@ -466,7 +467,15 @@ fn told(at: usize, _bytes: &[u8], answer: io::Result<usize>) -> Wrote
     match answer {
         Ok(0) => Wrote::Failed(io::ErrorKind::WriteZero.into()),
         Ok(count) => Wrote::Bytes(count),
-        Err(error) if error.kind() == io::ErrorKind::Interrupted => Wrote::Nothing,
+        Err(error) if is_want_of_room(error.kind()) => Wrote::Full(error),
         Err(error) => Wrote::Failed(error),
     }
+}
+
+// Whether an error says that there was no room: on the disk, in what the owner may have of it, or in what the process may write.
+fn is_want_of_room(kind: io::ErrorKind) -> bool {
+    matches!(
+        kind,
+        io::ErrorKind::StorageFull | io::ErrorKind::QuotaExceeded | io::ErrorKind::FileTooLarge
+    )
 }

@@ -192,7 +192,7 @@ impl<F: Files> Write for NewFile<'_, F> {
                 Ok(count)
             }
             Wrote::Nothing => Err(ErrorKind::Interrupted.into()),
-            Wrote::Failed(error) => {
+            Wrote::Full(error) | Wrote::Failed(error) => {
                 self.has_failed = true;
                 Err(error)
             }

@@ -1,7 +1,7 @@
 //! Bytes written by as many calls as the system takes for them.
 
-ghost use Rattle.std.specs.Prelude.{◌≡◌, ◌<◌, ◌≤◌, ◌∷◌, [], false, IfErr, IfOk, length, OnErr, OnOk, true};
-ghost use Rattle.cedar_disk.specs.Words.{AreWritten, compaction_path, faults_in, is_locked_after, IsUnplaced, MayLeave, named, Only, opened, renamed, seen_after, Spoils};
+ghost use Rattle.std.specs.Prelude.{◌≡◌, ◌<◌, ◌≤◌, ◌∷◌, [], false, IfErr, IfOk, IsErrOf, length, OnErr, OnOk, true};
+ghost use Rattle.cedar_disk.specs.Words.{AreWritten, AreWrittenInPart, compaction_path, faults_in, is_locked_after, IsUnplaced, MayLeave, named, Only, opened, renamed, seen_after, Spoils};
 ghost use Rattle.cedar_disk.specs.NotedFiles.{is_beside, noted_calls};
 ghost use Rattle.cedar_disk.specs.PathFiles.{place_path};
 
@@ -20,7 +20,8 @@ use std::rt::Files;
 /// Writes all of the bytes from the byte `at` on.
 ///
 /// # Errors
-/// `Failed` if a call failed. Then any of the bytes may be there.
+/// `NoRoom` if there was no room for all of them: then the first of them were written. `Failed` if a call failed: then any of them may be
+/// there.
 pub(crate) fn write_all<T: Read + Write + Seek + OpenFile + Drop>(
     file: &mut Noted<T>,
     at: usize,
@@ -29,7 +30,7 @@ pub(crate) fn write_all<T: Read + Write + Seek + OpenFile + Drop>(
     requires within { at ≤ length (seen_after (noted_calls file.old)) }
     ensures written { OnOk result (AreWritten at (length bytes.now) bytes.now (noted_calls file.old) (noted_calls file.new)) }
     ensures spoils { Spoils at (length bytes.now) (noted_calls file.old) (noted_calls file.new) }
-    ensures failed { IfErr result (λ e. e ≡ DeviceError.Failed) }
+    ensures no_room { IsErrOf result DeviceError.NoRoom → AreWrittenInPart at bytes.now (noted_calls file.old) (noted_calls file.new) }
     ensures faults { OnErr result (faults_in (noted_calls file.old) < faults_in (noted_calls file.new)) }
     ensures name { is_beside file.new ≡ is_beside file.old }
 {
@@ -44,6 +45,7 @@ pub(crate) fn write_all<T: Read + Write + Seek + OpenFile + Drop>(
                 }
                 tries -= 1;
             }
+            Wrote::Full(_) => return Err(DeviceError::NoRoom),
             Wrote::Failed(_) => return Err(DeviceError::Failed),
         }
     }
@@ -54,7 +56,7 @@ pub(crate) fn write_all<T: Read + Write + Seek + OpenFile + Drop>(
 /// it with its name.
 ///
 /// # Errors
-/// `Failed` if a call failed. If a file was made, it is removed then.
+/// `NoRoom` if there was no room for the bytes, `Failed` if a call failed. If a file was made, it is removed then.
 pub(crate) fn make_file<F: Files + Drop, A: Allocator + Copy>(
     place: &Place<F, A>,
     like: &Noted<F::File>,

@@ -9,6 +9,8 @@ pub(crate) enum Wrote {
     Bytes(usize),
     /// None: a signal came first.
     Nothing,
+    /// None: there was no room for the first of them.
+    Full(io::Error),
     /// It failed, so any of them may be there.
     Failed(io::Error),
 }

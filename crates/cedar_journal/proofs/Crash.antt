@@ -101,6 +101,20 @@ module _ (file : List ℕ) (f : Format) (end : ℕ) (split : file ≡ take end f
       let from = follows c left in
       closed_stands c (drop (end + 1) c) (torn_behind (take end file) end ends n (drop (end + 1) file) c (subst (λ d. Torn (end + 1) n d c) (only from.0 from.1 ∙ split) from.2))
 
+  -- where a write behind the closed gate found no room, all up to the gate stays
+  pub long_enough : (n : ℕ) (c : List ℕ) → Torn (end + 1) n file c → end + 1 ≤ length c
+  long_enough n c torn = omega (arith, torn.no_shorter, ap length split, length-append (take end file) (0 ∷ drop (end + 1) file), ends)
+
+  pub behind_gate : (n : ℕ) (c : List ℕ) → Torn (end + 1) n file c → take (end + 1) c ≡ take end file ++ 0 ∷ []
+  behind_gate n c torn =
+      ap (λ (l : List ℕ). take (end + 1) l) (torn_behind (take end file) end ends n (drop (end + 1) file) c (subst (λ d. Torn (end + 1) n d c) split torn))
+      ∙ through (take end file) end ends 0 (drop (end + 1) c)
+
+  pub gated_stands : (c : List ℕ) → take (end + 1) c ≡ take end file ++ 0 ∷ [] → recovered c ≡ recovered file
+  gated_stands c is =
+      closed_stands c (drop (end + 1) c)
+      (sym (take-append-drop (end + 1) c) ∙ ap (λ (l : List ℕ). l ++ drop (end + 1) c) is ∙ append_assoc (take end file) (0 ∷ []) (drop (end + 1) c))
+
   pub staged_file : (bytes c : List ℕ) → Holds file (end + 1) bytes c → c ≡ take end file ++ 0 ∷ (bytes ++ drop (end + 1 + length bytes) (take end file ++ 0 ∷ drop (end + 1) file))
   staged_file bytes c holds = written_behind (take end file) end ends bytes (drop (end + 1) file) c (subst (λ d. Holds d (end + 1) bytes c) split holds)
 

@@ -1,6 +1,6 @@
 //! A file as the journal sees it: what a read returns, and what a crash may leave.
 
-ghost use Rattle.std.specs.Prelude.{◌≡◌, ◌≤◌, IfOk, length, List, OnOk, take, ℕ};
+ghost use Rattle.std.specs.Prelude.{◌≡◌, ◌≤◌, IfOk, IsErrOf, length, List, OnOk, take, ℕ};
 ghost use Rattle.cedar_journal.specs.Words.{Cut, Elapses, Follows, HasCause, Holds, Memory, Only, Torn};
 
 use std::alloc::{AllocError, AllocFailed, Allocator};
@@ -10,6 +10,8 @@ use std::alloc::{AllocError, AllocFailed, Allocator};
 pub enum DeviceError {
     /// An allocation failed.
     Memory,
+    /// A write found no room. Some of its bytes may be there, and the file can still be cut, synced and written to.
+    NoRoom,
     /// The disk failed. What it holds is unknown until the file is opened again.
     Failed,
 }
@@ -49,7 +51,7 @@ pub trait Device {
     /// What a crash at some moment from that one on might have left, during a call or between two.
     ghost left_since: { Self → ℕ → List ℕ → Type 0 };
 
-    /// How often the disk has failed.
+    /// How often the disk has failed, or a write has found no room.
     ghost faults: { Self → ℕ };
 
     /// Returns all the bytes.
@@ -57,8 +59,9 @@ pub trait Device {
     /// # Errors
     /// `Memory` if an allocation failed, `Failed` if the disk failed.
     fn read<A: Allocator>(&mut self, alloc: A) -> Result<Vec<u8, A>, DeviceError>
-        //= The trait of devices: what each call does to what a read returns and to what a crash may leave, and that `Failed` is returned
-        //  only if the disk has failed. [with seen, crash, time, cause; also write_at.written, write_at.crash, write_at.time,
+        //= The trait of devices: what each call does to what a read returns and to what a crash may leave; that a write which found no
+        //  room leaves the bytes outside of its range; and that `Failed` is returned only if the disk has failed, and `NoRoom` only if a
+        //  write has found no room. [with seen, crash, time, cause; also write_at.written, write_at.no_room, write_at.crash, write_at.time,
         //  write_at.cause, cut.cut, cut.crash, cut.time, cut.cause, sync.durable, sync.seen, sync.crash, sync.time, sync.cause]
         ensures bytes { IfOk result (λ bytes. bytes.items ≡ seen self.old) }
         ensures seen { seen self.new ≡ seen self.old }
@@ -70,10 +73,12 @@ pub trait Device {
     /// the end of what it would have left before.
     ///
     /// # Errors
-    /// `Memory` if an allocation failed, `Failed` if the disk failed.
+    /// `Memory` if an allocation failed, `Failed` if the disk failed. `NoRoom` if there was no room for all of the bytes: then any bytes may
+    /// be read in the range, and maybe fewer than it has past the end.
     fn write_at(&mut self, at: usize, bytes: &[u8]) -> Result<(), DeviceError>
         requires { at ≤ length (seen self.old) }
         ensures written { OnOk result (Holds (seen self.old) at bytes.now (seen self.new)) }
+        ensures no_room { IsErrOf result DeviceError.NoRoom → Torn at (length bytes.now) (seen self.old) (seen self.new) }
         ensures crash { Follows (Torn at (length bytes.now)) (may_leave self.old) (may_leave self.new) }
         ensures time { Elapses (moment self.old) (moment self.new) (left_since self.old) (left_since self.new) (may_leave self.new) }
         ensures cause { HasCause (faults self.old) (faults self.new) result };

@@ -7,7 +7,7 @@ ghost use Rattle.std.specs.Prelude.{◌+◌, ◌<◌, ◌^◌, ◌≡◌, ◌≤
 ghost use Rattle.cedar_journal.specs.Words.{added, Device, HasExtent, IfKept, image_bytes, extent_end, is_at_rest, IsBeforeOrAfter, IsSettled, IsStaged, LeavesOnly, Only, payload_of, payloads_of, recovered, StandsForEither};
 
 use crate::records::{ends_closed, open_gate};
-use crate::repair::make_ready;
+use crate::repair::{cut_off, make_ready};
 use crate::{Device, DeviceError, Extent, Format, Frame, Image, ReplaceDevice, ReplaceError};
 use std::alloc::Allocator;
 
@@ -19,7 +19,9 @@ pub const MAX_END: usize = 1 << 60;
 pub enum JournalError {
     /// The records end after `MAX_END`.
     Full,
-    /// The device's error.
+    /// The device had no room for the record. It isn't written, and the journal goes on.
+    NoRoom,
+    /// The device failed, with this error.
     Device(DeviceError),
 }
 
@@ -126,7 +128,8 @@ impl<D: Device> Journal<D> {
     /// another `stage` writes over it.
     ///
     /// # Errors
-    /// `Full` if the records end after `MAX_END`: nothing is written. `Device` if the device fails: open the file again.
+    /// `Full` if the records end after `MAX_END`: nothing is written. `NoRoom` if the device has no room for the record: what the write has
+    /// left was cut off, and the journal goes on. `Device` if the device fails: open the file again.
     pub fn stage<A: Allocator>(&mut self, frame: &Frame<A>) -> Result<(), JournalError>
         requires { IsSettled D.seen D.may_leave self.old.device self.old.format self.old.end }
 
@@ -140,8 +143,14 @@ impl<D: Device> Journal<D> {
         ensures any_moment { LeavesOnly D.moment D.left_since self.old.device self.new.device
             (λ c. recovered c ≡ recovered (D.seen self.old.device)) }
 
-        //= Staging fails exactly if the records end after 2^60, and then nothing is written, or if the device fails; `Failed` is returned
-        //  only if the disk has failed. [with far, untouched, failed, faults]
+        //= If the device had no room for a record, the file is at rest and on the disk, and stands for the same payloads. `NoRoom` is
+        //  returned only if a write found no room. [with same_left, wanting]
+        ensures no_room { IsErrOf result JournalError.NoRoom → IsSettled D.seen D.may_leave self.new.device self.new.format self.new.end }
+        ensures same_left { IsErrOf result JournalError.NoRoom → recovered (D.seen self.new.device) ≡ recovered (D.seen self.old.device) }
+        ensures wanting { IsErrOf result JournalError.NoRoom → D.faults self.old.device < D.faults self.new.device }
+
+        //= Otherwise staging fails exactly if the records end after 2^60, and then nothing is written, or if the device fails; `Failed` is
+        //  returned only if the disk has failed. [with far, untouched, failed, faults]
         ensures full { IsErrOf result JournalError.Full → 2 ^ 60 ≤ self.old.end }
         ensures far { 2 ^ 60 ≤ self.old.end → IsErrOf result JournalError.Full }
         ensures untouched { IsErrOf result JournalError.Full → self.new ≡ self.old }
@@ -151,16 +160,26 @@ impl<D: Device> Journal<D> {
         if self.end >= MAX_END {
             return Err(JournalError::Full);
         }
-        self.device
-            .write_at(self.end + 1, frame.bytes(self.format))?;
-        self.device.sync()?;
-        Ok(())
+        match self
+            .device
+            .write_at(self.end + 1, frame.bytes(self.format))
+        {
+            Ok(()) => {
+                self.device.sync()?;
+                Ok(())
+            }
+            Err(DeviceError::NoRoom) => {
+                cut_off(&mut self.device, self.end + 1)?;
+                Err(JournalError::NoRoom)
+            }
+            Err(error) => Err(JournalError::Device(error)),
+        }
     }
 
     /// Opens the gate of the record that was staged. On `Ok` it is acknowledged: from then on each crash leaves a file that has it.
     ///
     /// # Errors
-    /// The device's. The record may or may not count: open the file again.
+    /// The device's, also `NoRoom`. The record may or may not count: open the file again.
     pub fn commit<A: Allocator>(&mut self, frame: &Frame<A>) -> Result<(), DeviceError>
         requires { IsStaged D.seen D.may_leave self.old.device self.old.format self.old.end (payload_of frame.now) }
 
@@ -171,6 +190,10 @@ impl<D: Device> Journal<D> {
         //= A crash at any moment of it leaves the payloads from before it, with or without the new one.
         ensures any_moment { LeavesOnly D.moment D.left_since self.old.device self.new.device
             (IsBeforeOrAfter (recovered (D.seen self.old.device)) (payload_of frame.now)) }
+
+        //= An acknowledgement leaves the format, and if it fails, where the records end. [with format]
+        ensures end { OnErr result (self.new.end ≡ self.old.end) }
+        ensures format { self.new.format ≡ self.old.format }
 
         //= An acknowledgement returns `Failed` only if the disk has failed. [with faults]
         ensures failed { IsErrOf result DeviceError.Failed → D.faults self.old.device < D.faults self.new.device }
@@ -185,8 +208,8 @@ impl<D: Device> Journal<D> {
     /// Writes a record and makes it count, by `stage` and `commit`. On `Ok` it is acknowledged.
     ///
     /// # Errors
-    /// `Full` if the records end after `MAX_END`: nothing is written. `Device` if the device fails: the record may or may not count;
-    /// open the file again.
+    /// `Full` if the records end after `MAX_END`: nothing is written. `NoRoom` as of `stage`. `Device` if the device fails: the record may or
+    /// may not count; open the file again.
     pub fn append<A: Allocator>(&mut self, frame: &Frame<A>) -> Result<(), JournalError>
         requires { IsSettled D.seen D.may_leave self.old.device self.old.format self.old.end }
 
@@ -198,8 +221,19 @@ impl<D: Device> Journal<D> {
         ensures any_moment { LeavesOnly D.moment D.left_since self.old.device self.new.device
             (IsBeforeOrAfter (recovered (D.seen self.old.device)) (payload_of frame.now)) }
 
-        //= Appending fails exactly if the records end after 2^60, and then nothing is written, or if the device fails; `Failed` is returned
-        //  only if the disk has failed. [with far, untouched, failed, faults]
+        //= If the device had no room for the record, it isn't appended: the file is at rest and on the disk, and stands for the payloads
+        //  from before; a crash leaves these. `NoRoom` is returned only if a write found no room. [with same_left, kept, wanting, end,
+        //  format]
+        ensures no_room { IsErrOf result JournalError.NoRoom → IsSettled D.seen D.may_leave self.new.device self.new.format self.new.end }
+        ensures same_left { IsErrOf result JournalError.NoRoom → recovered (D.seen self.new.device) ≡ recovered (D.seen self.old.device) }
+        ensures kept { IsErrOf result JournalError.NoRoom → LeavesOnly D.moment D.left_since self.old.device self.new.device
+            (λ c. recovered c ≡ recovered (D.seen self.old.device)) }
+        ensures wanting { IsErrOf result JournalError.NoRoom → D.faults self.old.device < D.faults self.new.device }
+        ensures end { OnErr result (self.new.end ≡ self.old.end) }
+        ensures format { self.new.format ≡ self.old.format }
+
+        //= Otherwise appending fails exactly if the records end after 2^60, and then nothing is written, or if the device fails; `Failed` is
+        //  returned only if the disk has failed. [with far, untouched, failed, faults]
         ensures full { IsErrOf result JournalError.Full → 2 ^ 60 ≤ self.old.end }
         ensures far { 2 ^ 60 ≤ self.old.end → IsErrOf result JournalError.Full }
         ensures untouched { IsErrOf result JournalError.Full → self.new ≡ self.old }

@@ -1,7 +1,7 @@
 //! Calls that make a file that a crash may have left ready for the next record. A crash may cut off each of these calls too.
 
-ghost use Rattle.std.specs.Prelude.{◌<◌, ◌∷◌, ◌≡◌, ◌≤◌, [], IfOk, IsErrOf, OnOk, Some};
-ghost use Rattle.cedar_journal.specs.Words.{extent_end, HasExtent, HasRecords, IsNewFile, IsSettled, LeavesOnly, Only, recovered};
+ghost use Rattle.std.specs.Prelude.{◌<◌, ◌∷◌, ◌≡◌, ◌≤◌, [], IfOk, IsErrOf, length, List, OnOk, Some, take, ℕ};
+ghost use Rattle.cedar_journal.specs.Words.{extent_end, HasExtent, HasFront, HasRecords, IsNewFile, IsSettled, LeavesOnly, Only, recovered};
 
 use crate::records::{HEADER_FRAME, HEADER_LEN};
 use crate::{Device, DeviceError, Extent, Format};
@@ -47,6 +47,21 @@ fn close_behind<D: Device>(device: &mut D, format: Format, end: usize) -> Result
     // The cut has to be on the disk first: behind a gate that is torn open, what was there would count.
     device.sync()?;
     device.write_at(end, &[0])?;
+    device.sync()?;
+    Ok(())
+}
+
+/// Cuts off what a write has left that found no room: whatever is there after the first `len` bytes, which are on the disk.
+pub(crate) fn cut_off<D: Device>(device: &mut D, len: usize) -> Result<(), DeviceError>
+    requires within { len ≤ length (D.seen device.old) }
+    requires front { (c : List ℕ) → D.may_leave device.old c → HasFront len (D.seen device.old) c }
+    ensures cut { OnOk result (D.seen device.new ≡ take len (D.seen device.old)) }
+    ensures durable { OnOk result (Only (D.seen device.new) (D.may_leave device.new)) }
+    ensures any_moment { LeavesOnly D.moment D.left_since device.old device.new (HasFront len (D.seen device.old)) }
+    ensures failed { IsErrOf result DeviceError.Failed → D.faults device.old < D.faults device.new }
+    ensures faults { D.faults device.old ≤ D.faults device.new }
+{
+    device.cut(len)?;
     device.sync()?;
     Ok(())
 }

@@ -1,3 +1,4 @@
 pub mod Appending
 pub mod Opening
+pub mod Withdrawing
 pub mod Working

@@ -11,7 +11,7 @@ use Rattle.cedar_plan.specs.Safety.{CrashLeaves}
 use Rattle.cedar_plan.specs.Works.{AreCarriedOut, FailsIn, Work, all_done, cut_to, after_work, write_to}
 
 -- one call more, before and after which a crash leaves what has P
-leaves_one : (call : Call) (old : List Call) (P : List ℕ → Type 0) → ((c : List ℕ) → MayLeave old c → P c) → ((c : List ℕ) → MayLeave (call ∷ old) c → P c)
+pub leaves_one : (call : Call) (old : List Call) (P : List ℕ → Type 0) → ((c : List ℕ) → MayLeave old c → P c) → ((c : List ℕ) → MayLeave (call ∷ old) c → P c)
     → CrashLeaves old (call ∷ old) P
 leaves_one call old P here there =
     moments.weakens length LeftSince old (call ∷ old) (λ c. MayLeave old c ⊎ P c) P (λ c. ⊎_elim (here c) (λ (p : P c). p))

@@ -3,5 +3,5 @@ pub use Rattle.cedar_journal.specs.Formats.{frame_of, opening, overhead}
 pub use Rattle.cedar_journal.specs.declared.format.Format.{Format}
 pub use Rattle.cedar_journal.specs.declared.format.Format.TheVariants.{Plain, Summed}
 pub use Rattle.cedar_plan.specs.Plans.{header, works_of}
-pub use Rattle.cedar_plan.specs.Safety.{AppendsAreSafe, OpeningsAreSafe}
+pub use Rattle.cedar_plan.specs.Safety.{AppendsAreSafe, OpeningsAreSafe, WithdrawalsAreSafe}
 pub use Rattle.cedar_plan.specs.Works.{append_works, opening_works}

@@ -7,5 +7,5 @@
 mod laws;
 mod plan;
 
-pub use laws::{appends_are_safe, openings_are_safe};
+pub use laws::{appends_are_safe, openings_are_safe, withdrawals_are_safe};
 pub use plan::{CUT, HEADER, Plan, Step, WRITE, plan_append, plan_opening, record_of};

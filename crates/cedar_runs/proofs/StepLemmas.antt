@@ -65,6 +65,19 @@ module _ {T A D : Type 0} (seen : D → List ℕ) (moment : D → ℕ) (left_sin
     crash = left;
   }
 
+  -- there was no room, and the file stands for the dictionary as it was
+  pub withdrawn_step : (after : State) → old.failed ≡ false → new.failed ≡ false → state new.words ≡ state old.words → IsReadyStore seen may_leave state new → IsLeft after
+      → IsCallStep moment left_since may_leave (point_of state old) after Nothing (point_of state new)
+  withdrawn_step after usable still is ready left = record {
+    held = is;
+    failed = still ∙ sym usable;
+    known = λ sure known. record {
+      one = λ _. known.one usable ∙ sym is;
+      left = λ file now. let there = ready.consistent still in inr (ap state_of (there.settled.durable file now) ∙ there.same);
+    };
+    crash = left;
+  }
+
   pub failed_step : (after : State) → new.failed ≡ true → state new.words ≡ after → moment old.journal.device ≤ moment new.journal.device
       → under_way old.failed (state old.words) after ≡ after → IsLeft after → IsCallStep moment left_since may_leave (point_of state old) after Failed (point_of state new)
   failed_step after broken is later way left = record {
@@ -107,7 +120,7 @@ module _ {T A D : Type 0} (seen : D → List ℕ) (moment : D → ℕ) (left_sin
   -- ---- a change that returned an error
 
   module _ {X : Type 0} (after : State) (r : Result X DurableError) (leaves : CrashLeavesEither moment left_since state old new after) (same : old.failed ≡ true → new ≡ old)
-      (refused : old.failed ≡ true → r ≡ Err error.Failed) where
+      (refused : old.failed ≡ true → r ≡ Err error.Failed) (ready : IsReadyStore seen may_leave state new) where
     usable_at : (b : Bool) → old.failed ≡ b → (e : DurableError) → r ≡ Err e → (e ≡ error.Failed → ⊥) → old.failed ≡ false
     usable_at false is e told other = is
     usable_at true is e told other = let both : ◌≡◌ {A = Result X DurableError} (Err e) (Err error.Failed) = sym told ∙ refused is in absurd (other (let one : e ≡ error.Failed = cc in one))
@@ -121,6 +134,9 @@ module _ {T A D : Type 0} (seen : D → List ℕ) (moment : D → ℕ) (left_sin
     error_step (error.Device d) told left =
         let usable = usable_at old.failed refl (error.Device d) told (λ other. let apart : error.Device d ≡ error.Failed = other in cc) in
         failed_step after left.0 left.1 (leaves usable).later (ap (λ b. under_way b (state old.words) after) usable) (change_left after leaves same)
+    error_step error.NoRoom told left =
+        let usable = usable_at old.failed refl error.NoRoom told (λ other. let apart : error.NoRoom ≡ error.Failed = other in cc) in
+        withdrawn_step after usable left.0 left.2 ready (change_left after leaves same)
     error_step error.Foreign told left = kept error.Foreign left
     error_step (error.Damaged place) told left = kept (error.Damaged place) left
     error_step error.Corrupt told left = kept error.Corrupt left

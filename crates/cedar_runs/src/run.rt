@@ -164,6 +164,7 @@ fn outcome_of(error: DurableError) -> Outcome
         DurableError::RefusedAt { .. } => Outcome::Nothing,
         DurableError::TooLong => Outcome::Nothing,
         DurableError::Full => Outcome::Nothing,
+        DurableError::NoRoom => Outcome::Nothing,
         DurableError::Failed => Outcome::Nothing,
     }
 }

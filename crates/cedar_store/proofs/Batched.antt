@@ -63,6 +63,7 @@ module _ (bytes b p : List ℕ) (at : ℕ) (here : b ≡ drop at bytes) (there :
   stopped first s (error.Damaged place) same none = none
   stopped first s error.TooLong same none = none
   stopped first s error.Full same none = none
+  stopped first s error.NoRoom same none = none
   stopped first s (error.Device e) same none = none
   stopped first s error.Failed same none = none
 

@@ -202,6 +202,10 @@ pub on_ok : {X E P Q : Type 0} (r : Result X E) → (P → Q) → OnOk r P → O
 on_ok (Ok x) so holds = so holds
 on_ok (Err e) so holds = tt
 
+pub on_err : {X E : Type 0} {P Q : E → Type 0} (r : Result X E) → ((e : E) → P e → Q e) → IfErr r P → IfErr r Q
+on_err (Ok x) so holds = tt
+on_err (Err e) so holds = so e holds
+
 -- a file that has one record more, and was looked at
 pub still_more : {S : Type 0} (before between after payload : List ℕ) → recovered between ≡ added payload (recovered before) → (after ≡ between) ⊎ S
     → (recovered after ≡ added payload (recovered before)) ⊎ S

@@ -11,4 +11,5 @@ pub mod Recorded
 pub mod Refused
 pub mod States
 pub mod Undone
+pub mod Unwritten
 pub mod Withdrawn

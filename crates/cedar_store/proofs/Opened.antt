@@ -25,6 +25,7 @@ open_cause file before now (error.Refused e) cause = inr cause
 open_cause file before now (error.RefusedAt index e) cause = cause
 open_cause file before now error.TooLong cause = cause
 open_cause file before now error.Full cause = cause
+open_cause file before now error.NoRoom cause = cause
 open_cause file before now (error.Device e) cause = absurd cause
 open_cause file before now error.Failed cause = cause
 
@@ -32,7 +33,7 @@ pub load_cause : (bytes file : List ℕ) (before now : ℕ) (e : DurableError) �
 load_cause bytes file before now e same cause = open_cause file before now e (subst (λ f. LoadCause f e) same cause)
 
 pub read_cause : (file : List ℕ) (before now : ℕ) (e : DurableError) → ReadCause before now e → OpenCause file before now e
-read_cause file before now (error.Device e) cause = λ _. cause.1
+read_cause file before now (error.Device e) cause = λ _. cause
 read_cause file before now (error.Refused e) cause = inl cause
 read_cause file before now error.Foreign cause = absurd cause
 read_cause file before now (error.Damaged place) cause = absurd cause
@@ -40,11 +41,5 @@ read_cause file before now error.Corrupt cause = absurd cause
 read_cause file before now (error.RefusedAt index e) cause = absurd cause
 read_cause file before now error.TooLong cause = absurd cause
 read_cause file before now error.Full cause = absurd cause
+read_cause file before now error.NoRoom cause = absurd cause
 read_cause file before now error.Failed cause = absurd cause
-
--- a record that isn't written is not, once there is room for it, for the device alone
-pub journal_cause : (end before now : ℕ) (e : JournalError) (r : Result (Unit {0}) JournalError) (told : DurableError) → told ≡ journal_error e → r ≡ Err e
-    → (IsErrOf r journal.Full → 2 ^ 60 ≤ end) → end < 2 ^ 60 → (IsErrOf r (journal.Device Failed) → before < now) → IsOfDevice before now told
-journal_cause end before now journal.Full r told is was full room failed = let far = full was in absurd (omega (arith, room, far))
-journal_cause end before now (journal.Device d) r told is was full room failed =
-    subst (λ t. IsOfDevice before now t) (sym is) (λ same. failed (was ∙ ap (λ x. Err (journal.Device x)) same))

@@ -56,6 +56,7 @@ module _ (bytes b p : List ℕ) (f : Format) (at n : ℕ) (here : b ≡ drop at 
   stopped s outcome (error.RefusedAt index e) same none = none
   stopped s outcome error.TooLong same none = none
   stopped s outcome error.Full same none = none
+  stopped s outcome error.NoRoom same none = none
   stopped s outcome (error.Device e) same none = none
   stopped s outcome error.Failed same none = none
 
@@ -78,6 +79,7 @@ load_cause file f end (error.Damaged place) records none = absurd none
 load_cause file f end (error.RefusedAt index e) records none = none
 load_cause file f end error.TooLong records none = none
 load_cause file f end error.Full records none = none
+load_cause file f end error.NoRoom records none = none
 load_cause file f end (error.Device e) records none = none
 load_cause file f end error.Failed records none = none
 

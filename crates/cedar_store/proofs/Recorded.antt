@@ -102,6 +102,7 @@ longer_cause n m error.Foreign low cause = cause
 longer_cause n m (error.Damaged place) low cause = cause
 longer_cause n m error.Corrupt low cause = cause
 longer_cause n m error.Full low cause = cause
+longer_cause n m error.NoRoom low cause = cause
 longer_cause n m (error.Device e) low cause = cause
 longer_cause n m error.Failed low cause = cause
 
@@ -113,6 +114,7 @@ frame_cause end n error.Foreign cause = cause
 frame_cause end n (error.Damaged place) cause = cause
 frame_cause end n error.Corrupt cause = cause
 frame_cause end n error.Full cause = absurd cause
+frame_cause end n error.NoRoom cause = cause
 frame_cause end n (error.Device e) cause = cause
 frame_cause end n error.Failed cause = cause
 

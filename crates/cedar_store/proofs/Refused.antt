@@ -10,6 +10,7 @@ refused_cause changes end (error.RefusedAt index e) cause = cause
 refused_cause changes end (error.Refused e) cause = absurd cause
 refused_cause changes end error.TooLong cause = absurd cause
 refused_cause changes end error.Full cause = absurd cause
+refused_cause changes end error.NoRoom cause = absurd cause
 refused_cause changes end error.Foreign cause = cause
 refused_cause changes end (error.Damaged place) cause = cause
 refused_cause changes end error.Corrupt cause = cause
@@ -21,6 +22,7 @@ batch_cause failed changes end before now (error.RefusedAt index e) cause = caus
 batch_cause failed changes end before now (error.Refused e) cause = cause
 batch_cause failed changes end before now error.TooLong cause = cause
 batch_cause failed changes end before now error.Full cause = cause
+batch_cause failed changes end before now error.NoRoom cause = absurd cause
 batch_cause failed changes end before now error.Foreign cause = cause
 batch_cause failed changes end before now (error.Damaged place) cause = cause
 batch_cause failed changes end before now error.Corrupt cause = cause
@@ -28,13 +30,14 @@ batch_cause failed changes end before now (error.Device e) cause = absurd cause
 batch_cause failed changes end before now error.Failed cause = absurd cause
 
 -- what isn't prepared wasn't refused by the device
-pub stays_prepared : (changes : List Change) (end : ℕ) (e : DurableError) (fails stays : Type 0) → PrepareCause changes end e → stays → Leaves e fails stays
-stays_prepared changes end (error.RefusedAt index e) fails stays cause same = same
-stays_prepared changes end (error.Refused e) fails stays cause same = same
-stays_prepared changes end error.TooLong fails stays cause same = same
-stays_prepared changes end error.Full fails stays cause same = same
-stays_prepared changes end error.Foreign fails stays cause same = same
-stays_prepared changes end (error.Damaged place) fails stays cause same = same
-stays_prepared changes end error.Corrupt fails stays cause same = same
-stays_prepared changes end (error.Device e) fails stays cause same = absurd cause
-stays_prepared changes end error.Failed fails stays cause same = same
+pub stays_prepared : (changes : List Change) (end : ℕ) (e : DurableError) (fails lacks stays : Type 0) → PrepareCause changes end e → stays → Leaves e fails lacks stays
+stays_prepared changes end (error.RefusedAt index e) fails lacks stays cause same = same
+stays_prepared changes end (error.Refused e) fails lacks stays cause same = same
+stays_prepared changes end error.TooLong fails lacks stays cause same = same
+stays_prepared changes end error.Full fails lacks stays cause same = same
+stays_prepared changes end error.NoRoom fails lacks stays cause same = absurd cause
+stays_prepared changes end error.Foreign fails lacks stays cause same = same
+stays_prepared changes end (error.Damaged place) fails lacks stays cause same = same
+stays_prepared changes end error.Corrupt fails lacks stays cause same = same
+stays_prepared changes end (error.Device e) fails lacks stays cause same = absurd cause
+stays_prepared changes end error.Failed fails lacks stays cause same = same

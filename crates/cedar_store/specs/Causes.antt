@@ -37,7 +37,7 @@ OpenCause file before now e = LoadCause file e
 
 -- why it wasn't read: there was no memory for its bytes, or the disk failed
 abbrev pub ReadCause : ℕ → ℕ → DurableError → Type 0
-ReadCause before now (error.Device e) = (e ≡ Failed) × (before < now)
+ReadCause before now (error.Device e) = before < now
 ReadCause before now (error.Refused e) = e ≡ cedar.Memory
 ReadCause before now _ = ⊥
 
@@ -65,18 +65,26 @@ abbrev pub IsOfDevice : ℕ → ℕ → DurableError → Type 0
 IsOfDevice before now (error.Device e) = e ≡ Failed → before < now
 IsOfDevice before now _ = ⊥
 
+-- That, or it had no room for a record. The flags: whether the store has failed before and now.
+abbrev pub IsUnwritten : ℕ → ℕ → Bool → Bool → DurableError → Type 0
+IsUnwritten before now was failed (error.Device e) = (e ≡ Failed → before < now) × (failed ≡ true)
+IsUnwritten before now was failed error.NoRoom = (before < now) × (failed ≡ was)
+IsUnwritten before now was failed _ = ⊥
+
 -- Why a change wasn't made: the store has failed before, the pair has a fault, the dictionary or memory for the record was wanting, the
--- payload has too many bytes, the records end too far back, or the device failed.
+-- payload has too many bytes, the records end too far back, the device had no room for the record, or it failed.
 abbrev pub ChangeCause : Bool → Option CedarError → ℕ → ℕ → ℕ → ℕ → DurableError → Type 0
 ChangeCause failed fault end n before now error.Failed = failed ≡ true
 ChangeCause failed fault end n before now (error.Refused e) = (fault ≡ Some e) ⊎ IsShortage e
 ChangeCause failed fault end n before now (error.Device e) = e ≡ Failed → before < now
+ChangeCause failed fault end n before now error.NoRoom = before < now
 ChangeCause failed fault end n before now e = FrameCause end n e
 
 -- why an erasure wasn't made: as of a change, but that no pair has a fault, and no slots are asked for
 abbrev pub EraseCause : Bool → ℕ → ℕ → ℕ → ℕ → DurableError → Type 0
 EraseCause failed end n before now error.Failed = failed ≡ true
 EraseCause failed end n before now (error.Device e) = e ≡ Failed → before < now
+EraseCause failed end n before now error.NoRoom = before < now
 EraseCause failed end n before now e = FrameCause end n e
 
 -- which of some changes was refused, and why: its pair has that fault, or memory or slots were wanting
@@ -89,13 +97,15 @@ abbrev pub PrepareCause : List Change → ℕ → DurableError → Type 0
 PrepareCause changes end (error.RefusedAt index e) = IsRefusedAt changes (error.RefusedAt index e)
 PrepareCause changes end e = FrameCause end (batch_length changes) e
 
--- why a batch wasn't made: the store has failed before, or it wasn't prepared, or the device failed
+-- why a batch wasn't made: the store has failed before, or it wasn't prepared, or the device had no room for its record or failed
 abbrev pub BatchCause : Bool → List Change → ℕ → ℕ → ℕ → DurableError → Type 0
 BatchCause failed changes end before now error.Failed = failed ≡ true
 BatchCause failed changes end before now (error.Device e) = e ≡ Failed → before < now
+BatchCause failed changes end before now error.NoRoom = before < now
 BatchCause failed changes end before now e = PrepareCause changes end e
 
--- what an error leaves: one thing where it is the device's, another one else
-abbrev pub Leaves : DurableError → Type 0 → Type 0 → Type 0
-Leaves (error.Device e) fails stays = fails
-Leaves _ fails stays = stays
+-- what an error leaves: one thing where it is the device's, another one where that had no room, a third one else
+abbrev pub Leaves : DurableError → Type 0 → Type 0 → Type 0 → Type 0
+Leaves (error.Device e) fails lacks stays = fails
+Leaves error.NoRoom fails lacks stays = lacks
+Leaves _ fails lacks stays = stays

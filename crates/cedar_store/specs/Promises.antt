@@ -1,11 +1,12 @@
 -- What each change of a store promises: of the store before it and after it.
 use Rattle.std.specs.Prelude.{◌≡◌, ◌⊎◌, ℕ, true, false, List, Ok, Option, Some}
 use Rattle.cedar_journal.specs.Device.{LeavesOnly}
+use Rattle.cedar_journal.specs.Journal.{IsSettled}
 use Rattle.cedar_tree.specs.State.{State}
 use Rattle.cedarwood.specs.declared.error.CedarError.{CedarError}
-use Rattle.cedar_store.specs.Causes.{BatchCause, ChangeCause, EraseCause, IsOfDevice, Leaves}
+use Rattle.cedar_store.specs.Causes.{BatchCause, ChangeCause, EraseCause, IsOfDevice, IsUnwritten, Leaves}
 use Rattle.cedar_store.specs.Changes.{Change}
-use Rattle.cedar_store.specs.Files.{AddsRecord, IsEither, StandsFor}
+use Rattle.cedar_store.specs.Files.{AddsRecord, IsEither, StandsFor, state_of}
 use Rattle.cedar_store.specs.Store.{IsReady}
 use Rattle.cedar_store.specs.declared.compaction.Compaction.TheVariants.{Never}
 use Rattle.cedar_store.specs.declared.error.DurableError.{DurableError}
@@ -46,10 +47,13 @@ abbrev pub KeepsFile : {T A D : Type 0} → (D → List ℕ) → (D → List ℕ
 KeepsFile seen may_leave old new =
     (new.failed ≡ old.failed) × (seen new.journal.device ≡ seen old.journal.device) × ((c : List ℕ) → may_leave new.journal.device c → may_leave old.journal.device c)
 
--- what an error leaves: a store that has failed, whose dictionary has the change; or all as it was
+-- what an error leaves: a store that has failed, whose dictionary has the change; or, where there was no room, one that hasn't, whose
+-- dictionary is as it was, and whose records end where they did; or all as it was
 abbrev pub LeavesStore : {T A D : Type 0} → (T → State) → Store T A D → Store T A D → State → DurableError → Type 0
 LeavesStore state old new after e =
-    Leaves e ((new.failed ≡ true) × (state new.words ≡ after)) ((new.failed ≡ old.failed) × (new.journal ≡ old.journal) × (state new.words ≡ state old.words))
+    Leaves e ((new.failed ≡ true) × (state new.words ≡ after))
+    ((new.failed ≡ false) × (new.journal.end ≡ old.journal.end) × (state new.words ≡ state old.words))
+    ((new.failed ≡ old.failed) × (new.journal ≡ old.journal) × (state new.words ≡ state old.words))
 
 -- why a value wasn't put whose pair has this fault, or none, and whose payload is so long
 abbrev pub IsChangeCause : {T A D : Type 0} → (D → ℕ) → Store T A D → Store T A D → Option CedarError → ℕ → DurableError → Type 0
@@ -62,6 +66,17 @@ IsEraseCause faults old new n e = EraseCause old.failed old.journal.end n (fault
 -- why a batch wasn't made
 abbrev pub IsBatchCause : {T A D : Type 0} → (D → ℕ) → Store T A D → Store T A D → List Change → DurableError → Type 0
 IsBatchCause faults old new changes e = BatchCause old.failed changes old.journal.end (faults old.journal.device) (faults new.journal.device) e
+
+-- a record wasn't written: the device failed, and so has the store; or there was no room for it, and the store goes on
+abbrev pub LeavesUnwritten : {T A D : Type 0} → (D → ℕ) → Store T A D → Store T A D → DurableError → Type 0
+LeavesUnwritten faults old new e = IsUnwritten (faults old.journal.device) (faults new.journal.device) old.failed new.failed e
+
+-- There was no room for a record: the dictionary is as it was, and so is what the file stands for, which is at rest and on the disk.
+pub record LostRoom {T A D : Type 0} (seen : D → List ℕ) (may_leave : D → List ℕ → Type 0) (old new : Store T A D) : Type 0 where
+  pub words : new.words ≡ old.words
+  pub end : new.journal.end ≡ old.journal.end
+  pub settled : IsSettled seen may_leave new.journal.device new.journal.format new.journal.end
+  pub same : state_of (seen new.journal.device) ≡ state_of (seen old.journal.device)
 
 -- the device failed, and so has the store
 abbrev pub FailsByDevice : {T A D : Type 0} → (D → ℕ) → Store T A D → Store T A D → DurableError → Type 0

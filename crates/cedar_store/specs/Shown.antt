@@ -15,7 +15,9 @@ durable_error_text (error.Refused e) = error_text e
 durable_error_text (error.RefusedAt index e) = codes "change " ++ (decimal index ++ (codes " of the batch: " ++ error_text e))
 durable_error_text error.TooLong = codes "the record would have 2^32 bytes or more"
 durable_error_text error.Full = codes "the records of the file end behind 2^60 bytes"
+durable_error_text error.NoRoom = codes "there is no room for the record"
 durable_error_text (error.Device device.Memory) = codes "the device is out of memory"
+durable_error_text (error.Device device.NoRoom) = codes "the device has no room"
 durable_error_text (error.Device device.Failed) = codes "the device failed"
 durable_error_text error.Failed = codes "the device failed in an earlier change: compact the store"
 
@@ -23,5 +25,6 @@ abbrev pub compact_error_text : CompactError → List ℕ
 compact_error_text compact.Memory = codes "out of memory: the file is as it was"
 compact_error_text compact.TooLong = codes "the record of an entry would have 2^32 bytes or more"
 compact_error_text (compact.Kept device.Memory) = codes "the device is out of memory: the file is as it was"
+compact_error_text (compact.Kept device.NoRoom) = codes "the device has no room: the file is as it was"
 compact_error_text (compact.Kept device.Failed) = codes "the device kept the file as it was"
 compact_error_text compact.Failed = codes "the device failed: the old file is there or the new one"

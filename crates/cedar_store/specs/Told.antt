@@ -11,7 +11,7 @@ use Rattle.cedar_store.specs.Changes.{Change, put_at, erase_at}
 use Rattle.cedar_store.specs.declared.change.Change.{Change as ToldChange}
 use Rattle.cedar_store.specs.declared.change.Change.TheVariants as change
 use Rattle.cedar_store.specs.declared.error.DurableError.{DurableError}
-use Rattle.cedar_store.specs.declared.error.DurableError.TheVariants.{Damaged, Device, Foreign, Full, Refused, TooLong}
+use Rattle.cedar_store.specs.declared.error.DurableError.TheVariants.{Damaged, Device, Foreign, Full, NoRoom, Refused, TooLong}
 
 abbrev pub file_error : FileFault → DurableError
 file_error fault.Foreign = Foreign
@@ -23,6 +23,7 @@ frame_error frame.TooLong = TooLong
 
 abbrev pub journal_error : JournalError → DurableError
 journal_error journal.Full = Full
+journal_error journal.NoRoom = NoRoom
 journal_error (journal.Device e) = Device e
 
 -- a change of a batch

@@ -12,13 +12,13 @@ pub use Rattle.cedar_store.specs.Causes.{BatchCause, ChangeCause, EraseCause, Fr
 pub use Rattle.cedar_store.specs.Changes.{after, all_changed, batch_of, change_of, changed, changes_of, erase_at, number_of_bytes, put_at, put_of, replayed}
 pub use Rattle.cedar_store.specs.Compactions.{compact_error, CompactCause, compacted_length, CompactMemory, default_rule, is_beyond, IsBeforeReplacing, IsPutBehind, LeavesFile, replace_error}
 pub use Rattle.cedar_store.specs.Files.{AddsRecord, IsCorrupt, IsEither, StandsFor, state_of}
-pub use Rattle.cedar_store.specs.Promises.{CrashLeavesEither, CrashLeavesState, CrashLeavesStateOrOld, FailsByDevice, HasState, IsBatchCause, IsChangeCause, IsEraseCause, IsReadyStore, IsRecordedIn, IsShortened, KeepsFile, LeavesStore}
+pub use Rattle.cedar_store.specs.Promises.{CrashLeavesEither, CrashLeavesState, CrashLeavesStateOrOld, FailsByDevice, HasState, IsBatchCause, IsChangeCause, IsEraseCause, IsReadyStore, IsRecordedIn, IsShortened, KeepsFile, LeavesUnwritten, LeavesStore, LostRoom}
 pub use Rattle.cedar_store.specs.Puts.{IsPut}
 pub use Rattle.cedar_store.specs.Shown.{compact_error_text, durable_error_text}
 pub use Rattle.cedar_store.specs.Store.{IsConsistent, IsReady}
 pub use Rattle.cedar_store.specs.Told.{change_told, changes_told, file_error, frame_error, journal_error}
 pub use Rattle.cedar_store.specs.Undo.{IsPutOf}
-pub use Rattle.cedar_store.specs.declared.error.DurableError.TheVariants.{Device, Foreign, Full, Refused, TooLong}
+pub use Rattle.cedar_store.specs.declared.error.DurableError.TheVariants.{Device, Foreign, Full, NoRoom, Refused, TooLong}
 pub use Rattle.cedar_tree.specs.State.{State, new_state}
 pub use Rattle.cedar_tree.specs.Tree.{IsAscending}
 pub use Rattle.cedarwood.specs.Words.{IsLimit, IsShortage, IsSound, all_stored, erased, fault, key_fault, number_at, outcome, stored, value_fault, walk}

@@ -15,18 +15,22 @@ use cedar_journal::Frame;
 use cedarwood::CedarError;
 use std::alloc::Allocator;
 
-/// Makes a batch in a dictionary whose labels ascend, and returns the batch's record for a file whose records end here. If anything is
-/// refused, the dictionary stays as it was.
+/// Makes the updates of a batch in a dictionary whose labels ascend, and returns the batch's record for a file whose records end here, and
+/// what each key held before. If anything is refused, the dictionary stays as it was. `erase_rest` makes the rest, and `take_all_back` undoes
+/// it.
 pub(crate) fn make<T: Words, A: Allocator + Copy>(
     words: &mut T,
     alloc: A,
     end: usize,
     changes: &[Change<'_>],
-) -> Result<Frame<A>, DurableError>
+) -> Result<(Frame<A>, Vec<Option<i32>, A>), DurableError>
     requires { (T.state words.old).ordered ≡ true }
-    ensures made { OnOk result ((T.state words.new) ≡ all_changed (T.state words.old) (changes_told changes.now)) }
+    ensures updated { OnOk result ((T.state words.new) ≡ all_updated (T.state words.old) (changes_told changes.now)) }
+    ensures made { OnOk result (all_erased_late (T.state words.new) (changes_told changes.now) ≡ all_changed (T.state words.old) (changes_told changes.now)) }
+    ensures held { IfOk result (λ batch. AreHeld (T.state words.old) (changes_told changes.now) batch.1.items) }
+    ensures long { IfOk result (λ batch. length changes.now ≤ length batch.1.items) }
     ensures faultless { OnOk result (AllByRecursion IsFaultless (changes_told changes.now)) }
-    ensures change { IfOk result (λ frame. changes_of (payload_of frame) ≡ Some (changes_told changes.now)) }
+    ensures change { IfOk result (λ batch. changes_of (payload_of batch.0) ≡ Some (changes_told changes.now)) }
     ensures room { OnOk result (end < 2 ^ 60) }
     ensures faulty { IfSome (first_refused 0 (changes_told changes.now)) (λ error. result ≡ Err error) }
     ensures err { OnErr result ((T.state words.new) ≡ (T.state words.old)) }
@@ -35,10 +39,7 @@ pub(crate) fn make<T: Words, A: Allocator + Copy>(
     // A dictionary is sound, and its labels ascend: so what each key holds decides its tree.
     let _ = words.count();
     match prepare(words, alloc, end, changes) {
-        Ok(batch) => {
-            erase_rest(words, changes);
-            Ok(batch)
-        }
+        Ok(batch) => Ok(batch),
         Err(error) => Err(reason(changes, end, error)),
     }
 }
@@ -61,11 +62,13 @@ fn prepare<T: Words, A: Allocator + Copy>(
     alloc: A,
     end: usize,
     changes: &[Change<'_>],
-) -> Result<Frame<A>, DurableError>
+) -> Result<(Frame<A>, Vec<Option<i32>, A>), DurableError>
     ensures updated { OnOk result ((T.state words.new) ≡ all_updated (T.state words.old) (changes_told changes.now)) }
+    ensures held { IfOk result (λ batch. AreHeld (T.state words.old) (changes_told changes.now) batch.1.items) }
+    ensures long { IfOk result (λ batch. length changes.now ≤ length batch.1.items) }
     ensures keys { OnOk result (AllByRecursion HasKey (changes_told changes.now)) }
     ensures faultless { OnOk result (AllByRecursion IsFaultless (changes_told changes.now)) }
-    ensures change { IfOk result (λ frame. changes_of (payload_of frame) ≡ Some (changes_told changes.now)) }
+    ensures change { IfOk result (λ batch. changes_of (payload_of batch.0) ≡ Some (changes_told changes.now)) }
     ensures room { OnOk result (end < 2 ^ 60) }
     ensures err { OnErr result ((T.state words.new) ≡ (T.state words.old)) }
     ensures cause { IfErr result (λ error. PrepareCause (changes_told changes.now) end error) }
@@ -74,7 +77,7 @@ fn prepare<T: Words, A: Allocator + Copy>(
     held.resize(changes.len(), None)?;
     update_all(words, changes, &mut held)?;
     match batch_frame(alloc, end, changes) {
-        Ok(frame) => Ok(frame),
+        Ok(frame) => Ok((frame, held)),
         Err(error) => {
             take_all_back(words, changes, &held);
             Err(error)
@@ -129,7 +132,7 @@ fn update_one<T: Words>(words: &mut T, change: &Change<'_>) -> Result<Option<i32
 }
 
 /// Takes the updates among some changes back, whose keys held this before, the last one first. It allocates nothing.
-fn take_all_back<T: Words>(words: &mut T, changes: &[Change<'_>], held: &[Option<i32>])
+pub(crate) fn take_all_back<T: Words>(words: &mut T, changes: &[Change<'_>], held: &[Option<i32>])
     requires { length changes.now ≤ length held.now }
     ensures { (s : State) → AreHeld s (changes_told changes.now) held.now → (T.state words.old) ≡ all_updated s (changes_told changes.now) → (T.state words.new) ≡ s }
 {
@@ -151,7 +154,7 @@ fn take_one_back<T: Words>(words: &mut T, change: &Change<'_>, held: Option<i32>
 }
 
 /// Makes the erasures among some changes, but of keys that a later change puts.
-fn erase_rest<T: Words>(words: &mut T, changes: &[Change<'_>])
+pub(crate) fn erase_rest<T: Words>(words: &mut T, changes: &[Change<'_>])
     ensures { (T.state words.new) ≡ all_erased_late (T.state words.old) (changes_told changes.now) }
 {
     let end = updates_end(changes);

@@ -1,12 +1,13 @@
 //! A store's file made short: one record for each entry.
 
 ghost use Rattle.std.specs.Prelude.{◌+◌, ◌-◌, ◌<◌, ◌^◌, ◌≡◌, ◌⊎◌, false, IfErr, IfOk, IsErrOf, length, None, OnOk, option_and_then, Some, true};
-ghost use Rattle.cedar_store.specs.Words.{added, after, all_stored, AllByRecursion, CompactCause, compacted_length, CrashLeavesState, CrashLeavesStateOrOld, FailsByDevice, fault, IfKept, image_bytes, is_beyond, IsBeforeReplacing, IsConsistent, IsEither, IsPutBehind, IsReadyStore, IsSettled, IsShortened, KeepsFile, LeavesFile, LeavesOnly, new_state, payload_of, payloads_of, recovered, replayed, State, state_of, walk};
+ghost use Rattle.cedar_store.specs.Words.{added, after, all_erased_late, all_stored, AllByRecursion, changes_told, CompactCause, compacted_length, CrashLeavesState, CrashLeavesStateOrOld, FailsByDevice, fault, IfKept, image_bytes, is_beyond, IsBeforeReplacing, IsConsistent, IsEither, IsPutBehind, IsReadyStore, IsSettled, IsShortened, KeepsFile, LeavesUnwritten, Leaves, LeavesFile, LeavesOnly, LostRoom, new_state, payload_of, payloads_of, recovered, replayed, State, state_of, walk};
 
+use crate::batch::erase_rest;
 use crate::frames::put_payload;
 use crate::store::Store;
 use crate::words::Words;
-use crate::{CompactError, DurableError};
+use crate::{Change, CompactError, DurableError};
 use cedar_journal::{DeviceError, Format, Frame, Image, ReplaceDevice, ReplaceError};
 use cedarwood::{Entries, Walked};
 use std::alloc::Allocator;
@@ -93,26 +94,46 @@ impl<T: Words, A: Allocator + Copy, D: ReplaceDevice> Store<T, A, D> {
         }
     }
 
-    /// Writes a record of a change that the dictionary has, and makes the file short if it has grown too long.
-    pub(crate) fn acknowledge(&mut self, frame: &Frame<A>) -> Result<(), DurableError>
+    /// Writes a record of changes of which the dictionary has the updates, makes the erasures in it, and makes the file short if it has grown
+    /// too long. If there was no room for the record, the dictionary stays as it is.
+    pub(crate) fn acknowledge(
+        &mut self,
+        frame: &Frame<A>,
+        changes: &[Change<'_>],
+    ) -> Result<(), DurableError>
         requires settled { IsSettled D.seen D.may_leave self.old.journal.device self.old.journal.format self.old.journal.end }
         requires usable { self.old.failed ≡ false }
         requires room { self.old.journal.end < 2 ^ 60 }
-        requires ordered { (T.state self.old.words).ordered ≡ true }
-        requires stands { option_and_then (λ s. after s (payload_of frame.now)) (state_of (D.seen self.old.journal.device)) ≡ Some (T.state self.old.words) }
-        ensures ready { IsReadyStore D.seen D.may_leave T.state self.new }
+        requires ordered { (all_erased_late (T.state self.old.words) (changes_told changes.now)).ordered ≡ true }
+        requires stands { option_and_then (λ s. after s (payload_of frame.now)) (state_of (D.seen self.old.journal.device))
+            ≡ Some (all_erased_late (T.state self.old.words) (changes_told changes.now)) }
+        ensures ready { OnOk result (IsReadyStore D.seen D.may_leave T.state self.new) }
         ensures done { OnOk result (self.new.failed ≡ false) }
+        ensures made { OnOk result (T.state self.new.words ≡ all_erased_late (T.state self.old.words) (changes_told changes.now)) }
         ensures due { OnOk result (is_beyond self.new.compaction self.new.base self.new.journal.end ≡ false) }
         ensures recorded { OnOk result ((recovered (D.seen self.new.journal.device) ≡ added (payload_of frame.now) (recovered (D.seen self.old.journal.device)))
             ⊎ IsShortened self.old self.new) }
-        ensures err { IfErr result (FailsByDevice D.faults self.old self.new) }
-        ensures words { self.new.words ≡ self.old.words }
+        ensures err { IfErr result (LeavesUnwritten D.faults self.old self.new) }
+        ensures left { IfErr result (λ e. Leaves e (T.state self.new.words ≡ all_erased_late (T.state self.old.words) (changes_told changes.now))
+            (LostRoom D.seen D.may_leave self.old self.new) ⊥) }
         ensures rule { self.new.compaction ≡ self.old.compaction }
         ensures any_moment { (s : State) → state_of (D.seen self.old.journal.device) ≡ Some s
-            → LeavesOnly D.moment D.left_since self.old.journal.device self.new.journal.device (IsEither s (T.state self.old.words)) }
+            → LeavesOnly D.moment D.left_since self.old.journal.device self.new.journal.device
+            (IsEither s (all_erased_late (T.state self.old.words) (changes_told changes.now))) }
     {
-        self.append(frame)?;
-        self.compact_if_due()
+        match self.append(frame) {
+            Ok(()) => {
+                erase_rest(&mut self.words, changes);
+                self.compact_if_due()
+            }
+            Err(error) => {
+                if !self.failed {
+                    return Err(error);
+                }
+                erase_rest(&mut self.words, changes);
+                Err(error)
+            }
+        }
     }
 
     /// Compacts the file if it is too long for what the entries take. It is looked at again once it is so much longer than it is now: so

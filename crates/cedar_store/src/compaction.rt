@@ -109,6 +109,9 @@ impl fmt::Display for CompactError {
             CompactError::Kept(DeviceError::Memory) => {
                 f.write_str("the device is out of memory: the file is as it was")
             }
+            CompactError::Kept(DeviceError::NoRoom) => {
+                f.write_str("the device has no room: the file is as it was")
+            }
             CompactError::Kept(DeviceError::Failed) => {
                 f.write_str("the device kept the file as it was")
             }

@@ -32,6 +32,9 @@ pub enum DurableError {
     TooLong,
     /// The file's records end after 2^60 bytes. Nothing has changed.
     Full,
+    /// There was no room for the record: on the disk, in what the owner may have of it, or in what the process may write. Nothing has
+    /// changed, and the store goes on.
+    NoRoom,
     /// The device failed. In a change: the dictionary has it, and the file has it or not. From then on each change is refused by `Failed`,
     /// until `compact` has written the dictionary to a new file.
     Device(DeviceError),
@@ -97,6 +100,7 @@ impl From<JournalError> for DurableError {
     fn from(inner: JournalError) -> DurableError {
         match inner {
             JournalError::Full => DurableError::Full,
+            JournalError::NoRoom => DurableError::NoRoom,
             JournalError::Device(error) => DurableError::Device(error),
         }
     }
@@ -131,7 +135,9 @@ impl fmt::Display for DurableError {
             }
             DurableError::TooLong => f.write_str("the record would have 2^32 bytes or more"),
             DurableError::Full => f.write_str("the records of the file end behind 2^60 bytes"),
+            DurableError::NoRoom => f.write_str("there is no room for the record"),
             DurableError::Device(DeviceError::Memory) => f.write_str("the device is out of memory"),
+            DurableError::Device(DeviceError::NoRoom) => f.write_str("the device has no room"),
             DurableError::Device(DeviceError::Failed) => f.write_str("the device failed"),
             DurableError::Failed => {
                 f.write_str("the device failed in an earlier change: compact the store")

@@ -1,14 +1,14 @@
 //! The store: a dictionary, and the journal of its changes.
 
-ghost use Rattle.std.specs.Prelude.{◌+◌, ◌<◌, ◌^◌, ◌≡◌, ◌≤◌, ◌∷◌, IfErr, IfOk, IfSome, IsOk, OnOk, Some, [], false, if◌then◌else◌, is_some, length, true};
-ghost use Rattle.cedar_store.specs.Words.{added, all_changed, changes_told, erase_at, ends_closed, erased, fault, format_of, first_refused, number_at, payload_of, recovered, state_of, stored, AllByRecursion, HasExtent, IsBeforeOrAfter, IsBeforeWrites, IsCorrupt, IsFaultless, IsRecordedIn, IsSettled, LeavesOnly, Only, OpenCause, put_at, ReadCause, CrashLeavesEither, FailsByDevice, HasState, IsBatchCause, IsChangeCause, IsEraseCause, IsReadyStore, LeavesStore};
+ghost use Rattle.std.specs.Prelude.{◌+◌, ◌<◌, ◌^◌, ◌≡◌, ◌≤◌, ◌∷◌, IfErr, IfOk, IfSome, IsErrOf, IsOk, OnErr, OnOk, Some, [], false, if◌then◌else◌, is_some, length, true};
+ghost use Rattle.cedar_store.specs.Words.{added, all_changed, changes_told, erase_at, ends_closed, erased, fault, format_of, first_refused, number_at, payload_of, recovered, state_of, stored, AllByRecursion, HasExtent, IsBeforeOrAfter, IsBeforeWrites, IsCorrupt, IsFaultless, IsRecordedIn, IsSettled, LeavesOnly, Only, OpenCause, put_at, ReadCause, CrashLeavesEither, HasState, IsBatchCause, IsChangeCause, IsEraseCause, IsReadyStore, LeavesUnwritten, LeavesStore};
 
-use crate::batch::make;
+use crate::batch::{make, take_all_back};
 use crate::frames::{erase_frame, put_frame};
 use crate::replay::words_of;
 use crate::words::{Made, Words, take_back};
 use crate::{Change, CompactError, Compaction, DurableError};
-use cedar_journal::{Device, DeviceError, Extent, Frame, Journal, ReplaceDevice};
+use cedar_journal::{Device, DeviceError, Extent, Frame, Journal, JournalError, ReplaceDevice};
 use cedarwood::{Cedar, CedarError, ReducedCedar};
 use std::alloc::Allocator;
 
@@ -69,6 +69,7 @@ fn read_file<A: Allocator, D: Device>(alloc: A, device: &mut D) -> Result<Vec<u8
     match device.read(alloc) {
         Ok(bytes) => Ok(bytes),
         Err(DeviceError::Memory) => Err(DurableError::Refused(CedarError::Memory)),
+        Err(DeviceError::NoRoom) => Err(DurableError::Device(DeviceError::NoRoom)),
         Err(DeviceError::Failed) => Err(DurableError::Device(DeviceError::Failed)),
     }
 }
@@ -203,7 +204,8 @@ impl<T: Words, A: Allocator + Copy, D: ReplaceDevice> Store<T, A, D> {
     ///
     /// # Errors
     /// `Refused` by the pair's first fault, or if memory or slots were refused, `TooLong` and `Full`: then nothing has changed, in the
-    /// dictionary or in the file. `Device` if the device failed, and `Failed` from then on.
+    /// dictionary or in the file. `NoRoom` if there was no room for the record: the change isn't made, and the store goes on. `Device` if the
+    /// device failed, and `Failed` from then on.
     pub fn insert_bytes(&mut self, key: &[u8], value: i32) -> Result<Option<i32>, DurableError>
         requires ready { IsReadyStore D.seen D.may_leave T.state self.old }
 
@@ -233,11 +235,13 @@ impl<T: Words, A: Allocator + Copy, D: ReplaceDevice> Store<T, A, D> {
         ensures faulty { self.old.failed ≡ false → IfSome (fault key.now value) (λ e. result ≡ Err (DurableError.Refused e)) }
 
         //= Otherwise it fails only if the store has failed before, for lack of memory or slots, if the record is too long or the records
-        //  end too far back, or if the device failed. [also insert, update_bytes, update]
+        //  end too far back, or if the device failed. It returns `NoRoom` only if a write of the device found no room. [also insert,
+        //  update_bytes, update]
         ensures cause { IfErr result (IsChangeCause D.faults self.old self.new (fault key.now value) (length key.now + 5)) }
 
-        //= After an error of the device the store has failed. After any other, the dictionary, the file and the store are as they were.
-        //  [also insert, update_bytes, update]
+        //= After an error of the device the store has failed. After `NoRoom` it hasn't: the dictionary is as it was, and so is where the
+        //  records end; the file stands for it, on the disk. After any other, the dictionary, the file and the store are as they were. [also
+        //  insert, update_bytes, update]
         ensures err { IfErr result (LeavesStore T.state self.old self.new (stored (T.state self.old.words) key.now value)) }
     {
         if self.failed {
@@ -245,10 +249,16 @@ impl<T: Words, A: Allocator + Copy, D: ReplaceDevice> Store<T, A, D> {
         }
         let held = self.words.put(key, value)?;
         match put_frame(self.alloc, self.journal.end, key, value) {
-            Ok(frame) => {
-                self.acknowledge(&frame)?;
-                Ok(held)
-            }
+            Ok(frame) => match self.acknowledge(&frame, &[]) {
+                Ok(()) => Ok(held),
+                Err(error) => {
+                    if self.failed {
+                        return Err(error);
+                    }
+                    take_back(&mut self.words, key, held);
+                    Err(error)
+                }
+            },
             Err(error) => {
                 take_back(&mut self.words, key, held);
                 Err(error)
@@ -352,8 +362,8 @@ impl<T: Words, A: Allocator + Copy, D: ReplaceDevice> Store<T, A, D> {
         //  back, or if the device failed. [also erase]
         ensures cause { IfErr result (IsEraseCause D.faults self.old self.new (length key.now + 1)) }
 
-        //= After an error of the device the store has failed. After any other, the dictionary, the file and the store are as they were.
-        //  [also erase]
+        //= After an error of the device the store has failed. After `NoRoom` it hasn't: the dictionary is as it was, and the file stands
+        //  for it. After any other, the dictionary, the file and the store are as they were. [also erase]
         ensures err { IfErr result (LeavesStore T.state self.old self.new (erased (T.state self.old.words) key.now)) }
     {
         if self.failed {
@@ -363,8 +373,7 @@ impl<T: Words, A: Allocator + Copy, D: ReplaceDevice> Store<T, A, D> {
             return Ok(false);
         }
         let erasure = erase_frame(self.alloc, self.journal.end, key)?;
-        self.words.remove(key);
-        self.acknowledge(&erasure)?;
+        self.acknowledge(&erasure, &[Change::Erase { key }])?;
         Ok(true)
     }
 
@@ -397,7 +406,8 @@ impl<T: Words, A: Allocator + Copy, D: ReplaceDevice> Store<T, A, D> {
     ///
     /// # Errors
     /// `RefusedAt` with the index of a change whose pair has a fault, or for which memory or slots were refused; `Refused` if memory for
-    /// the record was refused, `TooLong` and `Full`: then nothing has changed. `Device` if the device failed, and `Failed` from then on.
+    /// the record was refused, `TooLong` and `Full`: then nothing has changed. `NoRoom` if there was no room for it: nothing is made, and the
+    /// store goes on. `Device` if the device failed, and `Failed` from then on.
     pub fn apply_batch(&mut self, changes: &[Change<'_>]) -> Result<(), DurableError>
         requires ready { IsReadyStore D.seen D.may_leave T.state self.old }
 
@@ -428,8 +438,8 @@ impl<T: Words, A: Allocator + Copy, D: ReplaceDevice> Store<T, A, D> {
         ensures faulty { IsOk result → AllByRecursion IsFaultless (changes_told changes.now) }
         ensures cause { IfErr result (IsBatchCause D.faults self.old self.new (changes_told changes.now)) }
 
-        //= After an error of the device the store has failed and the dictionary has all of a batch. After any other, the dictionary, the
-        //  file and the store are as they were.
+        //= After an error of the device the store has failed and the dictionary has all of a batch. After `NoRoom` it hasn't: the
+        //  dictionary is as it was, and the file stands for it. After any other, the dictionary, the file and the store are as they were.
         ensures err { IfErr result (LeavesStore T.state self.old self.new (all_changed (T.state self.old.words) (changes_told changes.now))) }
     {
         if self.failed {
@@ -438,12 +448,20 @@ impl<T: Words, A: Allocator + Copy, D: ReplaceDevice> Store<T, A, D> {
         if changes.is_empty() {
             return Ok(());
         }
-        let batch = make(&mut self.words, self.alloc, self.journal.end, changes)?;
-        self.acknowledge(&batch)?;
-        Ok(())
+        let (batch, held) = make(&mut self.words, self.alloc, self.journal.end, changes)?;
+        match self.acknowledge(&batch, changes) {
+            Ok(()) => Ok(()),
+            Err(error) => {
+                if self.failed {
+                    return Err(error);
+                }
+                take_all_back(&mut self.words, changes, &held);
+                Err(error)
+            }
+        }
     }
 
-    /// Writes a record of a change that the dictionary has.
+    /// Writes a record of a change.
     pub(crate) fn append(&mut self, frame: &Frame<A>) -> Result<(), DurableError>
         requires settled { IsSettled D.seen D.may_leave self.old.journal.device self.old.journal.format self.old.journal.end }
         requires room { self.old.journal.end < 2 ^ 60 }
@@ -451,7 +469,10 @@ impl<T: Words, A: Allocator + Copy, D: ReplaceDevice> Store<T, A, D> {
         ensures acknowledged { OnOk result (recovered (D.seen self.new.journal.device) ≡ added (payload_of frame.now) (recovered (D.seen self.old.journal.device))) }
         ensures failed { OnOk result (self.new.failed ≡ self.old.failed) }
         ensures faults { D.faults self.old.journal.device ≤ D.faults self.new.journal.device }
-        ensures err { IfErr result (FailsByDevice D.faults self.old self.new) }
+        ensures no_room { IsErrOf result DurableError.NoRoom → IsSettled D.seen D.may_leave self.new.journal.device self.new.journal.format self.new.journal.end }
+        ensures same_left { IsErrOf result DurableError.NoRoom → recovered (D.seen self.new.journal.device) ≡ recovered (D.seen self.old.journal.device) }
+        ensures end { OnErr result (self.new.journal.end ≡ self.old.journal.end) }
+        ensures err { IfErr result (LeavesUnwritten D.faults self.old self.new) }
         ensures words { self.new.words ≡ self.old.words }
         ensures rule { self.new.compaction ≡ self.old.compaction }
         ensures any_moment { LeavesOnly D.moment D.left_since self.old.journal.device self.new.journal.device
@@ -459,9 +480,11 @@ impl<T: Words, A: Allocator + Copy, D: ReplaceDevice> Store<T, A, D> {
     {
         match self.journal.append(frame) {
             Ok(()) => Ok(()),
-            Err(error) => {
+            Err(JournalError::Full) => Err(DurableError::Full),
+            Err(JournalError::NoRoom) => Err(DurableError::NoRoom),
+            Err(JournalError::Device(error)) => {
                 self.failed = true;
-                Err(DurableError::from(error))
+                Err(DurableError::Device(error))
             }
         }
     }

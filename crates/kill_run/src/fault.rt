@@ -19,6 +19,8 @@ pub(crate) enum Fault {
     Arguments,
     Memory,
     Disk,
+    /// There was no room: nothing was written.
+    Room,
     /// Another program has the file open.
     Locked,
     Foreign,
@@ -40,6 +42,7 @@ impl fmt::Display for Fault {
             Fault::Arguments => f.write_str(USAGE),
             Fault::Memory => f.write_str("out of memory"),
             Fault::Disk => f.write_str("the disk failed"),
+            Fault::Room => f.write_str("there is no room"),
             Fault::Locked => f.write_str("another program has the file open"),
             Fault::Foreign => f.write_str("the file is of another kind"),
             Fault::Broken(number) => write!(f, "record {number} is another one"),
@@ -68,7 +71,7 @@ impl From<DeviceError> for Fault {
     fn from(error: DeviceError) -> Self {
         match error {
             DeviceError::Memory => Fault::Memory,
-            DeviceError::Failed => Fault::Disk,
+            DeviceError::NoRoom | DeviceError::Failed => Fault::Disk,
         }
     }
 }
@@ -96,6 +99,7 @@ impl From<JournalError> for Fault {
     fn from(error: JournalError) -> Self {
         match error {
             JournalError::Full => Fault::Full,
+            JournalError::NoRoom => Fault::Room,
             JournalError::Device(error) => error.into(),
         }
     }
@@ -125,6 +129,7 @@ impl From<DurableError> for Fault {
             DurableError::Refused(error) => error.into(),
             DurableError::RefusedAt { error, .. } => error.into(),
             DurableError::TooLong | DurableError::Full => Fault::Full,
+            DurableError::NoRoom => Fault::Room,
             DurableError::Device(error) => error.into(),
             DurableError::Failed => Fault::Failed,
         }

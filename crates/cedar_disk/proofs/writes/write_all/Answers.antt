@@ -1,6 +1,6 @@
-use Rattle.std.proofs.Common.{◌≡◌, ◌+◌, ◌∙◌, length, refl, arith, rules}
+use Rattle.std.proofs.Common.{◌≡◌, ◌+◌, ◌∙◌, length, refl, take, arith, rules}
 use Rattle.cedar_disk.specs.NotedFiles.{noted_calls}
-use Rattle.cedar_disk.proofs.Writing.{are_written_none, wrote_all, wrote_more, wrote_perhaps}
+use Rattle.cedar_disk.proofs.Writing.{are_written_none, front_length, wrote_all, wrote_more, wrote_no_more, wrote_perhaps}
 use Rattle.cedar_disk.proofs.writes.write_all.Goals as goal
 
 pub loop-done-init : goal.loop-done-init
@@ -24,6 +24,19 @@ returns-in-Failed-clause-spoils g c =
     let inv = c.loop-done.invariant in
     wrote_perhaps c.args.at c.loop-done.done c.saturating_add.result c.args.bytes.now (noted_calls c.args.file.now) (noted_calls c.loop-done.file) (noted_calls c.write.new.self)
     c.requires.within inv.within inv.written (omega (arith, c.saturating_add.ensures)) (omega (arith, c.saturating_add.ensures)) c.in-Failed.ensures.noted
+
+pub returns-in-Full-clause-spoils : goal.returns-in-Full-clause-spoils
+returns-in-Full-clause-spoils g c =
+    (wrote_no_more c.args.at (length c.args.bytes.now) (take c.loop-done.done c.args.bytes.now) (noted_calls c.args.file.now) (noted_calls c.loop-done.file) (noted_calls c.write.new.self)
+    c.loop-done.invariant.written c.in-Full.ensures.noted).spoils
+
+pub returns-in-Full-clause-no_room : goal.returns-in-Full-clause-no_room
+returns-in-Full-clause-no_room g c =
+    let front = take c.loop-done.done c.args.bytes.now in
+    let size = front_length c.args.bytes.now c.loop-done.done c.loop-done.invariant.within in
+    λ _. (front, omega (arith, size, c.loop-done.invariant.within),
+    wrote_no_more c.args.at (length c.args.bytes.now) front (noted_calls c.args.file.now) (noted_calls c.loop-done.file) (noted_calls c.write.new.self)
+    c.loop-done.invariant.written c.in-Full.ensures.noted)
 
 pub returns-clause-written : goal.returns-clause-written
 returns-clause-written g c =

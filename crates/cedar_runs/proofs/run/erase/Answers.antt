@@ -24,4 +24,4 @@ returns-in-Err-clause-step g c =
     let after = erased (state old.words) c.args.key.now in
     let e = c.erase_bytes.ensures in
     subst (λ o. IsCallStep d.moment d.left_since d.may_leave (point_of state old) after o (point_of state new)) (sym c.outcome_of.ensures)
-    (error_step d.seen d.moment d.left_since d.may_leave state g.met.D.Device.counts_now g.met.D.Device.only_now old new after c.erase_bytes.result e.any_moment e.untouched e.failed c.in-Err.error c.in-Err.is c.in-Err.ensures.err)
+    (error_step d.seen d.moment d.left_since d.may_leave state g.met.D.Device.counts_now g.met.D.Device.only_now old new after c.erase_bytes.result e.any_moment e.untouched e.failed e.ready c.in-Err.error c.in-Err.is c.in-Err.ensures.err)

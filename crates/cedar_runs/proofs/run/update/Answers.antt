@@ -40,4 +40,4 @@ returns-in-Err-clause-step g c =
     let leaves = subst (λ v. CrashLeavesEither d.moment d.left_since state old new (stored s key v)) same e.any_moment in
     let left = subst (λ v. LeavesStore state old new (stored s key v) c.in-Err.error) same c.in-Err.ensures.err in
     subst (λ o. IsCallStep d.moment d.left_since d.may_leave (point_of state old) after o (point_of state new)) (sym c.outcome_of.ensures)
-    (error_step d.seen d.moment d.left_since d.may_leave state g.met.D.Device.counts_now g.met.D.Device.only_now old new after c.update_bytes.result leaves e.untouched e.failed c.in-Err.error c.in-Err.is left)
+    (error_step d.seen d.moment d.left_since d.may_leave state g.met.D.Device.counts_now g.met.D.Device.only_now old new after c.update_bytes.result leaves e.untouched e.failed e.ready c.in-Err.error c.in-Err.is left)

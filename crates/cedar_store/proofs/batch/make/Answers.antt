@@ -10,8 +10,7 @@ returns-in-Ok-clause-made g c =
     let s = (g.T.Words.state c.args.words.now) in
     let cs = changes_told c.args.changes.now in
     let good : IsGood s = record { ordered = c.requires; sound = c.count.ensures.sound; ascending = c.count.ensures.ascending c.requires } in
-    c.erase_rest.ensures
-    ∙ ap (λ t. all_erased_late t cs) c.in-Ok.ensures.updated
+    ap (λ t. all_erased_late t cs) c.in-Ok.ensures.updated
     ∙ arranged cs s good c.in-Ok.ensures.keys
 
 pub returns-in-Ok-clause-faulty : goal.returns-in-Ok-clause-faulty

@@ -1,7 +1,10 @@
-use Rattle.std.proofs.Common.{◌∙◌, sym}
-use Rattle.std.specs.Prelude.{Ok, Err}
+use Rattle.std.proofs.Common.{◌∙◌, length, rules, sym}
+use Rattle.std.specs.Prelude.{Ok, Err, IsErrOf}
+use Rattle.cedar_journal.specs.declared.device.DeviceError.TheVariants.{NoRoom}
+use Rattle.cedar_disk.specs.NotedFiles.{noted_calls}
 use Rattle.std.proofs.lemmas.Bool.{false≢true}
 use Rattle.cedar_disk.proofs.Causes.{caused}
+use Rattle.cedar_disk.proofs.Writing.{torn_in_part}
 use Rattle.cedar_disk.proofs.account.Account.write.Goals as goal
 
 pub invariant_of-self : goal.invariant_of-self
@@ -12,6 +15,22 @@ invariant_of-self g c = record {
   within = c.in-Ok.ensures.spoils.within c.args.self.now.within;
   placed = c.in-Ok.ensures.name ∙ c.args.self.now.placed;
 }
+
+pub invariant_of-self-in-Err-NoRoom : goal.invariant_of-self-in-Err-NoRoom
+invariant_of-self-in-Err-NoRoom g c =
+    let none : IsErrOf c.write_all.result NoRoom = search rules in
+    record {
+      usable = λ _. (c.write_all.ensures.no_room none).2.usable c.requires.usable;
+      known = λ is. c.write_all.ensures.spoils.known (c.args.self.now.known is);
+      clean = λ is. absurd (false≢true (sym is));
+      within = c.write_all.ensures.spoils.within c.args.self.now.within;
+      placed = c.write_all.ensures.name ∙ c.args.self.now.placed;
+    }
+
+pub returns-in-Err-NoRoom-clause-no_room : goal.returns-in-Err-NoRoom-clause-no_room
+returns-in-Err-NoRoom-clause-no_room g c = λ _.
+    let none : IsErrOf c.write_all.result NoRoom = search rules in
+    torn_in_part c.args.at c.args.bytes.now (noted_calls c.args.self.now.file) (noted_calls c.write_all.new.file) c.requires.within (c.write_all.ensures.no_room none)
 
 pub invariant_of-self-in-Err : goal.invariant_of-self-in-Err
 invariant_of-self-in-Err g c = record {

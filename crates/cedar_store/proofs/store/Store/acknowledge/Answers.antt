@@ -1,52 +1,130 @@
-use Rattle.std.specs.Prelude.{Some}
-use Rattle.std.proofs.Common.{◌∙◌, ap, inl, inr, ⊎_elim, subst, sym}
+use Rattle.std.specs.Prelude.{IsErrOf, Err, Some, option_and_then}
+use Rattle.std.proofs.Common.{◌≡◌, false, true, ◌∙◌, ap, inl, inr, ⊎_elim, refl, rules, subst, sym}
+use Rattle.std.proofs.lemmas.Bool.{false≢true}
 use Rattle.cedar_journal.specs.Frames.{payload_of}
 use Rattle.cedar_journal.proofs.Moments.{joins, weakens}
+use Rattle.cedar_tree.specs.State.{new_state}
+use Rattle.cedar_store.specs.Batches.{all_erased_late}
+use Rattle.cedar_store.specs.Changes.{replayed}
+use Rattle.cedar_store.specs.declared.error.DurableError.TheVariants as error
 use Rattle.cedar_store.specs.Files.{state_of, IsEither, StandsFor}
-use Rattle.cedar_store.proofs.Compacted.{change_of_one, on_ok, state_more, still_more}
+use Rattle.cedar_store.specs.Told.{changes_told}
+use Rattle.cedar_store.proofs.Compacted.{change_of_one, on_err, on_ok, state_more, still_more}
+use Rattle.cedar_store.proofs.Unwritten.{leaves_unwritten, unwritten_by_device}
 use Rattle.cedar_store.proofs.States.{either}
 use Rattle.cedar_store.proofs.store.Store.acknowledge.Goals as goal
 
 pub compact_if_due-requires-clause-consistent : goal.compact_if_due-requires-clause-consistent
 compact_if_due-requires-clause-consistent g c =
     let seen = g.D.Device.seen in
+    let state = g.T.Words.state in
+    let told = changes_told c.args.changes.now in
     record {
-      settled = c.in_ok-append.ensures.settled;
+      settled = c.in-Ok.ensures.settled;
       same =
-          state_more (seen c.args.self.now.journal.device) (seen c.append.new.self.journal.device) (payload_of c.args.frame.now) c.in_ok-append.ensures.acknowledged
+          state_more (seen c.args.self.now.journal.device) (seen c.append.new.self.journal.device) (payload_of c.args.frame.now) c.in-Ok.ensures.acknowledged
           ∙ c.requires.stands
-          ∙ ap (λ w. Some (g.T.Words.state w)) (sym c.append.ensures.words);
+          ∙ ap (λ w. Some (all_erased_late (state w) told)) (sym c.append.ensures.words)
+          ∙ ap (λ s. Some s) (sym c.erase_rest.ensures);
     }
 
 pub compact_if_due-requires-clause-ordered : goal.compact_if_due-requires-clause-ordered
-compact_if_due-requires-clause-ordered g c = ap (λ w. (g.T.Words.state w).ordered) c.append.ensures.words ∙ c.requires.ordered
+compact_if_due-requires-clause-ordered g c =
+    let state = g.T.Words.state in
+    let told = changes_told c.args.changes.now in
+    ap (λ s. s.ordered) c.erase_rest.ensures ∙ ap (λ w. (all_erased_late (state w) told).ordered) c.append.ensures.words ∙ c.requires.ordered
 
-pub returns-in_err-append-clause-any_moment : goal.returns-in_err-append-clause-any_moment
-returns-in_err-append-clause-any_moment g c = λ s is.
-    let file = g.D.Device.seen c.args.self.now.journal.device in
-    let t = g.T.Words.state c.args.self.now.words in
-    let told = change_of_one (state_of file) s t (payload_of c.args.frame.now) c.requires.stands is in
-    weakens g.D.Device.moment g.D.Device.left_since c.args.self.now.journal.device c.append.new.self.journal.device _ _
-    (λ f. either file f (payload_of c.args.frame.now) s t is told) c.append.ensures.any_moment
+pub returns-in-Ok-clause-made : goal.returns-in-Ok-clause-made
+returns-in-Ok-clause-made g c =
+    let state = g.T.Words.state in
+    let told = changes_told c.args.changes.now in
+    let made = ap state c.compact_if_due.ensures.words ∙ c.erase_rest.ensures ∙ ap (λ w. all_erased_late (state w) told) c.append.ensures.words in
+    on_ok c.compact_if_due.result (λ (usable : c.compact_if_due.new.self.failed ≡ false). made) c.compact_if_due.ensures.done
 
-pub returns-clause-any_moment : goal.returns-clause-any_moment
-returns-clause-any_moment g c = λ s is.
+pub returns-in-Ok-clause-ready : goal.returns-in-Ok-clause-ready
+returns-in-Ok-clause-ready g c =
+    on_ok c.compact_if_due.result (λ (usable : c.compact_if_due.new.self.failed ≡ false). c.compact_if_due.ensures.ready) c.compact_if_due.ensures.done
+
+pub returns-in-Ok-clause-err : goal.returns-in-Ok-clause-err
+returns-in-Ok-clause-err g c =
+    let faults = g.D.Device.faults in
+    on_err c.compact_if_due.result
+    (λ e fails.
+    unwritten_by_device (faults c.args.self.now.journal.device) (faults c.append.new.self.journal.device) (faults c.compact_if_due.new.self.journal.device) c.args.self.now.failed c.compact_if_due.new.self.failed e
+    c.append.ensures.faults fails.0 fails.1) c.compact_if_due.ensures.err
+
+pub returns-in-Ok-clause-left : goal.returns-in-Ok-clause-left
+returns-in-Ok-clause-left g c =
+    let faults = g.D.Device.faults in
+    let state = g.T.Words.state in
+    let told = changes_told c.args.changes.now in
+    let made = ap state c.compact_if_due.ensures.words ∙ c.erase_rest.ensures ∙ ap (λ w. all_erased_late (state w) told) c.append.ensures.words in
+    on_err c.compact_if_due.result
+    (λ e fails.
+    leaves_unwritten (faults c.args.self.now.journal.device) (faults c.compact_if_due.new.self.journal.device) c.args.self.now.failed c.compact_if_due.new.self.failed e _ _ _
+    (unwritten_by_device (faults c.args.self.now.journal.device) (faults c.append.new.self.journal.device) (faults c.compact_if_due.new.self.journal.device) c.args.self.now.failed c.compact_if_due.new.self.failed e
+    c.append.ensures.faults fails.0 fails.1)
+    (λ broken. made) (λ is still. absurd (false≢true (sym c.requires.usable ∙ sym still ∙ fails.1)))) c.compact_if_due.ensures.err
+
+pub returns-in-Ok-clause-any_moment : goal.returns-in-Ok-clause-any_moment
+returns-in-Ok-clause-any_moment g c = λ s is.
     let file = g.D.Device.seen c.args.self.now.journal.device in
-    let t = g.T.Words.state c.args.self.now.words in
-    let told = change_of_one (state_of file) s t (payload_of c.args.frame.now) c.requires.stands is in
+    let told = changes_told c.args.changes.now in
+    let t = all_erased_late (g.T.Words.state c.args.self.now.words) told in
+    let made = c.erase_rest.ensures ∙ ap (λ w. all_erased_late (g.T.Words.state w) told) c.append.ensures.words in
+    let change = change_of_one (state_of file) s t (payload_of c.args.frame.now) c.requires.stands is in
     let first =
     weakens g.D.Device.moment g.D.Device.left_since c.args.self.now.journal.device c.append.new.self.journal.device _ (IsEither s t)
-    (λ f. either file f (payload_of c.args.frame.now) s t is told) c.append.ensures.any_moment in
+    (λ f. either file f (payload_of c.args.frame.now) s t is change) c.append.ensures.any_moment in
     let second =
     weakens g.D.Device.moment g.D.Device.left_since c.append.new.self.journal.device c.compact_if_due.new.self.journal.device _ (IsEither s t)
-    (λ f stands. inr (subst (λ w. StandsFor (g.T.Words.state w) f) c.append.ensures.words stands)) c.compact_if_due.ensures.any_moment in
+    (λ f stands. inr (subst (λ u. StandsFor u f) made stands)) c.compact_if_due.ensures.any_moment in
     joins g.D.Device.moment g.D.Device.left_since c.args.self.now.journal.device c.append.new.self.journal.device c.compact_if_due.new.self.journal.device (IsEither s t) first second
 
-pub returns-clause-recorded : goal.returns-clause-recorded
-returns-clause-recorded g c =
+pub returns-in-Ok-clause-recorded : goal.returns-in-Ok-clause-recorded
+returns-in-Ok-clause-recorded g c =
     let seen = g.D.Device.seen in
     let between = c.append.new.self in
     on_ok c.compact_if_due.result
     (λ more. ⊎_elim (λ same. inl same) (λ short. inr (λ is. short.0 (c.append.ensures.rule ∙ is), short.1))
-    (still_more (seen c.args.self.now.journal.device) (seen between.journal.device) (seen c.compact_if_due.new.self.journal.device) (payload_of c.args.frame.now) c.in_ok-append.ensures.acknowledged more))
+    (still_more (seen c.args.self.now.journal.device) (seen between.journal.device) (seen c.compact_if_due.new.self.journal.device) (payload_of c.args.frame.now) c.in-Ok.ensures.acknowledged more))
     c.compact_if_due.ensures.recorded
+
+pub returns-in-Err-then-not-self-clause-left : goal.returns-in-Err-then-not-self-clause-left
+returns-in-Err-then-not-self-clause-left g c =
+    let faults = g.D.Device.faults in
+    let usable : c.append.new.self.failed ≡ false = search rules in
+    leaves_unwritten (faults c.args.self.now.journal.device) (faults c.append.new.self.journal.device) c.args.self.now.failed c.append.new.self.failed c.in-Err.error _ _ _ c.in-Err.ensures.err
+    (λ broken. absurd (false≢true (sym usable ∙ broken)))
+    (λ is still.
+    let none : IsErrOf c.append.result error.NoRoom = c.in-Err.is ∙ ap (λ e. Err e) is in
+    record {
+      words = c.append.ensures.words;
+      end = c.in-Err.ensures.end;
+      settled = c.append.ensures.no_room none;
+      same = ap (λ r. option_and_then (replayed new_state) r) (c.append.ensures.same_left none);
+    })
+
+pub returns-in-Err-then-not-self-clause-any_moment : goal.returns-in-Err-then-not-self-clause-any_moment
+returns-in-Err-then-not-self-clause-any_moment g c = λ s is.
+    let file = g.D.Device.seen c.args.self.now.journal.device in
+    let t = all_erased_late (g.T.Words.state c.args.self.now.words) (changes_told c.args.changes.now) in
+    let change = change_of_one (state_of file) s t (payload_of c.args.frame.now) c.requires.stands is in
+    weakens g.D.Device.moment g.D.Device.left_since c.args.self.now.journal.device c.append.new.self.journal.device _ _
+    (λ f. either file f (payload_of c.args.frame.now) s t is change) c.append.ensures.any_moment
+
+pub returns-in-Err-clause-left : goal.returns-in-Err-clause-left
+returns-in-Err-clause-left g c =
+    let faults = g.D.Device.faults in
+    let broken : c.append.new.self.failed ≡ true = search rules in
+    leaves_unwritten (faults c.args.self.now.journal.device) (faults c.append.new.self.journal.device) c.args.self.now.failed c.append.new.self.failed c.in-Err.error _ _ _ c.in-Err.ensures.err
+    (λ _. c.erase_rest-in-Err.ensures ∙ ap (λ w. all_erased_late (g.T.Words.state w) (changes_told c.args.changes.now)) c.append.ensures.words)
+    (λ is still. absurd (false≢true (sym c.requires.usable ∙ sym still ∙ broken)))
+
+pub returns-in-Err-clause-any_moment : goal.returns-in-Err-clause-any_moment
+returns-in-Err-clause-any_moment g c = λ s is.
+    let file = g.D.Device.seen c.args.self.now.journal.device in
+    let t = all_erased_late (g.T.Words.state c.args.self.now.words) (changes_told c.args.changes.now) in
+    let change = change_of_one (state_of file) s t (payload_of c.args.frame.now) c.requires.stands is in
+    weakens g.D.Device.moment g.D.Device.left_since c.args.self.now.journal.device c.append.new.self.journal.device _ _
+    (λ f. either file f (payload_of c.args.frame.now) s t is change) c.append.ensures.any_moment

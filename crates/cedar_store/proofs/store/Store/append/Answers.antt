@@ -1,10 +1,15 @@
-use Rattle.std.proofs.Common.{refl}
-use Rattle.cedar_store.proofs.Opened.{journal_cause}
+use Rattle.std.specs.Prelude.{IsErrOf}
+use Rattle.std.proofs.Common.{◌<◌, ◌≤◌, ◌^◌, ap, arith, refl, rules}
+use Rattle.cedar_journal.specs.declared.journal.JournalError.TheVariants as journal
 use Rattle.cedar_store.proofs.store.Store.append.Goals as goal
 
-pub returns-in-Err-clause-err : goal.returns-in-Err-clause-err
-returns-in-Err-clause-err g c =
-    let faults = g.D.Device.faults in (
-      journal_cause c.args.self.now.journal.end (faults c.args.self.now.journal.device) (faults c.append.new.self.device) c.in-Err.error c.append.result c.from.result c.from.ensures c.in-Err.is c.append.ensures.full c.requires.room c.append.ensures.failed,
-      refl,
-    )
+pub returns-in-Err-Full-clause-err : goal.returns-in-Err-Full-clause-err
+returns-in-Err-Full-clause-err g c =
+    let is : IsErrOf c.append.result journal.Full = search rules in
+    let far = c.append.ensures.full is in
+    absurd (omega (arith, far, c.requires.room))
+
+pub returns-in-Err-NoRoom-clause-err : goal.returns-in-Err-NoRoom-clause-err
+returns-in-Err-NoRoom-clause-err g c =
+    let is : IsErrOf c.append.result journal.NoRoom = search rules in
+    (c.append.ensures.wanting is, refl)

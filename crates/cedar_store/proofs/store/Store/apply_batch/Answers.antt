@@ -1,18 +1,20 @@
 use Rattle.std.specs.Prelude.{nat_eq, option_and_then, option_map, Some}
 use Rattle.std.specs.List.{AllByRecursion}
-use Rattle.std.proofs.Common.{◌≡◌, false, ◌∙◌, ap, length, refl, subst, sym, rules}
+use Rattle.std.proofs.Common.{◌≡◌, false, true, ◌∙◌, ap, length, refl, subst, sym, rules}
 use Rattle.std.proofs.lemmas.Bool.{false≢true}
 use Rattle.cedar_journal.specs.Device.{LeavesOnly}
 use Rattle.cedar_journal.specs.Frames.{payload_of}
-use Rattle.cedar_store.specs.Batches.{IsFaultless, first_refused}
+use Rattle.cedar_tree.specs.State.{State}
+use Rattle.cedar_store.specs.Batches.{IsFaultless, all_erased_late, all_updated, first_refused}
 use Rattle.cedar_store.specs.Changes.{after, all_changed}
 use Rattle.cedar_store.specs.Files.{IsEither}
 use Rattle.cedar_store.specs.Told.{changes_told}
-use Rattle.cedar_store.proofs.Compacted.{recorded_in}
+use Rattle.cedar_store.proofs.Compacted.{failed_ready, recorded_in}
 use Rattle.cedar_store.proofs.FirstFaults.{first_handed, none_refused, nothing_told_of}
 use Rattle.cedar_store.proofs.Ordered.{stays_ordered}
 use Rattle.cedar_store.proofs.Payloads.{handed_on}
 use Rattle.cedar_store.proofs.Refused.{batch_cause, stays_prepared}
+use Rattle.cedar_store.proofs.Unwritten.{batch_unwritten, has_failed, lacks_room, leaves_unwritten}
 use Rattle.cedar_store.proofs.Withdrawn.{no_changes, nothing_told}
 use Rattle.cedar_store.proofs.store.Store.apply_batch.Goals as goal
 
@@ -29,8 +31,8 @@ returns-then-is_empty-clause-made g c =
 pub returns-then-is_empty-clause-faulty : goal.returns-then-is_empty-clause-faulty
 returns-then-is_empty-clause-faulty g c = λ _. subst (AllByRecursion IsFaultless) (sym (nothing_told c.args.changes.now (sym c.if-is_empty.ensures))) tt
 
-pub returns-clause-nothing : goal.returns-clause-nothing
-returns-clause-nothing g c = λ none. absurd (false≢true (c.if-is_empty.ensures ∙ ap (λ l. nat_eq (length l) 0) none))
+pub returns-in-Ok-clause-nothing : goal.returns-in-Ok-clause-nothing
+returns-in-Ok-clause-nothing g c = λ none. absurd (false≢true (c.if-is_empty.ensures ∙ ap (λ l. nat_eq (length l) 0) none))
 
 pub returns-in_err-batch-clause-cause : goal.returns-in_err-batch-clause-cause
 returns-in_err-batch-clause-cause g c =
@@ -41,40 +43,55 @@ returns-in_err-batch-clause-cause g c =
 pub returns-in_err-batch-clause-err : goal.returns-in_err-batch-clause-err
 returns-in_err-batch-clause-err g c =
     handed_on c.from_residual.result c.in_err-batch.field-0.0 _ c.from_residual.ensures.1
-    (stays_prepared (changes_told c.args.changes.now) c.args.self.now.journal.end c.in_err-batch.field-0.0 _ _ c.in_err-batch.ensures.cause (refl, refl, c.in_err-batch.ensures.err))
+    (stays_prepared (changes_told c.args.changes.now) c.args.self.now.journal.end c.in_err-batch.field-0.0 _ _ _ c.in_err-batch.ensures.cause (refl, refl, c.in_err-batch.ensures.err))
 
 pub acknowledge-requires-clause-ordered : goal.acknowledge-requires-clause-ordered
 acknowledge-requires-clause-ordered g c =
-    let s = (g.T.Words.state c.args.self.now.words) in
-    let kept : (g.T.Words.state c.make.new.words) ≡ all_changed s (changes_told c.args.changes.now) = search rules in
-    ap (λ t. t.ordered) kept ∙ stays_ordered (changes_told c.args.changes.now) s c.requires.ready.ordered
+    let s = g.T.Words.state c.args.self.now.words in
+    let told = changes_told c.args.changes.now in
+    let kept : all_erased_late (g.T.Words.state c.make.new.words) told ≡ all_changed s told = c.in_ok-batch.ensures.made in
+    ap (λ t. t.ordered) kept ∙ stays_ordered told s c.requires.ready.ordered
 
 pub acknowledge-requires-clause-stands : goal.acknowledge-requires-clause-stands
 acknowledge-requires-clause-stands g c =
-    let s = (g.T.Words.state c.args.self.now.words) in
+    let s = g.T.Words.state c.args.self.now.words in
+    let told = changes_told c.args.changes.now in
+    let kept : all_erased_late (g.T.Words.state c.make.new.words) told ≡ all_changed s told = c.in_ok-batch.ensures.made in
     let ready : c.args.self.now.failed ≡ false = search rules in
-    let told = ap (option_map (all_changed s)) c.in_ok-batch.ensures.change in
-    let kept : (g.T.Words.state c.make.new.words) ≡ all_changed s (changes_told c.args.changes.now) = search rules in
-    ap (option_and_then (λ t. after t (payload_of c.in_ok-batch.batch))) (c.requires.ready.consistent ready).same ∙ told ∙ ap Some (sym kept)
+    let change = ap (option_map (all_changed s)) c.in_ok-batch.ensures.change in
+    ap (option_and_then (λ t. after t (payload_of c.in_ok-batch.batch))) (c.requires.ready.consistent ready).same ∙ change ∙ ap Some (sym kept)
 
-pub returns-in_err-acknowledge-clause-any_moment : goal.returns-in_err-acknowledge-clause-any_moment
-returns-in_err-acknowledge-clause-any_moment g c = λ ready.
-    let s = (g.T.Words.state c.args.self.now.words) in
-    let kept : (g.T.Words.state c.make.new.words) ≡ all_changed s (changes_told c.args.changes.now) = search rules in
+pub returns-in-Ok-clause-any_moment : goal.returns-in-Ok-clause-any_moment
+returns-in-Ok-clause-any_moment g c = λ ready.
+    let s = g.T.Words.state c.args.self.now.words in
+    let told = changes_told c.args.changes.now in
+    let kept : all_erased_late (g.T.Words.state c.make.new.words) told ≡ all_changed s told = c.in_ok-batch.ensures.made in
     subst (λ t. LeavesOnly g.D.Device.moment g.D.Device.left_since c.args.self.now.journal.device c.acknowledge.new.self.journal.device (IsEither s t)) kept
     (c.acknowledge.ensures.any_moment s (c.requires.ready.consistent ready).same)
 
-pub returns-clause-any_moment : goal.returns-clause-any_moment
-returns-clause-any_moment g c = λ ready.
-    let s = (g.T.Words.state c.args.self.now.words) in
-    let kept : (g.T.Words.state c.make.new.words) ≡ all_changed s (changes_told c.args.changes.now) = search rules in
+pub returns-in-Err-then-self-clause-any_moment : goal.returns-in-Err-then-self-clause-any_moment
+returns-in-Err-then-self-clause-any_moment g c = λ ready.
+    let s = g.T.Words.state c.args.self.now.words in
+    let told = changes_told c.args.changes.now in
+    let kept : all_erased_late (g.T.Words.state c.make.new.words) told ≡ all_changed s told = c.in_ok-batch.ensures.made in
     subst (λ t. LeavesOnly g.D.Device.moment g.D.Device.left_since c.args.self.now.journal.device c.acknowledge.new.self.journal.device (IsEither s t)) kept
     (c.acknowledge.ensures.any_moment s (c.requires.ready.consistent ready).same)
 
-pub returns-clause-recorded : goal.returns-clause-recorded
-returns-clause-recorded g c = λ _.
+pub returns-in-Err-clause-any_moment : goal.returns-in-Err-clause-any_moment
+returns-in-Err-clause-any_moment g c = λ ready.
+    let s = g.T.Words.state c.args.self.now.words in
+    let told = changes_told c.args.changes.now in
+    let kept : all_erased_late (g.T.Words.state c.make.new.words) told ≡ all_changed s told = c.in_ok-batch.ensures.made in
+    subst (λ t. LeavesOnly g.D.Device.moment g.D.Device.left_since c.args.self.now.journal.device c.acknowledge.new.self.journal.device (IsEither s t)) kept
+    (c.acknowledge.ensures.any_moment s (c.requires.ready.consistent ready).same)
+
+pub returns-in-Ok-clause-recorded : goal.returns-in-Ok-clause-recorded
+returns-in-Ok-clause-recorded g c = λ _.
     let seen = g.D.Device.seen in
-    recorded_in (seen c.args.self.now.journal.device) (seen c.acknowledge.new.self.journal.device) (payload_of c.in_ok-batch.batch) (changes_told c.args.changes.now) c.in_ok-batch.ensures.change c.in_ok-acknowledge.ensures.recorded
+    recorded_in (seen c.args.self.now.journal.device) (seen c.acknowledge.new.self.journal.device) (payload_of c.in_ok-batch.batch) (changes_told c.args.changes.now) c.in_ok-batch.ensures.change c.in-Ok.ensures.recorded
+
+pub returns-in-Ok-clause-made : goal.returns-in-Ok-clause-made
+returns-in-Ok-clause-made g c = (c.in-Ok.ensures.done, c.in-Ok.ensures.made ∙ c.in_ok-batch.ensures.made)
 
 pub returns-then-is_empty-clause-recorded : goal.returns-then-is_empty-clause-recorded
 returns-then-is_empty-clause-recorded g c = λ some. absurd (some (no_changes c.args.changes.now (sym c.if-is_empty.ensures)))
@@ -86,8 +103,129 @@ pub returns-in_err-batch-clause-first : goal.returns-in_err-batch-clause-first
 returns-in_err-batch-clause-first g c = λ _.
     first_handed _ (first_refused 0 (changes_told c.args.changes.now)) c.in_err-batch.field-0.0 c.from_residual.result c.from_residual.ensures.1 c.in_err-batch.ensures.faulty
 
-pub returns-in_err-acknowledge-clause-first : goal.returns-in_err-acknowledge-clause-first
-returns-in_err-acknowledge-clause-first g c = λ _. nothing_told_of (first_refused 0 (changes_told c.args.changes.now)) _ (none_refused (changes_told c.args.changes.now) 0 c.in_ok-batch.ensures.faultless)
+pub returns-in-Ok-clause-first : goal.returns-in-Ok-clause-first
+returns-in-Ok-clause-first g c = λ _. nothing_told_of (first_refused 0 (changes_told c.args.changes.now)) _ (none_refused (changes_told c.args.changes.now) 0 c.in_ok-batch.ensures.faultless)
 
-pub returns-clause-first : goal.returns-clause-first
-returns-clause-first g c = λ _. nothing_told_of (first_refused 0 (changes_told c.args.changes.now)) _ (none_refused (changes_told c.args.changes.now) 0 c.in_ok-batch.ensures.faultless)
+pub returns-in-Err-then-self-clause-first : goal.returns-in-Err-then-self-clause-first
+returns-in-Err-then-self-clause-first g c = λ _. nothing_told_of (first_refused 0 (changes_told c.args.changes.now)) _ (none_refused (changes_told c.args.changes.now) 0 c.in_ok-batch.ensures.faultless)
+
+pub returns-in-Err-clause-first : goal.returns-in-Err-clause-first
+returns-in-Err-clause-first g c = λ _. nothing_told_of (first_refused 0 (changes_told c.args.changes.now)) _ (none_refused (changes_told c.args.changes.now) 0 c.in_ok-batch.ensures.faultless)
+
+pub returns-in-Err-then-self-clause-ready : goal.returns-in-Err-then-self-clause-ready
+returns-in-Err-then-self-clause-ready g c =
+    let s = g.T.Words.state c.args.self.now.words in
+    let told = changes_told c.args.changes.now in
+    let kept : all_erased_late (g.T.Words.state c.make.new.words) told ≡ all_changed s told = c.in_ok-batch.ensures.made in
+    let d = g.D.Device in
+    let state = g.T.Words.state in
+    let old = c.args.self.now in
+    let new = c.acknowledge.new.self in
+    let usable : old.failed ≡ false = search rules in
+    let cause = c.in-Err.ensures.err in
+    let left = c.in-Err.ensures.left in
+    let before = d.faults old.journal.device in
+    let now = d.faults new.journal.device in
+    let e = c.in-Err.error in
+    let broken : new.failed ≡ true = search rules in
+    let done = has_failed before now old.failed new.failed e _ _ cause usable broken left ∙ kept in
+    failed_ready d.seen d.may_leave new.journal.device new.journal.format new.journal.end (state new.words) new.failed broken (ap (λ t. t.ordered) done ∙ stays_ordered told s c.requires.ready.ordered)
+
+pub returns-in-Err-then-self-clause-err : goal.returns-in-Err-then-self-clause-err
+returns-in-Err-then-self-clause-err g c =
+    let s = g.T.Words.state c.args.self.now.words in
+    let told = changes_told c.args.changes.now in
+    let kept : all_erased_late (g.T.Words.state c.make.new.words) told ≡ all_changed s told = c.in_ok-batch.ensures.made in
+    let d = g.D.Device in
+    let state = g.T.Words.state in
+    let old = c.args.self.now in
+    let new = c.acknowledge.new.self in
+    let usable : old.failed ≡ false = search rules in
+    let cause = c.in-Err.ensures.err in
+    let left = c.in-Err.ensures.left in
+    let before = d.faults old.journal.device in
+    let now = d.faults new.journal.device in
+    let e = c.in-Err.error in
+    let broken : new.failed ≡ true = search rules in
+    let done = has_failed before now old.failed new.failed e _ _ cause usable broken left ∙ kept in
+    leaves_unwritten before now old.failed new.failed e _ _ _ cause (λ _. (broken, done)) (λ _ still. absurd (false≢true (sym usable ∙ sym still ∙ broken)))
+
+pub returns-in-Err-then-self-clause-cause : goal.returns-in-Err-then-self-clause-cause
+returns-in-Err-then-self-clause-cause g c =
+    let s = g.T.Words.state c.args.self.now.words in
+    let told = changes_told c.args.changes.now in
+    let kept : all_erased_late (g.T.Words.state c.make.new.words) told ≡ all_changed s told = c.in_ok-batch.ensures.made in
+    let d = g.D.Device in
+    let state = g.T.Words.state in
+    let old = c.args.self.now in
+    let new = c.acknowledge.new.self in
+    let usable : old.failed ≡ false = search rules in
+    let cause = c.in-Err.ensures.err in
+    let left = c.in-Err.ensures.left in
+    let before = d.faults old.journal.device in
+    let now = d.faults new.journal.device in
+    let e = c.in-Err.error in
+    batch_unwritten old.failed new.failed told old.journal.end before now e cause
+
+pub returns-in-Err-clause-cause : goal.returns-in-Err-clause-cause
+returns-in-Err-clause-cause g c =
+    let s = g.T.Words.state c.args.self.now.words in
+    let told = changes_told c.args.changes.now in
+    let kept : all_erased_late (g.T.Words.state c.make.new.words) told ≡ all_changed s told = c.in_ok-batch.ensures.made in
+    let d = g.D.Device in
+    let state = g.T.Words.state in
+    let old = c.args.self.now in
+    let new = c.acknowledge.new.self in
+    let usable : old.failed ≡ false = search rules in
+    let cause = c.in-Err.ensures.err in
+    let left = c.in-Err.ensures.left in
+    let before = d.faults old.journal.device in
+    let now = d.faults new.journal.device in
+    let e = c.in-Err.error in
+    batch_unwritten old.failed new.failed told old.journal.end before now e cause
+
+pub returns-in-Err-clause-ready : goal.returns-in-Err-clause-ready
+returns-in-Err-clause-ready g c =
+    let s = g.T.Words.state c.args.self.now.words in
+    let told = changes_told c.args.changes.now in
+    let kept : all_erased_late (g.T.Words.state c.make.new.words) told ≡ all_changed s told = c.in_ok-batch.ensures.made in
+    let d = g.D.Device in
+    let state = g.T.Words.state in
+    let old = c.args.self.now in
+    let new = c.acknowledge.new.self in
+    let usable : old.failed ≡ false = search rules in
+    let cause = c.in-Err.ensures.err in
+    let left = c.in-Err.ensures.left in
+    let before = d.faults old.journal.device in
+    let now = d.faults new.journal.device in
+    let e = c.in-Err.error in
+    let well : new.failed ≡ false = search rules in
+    let room = lacks_room before now old.failed new.failed e _ _ cause well left in
+    let updated = ap state room.words ∙ c.in_ok-batch.ensures.updated in
+    let back : state c.take_all_back.new.words ≡ s = c.take_all_back.ensures s c.in_ok-batch.ensures.held updated in
+    let was = c.requires.ready.consistent usable in
+    record {
+      ordered = ap (λ t. t.ordered) back ∙ c.requires.ready.ordered;
+      consistent = λ _. record { settled = room.settled; same = room.same ∙ was.same ∙ ap (λ t. Some t) (sym back) };
+    }
+
+pub returns-in-Err-clause-err : goal.returns-in-Err-clause-err
+returns-in-Err-clause-err g c =
+    let s = g.T.Words.state c.args.self.now.words in
+    let told = changes_told c.args.changes.now in
+    let kept : all_erased_late (g.T.Words.state c.make.new.words) told ≡ all_changed s told = c.in_ok-batch.ensures.made in
+    let d = g.D.Device in
+    let state = g.T.Words.state in
+    let old = c.args.self.now in
+    let new = c.acknowledge.new.self in
+    let usable : old.failed ≡ false = search rules in
+    let cause = c.in-Err.ensures.err in
+    let left = c.in-Err.ensures.left in
+    let before = d.faults old.journal.device in
+    let now = d.faults new.journal.device in
+    let e = c.in-Err.error in
+    let well : new.failed ≡ false = search rules in
+    let room = lacks_room before now old.failed new.failed e _ _ cause well left in
+    let updated = ap state room.words ∙ c.in_ok-batch.ensures.updated in
+    let back : state c.take_all_back.new.words ≡ s = c.take_all_back.ensures s c.in_ok-batch.ensures.held updated in
+    leaves_unwritten before now old.failed new.failed e _ _ _ cause (λ broken. absurd (false≢true (sym well ∙ broken))) (λ _ _. (well, room.end, back))

@@ -1,39 +1,62 @@
 use Rattle.std.specs.Prelude.{option_and_then, option_map, Some}
-use Rattle.std.proofs.Common.{◌≡◌, [], ◌∷◌, false, ◌∙◌, ap, subst, sym, rules}
+use Rattle.std.proofs.Common.{◌≡◌, [], ◌∷◌, false, true, length, ◌+◌, ◌∙◌, ap, subst, sym, rules}
+use Rattle.std.proofs.lemmas.Bool.{false≢true}
 use Rattle.cedar_journal.specs.Device.{LeavesOnly}
 use Rattle.cedar_journal.specs.Frames.{payload_of}
 use Rattle.cedar_tree.specs.State.{erased}
 use Rattle.cedar_store.specs.Changes.{after, all_changed, erase_at}
 use Rattle.cedar_store.specs.Files.{IsEither}
 use Rattle.cedar_store.proofs.Compacted.{recorded_in}
+use Rattle.cedar_store.proofs.Payloads.{handed_on}
+use Rattle.cedar_store.proofs.Unwritten.{erase_unwritten, leaves_so, ready_unwritten}
 use Rattle.cedar_store.proofs.store.Store.erase_bytes.Goals as goal
 
 pub acknowledge-requires-clause-ordered : goal.acknowledge-requires-clause-ordered
-acknowledge-requires-clause-ordered g c =
-    let kept : (g.T.Words.state c.remove.new.self) ≡ erased (g.T.Words.state c.args.self.now.words) c.args.key.now = search rules in
-    ap (λ s. s.ordered) kept ∙ c.requires.ready.ordered
+acknowledge-requires-clause-ordered g c = c.requires.ready.ordered
 
 pub acknowledge-requires-clause-stands : goal.acknowledge-requires-clause-stands
 acknowledge-requires-clause-stands g c =
     let s = (g.T.Words.state c.args.self.now.words) in
     let ready : c.args.self.now.failed ≡ false = search rules in
     let told = ap (option_map (all_changed s)) c.in_ok-erasure.ensures.change in
-    let kept : (g.T.Words.state c.remove.new.self) ≡ erased s c.args.key.now = search rules in
-    ap (option_and_then (λ t. after t (payload_of c.in_ok-erasure.erasure))) (c.requires.ready.consistent ready).same ∙ told ∙ ap Some (sym kept)
+    ap (option_and_then (λ t. after t (payload_of c.in_ok-erasure.erasure))) (c.requires.ready.consistent ready).same ∙ told
 
 pub returns-in_err-acknowledge-clause-any_moment : goal.returns-in_err-acknowledge-clause-any_moment
-returns-in_err-acknowledge-clause-any_moment g c = λ ready.
-    let s = (g.T.Words.state c.args.self.now.words) in
-    let kept : (g.T.Words.state c.remove.new.self) ≡ erased s c.args.key.now = search rules in
-    subst (λ t. LeavesOnly g.D.Device.moment g.D.Device.left_since c.args.self.now.journal.device c.acknowledge.new.self.journal.device (IsEither s t)) kept
-    (c.acknowledge.ensures.any_moment s (c.requires.ready.consistent ready).same)
+returns-in_err-acknowledge-clause-any_moment g c = λ ready. c.acknowledge.ensures.any_moment (g.T.Words.state c.args.self.now.words) (c.requires.ready.consistent ready).same
 
 pub returns-clause-any_moment : goal.returns-clause-any_moment
-returns-clause-any_moment g c = λ ready.
-    let s = (g.T.Words.state c.args.self.now.words) in
-    let kept : (g.T.Words.state c.remove.new.self) ≡ erased s c.args.key.now = search rules in
-    subst (λ t. LeavesOnly g.D.Device.moment g.D.Device.left_since c.args.self.now.journal.device c.acknowledge.new.self.journal.device (IsEither s t)) kept
-    (c.acknowledge.ensures.any_moment s (c.requires.ready.consistent ready).same)
+returns-clause-any_moment g c = λ ready. c.acknowledge.ensures.any_moment (g.T.Words.state c.args.self.now.words) (c.requires.ready.consistent ready).same
+
+pub returns-in_err-acknowledge-clause-cause : goal.returns-in_err-acknowledge-clause-cause
+returns-in_err-acknowledge-clause-cause g c =
+    let faults = g.D.Device.faults in
+    let old = c.args.self.now in
+    let new = c.acknowledge.new.self in
+    let e = c.in_err-acknowledge.field-0.0 in
+    handed_on c.from_residual-in_err-acknowledge.result e _ c.from_residual-in_err-acknowledge.ensures.1
+    (erase_unwritten old.failed new.failed old.journal.end (length c.args.key.now + 1) (faults old.journal.device) (faults new.journal.device) e c.in_err-acknowledge.ensures.err)
+
+pub returns-in_err-acknowledge-clause-err : goal.returns-in_err-acknowledge-clause-err
+returns-in_err-acknowledge-clause-err g c =
+    let faults = g.D.Device.faults in
+    let state = g.T.Words.state in
+    let old = c.args.self.now in
+    let new = c.acknowledge.new.self in
+    let usable : old.failed ≡ false = search rules in
+    let e = c.in_err-acknowledge.field-0.0 in
+    handed_on c.from_residual-in_err-acknowledge.result e _ c.from_residual-in_err-acknowledge.ensures.1
+    (leaves_so (faults old.journal.device) (faults new.journal.device) old.failed new.failed e _ _ _ _ _ c.in_err-acknowledge.ensures.err c.in_err-acknowledge.ensures.left
+    (λ broken made. (broken, made)) (λ still room. (still ∙ usable, room.end, ap state room.words)))
+
+pub returns-in_err-acknowledge-clause-ready : goal.returns-in_err-acknowledge-clause-ready
+returns-in_err-acknowledge-clause-ready g c =
+    let d = g.D.Device in
+    let state = g.T.Words.state in
+    let old = c.args.self.now in
+    let new = c.acknowledge.new.self in
+    let usable : old.failed ≡ false = search rules in
+    ready_unwritten d.seen d.may_leave state old new (d.faults old.journal.device) (d.faults new.journal.device) (erased (state old.words) c.args.key.now) c.in_err-acknowledge.field-0.0 c.requires.ready.ordered c.requires.ready usable
+    c.in_err-acknowledge.ensures.err c.in_err-acknowledge.ensures.left
 
 pub returns-clause-recorded : goal.returns-clause-recorded
 returns-clause-recorded g c = λ _.

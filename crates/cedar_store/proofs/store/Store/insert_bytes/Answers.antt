@@ -1,5 +1,6 @@
 use Rattle.std.specs.Prelude.{option_and_then, option_map, FitsSigned, Some}
-use Rattle.std.proofs.Common.{◌≡◌, [], ◌∷◌, false, ◌∙◌, ap, subst, sym, rules}
+use Rattle.std.proofs.Common.{◌≡◌, [], ◌∷◌, false, true, length, ◌+◌, ◌∙◌, ap, subst, sym, rules}
+use Rattle.std.proofs.lemmas.Bool.{false≢true}
 use Rattle.std.proofs.lemmas.Int.{to_z-of_z}
 use mir.Syntax.{w32}
 use Rattle.cedar_journal.specs.Device.{LeavesOnly}
@@ -7,7 +8,11 @@ use Rattle.cedar_journal.specs.Frames.{payload_of}
 use Rattle.cedar_tree.specs.State.{stored}
 use Rattle.cedar_store.specs.Changes.{after, all_changed, put_at}
 use Rattle.cedar_store.specs.Files.{IsEither}
-use Rattle.cedar_store.proofs.Compacted.{recorded_in}
+use Rattle.cedar_store.specs.Promises.{LostRoom}
+use Rattle.cedar_store.specs.Undo.{IsPutOf}
+use Rattle.cedarwood.specs.Fault.{fault}
+use Rattle.cedar_store.proofs.Compacted.{failed_ready, recorded_in}
+use Rattle.cedar_store.proofs.Unwritten.{change_unwritten, has_failed, lacks_room, leaves_unwritten}
 use Rattle.cedar_store.proofs.store.Store.insert_bytes.Goals as goal
 
 pub acknowledge-requires-clause-ordered : goal.acknowledge-requires-clause-ordered
@@ -25,25 +30,151 @@ acknowledge-requires-clause-stands g c =
     let kept : (g.T.Words.state c.put.new.self) ≡ stored s c.args.key.now c.args.value = search rules in
     ap (option_and_then (λ t. after t (payload_of c.in-Ok.frame))) (c.requires.ready.consistent ready).same ∙ told ∙ ap Some (sym kept)
 
-pub returns-in_err-acknowledge-in-Ok-clause-any_moment : goal.returns-in_err-acknowledge-in-Ok-clause-any_moment
-returns-in_err-acknowledge-in-Ok-clause-any_moment g c = λ ready.
+pub returns-in-Ok-acknowledge-clause-any_moment : goal.returns-in-Ok-acknowledge-clause-any_moment
+returns-in-Ok-acknowledge-clause-any_moment g c = λ ready.
     let s = (g.T.Words.state c.args.self.now.words) in
     let kept : (g.T.Words.state c.put.new.self) ≡ stored s c.args.key.now c.args.value = search rules in
     let moment = g.D.Device.moment in
     subst (λ t. LeavesOnly moment g.D.Device.left_since c.args.self.now.journal.device c.acknowledge.new.self.journal.device (IsEither s t)) kept
     (c.acknowledge.ensures.any_moment s (c.requires.ready.consistent ready).same)
 
-pub returns-in_ok-acknowledge-in-Ok-clause-any_moment : goal.returns-in_ok-acknowledge-in-Ok-clause-any_moment
-returns-in_ok-acknowledge-in-Ok-clause-any_moment g c = λ ready.
+pub returns-in-Err-acknowledge-then-self-clause-any_moment : goal.returns-in-Err-acknowledge-then-self-clause-any_moment
+returns-in-Err-acknowledge-then-self-clause-any_moment g c = λ ready.
     let s = (g.T.Words.state c.args.self.now.words) in
     let kept : (g.T.Words.state c.put.new.self) ≡ stored s c.args.key.now c.args.value = search rules in
     let moment = g.D.Device.moment in
     subst (λ t. LeavesOnly moment g.D.Device.left_since c.args.self.now.journal.device c.acknowledge.new.self.journal.device (IsEither s t)) kept
     (c.acknowledge.ensures.any_moment s (c.requires.ready.consistent ready).same)
 
-pub returns-in_ok-acknowledge-in-Ok-clause-recorded : goal.returns-in_ok-acknowledge-in-Ok-clause-recorded
-returns-in_ok-acknowledge-in-Ok-clause-recorded g c =
+pub returns-in-Err-acknowledge-clause-any_moment : goal.returns-in-Err-acknowledge-clause-any_moment
+returns-in-Err-acknowledge-clause-any_moment g c = λ ready.
+    let s = (g.T.Words.state c.args.self.now.words) in
+    let kept : (g.T.Words.state c.put.new.self) ≡ stored s c.args.key.now c.args.value = search rules in
+    let moment = g.D.Device.moment in
+    subst (λ t. LeavesOnly moment g.D.Device.left_since c.args.self.now.journal.device c.acknowledge.new.self.journal.device (IsEither s t)) kept
+    (c.acknowledge.ensures.any_moment s (c.requires.ready.consistent ready).same)
+
+pub returns-in-Ok-acknowledge-clause-recorded : goal.returns-in-Ok-acknowledge-clause-recorded
+returns-in-Ok-acknowledge-clause-recorded g c =
     let seen = g.D.Device.seen in
     let fits : FitsSigned w32 c.args.value = search rules in
     let told = c.in-Ok.ensures.change ∙ ap (λ v. Some (put_at c.args.key.now v ∷ [])) (to_z-of_z w32 c.args.value fits) in
-    recorded_in (seen c.args.self.now.journal.device) (seen c.acknowledge.new.self.journal.device) (payload_of c.in-Ok.frame) (put_at c.args.key.now c.args.value ∷ []) told c.in_ok-acknowledge-in-Ok.ensures.recorded
+    recorded_in (seen c.args.self.now.journal.device) (seen c.acknowledge.new.self.journal.device) (payload_of c.in-Ok.frame) (put_at c.args.key.now c.args.value ∷ []) told c.in-Ok-acknowledge.ensures.recorded
+
+pub returns-in-Err-acknowledge-then-self-clause-ready : goal.returns-in-Err-acknowledge-then-self-clause-ready
+returns-in-Err-acknowledge-then-self-clause-ready g c =
+    let d = g.D.Device in
+    let state = g.T.Words.state in
+    let old = c.args.self.now in
+    let new = c.acknowledge.new.self in
+    let s = state old.words in
+    let key = c.args.key.now in
+    let usable : old.failed ≡ false = search rules in
+    let kept : state c.put.new.self ≡ stored s key c.args.value = search rules in
+    let cause = c.in-Err-acknowledge.ensures.err in
+    let left = c.in-Err-acknowledge.ensures.left in
+    let before = d.faults old.journal.device in
+    let now = d.faults new.journal.device in
+    let e = c.in-Err-acknowledge.error in
+    let broken : new.failed ≡ true = search rules in
+    let done = has_failed before now old.failed new.failed e _ _ cause usable broken left ∙ kept in
+    failed_ready d.seen d.may_leave new.journal.device new.journal.format new.journal.end (state new.words) new.failed broken (ap (λ t. t.ordered) done ∙ c.requires.ready.ordered)
+
+pub returns-in-Err-acknowledge-then-self-clause-err : goal.returns-in-Err-acknowledge-then-self-clause-err
+returns-in-Err-acknowledge-then-self-clause-err g c =
+    let d = g.D.Device in
+    let state = g.T.Words.state in
+    let old = c.args.self.now in
+    let new = c.acknowledge.new.self in
+    let s = state old.words in
+    let key = c.args.key.now in
+    let usable : old.failed ≡ false = search rules in
+    let kept : state c.put.new.self ≡ stored s key c.args.value = search rules in
+    let cause = c.in-Err-acknowledge.ensures.err in
+    let left = c.in-Err-acknowledge.ensures.left in
+    let before = d.faults old.journal.device in
+    let now = d.faults new.journal.device in
+    let e = c.in-Err-acknowledge.error in
+    let broken : new.failed ≡ true = search rules in
+    let done = has_failed before now old.failed new.failed e _ _ cause usable broken left ∙ kept in
+    leaves_unwritten before now old.failed new.failed e _ _ _ cause (λ _. (broken, done)) (λ _ still. absurd (false≢true (sym usable ∙ sym still ∙ broken)))
+
+pub returns-in-Err-acknowledge-then-self-clause-cause : goal.returns-in-Err-acknowledge-then-self-clause-cause
+returns-in-Err-acknowledge-then-self-clause-cause g c =
+    let d = g.D.Device in
+    let state = g.T.Words.state in
+    let old = c.args.self.now in
+    let new = c.acknowledge.new.self in
+    let s = state old.words in
+    let key = c.args.key.now in
+    let usable : old.failed ≡ false = search rules in
+    let kept : state c.put.new.self ≡ stored s key c.args.value = search rules in
+    let cause = c.in-Err-acknowledge.ensures.err in
+    let left = c.in-Err-acknowledge.ensures.left in
+    let before = d.faults old.journal.device in
+    let now = d.faults new.journal.device in
+    let e = c.in-Err-acknowledge.error in
+    change_unwritten old.failed new.failed (fault key c.args.value) old.journal.end (length key + 5) before now e cause
+
+pub returns-in-Err-acknowledge-clause-cause : goal.returns-in-Err-acknowledge-clause-cause
+returns-in-Err-acknowledge-clause-cause g c =
+    let d = g.D.Device in
+    let state = g.T.Words.state in
+    let old = c.args.self.now in
+    let new = c.acknowledge.new.self in
+    let s = state old.words in
+    let key = c.args.key.now in
+    let usable : old.failed ≡ false = search rules in
+    let kept : state c.put.new.self ≡ stored s key c.args.value = search rules in
+    let cause = c.in-Err-acknowledge.ensures.err in
+    let left = c.in-Err-acknowledge.ensures.left in
+    let before = d.faults old.journal.device in
+    let now = d.faults new.journal.device in
+    let e = c.in-Err-acknowledge.error in
+    change_unwritten old.failed new.failed (fault key c.args.value) old.journal.end (length key + 5) before now e cause
+
+pub returns-in-Err-acknowledge-clause-ready : goal.returns-in-Err-acknowledge-clause-ready
+returns-in-Err-acknowledge-clause-ready g c =
+    let d = g.D.Device in
+    let state = g.T.Words.state in
+    let old = c.args.self.now in
+    let new = c.acknowledge.new.self in
+    let s = state old.words in
+    let key = c.args.key.now in
+    let usable : old.failed ≡ false = search rules in
+    let kept : state c.put.new.self ≡ stored s key c.args.value = search rules in
+    let cause = c.in-Err-acknowledge.ensures.err in
+    let left = c.in-Err-acknowledge.ensures.left in
+    let before = d.faults old.journal.device in
+    let now = d.faults new.journal.device in
+    let e = c.in-Err-acknowledge.error in
+    let well : new.failed ≡ false = search rules in
+    let room = lacks_room before now old.failed new.failed e _ _ cause well left in
+    let put : IsPutOf s key c.in_ok-held.held (state c.put.new.self) = search rules in
+    let back : state c.take_back.new.words ≡ s = c.take_back.ensures s (subst (λ w. IsPutOf s key c.in_ok-held.held (state w)) (sym room.words) put) in
+    let was = c.requires.ready.consistent usable in
+    record {
+      ordered = ap (λ t. t.ordered) back ∙ c.requires.ready.ordered;
+      consistent = λ _. record { settled = room.settled; same = room.same ∙ was.same ∙ ap (λ t. Some t) (sym back) };
+    }
+
+pub returns-in-Err-acknowledge-clause-err : goal.returns-in-Err-acknowledge-clause-err
+returns-in-Err-acknowledge-clause-err g c =
+    let d = g.D.Device in
+    let state = g.T.Words.state in
+    let old = c.args.self.now in
+    let new = c.acknowledge.new.self in
+    let s = state old.words in
+    let key = c.args.key.now in
+    let usable : old.failed ≡ false = search rules in
+    let kept : state c.put.new.self ≡ stored s key c.args.value = search rules in
+    let cause = c.in-Err-acknowledge.ensures.err in
+    let left = c.in-Err-acknowledge.ensures.left in
+    let before = d.faults old.journal.device in
+    let now = d.faults new.journal.device in
+    let e = c.in-Err-acknowledge.error in
+    let well : new.failed ≡ false = search rules in
+    let room = lacks_room before now old.failed new.failed e _ _ cause well left in
+    let put : IsPutOf s key c.in_ok-held.held (state c.put.new.self) = search rules in
+    let back : state c.take_back.new.words ≡ s = c.take_back.ensures s (subst (λ w. IsPutOf s key c.in_ok-held.held (state w)) (sym room.words) put) in
+    leaves_unwritten before now old.failed new.failed e _ _ _ cause (λ broken. absurd (false≢true (sym well ∙ broken))) (λ _ _. (well, room.end, back))

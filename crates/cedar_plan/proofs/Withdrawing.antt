@@ -1,0 +1,109 @@
+-- A record for which there was no room is withdrawn.
+use Rattle.std.specs.Prelude.{◌&&◌, IsTrue}
+use Rattle.std.proofs.Common.{◌≡◌, ◌⊎◌, inl, inr, ℕ, ◌+◌, ◌≤◌, Bool, true, false, List, [], ◌∷◌, ◌++◌, length, take, drop, refl, sym, ◌∙◌, ap, subst, arith, length-append, length-take}
+use Rattle.std.proofs.lemmas.Bool.{le-leb}
+use Rattle.std.proofs.lemmas.List.{take-take}
+use Rattle.cedar_journal.specs.declared.format.Format.{Format}
+use Rattle.cedar_journal.specs.Device.{Cut, Only, Torn}
+use Rattle.cedar_journal.specs.Files.{recovered}
+use Rattle.cedar_journal.proofs.Crash.{behind_gate, closed_stands, front_ends, gated_stands, settled_at}
+use Rattle.cedar_journal.proofs.Moments as moments
+use Rattle.cedar_journal.proofs.Tears.{torn_held}
+use Rattle.cedar_disk.specs.Calls.{Call, LeftSince, MayLeave, all_within, is_usable_after, overlaid, seen_after, shortened, synced, written}
+use Rattle.cedar_disk.proofs.Steps.{both, cut_follows, sync_keeps, synced_only, write_follows}
+use Rattle.cedar_plan.specs.Safety.{CrashLeaves, IsAtRest, IsCutBack, IsWithdrawn, cut_back}
+use Rattle.cedar_plan.proofs.Working.{leaves_one}
+
+-- a cut behind the first bytes keeps these
+cut_keeps_front : (n : ℕ) (front d c : List ℕ) → length front ≡ n → take n d ≡ front → Cut n d c → take n c ≡ front
+cut_keeps_front n front d c size is cut =
+    let long : n ≤ length d = omega (arith, ap length is, length-take n d, size) in
+    let kept : n ≤ length c = omega (arith, cut.no_shorter, long) in
+    ap (λ (l : List ℕ). take n l) (sym cut.front) ∙ take-take n (length c) d kept ∙ is
+
+module _ (calls : List Call) (f : Format) (end : ℕ) (bytes : List ℕ) (rest : IsAtRest calls f end) where
+  abbrev file : List ℕ
+  file = seen_after calls
+
+  abbrev P : List ℕ → Type 0
+  P c = recovered c ≡ recovered file
+
+  abbrev mid : List Call
+  mid = written (end + 1) bytes true ∷ calls
+
+  abbrev shorter : Bool → List Call
+  shorter ok = shortened (end + 1) ok ∷ mid
+
+  -- all up to the closed gate
+  abbrev gated : List ℕ
+  gated = take end file ++ 0 ∷ []
+
+  gated_size : length gated ≡ end + 1
+  gated_size = omega (arith, length-append (take end file) (0 ∷ []), front_ends file end rest.settled.split)
+
+  fits : end + 1 ≤ length file
+  fits = omega (arith, front_ends file end rest.settled.split, ap length rest.settled.split, length-append (take end file) (0 ∷ drop (end + 1) file))
+
+  gate_of : (c : List ℕ) → Torn (end + 1) (length bytes) file c → take (end + 1) c ≡ gated
+  gate_of c torn = behind_gate file f end rest.settled.split rest.settled.front (length bytes) c torn
+
+  stands : (c : List ℕ) → take (end + 1) c ≡ gated → P c
+  stands c is = gated_stands file f end rest.settled.split rest.settled.front c is
+
+  mid_seen : take (end + 1) (seen_after mid) ≡ gated
+  mid_seen = gate_of (seen_after mid) (torn_held (end + 1) bytes file (seen_after mid) fits refl)
+
+  mid_long : end + 1 ≤ length (seen_after mid)
+  mid_long = omega (arith, ap length mid_seen, length-take (end + 1) (seen_after mid), gated_size)
+
+  mid_left : (c : List ℕ) → MayLeave mid c → take (end + 1) c ≡ gated
+  mid_left c left =
+      let from = write_follows calls mid (end + 1) bytes true refl c left in
+      gate_of c (subst (λ d. Torn (end + 1) (length bytes) d c) (rest.settled.durable from.0 from.1) from.2)
+
+  cut_left : (ok : Bool) (c : List ℕ) → MayLeave (shorter ok) c → take (end + 1) c ≡ gated
+  cut_left ok c left =
+      let from = cut_follows mid (shorter ok) (end + 1) ok refl c left in
+      cut_keeps_front (end + 1) gated from.0 c gated_size (mid_left from.0 from.1) from.2
+
+  within : IsTrue (all_within (shorter true))
+  within = both _ _ (le-leb (end + 1) (length (seen_after mid)) mid_long) (both _ _ (le-leb (end + 1) (length file) fits) rest.within)
+
+  usable : IsTrue (is_usable_after (shorter true))
+  usable = both _ _ (both _ _ rest.usable refl) refl
+
+  synced_left : (ok : Bool) (c : List ℕ) → MayLeave (synced ok ∷ shorter true) c → P c
+  synced_left ok c left = stands c (cut_left true c (sync_keeps (shorter true) (synced ok ∷ shorter true) within ok usable refl c left))
+
+  written_leaves : CrashLeaves calls mid P
+  written_leaves = leaves_one (written (end + 1) bytes true) calls P (λ c left. ap recovered (rest.settled.durable c left)) (λ c left. stands c (mid_left c left))
+
+  cut_leaves : (ok : Bool) → CrashLeaves calls (shorter ok) P
+  cut_leaves ok =
+      moments.joins length LeftSince calls mid (shorter ok) P written_leaves
+      (leaves_one (shortened (end + 1) ok) mid P (λ c left. stands c (mid_left c left)) (λ c left. stands c (cut_left ok c left)))
+
+  sync_leaves : (ok : Bool) → CrashLeaves calls (synced ok ∷ shorter true) P
+  sync_leaves ok =
+      moments.joins length LeftSince calls (shorter true) (synced ok ∷ shorter true) P (cut_leaves true)
+      (leaves_one (synced ok) (shorter true) P (λ c left. stands c (cut_left true c left)) (synced_left ok))
+
+  any_moment : (after : List Call) → IsCutBack end bytes calls after → CrashLeaves calls after P
+  any_moment after (inl done) = subst (λ (l : List Call). CrashLeaves calls l P) (sym done) (sync_leaves true)
+  any_moment after (inr (inl cut)) = subst (λ (l : List Call). CrashLeaves calls l P) (sym cut) (cut_leaves false)
+  any_moment after (inr (inr sync)) = subst (λ (l : List Call). CrashLeaves calls l P) (sym sync) (sync_leaves false)
+
+  pub withdrawn : IsWithdrawn calls f end bytes
+  withdrawn = record {
+    rest = record {
+      settled = settled_at seen_after MayLeave (cut_back end bytes calls) f end (take end file) [] (front_ends file end rest.settled.split) rest.settled.front mid_seen
+          (synced_only (shorter true) usable);
+      within = within;
+      usable = both _ _ usable refl;
+    };
+    same = closed_stands file f end rest.settled.split rest.settled.front (seen_after (cut_back end bytes calls)) [] mid_seen;
+    any_moment = any_moment;
+  }
+
+pub withdrawal_is_safe : (calls : List Call) (f : Format) (end : ℕ) (bytes : List ℕ) → IsAtRest calls f end → IsWithdrawn calls f end bytes
+withdrawal_is_safe calls f end bytes rest = withdrawn calls f end bytes rest
