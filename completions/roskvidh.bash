@@ -4,7 +4,7 @@ _roskvidh() {
     local word=${COMP_WORDS[COMP_CWORD]} options
     COMPREPLY=()
     if [ "$COMP_CWORD" -eq 1 ]; then
-        mapfile -t COMPREPLY < <(compgen -W "build get prefixes complete list show cut scan replace add remove merge diff check stats convert help --help --version" -- "$word")
+        mapfile -t COMPREPLY < <(compgen -W "build get prefixes complete list show cut scan replace add remove merge diff check stats convert recover help --help --version" -- "$word")
         return
     fi
     case ${COMP_WORDS[1]} in
@@ -24,6 +24,7 @@ _roskvidh() {
         check) options="--limit -h --help" ;;
         stats) options="--chart --limit -h --help" ;;
         convert) options="-o --output --reduced --default --v1-0 --limit -h --help" ;;
+        recover) options="-h --help" ;;
         *) options= ;;
     esac
     case $word in

@@ -21,6 +21,7 @@ static enum { NOTHING, IS_REPLACED, IS_REMOVED, HAS_NO_LOCKS } event = NOTHING;
 static int times;
 
 static size_t writes;     /* how many calls have written, cut or synced */
+static size_t changes;    /* how many have written or cut */
 static int opened_flags;  /* those of the last opening of a file */
 
 int __real_open(const char *name, int flags, mode_t mode);
@@ -64,10 +65,12 @@ int __wrap_flock(int file, int how) {
 
 ssize_t __wrap_pwrite(int file, const void *bytes, size_t length, off_t at) {
     writes++;
+    changes++;
     return __real_pwrite(file, bytes, length, at);
 }
 int __wrap_ftruncate(int file, off_t length) {
     writes++;
+    changes++;
     return __real_ftruncate(file, length);
 }
 int __wrap_fsync(int file) {
@@ -151,6 +154,30 @@ static void check_two(void) {
     writes = 0;
     CHECK(cedar_store_open(&two, path) == CEDAR_STORE_DEVICE && errno == ENOLCK && writes == 0);
     event = NOTHING;
+}
+
+/* The opening of a file at rest writes and cuts nothing: its bytes and its time stay. One that ends in a torn record is mended. */
+static void check_at_rest(void) {
+    static uint8_t before[FILE_ROOM];
+    static const struct timespec long_ago[2] = {{.tv_sec = 1000}, {.tv_sec = 1000}};
+    struct stat found;
+    cedar_store s = CEDAR_STORE_CLOSED;
+    for (int is_torn = 0; is_torn < 2; is_torn++) {
+        open_new(&s);
+        CHECK(update(&s, "net", 7) == CEDAR_OK);
+        cedar_store_close(&s);
+        size_t length = read_file(path, before), rest = is_torn ? 4 : 0;
+        FILE *file = fopen(path, "ab");
+        CHECK(file != NULL && fwrite("rest", 1, rest, file) == rest && fclose(file) == 0);
+        CHECK(utimensat(AT_FDCWD, path, long_ago, 0) == 0);
+        changes = 0;
+        CHECK(cedar_store_open(&s, path) == CEDAR_OK && count(&s) == 1 && (changes != 0) == is_torn);
+        CHECK(stat(path, &found) == 0 && (found.st_mtime != 1000) == is_torn && is_as_before(path, before, length));
+        CHECK(update(&s, "nets", 8) == CEDAR_OK);
+        cedar_store_close(&s);
+        CHECK(cedar_store_open_to_read(&s, path) == CEDAR_OK && at(&s, "net") == 7 && at(&s, "nets") == 8);
+        cedar_store_close(&s);
+    }
 }
 
 static cedar_store shared = CEDAR_STORE_CLOSED;
@@ -374,6 +401,7 @@ int main(int argument_count, char **arguments) {
     CHECK(snprintf(other, sizeof other, "%s/opened.other", arguments[1]) > 0);
     unlink(other);
     check_two();
+    check_at_rest();
     check_inherited();
     check_again();
     check_replaced();

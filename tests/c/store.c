@@ -312,7 +312,7 @@ static void check_runs(bool is_reduced) {
     cedar_store_close(&s);
 }
 
-/* Which calls a change makes, and an opening. */
+/* Which calls a change makes, and an opening: one of a file at rest writes and cuts nothing. */
 static void check_calls(void) {
     cedar_store s = CEDAR_STORE_CLOSED;
     unlink(path);
@@ -322,6 +322,10 @@ static void check_calls(void) {
     CHECK(update(&s, "net", 7) == CEDAR_OK && strcmp(calls, "wsws") == 0);
     begin(NONE, 0);
     CHECK(erase(&s, "ten") == CEDAR_OK && strcmp(calls, "") == 0 && erase(&s, "net") == CEDAR_OK && strcmp(calls, "wsws") == 0);
+    begin(NONE, 0);
+    CHECK(cedar_store_open(&s, path) == CEDAR_OK && strcmp(calls, "lSS") == 0);
+    cedar_store_close(&s);
+    write_file("\1\x08\0\0\0CEDARJ\0\0\1\x08\0\0\0\1\7\0\0\0net\0\x06\0\0", 30);
     begin(NONE, 0);
     CHECK(cedar_store_open(&s, path) == CEDAR_OK && strcmp(calls, "lSScsws") == 0);
     cedar_store_close(&s);

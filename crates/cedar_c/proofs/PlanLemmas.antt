@@ -42,7 +42,7 @@ module _ (f : Format) (end : ℕ) (payload : List ℕ) (s t : State) (short : le
             (λ c outcome. either (seen_after calls) c payload s t kept.same told outcome) (safe.any_moment later out);
       }))
 
-pub is_opening : (bytes : List ℕ) (extent : Extent) (works : List Work) (s : State) → HasExtent bytes extent → works ≡ opening_works extent → state_of bytes ≡ Some s
+pub is_opening : (bytes : List ℕ) (extent : Extent) (works : List Work) (s : State) → HasExtent bytes extent → works ≡ opening_works bytes extent → state_of bytes ≡ Some s
     → IsOpening bytes works (format_in extent) (end_of extent) s
 is_opening bytes extent works s has is stands =
     let safe = opening_is_safe bytes extent has in

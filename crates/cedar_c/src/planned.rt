@@ -18,7 +18,7 @@ use std::alloc::Global;
 
 /// Opens a handle with the dictionary that a file's bytes stand for. If the handle is open, the new one replaces the old one. The file was
 /// synced, and then read. It writes the plan by which the file is made ready, whose bytes it writes into the first places of a buffer, where
-/// the records end then, and whether they have sums.
+/// the records end then, and whether they have sums. The plan of a file that is at rest has no step.
 ///
 /// # Errors
 /// `NO_ROOM` if the buffer has fewer than 14 places, `STORE_FOREIGN` if the file is of another kind, `STORE_CORRUPT` if one of its records
@@ -59,7 +59,7 @@ pub extern "C" fn cedar_plan_open(
             *handle = Handle::of(cedar);
             *is_summed = has_sums(extent);
             *end = end_of(extent);
-            *plan = plan_opening(extent);
+            *plan = plan_opening(extent, bytes);
             OK
         }
         Err(error) => tell_unread(error, damaged_at),

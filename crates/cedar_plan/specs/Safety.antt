@@ -50,9 +50,9 @@ WithdrawalsAreSafe = (calls : List Call) (format : Format) (end : ℕ) (bytes : 
 
 -- a file of these bytes, which was synced and then read, is opened
 pub record IsOpened (file : List ℕ) (extent : Extent) : Type 0 where
-  pub rest : IsAtRest (all_done (opening_works extent) (opened file ∷ [])) (format_in extent) (end_of extent)
-  pub same : recovered (seen_after (all_done (opening_works extent) (opened file ∷ []))) ≡ recovered file
-  pub any_moment : (after : List Call) → AreCarriedOut (opening_works extent) (opened file ∷ []) after
+  pub rest : IsAtRest (all_done (opening_works file extent) (opened file ∷ [])) (format_in extent) (end_of extent)
+  pub same : recovered (seen_after (all_done (opening_works file extent) (opened file ∷ []))) ≡ recovered file
+  pub any_moment : (after : List Call) → AreCarriedOut (opening_works file extent) (opened file ∷ []) after
       → CrashLeaves (opened file ∷ []) after (λ c. recovered c ≡ recovered file)
 
 abbrev pub OpeningsAreSafe : Type 0

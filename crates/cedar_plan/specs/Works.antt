@@ -1,10 +1,10 @@
 -- What is done to a file: cuts and writes, each of which is on the disk once it is done.
-use Rattle.std.specs.Prelude.{◌≡◌, ◌⊎◌, ℕ, ◌+◌, true, false, List, [], ◌∷◌}
+use Rattle.std.specs.Prelude.{◌≡◌, ◌⊎◌, ℕ, ◌+◌, true, false, cond, List, [], ◌∷◌}
 use Rattle.cedar_journal.specs.declared.records.Extent.{Extent}
 use Rattle.cedar_journal.specs.declared.records.Extent.TheVariants.{New, Until}
 use Rattle.cedar_journal.specs.declared.format.Format.{Format}
 use Rattle.cedar_journal.specs.declared.format.Format.TheVariants.{Summed}
-use Rattle.cedar_journal.specs.Files.{header_frame}
+use Rattle.cedar_journal.specs.Files.{ends_closed, header_frame}
 use Rattle.cedar_journal.specs.Formats.{frame_of, opening}
 use Rattle.cedar_disk.specs.Calls.{Call, shortened, synced, written}
 
@@ -36,11 +36,11 @@ AreCarriedOut (work ∷ works) before after = FailsIn work before after ⊎ AreC
 abbrev pub append_works : Format → ℕ → List ℕ → List Work
 append_works format end payload = write_to (end + 1) (frame_of format payload) ∷ write_to end (opening format ∷ []) ∷ []
 
--- The file is cut behind its whole records, and a closed gate is written there. Of a new one nothing is left, and it gets a closed gate, the
--- header behind that, and an open gate in the place of the closed one.
-abbrev pub opening_works : Extent → List Work
-opening_works New = cut_to 0 ∷ write_to 0 (0 ∷ []) ∷ write_to 1 (header_frame Summed) ∷ write_to 0 (1 ∷ []) ∷ []
-opening_works (Until format end) = cut_to end ∷ write_to end (0 ∷ []) ∷ []
+-- The file is cut behind its whole records, and a closed gate is written there; nothing is done if only that stands there. Of a new one
+-- nothing is left, and it gets a closed gate, the header behind that, and an open gate in the place of the closed one.
+abbrev pub opening_works : List ℕ → Extent → List Work
+opening_works file New = cut_to 0 ∷ write_to 0 (0 ∷ []) ∷ write_to 1 (header_frame Summed) ∷ write_to 0 (1 ∷ []) ∷ []
+opening_works file (Until format end) = cond (ends_closed file end) [] (cut_to end ∷ write_to end (0 ∷ []) ∷ [])
 
 -- the format of the records of an opened file
 abbrev pub format_in : Extent → Format

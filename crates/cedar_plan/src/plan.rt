@@ -1,7 +1,7 @@
 //! Plans: the steps by which a file is opened, and by which a record is appended; and records as they are written.
 
-ghost use Rattle.std.specs.Prelude.{◌≡◌, ◌+◌, ◌<◌, ◌^◌, ◌++◌, ◌∷◌, ℕ, ◌≤◌, IfOk, IsErrOf, length, List};
-ghost use Rattle.cedar_plan.specs.Words.{append_works, frame_of, header, opening, opening_works, overhead, works_of, Format, Plain, Summed};
+ghost use Rattle.std.specs.Prelude.{◌≡◌, ◌+◌, ◌<◌, ◌^◌, ◌++◌, ◌∷◌, ℕ, ◌≤◌, IfOk, IsErrOf, length, List, [], true};
+ghost use Rattle.cedar_plan.specs.Words.{append_works, cut_to, ends_closed, frame_of, header, opening, opening_works, overhead, works_of, Format, HasExtent, is_at_rest, Plain, Summed, write_to};
 
 use cedar_journal::{Extent, Format, FrameError, MAX_PAYLOAD, push_frame};
 use std::alloc::Allocator;
@@ -33,7 +33,7 @@ const NOTHING: Step = Step {
     length: 0,
 };
 
-/// The first `count` of its steps, to be carried out one after another.
+/// The first `count` of its steps, to be carried out one after another: there may be none.
 #[repr(C)]
 #[derive(Clone, Copy, Debug, PartialEq, Eq)]
 pub struct Plan {
@@ -44,58 +44,98 @@ pub struct Plan {
     pub fourth: Step,
 }
 
-/// Returns the plan that opens a file of this extent. The plan's bytes begin with those of `HEADER`. What a crash has left after the
-/// whole records is cut off, and a closed gate is written there; a new file gets its header.
-pub fn plan_opening(extent: Extent) -> Plan
+/// The plan that has nothing to be done.
+const NO_STEPS: Plan = Plan {
+    count: 0,
+    first: NOTHING,
+    second: NOTHING,
+    third: NOTHING,
+    fourth: NOTHING,
+};
+
+/// Returns the plan that opens a file of these bytes and this extent. The plan's bytes begin with those of `HEADER`. What a crash has left
+/// after the whole records is cut off, and a closed gate is written there; a new file gets its header. If only a closed gate stands after the
+/// records, the plan has no step.
+pub fn plan_opening(extent: Extent, bytes: &[u8]) -> Plan
+    requires extent { HasExtent bytes.now extent }
     //= The plan of an opening cuts the file after its whole records and writes a closed gate there; of a new file it leaves only the
     //  header.
-    ensures { (rest : List ℕ) → works_of (header ++ rest) result ≡ opening_works extent }
+    ensures works { (rest : List ℕ) → works_of (header ++ rest) result ≡ opening_works bytes.now extent }
+    //= A file that is at rest is opened by a plan of no steps.
+    ensures at_rest { is_at_rest bytes.now extent ≡ true → result.count ≡ 0 }
 {
     match extent {
-        Extent::New => Plan {
-            count: 4,
-            first: Step {
-                kind: CUT,
-                at: 0,
-                from: 0,
-                length: 0,
-            },
-            second: Step {
-                kind: WRITE,
-                at: 0,
-                from: 13,
-                length: 1,
-            },
-            third: Step {
-                kind: WRITE,
-                at: 1,
-                from: 1,
-                length: 13,
-            },
-            fourth: Step {
-                kind: WRITE,
-                at: 0,
-                from: 0,
-                length: 1,
-            },
+        Extent::New => plan_header(),
+        Extent::Until(_, end) => {
+            if ends_closed(bytes, end) {
+                return NO_STEPS;
+            }
+            plan_end(end)
+        }
+    }
+}
+
+/// Whether one byte is left behind a place, a closed gate.
+fn ends_closed(bytes: &[u8], end: usize) -> bool
+    requires { end ≤ length bytes.now }
+    ensures { result ≡ ends_closed bytes.now end }
+{
+    bytes.len() - end == 1 && bytes[end] == 0
+}
+
+/// The plan by which a new file gets its header.
+fn plan_header() -> Plan
+    ensures { (file : List ℕ) (rest : List ℕ) → works_of (header ++ rest) result ≡ opening_works file Extent.New }
+{
+    Plan {
+        count: 4,
+        first: Step {
+            kind: CUT,
+            at: 0,
+            from: 0,
+            length: 0,
         },
-        Extent::Until(_, end) => Plan {
-            count: 2,
-            first: Step {
-                kind: CUT,
-                at: end,
-                from: 0,
-                length: 0,
-            },
-            second: Step {
-                kind: WRITE,
-                at: end,
-                from: 13,
-                length: 1,
-            },
-            third: NOTHING,
-            fourth: NOTHING,
+        second: Step {
+            kind: WRITE,
+            at: 0,
+            from: 13,
+            length: 1,
         },
+        third: Step {
+            kind: WRITE,
+            at: 1,
+            from: 1,
+            length: 13,
+        },
+        fourth: Step {
+            kind: WRITE,
+            at: 0,
+            from: 0,
+            length: 1,
+        },
+    }
+}
+
+/// The plan by which a file gets a closed gate after its whole records.
+fn plan_end(end: usize) -> Plan
+    ensures { (rest : List ℕ) → works_of (header ++ rest) result ≡ cut_to end ∷ write_to end (0 ∷ []) ∷ [] }
+{
+    Plan {
+        count: 2,
+        first: Step {
+            kind: CUT,
+            at: end,
+            from: 0,
+            length: 0,
+        },
+        second: Step {
+            kind: WRITE,
+            at: end,
+            from: 13,
+            length: 1,
+        },
+        third: NOTHING,
+        fourth: NOTHING,
     }
 }
 

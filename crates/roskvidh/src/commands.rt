@@ -21,10 +21,11 @@ pub(crate) enum Name {
     Check,
     Stats,
     Convert,
+    Recover,
 }
 
 /// The commands, as the help text lists them.
-pub(crate) const COMMANDS: [Name; 16] = [
+pub(crate) const COMMANDS: [Name; 17] = [
     Name::Build,
     Name::Get,
     Name::Prefixes,
@@ -41,6 +42,7 @@ pub(crate) const COMMANDS: [Name; 16] = [
     Name::Check,
     Name::Stats,
     Name::Convert,
+    Name::Recover,
 ];
 
 /// What is said of a command.
@@ -71,6 +73,7 @@ pub(crate) fn said_of(name: Name) -> Said {
         Name::Check => CHECK,
         Name::Stats => STATS,
         Name::Convert => CONVERT,
+        Name::Recover => RECOVER,
     }
 }
 
@@ -93,6 +96,7 @@ pub(crate) fn arguments_of(name: Name) -> &'static [Argument] {
         Name::Check => &CHECK_TAKES,
         Name::Stats => &STATS_TAKES,
         Name::Convert => &CONVERT_TAKES,
+        Name::Recover => &RECOVER_TAKES,
     }
 }
 
@@ -330,8 +334,14 @@ Example:
 const CHECK: Said = Said {
     name: "check",
     about: "Test a dictionary's file, and tell of what kind it is",
-    notes: "Example:\n  roskvidh check words.cedar",
+    notes: CHECK_NOTES,
 };
+
+const CHECK_NOTES: &str = "\
+Of a damaged store the place of the first bad record is told, in bytes from the file's beginning; see recover.
+
+Example:
+  roskvidh check words.cedar";
 
 const CHECK_TAKES: [Argument; 2] = [Argument::File, Argument::Limit];
 
@@ -357,3 +367,19 @@ const CONVERT_TAKES: [Argument; 6] = [
     Argument::OldFormat,
     Argument::Limit,
 ];
+
+const RECOVER: Said = Said {
+    name: "recover",
+    about: "Make a new store of what is whole in a damaged one",
+    notes: RECOVER_NOTES,
+};
+
+const RECOVER_TAKES: [Argument; 2] = [Argument::Damaged, Argument::Fresh];
+
+const RECOVER_NOTES: &str = "\
+The records in front of the first bad one are taken, and each one behind it that is whole, with its sum. How many are taken is told, a
+line for each kind, and how many bytes belong to none of them. A change that isn't taken is lost: look at what comes of it. The damaged
+file is only read. Records of version 1 have no sums: of such a file only those in front of the first bad one are taken.
+
+Example:
+  roskvidh recover words.store saved.store";

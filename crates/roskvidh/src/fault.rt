@@ -20,6 +20,10 @@ const UNORDERED: &str = "it was built --unordered, so no word is the next one";
 /// What is told of a store that is locked.
 const LOCKED: &str = "another program has the store open";
 
+/// What is told of a store whose file has more behind its records than a crash leaves.
+const UNKEPT: &str =
+    "whole records stand behind its end, and can't be kept in a file beside it";
+
 /// Why the program did not do what the arguments say.
 #[derive(Drop)]
 pub(crate) enum Fault<'m> {
@@ -31,6 +35,8 @@ pub(crate) enum Fault<'m> {
     Store(&'m str, DurableError),
     /// Another program has the store of this path open.
     Locked(&'m str),
+    /// What the opening of the store of this path would cut off can't be kept beside it.
+    Unkept(&'m str),
     /// A list or a text can't be read from this path, or from standard input.
     Read(Option<&'m str>, io::Error),
     /// A list has bad or repeated lines, which were reported.
@@ -82,6 +88,7 @@ pub(crate) fn tell<E: Write>(errors: &mut Watched<E>, fault: Fault<'_>) {
         Fault::Strict(path) => tell_input(errors, name_of(path), STRICT),
         Fault::Unordered(path) => tell_input(errors, path, UNORDERED),
         Fault::Locked(path) => tell_input(errors, path, LOCKED),
+        Fault::Unkept(path) => tell_input(errors, path, UNKEPT),
         Fault::Write => tell_text(errors, "standard output can't be written"),
         Fault::Memory => tell_text(errors, "out of memory"),
         Fault::SlotLimit => tell_text(errors, "the dictionary has no slot left"),
@@ -94,7 +101,7 @@ fn tell_of<E: Write, T: Display + Drop>(errors: &mut Watched<E>, name: &str, err
 }
 
 /// Reports what is wrong with an input of this name.
-fn tell_input<E: Write>(errors: &mut Watched<E>, name: &str, what: &str) {
+pub(crate) fn tell_input<E: Write>(errors: &mut Watched<E>, name: &str, what: &str) {
     let _ = writeln!(errors, "roskvidh: {name}: {what}");
 }
 

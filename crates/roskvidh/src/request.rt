@@ -19,6 +19,16 @@ pub(crate) enum Request<'m> {
     Change(Dictionary<'m>, Change<'m>),
     Diff(Dictionary<'m>, Dictionary<'m>),
     Replace(Replace<'m>),
+    Recover(Recover<'m>),
+}
+
+/// A new store that is made of what is whole in a damaged one.
+#[derive(Clone, Copy)]
+pub(crate) struct Recover<'m> {
+    /// The damaged one's path.
+    pub old: &'m str,
+    /// The new one's.
+    pub new: &'m str,
 }
 
 /// A text whose words are replaced.
@@ -189,6 +199,7 @@ fn change_named<'m, 'a>(name: &str, asked: &'m ArgMatches<'a>) -> Option<Request
         "remove" => in_place(asked, How::Remove(path_of(asked.get_str("words"))), false),
         "merge" => elsewhere(asked, How::Merge(other_of(asked)?)),
         "convert" => elsewhere(asked, How::Convert(layout_of(asked))),
+        "recover" => recover_of(asked),
         _ => None,
     }
 }
@@ -247,6 +258,14 @@ fn elsewhere<'m, 'a>(asked: &'m ArgMatches<'a>, how: How<'m>) -> Option<Request<
         is_store: false,
     };
     Some(Request::Change(dictionary_of(asked)?, change))
+}
+
+fn recover_of<'m, 'a>(asked: &'m ArgMatches<'a>) -> Option<Request<'m>> {
+    let old = asked.get_str("file")?;
+    Some(Request::Recover(Recover {
+        old,
+        new: asked.get_str("new")?,
+    }))
 }
 
 fn word_list_of<'m, 'a>(asked: &'m ArgMatches<'a>) -> List<'m> {
@@ -333,7 +352,7 @@ fn reads(request: Request<'_>) -> Option<(bool, bool)> {
             How::Remove(path) => Some((path.is_none(), false)),
             How::Merge(_) | How::Convert(_) => None,
         },
-        Request::Query(_, _) | Request::Diff(_, _) => None,
+        Request::Query(_, _) | Request::Diff(_, _) | Request::Recover(_) => None,
     }
 }
 

@@ -8,6 +8,7 @@ use crate::fault::{Fault, is_closed, tell};
 use crate::input::Source;
 use crate::meter::{Meter, Progress};
 use crate::queries::answer;
+use crate::recover::recover;
 use crate::replace::replace;
 use crate::request::{Asked, Dictionary, Query, Reading, Request, Terminals, tells_progress};
 use crate::texts::read_text;
@@ -127,6 +128,7 @@ where
         }
         Request::Diff(first, second) => diff(alloc, files, first, second, writer),
         Request::Replace(asked) => found(replace(alloc, files, asked, source, writer, errors)),
+        Request::Recover(asked) => found(recover(alloc, files, asked, writer, errors)),
     }
 }
 

@@ -33,6 +33,8 @@ pub(crate) enum Argument {
     Chart,
     Reduced,
     Default,
+    Damaged,
+    Fresh,
 }
 
 /// What an argument looks like.
@@ -112,6 +114,8 @@ pub(crate) fn shape_of(argument: Argument) -> Shape {
         Argument::Chart => CHART,
         Argument::Reduced => REDUCED,
         Argument::Default => DEFAULT,
+        Argument::Damaged => DAMAGED,
+        Argument::Fresh => FRESH,
     }
 }
 
@@ -302,4 +306,18 @@ const DEFAULT: Shape = Shape {
     id: "default",
     form: Form::Flag,
     help: "Make it of the default layout",
+};
+
+/// The store whose records are taken.
+const DAMAGED: Shape = Shape {
+    id: "file",
+    form: Form::Required("FILE"),
+    help: "The file of the damaged store",
+};
+
+/// The store that is made of them.
+const FRESH: Shape = Shape {
+    id: "new",
+    form: Form::Required("NEW"),
+    help: "The file of the new store. Nothing may be there",
 };

@@ -14,7 +14,7 @@ returns-in-Ok-clause-ready c = λ ok.
     let bytes = c.args.bytes.now in
     let s = (dictionary_in c.in-Ok.cedar.value).state in
     let placed = not_refused _ _ c.place.ensures.written c.in_default.not-Err in
-    let works : works_of buffer plan ≡ opening_works c.in-Ok.extent = ap (λ (b : List ℕ). works_of b plan) placed.1 ∙ c.plan_opening.ensures placed.0 in
+    let works : works_of buffer plan ≡ opening_works bytes c.in-Ok.extent = ap (λ (b : List ℕ). works_of b plan) placed.1 ∙ c.plan_opening.ensures.works placed.0 in
     let extent = c.in-Ok.extent in
     opened_has (IsOpening bytes (works_of buffer plan) (format_if c.has_sums.result) c.end_of.result) (content c.of.result) c.in-Ok.cedar.value c.of.ensures
     (subst (λ n. IsOpening bytes (works_of buffer plan) (format_if c.has_sums.result) n s) (sym c.end_of.ensures)

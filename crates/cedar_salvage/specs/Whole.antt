@@ -1,0 +1,72 @@
+-- What is whole in a file that somebody else has changed.
+use Rattle.std.specs.Prelude.{◌≡◌, ◌⊎◌, ℕ, zero, suc, ◌+◌, ◌&&◌, ◌==◌, Bool, true, false, not, cond, List, [], ◌∷◌, take, drop, get_or, Option, Some, None, is_some}
+use Rattle.cedar_journal.specs.declared.format.Format.{Format}
+use Rattle.cedar_journal.specs.declared.format.Format.TheVariants.{Plain, Summed}
+use Rattle.cedar_journal.specs.declared.records.Extent.{Extent}
+use Rattle.cedar_journal.specs.declared.records.Extent.TheVariants.{New, Until}
+use Rattle.cedar_journal.specs.Files.{format_of}
+use Rattle.cedar_journal.specs.Formats.{four_at, is_summed}
+use Rattle.cedar_journal.specs.Records.{behind_record, has_record, payloads_in}
+use Rattle.cedar_store.specs.Changes.{changes_of}
+use Rattle.cedar_salvage.specs.declared.change.Kind.{Kind}
+use Rattle.cedar_salvage.specs.declared.change.Kind.TheVariants.{Batch, Erasure, Put}
+
+-- a payload is a change of a dictionary
+abbrev pub is_change : List ℕ → Bool
+is_change payload = is_some (changes_of payload)
+
+-- which kind an operation is of
+abbrev pub is_kind : ℕ → Kind → Type 0
+is_kind operation Erasure = operation ≡ 0
+is_kind operation Put = operation ≡ 1
+is_kind operation Batch = operation ≡ 2
+
+-- the payload of the record of version 2 at the start
+abbrev pub payload_there : List ℕ → List ℕ
+payload_there bytes = take (four_at bytes 5) (drop 9 bytes)
+
+-- A whole record of version 2 stands at the start: its gate is open, all of it is there and has its sum, and its payload is a change.
+unfoldable pub is_whole : List ℕ → Bool
+is_whole bytes = not (get_or bytes 0 0 == 0) && (is_summed bytes && is_change (payload_there bytes))
+
+-- The payloads of the whole records among some bytes, behind the first n of them. Each place is tried, and behind a whole record the next
+-- place is the one behind it.
+unfoldable pub found_behind : ℕ → List ℕ → List (List ℕ)
+found_behind n [] = []
+found_behind zero (byte ∷ rest) =
+    cond (is_whole (byte ∷ rest)) (payload_there (byte ∷ rest) ∷ found_behind (8 + four_at (byte ∷ rest) 5) rest) (found_behind zero rest)
+found_behind (suc n) (byte ∷ rest) = found_behind n rest
+
+abbrev pub found_in : List ℕ → List (List ℕ)
+found_in bytes = found_behind zero bytes
+
+-- the first of some payloads, up to one that is no change
+unfoldable pub first_changes : List (List ℕ) → List (List ℕ)
+first_changes [] = []
+first_changes (payload ∷ payloads) = cond (is_change payload) (payload ∷ first_changes payloads) []
+
+-- what is saved of records of a format
+abbrev pub found_of : Format → List ℕ → List (List ℕ)
+found_of Plain bytes = first_changes (payloads_in bytes)
+found_of Summed bytes = found_in bytes
+
+abbrev pub salvaged_by : Option Format → List ℕ → List (List ℕ)
+salvaged_by (Some format) file = found_of format (drop 13 file)
+salvaged_by None file = found_in file
+
+-- What is saved of a file. Version 2: each whole record behind the header. Version 1, which has no sums: the records up to one that is no
+-- change. No header: each whole record of version 2 that stands anywhere.
+abbrev pub salvaged : List ℕ → List (List ℕ)
+salvaged file = salvaged_by (format_of file) file
+
+-- there is one
+abbrev pub has_some : List (List ℕ) → Bool
+has_some [] = false
+has_some (payload ∷ payloads) = true
+
+-- An opening cuts off more than the record under way: of version 2 a whole record; of version 1 a record that counts, right behind the one
+-- whose gate is closed.
+abbrev pub cuts_records : List ℕ → Extent → Bool
+cuts_records file New = false
+cuts_records file (Until Summed end) = has_some (found_in (drop end file))
+cuts_records file (Until Plain end) = has_record (behind_record (drop end file))

@@ -1,0 +1,145 @@
+//! The whole records of a file, as a new file.
+
+ghost use Rattle.std.specs.Prelude.{◌++◌, ◌∷◌, ◌≡◌, [], drop, IfOk, OnOk, Some};
+ghost use Rattle.cedar_salvage.specs.Words.{first_changes, found_in, found_of, IsSettled, Only, payloads_in, payloads_of, recovered, salvaged};
+
+use crate::record::{format_of, plain_change, whole_payload};
+use cedar_journal::{
+    DeviceError, Format, Frame, FrameError, HEADER_LEN, Image, Journal, ReplaceDevice, extent_of,
+};
+use cedar_store::DurableError;
+use std::alloc::Allocator;
+
+/// Returns a store's file with what is whole in the file of a store that somebody else has damaged.
+///
+/// Of a file of version 2 these are all records that are whole: each place behind the header is tried, and behind a record that is whole
+/// the next place is the one behind it. Of a file without a whole header each place is tried. Records of version 1 have no sums, so of such
+/// a file these are the records in front of the first one that is no change.
+///
+/// # Errors
+/// `Memory` if an allocation failed.
+pub fn salvage<A: Allocator + Copy>(alloc: A, bytes: &[u8]) -> Result<Image<A>, FrameError>
+    //= What is saved of a damaged file is each whole record of version 2 that is a change, in their order, whatever lies between them; of
+    //  version 1 the records before the first one that is no change.
+    ensures { IfOk result (λ image. payloads_of image ≡ salvaged bytes.now) }
+{
+    let mut image = Image::new(alloc)?;
+    push_records(alloc, &mut image, bytes)?;
+    Ok(image)
+}
+
+/// Makes the file on a device one that has exactly the records of an image, and returns its journal.
+///
+/// # Errors
+/// `Refused` if an allocation failed, `Foreign` or `Damaged` if the device has something else than a journal, and `Device` if it failed.
+pub fn store_with<D: ReplaceDevice + Drop, A: Allocator + Copy>(
+    alloc: A,
+    device: D,
+    image: &Image<A>,
+) -> Result<Journal<D>, DurableError>
+    requires restarted { Only (D.seen device) (D.may_leave device) }
+    //= A store that is made of what was saved has exactly those records, and is on the disk. [with settled]
+    ensures records { IfOk result (λ journal. recovered (D.seen journal.device) ≡ Some (payloads_of image.now)) }
+    ensures settled { IfOk result (λ journal. IsSettled D.seen D.may_leave journal.device journal.format journal.end) }
+{
+    let mut device = device;
+    let bytes = device.read(alloc)?;
+    let extent = extent_of(&bytes)?;
+    let mut journal = match Journal::open_read(device, extent, &bytes) {
+        Ok(journal) => journal,
+        Err((error, _)) => return Err(DurableError::Device(error)),
+    };
+    match journal.replace(image) {
+        Ok(()) => Ok(journal),
+        Err(_) => Err(DurableError::Device(DeviceError::Failed)),
+    }
+}
+
+/// Adds what is saved of a file to a new one.
+fn push_records<A: Allocator + Copy>(
+    alloc: A,
+    image: &mut Image<A>,
+    bytes: &[u8],
+) -> Result<(), FrameError>
+    ensures { OnOk result (payloads_of image.new ≡ payloads_of image.old ++ salvaged bytes.now) }
+{
+    match format_of(bytes) {
+        Some(format) => push_of(alloc, image, format, behind_header(bytes)),
+        None => push_whole(alloc, image, bytes),
+    }
+}
+
+/// Adds what is saved of the records of a file of this format.
+fn push_of<A: Allocator + Copy>(
+    alloc: A,
+    image: &mut Image<A>,
+    format: Format,
+    bytes: &[u8],
+) -> Result<(), FrameError>
+    ensures { OnOk result (payloads_of image.new ≡ payloads_of image.old ++ found_of format bytes.now) }
+{
+    match format {
+        Format::Plain => push_changes(alloc, image, bytes),
+        Format::Summed => push_whole(alloc, image, bytes),
+    }
+}
+
+/// What stands behind the header of a file.
+fn behind_header(bytes: &[u8]) -> &[u8]
+    ensures { result.now ≡ drop 13 bytes.now }
+{
+    if bytes.len() < HEADER_LEN {
+        return &[];
+    }
+    &bytes[HEADER_LEN..]
+}
+
+/// Adds the whole records of version 2 among some bytes to a file.
+fn push_whole<A: Allocator + Copy>(
+    alloc: A,
+    image: &mut Image<A>,
+    bytes: &[u8],
+) -> Result<(), FrameError>
+    ensures { OnOk result (payloads_of image.new ≡ payloads_of image.old ++ found_in bytes.now) }
+{
+    let mut at = 0;
+    while at < bytes.len() {
+        match whole_payload(&bytes[at..]) {
+            Some(payload) => {
+                push_payload(alloc, image, payload)?;
+                at += 9 + payload.len();
+            }
+            None => at += 1,
+        }
+    }
+    Ok(())
+}
+
+/// Adds the records of version 1, in front of the first one that is no change, to a file.
+fn push_changes<A: Allocator + Copy>(
+    alloc: A,
+    image: &mut Image<A>,
+    bytes: &[u8],
+) -> Result<(), FrameError>
+    ensures { OnOk result (payloads_of image.new ≡ payloads_of image.old ++ first_changes (payloads_in bytes.now)) }
+{
+    let mut at = 0;
+    while let Some(payload) = plain_change(&bytes[at..]) {
+        push_payload(alloc, image, payload)?;
+        at += 5 + payload.len();
+    }
+    Ok(())
+}
+
+/// Adds a record to a file.
+fn push_payload<A: Allocator + Copy>(
+    alloc: A,
+    image: &mut Image<A>,
+    payload: &[u8],
+) -> Result<(), FrameError>
+    ensures { OnOk result (payloads_of image.new ≡ payloads_of image.old ++ payload.now ∷ []) }
+{
+    let frame = Frame::new(alloc, payload)?;
+    image.push(&frame)?;
+    Ok(())
+}

@@ -1,0 +1,127 @@
+//! New stores, made of what is whole in the files of damaged ones.
+
+use crate::fault::{Fault, tell_input};
+use crate::input::read_file;
+use crate::request::Recover;
+use cedar_disk::{FileDevice, LockFile, OpenError};
+use cedar_journal::{Format, HEADER_LEN, next_payload};
+use cedar_salvage::{Kind, format_of, kind_of, salvage, store_with};
+use cedar_store::DurableError;
+use cedarwood::Watched;
+use std::alloc::Global;
+use std::io::Write;
+use std::rt::Files;
+
+/// What is told of a file whose records have no sums.
+const SUMLESS: &str =
+    "its records are of version 1 and have no sums, so only those in front of the first bad one are taken";
+
+/// How many records of each kind were taken, and how many bytes they have in a file of version 2, with the header and the closed gate.
+#[derive(Clone, Copy)]
+struct Taken {
+    puts: usize,
+    erasures: usize,
+    batches: usize,
+    bytes: usize,
+}
+
+/// Makes a new store of what is whole in a damaged one, and tells what that is.
+pub(crate) fn recover<'m, F: Files + Copy + Drop, W: Write, E: Write>(
+    alloc: Global,
+    files: &F,
+    asked: Recover<'m>,
+    writer: &mut Watched<W>,
+    errors: &mut Watched<E>,
+) -> Result<(), Fault<'m>>
+where
+    F::File: LockFile,
+{
+    let bytes = read_file(alloc, files, asked.old)?;
+    let Ok(image) = salvage(alloc, &bytes) else {
+        return Err(Fault::Memory);
+    };
+    let taken = taken_of(image.bytes());
+    let format = format_of(&bytes);
+    if format.is_none() && taken.count() == 0 {
+        return Err(Fault::Store(asked.old, DurableError::Foreign));
+    }
+    let device = match FileDevice::create_new(*files, alloc, asked.new) {
+        Ok(device) => device,
+        Err(OpenError::Memory) => return Err(Fault::Memory),
+        Err(OpenError::Locked) => return Err(Fault::Locked(asked.new)),
+        Err(OpenError::Io(error)) => return Err(Fault::Read(Some(asked.new), error)),
+    };
+    if let Err(error) = store_with(alloc, device, &image) {
+        return Err(Fault::Store(asked.new, error));
+    }
+    if format == Some(Format::Plain) {
+        tell_input(errors, asked.old, SUMLESS);
+    }
+    tell_taken(writer, taken, passed_by(&bytes, format, taken))
+}
+
+/// What records a file of version 2 has.
+fn taken_of(bytes: &[u8]) -> Taken {
+    let mut taken = Taken {
+        puts: 0,
+        erasures: 0,
+        batches: 0,
+        bytes: bytes.len(),
+    };
+    let mut at = HEADER_LEN.min(bytes.len());
+    while let Some(payload) = next_payload(Format::Summed, &bytes[at..]) {
+        taken.add(kind_of(payload));
+        at += Format::Summed.overhead() + payload.len();
+    }
+    taken
+}
+
+/// How many bytes of a file of this format belong to no record that was taken, besides a header and a closed gate.
+fn passed_by(bytes: &[u8], format: Option<Format>, taken: Taken) -> usize {
+    let sums = match format {
+        // Those that the records have got.
+        Some(Format::Plain) => taken.count().saturating_mul(4),
+        _ => 0,
+    };
+    bytes.len().saturating_sub(taken.bytes.saturating_sub(sums))
+}
+
+/// Writes what was taken, and how many bytes weren't, a line each.
+fn tell_taken<'m, W: Write>(
+    writer: &mut Watched<W>,
+    taken: Taken,
+    passed: usize,
+) -> Result<(), Fault<'m>> {
+    let rows = [
+        ("words stored", taken.puts),
+        ("words removed", taken.erasures),
+        ("lists", taken.batches),
+        ("bytes passed by", passed),
+    ];
+    for (name, number) in &rows {
+        if writeln!(writer, "{name}\t{number}").is_err() {
+            return Err(Fault::Write);
+        }
+    }
+    Ok(())
+}
+
+impl Taken {
+    /// Adds a record with a change of this kind.
+    fn add(&mut self, kind: Option<Kind>) {
+        let count = match kind {
+            Some(Kind::Put) => &mut self.puts,
+            Some(Kind::Erasure) => &mut self.erasures,
+            Some(Kind::Batch) => &mut self.batches,
+            None => return,
+        };
+        *count = count.saturating_add(1);
+    }
+
+    /// How many records these are.
+    fn count(self) -> usize {
+        self.puts
+            .saturating_add(self.erasures)
+            .saturating_add(self.batches)
+    }
+}
