@@ -160,10 +160,7 @@ impl<D: Device> Journal<D> {
         if self.end >= MAX_END {
             return Err(JournalError::Full);
         }
-        match self
-            .device
-            .write_at(self.end + 1, frame.bytes(self.format))
-        {
+        match self.device.write_at(self.end + 1, frame.bytes(self.format)) {
             Ok(()) => {
                 self.device.sync()?;
                 Ok(())

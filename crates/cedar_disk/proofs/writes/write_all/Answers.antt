@@ -34,9 +34,12 @@ pub returns-in-Full-clause-no_room : goal.returns-in-Full-clause-no_room
 returns-in-Full-clause-no_room g c =
     let front = take c.loop-done.done c.args.bytes.now in
     let size = front_length c.args.bytes.now c.loop-done.done c.loop-done.invariant.within in
-    λ _. (front, omega (arith, size, c.loop-done.invariant.within),
-    wrote_no_more c.args.at (length c.args.bytes.now) front (noted_calls c.args.file.now) (noted_calls c.loop-done.file) (noted_calls c.write.new.self)
-    c.loop-done.invariant.written c.in-Full.ensures.noted)
+    λ _. (
+      front,
+      omega (arith, size, c.loop-done.invariant.within),
+      wrote_no_more c.args.at (length c.args.bytes.now) front (noted_calls c.args.file.now) (noted_calls c.loop-done.file) (noted_calls c.write.new.self)
+          c.loop-done.invariant.written c.in-Full.ensures.noted,
+    )
 
 pub returns-clause-written : goal.returns-clause-written
 returns-clause-written g c =
