@@ -90,8 +90,8 @@ returns-in-Ok-clause-recorded g c =
     (still_more (seen c.args.self.now.journal.device) (seen between.journal.device) (seen c.compact_if_due.new.self.journal.device) (payload_of c.args.frame.now) c.in-Ok.ensures.acknowledged more))
     c.compact_if_due.ensures.recorded
 
-pub returns-in-Err-then-not-self-clause-left : goal.returns-in-Err-then-not-self-clause-left
-returns-in-Err-then-not-self-clause-left g c =
+pub returns-then-not-self-clause-left : goal.returns-then-not-self-clause-left
+returns-then-not-self-clause-left g c =
     let faults = g.D.Device.faults in
     let usable : c.append.new.self.failed ≡ false = search rules in
     leaves_unwritten (faults c.args.self.now.journal.device) (faults c.append.new.self.journal.device) c.args.self.now.failed c.append.new.self.failed c.in-Err.error _ _ _ c.in-Err.ensures.err
@@ -105,24 +105,24 @@ returns-in-Err-then-not-self-clause-left g c =
       same = ap (λ r. option_and_then (replayed new_state) r) (c.append.ensures.same_left none);
     })
 
-pub returns-in-Err-then-not-self-clause-any_moment : goal.returns-in-Err-then-not-self-clause-any_moment
-returns-in-Err-then-not-self-clause-any_moment g c = λ s is.
+pub returns-then-not-self-clause-any_moment : goal.returns-then-not-self-clause-any_moment
+returns-then-not-self-clause-any_moment g c = λ s is.
     let file = g.D.Device.seen c.args.self.now.journal.device in
     let t = all_erased_late (g.T.Words.state c.args.self.now.words) (changes_told c.args.changes.now) in
     let change = change_of_one (state_of file) s t (payload_of c.args.frame.now) c.requires.stands is in
     weakens g.D.Device.moment g.D.Device.left_since c.args.self.now.journal.device c.append.new.self.journal.device _ _
     (λ f. either file f (payload_of c.args.frame.now) s t is change) c.append.ensures.any_moment
 
-pub returns-in-Err-clause-left : goal.returns-in-Err-clause-left
-returns-in-Err-clause-left g c =
+pub returns-else-not-self-clause-left : goal.returns-else-not-self-clause-left
+returns-else-not-self-clause-left g c =
     let faults = g.D.Device.faults in
     let broken : c.append.new.self.failed ≡ true = search rules in
     leaves_unwritten (faults c.args.self.now.journal.device) (faults c.append.new.self.journal.device) c.args.self.now.failed c.append.new.self.failed c.in-Err.error _ _ _ c.in-Err.ensures.err
     (λ _. c.erase_rest-in-Err.ensures ∙ ap (λ w. all_erased_late (g.T.Words.state w) (changes_told c.args.changes.now)) c.append.ensures.words)
     (λ is still. absurd (false≢true (sym c.requires.usable ∙ sym still ∙ broken)))
 
-pub returns-in-Err-clause-any_moment : goal.returns-in-Err-clause-any_moment
-returns-in-Err-clause-any_moment g c = λ s is.
+pub returns-else-not-self-clause-any_moment : goal.returns-else-not-self-clause-any_moment
+returns-else-not-self-clause-any_moment g c = λ s is.
     let file = g.D.Device.seen c.args.self.now.journal.device in
     let t = all_erased_late (g.T.Words.state c.args.self.now.words) (changes_told c.args.changes.now) in
     let change = change_of_one (state_of file) s t (payload_of c.args.frame.now) c.requires.stands is in

@@ -69,16 +69,16 @@ returns-in-Ok-clause-any_moment g c = λ ready.
     subst (λ t. LeavesOnly g.D.Device.moment g.D.Device.left_since c.args.self.now.journal.device c.acknowledge.new.self.journal.device (IsEither s t)) kept
     (c.acknowledge.ensures.any_moment s (c.requires.ready.consistent ready).same)
 
-pub returns-in-Err-then-self-clause-any_moment : goal.returns-in-Err-then-self-clause-any_moment
-returns-in-Err-then-self-clause-any_moment g c = λ ready.
+pub returns-then-self-2-clause-any_moment : goal.returns-then-self-2-clause-any_moment
+returns-then-self-2-clause-any_moment g c = λ ready.
     let s = g.T.Words.state c.args.self.now.words in
     let told = changes_told c.args.changes.now in
     let kept : all_erased_late (g.T.Words.state c.make.new.words) told ≡ all_changed s told = c.in_ok-batch.ensures.made in
     subst (λ t. LeavesOnly g.D.Device.moment g.D.Device.left_since c.args.self.now.journal.device c.acknowledge.new.self.journal.device (IsEither s t)) kept
     (c.acknowledge.ensures.any_moment s (c.requires.ready.consistent ready).same)
 
-pub returns-in-Err-clause-any_moment : goal.returns-in-Err-clause-any_moment
-returns-in-Err-clause-any_moment g c = λ ready.
+pub returns-clause-any_moment : goal.returns-clause-any_moment
+returns-clause-any_moment g c = λ ready.
     let s = g.T.Words.state c.args.self.now.words in
     let told = changes_told c.args.changes.now in
     let kept : all_erased_late (g.T.Words.state c.make.new.words) told ≡ all_changed s told = c.in_ok-batch.ensures.made in
@@ -106,14 +106,14 @@ returns-in_err-batch-clause-first g c = λ _.
 pub returns-in-Ok-clause-first : goal.returns-in-Ok-clause-first
 returns-in-Ok-clause-first g c = λ _. nothing_told_of (first_refused 0 (changes_told c.args.changes.now)) _ (none_refused (changes_told c.args.changes.now) 0 c.in_ok-batch.ensures.faultless)
 
-pub returns-in-Err-then-self-clause-first : goal.returns-in-Err-then-self-clause-first
-returns-in-Err-then-self-clause-first g c = λ _. nothing_told_of (first_refused 0 (changes_told c.args.changes.now)) _ (none_refused (changes_told c.args.changes.now) 0 c.in_ok-batch.ensures.faultless)
+pub returns-then-self-2-clause-first : goal.returns-then-self-2-clause-first
+returns-then-self-2-clause-first g c = λ _. nothing_told_of (first_refused 0 (changes_told c.args.changes.now)) _ (none_refused (changes_told c.args.changes.now) 0 c.in_ok-batch.ensures.faultless)
 
-pub returns-in-Err-clause-first : goal.returns-in-Err-clause-first
-returns-in-Err-clause-first g c = λ _. nothing_told_of (first_refused 0 (changes_told c.args.changes.now)) _ (none_refused (changes_told c.args.changes.now) 0 c.in_ok-batch.ensures.faultless)
+pub returns-clause-first : goal.returns-clause-first
+returns-clause-first g c = λ _. nothing_told_of (first_refused 0 (changes_told c.args.changes.now)) _ (none_refused (changes_told c.args.changes.now) 0 c.in_ok-batch.ensures.faultless)
 
-pub returns-in-Err-then-self-clause-ready : goal.returns-in-Err-then-self-clause-ready
-returns-in-Err-then-self-clause-ready g c =
+pub returns-then-self-2-clause-ready : goal.returns-then-self-2-clause-ready
+returns-then-self-2-clause-ready g c =
     let s = g.T.Words.state c.args.self.now.words in
     let told = changes_told c.args.changes.now in
     let kept : all_erased_late (g.T.Words.state c.make.new.words) told ≡ all_changed s told = c.in_ok-batch.ensures.made in
@@ -131,8 +131,8 @@ returns-in-Err-then-self-clause-ready g c =
     let done = has_failed before now old.failed new.failed e _ _ cause usable broken left ∙ kept in
     failed_ready d.seen d.may_leave new.journal.device new.journal.format new.journal.end (state new.words) new.failed broken (ap (λ t. t.ordered) done ∙ stays_ordered told s c.requires.ready.ordered)
 
-pub returns-in-Err-then-self-clause-err : goal.returns-in-Err-then-self-clause-err
-returns-in-Err-then-self-clause-err g c =
+pub returns-then-self-2-clause-err : goal.returns-then-self-2-clause-err
+returns-then-self-2-clause-err g c =
     let s = g.T.Words.state c.args.self.now.words in
     let told = changes_told c.args.changes.now in
     let kept : all_erased_late (g.T.Words.state c.make.new.words) told ≡ all_changed s told = c.in_ok-batch.ensures.made in
@@ -150,8 +150,8 @@ returns-in-Err-then-self-clause-err g c =
     let done = has_failed before now old.failed new.failed e _ _ cause usable broken left ∙ kept in
     leaves_unwritten before now old.failed new.failed e _ _ _ cause (λ _. (broken, done)) (λ _ still. absurd (false≢true (sym usable ∙ sym still ∙ broken)))
 
-pub returns-in-Err-then-self-clause-cause : goal.returns-in-Err-then-self-clause-cause
-returns-in-Err-then-self-clause-cause g c =
+pub returns-then-self-2-clause-cause : goal.returns-then-self-2-clause-cause
+returns-then-self-2-clause-cause g c =
     let s = g.T.Words.state c.args.self.now.words in
     let told = changes_told c.args.changes.now in
     let kept : all_erased_late (g.T.Words.state c.make.new.words) told ≡ all_changed s told = c.in_ok-batch.ensures.made in
@@ -167,8 +167,8 @@ returns-in-Err-then-self-clause-cause g c =
     let e = c.in-Err.error in
     batch_unwritten old.failed new.failed told old.journal.end before now e cause
 
-pub returns-in-Err-clause-cause : goal.returns-in-Err-clause-cause
-returns-in-Err-clause-cause g c =
+pub returns-clause-cause : goal.returns-clause-cause
+returns-clause-cause g c =
     let s = g.T.Words.state c.args.self.now.words in
     let told = changes_told c.args.changes.now in
     let kept : all_erased_late (g.T.Words.state c.make.new.words) told ≡ all_changed s told = c.in_ok-batch.ensures.made in
@@ -184,8 +184,8 @@ returns-in-Err-clause-cause g c =
     let e = c.in-Err.error in
     batch_unwritten old.failed new.failed told old.journal.end before now e cause
 
-pub returns-in-Err-clause-ready : goal.returns-in-Err-clause-ready
-returns-in-Err-clause-ready g c =
+pub returns-clause-ready : goal.returns-clause-ready
+returns-clause-ready g c =
     let s = g.T.Words.state c.args.self.now.words in
     let told = changes_told c.args.changes.now in
     let kept : all_erased_late (g.T.Words.state c.make.new.words) told ≡ all_changed s told = c.in_ok-batch.ensures.made in
@@ -209,8 +209,8 @@ returns-in-Err-clause-ready g c =
       consistent = λ _. record { settled = room.settled; same = room.same ∙ was.same ∙ ap (λ t. Some t) (sym back) };
     }
 
-pub returns-in-Err-clause-err : goal.returns-in-Err-clause-err
-returns-in-Err-clause-err g c =
+pub returns-clause-err : goal.returns-clause-err
+returns-clause-err g c =
     let s = g.T.Words.state c.args.self.now.words in
     let told = changes_told c.args.changes.now in
     let kept : all_erased_late (g.T.Words.state c.make.new.words) told ≡ all_changed s told = c.in_ok-batch.ensures.made in

@@ -38,16 +38,16 @@ returns-in-Ok-acknowledge-clause-any_moment g c = λ ready.
     subst (λ t. LeavesOnly moment g.D.Device.left_since c.args.self.now.journal.device c.acknowledge.new.self.journal.device (IsEither s t)) kept
     (c.acknowledge.ensures.any_moment s (c.requires.ready.consistent ready).same)
 
-pub returns-in-Err-acknowledge-then-self-clause-any_moment : goal.returns-in-Err-acknowledge-then-self-clause-any_moment
-returns-in-Err-acknowledge-then-self-clause-any_moment g c = λ ready.
+pub returns-then-self-2-clause-any_moment : goal.returns-then-self-2-clause-any_moment
+returns-then-self-2-clause-any_moment g c = λ ready.
     let s = (g.T.Words.state c.args.self.now.words) in
     let kept : (g.T.Words.state c.put.new.self) ≡ stored s c.args.key.now c.args.value = search rules in
     let moment = g.D.Device.moment in
     subst (λ t. LeavesOnly moment g.D.Device.left_since c.args.self.now.journal.device c.acknowledge.new.self.journal.device (IsEither s t)) kept
     (c.acknowledge.ensures.any_moment s (c.requires.ready.consistent ready).same)
 
-pub returns-in-Err-acknowledge-clause-any_moment : goal.returns-in-Err-acknowledge-clause-any_moment
-returns-in-Err-acknowledge-clause-any_moment g c = λ ready.
+pub returns-in-Ok-clause-any_moment : goal.returns-in-Ok-clause-any_moment
+returns-in-Ok-clause-any_moment g c = λ ready.
     let s = (g.T.Words.state c.args.self.now.words) in
     let kept : (g.T.Words.state c.put.new.self) ≡ stored s c.args.key.now c.args.value = search rules in
     let moment = g.D.Device.moment in
@@ -61,8 +61,8 @@ returns-in-Ok-acknowledge-clause-recorded g c =
     let told = c.in-Ok.ensures.change ∙ ap (λ v. Some (put_at c.args.key.now v ∷ [])) (to_z-of_z w32 c.args.value fits) in
     recorded_in (seen c.args.self.now.journal.device) (seen c.acknowledge.new.self.journal.device) (payload_of c.in-Ok.frame) (put_at c.args.key.now c.args.value ∷ []) told c.in-Ok-acknowledge.ensures.recorded
 
-pub returns-in-Err-acknowledge-then-self-clause-ready : goal.returns-in-Err-acknowledge-then-self-clause-ready
-returns-in-Err-acknowledge-then-self-clause-ready g c =
+pub returns-then-self-2-clause-ready : goal.returns-then-self-2-clause-ready
+returns-then-self-2-clause-ready g c =
     let d = g.D.Device in
     let state = g.T.Words.state in
     let old = c.args.self.now in
@@ -80,8 +80,8 @@ returns-in-Err-acknowledge-then-self-clause-ready g c =
     let done = has_failed before now old.failed new.failed e _ _ cause usable broken left ∙ kept in
     failed_ready d.seen d.may_leave new.journal.device new.journal.format new.journal.end (state new.words) new.failed broken (ap (λ t. t.ordered) done ∙ c.requires.ready.ordered)
 
-pub returns-in-Err-acknowledge-then-self-clause-err : goal.returns-in-Err-acknowledge-then-self-clause-err
-returns-in-Err-acknowledge-then-self-clause-err g c =
+pub returns-then-self-2-clause-err : goal.returns-then-self-2-clause-err
+returns-then-self-2-clause-err g c =
     let d = g.D.Device in
     let state = g.T.Words.state in
     let old = c.args.self.now in
@@ -99,8 +99,8 @@ returns-in-Err-acknowledge-then-self-clause-err g c =
     let done = has_failed before now old.failed new.failed e _ _ cause usable broken left ∙ kept in
     leaves_unwritten before now old.failed new.failed e _ _ _ cause (λ _. (broken, done)) (λ _ still. absurd (false≢true (sym usable ∙ sym still ∙ broken)))
 
-pub returns-in-Err-acknowledge-then-self-clause-cause : goal.returns-in-Err-acknowledge-then-self-clause-cause
-returns-in-Err-acknowledge-then-self-clause-cause g c =
+pub returns-then-self-2-clause-cause : goal.returns-then-self-2-clause-cause
+returns-then-self-2-clause-cause g c =
     let d = g.D.Device in
     let state = g.T.Words.state in
     let old = c.args.self.now in
@@ -116,8 +116,8 @@ returns-in-Err-acknowledge-then-self-clause-cause g c =
     let e = c.in-Err-acknowledge.error in
     change_unwritten old.failed new.failed (fault key c.args.value) old.journal.end (length key + 5) before now e cause
 
-pub returns-in-Err-acknowledge-clause-cause : goal.returns-in-Err-acknowledge-clause-cause
-returns-in-Err-acknowledge-clause-cause g c =
+pub returns-in-Ok-clause-cause : goal.returns-in-Ok-clause-cause
+returns-in-Ok-clause-cause g c =
     let d = g.D.Device in
     let state = g.T.Words.state in
     let old = c.args.self.now in
@@ -133,8 +133,8 @@ returns-in-Err-acknowledge-clause-cause g c =
     let e = c.in-Err-acknowledge.error in
     change_unwritten old.failed new.failed (fault key c.args.value) old.journal.end (length key + 5) before now e cause
 
-pub returns-in-Err-acknowledge-clause-ready : goal.returns-in-Err-acknowledge-clause-ready
-returns-in-Err-acknowledge-clause-ready g c =
+pub returns-in-Ok-clause-ready : goal.returns-in-Ok-clause-ready
+returns-in-Ok-clause-ready g c =
     let d = g.D.Device in
     let state = g.T.Words.state in
     let old = c.args.self.now in
@@ -158,8 +158,8 @@ returns-in-Err-acknowledge-clause-ready g c =
       consistent = λ _. record { settled = room.settled; same = room.same ∙ was.same ∙ ap (λ t. Some t) (sym back) };
     }
 
-pub returns-in-Err-acknowledge-clause-err : goal.returns-in-Err-acknowledge-clause-err
-returns-in-Err-acknowledge-clause-err g c =
+pub returns-in-Ok-clause-err : goal.returns-in-Ok-clause-err
+returns-in-Ok-clause-err g c =
     let d = g.D.Device in
     let state = g.T.Words.state in
     let old = c.args.self.now in
