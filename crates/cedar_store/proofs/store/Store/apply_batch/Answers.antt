@@ -5,7 +5,7 @@ use Rattle.std.proofs.lemmas.Bool.{false≢true}
 use Rattle.cedar_journal.specs.Device.{LeavesOnly}
 use Rattle.cedar_journal.specs.Frames.{payload_of}
 use Rattle.cedar_tree.specs.State.{State}
-use Rattle.cedar_store.specs.Batches.{IsFaultless, all_erased_late, all_updated, first_refused}
+use Rattle.cedar_store.specs.Batches.{AreHeld, IsFaultless, all_erased_late, all_updated, first_refused}
 use Rattle.cedar_store.specs.Changes.{after, all_changed}
 use Rattle.cedar_store.specs.Files.{IsEither}
 use Rattle.cedar_store.specs.Told.{changes_told}
@@ -202,7 +202,8 @@ returns-clause-ready g c =
     let well : new.failed ≡ false = search rules in
     let room = lacks_room before now old.failed new.failed e _ _ cause well left in
     let updated = ap state room.words ∙ c.in_ok-batch.ensures.updated in
-    let back : state c.take_all_back.new.words ≡ s = c.take_all_back.ensures s c.in_ok-batch.ensures.held updated in
+    let lent : c.deref.result.now ≡ c.in_ok-batch.held.items = search rules in
+    let back : state c.take_all_back.new.words ≡ s = c.take_all_back.ensures s (subst (AreHeld s told) (sym lent) c.in_ok-batch.ensures.held) updated in
     let was = c.requires.ready.consistent usable in
     record {
       ordered = ap (λ t. t.ordered) back ∙ c.requires.ready.ordered;
@@ -227,5 +228,6 @@ returns-clause-err g c =
     let well : new.failed ≡ false = search rules in
     let room = lacks_room before now old.failed new.failed e _ _ cause well left in
     let updated = ap state room.words ∙ c.in_ok-batch.ensures.updated in
-    let back : state c.take_all_back.new.words ≡ s = c.take_all_back.ensures s c.in_ok-batch.ensures.held updated in
+    let lent : c.deref.result.now ≡ c.in_ok-batch.held.items = search rules in
+    let back : state c.take_all_back.new.words ≡ s = c.take_all_back.ensures s (subst (AreHeld s told) (sym lent) c.in_ok-batch.ensures.held) updated in
     leaves_unwritten before now old.failed new.failed e _ _ _ cause (λ broken. absurd (false≢true (sym well ∙ broken))) (λ _ _. (well, room.end, back))
