@@ -88,18 +88,20 @@ pub none_behind : (bytes : List ℕ) (at : ℕ) → length bytes ≤ at → foun
 unfolding found_behind
 none_behind bytes at far = ap found_in (drop_all at bytes far)
 
--- a payload that was taken at a place is pushed behind those before it
-pub pushed : (bytes b p : List ℕ) (at : ℕ) (old new : List (List ℕ)) → b ≡ drop at bytes → found_in b ≡ p ∷ found_in (drop (9 + length p) b) → new ≡ old ++ p ∷ []
-    → new ++ found_in (drop (at + (9 + length p)) bytes) ≡ old ++ found_in (drop at bytes)
-pushed bytes b p at old new here read is =
-    let next : drop (9 + length p) b ≡ drop (at + (9 + length p)) bytes = ap (drop (9 + length p)) here ∙ drop-drop (9 + length p) at bytes in
-    let there : found_in (drop at bytes) ≡ p ∷ found_in (drop (at + (9 + length p)) bytes) = ap found_in (sym here) ∙ read ∙ ap (λ l. p ∷ found_in l) next in
-    ap (λ l. l ++ found_in (drop (at + (9 + length p)) bytes)) is
-    ∙ append_assoc old (p ∷ []) (found_in (drop (at + (9 + length p)) bytes))
-    ∙ ap (λ l. old ++ l) (sym there)
+-- a record that was taken at a place, and the rest behind it
+pub found_next : (bytes b p : List ℕ) (at : ℕ) → b ≡ drop at bytes → found_in b ≡ p ∷ found_in (drop (9 + length p) b)
+    → found_in (drop at bytes) ≡ p ∷ found_in (drop (at + 9 + length p) bytes)
+found_next bytes b p at here read =
+    let next : drop (9 + length p) b ≡ drop (at + 9 + length p) bytes = ap (drop (9 + length p)) here ∙ drop-drop (9 + length p) at bytes ∙ ap (λ n. drop n bytes) (omega arith) in
+    ap found_in (sym here) ∙ read ∙ ap (λ l. p ∷ found_in l) next
 
-pub all_found : (bytes : List ℕ) (at : ℕ) (now : List (List ℕ)) → length bytes ≤ at → now ≡ now ++ found_in (drop at bytes)
-all_found bytes at now far = sym (ap (λ l. now ++ l) (none_behind bytes at far) ∙ append-nil now)
+-- a payload that was taken is pushed behind those before it
+pub pushed : (bytes behind p : List ℕ) (old new : List (List ℕ)) → found_in bytes ≡ p ∷ found_in behind → new ≡ old ++ p ∷ [] → new ++ found_in behind ≡ old ++ found_in bytes
+pushed bytes behind p old new read is =
+    ap (λ l. l ++ found_in behind) is ∙ append_assoc old (p ∷ []) (found_in behind) ∙ ap (λ l. old ++ l) (sym read)
+
+pub all_found : (bytes : List ℕ) (now : List (List ℕ)) → found_in bytes ≡ [] → now ≡ now ++ found_in bytes
+all_found bytes now none = sym (ap (λ l. now ++ l) none ∙ append-nil now)
 
 pub some_found : (bytes p : List ℕ) (l : List (List ℕ)) → found_in bytes ≡ p ∷ l → true ≡ has_some (found_in bytes)
 some_found bytes p l is = sym (ap has_some is)

@@ -1,2 +1,4 @@
 pub mod Changes
 pub mod Finding
+pub mod Keeping
+pub mod Looking

@@ -1,10 +1,10 @@
 -- What is whole in a file that somebody else has changed.
-use Rattle.std.specs.Prelude.{◌≡◌, ◌⊎◌, ℕ, zero, suc, ◌+◌, ◌&&◌, ◌==◌, Bool, true, false, not, cond, List, [], ◌∷◌, take, drop, get_or, Option, Some, None, is_some}
+use Rattle.std.specs.Prelude.{◌≡◌, ◌⊎◌, ◌<◌, ℕ, zero, suc, ◌+◌, ◌*◌, ◌&&◌, ◌==◌, nat_le, Bool, true, false, not, cond, List, [], ◌∷◌, ◌++◌, length, take, drop, get_or, Option, Some, None, is_some}
 use Rattle.cedar_journal.specs.declared.format.Format.{Format}
 use Rattle.cedar_journal.specs.declared.format.Format.TheVariants.{Plain, Summed}
 use Rattle.cedar_journal.specs.declared.records.Extent.{Extent}
 use Rattle.cedar_journal.specs.declared.records.Extent.TheVariants.{New, Until}
-use Rattle.cedar_journal.specs.Files.{format_of}
+use Rattle.cedar_journal.specs.Files.{HasExtent, format_of, recovered}
 use Rattle.cedar_journal.specs.Formats.{four_at, is_summed}
 use Rattle.cedar_journal.specs.Records.{behind_record, has_record, payloads_in}
 use Rattle.cedar_store.specs.Changes.{changes_of}
@@ -70,3 +70,35 @@ abbrev pub cuts_records : List ℕ → Extent → Bool
 cuts_records file New = false
 cuts_records file (Until Summed end) = has_some (found_in (drop end file))
 cuts_records file (Until Plain end) = has_record (behind_record (drop end file))
+
+-- How many bytes are looked at to say whether a record of version 2 at the start is whole: none if its gate is closed, if its payload begins
+-- with no operation, or if its length doesn't fit.
+unfoldable pub look_at : List ℕ → ℕ
+look_at bytes =
+    cond (nat_le 10 (length bytes))
+    (cond (get_or bytes 0 0 == 0) 0 (cond (nat_le 3 (get_or bytes 9 0)) 0 (cond (nat_le (9 + four_at bytes 5) (length bytes)) (9 + four_at bytes 5) 0)))
+    0
+
+-- and at each place
+unfoldable pub looks : List ℕ → ℕ
+looks [] = 0
+looks (byte ∷ rest) = look_at (byte ∷ rest) + looks rest
+
+-- To look at each place behind the end takes more than 16 times the bytes there.
+abbrev pub TakesLong : List ℕ → Extent → Type 0
+TakesLong file New = ⊥
+TakesLong file (Until Summed end) = 16 * length (drop end file) < looks (drop end file)
+TakesLong file (Until Plain end) = ⊥
+
+-- what an opening cuts off a file of this extent, behind a header like the file's
+abbrev pub cut_of : List ℕ → Extent → List ℕ
+cut_of file New = []
+cut_of file (Until format end) = take 13 file ++ drop end file
+
+-- An opening of the file may cut off whole records: these bytes are a header like the file's, and behind it all that is cut off.
+abbrev pub IsCutOf : List ℕ → List ℕ → Type 0
+IsCutOf file kept = (extent : Extent) × HasExtent file extent × ((cuts_records file extent ≡ true) ⊎ TakesLong file extent) × (kept ≡ cut_of file extent)
+
+-- The file stands for no records, and an opening refuses it; or it would cut off no whole record.
+abbrev pub CutsNone : List ℕ → Type 0
+CutsNone file = (recovered file ≡ None) ⊎ ((extent : Extent) × HasExtent file extent × (cuts_records file extent ≡ false))

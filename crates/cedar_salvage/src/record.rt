@@ -1,6 +1,6 @@
 //! Records, and whether they are whole.
 
-ghost use Rattle.std.specs.Prelude.{◌+◌, ◌∷◌, ◌≡◌, ◌≤◌, [], drop, false, IfNone, IfSome, length};
+ghost use Rattle.std.specs.Prelude.{◌+◌, ◌<◌, ◌∷◌, ◌≡◌, ◌≤◌, [], drop, false, IfNone, IfSome, length};
 ghost use Rattle.cedar_salvage.specs.Words.{first_changes, format_of, found_in, is_whole, payloads_in};
 
 use crate::change::{is_change, number};
@@ -46,6 +46,22 @@ pub(crate) fn whole_payload(bytes: &[u8]) -> Option<&[u8]>
         return None;
     }
     Some(payload)
+}
+
+/// Returns the payload of the first whole record of version 2 among some bytes, and what stands behind that record.
+pub(crate) fn next_whole(bytes: &[u8]) -> Option<(&[u8], &[u8])>
+    ensures less { IfSome result (λ found. length found.1.now < length bytes.now) }
+    ensures some { IfSome result (λ found. found_in bytes.now ≡ found.0.now ∷ found_in found.1.now) }
+    ensures none { IfNone result (found_in bytes.now ≡ []) }
+{
+    let mut at = 0;
+    while at < bytes.len() {
+        match whole_payload(&bytes[at..]) {
+            Some(payload) => return Some((payload, &bytes[at + 9 + payload.len()..])),
+            None => at += 1,
+        }
+    }
+    None
 }
 
 /// Returns the payload of the record of version 1 at the start, if it counts and is a change.

@@ -3,7 +3,7 @@
 ghost use Rattle.std.specs.Prelude.{◌++◌, ◌∷◌, ◌≡◌, [], drop, IfOk, OnOk, Some};
 ghost use Rattle.cedar_salvage.specs.Words.{first_changes, found_in, found_of, IsSettled, Only, payloads_in, payloads_of, recovered, salvaged};
 
-use crate::record::{format_of, plain_change, whole_payload};
+use crate::record::{format_of, next_whole, plain_change};
 use cedar_journal::{
     DeviceError, Format, Frame, FrameError, HEADER_LEN, Image, Journal, ReplaceDevice, extent_of,
 };
@@ -102,15 +102,10 @@ fn push_whole<A: Allocator + Copy>(
 ) -> Result<(), FrameError>
     ensures { OnOk result (payloads_of image.new ≡ payloads_of image.old ++ found_in bytes.now) }
 {
-    let mut at = 0;
-    while at < bytes.len() {
-        match whole_payload(&bytes[at..]) {
-            Some(payload) => {
-                push_payload(alloc, image, payload)?;
-                at += 9 + payload.len();
-            }
-            None => at += 1,
-        }
+    let mut rest = bytes;
+    while let Some((payload, behind)) = next_whole(rest) {
+        push_payload(alloc, image, payload)?;
+        rest = behind;
     }
     Ok(())
 }

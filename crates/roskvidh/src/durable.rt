@@ -7,7 +7,7 @@ use crate::changes::change_words;
 use crate::dictionary::SLOTS;
 use crate::fault::Fault;
 use crate::input::Source;
-use crate::kept::keep_cut;
+use crate::kept::keep_and_tell;
 use crate::meter::Meter;
 use crate::request::How;
 use cedar_disk::{FileDevice, LockFile, OpenError};
@@ -49,7 +49,14 @@ where
 }
 
 /// Makes a change in the store on a device: it is made in a copy of the dictionary, and what differs there is the change of the store.
-fn change_on<'m, D: ReplaceDevice + Drop, F: Files + Copy + Drop, R: Read + Drop, M: Meter + Drop, E: Write>(
+fn change_on<
+    'm,
+    D: ReplaceDevice + Drop,
+    F: Files + Copy + Drop,
+    R: Read + Drop,
+    M: Meter + Drop,
+    E: Write,
+>(
     alloc: Global,
     files: &F,
     device: D,
@@ -63,7 +70,7 @@ where
     requires restarted { Only (D.seen device) (D.may_leave device) }
 {
     let mut device = device;
-    keep_cut(alloc, files, &mut device, path, errors)?;
+    keep_and_tell(alloc, files, &mut device, path, errors)?;
     let mut store = open_store(alloc, device, path)?;
     let (changes, all) = changes_of(alloc, files, store.dictionary(), how, source, errors)?;
     let batch = batch_of(alloc, &changes)?;

@@ -22,7 +22,7 @@ const LOCKED: &str = "another program has the store open";
 
 /// What is told of a store whose file has more behind its records than a crash leaves.
 const UNKEPT: &str =
-    "whole records stand behind its end, and can't be kept in a file beside it";
+    "what stands behind its end may have whole records, and can't be kept in a file beside it";
 
 /// Why the program did not do what the arguments say.
 #[derive(Drop)]

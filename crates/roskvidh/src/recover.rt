@@ -68,10 +68,13 @@ fn taken_of(bytes: &[u8]) -> Taken {
         batches: 0,
         bytes: bytes.len(),
     };
-    let mut at = HEADER_LEN.min(bytes.len());
-    while let Some(payload) = next_payload(Format::Summed, &bytes[at..]) {
+    let mut rest = bytes.get(HEADER_LEN..).unwrap_or_default();
+    for _ in 0..bytes.len() {
+        let Some(payload) = next_payload(Format::Summed, rest) else {
+            break;
+        };
         taken.add(kind_of(payload));
-        at += Format::Summed.overhead() + payload.len();
+        rest = &rest[Format::Summed.overhead() + payload.len()..];
     }
     taken
 }

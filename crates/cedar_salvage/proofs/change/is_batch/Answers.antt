@@ -16,18 +16,18 @@ loop-part-preserved c =
     let behind = c.in-Some.ensures.behind in
     record {
       within = omega (arith, before.within, behind.0, ap length (rest_is at bytes), length-drop at bytes);
-      same = goes_on bytes b c.in-Some.part.now at (rest_is at bytes) some.0 some.1 behind.1 (sym c.is_single.ensures ∙ c.if-is_single.true) ∙ before.same;
+      same = goes_on bytes b c.in-Some.part.now at (rest_is at bytes) some.0 some.1 behind.1 (sym c.is_single.ensures ∙ c.if-not-is_single.false) ∙ before.same;
       long = omega (arith, before.long, longer bytes b c.in-Some.part.now at (rest_is at bytes) some.0 some.1 behind.1);
     }
 
-pub returns-then-is_single : goal.returns-then-is_single
-returns-then-is_single c =
+pub returns-then-not-is_single : goal.returns-then-not-is_single
+returns-then-not-is_single c =
     let before = c.loop-part.invariant in
     let bytes = c.args.bytes.now in
     let at = c.loop-part.done in
     let b = take (length bytes - at) (drop at bytes) in
     let some = c.in-Some.ensures.some in
-    no_batch bytes (sym before.same ∙ stops bytes b c.in-Some.part.now at (rest_is at bytes) some.0 some.1 c.in-Some.ensures.behind.1 (sym c.is_single.ensures ∙ c.if-is_single.false))
+    no_batch bytes (sym before.same ∙ stops bytes b c.in-Some.part.now at (rest_is at bytes) some.0 some.1 c.in-Some.ensures.behind.1 (sym c.is_single.ensures ∙ c.if-not-is_single.true))
 
 pub returns : goal.returns
 returns c =

@@ -11,9 +11,9 @@ returns-then-bytes-eq0-clause-none c = shut c.args.bytes.now (omega arith)
 pub returns-then-len-bytes-clause-none : goal.returns-then-len-bytes-clause-none
 returns-then-len-bytes-clause-none c = short c.args.bytes.now c.number-len.result (omega (arith, c.number-len.ensures)) (omega arith)
 
-pub returns-then-is_change-clause-none : goal.returns-then-is_change-clause-none
-returns-then-is_change-clause-none c =
-    other c.args.bytes.now c.number-len.result (9 + c.number-len.result - 9) (omega (arith, c.number-len.ensures)) (omega arith) (sym c.is_change.ensures ∙ c.if-is_change.false)
+pub returns-then-not-is_change-clause-none : goal.returns-then-not-is_change-clause-none
+returns-then-not-is_change-clause-none c =
+    other c.args.bytes.now c.number-len.result (9 + c.number-len.result - 9) (omega (arith, c.number-len.ensures)) (omega arith) (sym c.is_change.ensures ∙ c.if-not-is_change.true)
 
 pub returns-then-crc32c-number-clause-none : goal.returns-then-crc32c-number-clause-none
 returns-then-crc32c-number-clause-none c =
@@ -25,4 +25,4 @@ returns-clause-read c =
     let n = c.number-len.result in
     taken bytes n (9 + n - 9) (omega (arith, c.number-len.ensures)) (omega arith) (omega arith)
     (whole bytes n (9 + n - 5) (9 + n - 9) (omega arith) (omega (arith, c.number-len.ensures)) (omega arith) (omega arith) (omega (arith, c.crc32c.ensures, c.number.ensures))
-    (omega arith) (sym c.is_change.ensures ∙ c.if-is_change.true))
+    (omega arith) (sym c.is_change.ensures ∙ c.if-not-is_change.false))

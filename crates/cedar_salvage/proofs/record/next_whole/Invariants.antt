@@ -1,6 +1,6 @@
 use Rattle.std.proofs.Common.{◌≡◌, ◌-◌, ◌≤◌, length, drop}
 use Rattle.cedar_salvage.specs.Whole.{found_in}
-use Rattle.cedar_salvage.proofs.cut.has_whole.Given as goal
+use Rattle.cedar_salvage.proofs.record.next_whole.Given as goal
 
 abbrev pub invariant-loop-at : goal.invariant-loop-at
 invariant-loop-at l = record {

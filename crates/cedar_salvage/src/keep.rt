@@ -1,0 +1,181 @@
+//! What an opening would cut off a store's file, kept beside it.
+
+ghost use Rattle.std.specs.Prelude.{◌+◌, ◌++◌, ◌≡◌, ◌≤◌, [], drop, IfNone, IfOk, IfSome, length, List, OnOk, take};
+ghost use Rattle.cedar_salvage.specs.Words.{CutsNone, Elapses, IsCutOf, MayLeave, Memory, Only, seen_after};
+ghost use Rattle.cedar_disk.specs.FileDevices.{device_calls};
+
+use crate::cut::may_cut_records;
+use cedar_disk::{FileDevice, LockFile, OpenError};
+use cedar_journal::{Device, DeviceError, Extent, HEADER_LEN, extent_of};
+use std::alloc::{AllocError, Allocator};
+use std::fs;
+use std::io::{self, ErrorKind};
+use std::rt::Files;
+
+/// How many files beside a store may keep what was cut off it.
+const MOST_KEPT: usize = 100;
+
+/// A new file beside a store's. It is on the disk, and locked until this is dropped.
+#[derive(Drop)]
+pub struct Kept<F: Files + Drop, A: Allocator> {
+    /// The path at which it was made.
+    pub path: String<A>,
+    /// The file.
+    pub device: FileDevice<F, A>,
+}
+
+/// Why what an opening would cut off wasn't kept.
+#[derive(Clone, Copy, Debug)]
+pub enum KeepError {
+    /// An allocation failed.
+    Memory,
+    /// The store's device couldn't be read.
+    Unread,
+    /// No new file could be made: the system's error, or `AlreadyExists` if all names are taken.
+    Unmade(io::Error),
+    /// The new file couldn't be written or put on the disk. It was removed.
+    Unwritten(DeviceError),
+}
+
+impl From<AllocError> for KeepError {
+    //= A failed allocation becomes `Memory`.
+    ghost from_gives = { λ _ e. e ≡ Memory };
+
+    fn from(_: AllocError) -> Self {
+        KeepError::Memory
+    }
+}
+
+/// Keeps what the opening of the store on a device would cut off its file, if whole records may be in it (`may_cut_records`). It is put
+/// behind the header into a new file at the path with `.cut` after it, or with `.1.cut` and so on to `.99.cut` where a name is taken. That
+/// is the file of a store, from which `salvage` takes the records. Call this before the store is opened. The store's file is only read.
+///
+/// Returns None if nothing has to be kept: the opening would cut off no whole record, or the file is of another kind or damaged.
+///
+/// # Errors
+/// `Memory` if an allocation failed, `Unread` if the device couldn't be read, `Unmade` or `Unwritten` if the new file couldn't be made.
+/// Don't open the store then.
+pub fn keep_cut<D: Device, F: Files + Copy + Drop, A: Allocator + Copy>(
+    alloc: A,
+    files: F,
+    device: &mut D,
+    path: &str,
+) -> Result<Option<Kept<F, A>>, KeepError>
+where
+    F::File: LockFile,
+    //= If the opening of a store may cut off whole records, the header and all that it would cut off are in a new file, and on the disk.
+    //  [with durable]
+    ensures kept { IfOk result (λ kept. IfSome kept (λ k. IsCutOf (D.seen device.old) (seen_after (device_calls k.device)))) }
+    ensures durable { IfOk result (λ kept. IfSome kept (λ k. Only (seen_after (device_calls k.device)) (MayLeave (device_calls k.device)))) }
+    //= Nothing is kept only if the opening would cut off no whole record, or if the file stands for no records.
+    ensures none { IfOk result (λ kept. IfNone kept (CutsNone (D.seen device.old))) }
+    //= The store's file stays as it was. [with restarted, time]
+    ensures seen { D.seen device.new ≡ D.seen device.old }
+    ensures restarted { Only (D.seen device.old) (D.may_leave device.old) → Only (D.seen device.new) (D.may_leave device.new) }
+    ensures time { Elapses (D.moment device.old) (D.moment device.new) (D.left_since device.old) (D.left_since device.new) (D.may_leave device.new) }
+{
+    let bytes = match device.read(alloc) {
+        Ok(bytes) => bytes,
+        Err(DeviceError::Memory) => return Err(KeepError::Memory),
+        Err(_) => return Err(KeepError::Unread),
+    };
+    let Some(end) = cut_at(&bytes) else {
+        return Ok(None);
+    };
+    let kept = keep(alloc, files, path, &bytes[..HEADER_LEN], &bytes[end..])?;
+    Ok(Some(kept))
+}
+
+/// Where an opening would cut a file, if it may cut off whole records.
+fn cut_at(bytes: &[u8]) -> Option<usize>
+    ensures within { IfSome result (λ end. (13 ≤ length bytes.now) × (end ≤ length bytes.now)) }
+    ensures some { IfSome result (λ end. IsCutOf bytes.now (take 13 bytes.now ++ drop end bytes.now)) }
+    ensures none { IfNone result (CutsNone bytes.now) }
+{
+    let Ok(extent) = extent_of(bytes) else {
+        return None;
+    };
+    if !may_cut_records(bytes, extent) {
+        return None;
+    }
+    match extent {
+        Extent::New => None,
+        Extent::Until(_, end) => Some(end),
+    }
+}
+
+/// Makes a new file of a header and some bytes beside one.
+fn keep<F: Files + Copy + Drop, A: Allocator + Copy>(
+    alloc: A,
+    files: F,
+    path: &str,
+    header: &[u8],
+    bytes: &[u8],
+) -> Result<Kept<F, A>, KeepError>
+where
+    F::File: LockFile,
+    ensures filled { IfOk result (λ kept. seen_after (device_calls kept.device) ≡ header.now ++ bytes.now) }
+    ensures durable { IfOk result (λ kept. Only (seen_after (device_calls kept.device)) (MayLeave (device_calls kept.device))) }
+{
+    let mut kept = make_beside(alloc, files, path)?;
+    // Before a byte is in it.
+    look_like(&files, path, &kept.path);
+    match fill(&mut kept.device, header, bytes) {
+        Ok(()) => Ok(kept),
+        Err(error) => {
+            // It is this call's own, and still locked.
+            let _ = fs::remove_file(&files, &kept.path);
+            Err(KeepError::Unwritten(error))
+        }
+    }
+}
+
+/// Gives the file of this name the permissions of the one at a path, as far as the system allows it.
+fn look_like<F: Files>(files: &F, path: &str, name: &str) {
+    if let Ok(looks) = fs::metadata(files, path) {
+        let _ = fs::set_permissions(files, name, looks.permissions());
+    }
+}
+
+/// Makes a new file beside one, at the first name that is free.
+fn make_beside<F: Files + Copy + Drop, A: Allocator + Copy>(
+    alloc: A,
+    files: F,
+    path: &str,
+) -> Result<Kept<F, A>, KeepError>
+where
+    F::File: LockFile,
+    ensures empty { IfOk result (λ kept. seen_after (device_calls kept.device) ≡ []) }
+{
+    for number in 0..MOST_KEPT {
+        let path = name_beside(alloc, path, number)?;
+        match FileDevice::create_new(files, alloc, &path) {
+            Ok(device) => return Ok(Kept { path, device }),
+            Err(OpenError::Memory) => return Err(KeepError::Memory),
+            Err(OpenError::Locked) => {}
+            Err(OpenError::Io(error)) if error.kind() == ErrorKind::AlreadyExists => {}
+            Err(OpenError::Io(error)) => return Err(KeepError::Unmade(error)),
+        }
+    }
+    Err(KeepError::Unmade(ErrorKind::AlreadyExists.into()))
+}
+
+/// The name of the file that is tried at this place in turn.
+fn name_beside<A: Allocator>(alloc: A, path: &str, number: usize) -> Result<String<A>, AllocError> {
+    if number == 0 {
+        return format!(in alloc; "{path}.cut");
+    }
+    format!(in alloc; "{path}.{number}.cut")
+}
+
+/// Writes a header and some bytes to an empty device. They are on the disk then.
+fn fill<D: Device>(device: &mut D, header: &[u8], bytes: &[u8]) -> Result<(), DeviceError>
+    requires empty { D.seen device.old ≡ [] }
+    ensures filled { OnOk result (D.seen device.new ≡ header.now ++ bytes.now) }
+    ensures durable { OnOk result (Only (D.seen device.new) (D.may_leave device.new)) }
+{
+    device.write_at(0, header)?;
+    device.write_at(header.len(), bytes)?;
+    device.sync()?;
+    Ok(())
+}
