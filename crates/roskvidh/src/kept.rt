@@ -1,7 +1,7 @@
 //! What the opening of a store would cut off its file, kept beside it.
 
 ghost use Rattle.std.specs.Prelude.{◌≡◌};
-ghost use Rattle.roskvidh.specs.Words.Only;
+ghost use Rattle.roskvidh.specs.Words.{Only};
 
 use crate::fault::Fault;
 use cedar_disk::LockFile;
