@@ -1,5 +1,5 @@
 /* The file of a store on the disk: it is opened and locked, read, cut and written. This part is tested (tests/c/openings.c,
- * tests/c/store.c) and not proved. */
+ * tests/c/store.c, tests/c/kept.c) and not proved. */
 #define _DEFAULT_SOURCE /* flock */
 #include "disk.h"
 #include "cedar.h"
@@ -14,8 +14,8 @@
 #include <sys/stat.h>
 #include <unistd.h>
 
-/* How often a path is opened whose file is replaced meanwhile. */
-enum { FIRST_ROOM = 1 << 16, TRIED_OPENINGS = 100 };
+/* How often a path is opened whose file is replaced meanwhile, and how many names are tried for a file that is kept. */
+enum { FIRST_ROOM = 1 << 16, TRIED_OPENINGS = 100, TRIED_NAMES = 100 };
 
 /* How many bytes a name has at most, and what stands behind that of a file in its replacement's. */
 enum { LONGEST_NAME = 255 };
@@ -104,12 +104,12 @@ uint32_t disk_read(const disk_file *file, uint8_t **bytes, size_t *length) {
 
 /* ---- a file that is opened */
 
-/* Closes what is open, and frees the name. */
+/* Closes what is open, and frees the path. */
 void disk_close(disk_file *file) {
     int cause = errno;
     if (file->number >= 0) close(file->number);
     if (file->folder >= 0) close(file->folder);
-    free(file->name);
+    free(file->path);
     *file = (disk_file)DISK_CLOSED;
     errno = cause;
 }
@@ -128,17 +128,16 @@ static uint32_t open_number(disk_file *file, const char *path, int flags) {
     return CEDAR_STORE_DEVICE;
 }
 
-/* Opens the folder where the links of a path lead to, and keeps the name there. */
+/* Opens the folder where the links of a path lead to, and keeps the path and the name there. */
 static uint32_t open_folder(disk_file *file, const char *path) {
-    file->name = realpath(path, NULL);
-    if (file->name == NULL) return errno == ENOMEM ? CEDAR_MEMORY : CEDAR_STORE_DEVICE;
-    char *slash = strrchr(file->name, '/'), kept = slash[1];
-    slash[1] = '\0';
-    file->folder = open_at(file->name, O_RDONLY | O_DIRECTORY);
-    if (file->folder < 0) return CEDAR_STORE_DEVICE;
-    slash[1] = kept;
-    memmove(file->name, slash + 1, strlen(slash + 1) + 1);
-    return CEDAR_OK;
+    file->path = realpath(path, NULL);
+    if (file->path == NULL) return errno == ENOMEM ? CEDAR_MEMORY : CEDAR_STORE_DEVICE;
+    char *name = strrchr(file->path, '/') + 1, kept = *name;
+    *name = '\0';
+    file->folder = open_at(file->path, O_RDONLY | O_DIRECTORY);
+    *name = kept;
+    file->name = name;
+    return file->folder < 0 ? CEDAR_STORE_DEVICE : CEDAR_OK;
 }
 
 /* Whether the file that is open has its name still: nobody has removed it, or put another one there, before it was locked. */
@@ -161,29 +160,40 @@ static uint32_t open_locked(disk_file *file, const char *path, int flags, bool *
     return status == CEDAR_STORE_DEVICE && errno == ENOENT ? CEDAR_OK : status;
 }
 
-/* ---- a file that is replaced */
+/* ---- a file beside it */
 
-/* The name of the file by which another one is replaced, in memory that the caller frees. */
-static char *name_beside(const disk_file *file) {
-    size_t length = strlen(file->name);
-    if (length + sizeof BESIDE - 1 > LONGEST_NAME) {
+/* Names a file beside one: by its path, with this behind it. */
+static bool name_beside(const disk_file *file, const char *suffix, disk_file *beside) {
+    size_t length = strlen(file->path), more = strlen(suffix);
+    if (strlen(file->name) + more > LONGEST_NAME) {
         errno = ENAMETOOLONG;
-        return NULL;
+        return false;
     }
-    char *name = malloc(length + sizeof BESIDE);
-    if (name == NULL) return NULL;
-    memcpy(name, file->name, length);
-    memcpy(name + length, BESIDE, sizeof BESIDE);
-    return name;
+    beside->path = malloc(length + more + 1);
+    if (beside->path == NULL) {
+        errno = ENOMEM;
+        return false;
+    }
+    memcpy(beside->path, file->path, length);
+    memcpy(beside->path + length, suffix, more + 1);
+    beside->name = beside->path + (file->name - file->path);
+    return true;
 }
 
-/* Removes what a crash has left of a replacement: the lock says that nobody is at it. What isn't a file stays. */
-static void remove_leftover(const disk_file *file) {
-    struct stat left;
-    char *name = name_beside(file);
-    if (name == NULL) return;
-    if (fstatat(file->folder, name, &left, AT_SYMLINK_NOFOLLOW) == 0 && S_ISREG(left.st_mode)) unlinkat(file->folder, name, 0);
-    free(name);
+/* Makes a file beside one, which nobody else has: its name is new, and it isn't readable for others. */
+static bool make_beside(const disk_file *file, const char *suffix, disk_file *beside) {
+    *beside = (disk_file)DISK_CLOSED;
+    if (!name_beside(file, suffix, beside)) return false;
+    do {
+        beside->number = openat(file->folder, beside->name, O_RDWR | O_CREAT | O_EXCL | O_NOFOLLOW | O_CLOEXEC, 0600);
+    } while (beside->number < 0 && errno == EINTR);
+    return beside->number >= 0;
+}
+
+/* Gives a file beside the owner and the mode. */
+static bool take_rights(const disk_file *file, const disk_file *beside) {
+    struct stat old;
+    return fstat(file->number, &old) == 0 && paths_take_rights(beside->number, &old);
 }
 
 void disk_give_up(const disk_file *file, disk_file *beside) {
@@ -193,15 +203,15 @@ void disk_give_up(const disk_file *file, disk_file *beside) {
     disk_close(beside);
 }
 
-/* Opens the file beside, which nobody else has: its name is new, and it isn't readable for others. */
-static bool open_beside(const disk_file *file, disk_file *beside) {
-    struct stat old;
-    beside->name = name_beside(file);
-    if (beside->name == NULL || fstat(file->number, &old) != 0) return false;
-    do {
-        beside->number = openat(file->folder, beside->name, O_RDWR | O_CREAT | O_EXCL | O_NOFOLLOW | O_CLOEXEC, 0600);
-    } while (beside->number < 0 && errno == EINTR);
-    return beside->number >= 0 && lock(beside->number) && paths_take_rights(beside->number, &old);
+/* ---- a file that is replaced */
+
+/* Removes what a crash has left of a replacement: the lock says that nobody is at it. What isn't a file stays. */
+static void remove_leftover(const disk_file *file) {
+    struct stat left;
+    disk_file beside = DISK_CLOSED;
+    if (!name_beside(file, BESIDE, &beside)) return;
+    if (fstatat(file->folder, beside.name, &left, AT_SYMLINK_NOFOLLOW) == 0 && S_ISREG(left.st_mode)) unlinkat(file->folder, beside.name, 0);
+    disk_close(&beside);
 }
 
 bool disk_make_beside(const disk_file *file, disk_file *beside) {
@@ -212,7 +222,7 @@ bool disk_make_beside(const disk_file *file, disk_file *beside) {
         errno = ESTALE;
         return false;
     }
-    if (open_beside(file, beside)) return true;
+    if (make_beside(file, BESIDE, beside) && lock(beside->number) && take_rights(file, beside)) return true;
     disk_give_up(file, beside);
     return false;
 }
@@ -230,6 +240,34 @@ bool disk_take_place(disk_file *file, disk_file *beside, bool *is_unsure) {
     disk_close(beside);
     *is_unsure = !sync_all(file->folder);
     return !*is_unsure;
+}
+
+/* ---- a file that is kept */
+
+/* Makes a file beside one, of the first name that nothing has. */
+static bool make_kept(const disk_file *file, disk_file *kept) {
+    char suffix[32] = ".cut";
+    for (int number = 1; !make_beside(file, suffix, kept); number++) {
+        if (errno != EEXIST || number == TRIED_NAMES) return false;
+        disk_close(kept);
+        snprintf(suffix, sizeof suffix, ".%d.cut", number);
+    }
+    return true;
+}
+
+uint32_t disk_keep(const disk_file *file, const uint8_t *bytes, size_t first, size_t from, size_t length, char **path) {
+    disk_file kept;
+    bool is_full;
+    if (make_kept(file, &kept) && take_rights(file, &kept) && disk_write(&kept, 0, bytes, first, &is_full)
+        && disk_write(&kept, first, bytes + from, length - from, &is_full) && sync_all(kept.number) && sync_all(file->folder)) {
+        *path = kept.path;
+        kept.path = NULL;
+        disk_close(&kept);
+        return CEDAR_OK;
+    }
+    uint32_t status = errno == ENOMEM ? CEDAR_MEMORY : CEDAR_STORE_DEVICE;
+    disk_give_up(file, &kept);
+    return status;
 }
 
 /* ---- an opening */

@@ -9,13 +9,14 @@
 
 /* A file that is open. It is locked for this process, unless it was opened to read. */
 typedef struct disk_file {
-    int number;     /* -1: none */
-    int folder;     /* the folder that it is in, behind all links, or -1 */
-    char *name;     /* its name there */
-    pid_t process;  /* which has opened it: a forked child writes nothing */
+    int number;       /* -1: none */
+    int folder;       /* the folder that it is in, behind all links, or -1 */
+    char *path;       /* where it is, behind all links, or NULL */
+    const char *name; /* its name in the folder: the path's end */
+    pid_t process;    /* which has opened it: a forked child writes nothing */
 } disk_file;
 
-#define DISK_CLOSED { -1, -1, NULL, 0 }
+#define DISK_CLOSED { -1, -1, NULL, NULL, 0 }
 
 /* Opens the file at a path, and locks it before anything is written, by the bits of cedar_store_open_with. It and its name are on the disk
  * then. Returns a status of cedar.h. After an error the caller closes it too. */
@@ -36,6 +37,11 @@ bool disk_make_beside(const disk_file *file, disk_file *beside);
 /* Puts the file beside it on the disk, gives it the name, and goes on with it. Returns false if a call failed: the file beside is removed
  * then, if it hasn't the name. *is_unsure is set where it isn't known which of both has the name, or would have it behind a crash. */
 bool disk_take_place(disk_file *file, disk_file *beside, bool *is_unsure);
+
+/* Keeps bytes of a file that is open for changes, its first ones and those from `from` on, in a new file beside it, which is on the disk
+ * then: of the name with .cut behind it, or .1.cut to .99.cut where something has that name, and with its owner and mode. Returns a status of
+ * cedar.h, and the new file's path in memory that the caller frees. After an error the new file is removed. */
+uint32_t disk_keep(const disk_file *file, const uint8_t *bytes, size_t first, size_t from, size_t length, char **path);
 
 /* Removes the file beside, and closes it. errno stays. */
 void disk_give_up(const disk_file *file, disk_file *beside);

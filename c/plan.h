@@ -26,6 +26,9 @@ typedef struct cedar_plan {
  * update has among those of a group. */
 enum { CEDAR_PLAN_OPENING = 14, CEDAR_PLAN_CHANGE = 15, CEDAR_PLAN_PART = 10 };
 
+/* How many bytes the header of a file has. */
+enum { CEDAR_PLAN_HEADER = 13 };
+
 /* How many bytes stand in front of the records of a group: in a file whose records have sums, and in one of version 1. */
 enum { CEDAR_PLAN_SUMMED_GROUP = 10, CEDAR_PLAN_GROUP = 6 };
 
@@ -33,6 +36,10 @@ enum { CEDAR_PLAN_SUMMED_GROUP = 10, CEDAR_PLAN_GROUP = 6 };
  * *is_summed says whether they have sums. With CEDAR_STORE_DAMAGED *damaged_at is where in the file the first such record begins. */
 uint32_t cedar_plan_open(cedar_dictionary *d, bool is_reduced, const uint8_t *bytes, size_t length, bool *is_summed, size_t *end,
                          size_t *damaged_at, uint8_t *buffer, size_t room, cedar_plan *plan);
+
+/* Whether the plan of an opening of a file of these bytes may cut off more than the record under way: whole records, which no test has found
+ * a crash to leave there. False of a file that is refused, and of a new one. It takes a time of 16 times the bytes at most. */
+bool cedar_plan_may_cut_records(const uint8_t *bytes, size_t length);
 
 /* The change is made in the dictionary, and its plan is told: it is acknowledged once the plan is carried out. *end is where the records end
  * before the plan, and then where they end behind it. Nothing is to be carried out of an erasure that answers CEDAR_OK and *held false.

@@ -1,5 +1,6 @@
 /* Stores: dictionaries whose changes are in a file before they are acknowledged. The proved library says what is to be done to the file,
- * step by step; this part does it. It is tested (tests/c/store.c, tests/c/openings.c) and not proved. cedar.h says what the calls do. */
+ * step by step; this part does it. It is tested (tests/c/store.c, tests/c/openings.c, tests/c/kept.c) and not proved. cedar.h says what the
+ * calls do. */
 #include "store.h"
 
 #include <errno.h>
@@ -27,6 +28,17 @@ bool store_carry_out(const disk_file *disk, const cedar_plan *plan, const uint8_
 
 /* ---- a file that is opened */
 
+/* Makes a file of these bytes ready for changes, by the plan of its opening. If that may cut off more than the record under way, all that it
+ * cuts off is kept first, behind the header. */
+static uint32_t mend(struct cedar_store_file *file, const cedar_plan *plan, const uint8_t *buffer, const uint8_t *bytes, size_t length) {
+    uint32_t status = CEDAR_OK;
+    if (plan->count > 0 && cedar_plan_may_cut_records(bytes, length)) {
+        status = disk_keep(&file->disk, bytes, CEDAR_PLAN_HEADER, file->end, length, &file->kept);
+    }
+    if (status != CEDAR_OK) return status;
+    return store_carry_out(&file->disk, plan, buffer) ? CEDAR_OK : CEDAR_STORE_DEVICE;
+}
+
 /* Reads the dictionary of the file, and makes the file ready for changes, unless it is opened to read. */
 static uint32_t make_ready(cedar_store *s, bool is_reduced) {
     struct cedar_store_file *file = s->file;
@@ -38,7 +50,7 @@ static uint32_t make_ready(cedar_store *s, bool is_reduced) {
         status = cedar_plan_open(&s->dictionary, is_reduced, bytes, length, &file->is_summed, &file->end, &s->damaged_at, buffer,
                                  sizeof buffer, &plan);
     }
-    if (status == CEDAR_OK && !file->is_to_read && !store_carry_out(&file->disk, &plan, buffer)) status = CEDAR_STORE_DEVICE;
+    if (status == CEDAR_OK && !file->is_to_read) status = mend(file, &plan, buffer, bytes, length);
     int cause = errno;
     free(bytes);
     errno = cause;
@@ -103,6 +115,10 @@ size_t cedar_store_waiting(const cedar_store *s) {
     return s->file == NULL ? 0 : s->file->waiting;
 }
 
+const char *cedar_store_kept(const cedar_store *s) {
+    return s->file == NULL ? NULL : s->file->kept;
+}
+
 /* ---- changes on the disk */
 
 uint32_t store_acknowledge(struct cedar_store_file *file, const cedar_plan *plan, size_t end) {
@@ -156,6 +172,7 @@ void cedar_store_close(cedar_store *s) {
     sync_store(file);
     disk_close(&file->disk);
     free(file->bytes);
+    free(file->kept);
     free(file);
     s->file = NULL;
 }

@@ -26,6 +26,7 @@ struct cedar_store_file {
     size_t spare;
     size_t base;                /* how long it was when that was looked at */
     uint32_t last_compaction;
+    char *kept;                 /* the path of the file that has what the opening cut off, or NULL */
 };
 
 /* Does what a plan says, up to the first step that fails. */

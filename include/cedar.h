@@ -466,7 +466,8 @@ typedef struct cedar_store {
 #define CEDAR_STORE_CLOSED { CEDAR_CLOSED, NULL, 0 }
 
 /* Opens *s with the store of the file at a path. A missing file is created. All changes in the file are made again, which takes their time,
- * and memory for the file's bytes. What a crash has left of a change that wasn't acknowledged is cut off. Returns:
+ * and memory for the file's bytes. What a crash has left of a change that wasn't acknowledged is cut off. If whole records may be in
+ * that, it is kept beside the file: see cedar_store_kept. Returns:
  *
  * - CEDAR_OK.
  * - CEDAR_STORE_LOCKED if the store is open already, in another program or by another variable. Nothing was written.
@@ -505,6 +506,23 @@ uint32_t cedar_store_open_with(cedar_store *s, const char *path, uint32_t how);
 CEDAR_INLINE size_t cedar_store_damaged_at(const cedar_store *s) {
     return s->damaged_at;
 }
+
+/* Returns the path of the file that keeps what the opening of *s cut off, or NULL if nothing had to be kept, or if *s is closed. The path
+ * ends with a byte 0, and lives until *s is closed or opened again.
+ *
+ * A crash leaves at most the record under way behind the end of a file's records, as far as any test has found. If whole records stand
+ * there, somebody else has closed a gate, which takes all later records with it. If that may be so, an opening first puts all that it cuts
+ * off, behind the file's header, into a new file beside it. That is on the disk before anything is cut.
+ *
+ * - It has the name of the store's file with `.cut` behind it, or `.1.cut` to `.99.cut` if something has that name. What has such a name
+ *   stays as it is, and a link isn't followed. If the path of the store is a link, it is beside what that leads to.
+ * - It has the mode of the store's file, and its owner if the system allows it.
+ * - `./roskvidh recover` makes a store of its whole records.
+ * - Of what is cut off at most 16 times the bytes are looked at. If that isn't enough to say that no record is whole, it is kept.
+ *
+ * If the new file can't be made, the opening returns CEDAR_MEMORY, or CEDAR_STORE_DEVICE (errno has the reason: EEXIST if all these names
+ * are taken). Then nothing was written to the store's file, and it can be opened to read. */
+const char *cedar_store_kept(const cedar_store *s);
 
 /* Lends the dictionary of a store to the calls that take a const dictionary. It is closed if the store is. It lives as long as *s. */
 CEDAR_INLINE const cedar_dictionary *cedar_store_dictionary(const cedar_store *s) {

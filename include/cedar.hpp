@@ -644,6 +644,13 @@ public:
     }
     friend void swap(store &one, store &other) noexcept { one.swap(other); }
 
+    /// Returns the path of the file that keeps what the opening cut off, if whole records may be in that: cedar_store_kept in cedar.h says
+    /// when and how. Throws std::bad_alloc.
+    std::optional<std::string> kept() const {
+        const char *path = cedar_store_kept(&inside_);
+        return path == nullptr ? std::nullopt : std::optional<std::string>(path);
+    }
+
     /// Returns the dictionary, for all const members. It is valid as long as the store.
     const dictionary &words() const noexcept { return words_; }
 

@@ -33,6 +33,7 @@ class Store(Words[K]):
     all of them or none, and no others. batch() makes the changes of a block as one, or none of them.
 
     A file with a record that somebody else has changed raises a CedarError with the status 46, whose text says where that record begins.
+    If whole records may be in what an opening cuts off, it keeps that in a file beside this one, whose path is in `kept`.
 
     A call on the file that fails raises OSError. From then on each change raises CedarError and changes nothing, and look-ups go on, until
     compact() has written all to a new file. If the disk only has no room for a change, the OSError says so, and `failed` stays false: the
@@ -74,6 +75,13 @@ class Store(Words[K]):
         self._mode = mode
         self.sync_every = sync_every
         self.compaction = (2, 65536)
+
+    @property
+    def kept(self) -> Optional[str]:
+        """The path of the file that keeps what the opening cut off, if whole records may be in that: then somebody else has changed the
+        file, and these changes aren't in the mapping. `./roskvidh recover` makes a store of them."""
+        path = self._kept()
+        return None if path is None else os.fsdecode(path)
 
     @property
     def mode(self) -> Mode:

@@ -158,6 +158,7 @@ PyObject *core_build_unsorted(Core *core, PyObject *arguments);
 PyObject *core_load(Core *core, PyObject *arguments);
 PyObject *core_open_store(Core *core, PyObject *arguments);
 int core_without_file(Core *core);
+PyObject *core_kept(Core *core, PyObject *nothing);
 PyObject *core_has_failed(Core *core, PyObject *nothing);
 PyObject *core_sync(Core *core, PyObject *nothing);
 PyObject *core_sync_every(Core *core, PyObject *given);

@@ -471,6 +471,14 @@ PyObject *core_waiting(Core *core, PyObject *nothing) {
     return in_blocks < 0 ? NULL : PyLong_FromSize_t(cedar_store_waiting(&core->store) + (size_t)in_blocks);
 }
 
+PyObject *core_kept(Core *core, PyObject *nothing) {
+    (void)nothing;
+    if (core_ready(core) < 0) return NULL;
+    const char *path = cedar_store_kept(&core->store);
+    if (path) return PyBytes_FromString(path);
+    Py_RETURN_NONE;
+}
+
 PyObject *core_has_failed(Core *core, PyObject *nothing) {
     (void)nothing;
     if (core_ready(core) < 0) return NULL;

@@ -152,6 +152,7 @@ static PyMethodDef core_methods[] = {
     {"_build_unsorted", (PyCFunction)core_build_unsorted, METH_VARARGS, NULL},
     {"_load", (PyCFunction)core_load, METH_VARARGS, NULL},
     {"_open_store", (PyCFunction)core_open_store, METH_VARARGS, NULL},
+    {"_kept", (PyCFunction)core_kept, METH_NOARGS, NULL},
     {"_has_failed", (PyCFunction)core_has_failed, METH_NOARGS, NULL},
     {"_sync", (PyCFunction)core_sync, METH_NOARGS, NULL},
     {"_sync_every", (PyCFunction)core_sync_every, METH_O, NULL},

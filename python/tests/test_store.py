@@ -425,6 +425,35 @@ class Stores(unittest.TestCase):
         with self.assertRaises(ValueError):
             Store(self.path, text=True)
 
+    def test_kept(self):
+        """Somebody else closes the gate of a record: what the opening cuts off is kept beside the file."""
+        with Store(self.path) as s:
+            s[b"net"] = 7
+            end = s.file_size - 1
+            s[b"nets"] = 8
+            s[b"ten"] = 9
+            self.assertIsNone(s.kept)
+        data = bytearray(self.path.read_bytes())
+        data[end] = 0
+        names = [f"{os.path.realpath(self.path)}{middle}.cut" for middle in ["", *(f".{number}" for number in range(1, 100))]]
+        for text, name in zip([False, True], names):
+            self.path.write_bytes(data)
+            with Store(self.path, mode="r", text=text) as s:
+                self.assertEqual((len(s), s.kept, os.path.exists(name)), (1, None, False))
+            with Store(self.path, text=text) as s:
+                self.assertEqual((len(s), s.kept), (1, name))
+            self.assertEqual(Path(name).read_bytes(), data[:13] + data[end:])
+            with Store(self.path) as s:
+                self.assertEqual((dict(s), s.kept), ({b"net": 7}, None))
+        with self.assertRaises(ValueError):
+            s.kept
+        for name in names[2:]:
+            Path(name).touch()
+        self.path.write_bytes(data)
+        with self.assertRaises(FileExistsError):
+            Store(self.path)
+        self.assertEqual(self.path.read_bytes(), data)
+
     def refused(self, status, call):
         with self.assertRaises(CedarError) as caught:
             call()

@@ -515,6 +515,19 @@ void stores(layout kind, const std::string &folder) {
     std::remove(path.c_str());
 }
 
+// Somebody else closes the gate of a record: what the opening cuts off is kept beside the file.
+void kept_stores(layout kind, const std::string &folder) {
+    const std::string path = folder + "/kept.store", records("\1\x08\0\0\0CEDARJ\0\0\0\4\0\0\0\0ten\1\4\0\0\0\0net\0", 32);
+    std::ofstream(path, std::ios::binary) << records;
+    CHECK(!roskvidh::store(path, kind, roskvidh::opening::to_read).kept());
+    const std::optional<std::string> kept = roskvidh::store(path, kind).kept();
+    CHECK(kept && kept->size() >= 15 && kept->substr(kept->size() - 15) == "/kept.store.cut");
+    std::ifstream file(*kept, std::ios::binary);
+    CHECK(std::string(std::istreambuf_iterator<char>(file), {}) == records);
+    CHECK(!roskvidh::store(path, kind).kept() && std::remove(kept->c_str()) == 0);
+    std::remove(path.c_str());
+}
+
 void same_walks(const dictionary &d, const Plain &plain, const std::string &text) {
     Ends fronts, behind;
     Pairs under;
@@ -633,6 +646,7 @@ int main(int count, char **arguments) {
         entries_below(kind);
         paths(kind, folder);
         stores(kind, folder);
+        kept_stores(kind, folder);
         random_calls(kind, count > 1 ? std::atol(arguments[1]) : 200000);
     }
     std::puts("ok");

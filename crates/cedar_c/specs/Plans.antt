@@ -2,10 +2,13 @@
 use Rattle.std.specs.Prelude.{◌≡◌, ◌⊎◌, ℕ, ℤ, ◌+◌, ◌<◌, ◌≤◌, ◌^◌, Bool, true, false, List, [], ◌∷◌, Some}
 use Rattle.cedar_journal.specs.declared.format.Format.{Format}
 use Rattle.cedar_journal.specs.declared.format.Format.TheVariants.{Plain, Summed}
+use Rattle.cedar_journal.specs.declared.records.Extent.{Extent}
+use Rattle.cedar_journal.specs.Files.{HasExtent}
 use Rattle.cedar_journal.specs.Formats.{overhead}
 use Rattle.cedar_disk.specs.Calls.{Call, opened, seen_after}
 use Rattle.cedar_plan.specs.Safety.{CrashLeaves, IsAtRest}
 use Rattle.cedar_plan.specs.Works.{AreCarriedOut, Work, all_done}
+use Rattle.cedar_salvage.specs.Whole.{cuts_records, TakesLong}
 use Rattle.cedar_store.specs.Causes.{LoadCause}
 use Rattle.cedar_store.specs.Files.{IsEither, state_of}
 use Rattle.cedar_store.specs.declared.error.DurableError.{DurableError}
@@ -60,6 +63,10 @@ damage_of found _ = found
 -- found there.
 abbrev pub TellsWhy : List ℕ → ℕ → ℕ → ℕ → Type 0
 TellsWhy bytes found told status = (e : DurableError) × LoadCause bytes e × (status ≡ store_status e) × (told ≡ damage_of found e)
+
+-- an opening of a file of these bytes cuts off whole records, or it would take long to say that it doesn't
+abbrev pub MayCut : List ℕ → Type 0
+MayCut bytes = (extent : Extent) × HasExtent bytes extent × ((cuts_records bytes extent ≡ true) ⊎ TakesLong bytes extent)
 
 -- the number says why no record of this format was made of a payload of n bytes, for a file whose records end here, in so many places
 abbrev pub LacksRecord : Format → ℕ → ℕ → ℕ → ℕ → Type 0

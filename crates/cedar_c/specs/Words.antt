@@ -13,7 +13,7 @@ pub use Rattle.cedar_c.specs.Lending.{as_shown, LendsCedar, LendsSeen}
 pub use Rattle.cedar_c.specs.Matches.{filled_from, filled_matches, Fit, front_keys, lengthened, longer, match_of, predicted_keys}
 pub use Rattle.cedar_c.specs.Opens.{OpensBuilt, OpensLoaded, OpensNew}
 pub use Rattle.cedar_c.specs.Pairs.{build_fault, entries_in, keys_in, MayWantSlots, named_keys, StoresFront, StoresPart, taken_pair}
-pub use Rattle.cedar_c.specs.Plans.{damage_of, format_if, IsChangePlan, IsErasurePlan, IsOpening, IsPutPlan, LacksChange, LacksRecord, TellsWhy, store_status}
+pub use Rattle.cedar_c.specs.Plans.{damage_of, format_if, IsChangePlan, IsErasurePlan, IsOpening, IsPutPlan, LacksChange, LacksRecord, MayCut, TellsWhy, store_status}
 pub use Rattle.cedar_c.specs.Readings.{shown_figure, shown_in, shown_layout, shown_tree}
 pub use Rattle.cedar_c.specs.Scans.{found_keywords, found_spot, found_spots, found_token, found_tokens, WritesOn, WritesPiece}
 pub use Rattle.cedar_c.specs.Shrinks.{Shrinks}
@@ -32,6 +32,7 @@ pub use Rattle.cedar_model.specs.Meaning.WellFormed.{IsWellFormed, tree_of}
 pub use Rattle.cedar_model.specs.Table.Layouts.{default_layout, layout_byte, reduced_layout}
 pub use Rattle.cedar_plan.specs.Plans.{works_of}
 pub use Rattle.cedar_plan.specs.Works.{append_works, end_of, format_in}
+pub use Rattle.cedar_salvage.specs.Whole.{CutsNone}
 pub use Rattle.cedar_store.specs.Causes.{LoadCause}
 pub use Rattle.cedar_store.specs.Changes.{erase_at, put_at}
 pub use Rattle.cedar_store.specs.Files.{state_of}

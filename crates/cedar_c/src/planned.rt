@@ -1,8 +1,8 @@
 //! The dictionary of a store, whose file C keeps (`c/store.c`): each call writes down a plan, and C carries it out before it acknowledges
 //! the change. These exports are the library's own, and no program sees them.
 
-ghost use Rattle.std.specs.Prelude.{◌≡◌, ◌≢◌, ◌⊎◌, ◌↔◌, ◌+◌, ◌<◌, ◌≤◌, ◌^◌, ◌++◌, ◌∷◌, ℕ, List, IfErr, IfOk, IfSome, IsFalse, IsSome, IsTrue, None, Some, length, option_map, take};
-ghost use Rattle.cedar_c.specs.Words.{AddsChange, append_works, content, damage_of, dictionary_in, end_of, erase_at, erased, fault, Format, format_if, format_in, frame_of, HasExtent, IsChangePlan, IsErasurePlan, IsOpening, IsPutPlan, LacksChange, LacksRecord, layout_if, layout_in, layout_of, LoadCause, number_at, opening, overhead, Plain, position_of, put_at, state_in, state_of, status_of, store_status, stored, TellsWhy, tree_in, works_of};
+ghost use Rattle.std.specs.Prelude.{◌≡◌, ◌≢◌, ◌⊎◌, ◌↔◌, ◌+◌, ◌<◌, ◌≤◌, ◌^◌, ◌++◌, ◌∷◌, ℕ, List, false, IfErr, IfOk, IfSome, IsFalse, IsSome, IsTrue, None, Some, length, option_map, take, true};
+ghost use Rattle.cedar_c.specs.Words.{AddsChange, append_works, content, CutsNone, damage_of, dictionary_in, end_of, erase_at, erased, fault, Format, format_if, format_in, frame_of, HasExtent, IsChangePlan, IsErasurePlan, IsOpening, IsPutPlan, LacksChange, LacksRecord, layout_if, layout_in, layout_of, LoadCause, MayCut, number_at, opening, overhead, Plain, position_of, put_at, state_in, state_of, status_of, store_status, stored, TellsWhy, tree_in, works_of};
 
 use crate::any::AnyCedar;
 use crate::handle::Handle;
@@ -10,8 +10,9 @@ use crate::records::{check_pair, format_if, place, write_erasure, write_put};
 use crate::status::{
     CLOSED, NO_ROOM, OK, OTHER, STORE_CORRUPT, STORE_DAMAGED, STORE_FOREIGN, tell,
 };
-use cedar_journal::{Extent, Format, HEADER_LEN};
+use cedar_journal::{Extent, Format, HEADER_LEN, extent_of};
 use cedar_plan::{HEADER, Plan, plan_append, plan_opening};
+use cedar_salvage::may_cut_records;
 use cedar_store::{DurableError, words_of};
 use cedarwood::CedarError;
 use std::alloc::Global;
@@ -63,6 +64,21 @@ pub extern "C" fn cedar_plan_open(
             OK
         }
         Err(error) => tell_unread(error, damaged_at),
+    }
+}
+
+/// Returns whether the plan of an opening of a file of these bytes may cut off more than the record under way: whole records, which no test
+/// has found a crash to leave there. False of a file that is refused, and of a new one. It takes a time of 16 times the bytes at most.
+#[unsafe(no_mangle)]
+pub extern "C" fn cedar_plan_may_cut_records(bytes: &[u8]) -> bool
+    //= An opening for which `cedar_plan_may_cut_records` is false cuts off no whole record, or refuses the file.
+    ensures none { result ≡ false → CutsNone bytes.now }
+    //= If it is true, the opening cuts off whole records, or to say that there are none would take long.
+    ensures some { result ≡ true → MayCut bytes.now }
+{
+    match extent_of(bytes) {
+        Ok(extent) => may_cut_records(bytes, extent),
+        Err(_) => false,
     }
 }
 
