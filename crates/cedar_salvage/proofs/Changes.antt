@@ -1,13 +1,13 @@
 -- Payloads that are changes, and those that are none.
-use Rattle.std.specs.Prelude.{◌&&◌, IfSome, int_le, nat_eq, nat_le, ◌==◌, not, is_some, position, option_map, option_and_then, Option, Some, None, pos, ℤ}
-use Rattle.std.proofs.Common.{◌≡◌, ◌≢◌, ℕ, ◌+◌, ◌≤◌, ◌<◌, Bool, true, false, cond, List, [], ◌∷◌, length, get_or, take, drop, refl, subst, sym, ◌∙◌, ap, arith}
+use Rattle.std.specs.Prelude.{◌&&◌, IfSome, int_le, nat_eq, ◌==◌, not, is_some, position, option_map, option_and_then, Option, Some, None, pos, ℤ}
+use Rattle.std.proofs.Common.{◌≡◌, ◌≢◌, ℕ, ◌+◌, ◌≤◌, ◌<◌, Bool, true, false, cond, List, [], ◌∷◌, length, get_or, drop, refl, subst, sym, ◌∙◌, ap, arith}
 use Rattle.std.proofs.lemmas.Bool.{le-leb, false≢true}
 use Rattle.std.proofs.lemmas.List.{drop-drop}
 use Rattle.cedar_journal.specs.Records.{has_record, payload, behind_record, payloads_in}
 use Rattle.cedar_journal.proofs.Reading.{payloads_first, payloads_none}
 use Rattle.cedarwood.specs.declared.error.CedarError.{CedarError}
 use Rattle.cedarwood.specs.declared.error.CedarError.TheVariants.{InvalidValue, NulByte}
-use Rattle.cedarwood.specs.Fault.{fault, key_fault, value_fault, or_else}
+use Rattle.cedarwood.specs.Fault.{key_fault, value_fault, or_else}
 use Rattle.cedar_store.specs.Changes.{Change, batch_of, change_of, changes_of, each_change, number_of_bytes, put_of, put_unless, records_length}
 use Rattle.cedar_salvage.specs.declared.change.Kind.{Kind}
 use Rattle.cedar_salvage.specs.declared.change.Kind.TheVariants.{Batch}

@@ -1,16 +1,12 @@
 -- Why a file isn't opened, and a record not written.
-use Rattle.std.specs.Prelude.{Result, Err, IsErrOf, ◌^◌}
-use Rattle.std.proofs.Common.{◌≡◌, inl, inr, ℕ, ◌<◌, ◌≤◌, List, sym, ◌∙◌, ap, subst, arith}
-use Rattle.cedar_journal.specs.declared.device.DeviceError.TheVariants.{Failed}
+use Rattle.std.proofs.Common.{◌≡◌, inl, inr, ℕ, List, subst}
 use Rattle.cedar_journal.specs.declared.records.FileFault.{FileFault}
 use Rattle.cedar_journal.specs.declared.records.FileFault.TheVariants as fault
 use Rattle.cedar_journal.specs.Files.{IsFault}
-use Rattle.cedar_journal.specs.declared.journal.JournalError.{JournalError}
-use Rattle.cedar_journal.specs.declared.journal.JournalError.TheVariants as journal
 use Rattle.cedar_store.specs.declared.error.DurableError.{DurableError}
 use Rattle.cedar_store.specs.declared.error.DurableError.TheVariants as error
-use Rattle.cedar_store.specs.Causes.{IsOfDevice, LoadCause, OpenCause, ReadCause}
-use Rattle.cedar_store.specs.Told.{file_error, journal_error}
+use Rattle.cedar_store.specs.Causes.{LoadCause, OpenCause, ReadCause}
+use Rattle.cedar_store.specs.Told.{file_error}
 
 -- what is told of a file that is refused
 pub file_cause : (file : List ℕ) (why : FileFault) → IsFault file why → LoadCause file (file_error why)

@@ -1,4 +1,4 @@
-use Rattle.std.proofs.Common.{◌+◌, arith}
+use Rattle.std.proofs.Common.{arith}
 use Rattle.cedar_salvage.proofs.Looking.{few_look, other_look, short_look, shut_look, whole_look}
 use Rattle.cedar_salvage.proofs.cut.look_at.Goals as goal
 

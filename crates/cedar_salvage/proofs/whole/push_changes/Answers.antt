@@ -1,4 +1,4 @@
-use Rattle.std.proofs.Common.{◌+◌, ◌-◌, length, take, drop, refl, ◌∙◌, ap, sym, arith, length-drop}
+use Rattle.std.proofs.Common.{◌-◌, length, take, drop, refl, ◌∙◌, ap, arith, length-drop}
 use Rattle.cedar_journal.specs.Image.{payloads_of}
 use Rattle.cedar_store.proofs.Payloads.{rest_is}
 use Rattle.cedar_salvage.proofs.Finding.{ends_plain, pushed_plain}

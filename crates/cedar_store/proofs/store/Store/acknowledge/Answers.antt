@@ -1,5 +1,5 @@
 use Rattle.std.specs.Prelude.{IsErrOf, Err, Some, option_and_then}
-use Rattle.std.proofs.Common.{◌≡◌, false, true, ◌∙◌, ap, inl, inr, ⊎_elim, refl, rules, subst, sym}
+use Rattle.std.proofs.Common.{◌≡◌, false, true, ◌∙◌, ap, inl, inr, ⊎_elim, rules, subst, sym}
 use Rattle.std.proofs.lemmas.Bool.{false≢true}
 use Rattle.cedar_journal.specs.Frames.{payload_of}
 use Rattle.cedar_journal.proofs.Moments.{joins, weakens}

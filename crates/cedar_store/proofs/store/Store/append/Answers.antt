@@ -1,5 +1,5 @@
 use Rattle.std.specs.Prelude.{IsErrOf}
-use Rattle.std.proofs.Common.{◌<◌, ◌≤◌, ◌^◌, ap, arith, refl, rules}
+use Rattle.std.proofs.Common.{arith, refl, rules}
 use Rattle.cedar_journal.specs.declared.journal.JournalError.TheVariants as journal
 use Rattle.cedar_store.proofs.store.Store.append.Goals as goal
 

@@ -4,8 +4,7 @@ use Rattle.std.proofs.Common.{◌≡◌, false, true, ◌∙◌, ap, length, ref
 use Rattle.std.proofs.lemmas.Bool.{false≢true}
 use Rattle.cedar_journal.specs.Device.{LeavesOnly}
 use Rattle.cedar_journal.specs.Frames.{payload_of}
-use Rattle.cedar_tree.specs.State.{State}
-use Rattle.cedar_store.specs.Batches.{AreHeld, IsFaultless, all_erased_late, all_updated, first_refused}
+use Rattle.cedar_store.specs.Batches.{AreHeld, IsFaultless, all_erased_late, first_refused}
 use Rattle.cedar_store.specs.Changes.{after, all_changed}
 use Rattle.cedar_store.specs.Files.{IsEither}
 use Rattle.cedar_store.specs.Told.{changes_told}

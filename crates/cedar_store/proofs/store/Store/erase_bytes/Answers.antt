@@ -1,11 +1,8 @@
-use Rattle.std.specs.Prelude.{option_and_then, option_map, Some}
-use Rattle.std.proofs.Common.{◌≡◌, [], ◌∷◌, false, true, length, ◌+◌, ◌∙◌, ap, subst, sym, rules}
-use Rattle.std.proofs.lemmas.Bool.{false≢true}
-use Rattle.cedar_journal.specs.Device.{LeavesOnly}
+use Rattle.std.specs.Prelude.{option_and_then, option_map}
+use Rattle.std.proofs.Common.{◌≡◌, [], ◌∷◌, false, length, ◌+◌, ◌∙◌, ap, rules}
 use Rattle.cedar_journal.specs.Frames.{payload_of}
 use Rattle.cedar_tree.specs.State.{erased}
 use Rattle.cedar_store.specs.Changes.{after, all_changed, erase_at}
-use Rattle.cedar_store.specs.Files.{IsEither}
 use Rattle.cedar_store.proofs.Compacted.{recorded_in}
 use Rattle.cedar_store.proofs.Payloads.{handed_on}
 use Rattle.cedar_store.proofs.Unwritten.{erase_unwritten, leaves_so, ready_unwritten}

@@ -8,7 +8,6 @@ use Rattle.cedar_journal.specs.Frames.{payload_of}
 use Rattle.cedar_tree.specs.State.{stored}
 use Rattle.cedar_store.specs.Changes.{after, all_changed, put_at}
 use Rattle.cedar_store.specs.Files.{IsEither}
-use Rattle.cedar_store.specs.Promises.{LostRoom}
 use Rattle.cedar_store.specs.Undo.{IsPutOf}
 use Rattle.cedarwood.specs.Fault.{fault}
 use Rattle.cedar_store.proofs.Compacted.{failed_ready, recorded_in}
