@@ -1,6 +1,7 @@
 pub mod Arranged
 pub mod Batched
 pub mod Compacted
+pub mod Counted
 pub mod FirstFaults
 pub mod Late
 pub mod Opened

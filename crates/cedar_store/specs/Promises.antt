@@ -6,7 +6,7 @@ use Rattle.cedar_tree.specs.State.{State}
 use Rattle.cedarwood.specs.declared.error.CedarError.{CedarError}
 use Rattle.cedar_store.specs.Causes.{BatchCause, ChangeCause, EraseCause, IsOfDevice, IsUnwritten, Leaves}
 use Rattle.cedar_store.specs.Changes.{Change}
-use Rattle.cedar_store.specs.Files.{AddsRecord, IsEither, StandsFor, state_of}
+use Rattle.cedar_store.specs.Files.{AddsRecord, IsEither, StandsFor, record_count, state_of}
 use Rattle.cedar_store.specs.Store.{IsReady}
 use Rattle.cedar_store.specs.declared.compaction.Compaction.TheVariants.{Never}
 use Rattle.cedar_store.specs.declared.error.DurableError.{DurableError}
@@ -15,6 +15,14 @@ use Rattle.cedar_store.specs.declared.store.Store.{Store}
 -- its labels ascend; and unless it has failed, its file stands for its dictionary
 abbrev pub IsReadyStore : {T A D : Type 0} → (D → List ℕ) → (D → List ℕ → Type 0) → (T → State) → Store T A D → Type 0
 IsReadyStore seen may_leave state store = IsReady seen may_leave store.journal.device store.journal.format store.journal.end (state store.words) store.failed
+
+-- Its count is that of the records of its file, unless it has failed.
+abbrev pub IsCounted : {T A D : Type 0} → (D → List ℕ) → Store T A D → Type 0
+IsCounted seen store = store.failed ≡ false → record_count (seen store.journal.device) ≡ Some store.records
+
+-- if it was so before, it is so after
+abbrev pub KeepsCount : {T A D : Type 0} → (D → List ℕ) → Store T A D → Store T A D → Type 0
+KeepsCount seen old new = IsCounted seen old → IsCounted seen new
 
 -- it hasn't failed, and its dictionary has this state
 abbrev pub HasState : {T A D : Type 0} → (T → State) → Store T A D → State → Type 0

@@ -1,7 +1,7 @@
 //! A store's file made short: one record for each entry.
 
 ghost use Rattle.std.specs.Prelude.{◌+◌, ◌-◌, ◌<◌, ◌^◌, ◌≡◌, ◌⊎◌, false, IfErr, IfOk, IsErrOf, length, None, OnOk, option_and_then, Some, true};
-ghost use Rattle.cedar_store.specs.Words.{added, after, all_erased_late, all_stored, AllByRecursion, changes_told, CompactCause, compacted_length, CrashLeavesState, CrashLeavesStateOrOld, FailsByDevice, fault, IfKept, image_bytes, is_beyond, IsBeforeReplacing, IsConsistent, IsEither, IsPutBehind, IsReadyStore, IsSettled, IsShortened, KeepsFile, LeavesUnwritten, Leaves, LeavesFile, LeavesOnly, LostRoom, new_state, payload_of, payloads_of, recovered, replayed, State, state_of, walk};
+ghost use Rattle.cedar_store.specs.Words.{added, after, all_erased_late, all_stored, AllByRecursion, changes_told, CompactCause, compacted_length, CrashLeavesState, CrashLeavesStateOrOld, FailsByDevice, fault, IfKept, image_bytes, is_beyond, IsBeforeReplacing, IsConsistent, IsEither, IsPutBehind, IsReadyStore, IsSettled, IsShortened, KeepsCount, KeepsFile, LeavesUnwritten, Leaves, LeavesFile, LeavesOnly, LostRoom, new_state, payload_of, payloads_of, recovered, replayed, State, state_of, walk};
 
 use crate::batch::erase_rest;
 use crate::frames::put_payload;
@@ -30,6 +30,7 @@ impl<T: Words, A: Allocator + Copy, D: ReplaceDevice> Store<T, A, D> {
             × (length (D.seen self.new.journal.device) ≡ compacted_length (walk (T.state self.old.words).tree))) }
         ensures ready { IsReadyStore D.seen D.may_leave T.state self.new }
         ensures words { self.new.words ≡ self.old.words }
+        ensures counted { KeepsCount D.seen self.old self.new }
 
         //= A compaction leaves the rule as it was, and what came of it is told from then on. [with told]
         ensures rule { self.new.compaction ≡ self.old.compaction }
@@ -80,6 +81,7 @@ impl<T: Words, A: Allocator + Copy, D: ReplaceDevice> Store<T, A, D> {
             × (length (D.seen self.new.journal.device) ≡ compacted_length (walk (T.state self.old.words).tree))) }
         ensures ready { IsReadyStore D.seen D.may_leave T.state self.new }
         ensures words { self.new.words ≡ self.old.words }
+        ensures counted { KeepsCount D.seen self.old self.new }
         ensures rule { self.new.compaction ≡ self.old.compaction }
         ensures any_moment { self.old.failed ≡ false → CrashLeavesState D.moment D.left_since T.state self.old self.new }
         ensures any_moment_failed { CrashLeavesStateOrOld D.moment D.left_since D.may_leave T.state self.old self.new }
@@ -116,6 +118,7 @@ impl<T: Words, A: Allocator + Copy, D: ReplaceDevice> Store<T, A, D> {
         ensures err { IfErr result (LeavesUnwritten D.faults self.old self.new) }
         ensures left { IfErr result (λ e. Leaves e (T.state self.new.words ≡ all_erased_late (T.state self.old.words) (changes_told changes.now))
             (LostRoom D.seen D.may_leave self.old self.new) ⊥) }
+        ensures counted { KeepsCount D.seen self.old self.new }
         ensures rule { self.new.compaction ≡ self.old.compaction }
         ensures any_moment { (s : State) → state_of (D.seen self.old.journal.device) ≡ Some s
             → LeavesOnly D.moment D.left_since self.old.journal.device self.new.journal.device
@@ -148,6 +151,7 @@ impl<T: Words, A: Allocator + Copy, D: ReplaceDevice> Store<T, A, D> {
         ensures recorded { OnOk result ((D.seen self.new.journal.device ≡ D.seen self.old.journal.device) ⊎ IsShortened self.old self.new) }
         ensures err { IfErr result (FailsByDevice D.faults self.old self.new) }
         ensures words { self.new.words ≡ self.old.words }
+        ensures counted { KeepsCount D.seen self.old self.new }
         ensures rule { self.new.compaction ≡ self.old.compaction }
         ensures any_moment { CrashLeavesState D.moment D.left_since T.state self.old self.new }
     {
@@ -172,12 +176,14 @@ impl<T: Words, A: Allocator + Copy, D: ReplaceDevice> Store<T, A, D> {
         requires usable { self.old.failed ≡ false }
         requires ordered { (T.state self.old.words).ordered ≡ true }
         requires made { replayed new_state (payloads_of image.now) ≡ Some (T.state self.old.words) }
+        requires count { length (payloads_of image.now) ≡ length (walk (T.state self.old.words).tree) }
         requires looked_at { self.old.base ≡ self.old.journal.end }
         ensures ready { IsReadyStore D.seen D.may_leave T.state self.new }
         ensures done { OnOk result ((self.new.failed ≡ false) × (self.new.base ≡ self.new.journal.end)) }
         ensures recorded { OnOk result ((D.seen self.new.journal.device ≡ D.seen self.old.journal.device) ⊎ IsShortened self.old self.new) }
         ensures err { IfErr result (FailsByDevice D.faults self.old self.new) }
         ensures words { self.new.words ≡ self.old.words }
+        ensures counted { KeepsCount D.seen self.old self.new }
         ensures rule { self.new.compaction ≡ self.old.compaction }
         ensures any_moment { CrashLeavesState D.moment D.left_since T.state self.old self.new }
     {
@@ -206,6 +212,7 @@ impl<T: Words, A: Allocator + Copy, D: ReplaceDevice> Store<T, A, D> {
     /// Replaces the file by one that stands for the dictionary, whatever the file has that is there.
     fn put_in_place(&mut self, image: &Image<A>) -> Result<(), ReplaceError>
         requires made { replayed new_state (payloads_of image.now) ≡ Some (T.state self.old.words) }
+        requires count { length (payloads_of image.now) ≡ length (walk (T.state self.old.words).tree) }
         ensures ready { IsReadyStore D.seen D.may_leave T.state self.old → IsReadyStore D.seen D.may_leave T.state self.new }
         ensures done { OnOk result ((self.new.failed ≡ false) × (self.new.base ≡ self.new.journal.end)) }
         ensures bytes { OnOk result (D.seen self.new.journal.device ≡ image_bytes image.now) }
@@ -214,15 +221,18 @@ impl<T: Words, A: Allocator + Copy, D: ReplaceDevice> Store<T, A, D> {
         ensures failed { IsErrOf result ReplaceError.Failed → (self.new.failed ≡ true) × (D.faults self.old.journal.device < D.faults self.new.journal.device) }
         ensures kept_failed { IsErrOf result (ReplaceError.Kept DeviceError.Failed) → D.faults self.old.journal.device < D.faults self.new.journal.device }
         ensures words { self.new.words ≡ self.old.words }
+        ensures counted { KeepsCount D.seen self.old self.new }
         ensures rule { self.new.compaction ≡ self.old.compaction }
         ensures any_moment { CrashLeavesStateOrOld D.moment D.left_since D.may_leave T.state self.old self.new }
     {
         match self.journal.device.replace(image.bytes()) {
             Ok(()) => {
                 let end = image.bytes().len().saturating_sub(1);
+                let records = self.words.count();
                 self.journal.format = Format::Summed;
                 self.journal.end = end;
                 self.base = end;
+                self.records = records;
                 self.failed = false;
                 Ok(())
             }
@@ -243,6 +253,7 @@ pub(crate) fn image_of<T: Walked, A: Allocator + Copy, B: Allocator + Copy>(
     requires { AllByRecursion (λ e. fault e.0 e.1 ≡ None) entries }
     ensures made { IfOk result (λ image. replayed new_state (payloads_of image) ≡ Some (all_stored new_state entries.entry)) }
     ensures length { IfOk result (λ image. length (image_bytes image) ≡ compacted_length entries.entry) }
+    ensures count { IfOk result (λ image. length (payloads_of image) ≡ length entries.entry) }
     ensures cause { IfErr result (λ error. IsBeforeReplacing error) }
 {
     let mut image = Image::new(alloc)?;

@@ -7,6 +7,7 @@ mod batch;
 mod change;
 mod compact;
 mod compaction;
+mod counts;
 mod error;
 mod faults;
 mod frames;

@@ -1,9 +1,10 @@
 //! The store: a dictionary, and the journal of its changes.
 
 ghost use Rattle.std.specs.Prelude.{◌+◌, ◌<◌, ◌^◌, ◌≡◌, ◌≤◌, ◌∷◌, IfErr, IfOk, IfSome, IsErrOf, IsOk, OnErr, OnOk, Some, [], false, if◌then◌else◌, is_some, length, true};
-ghost use Rattle.cedar_store.specs.Words.{added, all_changed, changes_told, erase_at, ends_closed, erased, fault, format_of, first_refused, number_at, payload_of, recovered, state_of, stored, AllByRecursion, HasExtent, IsBeforeOrAfter, IsBeforeWrites, IsCorrupt, IsFaultless, IsRecordedIn, IsSettled, LeavesOnly, Only, OpenCause, put_at, ReadCause, CrashLeavesEither, HasState, IsBatchCause, IsChangeCause, IsEraseCause, IsReadyStore, LeavesUnwritten, LeavesStore};
+ghost use Rattle.cedar_store.specs.Words.{added, all_changed, changes_told, erase_at, ends_closed, erased, fault, format_of, first_refused, number_at, payload_of, recovered, state_of, stored, AllByRecursion, HasExtent, IsBeforeOrAfter, IsBeforeWrites, IsCorrupt, IsFaultless, IsRecordedIn, IsSettled, LeavesOnly, Only, OpenCause, put_at, ReadCause, CrashLeavesEither, HasState, IsBatchCause, IsChangeCause, IsCounted, IsEraseCause, IsReadyStore, KeepsCount, LeavesUnwritten, LeavesStore};
 
 use crate::batch::{make, take_all_back};
+use crate::counts::count_records;
 use crate::frames::{erase_frame, put_frame};
 use crate::replay::words_of;
 use crate::words::{Made, Words, take_back};
@@ -25,6 +26,8 @@ pub struct Store<T: Words, A: Allocator, D: Device> {
     pub(crate) compaction: Compaction,
     // Where the records ended at the last test of whether the file is too long: 0 before.
     pub(crate) base: usize,
+    // How many records the file has, unless the device has failed.
+    pub(crate) records: usize,
     // What came of the last compaction, if there was one.
     pub(crate) last_compaction: Option<Result<(), CompactError>>,
 }
@@ -93,6 +96,9 @@ impl<T: Made<A>, A: Allocator + Copy, D: Device> Store<T, A, D> {
         ensures made { IfOk result (λ store. state_of (D.seen device) ≡ Some (T.state store.words)) }
         ensures sound { IfOk result (λ _. IsCorrupt (D.seen device) → ⊥) }
 
+        //= An opened store has counted the records of its file. [by IsCounted]
+        ensures counted { IfOk result (λ store. IsCounted D.seen store) }
+
         //= A store that was opened compacts its file by itself once it is longer than twice what its entries take, and 64 KiB. No
         //  compaction is told yet. [with told]
         ensures rule { IfOk result (λ store. store.compaction ≡ Compaction.Beyond 2 65536) }
@@ -121,18 +127,22 @@ impl<T: Made<A>, A: Allocator + Copy, D: Device> Store<T, A, D> {
     {
         let mut device = device;
         match read_words(alloc, &mut device) {
-            Ok((words, extent, bytes)) => match Journal::open_read(device, extent, &bytes) {
-                Ok(journal) => Ok(Store {
-                    alloc,
-                    journal,
-                    words,
-                    failed: false,
-                    compaction: Compaction::default(),
-                    base: 0,
-                    last_compaction: None,
-                }),
-                Err((error, device)) => Err((DurableError::Device(error), device)),
-            },
+            Ok((words, extent, bytes)) => {
+                let records = count_records(&bytes, extent);
+                match Journal::open_read(device, extent, &bytes) {
+                    Ok(journal) => Ok(Store {
+                        alloc,
+                        journal,
+                        words,
+                        failed: false,
+                        compaction: Compaction::default(),
+                        base: 0,
+                        records,
+                        last_compaction: None,
+                    }),
+                    Err((error, device)) => Err((DurableError::Device(error), device)),
+                }
+            }
             Err(error) => Err((error, device)),
         }
     }
@@ -171,6 +181,15 @@ impl<T: Words, A: Allocator + Copy, D: Device> Store<T, A, D> {
         ensures { result ≡ self.now.journal.end }
     {
         self.journal.end
+    }
+
+    /// Returns how many records the file has: one for each change and each batch that was acknowledged since it was new or was compacted, and
+    /// one for each entry that it had then. If the store has failed, the file may have another number of them.
+    pub fn records(&self) -> usize
+        //= A store says its count of records.
+        ensures { result ≡ self.now.records }
+    {
+        self.records
     }
 
     /// Returns what came of the last compaction since the store was opened, by a call or by the rule: None if there was none.
@@ -231,6 +250,10 @@ impl<T: Words, A: Allocator + Copy, D: ReplaceDevice> Store<T, A, D> {
         ensures rule { self.new.compaction ≡ self.old.compaction }
         ensures recorded { OnOk result (IsRecordedIn D.seen self.old self.new (put_at key.now value ∷ [])) }
 
+        //= The count of a store stays that of its file's records, in each change and each compaction, as long as the store hasn't failed.
+        //  [also insert, update_bytes, update, erase_bytes, erase, apply_batch, compact]
+        ensures counted { KeepsCount D.seen self.old self.new }
+
         //= A pair that has a fault is refused with its first one, if the store hasn't failed. [also insert, update_bytes, update]
         ensures faulty { self.old.failed ≡ false → IfSome (fault key.now value) (λ e. result ≡ Err (DurableError.Refused e)) }
 
@@ -279,6 +302,7 @@ impl<T: Words, A: Allocator + Copy, D: ReplaceDevice> Store<T, A, D> {
         ensures failed { self.old.failed ≡ true → result ≡ Err DurableError.Failed }
         ensures untouched { self.old.failed ≡ true → self.new ≡ self.old }
         ensures rule { self.new.compaction ≡ self.old.compaction }
+        ensures counted { KeepsCount D.seen self.old self.new }
         ensures recorded { OnOk result (IsRecordedIn D.seen self.old self.new (put_at key.now value ∷ [])) }
         ensures faulty { self.old.failed ≡ false → IfSome (fault key.now value) (λ e. result ≡ Err (DurableError.Refused e)) }
         ensures cause { IfErr result (IsChangeCause D.faults self.old self.new (fault key.now value) (length key.now + 5)) }
@@ -299,6 +323,7 @@ impl<T: Words, A: Allocator + Copy, D: ReplaceDevice> Store<T, A, D> {
         ensures failed { self.old.failed ≡ true → result ≡ Err DurableError.Failed }
         ensures untouched { self.old.failed ≡ true → self.new ≡ self.old }
         ensures rule { self.new.compaction ≡ self.old.compaction }
+        ensures counted { KeepsCount D.seen self.old self.new }
         ensures recorded { OnOk result (IsRecordedIn D.seen self.old self.new (put_at key.now value ∷ [])) }
         ensures faulty { self.old.failed ≡ false → IfSome (fault key.now value) (λ e. result ≡ Err (DurableError.Refused e)) }
         ensures cause { IfErr result (IsChangeCause D.faults self.old self.new (fault key.now value) (length key.now + 5)) }
@@ -322,6 +347,7 @@ impl<T: Words, A: Allocator + Copy, D: ReplaceDevice> Store<T, A, D> {
         ensures failed { self.old.failed ≡ true → result ≡ Err DurableError.Failed }
         ensures untouched { self.old.failed ≡ true → self.new ≡ self.old }
         ensures rule { self.new.compaction ≡ self.old.compaction }
+        ensures counted { KeepsCount D.seen self.old self.new }
         ensures recorded { OnOk result (IsRecordedIn D.seen self.old self.new (put_at key.now value ∷ [])) }
         ensures faulty { self.old.failed ≡ false → IfSome (fault key.now value) (λ e. result ≡ Err (DurableError.Refused e)) }
         ensures cause { IfErr result (IsChangeCause D.faults self.old self.new (fault key.now value) (length key.now + 5)) }
@@ -356,6 +382,7 @@ impl<T: Words, A: Allocator + Copy, D: ReplaceDevice> Store<T, A, D> {
 
         //= An erasure leaves the rule as it was, and the file as a change does. [with recorded; also erase]
         ensures rule { self.new.compaction ≡ self.old.compaction }
+        ensures counted { KeepsCount D.seen self.old self.new }
         ensures recorded { IfOk result (λ held. held ≡ true → IsRecordedIn D.seen self.old self.new (erase_at key.now ∷ [])) }
 
         //= An erasure fails only if the store has failed before, for lack of memory, if the record is too long or the records end too far
@@ -391,6 +418,7 @@ impl<T: Words, A: Allocator + Copy, D: ReplaceDevice> Store<T, A, D> {
         ensures failed { self.old.failed ≡ true → result ≡ Err DurableError.Failed }
         ensures untouched { self.old.failed ≡ true → self.new ≡ self.old }
         ensures rule { self.new.compaction ≡ self.old.compaction }
+        ensures counted { KeepsCount D.seen self.old self.new }
         ensures recorded { IfOk result (λ held. held ≡ true → IsRecordedIn D.seen self.old self.new (erase_at key.now ∷ [])) }
         ensures cause { IfErr result (IsEraseCause D.faults self.old self.new (length key.now + 1)) }
         ensures err { IfErr result (LeavesStore T.state self.old self.new (erased (T.state self.old.words) key.now)) }
@@ -427,6 +455,7 @@ impl<T: Words, A: Allocator + Copy, D: ReplaceDevice> Store<T, A, D> {
 
         //= A batch leaves the rule as it was, and the file as a change does. [with recorded]
         ensures rule { self.new.compaction ≡ self.old.compaction }
+        ensures counted { KeepsCount D.seen self.old self.new }
         ensures recorded { OnOk result ((changes.now ≡ [] → ⊥) → IsRecordedIn D.seen self.old self.new (changes_told changes.now)) }
 
         //= A batch in which a pair has a fault is refused with the first such pair's index and fault, whatever memory there is, if the
@@ -475,11 +504,16 @@ impl<T: Words, A: Allocator + Copy, D: ReplaceDevice> Store<T, A, D> {
         ensures err { IfErr result (LeavesUnwritten D.faults self.old self.new) }
         ensures words { self.new.words ≡ self.old.words }
         ensures rule { self.new.compaction ≡ self.old.compaction }
+        ensures counted { KeepsCount D.seen self.old self.new }
         ensures any_moment { LeavesOnly D.moment D.left_since self.old.journal.device self.new.journal.device
             (IsBeforeOrAfter (recovered (D.seen self.old.journal.device)) (payload_of frame.now)) }
     {
         match self.journal.append(frame) {
-            Ok(()) => Ok(()),
+            Ok(()) => {
+                let records = self.records.saturating_add(1);
+                self.records = records;
+                Ok(())
+            }
             Err(JournalError::Full) => Err(DurableError::Full),
             Err(JournalError::NoRoom) => Err(DurableError::NoRoom),
             Err(JournalError::Device(error)) => {

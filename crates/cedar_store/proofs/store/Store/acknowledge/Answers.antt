@@ -128,3 +128,12 @@ returns-else-not-self-clause-any_moment g c = λ s is.
     let change = change_of_one (state_of file) s t (payload_of c.args.frame.now) c.requires.stands is in
     weakens g.D.Device.moment g.D.Device.left_since c.args.self.now.journal.device c.append.new.self.journal.device _ _
     (λ f. either file f (payload_of c.args.frame.now) s t is change) c.append.ensures.any_moment
+
+pub returns-in-Ok-clause-counted : goal.returns-in-Ok-clause-counted
+returns-in-Ok-clause-counted g c = λ was. c.compact_if_due.ensures.counted (c.append.ensures.counted was)
+
+pub returns-then-not-self-clause-counted : goal.returns-then-not-self-clause-counted
+returns-then-not-self-clause-counted g c = λ was. c.append.ensures.counted was
+
+pub returns-else-not-self-clause-counted : goal.returns-else-not-self-clause-counted
+returns-else-not-self-clause-counted g c = λ was. c.append.ensures.counted was
