@@ -10,6 +10,7 @@ pub mod Payloads
 pub mod Reading
 pub mod Recorded
 pub mod Refused
+pub mod Shortened
 pub mod States
 pub mod Undone
 pub mod Unwritten

@@ -5,9 +5,11 @@ ghost use Rattle.cedar_store.specs.Words.{payloads_read, record_count, records_r
 
 use cedar_journal::{Extent, Format, HEADER_LEN, next_payload};
 
-/// How many records a file has that goes as far as this.
-pub(crate) fn count_records(bytes: &[u8], extent: Extent) -> usize
+/// Returns how many records a file has, of its bytes and of how far it goes, as [`words_of`](crate::words_of) and `extent_of` of
+/// `cedar_journal` find it. A new file has none.
+pub fn count_records(bytes: &[u8], extent: Extent) -> usize
     requires extent { HasExtent bytes.now extent }
+    //= The records of a file are counted, of its bytes and how far it goes.
     ensures { record_count bytes.now ≡ Some result }
 {
     match extent {

@@ -1,7 +1,7 @@
 //! The store: a dictionary, and the journal of its changes.
 
 ghost use Rattle.std.specs.Prelude.{◌+◌, ◌<◌, ◌^◌, ◌≡◌, ◌≤◌, ◌∷◌, IfErr, IfOk, IfSome, IsErrOf, IsOk, OnErr, OnOk, Some, [], false, if◌then◌else◌, is_some, length, true};
-ghost use Rattle.cedar_store.specs.Words.{added, all_changed, changes_told, erase_at, ends_closed, erased, fault, format_of, first_refused, number_at, payload_of, recovered, state_of, stored, AllByRecursion, HasExtent, IsBeforeOrAfter, IsBeforeWrites, IsCorrupt, IsFaultless, IsRecordedIn, IsSettled, LeavesOnly, Only, OpenCause, put_at, ReadCause, CrashLeavesEither, HasState, IsBatchCause, IsChangeCause, IsCounted, IsEraseCause, IsReadyStore, KeepsCount, LeavesUnwritten, LeavesStore};
+ghost use Rattle.cedar_store.specs.Words.{added, all_changed, changes_told, erase_at, ends_closed, erased, fault, format_of, first_refused, number_at, payload_of, recovered, state_of, stored, AllByRecursion, HasExtent, IsBeforeOrAfter, IsBeforeWrites, IsCorrupt, IsFaultless, IsRecordedIn, IsSettled, LeavesOnly, Only, OpenCause, put_at, ReadCause, CrashLeavesEither, HasState, IsBatchCause, IsChangeCause, IsCounted, IsEraseCause, IsLookedAfter, IsLookedAfterError, IsReadyStore, IsUnlooked, KeepsCount, LeavesUnwritten, LeavesStore};
 
 use crate::batch::{make, take_all_back};
 use crate::counts::count_records;
@@ -24,7 +24,7 @@ pub struct Store<T: Words, A: Allocator, D: Device> {
     pub(crate) words: T,
     pub(crate) failed: bool,
     pub(crate) compaction: Compaction,
-    // Where the records ended at the last test of whether the file is too long: 0 before.
+    // Where the records ended at the last look at whether the file is too long: 0 before.
     pub(crate) base: usize,
     // How many records the file has, unless the device has failed.
     pub(crate) records: usize,
@@ -72,7 +72,8 @@ fn read_file<A: Allocator, D: Device>(alloc: A, device: &mut D) -> Result<Vec<u8
     match device.read(alloc) {
         Ok(bytes) => Ok(bytes),
         Err(DeviceError::Memory) => Err(DurableError::Refused(CedarError::Memory)),
-        Err(DeviceError::NoRoom) => Err(DurableError::Device(DeviceError::NoRoom)),
+        // A read asks for no room.
+        Err(DeviceError::NoRoom) => Err(DurableError::Device(DeviceError::Failed)),
         Err(DeviceError::Failed) => Err(DurableError::Device(DeviceError::Failed)),
     }
 }
@@ -99,9 +100,10 @@ impl<T: Made<A>, A: Allocator + Copy, D: Device> Store<T, A, D> {
         //= An opened store has counted the records of its file. [by IsCounted]
         ensures counted { IfOk result (λ store. IsCounted D.seen store) }
 
-        //= A store that was opened compacts its file by itself once it is longer than twice what its entries take, and 64 KiB. No
-        //  compaction is told yet. [with told]
+        //= The rule of a store that was opened is the default: its file may be twice as long as its entries take, and 64 KiB. Its length
+        //  hasn't been looked at, and no compaction is told. [with unlooked, told]
         ensures rule { IfOk result (λ store. store.compaction ≡ Compaction.Beyond 2 65536) }
+        ensures unlooked { IfOk result (λ store. store.base ≡ 0) }
         ensures told { IfOk result (λ store. store.last_compaction ≡ None) }
 
         //= A crash at any moment while it is opened leaves a file that stands for the same dictionary, even if it isn't opened. [with
@@ -192,6 +194,15 @@ impl<T: Words, A: Allocator + Copy, D: Device> Store<T, A, D> {
         self.records
     }
 
+    /// Returns where the records ended when the file's length was last looked at, in bytes: by a change that found it too long for what it had
+    /// at the look before, or by a compaction, which counts where they end then. 0 if it wasn't since the store was opened.
+    pub fn last_look(&self) -> usize
+        //= A store says where the records of its file ended at the last look at its length.
+        ensures { result ≡ self.now.base }
+    {
+        self.base
+    }
+
     /// Returns what came of the last compaction since the store was opened, by a call or by the rule: None if there was none.
     pub fn last_compaction(&self) -> Option<Result<(), CompactError>>
         //= A store says what came of the last compaction.
@@ -248,7 +259,17 @@ impl<T: Words, A: Allocator + Copy, D: ReplaceDevice> Store<T, A, D> {
         //= A change leaves the rule as it was. It adds one record to those of the file, and leaves them, unless the rule is another one
         //  than `Never`: then the file may have been made short instead, which is told. [with recorded; also insert, update_bytes, update]
         ensures rule { self.new.compaction ≡ self.old.compaction }
-        ensures recorded { OnOk result (IsRecordedIn D.seen self.old self.new (put_at key.now value ∷ [])) }
+        ensures recorded { OnOk result (IsRecordedIn D.seen T.state self.old self.new (put_at key.now value ∷ [])) }
+
+        //= An acknowledged change looks after the length of its file, by the rule. If the file isn't too long for what it had at the last
+        //  look, nothing is done. Otherwise it is looked at: it isn't too long for its entries, or it was made short, or it was kept as it
+        //  was, for lack of memory, for a record that would be too long, or by the device; then `last_compaction` tells why. [by
+        //  IsLookedAfter; also insert, update_bytes, update, erase_bytes, erase, apply_batch]
+        ensures looked_after { OnOk result (IsLookedAfter D.seen D.faults T.state self.old self.new) }
+
+        //= A change that fails has looked at nothing and told of no compaction, unless the device failed in one, which is told. [by
+        //  IsLookedAfterError; also insert, update_bytes, update, erase_bytes, erase, apply_batch]
+        ensures told { OnErr result (IsLookedAfterError self.old self.new) }
 
         //= The count of a store stays that of its file's records, in each change and each compaction, as long as the store hasn't failed.
         //  [also insert, update_bytes, update, erase_bytes, erase, apply_batch, compact]
@@ -303,7 +324,9 @@ impl<T: Words, A: Allocator + Copy, D: ReplaceDevice> Store<T, A, D> {
         ensures untouched { self.old.failed ≡ true → self.new ≡ self.old }
         ensures rule { self.new.compaction ≡ self.old.compaction }
         ensures counted { KeepsCount D.seen self.old self.new }
-        ensures recorded { OnOk result (IsRecordedIn D.seen self.old self.new (put_at key.now value ∷ [])) }
+        ensures recorded { OnOk result (IsRecordedIn D.seen T.state self.old self.new (put_at key.now value ∷ [])) }
+        ensures looked_after { OnOk result (IsLookedAfter D.seen D.faults T.state self.old self.new) }
+        ensures told { OnErr result (IsLookedAfterError self.old self.new) }
         ensures faulty { self.old.failed ≡ false → IfSome (fault key.now value) (λ e. result ≡ Err (DurableError.Refused e)) }
         ensures cause { IfErr result (IsChangeCause D.faults self.old self.new (fault key.now value) (length key.now + 5)) }
         ensures err { IfErr result (LeavesStore T.state self.old self.new (stored (T.state self.old.words) key.now value)) }
@@ -324,7 +347,9 @@ impl<T: Words, A: Allocator + Copy, D: ReplaceDevice> Store<T, A, D> {
         ensures untouched { self.old.failed ≡ true → self.new ≡ self.old }
         ensures rule { self.new.compaction ≡ self.old.compaction }
         ensures counted { KeepsCount D.seen self.old self.new }
-        ensures recorded { OnOk result (IsRecordedIn D.seen self.old self.new (put_at key.now value ∷ [])) }
+        ensures recorded { OnOk result (IsRecordedIn D.seen T.state self.old self.new (put_at key.now value ∷ [])) }
+        ensures looked_after { OnOk result (IsLookedAfter D.seen D.faults T.state self.old self.new) }
+        ensures told { OnErr result (IsLookedAfterError self.old self.new) }
         ensures faulty { self.old.failed ≡ false → IfSome (fault key.now value) (λ e. result ≡ Err (DurableError.Refused e)) }
         ensures cause { IfErr result (IsChangeCause D.faults self.old self.new (fault key.now value) (length key.now + 5)) }
         ensures err { IfErr result (LeavesStore T.state self.old self.new (stored (T.state self.old.words) key.now value)) }
@@ -348,7 +373,9 @@ impl<T: Words, A: Allocator + Copy, D: ReplaceDevice> Store<T, A, D> {
         ensures untouched { self.old.failed ≡ true → self.new ≡ self.old }
         ensures rule { self.new.compaction ≡ self.old.compaction }
         ensures counted { KeepsCount D.seen self.old self.new }
-        ensures recorded { OnOk result (IsRecordedIn D.seen self.old self.new (put_at key.now value ∷ [])) }
+        ensures recorded { OnOk result (IsRecordedIn D.seen T.state self.old self.new (put_at key.now value ∷ [])) }
+        ensures looked_after { OnOk result (IsLookedAfter D.seen D.faults T.state self.old self.new) }
+        ensures told { OnErr result (IsLookedAfterError self.old self.new) }
         ensures faulty { self.old.failed ≡ false → IfSome (fault key.now value) (λ e. result ≡ Err (DurableError.Refused e)) }
         ensures cause { IfErr result (IsChangeCause D.faults self.old self.new (fault key.now value) (length key.now + 5)) }
         ensures err { IfErr result (LeavesStore T.state self.old self.new (stored (T.state self.old.words) key.now value)) }
@@ -383,7 +410,9 @@ impl<T: Words, A: Allocator + Copy, D: ReplaceDevice> Store<T, A, D> {
         //= An erasure leaves the rule as it was, and the file as a change does. [with recorded; also erase]
         ensures rule { self.new.compaction ≡ self.old.compaction }
         ensures counted { KeepsCount D.seen self.old self.new }
-        ensures recorded { IfOk result (λ held. held ≡ true → IsRecordedIn D.seen self.old self.new (erase_at key.now ∷ [])) }
+        ensures recorded { IfOk result (λ held. held ≡ true → IsRecordedIn D.seen T.state self.old self.new (erase_at key.now ∷ [])) }
+        ensures looked_after { IfOk result (λ held. held ≡ true → IsLookedAfter D.seen D.faults T.state self.old self.new) }
+        ensures told { OnErr result (IsLookedAfterError self.old self.new) }
 
         //= An erasure fails only if the store has failed before, for lack of memory, if the record is too long or the records end too far
         //  back, or if the device failed. [also erase]
@@ -419,7 +448,9 @@ impl<T: Words, A: Allocator + Copy, D: ReplaceDevice> Store<T, A, D> {
         ensures untouched { self.old.failed ≡ true → self.new ≡ self.old }
         ensures rule { self.new.compaction ≡ self.old.compaction }
         ensures counted { KeepsCount D.seen self.old self.new }
-        ensures recorded { IfOk result (λ held. held ≡ true → IsRecordedIn D.seen self.old self.new (erase_at key.now ∷ [])) }
+        ensures recorded { IfOk result (λ held. held ≡ true → IsRecordedIn D.seen T.state self.old self.new (erase_at key.now ∷ [])) }
+        ensures looked_after { IfOk result (λ held. held ≡ true → IsLookedAfter D.seen D.faults T.state self.old self.new) }
+        ensures told { OnErr result (IsLookedAfterError self.old self.new) }
         ensures cause { IfErr result (IsEraseCause D.faults self.old self.new (length key.now + 1)) }
         ensures err { IfErr result (LeavesStore T.state self.old self.new (erased (T.state self.old.words) key.now)) }
     {
@@ -456,7 +487,9 @@ impl<T: Words, A: Allocator + Copy, D: ReplaceDevice> Store<T, A, D> {
         //= A batch leaves the rule as it was, and the file as a change does. [with recorded]
         ensures rule { self.new.compaction ≡ self.old.compaction }
         ensures counted { KeepsCount D.seen self.old self.new }
-        ensures recorded { OnOk result ((changes.now ≡ [] → ⊥) → IsRecordedIn D.seen self.old self.new (changes_told changes.now)) }
+        ensures recorded { OnOk result ((changes.now ≡ [] → ⊥) → IsRecordedIn D.seen T.state self.old self.new (changes_told changes.now)) }
+        ensures looked_after { OnOk result ((changes.now ≡ [] → ⊥) → IsLookedAfter D.seen D.faults T.state self.old self.new) }
+        ensures told { OnErr result (IsLookedAfterError self.old self.new) }
 
         //= A batch in which a pair has a fault is refused with the first such pair's index and fault, whatever memory there is, if the
         //  store hasn't failed.
@@ -503,6 +536,7 @@ impl<T: Words, A: Allocator + Copy, D: ReplaceDevice> Store<T, A, D> {
         ensures end { OnErr result (self.new.journal.end ≡ self.old.journal.end) }
         ensures err { IfErr result (LeavesUnwritten D.faults self.old self.new) }
         ensures words { self.new.words ≡ self.old.words }
+        ensures unlooked { IsUnlooked self.old self.new }
         ensures rule { self.new.compaction ≡ self.old.compaction }
         ensures counted { KeepsCount D.seen self.old self.new }
         ensures any_moment { LeavesOnly D.moment D.left_since self.old.journal.device self.new.journal.device

@@ -239,3 +239,9 @@ returns-then-self-2-clause-counted g c = λ was. c.acknowledge.ensures.counted w
 
 pub returns-clause-counted : goal.returns-clause-counted
 returns-clause-counted g c = λ was. c.acknowledge.ensures.counted was
+
+pub returns-in-Ok-clause-looked_after : goal.returns-in-Ok-clause-looked_after
+returns-in-Ok-clause-looked_after g c = λ _. c.in-Ok.ensures.looked_after
+
+pub returns-then-is_empty-clause-looked_after : goal.returns-then-is_empty-clause-looked_after
+returns-then-is_empty-clause-looked_after g c = λ some. absurd (some (no_changes c.args.changes.now (sym c.if-is_empty.ensures)))

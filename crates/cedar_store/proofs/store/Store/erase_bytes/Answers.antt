@@ -65,3 +65,6 @@ returns-in_err-acknowledge-clause-counted g c = λ was. c.acknowledge.ensures.co
 
 pub returns-clause-counted : goal.returns-clause-counted
 returns-clause-counted g c = λ was. c.acknowledge.ensures.counted was
+
+pub returns-clause-looked_after : goal.returns-clause-looked_after
+returns-clause-looked_after g c = λ _. c.in_ok-acknowledge.ensures.looked_after

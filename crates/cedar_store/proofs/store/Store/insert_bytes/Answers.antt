@@ -186,3 +186,6 @@ returns-then-self-2-clause-counted g c = λ was. c.acknowledge.ensures.counted w
 
 pub returns-in-Ok-clause-counted : goal.returns-in-Ok-clause-counted
 returns-in-Ok-clause-counted g c = λ was. c.acknowledge.ensures.counted was
+
+pub returns-in-Ok-acknowledge-clause-looked_after : goal.returns-in-Ok-acknowledge-clause-looked_after
+returns-in-Ok-acknowledge-clause-looked_after g c = c.in-Ok-acknowledge.ensures.looked_after
