@@ -615,6 +615,11 @@ uint32_t cedar_store_last_compaction(const cedar_store *s);
 /* Returns how many bytes the file has, without changes that wait. 0 if closed. */
 size_t cedar_store_file_len(const cedar_store *s);
 
+/* Returns how many records the file has, without changes that wait. 0 if closed. A change is one; so are changes that went to the disk
+ * together, and those of a cedar_store_apply. A compaction leaves one for each 4 MiB of entries; a program in Rattle leaves one for each
+ * entry. A change that has failed on the disk isn't counted, though the file may have it. */
+size_t cedar_store_records(const cedar_store *s);
+
 /* Writes how many bytes the file would have behind a compaction. It takes the time of all entries. Returns CEDAR_OK, CEDAR_IS_CLOSED or
  * CEDAR_MEMORY. */
 uint32_t cedar_store_compacted_len(const cedar_store *s, size_t *length);

@@ -625,6 +625,10 @@ public:
     /// Returns how many bytes the file has, without changes that wait.
     std::size_t file_size() const noexcept { return cedar_store_file_len(&inside_); }
 
+    /// Returns how many records the file has, without changes that wait. Changes that went to the disk together are one, and a compaction
+    /// leaves few: cedar.h says which.
+    std::size_t records() const noexcept { return cedar_store_records(&inside_); }
+
     /// Returns how many bytes the file would have behind a compaction. It takes the time of all entries.
     std::size_t compacted_size() const {
         std::size_t length = 0;

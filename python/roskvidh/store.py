@@ -184,6 +184,12 @@ class Store(Words[K]):
         """How many bytes the file has, without changes that wait."""
         return self._file_figures()[0]
 
+    @property
+    def records(self) -> int:
+        """How many records the file has, without changes that wait. A change is one, and so are changes that went to the disk together, as
+        those of a block. compact() leaves one for each 4 MiB of entries. A change that has failed on the disk isn't counted."""
+        return self._file_figures()[2]
+
     def compacted_size(self) -> int:
         """Returns how many bytes the file would have behind a compaction. It takes the time of all entries."""
         return self._compacted_size()

@@ -46,7 +46,7 @@ def stores(path: str) -> None:
         store.compaction = None
         store.compact()
         beyond: Optional[Tuple[int, int]] = store.compaction
-        print(pair, beyond, store.file_size + store.compacted_size() + store.last_compaction, store.mode)
+        print(pair, beyond, store.file_size + store.compacted_size() + store.last_compaction + store.records, store.mode)
     reader: Store[bytes] = Store(path, mode="r")
     found: int = reader[b"net"]
     print(found)

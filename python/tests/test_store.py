@@ -432,21 +432,25 @@ class Stores(unittest.TestCase):
     def test_compacted(self):
         with Store(self.path, sync_every=50) as s:
             self.assertEqual((s.compaction, s.last_compaction, s.file_size), ((2, 65536), 0, self.path.stat().st_size))
+            self.assertEqual(s.records, 0)
             for number in range(8000):
                 s[b"counter"] = number
                 self.assertLess(s.file_size, 70000)
             self.assertEqual((dict(s), s.last_compaction), ({b"counter": 7999}, 0))
+            self.assertLess(s.records, 8000 // 50)
             s[b"net"] = 7
             shorter = s.compacted_size()
             with Store(self.path, mode="r") as reader:
                 s.compact()
-                self.assertEqual((s.waiting, s.file_size, self.path.stat().st_size), (0, shorter, shorter))
+                self.assertEqual((s.waiting, s.file_size, self.path.stat().st_size, s.records), (0, shorter, shorter, 1))
                 self.assertEqual(len(reader), 1)
+                self.assertGreater(reader.records, 1)
                 self.refused(48, reader.compact)
             s.compaction = None
             for number in range(8000):
                 s[b"counter"] = number
             self.assertGreater(self.path.stat().st_size, 8000 * 17)
+            self.assertEqual(s.records, 1 + 8000 // 50)
             beside = self.path.with_name(self.path.name + ".cedar-compaction")
             beside.mkdir()
             with self.assertRaises(FileExistsError):
@@ -460,9 +464,12 @@ class Stores(unittest.TestCase):
                 with self.assertRaises(ValueError):
                     s.compaction = wrong
         with Store(self.path) as s:
+            self.assertEqual(s.records, 2 + 8000 // 50)
             s.compact()
-            self.assertEqual(dict(s), {b"counter": 7999, b"net": 7, b"nets": 8})
-        for call in (s.compact, s.compacted_size, lambda: s.file_size):
+            self.assertEqual((dict(s), s.records), ({b"counter": 7999, b"net": 7, b"nets": 8}, 1))
+            s.update({b"a": 1, b"b": 2})
+            self.assertEqual(s.records, 2)
+        for call in (s.compact, s.compacted_size, lambda: s.file_size, lambda: s.records):
             with self.assertRaises(ValueError):
                 call()
 
