@@ -86,11 +86,6 @@ where
     let Some(end) = cut_at(&bytes) else {
         return Ok(None);
     };
-    let real = behind_link(alloc, &files, path)?;
-    let path = match &real {
-        Some(real) => real.as_str(),
-        None => path,
-    };
     let kept = keep(alloc, files, path, &bytes[..HEADER_LEN], &bytes[end..])?;
     Ok(Some(kept))
 }
@@ -130,8 +125,27 @@ fn behind_link<F: Files, A: Allocator>(
     }
 }
 
-/// Returns the file of a header and some bytes beside one, which is made if there is none.
+/// Returns the file of a header and some bytes beside one, or beside what that leads to if it is a link.
 fn keep<F: Files + Copy + Drop, A: Allocator + Copy>(
+    alloc: A,
+    files: F,
+    path: &str,
+    header: &[u8],
+    bytes: &[u8],
+) -> Result<Kept<F, A>, KeepError>
+where
+    F::File: LockFile,
+    ensures filled { IfOk result (λ kept. seen_after (device_calls kept.device) ≡ header.now ++ bytes.now) }
+    ensures durable { IfOk result (λ kept. Only (seen_after (device_calls kept.device)) (MayLeave (device_calls kept.device))) }
+{
+    match behind_link(alloc, &files, path)? {
+        Some(real) => keep_beside(alloc, files, real.as_str(), header, bytes),
+        None => keep_beside(alloc, files, path, header, bytes),
+    }
+}
+
+/// Returns the file of a header and some bytes beside one, which is made if there is none.
+fn keep_beside<F: Files + Copy + Drop, A: Allocator + Copy>(
     alloc: A,
     files: F,
     path: &str,
