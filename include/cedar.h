@@ -169,8 +169,8 @@ typedef struct cedar_pair {
 } cedar_pair;
 
 /* Stores some pairs, one after another: the last value of a key counts. All pairs are tested first. With a faulty pair the first fault is
- * returned as by cedar_update, and nothing has changed. Otherwise it may fail with CEDAR_MEMORY or CEDAR_SLOT_LIMIT: then the first of the
- * pairs, as many as there was room for, are stored. It also allocates a list of the pairs. */
+ * returned as by cedar_update, and nothing has changed; cedar_faulty_pair finds the pair. Otherwise it may fail with CEDAR_MEMORY or
+ * CEDAR_SLOT_LIMIT: then the first of the pairs, as many as there was room for, are stored. It also allocates a list of the pairs. */
 uint32_t cedar_update_all(cedar_dictionary *d, const cedar_pair *pairs, size_t count, size_t *position);
 
 /* Opens *d with a dictionary of exactly these pairs, whose keys ascend by bytes, compared as unsigned numbers. If *d is open, the new
@@ -264,13 +264,16 @@ size_t cedar_prefixes(const cedar_dictionary *d, const uint8_t *text, size_t len
 bool cedar_longest_prefix(const cedar_dictionary *d, const uint8_t *text, size_t length, cedar_match *found);
 
 /* Finds the keys that begin with a text, in iteration order. The first `length` bytes of each are the text, and match.length - length bytes
- * follow it. There are never more than there are keys. Otherwise as cedar_prefixes. */
+ * follow it. There are never more than there are keys. Otherwise as cedar_prefixes: since it returns how many there are, it goes over all
+ * of them, also where there is room for a few or for none. For the first few call cedar_predictions_from, or cedar_entries_from for their
+ * keys too: these stop where the room ends. */
 size_t cedar_predictions(const cedar_dictionary *d, const uint8_t *text, size_t length, cedar_match *matches, size_t room);
 
 /* As cedar_prefixes and cedar_predictions, without the first *next keys, in pieces: as many as are left, and there is room for, are written
  * to matches[0] and on; the other places keep their content. They return how many were written, and add it to *next, so that the same call
  * goes on. Begin with *next 0; a result below room means that nothing is left. Don't change the dictionary between two pieces, or they may
- * not belong together. Each call walks past the first *next again; it allocates nothing. They return 0 if closed. */
+ * not belong together. Each call walks past the first *next again, and no further than what it writes; it allocates nothing. They return 0
+ * if closed. */
 size_t cedar_prefixes_from(const cedar_dictionary *d, const uint8_t *text, size_t length, size_t *next, cedar_match *matches, size_t room);
 size_t cedar_predictions_from(const cedar_dictionary *d, const uint8_t *text, size_t length, size_t *next, cedar_match *matches,
                               size_t room);
@@ -408,7 +411,12 @@ CEDAR_INLINE uint32_t cedar_nullable_entries_from(const cedar_dictionary *d, con
 #define cedar_cheapest cedar_nullable_cheapest
 #define cedar_erase_prefix cedar_nullable_erase_prefix
 
-/* Files by their paths, and the version. These calls are C beside the proved library: tested, and not proved. */
+/* Faulty pairs, files by their paths, and the version. These calls are C beside the proved library: tested, and not proved. */
+
+/* Returns the index of the first pair that has a fault of its own: an empty key, a byte 0 in the key, or a value out of range. If there is
+ * none, it returns `count`. Once cedar_update_all or a build has returned CEDAR_EMPTY_KEY, CEDAR_NUL_BYTE or CEDAR_INVALID_VALUE, this is
+ * the pair that it speaks of. */
+size_t cedar_faulty_pair(const cedar_pair *pairs, size_t count);
 
 /* The version of this header, and that of the library. A program may compare the two. */
 #define CEDAR_VERSION_MAJOR 0

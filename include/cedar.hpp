@@ -7,18 +7,53 @@
 //     for (const auto &[key, value] : d.entries_with_prefix("net")) std::cout << key << ' ' << value << '\n';
 //     d.save_to_path("words.cedar");
 //
-// A key is a nonempty byte string without byte 0, a value a whole number from 0 to 2147483645. All lengths, places and positions are
-// bytes, counted from 0. Keys, texts and files are read during the call only, unless a member's comment says otherwise.
+// A key is a nonempty byte string without byte 0, a value a whole number from 0 to 2147483645: it may be handed over in any type of
+// integers, and one that is out of this range is refused and not cut. All lengths, places and positions are bytes, counted from 0. Keys,
+// texts and files are read during the call only, unless a member's comment says otherwise.
 //
-// Errors. A call that fails throws roskvidh::error; std::bad_alloc if memory runs out; std::system_error if a call on a file fails. After
-// each of them the dictionary holds what it held before the call. Only update_all may have stored the first of its pairs.
+// Errors. A call that is refused throws roskvidh::error, which has a status of cedar.h; std::bad_alloc ("memory" below) if memory runs out;
+// std::system_error ("system") if a call on a file fails, with EINVAL if a path has a byte 0. After each of them the dictionary holds what
+// it held before the call. Only update_all may have stored the first of its pairs. "Fault" is the first fault of a pair: CEDAR_EMPTY_KEY,
+// CEDAR_NUL_BYTE, or value_out_of_range, whose status is CEDAR_INVALID_VALUE. "Closed" is CEDAR_IS_CLOSED: the dictionary was moved from.
+// Members that aren't listed throw nothing.
+//
+//     member of a dictionary                        throws
+//     dictionary                                    CEDAR_INVALID_MAX_TRIAL, memory
+//     from_pairs                                    fault, CEDAR_INVALID_MAX_TRIAL, CEDAR_SLOT_LIMIT, memory
+//     from_sorted                                   the same, CEDAR_DUPLICATE_KEY, CEDAR_KEYS_NOT_SORTED
+//     update, insert, update_all                    fault, closed; for a key that isn't held CEDAR_SLOT_LIMIT, memory
+//     reserve, shrink_to_fit                        closed, CEDAR_SLOT_LIMIT, memory
+//     clone, save, cheapest                         closed, memory
+//     erase_all, prefixes, predictions, entries,    memory
+//       entries_with_prefix, begin, cbegin, find
+//     entries_from, range, lower_bound,             CEDAR_NOT_ASCENDING if the dictionary isn't ordered; memory
+//       upper_bound
+//     a step (++) of an iterator                    closed, memory; after find also CEDAR_NOT_ASCENDING
+//     scan, segment, keywords                       what the callable throws; scan also memory
+//     load                                          CEDAR_FILE_TRUNCATED to CEDAR_FILE_TRAILING, memory
+//     load_from_path                                the same, system
+//     save_to_path                                  closed, memory, system
+//
+//     member of a store                             throws
+//     store                                         CEDAR_STORE_LOCKED, CEDAR_STORE_FOREIGN, CEDAR_STORE_CORRUPT, CEDAR_STORE_DAMAGED,
+//                                                   CEDAR_SLOT_LIMIT, memory, system
+//     update, insert, apply                         fault, CEDAR_SLOT_LIMIT, and what erase throws
+//     erase                                         closed, CEDAR_STORE_READ_ONLY, CEDAR_STORE_LOCKED in a forked child,
+//                                                   CEDAR_STORE_FAILED, CEDAR_STORE_TOO_LONG, CEDAR_STORE_FULL, memory, system
+//     sync, sync_every                              closed, CEDAR_STORE_LOCKED, CEDAR_STORE_FAILED, system
+//     compact                                       closed, CEDAR_STORE_READ_ONLY, CEDAR_STORE_LOCKED, CEDAR_STORE_FAILED, memory,
+//                                                   system
+//     compact_beyond                                closed
+//     compacted_size                                closed, memory
+//     kept                                          memory
 //
 // Threads. Any number of threads may call const members of one dictionary at the same time, as long as none calls another member of it:
 // cedar.h says how to order those. Different dictionaries share nothing.
 #ifndef ROSKVIDH_CEDAR_HPP
 #define ROSKVIDH_CEDAR_HPP
 
-#include "cedar.h"
+#include "cedar_basics.hpp"
+#include "cedar_entries.hpp"
 
 #include <algorithm>
 #include <array>
@@ -28,9 +63,8 @@
 #include <initializer_list>
 #include <iterator>
 #include <limits>
-#include <new>
+#include <memory>
 #include <optional>
-#include <stdexcept>
 #include <string>
 #include <string_view>
 #include <system_error>
@@ -40,98 +74,27 @@
 
 namespace roskvidh {
 
-/// How the slots of a dictionary represent its keys. All results are the same in both; the reduced layout takes fewer slots.
-enum class layout { standard, reduced };
-
-/// The version of a file's format: 1.1 lists the slots in use, 1.0 all slots.
-enum class file_format { v1_1, v1_0 };
-
-/// A call that was refused. what() is the library's text, followed by the position if there is one.
-class error : public std::runtime_error {
-public:
-    error(std::uint32_t status, std::optional<std::size_t> position)
-        : std::runtime_error(text_of(status, position)), status_(status), position_(position) {}
-
-    /// The status of cedar.h, such as CEDAR_NUL_BYTE.
-    std::uint32_t status() const noexcept { return status_; }
-
-    /// For CEDAR_NUL_BYTE, the place of the first byte 0 in the key. For CEDAR_DUPLICATE_KEY and CEDAR_KEYS_NOT_SORTED, the index of the
-    /// pair. For CEDAR_STORE_DAMAGED, the byte of the file at which the damaged record begins. Otherwise nothing.
-    std::optional<std::size_t> position() const noexcept { return position_; }
-
-private:
-    static std::string text_of(std::uint32_t status, std::optional<std::size_t> position) {
-        std::uint8_t none = 0;
-        std::string text(cedar_status_text(status, &none, 0), ' ');
-        if (!text.empty()) cedar_status_text(status, reinterpret_cast<std::uint8_t *>(text.data()), text.size());
-        const bool is_byte = status == CEDAR_NUL_BYTE || status == CEDAR_STORE_DAMAGED;
-        if (position) text += (is_byte ? " (at byte " : " (at pair ") + std::to_string(*position) + ")";
-        return text;
-    }
-
-    std::uint32_t status_;
-    std::optional<std::size_t> position_;
-};
-
-/// A key that was found: its value, and how many bytes the key has.
-using match = cedar_match;
-
-/// A key in a text: where it begins, how many bytes it has, and its value.
-using occurrence = cedar_found;
-
-/// A token of a text: where it begins, how many bytes it has, and its value if it is a key.
-struct token {
-    std::size_t place;
-    std::size_t length;
-    std::optional<std::int32_t> value;
-};
-
-/// A key and its value. The key's bytes belong to the entries that it comes from.
-struct entry {
-    std::string_view key;
-    std::int32_t value;
-};
-
-/// Figures of a dictionary.
-struct statistics {
-    std::size_t keys;         ///< how many keys are held
-    std::size_t used_slots;   ///< how many slots represent the root, bytes of keys, and values
-    std::size_t capacity;     ///< how many slots there are
-    std::size_t spare_blocks; ///< how many blocks of 256 slots can come into use before memory is allocated
-};
-
 namespace detail {
-
-// What is proved of C is of pointers that aren't null, as that of an empty view may be.
-inline const std::uint8_t *bytes(std::string_view text) noexcept {
-    return reinterpret_cast<const std::uint8_t *>(text.empty() ? "" : text.data());
-}
-
-inline void check(std::uint32_t status, std::size_t position = 0) {
-    switch (status) {
-    case CEDAR_OK: return;
-    case CEDAR_MEMORY: throw std::bad_alloc();
-    case CEDAR_NUL_BYTE:
-    case CEDAR_DUPLICATE_KEY:
-    case CEDAR_KEYS_NOT_SORTED:
-    case CEDAR_STORE_DAMAGED: throw error(status, position);
-    default: throw error(status, std::nullopt);
-    }
-}
 
 // The pairs of a range as C takes them: they name the bytes of its keys.
 template <class Pairs>
 std::vector<cedar_pair> pairs_of(const Pairs &pairs) {
-    static_assert(std::is_lvalue_reference_v<decltype(*std::begin(pairs))>, "the pairs stand in the range, which lends them");
+    static_assert(std::is_lvalue_reference_v<decltype(*std::begin(pairs))> || std::is_same_v<Pairs, roskvidh::entries>,
+                  "the pairs stand in the range, which lends them");
     std::vector<cedar_pair> listed;
     listed.reserve(1); // so that data() isn't null
     for (const auto &[key, value] : pairs) {
-        using Value = std::remove_cv_t<std::remove_reference_t<decltype(value)>>;
-        static_assert(std::is_integral_v<Value> && std::numeric_limits<Value>::digits <= 31, "no value is cut off");
+        static_assert(std::is_constructible_v<any_integer, decltype(value)>, "a value is an integer");
         const std::string_view view(key);
-        listed.push_back({bytes(view), view.size(), std::int32_t{value}});
+        listed.push_back({bytes(view), view.size(), any_integer(value).get()});
     }
     return listed;
+}
+
+// As check, for a call of many pairs: the error says which one has the fault.
+inline void check_pairs(std::uint32_t status, std::size_t position, const std::vector<cedar_pair> &pairs) {
+    if (is_fault(status)) check(status, position, cedar_faulty_pair(pairs.data(), pairs.size()));
+    check(status, position);
 }
 
 // The keys of a range as C takes them: they name its bytes.
@@ -158,85 +121,26 @@ bool tell(Callable &callable, const Item &item) {
     }
 }
 
-inline token token_of(const cedar_found &one) noexcept {
-    return {one.place, one.length, one.value < 0 ? std::nullopt : std::optional(one.value)};
-}
-
-[[noreturn]] inline void throw_file_error(int number, const std::string &path) {
-    throw std::system_error(number, std::generic_category(), path);
-}
-
-// As check, for a call on the file at a path. What errno has is read before anything else may change it.
-inline void check_file(std::uint32_t status, const std::string &path) {
-    const int number = errno;
-    if (status == CEDAR_FILE_UNREAD) throw_file_error(number, path);
-    check(status);
-}
-
 } // namespace detail
-
-/// Keys and values as they were when the range was made, in iteration order: that of bytes if the dictionary is ordered. The range has a
-/// copy of them, so the dictionary may change or be destroyed meanwhile. Its views of keys are valid as long as the range, or what it is
-/// moved to.
-class entries {
-public:
-    class iterator {
-    public:
-        using iterator_category = std::input_iterator_tag;
-        using value_type = entry;
-        using difference_type = std::ptrdiff_t;
-        using pointer = void;
-        using reference = entry;
-
-        iterator() = default;
-        entry operator*() const noexcept { return {std::string_view(keys_ + found_->place, found_->length), found_->value}; }
-        iterator &operator++() noexcept {
-            ++found_;
-            return *this;
-        }
-        iterator operator++(int) noexcept {
-            const iterator before = *this;
-            ++*this;
-            return before;
-        }
-        friend bool operator==(const iterator &one, const iterator &other) noexcept { return one.found_ == other.found_; }
-        friend bool operator!=(const iterator &one, const iterator &other) noexcept { return one.found_ != other.found_; }
-
-    private:
-        friend class entries;
-        iterator(const char *keys, const occurrence *found) noexcept : keys_(keys), found_(found) {}
-
-        const char *keys_ = nullptr;
-        const occurrence *found_ = nullptr;
-    };
-
-    iterator begin() const noexcept { return {keys_.data(), found_.data()}; }
-    iterator end() const noexcept { return {nullptr, found_.data() + found_.size()}; }
-
-    /// How many entries there are.
-    std::size_t size() const noexcept { return found_.size(); }
-
-    /// Whether there is none.
-    bool empty() const noexcept { return found_.empty(); }
-
-private:
-    friend class dictionary;
-    entries() = default;
-
-    std::vector<char> keys_; // one after another
-    std::vector<occurrence> found_; // where they stand
-};
 
 /// A mutable dictionary from byte strings to whole numbers. It is moved and not copied; clone() makes a copy. A dictionary that was moved
 /// from is closed: it holds nothing and may be assigned to; calls that store or save throw the error CEDAR_IS_CLOSED.
 class dictionary {
 public:
+    using key_type = std::string;
+    using mapped_type = std::int32_t;
+    using value_type = owned_entry;
+    using size_type = std::size_t;
+    using difference_type = std::ptrdiff_t;
+    using const_iterator = entry_iterator;
+    using iterator = const_iterator;
+
     /// No limit on how many results a call returns.
     static constexpr std::size_t unlimited = std::numeric_limits<std::size_t>::max();
 
     /// Makes an empty dictionary. If `ordered`, iterations go in the order of bytes; otherwise a new branch goes before its siblings, which
     /// makes storing faster. `max_trial`, 1 or more: after so many failed searches for a place a block of slots is closed. More make the
-    /// table denser and storing slower. Throws CEDAR_INVALID_MAX_TRIAL and std::bad_alloc.
+    /// table denser and storing slower.
     explicit dictionary(layout kind = layout::standard, bool ordered = true, std::int32_t max_trial = 1) {
         detail::check((kind == layout::reduced ? cedar_new_reduced : cedar_new_with)(&inside_, ordered, max_trial));
     }
@@ -261,24 +165,22 @@ public:
     friend void swap(dictionary &one, dictionary &other) noexcept { one.swap(other); }
 
     /// Returns the dictionary of pairs whose keys ascend by bytes, as those of a std::map do. It is built in one pass. `pairs` is any range
-    /// of pairs of what converts to a std::string_view and an int. All pairs are tested first. Throws the first fault of the pairs:
-    /// CEDAR_EMPTY_KEY, CEDAR_NUL_BYTE, CEDAR_INVALID_VALUE, CEDAR_DUPLICATE_KEY, CEDAR_KEYS_NOT_SORTED; or CEDAR_INVALID_MAX_TRIAL,
-    /// CEDAR_SLOT_LIMIT, std::bad_alloc.
-    template <class Pairs = std::initializer_list<std::pair<std::string_view, std::int32_t>>>
+    /// of pairs of what converts to a std::string_view and an integer of any type. All pairs are tested first; index() of
+    /// the error is that of the first one that has a fault.
+    template <class Pairs = std::initializer_list<std::pair<std::string_view, any_integer>>>
     static dictionary from_sorted(const Pairs &pairs, layout kind = layout::standard, bool ordered = true, std::int32_t max_trial = 1) {
         return built(kind == layout::reduced ? cedar_build_reduced : cedar_build, pairs, ordered, max_trial);
     }
 
     /// The dictionary of pairs in any order: the last value of a key counts. The pairs are sorted, and it is built at once, faster than by
     /// update_all; keys go in the order of bytes at first, whatever `ordered` says. `pairs` is a range as of from_sorted. All pairs are
-    /// tested first. Throws the first fault of a pair: CEDAR_EMPTY_KEY, CEDAR_NUL_BYTE, CEDAR_INVALID_VALUE; or CEDAR_INVALID_MAX_TRIAL,
-    /// CEDAR_SLOT_LIMIT, std::bad_alloc.
-    template <class Pairs = std::initializer_list<std::pair<std::string_view, std::int32_t>>>
+    /// tested first; index() of the error is that of the first one that has a fault.
+    template <class Pairs = std::initializer_list<std::pair<std::string_view, any_integer>>>
     static dictionary from_pairs(const Pairs &pairs, layout kind = layout::standard, bool ordered = true, std::int32_t max_trial = 1) {
         return built(kind == layout::reduced ? cedar_build_unsorted_reduced : cedar_build_unsorted, pairs, ordered, max_trial);
     }
 
-    /// Returns an equal dictionary, with the same order, settings and layout. Throws std::bad_alloc, and CEDAR_IS_CLOSED.
+    /// Returns an equal dictionary, with the same order, settings and layout.
     dictionary clone() const {
         const cedar_dictionary mine = inside_;
         dictionary copy{closed()};
@@ -286,41 +188,39 @@ public:
         return copy;
     }
 
-    /// Stores a value at a key, and replaces the value that the key holds, if any. Throws CEDAR_EMPTY_KEY, CEDAR_NUL_BYTE,
-    /// CEDAR_INVALID_VALUE, and, if the key isn't held, CEDAR_SLOT_LIMIT and std::bad_alloc.
-    void update(std::string_view key, std::int32_t value) {
+    /// Stores a value at a key, and replaces the value that the key holds, if any.
+    void update(std::string_view key, any_integer value) {
         std::size_t position = 0;
-        const std::uint32_t status = cedar_update(&inside_, detail::bytes(key), key.size(), value, &position);
+        const std::uint32_t status = cedar_update(&inside_, detail::bytes(key), key.size(), value.get(), &position);
         detail::check(status, position);
     }
 
     /// As update, and returns the value that the key held before, if it held one.
-    std::optional<std::int32_t> insert(std::string_view key, std::int32_t value) {
+    std::optional<std::int32_t> insert(std::string_view key, any_integer value) {
         std::size_t position = 0;
         std::int32_t before = 0;
         bool held = false;
-        const std::uint32_t status = cedar_insert(&inside_, detail::bytes(key), key.size(), value, &held, &before, &position);
+        const std::uint32_t status = cedar_insert(&inside_, detail::bytes(key), key.size(), value.get(), &held, &before, &position);
         detail::check(status, position);
         return held ? std::optional(before) : std::nullopt;
     }
 
     /// Stores the pairs of a range, which may be what from_sorted takes, in any order: the last value of a key counts. All are tested
-    /// first. If a pair has a fault, it throws as update does, and nothing is stored. After CEDAR_SLOT_LIMIT or std::bad_alloc the first of
-    /// the pairs, as many as there was room for, are stored.
-    template <class Pairs = std::initializer_list<std::pair<std::string_view, std::int32_t>>>
+    /// first. If a pair has a fault, it throws as update does, index() is that of the pair, and nothing is stored. After CEDAR_SLOT_LIMIT
+    /// or std::bad_alloc the first of the pairs, as many as there was room for, are stored.
+    template <class Pairs = std::initializer_list<std::pair<std::string_view, any_integer>>>
     void update_all(const Pairs &pairs) {
         const std::vector<cedar_pair> listed = detail::pairs_of(pairs);
         std::size_t position = 0;
         const std::uint32_t status = cedar_update_all(&inside_, listed.data(), listed.size(), &position);
-        detail::check(status, position);
+        detail::check_pairs(status, position, listed);
     }
 
     /// Removes a key, and returns whether it was held. Its slots are used again. It allocates nothing.
     bool erase(std::string_view key) noexcept { return cedar_erase(&inside_, detail::bytes(key), key.size()); }
 
     /// Removes the keys of a range, as of std::string_view, one after another, and returns how many of them were held. It is faster than as
-    /// many calls of erase if the dictionary is large and the keys come in no order. It allocates a list of the keys: throws
-    /// std::bad_alloc, and then nothing has changed.
+    /// many calls of erase if the dictionary is large and the keys come in no order. It allocates a list of the keys.
     template <class Keys = std::initializer_list<std::string_view>>
     std::size_t erase_all(const Keys &keys) {
         const std::vector<cedar_key> listed = detail::keys_of(keys);
@@ -340,7 +240,7 @@ public:
     void clear() noexcept { cedar_clear(&inside_); }
 
     /// Frees memory that growth and erasures have left unused: the keys are put into a new table, which replaces the present one unless it
-    /// has more slots. Throws CEDAR_IS_CLOSED, CEDAR_SLOT_LIMIT and std::bad_alloc; then nothing has changed.
+    /// has more slots.
     void shrink_to_fit() { detail::check(cedar_shrink(&inside_)); }
 
     /// Returns the value at a key, if it is held. It reads at most one slot for each byte of the key and one for the value, and allocates
@@ -386,13 +286,13 @@ public:
     }
 
     /// Allocates ahead for so many blocks of 256 slots more than are in use. Updates that take no more of them allocate nothing: an update
-    /// takes at most one for each byte of its key. Throws CEDAR_IS_CLOSED, CEDAR_SLOT_LIMIT and std::bad_alloc.
+    /// takes at most one for each byte of its key.
     void reserve(std::size_t blocks) { detail::check(cedar_reserve(&inside_, blocks)); }
 
     /// Returns the keys that are prefixes of a text, shortest first: for each its value, and its length in bytes. It goes along the text
-    /// once, or three times if there are 64 or more. Throws std::bad_alloc.
+    /// once, or if there are 64 or more about twice.
     std::vector<match> prefixes(std::string_view text) const {
-        return walked(cedar_prefixes_from, cedar_prefixes, text, unlimited);
+        return walked(cedar_prefixes_from, text, unlimited);
     }
 
     /// Returns the longest key that is a prefix of a text: its value, and its length in bytes. It allocates nothing.
@@ -404,38 +304,60 @@ public:
     }
 
     /// Returns the keys that begin with a text, in iteration order, at most `most` of them: for each its value, and how many bytes the
-    /// whole key has. It goes over them once, or three times if 64 or more are wanted. Throws std::bad_alloc.
+    /// whole key has. It goes over these once, or if they are 64 or more about twice, and over no others.
     std::vector<match> predictions(std::string_view text, std::size_t most = unlimited) const {
-        return walked(cedar_predictions_from, cedar_predictions, text, most);
+        return walked(cedar_predictions_from, text, most);
     }
 
-    /// Returns all keys with their values. It copies the keys, and 24 bytes more for each entry, in a few allocations. Throws
-    /// std::bad_alloc.
-    roskvidh::entries entries() const { return entries_with_prefix({}); }
-
-    /// Returns the keys that begin with a text, with their values. It goes over these keys only: once or three times to count them, and
-    /// once to copy them. Throws std::bad_alloc.
-    roskvidh::entries entries_with_prefix(std::string_view prefix) const {
-        roskvidh::entries range;
-        {
-            const std::vector<match> keys = predictions(prefix);
-            if (keys.empty()) return range;
-            std::size_t size = 0;
-            for (const match &one : keys) size += one.length;
-            range.keys_.resize(size);
-            range.found_.resize(keys.size());
-        }
+    /// Returns how many keys begin with a text. It goes over all of them, and allocates nothing.
+    std::size_t count_prefix(std::string_view prefix) const noexcept {
         const cedar_dictionary mine = inside_;
-        std::size_t count = 0;
-        detail::check(cedar_entries_from(&mine, detail::bytes(prefix), prefix.size(), detail::bytes({}), 0, range.found_.data(),
-                                         range.found_.size(), reinterpret_cast<std::uint8_t *>(range.keys_.data()), range.keys_.size(),
-                                         &count, nullptr));
-        return range;
+        match none{};
+        return cedar_predictions(&mine, detail::bytes(prefix), prefix.size(), &none, 0);
     }
+
+    /// Returns a range over all keys with their values. It takes them in pages while it is gone through: so the first few cost the same in
+    /// a dictionary of any size. cedar_entries.hpp says how long its keys stay, and what it shows if the dictionary changes meanwhile.
+    roskvidh::entries entries() const & { return entries_with_prefix({}); }
+    roskvidh::entries entries() const && = delete; // the range takes its pages from this very variable
+
+    /// The same of the keys that begin with a text: for completions.
+    roskvidh::entries entries_with_prefix(std::string_view prefix) const & {
+        return roskvidh::entries(detail::page::first({&inside_, std::string(prefix), std::nullopt}));
+    }
+    roskvidh::entries entries_with_prefix(std::string_view prefix) const && = delete;
+
+    /// The same of a key, whether it is held or not, and of the keys after it.
+    roskvidh::entries entries_from(std::string_view key) const & { return roskvidh::entries(first_behind(key, std::nullopt, true)); }
+    roskvidh::entries entries_from(std::string_view key) const && = delete;
+
+    /// The same of the keys from `from` on and before `to`.
+    roskvidh::entries range(std::string_view from, std::string_view to) const & {
+        return roskvidh::entries(first_behind(from, std::string(to), true));
+    }
+    roskvidh::entries range(std::string_view from, std::string_view to) const && = delete;
+
+    /// Goes through all entries: `for (const auto &[key, value] : d)`. Unlike a range, these iterators keep no page that they have left: a
+    /// key's bytes stay until the next step.
+    const_iterator begin() const { return const_iterator(detail::page::first({&inside_, {}, std::nullopt})); }
+    const_iterator end() const noexcept { return {}; }
+    const_iterator cbegin() const { return begin(); }
+    const_iterator cend() const noexcept { return {}; }
+
+    /// Returns an iterator that stands at a key, or end() if the key isn't held. get is cheaper where only the value is wanted.
+    const_iterator find(std::string_view key) const {
+        return const_iterator(detail::page::only({&inside_, {}, std::nullopt}, key));
+    }
+
+    /// Returns an iterator that stands at the first key that isn't below this one, or end().
+    const_iterator lower_bound(std::string_view key) const { return const_iterator(first_behind(key, std::nullopt, true)); }
+
+    /// Returns an iterator that stands at the first key above this one, or end(): the next key.
+    const_iterator upper_bound(std::string_view key) const { return const_iterator(first_behind(key, std::nullopt, false)); }
 
     /// Calls `callable(occurrence)` for each key in a text: place after place, and at each place the shortest first. If `callable` returns
     /// a bool, false ends the scan. Up to 256 keys are found ahead, so what `callable` stores or erases shows later or never. It allocates
-    /// only if more than 256 keys begin at one place. Throws what `callable` throws, and std::bad_alloc.
+    /// only if more than 256 keys begin at one place.
     template <class Callable>
     void scan(std::string_view text, Callable &&callable) const {
         told(cedar_scan, text, [&callable](const cedar_found &one) { return detail::tell(callable, one); });
@@ -459,8 +381,7 @@ public:
     /// Cuts a text into the tokens whose costs have the least sum: a key costs its value, and a byte without a key `unknown`. If
     /// `by_characters`, a byte that continues a character of UTF-8 costs nothing, so that an unknown character costs once; its bytes are
     /// still tokens of their own. Of cuts that cost the same it picks the one with the longer token where they first differ, and with a
-    /// key rather than a byte. While it runs, it allocates 32 bytes for each byte of the text, and lists of the tokens. Throws
-    /// std::bad_alloc and CEDAR_IS_CLOSED.
+    /// key rather than a byte. While it runs, it allocates 32 bytes for each byte of the text, and lists of the tokens.
     std::vector<token> cheapest(std::string_view text, std::uint32_t unknown, bool by_characters = false) const {
         const cedar_dictionary mine = inside_;
         std::vector<cedar_found> found(text.size() + 1); // so that data() isn't null
@@ -474,7 +395,7 @@ public:
         return tokens;
     }
 
-    /// Returns the bytes of the dictionary's file. Throws std::bad_alloc and CEDAR_IS_CLOSED.
+    /// Returns the bytes of the dictionary's file.
     std::vector<std::uint8_t> save(file_format version = file_format::v1_1) const {
         const cedar_dictionary mine = inside_;
         const bool is_full = version == file_format::v1_0;
@@ -488,8 +409,7 @@ public:
     }
 
     /// Returns the dictionary of a file's bytes, in the layout of the file. It allocates at most `memory_limit` bytes for its tables. The
-    /// bytes may be anything: if they aren't a well-formed table, it throws the first fault, one of CEDAR_FILE_TRUNCATED to
-    /// CEDAR_FILE_TRAILING. Also throws std::bad_alloc.
+    /// bytes may be anything: if they aren't a well-formed table, it throws the first fault.
     static dictionary load(const std::uint8_t *bytes, std::size_t length, std::size_t memory_limit = CEDAR_LOAD_LIMIT) {
         dictionary loaded{closed()};
         const std::uint8_t none = 0;
@@ -505,31 +425,32 @@ public:
 
     /// Replaces the file at a path with that of the dictionary, as cedar_replace_file of cedar.h says: a new file is written beside the
     /// old one, and takes its place once it is whole and on the disk. It has the old one's mode. A symbolic link at the path is replaced
-    /// by the file; a pipe or a device is written to directly. Throws std::system_error with the path if a call on a file failed,
-    /// std::bad_alloc and CEDAR_IS_CLOSED. After an error the old file is as it was, unless only the last step failed, to put the folder
-    /// on the disk.
+    /// by the file; a pipe or a device is written to directly. After an error the old
+    /// file is as it was, unless only the last step failed, to put the folder on the disk.
     void save_to_path(const std::string &path, file_format version = file_format::v1_1) const {
         const cedar_dictionary mine = inside_;
-        detail::check_file(cedar_save_file(&mine, version == file_format::v1_0, path.c_str()), path);
+        detail::check_file(cedar_save_file(&mine, version == file_format::v1_0, detail::path_of(path)), path);
     }
 
-    /// As load, for the file at a path, of which at most 89 bytes more than `memory_limit` are read into memory. Also throws
-    /// std::system_error with the path if a call on the file failed.
+    /// As load, for the file at a path, of which at most 89 bytes more than `memory_limit` are read into memory.
     static dictionary load_from_path(const std::string &path, std::size_t memory_limit = CEDAR_LOAD_LIMIT) {
         dictionary loaded{closed()};
-        detail::check_file(cedar_load_file(&loaded.inside_, path.c_str(), memory_limit), path);
+        detail::check_file(cedar_load_file(&loaded.inside_, detail::path_of(path), memory_limit), path);
         return loaded;
     }
 
 private:
     using walk_from = std::size_t (*)(const cedar_dictionary *, const std::uint8_t *, std::size_t, std::size_t *, cedar_match *, std::size_t);
-    using walk = std::size_t (*)(const cedar_dictionary *, const std::uint8_t *, std::size_t, cedar_match *, std::size_t);
     using text_walk = std::size_t (*)(const cedar_dictionary *, const std::uint8_t *, std::size_t, std::size_t *, cedar_found *, std::size_t);
 
     using build = std::uint32_t (*)(cedar_dictionary *, bool, std::int32_t, const cedar_pair *, std::size_t, std::size_t *);
 
     struct closed {};
     explicit dictionary(closed) noexcept {}
+
+    std::shared_ptr<detail::page> first_behind(std::string_view key, std::optional<std::string> end, bool is_within) const {
+        return detail::page::since({&inside_, {}, std::move(end)}, key, is_within);
+    }
 
     // What a build makes of the pairs of a range.
     template <class Pairs>
@@ -538,24 +459,21 @@ private:
         dictionary made{closed()};
         std::size_t position = 0;
         const std::uint32_t status = call(&made.inside_, ordered, max_trial, listed.data(), listed.size(), &position);
-        detail::check(status, position);
+        detail::check_pairs(status, position, listed);
         return made;
     }
 
-    // The first answers of a walk: a few at once, and where there are more, all that are wanted in a second walk.
-    std::vector<match> walked(walk_from some, walk all, std::string_view text, std::size_t most) const {
+    // The first answers of a walk, as far as they are wanted, in pieces that double: each goes past those before it again.
+    std::vector<match> walked(walk_from call, std::string_view text, std::size_t most) const {
         const cedar_dictionary mine = inside_;
-        std::size_t room = std::min<std::size_t>(most, 64);
-        std::vector<match> found(room + 1); // so that data() isn't null
+        std::vector<match> found;
         std::size_t next = 0;
-        std::size_t count = some(&mine, detail::bytes(text), text.size(), &next, found.data(), room);
-        if (count == room && room < most) {
-            room = std::min(most, all(&mine, detail::bytes(text), text.size(), found.data(), 0));
-            found.resize(room + 1);
-            next = 0;
-            count = some(&mine, detail::bytes(text), text.size(), &next, found.data(), room);
+        for (std::size_t room = std::min<std::size_t>(most, 64);; room = std::min(most, 2 * room)) {
+            found.resize(room + 1); // so that data() isn't null
+            call(&mine, detail::bytes(text), text.size(), &next, found.data() + next, room - next);
+            if (next < room || room == most) break;
         }
-        found.resize(count);
+        found.resize(next);
         return found;
     }
 
@@ -589,19 +507,7 @@ private:
 /// A change of a batch: a value is put at a key, or without a value the key is removed.
 struct change {
     std::string_view key;
-    std::optional<std::int32_t> value;
-};
-
-/// A batch that was refused since one of its changes has a fault.
-class batch_error : public error {
-public:
-    batch_error(std::uint32_t status, std::optional<std::size_t> position, std::size_t index) : error(status, position), index_(index) {}
-
-    /// The index of the change.
-    std::size_t index() const noexcept { return index_; }
-
-private:
-    std::size_t index_;
+    std::optional<any_integer> value;
 };
 
 /// How a store is opened: a missing file is created; it has to be there; it has to be missing; or only to look at the store, beside
@@ -614,11 +520,10 @@ enum class opening { created, existing, fresh, to_read };
 /// copied. One that was moved from is closed: changes throw the error CEDAR_IS_CLOSED.
 class store {
 public:
-    /// Opens the file, and makes its changes again. Throws CEDAR_STORE_LOCKED if the store is open already, in another program or in this
-    /// one; CEDAR_STORE_FOREIGN, CEDAR_STORE_CORRUPT, CEDAR_STORE_DAMAGED, CEDAR_SLOT_LIMIT, std::bad_alloc, and std::system_error if a
-    /// call on the file failed, with ENOENT or EEXIST for a file that has to be there, or has to be missing.
+    /// Opens the file, and makes its changes again. CEDAR_STORE_LOCKED says that the store is open already, in another program or in this
+    /// one. A file that has to be there and isn't throws ENOENT, and one that has to be missing EEXIST.
     explicit store(const std::string &path, layout kind = layout::standard, opening how = opening::created) {
-        const std::uint32_t status = cedar_store_open_with(&inside_, path.c_str(), bits_of(kind, how));
+        const std::uint32_t status = cedar_store_open_with(&inside_, detail::path_of(path), bits_of(kind, how));
         if (status == CEDAR_STORE_DEVICE) detail::throw_file_error(errno, path);
         check(status, cedar_store_damaged_at(&inside_));
     }
@@ -645,7 +550,7 @@ public:
     friend void swap(store &one, store &other) noexcept { one.swap(other); }
 
     /// Returns the path of the file that keeps what the opening cut off, if whole records may be in that: cedar_store_kept in cedar.h says
-    /// when and how. Throws std::bad_alloc.
+    /// when and how.
     std::optional<std::string> kept() const {
         const char *path = cedar_store_kept(&inside_);
         return path == nullptr ? std::nullopt : std::optional<std::string>(path);
@@ -654,24 +559,22 @@ public:
     /// Returns the dictionary, for all const members. It is valid as long as the store.
     const dictionary &words() const noexcept { return words_; }
 
-    /// Stores a value at a key, and replaces the value that the key holds, if any. Throws CEDAR_EMPTY_KEY, CEDAR_NUL_BYTE,
-    /// CEDAR_INVALID_VALUE, CEDAR_SLOT_LIMIT, CEDAR_STORE_TOO_LONG, CEDAR_STORE_FULL and std::bad_alloc; then nothing has changed. Throws
-    /// std::system_error if a call on the file failed: the dictionary has the change, and the file has it or not. From then on it throws
-    /// CEDAR_STORE_FAILED (also failed() says so; if it doesn't, there was no room, and nothing has changed: see cedar.h), until compact()
-    /// has written all to a new file. If the store was opened to read, it throws CEDAR_STORE_READ_ONLY.
-    void update(std::string_view key, std::int32_t value) { insert(key, value); }
+    /// Stores a value at a key, and replaces the value that the key holds, if any. After a std::system_error, if failed() is true then, the
+    /// dictionary has the change, and the file has it or not: from then on changes throw CEDAR_STORE_FAILED, until compact() has written
+    /// all to a new file. If it isn't, there was no room, and nothing has changed (cedar.h). Nor has it after any other error.
+    void update(std::string_view key, any_integer value) { insert(key, value); }
 
     /// As update, and returns the value that the key held before, if it held one.
-    std::optional<std::int32_t> insert(std::string_view key, std::int32_t value) {
+    std::optional<std::int32_t> insert(std::string_view key, any_integer value) {
         std::size_t position = 0;
         std::int32_t before = 0;
         bool held = false;
-        const std::uint32_t status = cedar_store_insert(&inside_, detail::bytes(key), key.size(), value, &held, &before, &position);
+        const std::uint32_t status = cedar_store_insert(&inside_, detail::bytes(key), key.size(), value.get(), &held, &before, &position);
         check(status, position);
         return held ? std::optional(before) : std::nullopt;
     }
 
-    /// Removes a key, and returns whether it was held. Throws as update does, except that no pair has a fault.
+    /// Removes a key, and returns whether it was held.
     bool erase(std::string_view key) {
         bool held = false;
         check(cedar_store_erase(&inside_, detail::bytes(key), key.size(), &held), 0);
@@ -679,39 +582,38 @@ public:
     }
 
     /// Makes changes as one: all of them, or none. To drop them, don't make this call. Of each key the last change counts. They are on the
-    /// disk when it returns, whatever sync_every says, and a crash at any moment leaves all of them or none. If a pair has a fault, it
-    /// throws batch_error. Otherwise it throws as update does.
+    /// disk when it returns, whatever sync_every says, and a crash at any moment leaves all of them or none. After a
+    /// fault index() of the error is that of the change.
     void apply(const std::vector<change> &changes) {
         std::vector<cedar_change> listed;
         listed.reserve(changes.size() + 1); // so that data() isn't null
-        for (const change &one : changes) listed.push_back({detail::bytes(one.key), one.key.size(), one.value.value_or(0), !one.value});
+        for (const change &one : changes) {
+            listed.push_back({detail::bytes(one.key), one.key.size(), one.value ? one.value->get() : 0, !one.value});
+        }
         std::size_t refused = 0, position = 0;
         const std::uint32_t status = cedar_store_apply(&inside_, listed.data(), listed.size(), &refused, &position);
-        if (status == CEDAR_NUL_BYTE) throw batch_error(status, position, refused);
-        if (status == CEDAR_EMPTY_KEY || status == CEDAR_INVALID_VALUE) throw batch_error(status, std::nullopt, refused);
+        if (detail::is_fault(status)) detail::check(status, position, refused);
         check(status, 0);
     }
 
     /// Sets how many changes go to the disk together from now on. With 1, the setting at first, each is there before it returns. With more,
     /// a change that has returned waits until as many do, and with 0 until sync(). A crash takes away those that wait, all of them or none,
-    /// and no others. It puts those that wait now on the disk. Throws as sync() does.
+    /// and no others. It puts those that wait now on the disk.
     void sync_every(std::size_t changes) { check(cedar_store_sync_every(&inside_, changes), 0); }
 
-    /// Puts the changes that wait on the disk as one. Throws std::system_error if a call on the file failed, CEDAR_STORE_FAILED and
-    /// CEDAR_IS_CLOSED. The destructor puts them there too, and reports no error.
+    /// Puts the changes that wait on the disk as one. The destructor puts them there too, and reports no error.
     void sync() { check(cedar_store_sync(&inside_), 0); }
 
     /// Returns how many changes wait.
     std::size_t waiting() const noexcept { return cedar_store_waiting(&inside_); }
 
     /// Replaces the file by one that has the entries alone. A store that has failed in a change goes on then, with all that the dictionary
-    /// has. cedar.h says how it is done. Throws std::system_error: if failed() isn't true then, or was true before, the old file is there
-    /// and the store is as it was; otherwise the new file couldn't be given the name, and the store has failed for good. Also throws
-    /// std::bad_alloc, CEDAR_IS_CLOSED, CEDAR_STORE_READ_ONLY and CEDAR_STORE_FAILED.
+    /// has. cedar.h says how it is done. After a std::system_error, if failed() isn't true then, or was true before, the old file is
+    /// there and the store is as it was; otherwise the new file couldn't be given the name, and the store has failed for good.
     void compact() { check(cedar_store_compact(&inside_), 0); }
 
     /// Sets when changes compact the file by themselves, last: if it has more than factor times the bytes that it would have behind a
-    /// compaction, and `spare` bytes more. At first these are 2 and 65536; with a factor of 0 no change does it. Throws CEDAR_IS_CLOSED.
+    /// compaction, and `spare` bytes more. At first these are 2 and 65536; with a factor of 0 no change does it.
     void compact_beyond(std::size_t factor, std::size_t spare) { check(cedar_store_compact_beyond(&inside_, factor, spare), 0); }
 
     /// Returns the status of the last compaction since the store was opened, called or by itself. CEDAR_OK if there was none.
@@ -720,8 +622,7 @@ public:
     /// Returns how many bytes the file has, without changes that wait.
     std::size_t file_size() const noexcept { return cedar_store_file_len(&inside_); }
 
-    /// Returns how many bytes the file would have behind a compaction. It takes the time of all entries. Throws std::bad_alloc and
-    /// CEDAR_IS_CLOSED.
+    /// Returns how many bytes the file would have behind a compaction. It takes the time of all entries.
     std::size_t compacted_size() const {
         std::size_t length = 0;
         detail::check(cedar_store_compacted_len(&inside_, &length));

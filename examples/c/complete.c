@@ -1,29 +1,36 @@
-/* Completes the beginnings of words: complete WORDS BEGINNING.. prints the words of a file that begin with each, with their numbers.
- * Each line of the file is a word of at most 99 bytes, a tab, and a number. What the dictionary holds is each word's place in a list. */
+/* Completes the beginnings of words: complete WORDS BEGINNING.. prints the first ten words of a file that begin with each, with their
+ * numbers, and a line `..` if there are more. Each line of the file is a word of at most 99 bytes, a tab, and a number. */
 #include "cedar.h"
+#include <inttypes.h>
 #include <stdio.h>
 #include <string.h>
 
-enum { MOST_WORDS = 100000, MOST_SHOWN = 10 };
-
-static struct { char text[100]; int number; } words[MOST_WORDS];
+enum { MOST_SHOWN = 10, WORD_ROOM = 100 };
 
 static const uint8_t *bytes_of(const char *text) { return (const uint8_t *)text; }
 
 static uint32_t read_words(cedar *d, FILE *file) {
+    char word[WORD_ROOM];
+    int32_t number;
     uint32_t status = cedar_new(d);
-    size_t position;
-    for (int32_t i = 0; status == CEDAR_OK && i < MOST_WORDS && fscanf(file, " %99[^\t\n] %d", words[i].text, &words[i].number) == 2; i++) {
-        status = cedar_update(d, bytes_of(words[i].text), strlen(words[i].text), i, &position);
+    while (status == CEDAR_OK && fscanf(file, " %99[^\t\n] %" SCNd32, word, &number) == 2) {
+        status = cedar_update(d, bytes_of(word), strlen(word), number, NULL);
     }
     return status;
 }
 
-static void complete(cedar *d, const char *beginning) {
-    cedar_match found[MOST_SHOWN] = {{0, 0}};
-    size_t count = cedar_predictions(d, bytes_of(beginning), strlen(beginning), found, MOST_SHOWN);
-    printf("%s: %zu\n", beginning, count);
-    for (size_t i = 0; i < count && i < MOST_SHOWN; i++) printf("  %s %d\n", words[found[i].value].text, words[found[i].value].number);
+/* A page costs what it has, however many words there are. One place more than is shown tells whether there are more. */
+static void complete(const cedar *d, const char *beginning) {
+    cedar_found found[MOST_SHOWN + 1];
+    uint8_t keys[(MOST_SHOWN + 1) * WORD_ROOM];
+    size_t count = 0;
+    printf("%s:\n", beginning);
+    uint32_t status = cedar_entries_from(d, bytes_of(beginning), strlen(beginning), NULL, 0, found, MOST_SHOWN + 1, keys, sizeof keys,
+                                         &count, NULL);
+    for (size_t i = 0; status == CEDAR_OK && i < count && i < MOST_SHOWN; i++) {
+        printf("  %.*s %" PRId32 "\n", (int)found[i].length, (const char *)keys + found[i].place, found[i].value);
+    }
+    if (count > MOST_SHOWN) printf("  ..\n");
 }
 
 int main(int count, char **arguments) {

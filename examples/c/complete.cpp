@@ -1,5 +1,5 @@
-// Completes the beginnings of words: complete WORDS BEGINNING.. prints the words of a file that begin with each, with their numbers.
-// Each line of the file is a word, a tab, and a number.
+// Completes the beginnings of words: complete WORDS BEGINNING.. prints the first ten words of a file that begin with each, with their
+// numbers, and a line `..` if there are more. Each line of the file is a word, a tab, and a number.
 #include "cedar.hpp"
 #include <exception>
 #include <fstream>
@@ -16,9 +16,15 @@ static roskvidh::dictionary words_of(const std::string &path) {
     return words;
 }
 
+// A range costs what is gone through, however many words there are.
 static void complete(const roskvidh::dictionary &words, const std::string &beginning) {
-    std::cout << beginning << ": " << words.predictions(beginning).size() << '\n';
+    int left = 10;
+    std::cout << beginning << ":\n";
     for (const auto &[word, number] : words.entries_with_prefix(beginning)) {
+        if (left-- == 0) {
+            std::cout << "  ..\n";
+            break;
+        }
         std::cout << "  " << word << ' ' << number << '\n';
     }
 }

@@ -1,7 +1,8 @@
 """Builds the package without any other: compiles src/*.c, links the library for C, and packs a wheel (PEP 517).
 
-The library's folder has libcedar.a and cedar.h. It is CEDAR_LIBRARY_FOLDER, or else where ./build-c puts it. CC is the C compiler, and
-CFLAGS are put behind the flags that stand here.
+The library is looked for in this order: in the folder CEDAR_LIBRARY_FOLDER, which has libcedar.a and cedar.h, as ./build-c fills one; under
+the prefix ROSKVIDH_PREFIX, where it was installed; where ./build-c puts it in the repository; and under /usr/local and /usr. CC is the C
+compiler, and CFLAGS are put behind the flags that stand here.
 """
 
 import base64
@@ -24,17 +25,54 @@ LIBRARY = HERE.parent / "crates" / "cedar_c" / "out" / "c"
 PACKAGE = "roskvidh"
 EXTENSION = "_core.abi3.so"
 FLAGS = "-std=c11 -O2 -fPIC -shared -fvisibility=hidden -Wall -Wextra -Wno-cast-function-type -DPy_LIMITED_API=0x03080000".split()
+PREFIXES = ("/usr/local", "/usr")
 # What pip and a user see of a failed build is its text alone.
-MISSING = "{folder} has no {name}: run ./build-c in the repository first, or set CEDAR_LIBRARY_FOLDER to the folder that it filled"
+MISSING = (
+    "{place} has no {name}: run ./build-c in the repository first, or set ROSKVIDH_PREFIX to the prefix that it was installed to, "
+    "or CEDAR_LIBRARY_FOLDER to the folder that it filled"
+)
 
 
-def library_folder():
-    """Returns the folder of the library for C, or ends with a line that says what to do."""
-    folder = Path(os.environ.get("CEDAR_LIBRARY_FOLDER") or LIBRARY)
-    for name in ("libcedar.a", "cedar.h"):
-        if not (folder / name).is_file():
-            raise SystemExit("roskvidh: " + MISSING.format(folder=folder, name=name))
-    return folder
+class Library:
+    """The library for C: a folder for -I, and an archive."""
+
+    def __init__(self, headers, archive):
+        self.headers, self.archive = headers, archive
+
+    @classmethod
+    def built(cls, folder):
+        """As ./build-c fills a folder."""
+        return cls(folder, folder / "libcedar.a")
+
+    @classmethod
+    def installed(cls, prefix):
+        """As ./build-c --install puts it under a prefix."""
+        return cls(prefix / "include" / PACKAGE, prefix / "lib" / f"lib{PACKAGE}.a")
+
+    def lacks(self):
+        """Returns the first of its files that isn't there, or None."""
+        return next((path for path in (self.archive, self.headers / "cedar.h") if not path.is_file()), None)
+
+    def version(self):
+        found = re.search(r'^#define CEDAR_VERSION "(.*)"$', (self.headers / "cedar.h").read_text(), re.M)
+        return found.group(1) if found else "unknown"
+
+
+def library():
+    """Returns the library, or ends with a line that says what to do."""
+    if os.environ.get("CEDAR_LIBRARY_FOLDER"):
+        found = Library.built(Path(os.environ["CEDAR_LIBRARY_FOLDER"]))
+    elif os.environ.get("ROSKVIDH_PREFIX"):
+        found = Library.installed(Path(os.environ["ROSKVIDH_PREFIX"]))
+    else:
+        tries = [Library.built(LIBRARY), *(Library.installed(Path(prefix)) for prefix in PREFIXES)]
+        found = next((made for made in tries if not made.lacks()), tries[0])
+    lacking = found.lacks()
+    if lacking:
+        raise SystemExit("roskvidh: " + MISSING.format(place=lacking.parent, name=lacking.name))
+    if found.version() != version():
+        raise SystemExit(f"roskvidh: {found.headers / 'cedar.h'} is of version {found.version()}, and the package of {version()}")
+    return found
 
 
 def compiler():
@@ -49,14 +87,14 @@ def compile_extension(into):
     """Compiles the extension to a file."""
     if sysconfig.get_config_var("Py_GIL_DISABLED"):
         raise SystemExit("roskvidh: this Python has no interpreter's lock, which the extension relies on: take a usual build of Python")
-    folder = library_folder()
+    made = library()
     headers = Path(sysconfig.get_path("include"))
     if not (headers / "Python.h").is_file():
         raise SystemExit(f"roskvidh: {headers} has no Python.h: install the headers of this Python (python3-dev)")
     sources = sorted(map(str, (HERE / "src").glob("*.c")))
-    command = [*compiler(), *FLAGS, *shlex.split(os.environ.get("CFLAGS", "")), f"-I{headers}", f"-I{folder}", *sources]
+    command = [*compiler(), *FLAGS, *shlex.split(os.environ.get("CFLAGS", "")), f"-I{headers}", f"-I{made.headers}", *sources]
     # The library's own names stay within the extension, so that another copy in the process doesn't meet it.
-    command += [str(folder / "libcedar.a"), "-Wl,--exclude-libs,ALL", "-o", str(into)]
+    command += [str(made.archive), "-Wl,--exclude-libs,ALL", "-o", str(into)]
     done = subprocess.run(command, stderr=subprocess.PIPE, text=True)
     if done.returncode != 0:
         raise SystemExit(f"roskvidh: the compiler failed\n{shlex.join(command)}\n{done.stderr}")
@@ -74,7 +112,9 @@ def version():
 def metadata():
     return (
         f"Metadata-Version: 2.1\nName: {PACKAGE}\nVersion: {version()}\nSummary: {project('description')}\n"
-        f"License: BSD-2-Clause\nRequires-Python: {project('requires-python')}\nDescription-Content-Type: text/markdown\n\n"
+        "License: BSD-2-Clause\nClassifier: Operating System :: POSIX :: Linux\n"
+        "Classifier: Programming Language :: Python :: Implementation :: CPython\nClassifier: Typing :: Typed\n"
+        f"Requires-Python: {project('requires-python')}\nDescription-Content-Type: text/markdown\n\n"
         + (HERE / "README.md").read_text()
     )
 
@@ -84,13 +124,20 @@ def licence():
     return next(path for path in (HERE / "LICENSE", HERE.parent / "LICENSE") if path.is_file())
 
 
-def tag():
+def tag(extension):
+    """Returns what a wheel with an extension runs on: the processor, CPython from 3.8 on, and the oldest glibc that has what it calls, so
+    that pip doesn't install it where it can't be loaded."""
     platform = re.sub(r"[^0-9a-zA-Z]", "_", sysconfig.get_platform())
+    needed = [tuple(map(int, found)) for found in re.findall(rb"GLIBC_(\d+)\.(\d+)", extension)]
+    if needed and platform.startswith("linux_"):
+        # pip knows such names from glibc 2.5 on.
+        major, minor = max([*needed, (2, 5)])
+        platform = f"manylinux_{major}_{minor}_{platform[len('linux_'):]}"
     return f"cp38-abi3-{platform}"
 
 
-def wheel_text():
-    return f"Wheel-Version: 1.0\nGenerator: roskvidh_build\nRoot-Is-Purelib: false\nTag: {tag()}\n"
+def wheel_text(built_tag):
+    return f"Wheel-Version: 1.0\nGenerator: roskvidh_build\nRoot-Is-Purelib: false\nTag: {built_tag}\n"
 
 
 def python_files():
@@ -98,10 +145,12 @@ def python_files():
 
 
 class Wheel:
-    """A wheel that is being written: a zip with a list of its files and their hashes."""
+    """A wheel that is being written in a folder: a zip with a list of its files and their hashes."""
 
-    def __init__(self, path):
-        self.zip = zipfile.ZipFile(path, "w", zipfile.ZIP_DEFLATED)
+    def __init__(self, folder, extension):
+        self.tag = tag(extension)
+        self.name = f"{PACKAGE}-{version()}-{self.tag}.whl"
+        self.zip = zipfile.ZipFile(Path(folder) / self.name, "w", zipfile.ZIP_DEFLATED)
         self.record = []
         self.info = f"{PACKAGE}-{version()}.dist-info"
 
@@ -116,46 +165,37 @@ class Wheel:
 
     def close(self):
         self.add(f"{self.info}/METADATA", metadata().encode())
-        self.add(f"{self.info}/WHEEL", wheel_text().encode())
+        self.add(f"{self.info}/WHEEL", wheel_text(self.tag).encode())
         self.add(f"{self.info}/LICENSE", licence().read_bytes())
         self.record.append(f"{self.info}/RECORD,,")
         self.zip.writestr(f"{self.info}/RECORD", "\n".join(self.record) + "\n")
         self.zip.close()
 
 
-def prepare_metadata_for_build_wheel(metadata_directory, config_settings=None):
-    info = Path(metadata_directory) / f"{PACKAGE}-{version()}.dist-info"
-    info.mkdir()
-    (info / "METADATA").write_text(metadata())
-    (info / "WHEEL").write_text(wheel_text())
-    return info.name
-
-
 def build_wheel(wheel_directory, config_settings=None, metadata_directory=None):
-    name = f"{PACKAGE}-{version()}-{tag()}.whl"
     with tempfile.TemporaryDirectory() as folder:
-        extension = Path(folder) / EXTENSION
-        compile_extension(extension)
-        wheel = Wheel(Path(wheel_directory) / name)
-        for path in python_files():
-            wheel.add(f"{PACKAGE}/{path.name}", path.read_bytes())
-        wheel.add(f"{PACKAGE}/{EXTENSION}", extension.read_bytes())
-        wheel.close()
-    return name
+        path = Path(folder) / EXTENSION
+        compile_extension(path)
+        extension = path.read_bytes()
+    wheel = Wheel(wheel_directory, extension)
+    for path in python_files():
+        wheel.add(f"{PACKAGE}/{path.name}", path.read_bytes())
+    wheel.add(f"{PACKAGE}/{EXTENSION}", extension)
+    wheel.close()
+    return wheel.name
 
 
 def build_editable(wheel_directory, config_settings=None, metadata_directory=None):
     """Compiles the extension in its place, and makes a wheel that points here."""
-    name = f"{PACKAGE}-{version()}-{tag()}.whl"
     compile_extension(HERE / PACKAGE / EXTENSION)
-    wheel = Wheel(Path(wheel_directory) / name)
+    wheel = Wheel(wheel_directory, (HERE / PACKAGE / EXTENSION).read_bytes())
     wheel.add(f"{PACKAGE}.pth", f"{HERE}\n".encode())
     wheel.close()
-    return name
+    return wheel.name
 
 
 def build_sdist(sdist_directory, config_settings=None):
-    """Packs the sources. The library for C isn't among them: CEDAR_LIBRARY_FOLDER has to say where it is."""
+    """Packs the sources. The library for C isn't among them: ROSKVIDH_PREFIX or CEDAR_LIBRARY_FOLDER says where it is."""
     base = f"{PACKAGE}-{version()}"
     with tarfile.open(Path(sdist_directory) / f"{base}.tar.gz", "w:gz", format=tarfile.PAX_FORMAT) as archive:
         for part in ("pyproject.toml", "README.md", "backend/roskvidh_build.py", *(f"src/{path.name}" for path in sorted((HERE / "src").iterdir()))):

@@ -21,8 +21,9 @@ except ImportError as error:
     ) from error
 
 from .cedar import Cedar
+from .maps import CedarMap, Found
 from .store import Store
 from .words import Stats
 
 __version__ = "0.1.0"
-__all__ = ["LOAD_LIMIT", "MAX_VALUE", "MIN_VALUE", "Cedar", "CedarError", "Match", "Matches", "Stats", "Store"]
+__all__ = ["LOAD_LIMIT", "MAX_VALUE", "MIN_VALUE", "Cedar", "CedarError", "CedarMap", "Found", "Match", "Matches", "Stats", "Store"]

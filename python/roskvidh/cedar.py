@@ -20,7 +20,8 @@ class Cedar(Words[K]):
     `pairs` is a mapping or an iterable of pairs; the last value of a key counts. Iteration gives the keys ascending by bytes, unless
     `ordered=False`. `reduced=True` takes fewer slots. After `max_trial` failed searches for a place a block of slots is closed.
 
-    It takes a lock for each call, so threads may share it. Calls on long texts, saves and calls of many keys let other threads run.
+    Threads may share it: calls that read go side by side, and one that changes it has it for itself. Calls that take longer than some
+    milliseconds let other threads run.
 
     >>> d = Cedar({b"net": 7, b"nets": 8})
     >>> d[b"ten"] = 9
@@ -129,7 +130,7 @@ class Cedar(Words[K]):
     def update(self, pairs: Pairs[K] = (), /, **keywords: int) -> None:  # type: ignore[override]
         """Stores the pairs of a mapping or of an iterable: the last value of a key counts.
 
-        If a pair has a fault, nothing is stored. If memory runs out, the pairs before that are stored.
+        If a pair has a fault, nothing is stored. If memory runs out, or a signal ends the call, the pairs before that are stored.
 
         >>> d = Cedar(text=True)
         >>> d.update({"net": 7}, ten=9)
@@ -139,13 +140,13 @@ class Cedar(Words[K]):
         self._update(chain(_pairs_of(pairs), keywords.items()) if keywords else _pairs_of(pairs))
 
     def copy(self: Self) -> Self:
-        """Returns an equal dictionary, with the same settings.
+        """Returns an equal dictionary, with the same settings. It is of one state, whatever other threads change meanwhile.
 
         >>> d = Cedar({b"net": 7})
         >>> d.copy() == d
         True
         """
-        return _restore(type(self), self.text, self.to_bytes())
+        return _copied(type(self), self)
 
     def __repr__(self) -> str:
         return self._shown("", [("text", False), ("ordered", True), ("reduced", False), ("max_trial", 1)])
@@ -165,6 +166,12 @@ class Cedar(Words[K]):
         self.update(other)
         return self
 
+    def __copy__(self: Self) -> Self:
+        made = self.copy()
+        if hasattr(self, "__dict__"):
+            made.__dict__.update(self.__dict__)
+        return made
+
     def __reduce__(self) -> Tuple[Any, ...]:
         return _restore, (type(self), self.text, self.to_bytes()), getattr(self, "__dict__", None) or None
 
@@ -173,6 +180,13 @@ def _restore(cls: Type[Self], text: bool, data: bytes, memory_limit: int = sys.m
     """Returns the dictionary of a file's bytes; pickles call it by this name."""
     made = cls.__new__(cls)
     made._load(text, data, memory_limit)
+    return made
+
+
+def _copied(cls: Type[Self], given: _core.Core[Any]) -> Self:
+    """Returns a dictionary of a class that is equal to another one, or to what a store holds."""
+    made = cls.__new__(cls)
+    made._open_copy(given)
     return made
 
 

@@ -5,7 +5,7 @@ from contextlib import contextmanager
 from typing import Any, Iterable, Iterator, Literal, Optional, Tuple, TypeVar, Union, overload
 
 from . import _core
-from .cedar import Cedar, Pairs, _pairs_of, _restore
+from .cedar import Cedar, Pairs, _copied, _pairs_of
 from .words import Words
 
 K = TypeVar("K", bytes, str)
@@ -233,7 +233,7 @@ class Store(Words[K]):
 
     def copy(self) -> "Cedar[K]":
         """Returns an equal Cedar, without a file."""
-        return _restore(Cedar, self.text, self.to_bytes())
+        return _copied(Cedar, self)
 
     def __repr__(self) -> str:
         return self._shown(repr(self.path), [("text", False), ("reduced", False)])

@@ -65,4 +65,4 @@ class Items(_View[K], ItemsView[K, int]):
         if not (isinstance(item, tuple) and len(item) == 2):
             return False
         key, value = item  # type: Tuple[Any, Any]
-        return self._mapping.get(key) == value and value is not None and self._has_prefix(key)
+        return key in self._mapping and self._mapping.get(key) == value and value is not None and self._has_prefix(key)

@@ -1,6 +1,8 @@
 /* Python's objects as C takes them, and back. */
 #include "core.h"
 
+#include <string.h>
+
 PyObject *cedar_error;
 
 enum { STATUS_ROOM = 256 };
@@ -44,6 +46,26 @@ int fail_at(uint32_t status, const char *what, size_t position) {
     return raise_status(status, whole);
 }
 
+/* Whether a key can be stored. Its fault is raised as C would name it. */
+int key_test(const Span *key) {
+    const uint8_t *nul = key->length == 0 ? NULL : memchr(key->at, 0, key->length);
+    if (key->length == 0) return fail_with(CEDAR_EMPTY_KEY);
+    return nul ? fail_at(CEDAR_NUL_BYTE, "byte", (size_t)(nul - key->at)) : 0;
+}
+
+/* Says in the text of a TypeError or a CedarError that is being raised which item of a list has the fault. */
+void name_item(const char *what, size_t position) {
+    PyObject *type, *error, *trace;
+    if (!PyErr_ExceptionMatches(PyExc_TypeError) && !PyErr_ExceptionMatches(cedar_error)) return;
+    PyErr_Fetch(&type, &error, &trace);
+    PyErr_NormalizeException(&type, &error, &trace);
+    PyObject *text = PyUnicode_FromFormat("%s %zu: %S", what, position, error), *all = text ? PyTuple_Pack(1, text) : NULL;
+    if (!all || PyObject_SetAttrString(error, "args", all) < 0) PyErr_Clear();
+    Py_XDECREF(text);
+    Py_XDECREF(all);
+    PyErr_Restore(type, error, trace);
+}
+
 /* Raises a TypeError: what is taken, and the name of the type that isn't. */
 static void fail_type(const char *taken, PyObject *given) {
     PyObject *name = PyObject_GetAttrString((PyObject *)Py_TYPE(given), "__name__");
@@ -51,8 +73,22 @@ static void fail_type(const char *taken, PyObject *given) {
     Py_XDECREF(name);
 }
 
+/* Says in a UnicodeEncodeError that is being raised what it is about. */
+static void name_surrogate(void) {
+    PyObject *type, *error, *trace;
+    if (!PyErr_ExceptionMatches(PyExc_UnicodeEncodeError)) return;
+    PyErr_Fetch(&type, &error, &trace);
+    PyErr_NormalizeException(&type, &error, &trace);
+    if (PyUnicodeEncodeError_SetReason(error, "keys and texts are stored as UTF-8, which has no lone surrogates") < 0) PyErr_Clear();
+    PyErr_Restore(type, error, trace);
+}
+
 static PyObject *text_as_bytes(PyObject *given) {
-    if (PyUnicode_Check(given)) return PyUnicode_AsUTF8String(given);
+    if (PyUnicode_Check(given)) {
+        PyObject *bytes = PyUnicode_AsUTF8String(given);
+        if (!bytes) name_surrogate();
+        return bytes;
+    }
     fail_type("a dictionary with text=True takes str", given);
     return NULL;
 }
@@ -80,6 +116,12 @@ int span_take(Core *core, PyObject *given, Span *span) {
     span->at = (const uint8_t *)at;
     span->length = (size_t)length;
     return 0;
+}
+
+/* Whether an object is of a type that keys have. */
+bool is_key_type(const Core *core, PyObject *given) {
+    if (core->is_text) return PyUnicode_Check(given);
+    return PyBytes_Check(given) || PyByteArray_Check(given) || PyMemoryView_Check(given);
 }
 
 /* A whole number, or -1 for one that is too long. A bool or a float is an error of the caller's. */

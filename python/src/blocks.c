@@ -52,9 +52,7 @@ static int note(Core *core, const uint8_t *at, size_t length, PyObject *value) {
 
 /* Notes a value at a key in this thread's innermost block. The key's faults are told at once. */
 int block_put(Core *core, const Span *span, int32_t value) {
-    const uint8_t *nul = span->length == 0 ? NULL : memchr(span->at, 0, span->length);
-    if (span->length == 0) return fail_with(CEDAR_EMPTY_KEY);
-    if (nul) return fail_at(CEDAR_NUL_BYTE, "byte", (size_t)(nul - span->at));
+    if (key_test(span) < 0) return -1;
     PyObject *number = PyLong_FromLong(value);
     int done = note(core, span->at, span->length, number);
     Py_XDECREF(number);
@@ -131,18 +129,20 @@ static int apply(Core *core, PyObject *layer) {
     if (PyDict_Size(layer) == 0) return 0;
     cedar_change *changes = changes_of(layer, &count);
     if (!changes) return -1;
-    if (turn_begin(core, true, &turn) < 0) {
+    if (turn_begin(core, CHANGES, true, &turn) < 0) {
         free(changes);
         return -1;
     }
+    turn_yield(&turn);
     uint32_t status = cedar_store_apply(&core->store, changes, count, NULL, NULL);
     int cause = errno;
     turn_end(&turn);
+    for (size_t i = 0; i < count; i++) note_length(core, changes[i].length);
     free(changes);
     errno = cause;
     /* The dictionary has the changes also where the device has failed. */
     if (status == CEDAR_OK || status == CEDAR_STORE_DEVICE) {
-        core->keys_changed++;
+        note_keys(core);
         core->values_changed++;
     }
     return status == CEDAR_OK ? 0 : fail_with(status);
@@ -177,17 +177,6 @@ static Span span_of(PyObject *key) {
     return (Span){key, (const uint8_t *)at, (size_t)length};
 }
 
-static bool is_below(const Span *key, const Span *bound) {
-    int order = memcmp(key->at, bound->at, key->length < bound->length ? key->length : bound->length);
-    return order < 0 || (order == 0 && key->length < bound->length);
-}
-
-static bool is_within(const Bounds *bounds, const Span *key) {
-    const Span *prefix = bounds->prefix;
-    if (prefix && (key->length < prefix->length || memcmp(key->at, prefix->at, prefix->length) != 0)) return false;
-    return (!bounds->low || !is_below(key, bounds->low)) && (!bounds->high || is_below(key, bounds->high));
-}
-
 /* How many keys with a prefix there are more for this thread than in the dictionary: fewer, if it is below 0. */
 int block_more(Core *core, const Span *prefix, Py_ssize_t *more) {
     PyObject *all = merged_layers(core), *key, *value;
@@ -195,7 +184,7 @@ int block_more(Core *core, const Span *prefix, Py_ssize_t *more) {
     int32_t unwanted;
     while (all && PyDict_Next(all, &next, &key, &value)) {
         Span span = span_of(key);
-        if (!is_within(&(Bounds){prefix, NULL, NULL}, &span)) continue;
+        if (!is_within(&(Bounds){prefix, NULL, NULL}, span.at, span.length)) continue;
         bool was_held = cedar_get(&core->store.dictionary, span.at, span.length, &unwanted);
         *more += (value != Py_None) - was_held;
     }
@@ -204,14 +193,14 @@ int block_more(Core *core, const Span *prefix, Py_ssize_t *more) {
 }
 
 /* Adds a key with what the blocks say of it, which they then don't say any more; or else with what it held. */
-static int merge_one(PyObject *all, const uint8_t *key, cedar_match match, Gathered *merged) {
-    PyObject *name = PyBytes_FromStringAndSize((const char *)key, (Py_ssize_t)match.length);
+static int merge_one(PyObject *all, const uint8_t *key, cedar_found found, Gathered *merged) {
+    PyObject *name = PyBytes_FromStringAndSize((const char *)key, (Py_ssize_t)found.length);
     PyObject *value = name ? PyDict_GetItemWithError(all, name) : NULL;
     bool is_erased = value == Py_None;
     int done = PyErr_Occurred() ? -1 : 0;
-    if (value && !is_erased) match.value = (int32_t)PyLong_AsLong(value);
+    if (value && !is_erased) found.value = (int32_t)PyLong_AsLong(value);
     if (value) done = PyDict_DelItem(all, name);
-    if (done == 0 && !is_erased && !gathered_append(merged, key, match)) done = fail_with(CEDAR_MEMORY);
+    if (done == 0 && !is_erased && !gathered_append(merged, key, found.length, found.value)) done = fail_with(CEDAR_MEMORY);
     Py_XDECREF(name);
     return done;
 }
@@ -219,14 +208,13 @@ static int merge_one(PyObject *all, const uint8_t *key, cedar_match match, Gathe
 static int merge_all(PyObject *all, const Bounds *bounds, const Gathered *gathered, Gathered *merged) {
     PyObject *key, *value;
     Py_ssize_t next = 0;
-    const uint8_t *at = gathered->bytes;
-    for (size_t i = 0; i < gathered->count; at += gathered->matches[i++].length) {
-        if (merge_one(all, at, gathered->matches[i], merged) < 0) return -1;
+    for (size_t i = 0; i < gathered->count; i++) {
+        if (merge_one(all, gathered->bytes + gathered->found[i].place, gathered->found[i], merged) < 0) return -1;
     }
     while (PyDict_Next(all, &next, &key, &value)) {
         Span span = span_of(key);
-        if (value == Py_None || !is_within(bounds, &span)) continue;
-        if (!gathered_append(merged, span.at, (cedar_match){(int32_t)PyLong_AsLong(value), span.length})) return fail_with(CEDAR_MEMORY);
+        if (value == Py_None || !is_within(bounds, span.at, span.length)) continue;
+        if (!gathered_append(merged, span.at, span.length, (int32_t)PyLong_AsLong(value))) return fail_with(CEDAR_MEMORY);
     }
     return gathered_sort(merged) ? 0 : fail_with(CEDAR_MEMORY);
 }

@@ -11,25 +11,34 @@
 
 #include "cedar.h"
 
-/* A dictionary as Python sees it. All fields but `store` are read and written under the interpreter's lock alone; `store`
- * belongs to the thread that has the turn. */
+/* The size of a page, a piece or a step. Tests compile the extension with small ones too, so that each of their ends comes often. */
+#ifdef ROSKVIDH_SMALL
+#define SIZED(usual, small) (small)
+#else
+#define SIZED(usual, small) (usual)
+#endif
+
+/* A dictionary as Python sees it. All fields are read and written under the interpreter's lock alone; but a call that changes `store`
+ * without that lock has it for itself, and those that only read it have copies of its handle. */
 typedef struct Core {
     PyObject_HEAD
-    cedar_store store;        /* of a dictionary without a file it has the dictionary alone */
-    PyThread_type_lock turn;  /* held by the one long call that has given up the interpreter's lock */
-    bool in_use;              /* such a call is under way */
-    long process;             /* in this process */
-    size_t tickets;           /* how many calls have come to wait, ever */
-    size_t served;            /* how many of them don't wait any more: they go on in the order in which they came */
-    bool is_contended;        /* a call is under way or waits */
+    cedar_store store;      /* of a dictionary without a file it has the dictionary alone */
+    struct Turn *turns;     /* the long calls under way */
+    struct Waiter *line;    /* who waits, the first one first */
+    size_t woken;           /* how many short calls wait no more, and haven't gone on yet */
+    long process;           /* where all this is so */
+    bool is_changing;       /* a long call that changes the dictionary is under way */
     bool is_open;
     bool is_text;             /* keys are str, stored as UTF-8 */
     bool is_ordered;
     bool is_reduced;
     int32_t max_trial;
-    size_t keys_changed;      /* how often a key came or went: an iteration ends by an error then */
-    size_t values_changed;    /* how often a key's value was replaced */
-    PyObject *blocks;         /* of blocks.c; NULL where no thread is in a block */
+    size_t longest;            /* no key is longer; SIZE_MAX where nobody has looked */
+    size_t sync_every;         /* how many changes of a store go to the disk together; 0: they wait */
+    size_t keys_changed;       /* how often a key came or went */
+    unsigned long changed_by;  /* the thread that was the last one to do so: its iterations end by an error then */
+    size_t values_changed;     /* how often a key's value was replaced */
+    PyObject *blocks;          /* of blocks.c; NULL where no thread is in a block */
 } Core;
 
 /* The flags of the types. Headers from 3.10 on leave the last one out of the default ones, and Python 3.8 then frees what it still uses
@@ -41,21 +50,51 @@ typedef struct Core {
 /* A call's hold of a dictionary, from `turn_begin` to `turn_end`. */
 typedef struct Turn {
     Core *core;
-    PyThreadState *thread;  /* NULL where the call keeps the interpreter's lock */
+    const cedar *dictionary;  /* what a call that only reads goes by: `own`, a copy of the handle */
+    cedar own;
+    bool changes;             /* whether it changes the dictionary */
+    bool is_long;
+    bool is_listed;           /* among the core's turns */
+    unsigned long owner;      /* its thread */
+    PyThreadState *thread;    /* NULL while the call has the interpreter's lock */
+    int64_t since;            /* when it took or gave up that lock, in nanoseconds */
+    struct Turn *next;
 } Turn;
 
-int turn_idle(Core *core);
-int turn_wait(Core *core);
-int turn_begin(Core *core, bool is_long, Turn *turn);
+/* What a call does with a dictionary. */
+enum { READS, CHANGES };
+
+int turn_wait(Core *core, bool changes);
+int turn_alone(Core *core);
+int turn_begin(Core *core, bool changes, bool is_long, Turn *turn);
+void turn_yield(Turn *turn);
+int turn_step(Turn *turn);
 void turn_end(Turn *turn);
 void core_install(Core *core, cedar_store *fresh);
 int core_close(Core *core);
 
-/* Whether a short call may go ahead: the dictionary is open, and no long call is under way any more. With the interpreter's lock held,
- * it has the dictionary for itself until it gives that up or calls Python. */
+/* Whether a short call that reads may go ahead: the dictionary is open, and no long call changes it. With the interpreter's lock held, it
+ * has the dictionary until it gives that up or calls Python. */
 static inline int core_ready(Core *core) {
-    if (!core->is_contended && core->is_open) return 0;
-    return turn_wait(core);
+    if (!core->is_changing && core->is_open) return 0;
+    return turn_wait(core, READS);
+}
+
+/* The same for a short call that changes the dictionary: no long call is under way. */
+static inline int core_alone(Core *core) {
+    if (!core->turns && core->is_open) return 0;
+    return turn_wait(core, CHANGES);
+}
+
+/* Notes that this thread has put a key in, or taken one out. */
+static inline void note_keys(Core *core) {
+    core->keys_changed++;
+    core->changed_by = PyThread_get_thread_ident();
+}
+
+/* Notes how long a key is that may be stored. */
+static inline void note_length(Core *core, size_t length) {
+    if (core->longest < length) core->longest = length;
 }
 
 /* arguments.c: Python's objects as C takes them, and back. */
@@ -68,12 +107,15 @@ typedef struct Span {
 } Span;
 
 int span_take(Core *core, PyObject *given, Span *span);
+bool is_key_type(const Core *core, PyObject *given);
 int value_take(PyObject *given, int32_t *value);
 int cost_take(PyObject *given, uint32_t *cost);
 PyObject *key_give(Core *core, const uint8_t *at, size_t length);
 PyObject *pair_give(PyObject *key, int32_t value);
 int fail_with(uint32_t status);
 int fail_at(uint32_t status, const char *what, size_t position);
+int key_test(const Span *key);
+void name_item(const char *what, size_t position);
 extern PyObject *cedar_error;
 
 /* lookups.c: calls of one key. */
@@ -110,23 +152,37 @@ PyObject *core_is_in_block(Core *core, PyObject *nothing);
 
 /* gather.c: keys with their values, in memory of their own. */
 
-/* `count` keys, one after another in `bytes`: for each its length and value in `matches`. */
+/* `count` keys, one after another in `bytes`: for each its place there, its length and its value. */
 typedef struct Gathered {
     uint8_t *bytes;
     size_t size;
     size_t room;
-    cedar_match *matches;
+    cedar_found *found;
     size_t count;
     size_t places;
 } Gathered;
 
+/* A walk over the keys that are wanted, ascending by bytes, page by page. */
+typedef struct Pages {
+    Bounds bounds;
+    Gathered page;   /* what was read last */
+    size_t places;   /* how many keys the next page has at most; 0 where none comes any more */
+    uint8_t *behind; /* the last key of the pages before */
+    size_t length;
+    size_t room;
+} Pages;
+
 void gathered_free(Gathered *gathered);
-bool gathered_append(Gathered *gathered, const uint8_t *key, cedar_match match);
+bool gathered_append(Gathered *gathered, const uint8_t *key, size_t length, int32_t value);
 bool gathered_sort(Gathered *gathered);
-bool gather_all(const cedar *dictionary, Gathered *gathered);
-bool gather_below(const cedar *dictionary, const Span *prefix, bool is_ordered, Gathered *gathered);
-bool gather_between(const cedar *dictionary, const Span *low, const Span *high, bool is_ordered, Gathered *gathered);
-bool gather_any(const cedar *dictionary, Gathered *gathered);
+bool gather_below(const cedar *dictionary, const Span *prefix, Gathered *gathered);
+bool gather_unordered(const cedar *dictionary, const Bounds *bounds, Gathered *gathered);
+bool gather_ordered(const cedar *dictionary, const Bounds *bounds, Gathered *gathered);
+bool gather_first(const cedar *dictionary, Gathered *gathered);
+bool pages_begin(const cedar *dictionary, const Bounds *bounds, Pages *pages);
+bool pages_read(const cedar *dictionary, Pages *pages);
+void pages_free(Pages *pages);
+bool is_within(const Bounds *bounds, const uint8_t *key, size_t length);
 
 /* walks.c: iterations, completions, prefixes. */
 extern PyType_Spec walk_spec;
@@ -156,6 +212,8 @@ PyObject *core_open(Core *core, PyObject *arguments);
 PyObject *core_build(Core *core, PyObject *arguments);
 PyObject *core_build_unsorted(Core *core, PyObject *arguments);
 PyObject *core_load(Core *core, PyObject *arguments);
+extern PyTypeObject *core_type;
+PyObject *core_open_copy(Core *core, PyObject *other);
 PyObject *core_open_store(Core *core, PyObject *arguments);
 int core_without_file(Core *core);
 PyObject *core_kept(Core *core, PyObject *nothing);
@@ -174,8 +232,17 @@ PyObject *core_erase_all(Core *core, PyObject *keys);
 PyObject *core_dump(Core *core, PyObject *is_full);
 PyObject *file_replace(PyObject *module, PyObject *arguments);
 
-/* Work from which on a call gives up the interpreter's lock: bytes of text, and keys. To give it up and take it back costs less than a
- * tenth of such a call. */
-enum { LONG_TEXT = 4096, LONG_COUNT = 256 };
+/* Work from which on a call is a long one. Of calls that are made piece by piece, and give the interpreter's lock up once they have held it
+ * as long as Python's own code does: bytes of text, and pairs or keys of the caller's. Of those that aren't, and give it up at once: keys
+ * that are walked over, keys that are put into a new table, slots, and bytes of a file. Each of these takes some milliseconds, since to get
+ * the lock back may take as long. */
+enum {
+    LONG_TEXT = SIZED(4096, 1),
+    LONG_LIST = SIZED(256, 1),
+    LONG_WALK = SIZED(1 << 14, 2),
+    LONG_BUILD = SIZED(1 << 12, 1),
+    LONG_TABLE = SIZED(1 << 18, 1),
+    LONG_FILE = SIZED(1 << 20, 1)
+};
 
 #endif

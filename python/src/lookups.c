@@ -30,9 +30,14 @@ PyObject *core_subscript(Core *core, PyObject *key) {
     return found < 0 ? NULL : missing(key);
 }
 
+/* What can't be a key isn't held, as a dict says it: an object of another type, and a str with a lone surrogate. */
 int core_contains(Core *core, PyObject *key) {
     int32_t value;
-    return find(core, key, &value);
+    if (!is_key_type(core, key)) return core_ready(core);
+    int found = find(core, key, &value);
+    if (found >= 0 || !PyErr_ExceptionMatches(PyExc_UnicodeEncodeError)) return found;
+    PyErr_Clear();
+    return core_ready(core);
 }
 
 Py_ssize_t core_length(Core *core) {
@@ -53,7 +58,12 @@ PyObject *core_get(Core *core, PyObject *arguments) {
     return otherwise;
 }
 
-/* A change of a store waits for the disk, and lets other threads run. errno stays that of the change. */
+/* Whether the next change of a store waits for the disk: then it lets other threads run. */
+static bool writes_now(const Core *core) {
+    return core->sync_every > 0 && cedar_store_waiting(&core->store) + 1 >= core->sync_every;
+}
+
+/* errno stays that of the change. */
 static void change_end(Turn *turn) {
     int cause = errno;
     turn_end(turn);
@@ -67,7 +77,8 @@ static int insert(Core *core, const Span *span, int32_t value, bool *held, size_
         *status = cedar_insert(&core->store.dictionary, span->at, span->length, value, held, &before, position);
         return 0;
     }
-    if (turn_begin(core, true, &turn) < 0) return -1;
+    if (turn_begin(core, CHANGES, true, &turn) < 0) return -1;
+    if (writes_now(core)) turn_yield(&turn);
     *status = cedar_store_insert(&core->store, span->at, span->length, value, held, &before, position);
     change_end(&turn);
     return 0;
@@ -84,8 +95,9 @@ static int store(Core *core, const Span *span, int32_t value) {
     if (status == CEDAR_NUL_BYTE) return fail_at(status, "byte", position);
     /* The dictionary has the change also where the device has failed. */
     if (status != CEDAR_OK && status != CEDAR_STORE_DEVICE) return fail_with(status);
+    note_length(core, span->length);
     if (held) core->values_changed++;
-    else core->keys_changed++;
+    else note_keys(core);
     return status == CEDAR_OK ? 0 : fail_with(status);
 }
 
@@ -105,18 +117,19 @@ int key_erase(Core *core, const uint8_t *at, size_t length) {
     if (!core->store.file) {
         held = cedar_erase(&core->store.dictionary, at, length);
     } else {
-        if (turn_begin(core, true, &turn) < 0) return -1;
+        if (turn_begin(core, CHANGES, true, &turn) < 0) return -1;
+        if (writes_now(core)) turn_yield(&turn);
         status = cedar_store_erase(&core->store, at, length, &held);
         change_end(&turn);
     }
-    if (held || status == CEDAR_STORE_DEVICE) core->keys_changed++;
+    if (held || status == CEDAR_STORE_DEVICE) note_keys(core);
     return status == CEDAR_OK ? held : fail_with(status);
 }
 
 static int erase(Core *core, PyObject *key) {
     Span span;
     if (span_take(core, key, &span) < 0) return -1;
-    int held = core_ready(core);
+    int held = core_alone(core);
     if (held == 0) held = key_erase(core, span.at, span.length);
     Py_DECREF(span.owner);
     if (held == 0) missing(key);
@@ -128,7 +141,7 @@ int core_assign(Core *core, PyObject *key, PyObject *value) {
     int32_t number;
     Span span;
     if (value_take(value, &number) < 0 || span_take(core, key, &span) < 0) return -1;
-    int done = core_ready(core);
+    int done = core_alone(core);
     if (done == 0) done = store(core, &span, number);
     Py_DECREF(span.owner);
     return done;
@@ -140,7 +153,7 @@ PyObject *core_pop(Core *core, PyObject *arguments) {
     Span span;
     int32_t value;
     if (span_take(core, key, &span) < 0) return NULL;
-    int held = core_ready(core);
+    int held = core_alone(core);
     if (held == 0) held = look_up(core, span.at, span.length, &value);
     if (held > 0) held = key_erase(core, span.at, span.length);
     Py_DECREF(span.owner);
@@ -157,7 +170,7 @@ PyObject *core_setdefault(Core *core, PyObject *arguments) {
     Span span;
     int32_t value, number;
     if (value_take(otherwise, &number) < 0 || span_take(core, key, &span) < 0) return NULL;
-    int held = core_ready(core);
+    int held = core_alone(core);
     if (held == 0) held = look_up(core, span.at, span.length, &value);
     if (held == 0) {
         value = number;

@@ -151,10 +151,18 @@ static PyType_Slot matches_slots[] = {
 
 PyType_Spec matches_spec = {"roskvidh._core.Matches", sizeof(Matches), 0, TYPE_FLAGS, matches_slots};
 
-typedef size_t Finder(const cedar *, const uint8_t *, size_t, size_t *, cedar_found *, size_t);
+typedef size_t Find(const cedar *, const uint8_t *, size_t, size_t *, cedar_found *, size_t);
+
+/* A call of the library that goes along a text, and how it goes on. */
+typedef struct Finder {
+    Find *find;
+    bool overlaps;  /* what it tells of a place doesn't depend on the places before */
+} Finder;
+
+static const Finder SCAN = {cedar_scan, true}, SEGMENT = {cedar_segment, false}, KEYWORDS = {cedar_keywords, false};
 
 /* Places of a piece, of 24 bytes each. Those that nothing is written to take no memory. */
-enum { LEAST_PLACES = 64, MOST_PLACES = 1 << 21, PAGE = 4096, MANY_PAGES = 1 << 20 };
+enum { LEAST_PLACES = SIZED(64, 4), MOST_PLACES = SIZED(1 << 21, 64), PAGE = 4096, MANY_PAGES = 1 << 20 };
 
 /* A further piece with so many places, or NULL where memory is wanted. A large one comes in large pages where the system has them: to map
  * small ones takes as long as the walk over a text that fills them. */
@@ -182,33 +190,145 @@ static void piece_end(Matches *matches, Piece *piece, size_t count) {
     piece->end = matches->count;
 }
 
-/* All that a finder tells of a text. False where memory is wanted. */
-static bool find_all(Core *core, Finder *finder, const Span *text, Matches *matches) {
-    size_t next = 0, least = LEAST_PLACES;
-    while (next < text->length) {
-        size_t left = text->length - next, places = left < MOST_PLACES ? left : MOST_PLACES;
-        if (places < least) places = least;
-        Piece *piece = piece_begin(matches, places);
-        if (!piece) return false;
-        size_t count = finder(&core->store.dictionary, text->at, text->length, &next, piece->found, places);
-        piece_end(matches, piece, count);
-        /* The keys at a place are told as a whole: those at this one are more than there were places. */
-        if (count == 0) least = 4 * places;
+/* How much of a text is looked at before a long call may give up the interpreter's lock, and before it handles signals then. At each place
+ * the library may go as far as the longest key is long, so there are fewer of them where that is long; but enough of them that what it
+ * looks at behind the last one, which it looks at again, is little. */
+enum {
+    STEP_WORK = SIZED(1 << 19, 64),
+    STEP_PARTS = SIZED(16, 1),
+    STEP_APART = SIZED(1 << 18, 50),
+    STEP_MATCHES = SIZED(1 << 14, 16)
+};
+
+/* The longest key, and the text, from which on a long call gives up the interpreter's lock at once: a piece of it may take too long. */
+enum { LONGEST_HELD = 512, HELD_TEXT = 1 << 14 };
+
+static size_t step_length(const Turn *turn, size_t longest) {
+    size_t least = STEP_PARTS * longest, length = turn->thread ? STEP_APART : STEP_WORK / (longest + 1);
+    return length < least ? least : length;
+}
+
+/* Finds what begins before `stop`, if there is room for all of it. No key is longer than `longest`, so nothing behind `stop` by more than
+ * that is looked at; what it tells of the places from `stop` on may be cut off by that, and is left out. */
+static size_t find_before(Finder finder, const cedar *dictionary, const Span *text, size_t stop, size_t longest, size_t *next,
+                          cedar_found *found, size_t room) {
+    size_t end = text->length - stop > longest ? stop + longest : text->length;
+    size_t count = finder.find(dictionary, text->at, end, next, found, room);
+    if (end == text->length || *next <= stop) return count;
+    while (count > 0 && found[count - 1].place >= stop) count--;
+    *next = stop;
+    if (count > 0 && !finder.overlaps && found[count - 1].place + found[count - 1].length > stop) {
+        *next = found[count - 1].place + found[count - 1].length;
+    }
+    return count;
+}
+
+/* How long the longest key is. Where nobody knows, a text that takes some ten milliseconds is worth looking at all keys. */
+enum { WORTH_LOOKING = 1 << 22 };
+
+static size_t longest_key(Core *core, const cedar *dictionary, const Span *text) {
+    size_t longest = core->longest, count;
+    cedar_match unused;
+    if (longest < SIZE_MAX || text->length < WORTH_LOOKING) return longest;
+    count = cedar_predictions(dictionary, text->at, 0, &unused, 0);
+    cedar_match *matches = malloc((count + 1) * sizeof *matches);
+    if (!matches) return longest;
+    cedar_predictions(dictionary, text->at, 0, matches, count);
+    longest = 0;
+    for (size_t i = 0; i < count; i++) {
+        if (longest < matches[i].length) longest = matches[i].length;
+    }
+    free(matches);
+    return longest;
+}
+
+/* Fills a piece with what a finder tells of a text from *next on, until there is no room for what it tells of a place. False where a signal
+ * has ended it. */
+static bool fill_piece(Finder finder, Turn *turn, const Span *text, size_t longest, size_t *next, cedar_found *found, size_t places,
+                       size_t *count) {
+    size_t most = STEP_MATCHES;
+    while (*next < text->length) {
+        size_t step = longest < SIZE_MAX / STEP_PARTS ? step_length(turn, longest) : SIZE_MAX, from = *next;
+        size_t stop = text->length - from > step ? from + step : text->length;
+        size_t left = places - *count, room = left < most || turn->thread ? left : most;
+        size_t told = find_before(finder, turn->dictionary, text, stop, longest, next, found + *count, room);
+        *count += told;
+        if (told == 0 && *next == from && room == left) return true;
+        most = told == 0 && *next == from ? SIZE_MAX : STEP_MATCHES;
+        if (turn_step(turn) < 0) return false;
     }
     return true;
 }
 
-/* The tokens of a text that cost the least together. False where memory is wanted. */
-static bool find_cheapest(Core *core, uint32_t unknown, const Span *text, Matches *matches) {
-    size_t count = 0;
-    if (text->length == 0) return true;
-    Piece *piece = piece_begin(matches, text->length);
-    if (!piece) return false;
-    uint32_t status =
-        cedar_cheapest(&core->store.dictionary, text->at, text->length, unknown, core->is_text, piece->found, text->length, &count);
-    if (status != CEDAR_OK) return false;
-    piece_end(matches, piece, count);
-    return true;
+/* All that a finder tells of a text. Raises an error where memory is wanted or a signal has ended it. */
+static int find_all(Finder finder, Turn *turn, const Span *text, Matches *matches) {
+    size_t next = 0, least = LEAST_PLACES, longest = longest_key(turn->core, turn->dictionary, text);
+    if (longest > LONGEST_HELD && text->length > HELD_TEXT) turn_yield(turn);
+    while (next < text->length) {
+        size_t left = text->length - next, places = left < MOST_PLACES ? left : MOST_PLACES, count = 0;
+        if (places < least) places = least;
+        Piece *piece = piece_begin(matches, places);
+        if (!piece) return CEDAR_MEMORY;
+        bool done = fill_piece(finder, turn, text, longest, &next, piece->found, places, &count);
+        piece_end(matches, piece, count);
+        if (!done) return -1;
+        /* The keys at a place are told as a whole: those at this one are more than there were places. */
+        if (count == 0) least = 4 * places;
+    }
+    return CEDAR_OK;
+}
+
+/* How much of a text is cut by one call, and among how many places one is looked for that no key reaches across. */
+enum { CUT_LENGTH = SIZED(1 << 18, 64), CUT_PLACES = SIZED(1 << 14, 40), CUT_MATCHES = SIZED(1024, 24) };
+
+/* A place from `from` on, and not far behind it, that no key reaches across which begins behind `begin`; 0 where none is found. */
+static size_t quiet_place(const cedar *dictionary, const Span *text, size_t longest, size_t begin, size_t from) {
+    cedar_found found[CUT_MATCHES];
+    size_t until = text->length - from > CUT_PLACES ? from + CUT_PLACES : text->length;
+    size_t end = text->length - until > longest ? until + longest : text->length;
+    size_t next = from - begin > longest ? from - longest : begin, quiet = from, before = SIZE_MAX;
+    while (next < until && next != before) {
+        before = next;
+        size_t count = cedar_scan(dictionary, text->at, end, &next, found, CUT_MATCHES);
+        for (size_t i = 0; i < count && found[i].place < until; i++) {
+            /* All keys that begin before this one have been seen. */
+            if (quiet <= found[i].place) return quiet;
+            if (found[i].place + found[i].length > quiet) quiet = found[i].place + found[i].length;
+        }
+    }
+    /* Of the places behind the last ones longer keys may begin than were seen. */
+    return quiet <= next && quiet <= until ? quiet : 0;
+}
+
+/* Where a text that is cut from a place on may be cut in two: each cut of it has a token's end there. */
+static size_t next_stop(const cedar *dictionary, const Span *text, size_t longest, size_t begin) {
+    if (longest > CUT_LENGTH) return text->length;
+    for (size_t from = begin; text->length - from > CUT_LENGTH;) {
+        from += CUT_LENGTH;
+        size_t stop = quiet_place(dictionary, text, longest, begin, from);
+        if (stop > 0) return stop;
+    }
+    return text->length;
+}
+
+/* The tokens of a text that cost the least together: those of its parts. Raises an error where memory is wanted or a signal has ended it. */
+static int find_cheapest(uint32_t unknown, Turn *turn, const Span *text, Matches *matches) {
+    bool by_characters = turn->core->is_text;
+    size_t longest = longest_key(turn->core, turn->dictionary, text);
+    if (text->length > HELD_TEXT) turn_yield(turn);
+    for (size_t begin = 0, stop; begin < text->length; begin = stop) {
+        size_t count = 0;
+        stop = next_stop(turn->dictionary, text, longest, begin);
+        Piece *piece = piece_begin(matches, stop - begin);
+        if (!piece) return CEDAR_MEMORY;
+        uint32_t status = cedar_cheapest(turn->dictionary, text->at + begin, stop - begin, unknown, by_characters, piece->found, stop - begin,
+                                         &count);
+        for (size_t i = 0; i < count; i++) piece->found[i].place += begin;
+        piece_end(matches, piece, count);
+        if (status != CEDAR_OK) return (int)status;
+        if (turn_step(turn) < 0) return -1;
+    }
+    return CEDAR_OK;
 }
 
 /* Whether a byte begins a character of UTF-8. */
@@ -241,33 +361,33 @@ static void count_characters(const Span *text, Matches *matches) {
 }
 
 /* What a finder tells of a text, or, where that is NULL, the tokens of least cost. */
-static PyObject *find(Core *core, Finder *finder, uint32_t unknown, PyObject *given) {
+static PyObject *find(Core *core, const Finder *finder, uint32_t unknown, PyObject *given) {
     Span text;
     Turn turn;
-    bool done = false;
+    int status = -1;
     if (span_take(core, given, &text) < 0) return NULL;
     Matches *matches = (Matches *)PyType_GenericAlloc(matches_type, 0);
-    if (matches && turn_begin(core, text.length >= LONG_TEXT, &turn) == 0) {
-        done = finder ? find_all(core, finder, &text, matches) : find_cheapest(core, unknown, &text, matches);
-        if (done && core->is_text) count_characters(&text, matches);
+    if (matches && turn_begin(core, READS, text.length >= LONG_TEXT, &turn) == 0) {
+        status = finder ? find_all(*finder, &turn, &text, matches) : find_cheapest(unknown, &turn, &text, matches);
+        if (status == CEDAR_OK && core->is_text) count_characters(&text, matches);
         turn_end(&turn);
-        if (!done) fail_with(CEDAR_MEMORY);
+        if (status > 0) fail_with((uint32_t)status);
     }
     Py_DECREF(text.owner);
-    if (!done) Py_CLEAR(matches);
+    if (status != CEDAR_OK) Py_CLEAR(matches);
     return (PyObject *)matches;
 }
 
 PyObject *core_scan(Core *core, PyObject *text) {
-    return find(core, cedar_scan, 0, text);
+    return find(core, &SCAN, 0, text);
 }
 
 PyObject *core_segment(Core *core, PyObject *text) {
-    return find(core, cedar_segment, 0, text);
+    return find(core, &SEGMENT, 0, text);
 }
 
 PyObject *core_keywords(Core *core, PyObject *text) {
-    return find(core, cedar_keywords, 0, text);
+    return find(core, &KEYWORDS, 0, text);
 }
 
 PyObject *core_cheapest(Core *core, PyObject *arguments, PyObject *named) {

@@ -7,22 +7,15 @@ static PyObject *core_make(PyTypeObject *type, PyObject *arguments, PyObject *ke
     Core *core = (Core *)PyType_GenericAlloc(type, 0);
     if (!core) return NULL;
     core->store = (cedar_store)CEDAR_STORE_CLOSED;
-    core->turn = PyThread_allocate_lock();
-    if (!core->turn) {
-        Py_DECREF(core);
-        return PyErr_NoMemory();
-    }
+    core->sync_every = 1;
     return (PyObject *)core;
 }
 
-/* Nobody has the object any more. It is in use only in a forked child whose parent was in a call; then its memory is left alone. */
+/* Nobody has the object any more. A call is under way only in a forked child whose parent was in it; then its memory is left alone. */
 static void core_dealloc(Core *core) {
     PyTypeObject *type = Py_TYPE(core);
     Py_CLEAR(core->blocks);
-    if (!core->in_use) {
-        cedar_store_close(&core->store);
-        if (core->turn) PyThread_free_lock(core->turn);
-    }
+    if (!core->turns) cedar_store_close(&core->store);
     ((freefunc)PyType_GetSlot(type, Py_tp_free))(core);
     Py_DECREF(type);
 }
@@ -36,7 +29,7 @@ static PyObject *core_close_call(Core *core, PyObject *nothing) {
 static PyObject *core_reserve(Core *core, PyObject *given) {
     size_t blocks = PyLong_AsSize_t(given);
     if (blocks == (size_t)-1 && PyErr_Occurred()) return NULL;
-    if (core_ready(core) < 0) return NULL;
+    if (core_alone(core) < 0) return NULL;
     uint32_t status = cedar_reserve(&core->store.dictionary, blocks);
     if (status == CEDAR_OK) Py_RETURN_NONE;
     fail_with(status);
@@ -151,6 +144,7 @@ static PyMethodDef core_methods[] = {
     {"_build", (PyCFunction)core_build, METH_VARARGS, NULL},
     {"_build_unsorted", (PyCFunction)core_build_unsorted, METH_VARARGS, NULL},
     {"_load", (PyCFunction)core_load, METH_VARARGS, NULL},
+    {"_open_copy", (PyCFunction)core_open_copy, METH_O, NULL},
     {"_open_store", (PyCFunction)core_open_store, METH_VARARGS, NULL},
     {"_kept", (PyCFunction)core_kept, METH_NOARGS, NULL},
     {"_has_failed", (PyCFunction)core_has_failed, METH_NOARGS, NULL},
@@ -186,6 +180,8 @@ static PyType_Slot core_slots[] = {
     {0, NULL},
 };
 
+PyTypeObject *core_type;
+
 static PyType_Spec core_spec = {"roskvidh._core.Core", sizeof(Core), 0, TYPE_FLAGS | Py_TPFLAGS_BASETYPE, core_slots};
 
 static PyMethodDef module_functions[] = {
@@ -214,15 +210,16 @@ static int fill(PyObject *module) {
     if (!walk_type) return -1;
     if (add(module, "CedarError", cedar_error) < 0) return -1;
     if (add(module, "Matches", (PyObject *)matches_type) < 0 || add(module, "Match", (PyObject *)match_type) < 0) return -1;
-    PyObject *core = PyType_FromSpec(&core_spec);
-    int done = add(module, "Core", core);
-    Py_XDECREF(core);
-    if (done < 0) return -1;
+    core_type = (PyTypeObject *)PyType_FromSpec(&core_spec);
+    if (add(module, "Core", (PyObject *)core_type) < 0) return -1;
     if (PyModule_AddIntConstant(module, "MIN_VALUE", CEDAR_MIN_VALUE) < 0 || PyModule_AddIntConstant(module, "MAX_VALUE", CEDAR_MAX_VALUE) < 0) return -1;
     if (PyModule_AddIntConstant(module, "OPEN_EXISTING", CEDAR_OPEN_EXISTING) < 0 || PyModule_AddIntConstant(module, "OPEN_NEW", CEDAR_OPEN_NEW) < 0) return -1;
     if (PyModule_AddIntConstant(module, "OPEN_TO_READ", CEDAR_OPEN_TO_READ) < 0) return -1;
     return PyModule_AddIntConstant(module, "LOAD_LIMIT", CEDAR_LOAD_LIMIT);
 }
+
+/* Headers of Python 3.8 don't make it visible by themselves. */
+__attribute__((visibility("default"))) PyMODINIT_FUNC PyInit__core(void);
 
 PyMODINIT_FUNC PyInit__core(void) {
     PyObject *module = PyModule_Create(&definition);

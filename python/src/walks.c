@@ -5,13 +5,15 @@
 
 PyTypeObject *walk_type;
 
-/* An iteration over what was gathered when it began. */
+/* An iteration. It has a page of keys at hand, and reads the next one as it needs it; or it has gathered all of them when it began. */
 typedef struct Walk {
     PyObject_HEAD
-    Core *core;  /* NULL once it has ended */
-    Gathered gathered;
-    size_t next;
-    size_t at;
+    Core *core; /* NULL once it has ended */
+    Span prefix;
+    Span low;
+    Span high;
+    Pages pages;
+    size_t next; /* which key of the page is given next */
     size_t keys_changed;
     size_t values_changed;
     int kind;
@@ -24,7 +26,10 @@ static int walk_traverse(Walk *walk, visitproc visit, void *arg) {
 
 static int walk_clear(Walk *walk) {
     Py_CLEAR(walk->core);
-    gathered_free(&walk->gathered);
+    Py_CLEAR(walk->prefix.owner);
+    Py_CLEAR(walk->low.owner);
+    Py_CLEAR(walk->high.owner);
+    pages_free(&walk->pages);
     return 0;
 }
 
@@ -36,27 +41,46 @@ static void walk_dealloc(Walk *walk) {
     Py_DECREF(type);
 }
 
+/* An iteration ends by an error where its own thread changes keys. What other threads change it may show or not. */
+static int walk_test(const Walk *walk, const Core *core) {
+    if (walk->keys_changed == core->keys_changed || core->changed_by != PyThread_get_thread_ident()) return 0;
+    PyErr_SetString(PyExc_RuntimeError, "dictionary changed size during iteration");
+    return -1;
+}
+
+/* Takes note that what is at hand is what the dictionary has. */
+static void walk_note(Walk *walk, const Core *core) {
+    walk->next = 0;
+    walk->keys_changed = core->keys_changed;
+    walk->values_changed = core->values_changed;
+}
+
+/* Sees that there is a key at hand: 0 where none is left. */
+static int walk_ready(Walk *walk, Core *core) {
+    if (walk->next < walk->pages.page.count) return 1;
+    if (!pages_read(&core->store.dictionary, &walk->pages)) return fail_with(CEDAR_MEMORY);
+    walk_note(walk, core);
+    return walk->pages.page.count > 0;
+}
+
 static PyObject *walk_give(Walk *walk, Core *core) {
     /* Another thread may have ended it meanwhile. */
-    if (core_ready(core) < 0 || !walk->core) return NULL;
-    if (walk->keys_changed != core->keys_changed) {
-        PyErr_SetString(PyExc_RuntimeError, "dictionary changed size during iteration");
-        return NULL;
-    }
-    if (walk->next == walk->gathered.count) {
-        walk_clear(walk);
-        return NULL;
-    }
-    cedar_match match = walk->gathered.matches[walk->next++];
-    const uint8_t *key = walk->gathered.bytes + walk->at;
-    walk->at += match.length;
-    if (walk->values_changed != core->values_changed) cedar_get(&core->store.dictionary, key, match.length, &match.value);
-    if (walk->kind == WALK_VALUES) return PyLong_FromLong(match.value);
-    PyObject *given = key_give(core, key, match.length);
-    return walk->kind == WALK_KEYS ? given : pair_give(given, match.value);
+    if (core_ready(core) < 0 || !walk->core || walk_test(walk, core) < 0) return NULL;
+    int ready = walk_ready(walk, core);
+    if (ready == 0) walk_clear(walk);
+    if (ready <= 0) return NULL;
+    cedar_found found = walk->pages.page.found[walk->next++];
+    const uint8_t *key = walk->pages.page.bytes + found.place;
+    bool is_changed = walk->values_changed != core->values_changed || walk->keys_changed != core->keys_changed;
+    if (is_changed) cedar_get(&core->store.dictionary, key, found.length, &found.value);
+    if (walk->kind == WALK_VALUES) return PyLong_FromLong(found.value);
+    PyObject *given = key_give(core, key, found.length);
+    return walk->kind == WALK_KEYS ? given : pair_give(given, found.value);
 }
 
 static PyObject *walk_next(Walk *walk) {
+    /* list() and the like go on without looking for signals. */
+    if (walk->next == walk->pages.page.count && PyErr_CheckSignals() < 0) return NULL;
     Core *core = walk->core;
     if (!core) return NULL;
     Py_INCREF(core);
@@ -65,9 +89,10 @@ static PyObject *walk_next(Walk *walk) {
     return given;
 }
 
+/* How many keys are at hand. */
 static PyObject *walk_hint(Walk *walk, PyObject *nothing) {
     (void)nothing;
-    return PyLong_FromSize_t(walk->core ? walk->gathered.count - walk->next : 0);
+    return PyLong_FromSize_t(walk->core ? walk->pages.page.count - walk->next : 0);
 }
 
 static PyMethodDef walk_methods[] = {
@@ -87,114 +112,109 @@ static PyType_Slot walk_slots[] = {
 
 PyType_Spec walk_spec = {"roskvidh._core.Walk", sizeof(Walk), 0, TYPE_FLAGS | Py_TPFLAGS_HAVE_GC, walk_slots};
 
-/* Whether a call that goes through all keys below a prefix is a long one: it asks for one key behind the first ones. */
-static int is_long_below(Core *core, const Span *prefix) {
+/* Begins a call that goes through all keys below a prefix; NULL is the empty one. To see whether it is a long one, it asks for one key
+ * behind the first ones. */
+static int begin_below(Core *core, bool changes, const Span *prefix, Turn *turn) {
     cedar_match unused;
-    size_t next = LONG_COUNT;
+    size_t next = LONG_WALK;
     if (core_ready(core) < 0) return -1;
-    return cedar_predictions_from(&core->store.dictionary, prefix->at, prefix->length, &next, &unused, 1) > 0;
-}
-
-static int begin_below(Core *core, const Span *prefix, Turn *turn) {
-    int is_long = is_long_below(core, prefix);
-    return is_long < 0 ? -1 : turn_begin(core, is_long, turn);
-}
-
-/* The empty prefix of a call that has none. */
-static int prefix_take(Core *core, PyObject *given, Span *prefix) {
-    if (given != Py_None) return span_take(core, given, prefix);
-    *prefix = (Span){NULL, (const uint8_t *)"", 0};
+    bool is_long = cedar_len(&core->store.dictionary) > LONG_WALK;
+    if (is_long && prefix) is_long = cedar_predictions_from(&core->store.dictionary, prefix->at, prefix->length, &next, &unused, 1) > 0;
+    if (turn_begin(core, changes, is_long, turn) < 0) return -1;
+    turn_yield(turn);
     return 0;
 }
 
-/* Ends what gathers from the dictionary: a thread sees what it has changed in its blocks. */
-static int walk_filled(Walk *walk, bool is_done, const Bounds *bounds) {
+/* Gathers all at once: where labels don't ascend no page follows the first one, and what a thread's blocks say is merged with all keys. */
+static int walk_gather(Walk *walk, const Bounds *bounds) {
     Core *core = walk->core;
-    walk->keys_changed = core->keys_changed;
-    walk->values_changed = core->values_changed;
-    if (!is_done) return fail_with(CEDAR_MEMORY);
-    return core->blocks ? block_merge(core, bounds, &walk->gathered) : 0;
-}
-
-static int walk_fill(Walk *walk, const Span *prefix, bool is_all) {
-    Core *core = walk->core;
+    Gathered *all = &walk->pages.page;
     Turn turn;
-    if (begin_below(core, prefix, &turn) < 0) return -1;
-    bool done = is_all ? gather_all(&core->store.dictionary, &walk->gathered)
-                       : gather_below(&core->store.dictionary, prefix, core->is_ordered, &walk->gathered);
+    if (begin_below(core, READS, bounds->prefix, &turn) < 0) return -1;
+    bool done = (core->is_ordered ? gather_ordered : gather_unordered)(turn.dictionary, bounds, all);
     turn_end(&turn);
-    return walk_filled(walk, done, &(Bounds){is_all ? NULL : prefix, NULL, NULL});
+    if (!done) return fail_with(CEDAR_MEMORY);
+    walk_note(walk, core);
+    return core->blocks ? block_merge(core, bounds, all) : 0;
 }
 
-/* An iteration that has gathered nothing yet. */
-static Walk *walk_make(Core *core, int kind) {
+static int walk_begin(Walk *walk, const Bounds *bounds) {
+    Core *core = walk->core;
+    if (core_ready(core) < 0) return -1;
+    int in_block = core->blocks ? block_is_open(core) : 0;
+    if (in_block != 0 || !core->is_ordered) return in_block < 0 ? -1 : walk_gather(walk, bounds);
+    walk_note(walk, core);
+    return pages_begin(&core->store.dictionary, bounds, &walk->pages) ? 0 : fail_with(CEDAR_MEMORY);
+}
+
+/* Takes a bound; None is none. */
+static int bound_take(Core *core, PyObject *given, Span *span, const Span **bound) {
+    if (given == Py_None) return 0;
+    *bound = span;
+    return span_take(core, given, span);
+}
+
+/* An iteration over the keys with a prefix, from one on and before another; None is no bound. */
+static PyObject *walk_make(Core *core, PyObject *prefix, PyObject *low, PyObject *high, int kind) {
+    Bounds bounds = {NULL, NULL, NULL};
     Walk *walk = (Walk *)PyType_GenericAlloc(walk_type, 0);
-    if (walk) {
-        Py_INCREF(core);
-        walk->core = core;
-        walk->kind = kind;
-    }
-    return walk;
-}
-
-static PyObject *walk_begin(Core *core, PyObject *given, int kind) {
-    Span prefix;
-    if (prefix_take(core, given, &prefix) < 0) return NULL;
-    Walk *walk = walk_make(core, kind);
-    if (walk && walk_fill(walk, &prefix, given == Py_None) < 0) Py_CLEAR(walk);
-    Py_XDECREF(prefix.owner);
+    if (!walk) return NULL;
+    Py_INCREF(core);
+    walk->core = core;
+    walk->kind = kind;
+    int done = bound_take(core, prefix, &walk->prefix, &bounds.prefix);
+    if (done == 0) done = bound_take(core, low, &walk->low, &bounds.low);
+    if (done == 0) done = bound_take(core, high, &walk->high, &bounds.high);
+    if (done == 0) done = walk_begin(walk, &bounds);
+    if (done < 0) Py_CLEAR(walk);
     return (PyObject *)walk;
 }
 
 PyObject *core_iterate(Core *core) {
-    return walk_begin(core, Py_None, WALK_KEYS);
+    return walk_make(core, Py_None, Py_None, Py_None, WALK_KEYS);
 }
 
 PyObject *core_walk(Core *core, PyObject *arguments) {
     PyObject *prefix;
     int kind;
     if (!PyArg_ParseTuple(arguments, "Oi", &prefix, &kind)) return NULL;
-    return walk_begin(core, prefix, kind);
+    return walk_make(core, prefix, Py_None, Py_None, kind);
 }
 
-static int range_fill(Walk *walk, const Span *low, const Span *high) {
-    Core *core = walk->core;
-    Turn turn;
-    if (core_ready(core) < 0 || turn_begin(core, cedar_len(&core->store.dictionary) >= LONG_COUNT, &turn) < 0) return -1;
-    bool done = gather_between(&core->store.dictionary, low, high, core->is_ordered, &walk->gathered);
-    turn_end(&turn);
-    return walk_filled(walk, done, &(Bounds){NULL, low, high});
-}
-
-/* An iteration over the keys from one on and before another; None is no bound. */
 PyObject *core_range(Core *core, PyObject *arguments) {
-    PyObject *from, *to;
+    PyObject *low, *high;
     int kind;
-    Span low = {0}, high = {0};
-    Walk *walk = NULL;
-    if (!PyArg_ParseTuple(arguments, "OOi", &from, &to, &kind)) return NULL;
-    if ((from == Py_None || span_take(core, from, &low) == 0) && (to == Py_None || span_take(core, to, &high) == 0)) {
-        walk = walk_make(core, kind);
-        if (walk && range_fill(walk, low.owner ? &low : NULL, high.owner ? &high : NULL) < 0) Py_CLEAR(walk);
+    if (!PyArg_ParseTuple(arguments, "OOi", &low, &high, &kind)) return NULL;
+    return walk_make(core, Py_None, low, high, kind);
+}
+
+/* Counts the keys with a prefix: with the interpreter's lock, as long as there are few. */
+static int count_below(Core *core, const Span *prefix, size_t *count) {
+    Turn turn;
+    size_t next = 0;
+    cedar_match *matches = malloc(LONG_WALK * sizeof *matches);
+    if (!matches) return fail_with(CEDAR_MEMORY);
+    int begun = core_ready(core);
+    if (begun == 0) *count = cedar_predictions_from(&core->store.dictionary, prefix->at, prefix->length, &next, matches, LONG_WALK);
+    if (begun == 0 && *count == LONG_WALK) {
+        begun = turn_begin(core, READS, true, &turn);
+        if (begun == 0) {
+            turn_yield(&turn);
+            *count = cedar_predictions(turn.dictionary, prefix->at, prefix->length, matches, 0);
+            turn_end(&turn);
+        }
     }
-    Py_XDECREF(low.owner);
-    Py_XDECREF(high.owner);
-    return (PyObject *)walk;
+    free(matches);
+    return begun;
 }
 
 PyObject *core_count(Core *core, PyObject *given) {
     Span prefix;
-    Turn turn;
-    cedar_match unused;
     size_t count = 0;
-    if (span_take(core, given, &prefix) < 0) return NULL;
     Py_ssize_t more = 0;
-    int begun = begin_below(core, &prefix, &turn);
-    if (begun == 0) {
-        count = cedar_predictions(&core->store.dictionary, prefix.at, prefix.length, &unused, 0);
-        turn_end(&turn);
-        if (core->blocks) begun = block_more(core, &prefix, &more);
-    }
+    if (span_take(core, given, &prefix) < 0) return NULL;
+    int begun = count_below(core, &prefix, &count);
+    if (begun == 0 && core->blocks) begun = block_more(core, &prefix, &more);
     Py_DECREF(prefix.owner);
     return begun < 0 ? NULL : PyLong_FromSsize_t((Py_ssize_t)count + more);
 }
@@ -257,12 +277,12 @@ PyObject *core_popitem(Core *core, PyObject *nothing) {
     while (held == 0) {
         gathered_free(&gathered);
         held = -1;
-        if (core_ready(core) < 0) break;
-        if (cedar_len(&core->store.dictionary) == 0) PyErr_SetString(PyExc_KeyError, "popitem(): dictionary is empty");
-        else if (!gather_any(&core->store.dictionary, &gathered)) fail_with(CEDAR_MEMORY);
-        else held = key_erase(core, gathered.bytes, gathered.matches[0].length);
+        if (core_alone(core) < 0) break;
+        if (!gather_first(&core->store.dictionary, &gathered)) fail_with(CEDAR_MEMORY);
+        else if (gathered.count == 0) PyErr_SetString(PyExc_KeyError, "popitem(): dictionary is empty");
+        else held = key_erase(core, gathered.bytes, gathered.size);
     }
-    if (held > 0) pair = pair_give(key_give(core, gathered.bytes, gathered.matches[0].length), gathered.matches[0].value);
+    if (held > 0) pair = pair_give(key_give(core, gathered.bytes, gathered.size), gathered.found[0].value);
     gathered_free(&gathered);
     return pair;
 }
@@ -273,11 +293,11 @@ PyObject *core_erase_prefix(Core *core, PyObject *given) {
     size_t erased = 0;
     uint32_t status = CEDAR_OK;
     if (core_without_file(core) < 0 || span_take(core, given, &prefix) < 0) return NULL;
-    int begun = begin_below(core, &prefix, &turn);
+    int begun = begin_below(core, CHANGES, &prefix, &turn);
     if (begun == 0) {
         status = cedar_erase_prefix(&core->store.dictionary, prefix.at, prefix.length, &erased);
         turn_end(&turn);
-        if (erased > 0) core->keys_changed++;
+        if (erased > 0) note_keys(core);
     }
     Py_DECREF(prefix.owner);
     if (begun < 0 || (status != CEDAR_OK && fail_with(status) < 0)) return NULL;

@@ -2,7 +2,7 @@
 
 from typing import Any, Dict, Iterator, List, Mapping, MutableMapping, Optional, Tuple
 
-from roskvidh import Cedar, CedarError, Match, Matches, Stats, Store
+from roskvidh import Cedar, CedarError, CedarMap, Found, Match, Matches, Stats, Store
 
 
 def keys_are_bytes(data: bytes) -> None:
@@ -50,6 +50,28 @@ def stores(path: str) -> None:
     reader: Store[bytes] = Store(path, mode="r")
     found: int = reader[b"net"]
     print(found)
+
+
+def matches_are_tuples(d: Cedar[str]) -> None:
+    match: Match = d.scan("network")[0]
+    place, length, value = match
+    first: int = match[0]
+    as_tuple: Tuple[int, int, Optional[int]] = match
+    held: bool = 7 in d or None in d.keys("n")
+    print(place + length + first + match.place + match.n_fields, value, as_tuple, held)
+
+
+def values_of_any_type() -> None:
+    routes: CedarMap[str, List[str]] = CedarMap({"/": ["home"]}, text=True)
+    numbers: CedarMap[bytes, Optional[float]] = CedarMap()
+    numbers[b"half"] = 0.5
+    routes.update({"/users": []})
+    longest: Optional[Tuple[str, List[str]]] = routes.longest_prefix("/users?page=2")
+    found: List[Found] = list(routes.scan("/users"))
+    pairs: List[Tuple[str, List[str]]] = list(routes.items("/u"))
+    lists: List[List[str]] = list(routes.copy().values())
+    as_mapping: MutableMapping[bytes, Optional[float]] = numbers
+    print(longest, found[0].value, pairs, lists, as_mapping, routes["/"][0].upper(), next(routes.irange("/u")))
 
 
 def either(is_text: bool, given: Mapping[Any, int]) -> Cedar[Any]:

@@ -6,8 +6,10 @@ import os
 import re
 import subprocess
 import sys
+import tarfile
 import tempfile
 import unittest
+import zipfile
 from pathlib import Path
 
 import roskvidh
@@ -75,11 +77,50 @@ class Package(unittest.TestCase):
         self.assertIn("ImportError: the compiled part of roskvidh is missing", run.stderr)
         self.assertIn("run ./build-c, and then: pip install ./python", run.stderr)
 
+    def build(self, folder, **variables):
+        """Compiles the extension into a folder, with these variables of the environment and none of the others that say where the library is."""
+        environment = {name: value for name, value in os.environ.items() if name not in ("CEDAR_LIBRARY_FOLDER", "ROSKVIDH_PREFIX", "LD_PRELOAD")}
+        command = [sys.executable, str(HERE / "backend" / "roskvidh_build.py"), str(Path(folder) / "x.so")]
+        return subprocess.run(command, env={**environment, **variables}, stderr=subprocess.PIPE, text=True)
+
     def test_a_build_without_the_library(self):
-        environment = {**os.environ, "CEDAR_LIBRARY_FOLDER": "/nowhere"}
-        environment.pop("LD_PRELOAD", None)
-        run = subprocess.run([sys.executable, str(HERE / "backend" / "roskvidh_build.py"), "x"], env=environment, stderr=subprocess.PIPE, text=True)
-        self.assertEqual((run.returncode, "/nowhere has no libcedar.a: run ./build-c" in run.stderr), (1, True))
+        for variable, place, name in [("CEDAR_LIBRARY_FOLDER", "/nowhere", "libcedar.a"), ("ROSKVIDH_PREFIX", "/nowhere/lib", "libroskvidh.a")]:
+            run = self.build("/nowhere", **{variable: "/nowhere"})
+            self.assertEqual((run.returncode, f"{place} has no {name}: run ./build-c" in run.stderr), (1, True))
+
+    def test_a_build_over_another_version(self):
+        with tempfile.TemporaryDirectory() as folder:
+            (Path(folder) / "libcedar.a").touch()
+            (Path(folder) / "cedar.h").write_text('#define CEDAR_VERSION "7.8.9"\n')
+            run = self.build(folder, CEDAR_LIBRARY_FOLDER=folder)
+        self.assertEqual((run.returncode, "cedar.h is of version 7.8.9, and the package of " in run.stderr), (1, True))
+
+    @unittest.skipUnless(os.environ.get("CEDAR_LIBRARY_FOLDER"), "the library's folder isn't named")
+    def test_the_sources_build_over_a_prefix(self):
+        """What was packed is unpacked elsewhere, and makes a wheel over an installed library: its name says what it needs."""
+        library = Path(os.environ["CEDAR_LIBRARY_FOLDER"])
+        with tempfile.TemporaryDirectory() as name:
+            folder = Path(name)
+            for source, target in [("cedar.h", "include/roskvidh/cedar.h"), ("libcedar.a", "lib/libroskvidh.a")]:
+                (folder / target).parent.mkdir(parents=True)
+                (folder / target).write_bytes((library / source).read_bytes())
+            sys.path.insert(0, str(HERE / "backend"))
+            self.addCleanup(sys.path.remove, str(HERE / "backend"))
+            import roskvidh_build
+
+            with tarfile.open(folder / roskvidh_build.build_sdist(name)) as archive:
+                archive.extractall(name, **({"filter": "data"} if hasattr(tarfile, "data_filter") else {}))
+            unpacked = next(path for path in folder.iterdir() if path.is_dir() and path.name.startswith("roskvidh-"))
+            run = "import sys, roskvidh_build; print(roskvidh_build.build_wheel(sys.argv[1]))"
+            environment = {"PYTHONPATH": str(unpacked / "backend"), "ROSKVIDH_PREFIX": name, "PATH": os.environ["PATH"]}
+            made = subprocess.run([sys.executable, "-c", run, name], env=environment, stdout=subprocess.PIPE, text=True, check=True).stdout.strip()
+            self.assertRegex(made, r"^roskvidh-\d+\.\d+\.\d+-cp38-abi3-(manylinux_\d+_\d+|linux)_\w+\.whl$")
+            with zipfile.ZipFile(folder / made) as wheel:
+                packed = {path for path in wheel.namelist() if path.startswith("roskvidh/")}
+                metadata = wheel.read(next(path for path in wheel.namelist() if path.endswith("/METADATA"))).decode()
+            kept = {path.name for path in (HERE / "roskvidh").iterdir() if path.suffix in (".py", ".pyi") or path.name == "py.typed"}
+            self.assertEqual(packed, {f"roskvidh/{name}" for name in kept | {"_core.abi3.so"}})
+            self.assertIn("\nRequires-Python: >=3.8\n", metadata)
 
 
 if __name__ == "__main__":

@@ -64,6 +64,38 @@ class Texts(unittest.TestCase):
         self.assertEqual(cedar.prefixes(text), fronts)
         self.assertEqual(cedar.longest_prefix(text), fronts[-1] if fronts else None)
 
+    def test_texts_in_pieces(self):
+        """A long text is gone through piece by piece where the longest key's length is known; of a file that was loaded it isn't."""
+        for reduced in (False, True):
+            for seed in range(12):
+                chance = random.Random(seed)
+                text = bytes(chance.choices(b"ab", k=30_000)) + b"ab" * 5000
+                ends = [chance.randrange(600, 40_000) for _ in range(300)]
+                slices = [text[end - chance.choice([1, 2, 3, 8, 50, 200, 500]) : end] for end in ends]
+                d = Cedar(((key, i) for i, key in enumerate([*slices, b"ab" * 250, *([b"a", b"b"] * (seed % 2))])), reduced=reduced)
+                whole = Cedar.load(d.to_bytes())
+                for name in ("scan", "segment", "keywords"):
+                    told = getattr(d, name)(text)
+                    self.assertEqual(len(told), len(getattr(whole, name)(text)), name)
+                    self.assertTrue(told == getattr(whole, name)(text), name)
+
+    def test_cuts_in_pieces(self):
+        """A long text is cut part by part where no key reaches across; of a file that was loaded it is cut as a whole."""
+        for text in (False, True):
+            chance = random.Random(9)
+            letters = "".join(chance.choices("abcß ", k=500_000))
+            slices = {letters[place : place + chance.randint(1, 9)] for place in chance.choices(range(500_000), k=300)}
+            for given, keys in [(letters, slices), (letters[:3] + "a" * 400_000, ["a", "aa", "aaaa", "a" * 100]), (letters, [])]:
+                whole = given if text else given.encode()
+                d = Cedar(((key if text else key.encode(), chance.randrange(9)) for key in keys), text=text)
+                tokens = d.cheapest(whole, unknown=5)
+                self.assertTrue(tokens == Cedar.load(d.to_bytes(), text=text).cheapest(whole, unknown=5))
+                self.assertEqual(sum(token.length for token in tokens), len(whole))
+                one = Cedar.load(d.to_bytes())  # nobody knows how long its longest key is
+                in_bytes = one.cheapest(given.encode(), unknown=5)
+                if not text:
+                    self.assertTrue(tokens == in_bytes)
+
     def test_many_keys_at_a_place(self):
         """More keys than bytes of text: the room has to grow."""
         nested, text = Cedar({b"a" * n: n for n in range(1, 300)}), b"a" * 5000

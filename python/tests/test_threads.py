@@ -1,7 +1,10 @@
 """Threads that share a dictionary, each of whose steps the interpreter may leave for another thread."""
 
+import collections
+import itertools
 import os
 import random
+import signal
 import sys
 import threading
 import time
@@ -100,6 +103,13 @@ class Threads(unittest.TestCase):
 
         self.run_all(SECONDS / 4, *[lambda chance, n=n: cut(chance) for n in range(4)])
 
+    def test_own_keys_of_each_thread(self):
+        for reduced in (False, True):
+            cedar = Cedar(reduced=reduced)
+            works = [OwnKeys(cedar, number) for number in range(6)]
+            self.run_all(SECONDS / 4, *works, lambda chance: [time.sleep(0.001), cedar.shrink()])
+            self.assertEqual(dict(cedar), {key: value for work in works for key, value in work.own.items()})
+
     def test_one_iteration_of_many_threads(self):
         cedar, text = Cedar({b"%d" % i: i for i in range(3000)}), b"7" * 20_000
 
@@ -168,6 +178,79 @@ class Threads(unittest.TestCase):
         scanner.join()
         self.assertLess(took, 10)
 
+    def test_a_short_call_beside_a_long_one_that_reads(self):
+        """Look-ups, and scans of short texts and of long ones, end before a longer scan does; a change comes behind it."""
+        cedar, done = Cedar({b"ab": 1}), []
+        scan = threading.Thread(target=lambda: done.append(len(cedar.scan(b"ab" * 8_000_000))))
+        scan.start()
+        time.sleep(0.02)
+        self.assertEqual((cedar[b"ab"], list(cedar.items(b"a"))), (1, [(b"ab", 1)]))
+        self.assertEqual((len(cedar.scan(b"ab" * 10)), len(cedar.scan(b"ab" * 5000))), (10, 5000))
+        self.assertEqual(done, [])
+        cedar[b"b"] = 2
+        scan.join()
+        self.assertEqual((done, len(cedar)), ([8_000_000], 2))
+
+    def test_no_lock_step(self):
+        """Threads of look-ups and of changes are as fast behind long calls as before them."""
+        sys.setswitchinterval(0.005)
+        words = {b"%d" % i: i for i in range(20_000)}
+        cedar, counts, done = Cedar(words), [0] * 8, []
+
+        def look_up(at):
+            keys = random.Random(at).choices(list(words), k=1000)
+            while not done:
+                for key in keys:
+                    cedar.get(key)
+                if at < 2:
+                    cedar[keys[0]] = 5
+                counts[at] += 1000
+
+        def rate():
+            before, start = sum(counts), time.monotonic()
+            time.sleep(0.4)
+            return (sum(counts) - before) / (time.monotonic() - start)
+
+        threads = [threading.Thread(target=look_up, args=(at,)) for at in range(8)]
+        for thread in threads:
+            thread.start()
+        before = rate()
+        for _ in range(3):
+            cedar.scan(b"12 345 6" * 100_000)
+            cedar.update(words)
+            cedar.to_bytes()
+        after = max(rate() for _ in range(4))
+        done.append(True)
+        for thread in threads:
+            thread.join()
+        self.assertGreater(after, 0.25 * before)  # a lock-step leaves some hundredths
+
+    def test_a_call_of_some_keys_keeps_the_lock(self):
+        """To give the interpreter's lock up costs its interval beside a thread that works: short work isn't worth it."""
+        sys.setswitchinterval(0.1)
+        cedar, done = Cedar({b"%d" % i: i for i in range(3000)}), []
+        pairs, text = [(b"%d" % i, i) for i in range(1000)], b"12 345 6" * 2000
+
+        def work():
+            while not done:
+                pass
+
+        worker = threading.Thread(target=work)
+        worker.start()
+        start = time.monotonic()
+        for _ in range(4):
+            cedar.update(pairs)
+            cedar.erase_all([key for key, _ in pairs])
+            cedar.scan(text)
+            cedar.segment(text)
+            len(cedar.keys(b"1"))
+            list(cedar.items(b"1"))
+            cedar.copy()
+        took = time.monotonic() - start
+        done.append(True)
+        worker.join()
+        self.assertLess(took, 1)
+
     @unittest.skipUnless(hasattr(os, "fork"), "no fork")
     def test_a_forked_child_waits_for_nobody(self):
         cedar = Cedar({b"ab": 1})
@@ -185,6 +268,149 @@ class Threads(unittest.TestCase):
                 os._exit(0 if "forked" in str(error) else 1)
         self.assertEqual(os.waitpid(child, 0)[1], 0)
         scan.join()
+
+
+class OwnKeys:
+    """A thread's keys of a dictionary that others change too: what it sees of them is what it did to them."""
+
+    def __init__(self, cedar, number):
+        self.cedar, self.prefix, self.own = cedar, b"%d:" % number, {}
+
+    def __call__(self, chance):
+        key = self.prefix + bytes(chance.choices(b"abc", k=chance.randint(1, 4)))
+        getattr(self, chance.choice(["change", "change", "change_many", "read", "find"]))(chance, key)
+        assert self.cedar.get(key) == self.own.get(key)
+
+    def change(self, chance, key):
+        if chance.random() < 0.6:
+            self.cedar[key] = self.own[key] = chance.randrange(99)
+        else:
+            assert self.cedar.pop(key, None) == self.own.pop(key, None)
+
+    def change_many(self, chance, key):
+        keys = {self.prefix + bytes(chance.choices(b"abcd", k=4)): chance.randrange(99) for _ in range(20)}
+        if chance.random() < 0.5:
+            self.cedar.update(keys)
+            self.own.update(keys)
+        elif chance.random() < 0.5:
+            assert self.cedar.erase_all(keys) == sum(self.own.pop(key, None) is not None for key in keys)
+        else:
+            gone = [held for held in self.own if held.startswith(key[:-1])]
+            assert self.cedar.erase_prefix(key[:-1]) == len(gone)
+            for held in gone:
+                del self.own[held]
+
+    def read(self, chance, key):
+        own = sorted(self.own.items())
+        assert list(self.cedar.items(self.prefix)) == own and len(self.cedar.keys(self.prefix)) == len(own)
+        assert list(self.cedar.irange(self.prefix, self.prefix + b"\xff")) == [held for held, _ in own]
+        assert list(self.cedar.copy().items(self.prefix)) == own
+
+    def find(self, chance, key):
+        places = [found.value for found in self.cedar.scan(key) if found.place == 0]
+        assert places == [self.own[key[:length]] for length in range(1, len(key) + 1) if key[:length] in self.own]
+        self.cedar.segment(key * 2000)
+        self.cedar.cheapest(key * 2000, unknown=3)
+
+
+class Interrupted(Exception):
+    """What the handler of a signal raises."""
+
+
+@unittest.skipUnless(hasattr(signal, "setitimer"), "no timers")
+class Signals(unittest.TestCase):
+    """A signal's handler runs while a long call is under way, and ends it by raising."""
+
+    def setUp(self):
+        self.cedar = Cedar({b"ab": 1, b"b" * 50: 2})
+        self.addCleanup(signal.signal, signal.SIGALRM, signal.getsignal(signal.SIGALRM))
+        self.addCleanup(signal.setitimer, signal.ITIMER_REAL, 0)
+
+    def interrupts(self, call, handler=None):
+        """Makes a call that would take seconds, and returns how long it took until it was interrupted."""
+
+        def handle(*_):
+            if handler:
+                handler()
+            raise Interrupted
+
+        signal.signal(signal.SIGALRM, handle)
+        start = time.monotonic()
+        signal.setitimer(signal.ITIMER_REAL, 0.1)
+        with self.assertRaises(Interrupted):
+            call()
+        return time.monotonic() - start
+
+    def test_texts(self):
+        text = b"ab c" * 40_000_000
+        for call in (self.cedar.scan, self.cedar.segment, self.cedar.keywords, lambda text: self.cedar.cheapest(text, unknown=1)):
+            self.interrupts(lambda call=call: call(text))
+        self.assertEqual((self.cedar[b"ab"], len(self.cedar.scan(b"abab"))), (1, 2))
+        self.interrupts(lambda: Cedar.load(self.cedar.to_bytes()).scan(text))
+
+    def test_lists(self):
+        pairs = [(b"%d" % (i % 1000), i) for i in range(1000)] * 10_000
+        self.interrupts(lambda: self.cedar.update(pairs))
+        self.interrupts(lambda: self.cedar.erase_all([key for key, _ in pairs]))
+        self.cedar.update(pairs[:1000])
+        self.assertEqual((len(self.cedar), self.cedar[b"999"]), (1002, 999))
+
+    def test_at_any_moment(self):
+        """An update that is interrupted has stored the first pairs, and a removal has taken the first keys out."""
+        pairs = [(b"%d" % i, i) for i in range(200_000)]
+        for delay in range(10, 250, 20):
+            d = Cedar({b"x": 1})
+            signal.signal(signal.SIGALRM, self.raise_it)
+            signal.setitimer(signal.ITIMER_REAL, delay / 1000)
+            try:
+                d.update(pairs)
+                d.erase_all([key for key, _ in pairs])
+                signal.setitimer(signal.ITIMER_REAL, 0)
+            except Interrupted:
+                pass
+            self.assertEqual(d.pop(b"x"), 1)
+            held = sorted(d.values())
+            first, last = list(range(len(held))), list(range(200_000 - len(held), 200_000))
+            self.assertTrue(held == first or held == last)
+
+    @staticmethod
+    def raise_it(*_):
+        raise Interrupted
+
+    def test_iterations(self):
+        d = Cedar(((b"%d" % i, i) for i in range(100_000)))
+        self.interrupts(lambda: [list(d.items(b"1")) for _ in range(10_000)])
+        walk, repeated = iter(d), itertools.chain.from_iterable(itertools.repeat(d))
+        self.interrupts(lambda: collections.deque(repeated, maxlen=0))  # no code of Python's runs between two keys
+        self.assertEqual((len(list(d)), len(list(walk))), (100_000, 100_000))
+
+    def test_a_wait(self):
+        """The main thread waits for another thread's scan, whose dictionary it wants to change."""
+        other = threading.Thread(target=self.cedar.scan, args=(b"ab" * 60_000_000,))
+        other.start()
+        time.sleep(0.02)
+        self.interrupts(lambda: [self.cedar.__setitem__(b"c", 1) for _ in range(10**8)])
+        other.join()
+        self.cedar[b"d"] = 1
+        self.assertEqual(self.cedar[b"d"], 1)
+
+    def test_a_handler_that_calls_the_dictionary(self):
+        """It reads within its own thread's call that reads. What would wait for that call is refused."""
+        answers = []
+
+        def look(*calls):
+            for call in calls:
+                try:
+                    answers.append(call())
+                except RuntimeError as error:
+                    answers.append(str(error))
+
+        d, text = self.cedar, b"ab c" * 40_000_000
+        refusal = "a signal handler has called a dictionary within a call of its own thread"
+        self.interrupts(lambda: d.scan(text), lambda: look(lambda: d[b"ab"], lambda: len(d.scan(b"ab" * 5000)), lambda: d.pop(b"ab")))
+        self.assertEqual(answers, [1, 5000, refusal])
+        d[b"c"] = 5
+        self.assertEqual(dict(d.items(b"c")), {b"c": 5})
 
 
 def loaded_keys(cedar):

@@ -214,6 +214,9 @@ static void many_pairs(void) {
     CHECK(cedar_update_all(&d, pairs, 3, &position) == CEDAR_IS_CLOSED);
     CHECK(cedar_new(&d) == CEDAR_OK);
     CHECK(cedar_update_all(&d, pairs, 4, &position) == CEDAR_NUL_BYTE && position == 1 && cedar_len(&d) == 0);
+    CHECK(cedar_faulty_pair(pairs, 4) == 3 && cedar_faulty_pair(pairs, 3) == 3 && cedar_faulty_pair(NULL, 0) == 0);
+    const cedar_pair others[] = {{bytes_of("a"), 1, CEDAR_MAX_VALUE}, {bytes_of("b"), 1, -1}, {bytes_of(""), 0, 1}, {bytes_of("c"), 1, INT32_MAX}};
+    CHECK(cedar_faulty_pair(others, 4) == 1 && cedar_faulty_pair(&others[2], 2) == 0 && cedar_faulty_pair(&others[3], 1) == 0);
     CHECK(cedar_update_all(&d, pairs, 3, &position) == CEDAR_OK && cedar_len(&d) == 2);
     CHECK(cedar_get(&d, bytes_of("a"), 1, &value) && value == 3 && cedar_get(&d, bytes_of("ab"), 2, &value) && value == 2);
     CHECK(cedar_update_all(&d, pairs, 0, &position) == CEDAR_OK && cedar_len(&d) == 2);

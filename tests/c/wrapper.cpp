@@ -5,7 +5,6 @@
 #include <cerrno>
 #include <fstream>
 #include <functional>
-#include <iterator>
 #include <map>
 #include <sys/stat.h>
 #include <thread>
@@ -63,12 +62,17 @@ void lacks_memory(const std::function<void()> &call) {
     CHECK(!"std::bad_alloc was thrown");
 }
 
+// What a range shows: the same each time.
 Pairs listed(const roskvidh::entries &range) {
     Pairs pairs;
     for (const auto &[key, value] : range) pairs.emplace_back(key, value);
-    CHECK(pairs.size() == range.size() && range.empty() == pairs.empty());
+    CHECK(std::equal(range.begin(), range.end(), pairs.begin(), pairs.end(),
+                     [](const roskvidh::entry &one, const auto &pair) { return one.key == pair.first && one.value == pair.second; }));
+    CHECK(range.empty() == pairs.empty());
     return pairs;
 }
+
+Pairs listed(const dictionary &d) { return listed(d.entries()); }
 
 Ends ends(const std::vector<roskvidh::match> &found) {
     Ends pairs;
@@ -141,17 +145,9 @@ void each_member(layout kind) {
     CHECK(d.empty() && d.is_open() && d.kind() == kind && d.statistics().used_slots == 1);
 }
 
-// Iterators and ranges that outlive what they come from; callables that end a walk or throw.
-void ranges_and_callables() {
-    dictionary d = dictionary::from_sorted({{"a", 1}, {"ab", 2}, {"b", 3}});
-    roskvidh::entries range = d.entries();
-    auto second = std::next(range.begin());
-    d = dictionary();
-    const roskvidh::entries moved = std::move(range);
-    CHECK((*second).key == "ab" && (*second++).value == 2 && (*second).key == "b" && ++second == moved.end());
-    CHECK(std::distance(moved.begin(), moved.end()) == 3 && moved.size() == 3 && d.empty() && listed(range).empty());
-    CHECK(roskvidh::entries::iterator() == roskvidh::entries::iterator());
-
+// Callables that end a walk or throw.
+void callables() {
+    dictionary d;
     CHECK(segmented(dictionary::from_sorted({{"a", 0}}), "ab") == Tokens({{0, 1, 0}, {1, 1, std::nullopt}}));
     d.update_all({{"a", 1}, {"aa", 2}});
     int calls = 0;
@@ -187,7 +183,7 @@ void many_answers() {
 void settings_and_sorted_pairs(layout kind) {
     dictionary unordered(kind, false, 3);
     unordered.update_all({{"a", 1}, {"c", 3}, {"b", 2}});
-    CHECK(listed(unordered.entries()) == Pairs({{"b", 2}, {"c", 3}, {"a", 1}}) && listed(unordered.clone().entries()) == listed(unordered.entries()));
+    CHECK(listed(unordered.entries()) == Pairs({{"b", 2}, {"c", 3}, {"a", 1}}) && listed(unordered.clone()) == listed(unordered));
     CHECK(listed(unordered.entries_with_prefix("c")) == Pairs({{"c", 3}}));
 
     const Plain plain = {{"a", 1}, {"a\xff", 2}, {"b", 3}};
@@ -210,18 +206,22 @@ void refusals(layout kind) {
     dictionary d(kind);
     d.update("held", 1);
     const char *const value_text = "cedar value is outside the supported range 0..=2147483645";
-    const std::function<void(std::string_view, std::int32_t)> stores[] = {
-        [&](auto key, auto value) { d.update(key, value); },
-        [&](auto key, auto value) { d.insert(key, value); },
-        [&](auto key, auto value) { d.update_all({{"a", 1}, {key, value}}); },
-        [&](auto key, auto value) { dictionary::from_sorted({{key, value}}, kind); },
-        [&](auto key, auto value) { dictionary::from_pairs({{"b", 2}, {"a", 1}, {key, value}, {"", 1}}, kind); },
+    // Each with where the pair stands among the many that it is given.
+    const std::pair<std::function<void(std::string_view, std::int32_t)>, std::string> stores[] = {
+        {[&](auto key, auto value) { d.update(key, value); }, ""},
+        {[&](auto key, auto value) { d.insert(key, value); }, ""},
+        {[&](auto key, auto value) { d.update_all({{"a", 1}, {key, value}}); }, "pair 1"},
+        {[&](auto key, auto value) { dictionary::from_sorted({{key, value}}, kind); }, "pair 0"},
+        {[&](auto key, auto value) { dictionary::from_pairs({{"b", 2}, {"a", 1}, {key, value}, {"", 1}}, kind); }, "pair 2"},
     };
-    for (const auto &store : stores) {
-        refused(CEDAR_EMPTY_KEY, {}, "cedar keys must not be empty", [&] { store({}, -1); });
-        refused(CEDAR_NUL_BYTE, 2, "cedar keys must not contain the terminal byte 0x00 (at byte 2)", [&] { store("ab\0"sv, -1); });
-        refused(CEDAR_INVALID_VALUE, {}, value_text, [&] { store("ab", -1); });
-        refused(CEDAR_INVALID_VALUE, {}, value_text, [&] { store("ab", CEDAR_MAX_VALUE + 1); });
+    for (const auto &[call, pair] : stores) {
+        const std::string at = pair.empty() ? "" : " (at " + pair + ")", of = pair.empty() ? "" : " of " + pair;
+        const auto &store = call;
+        refused(CEDAR_EMPTY_KEY, {}, "cedar keys must not be empty" + at, [&] { store({}, -1); });
+        const std::string nul_text = "cedar keys must not contain the terminal byte 0x00 (at byte 2" + of + ")";
+        refused(CEDAR_NUL_BYTE, 2, nul_text, [&] { store("ab\0"sv, -1); });
+        refused(CEDAR_INVALID_VALUE, {}, value_text + at, [&] { store("ab", -1); });
+        refused(CEDAR_INVALID_VALUE, {}, value_text + at, [&] { store("ab", CEDAR_MAX_VALUE + 1); });
         CHECK(d.size() == 1);
     }
     refused(CEDAR_SLOT_LIMIT, {}, "cedar trie has no slot left", [&] { d.reserve(std::size_t{1} << 22); });
@@ -287,6 +287,7 @@ void readers(layout kind) {
             const std::string key = std::to_string(i);
             CHECK(d.get(key) == i && d.prefixes(key + "x").size() == key.size() && d.longest_match(key)->value == i);
             CHECK(segmented(d, key) == Tokens({{0, key.size(), i}}) && d.predictions(key, 1).front().value == i);
+            CHECK(d.find(key)->value == i && d.lower_bound(key) == d.find(key) && d.upper_bound(key) != d.lower_bound(key));
         }
     };
     std::vector<std::thread> threads;
@@ -308,7 +309,7 @@ void entries_below(layout kind) {
             for (const auto &one : all) {
                 if (one.first.compare(0, prefix.size(), prefix) == 0) some.push_back(one);
             }
-            CHECK(listed(d.entries_with_prefix(prefix)) == some && listed(d.clone().entries_with_prefix(prefix)) == some);
+            CHECK(listed(d.entries_with_prefix(prefix)) == some && d.count_prefix(prefix) == some.size());
             dictionary moved = std::move(d);
             CHECK(listed(moved.entries_with_prefix(prefix)) == some);
             d = std::move(moved);
@@ -342,7 +343,7 @@ void refused_files(layout kind) {
     refused(CEDAR_FILE_MEMORY_LIMIT, {}, limit_text, [&] { dictionary::load(file, 100); });
     refused(CEDAR_FILE_TRUNCATED, {}, "serialized cedar trie is truncated", [&] { dictionary::load(nullptr, 0); });
     lacks_memory([&] { dictionary::load(file); });
-    CHECK(listed(dictionary::load(file.data(), file.size(), CEDAR_LOAD_LIMIT).entries()) == listed(d.entries()));
+    CHECK(listed(dictionary::load(file.data(), file.size(), CEDAR_LOAD_LIMIT)) == listed(d));
     const std::vector<std::uint8_t> full = d.save(roskvidh::file_format::v1_0);
     CHECK(file[10] == 1 && full[10] == 0 && dictionary::load(full).save() == file && dictionary::load(file).kind() == kind);
 }
@@ -418,6 +419,11 @@ void paths(layout kind, const std::string &folder) {
     places(d, path);
     two_savers(d, path);
     no_file(path + "/none", [&] { d.save_to_path(path + "/none"); }, ENOTDIR);
+    // A path isn't cut at a byte 0.
+    const std::string cut = path + std::string("\0.none", 6);
+    no_file(path, [&] { d.save_to_path(cut); }, EINVAL);
+    no_file(path, [&] { dictionary::load_from_path(cut); }, EINVAL);
+    no_file(path, [&] { roskvidh::store(cut, kind); }, EINVAL);
     const dictionary moved(std::move(d));
     refused(CEDAR_IS_CLOSED, {}, "the dictionary is closed", [&] { d.save_to_path(path); });
     CHECK(mkdir(blocked.c_str(), 0700) == 0); // a folder isn't replaced
@@ -482,8 +488,14 @@ void stores(layout kind, const std::string &folder) {
         try {
             s.apply({{"a", 1}, {"nets", std::nullopt}, {std::string_view("ne\0t", 4), 2}});
             CHECK(!"a fault was refused");
-        } catch (const roskvidh::batch_error &e) {
-            CHECK(e.status() == CEDAR_NUL_BYTE && e.position() == 2u && e.index() == 2);
+        } catch (const roskvidh::error &e) {
+            CHECK(e.status() == CEDAR_NUL_BYTE && e.position() == 2u && e.index() == 2u);
+        }
+        try {
+            s.apply({{"a", 1}, {"b", 4294967297LL}});
+            CHECK(!"a value was refused");
+        } catch (const roskvidh::value_out_of_range &e) {
+            CHECK(e.index() == 1u && !s.words().contains("a"));
         }
         lacks_memory([&] { s.apply({{"net", 1}, {"k2", std::nullopt}, {"nets", 2}}); });
         CHECK(!s.words().get("net") && s.words().get("k2") == 2 && s.words().get("nets") == 5 && s.words().size() == 1000);
@@ -634,7 +646,7 @@ void random_calls(layout kind, long count) {
 
 int main(int count, char **arguments) {
     const std::string folder = count > 2 ? arguments[2] : ".";
-    ranges_and_callables();
+    callables();
     many_answers();
     for (const layout kind : {layout::standard, layout::reduced}) {
         each_member(kind);

@@ -1,0 +1,179 @@
+// What the classes of cedar.hpp share: errors and small types. Include cedar.hpp.
+#ifndef ROSKVIDH_CEDAR_BASICS_HPP
+#define ROSKVIDH_CEDAR_BASICS_HPP
+
+#include "cedar.h"
+
+#include <cerrno>
+#include <cstddef>
+#include <cstdint>
+#include <limits>
+#include <new>
+#include <optional>
+#include <stdexcept>
+#include <string>
+#include <string_view>
+#include <system_error>
+#include <type_traits>
+
+namespace roskvidh {
+
+/// How the slots of a dictionary represent its keys. All results are the same in both; the reduced layout takes fewer slots.
+enum class layout { standard, reduced };
+
+/// The version of a file's format: 1.1 lists the slots in use, 1.0 all slots.
+enum class file_format { v1_1, v1_0 };
+
+/// A call that was refused. what() is the library's text, followed by the position if there is one.
+class error : public std::runtime_error {
+public:
+    error(std::uint32_t status, std::optional<std::size_t> position, std::optional<std::size_t> index = std::nullopt)
+        : std::runtime_error(text_of(status, position, index)), status_(status), position_(position), index_(index) {}
+
+    /// The status of cedar.h, such as CEDAR_NUL_BYTE.
+    std::uint32_t status() const noexcept { return status_; }
+
+    /// For CEDAR_NUL_BYTE, the place of the first byte 0 in the key. For CEDAR_DUPLICATE_KEY and CEDAR_KEYS_NOT_SORTED, the index of the
+    /// pair. For CEDAR_STORE_DAMAGED, the byte of the file at which the damaged record begins. Otherwise nothing.
+    std::optional<std::size_t> position() const noexcept { return position_; }
+
+    /// Which of many pairs or changes has the fault: its index in what the call was given. Otherwise nothing.
+    std::optional<std::size_t> index() const noexcept { return index_; }
+
+private:
+    static std::string text_of(std::uint32_t status, std::optional<std::size_t> position, std::optional<std::size_t> index) {
+        std::uint8_t none = 0;
+        std::string text(cedar_status_text(status, &none, 0), ' ');
+        if (!text.empty()) cedar_status_text(status, reinterpret_cast<std::uint8_t *>(text.data()), text.size());
+        const bool is_byte = status == CEDAR_NUL_BYTE || status == CEDAR_STORE_DAMAGED;
+        std::string place;
+        if (position && is_byte) place = "at byte " + std::to_string(*position);
+        if (index) place += (place.empty() ? "at pair " : " of pair ") + std::to_string(*index);
+        return place.empty() ? text : text + " (" + place + ")";
+    }
+
+    std::uint32_t status_;
+    std::optional<std::size_t> position_;
+    std::optional<std::size_t> index_;
+};
+
+/// A value that isn't from 0 to 2147483645. Its status() is CEDAR_INVALID_VALUE.
+class value_out_of_range : public error {
+public:
+    using error::error;
+};
+
+namespace detail {
+
+// What every dictionary refuses: it stands for each value that is out of range.
+inline constexpr std::int32_t refused_value = -1;
+
+// Integers, and those enumerations that C++ takes for integers.
+template <class Number>
+inline constexpr bool is_whole = std::is_integral_v<Number> || (std::is_enum_v<Number> && std::is_convertible_v<Number, std::intmax_t>);
+
+template <class Number>
+constexpr bool is_in_range(Number value) noexcept {
+    if constexpr (std::is_signed_v<Number>) {
+        if (value < 0) return false;
+    }
+    // A narrower type has no larger number.
+    if constexpr (std::numeric_limits<Number>::digits >= 31) return value <= static_cast<Number>(CEDAR_MAX_VALUE);
+    return true;
+}
+
+template <class Number>
+constexpr std::int32_t value_of(Number value) noexcept {
+    if constexpr (std::is_enum_v<Number>) return value_of(static_cast<std::underlying_type_t<Number>>(value));
+    else return is_in_range(value) ? static_cast<std::int32_t>(value) : refused_value;
+}
+
+} // namespace detail
+
+/// A value that is handed to a call, of any type of integers. One that isn't from 0 to 2147483645 is refused by the call
+/// (value_out_of_range), and none is cut.
+class any_integer {
+public:
+    template <class Number, std::enable_if_t<detail::is_whole<Number>, int> = 0>
+    constexpr any_integer(Number value) noexcept : value_(detail::value_of(value)) {}
+
+    /// The value as cedar.h takes it: a negative one if it is out of range.
+    constexpr std::int32_t get() const noexcept { return value_; }
+
+private:
+    std::int32_t value_;
+};
+
+/// A key that was found: its value, and how many bytes the key has.
+using match = cedar_match;
+
+/// A key in a text: where it begins, how many bytes it has, and its value.
+using occurrence = cedar_found;
+
+/// A token of a text: where it begins, how many bytes it has, and its value if it is a key.
+struct token {
+    std::size_t place;
+    std::size_t length;
+    std::optional<std::int32_t> value;
+};
+
+/// Figures of a dictionary.
+struct statistics {
+    std::size_t keys;         ///< how many keys are held
+    std::size_t used_slots;   ///< how many slots represent the root, bytes of keys, and values
+    std::size_t capacity;     ///< how many slots there are
+    std::size_t spare_blocks; ///< how many blocks of 256 slots can come into use before memory is allocated
+};
+
+namespace detail {
+
+// What is proved of C is of pointers that aren't null, as that of an empty view may be.
+inline const std::uint8_t *bytes(std::string_view text) noexcept {
+    return reinterpret_cast<const std::uint8_t *>(text.empty() ? "" : text.data());
+}
+
+// Throws what a status says. `position` is what C has written, and `index` that of the pair which the status speaks of, if there are many.
+inline void check(std::uint32_t status, std::size_t position = 0, std::optional<std::size_t> index = std::nullopt) {
+    switch (status) {
+    case CEDAR_OK: return;
+    case CEDAR_MEMORY: throw std::bad_alloc();
+    case CEDAR_INVALID_VALUE: throw value_out_of_range(status, std::nullopt, index);
+    case CEDAR_DUPLICATE_KEY:
+    case CEDAR_KEYS_NOT_SORTED: throw error(status, position, position);
+    case CEDAR_NUL_BYTE:
+    case CEDAR_STORE_DAMAGED: throw error(status, position, index);
+    default: throw error(status, std::nullopt, index);
+    }
+}
+
+// Whether a status speaks of a key or a value that a call was given.
+inline bool is_fault(std::uint32_t status) noexcept {
+    return status == CEDAR_EMPTY_KEY || status == CEDAR_NUL_BYTE || status == CEDAR_INVALID_VALUE;
+}
+
+inline token token_of(const cedar_found &one) noexcept {
+    return {one.place, one.length, one.value < 0 ? std::nullopt : std::optional(one.value)};
+}
+
+[[noreturn]] inline void throw_file_error(int number, const std::string &path) {
+    throw std::system_error(number, std::generic_category(), path);
+}
+
+// A path as C takes it, which ends at a byte 0: what has one before its end is no path.
+inline const char *path_of(const std::string &path) {
+    if (path.find('\0') != std::string::npos) throw_file_error(EINVAL, path);
+    return path.c_str();
+}
+
+// As check, for a call on the file at a path. What errno has is read before anything else may change it.
+inline void check_file(std::uint32_t status, const std::string &path) {
+    const int number = errno;
+    if (status == CEDAR_FILE_UNREAD) throw_file_error(number, path);
+    check(status);
+}
+
+} // namespace detail
+
+} // namespace roskvidh
+
+#endif
