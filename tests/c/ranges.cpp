@@ -150,6 +150,68 @@ void changes_meanwhile(layout kind) {
     CHECK(d.size() == 1);
 }
 
+std::string short_key() {
+    std::string key(1 + next_random() % 3, 'a');
+    for (char &letter : key) letter = "abc\x01\x7f\x80\xff"[next_random() % 7];
+    return key + std::string(next_random() % 40 == 0 ? 300 : 0, '~');
+}
+
+// Changes at random between two steps: the keys that are shown ascend, each had its value, and one that stays all the while is shown.
+void changes_at_random(layout kind) {
+    for (int round = 0; round < 60; ++round) {
+        dictionary d(kind);
+        Plain plain;
+        std::map<std::string, std::set<std::int32_t>> values;
+        std::set<std::string> stays;
+        const auto change = [&](std::int32_t value) {
+            const std::string key = short_key();
+            if (next_random() % 3 == 0) {
+                CHECK(d.erase(key) == (plain.erase(key) == 1));
+                stays.erase(key);
+            } else {
+                d.update(key, value);
+                plain[key] = value;
+                values[key].insert(value);
+            }
+        };
+        for (int i = 0; i < 300; ++i) change(i);
+        const std::string from = round % 3 == 0 ? "" : short_key(), to = round % 3 == 2 ? short_key() : "\xff\xff\xff\xff";
+        for (auto at = plain.lower_bound(from); at != plain.end() && at->first < to; ++at) stays.insert(at->first);
+        const roskvidh::entries range = d.range(from, to);
+        Pairs shown;
+        for (const auto &[key, value] : range) {
+            CHECK(from <= key && key < to && (shown.empty() || shown.back().first < key));
+            CHECK(values.at(std::string(key)).count(value) == 1);
+            stays.erase(std::string(key));
+            shown.emplace_back(key, value);
+            for (int i = static_cast<int>(next_random() % 4); i > 0; --i) change(1000 + i);
+        }
+        CHECK(stays.empty() && listed(range) == shown && listed(d.entries()) == Pairs(plain.begin(), plain.end()));
+    }
+}
+
+// A dictionary that is assigned to or swapped: what was shown stays, and the next page is of what it holds then.
+void another_content(layout kind) {
+    const auto filled = [kind](bool ordered) {
+        dictionary d(kind, ordered);
+        d.update_all(numbered(1000));
+        return d;
+    };
+    dictionary d = filled(true), other(kind);
+    const roskvidh::entries range = d.entries();
+    auto at = range.begin();
+    other.update_all({{"1", 1}, {"9", 9}});
+    swap(d, other);
+    std::size_t of_the_first = 0;
+    for (; at->key != "9"; ++at) of_the_first++;
+    CHECK(of_the_first > 1 && of_the_first < 1000 && at->value == 9 && ++at == range.end() && listed(range).size() == of_the_first + 1);
+    d = filled(true);
+    auto last = d.begin();
+    d = filled(false);
+    refused(CEDAR_NOT_ASCENDING, [&] { for (;;) ++last; });
+    CHECK(last->key >= "1000");
+}
+
 // Copies of an iterator go on by themselves, and a range stays what it was when it is copied or moved.
 void copies() {
     dictionary d;
@@ -270,6 +332,8 @@ int main() {
         same_entries(kind, false);
         first_few(kind);
         changes_meanwhile(kind);
+        changes_at_random(kind);
+        another_content(kind);
     }
     copies();
     lifetimes();
