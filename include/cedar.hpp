@@ -132,6 +132,8 @@ public:
     using key_type = std::string;
     using mapped_type = std::int32_t;
     using value_type = owned_entry;
+    using reference = entry;
+    using const_reference = entry;
     using size_type = std::size_t;
     using difference_type = std::ptrdiff_t;
     using const_iterator = entry_iterator;

@@ -285,6 +285,9 @@ public:
     using iterator = entry_iterator;
     using const_iterator = entry_iterator;
     using value_type = owned_entry;
+    using reference = entry;
+    using const_reference = entry;
+    using difference_type = std::ptrdiff_t;
 
     iterator begin() const noexcept { return iterator(first_); }
     iterator end() const noexcept { return {}; }

@@ -60,6 +60,12 @@ using Iterator = roskvidh::entry_iterator;
 static_assert(std::is_nothrow_move_constructible_v<roskvidh::entries> && std::is_copy_constructible_v<roskvidh::entries>);
 static_assert(std::is_nothrow_move_constructible_v<Iterator> && std::is_nothrow_copy_constructible_v<Iterator>);
 static_assert(std::is_convertible_v<entry, std::pair<std::string, long>> && !std::is_convertible_v<entry, std::pair<std::string, short>>);
+// A range of a temporary dictionary would read it once it is gone: it isn't compiled.
+template <class Dictionary, class = void>
+constexpr bool has_entries = false;
+template <class Dictionary>
+constexpr bool has_entries<Dictionary, std::void_t<decltype(std::declval<Dictionary>().entries())>> = true;
+static_assert(has_entries<dictionary &> && has_entries<const dictionary &> && !has_entries<dictionary> && !has_entries<const dictionary>);
 #if __cplusplus >= 202002L && defined(__cpp_lib_ranges)
 static_assert(std::forward_iterator<Iterator> && std::ranges::forward_range<roskvidh::entries>);
 #endif
