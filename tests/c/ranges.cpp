@@ -290,6 +290,21 @@ void many_pages() {
     CHECK(d.count_prefix("z") == 2 && listed(d.entries_with_prefix("z")) == Pairs({{long_key, 1}, {long_key + "z", 2}}));
 }
 
+// How many allocations of C++ a call needs: with fewer it throws, and leaves nothing behind.
+long needed(const std::function<void()> &call) {
+    for (long most = 0;; ++most) {
+        CHECK(most < 20);
+        left = most;
+        try {
+            call();
+            left = -1;
+            return most;
+        } catch (const std::bad_alloc &) {
+            left = -1;
+        }
+    }
+}
+
 // A page that can't be taken: the iterator stays where it was.
 void refusals() {
     dictionary d;
@@ -312,16 +327,20 @@ void refusals() {
         shown.emplace_back(key, 0);
     }
     CHECK(at == range.end());
-    for (long most = 0; most < 3; ++most) {
-        left = most;
-        try {
-            (void)d.entries();
-            CHECK(most > 1);
-        } catch (const std::bad_alloc &) {
-            CHECK(most < 3);
-        }
-        left = -1;
-    }
+    dictionary unordered(layout::standard, false);
+    unordered.update_all(numbered(100));
+    const std::string long_key(40, '1');
+    const std::function<void()> calls[] = {
+        [&] { (void)d.begin(); },
+        [&] { (void)d.entries_with_prefix(long_key); },
+        [&] { (void)d.entries_from("1010"); },
+        [&] { (void)d.range("1010", long_key); },
+        [&] { (void)d.find("1001"); },
+        [&] { (void)d.lower_bound(long_key); },
+        [&] { (void)d.upper_bound("1010"); },
+        [&] { CHECK(!unordered.entries().empty()); },
+    };
+    for (const auto &call : calls) CHECK(needed(call) > 0);
     // A dictionary that was moved away has no further page.
     const roskvidh::entries begun = d.entries();
     Iterator last = begun.begin();
