@@ -2,10 +2,11 @@
 
 import os
 from contextlib import contextmanager
+from itertools import chain
 from typing import Any, Iterable, Iterator, Literal, Optional, Tuple, TypeVar, Union, overload
 
 from . import _core
-from .cedar import Cedar, Pairs, _copied, _pairs_of
+from .cedar import Cedar, Pairs, _copied, _name_item, _pairs_of, _store_each
 from .words import Words
 
 K = TypeVar("K", bytes, str)
@@ -201,10 +202,7 @@ class Store(Words[K]):
     def update(self, pairs: Pairs[K] = (), /, **keywords: int) -> None:  # type: ignore[override]
         """Stores the pairs of a mapping or of an iterable as a batch: the last value of a key counts. If one is refused, none is stored."""
         with self.batch():
-            for key, value in _pairs_of(pairs):
-                self[key] = value
-            for name, value in keywords.items():
-                self[name] = value  # type: ignore[index]  # of a store of bytes it is refused
+            _store_each(self, chain(_pairs_of(pairs), keywords.items()))
 
     def clear(self) -> None:
         """Removes all keys, as a batch."""
@@ -227,9 +225,15 @@ class Store(Words[K]):
 
     def erase_all(self, keys: Iterable[K], /) -> int:
         """Removes the keys of an iterable, as a batch, and returns how many of them were held."""
-        listed = list(keys)
+        listed, erased = list(keys), 0
         with self.batch():
-            return sum(self.pop(key, None) is not None for key in listed)
+            for number, key in enumerate(listed):
+                try:
+                    erased += self.pop(key, None) is not None
+                except (TypeError, ValueError) as error:
+                    _name_item(error, f"key {number}")
+                    raise
+        return erased
 
     def copy(self) -> "Cedar[K]":
         """Returns an equal Cedar, without a file."""

@@ -268,25 +268,6 @@ PyObject *core_longest_prefix(Core *core, PyObject *given) {
     return pair;
 }
 
-PyObject *core_popitem(Core *core, PyObject *nothing) {
-    (void)nothing;
-    Gathered gathered = {0};
-    PyObject *pair = NULL;
-    int held = 0;
-    /* Where a store waits for the disk, another thread may remove the key first. */
-    while (held == 0) {
-        gathered_free(&gathered);
-        held = -1;
-        if (core_alone(core) < 0) break;
-        if (!gather_first(&core->store.dictionary, &gathered)) fail_with(CEDAR_MEMORY);
-        else if (gathered.count == 0) PyErr_SetString(PyExc_KeyError, "popitem(): dictionary is empty");
-        else held = key_erase(core, gathered.bytes, gathered.size);
-    }
-    if (held > 0) pair = pair_give(key_give(core, gathered.bytes, gathered.size), gathered.found[0].value);
-    gathered_free(&gathered);
-    return pair;
-}
-
 PyObject *core_erase_prefix(Core *core, PyObject *given) {
     Span prefix;
     Turn turn;

@@ -338,6 +338,61 @@ class Stores(unittest.TestCase):
             s[b"c"] = 3
             self.assertEqual((s.waiting, b"b" in s, s[b"c"]), (0, False, 3))
 
+    def test_calls_of_one_moment(self):
+        """Beside another thread's changes, setdefault has one winner, and pop and popitem never take what is there no more."""
+        with Store(self.path) as s:
+            done = []
+
+            def change():
+                while not done:
+                    s[b"other"] = 1
+
+            changes = [threading.Thread(target=change) for _ in range(2)]
+            for thread in changes:
+                thread.start()
+            for _ in range(20):
+                got = self.at_once([lambda n=n: s.setdefault(b"k", n) for n in range(5)])
+                self.assertEqual((len(set(got)), s[b"k"]), (1, got[0]))
+                puts = [lambda n=n: s.__setitem__(b"k", n) for n in range(5, 7)]
+                taken = self.at_once([*puts, lambda: s.pop(b"k", None), lambda: s.popitem()[1]]) + [s.pop(b"k", None)]
+                taken = [value for value in taken if value not in (None, 1)]
+                self.assertEqual(len(taken), len(set(taken)))
+                s.setdefault(b"k", 0), s.pop(b"k")
+            done.append(True)
+            for thread in changes:
+                thread.join()
+
+    def at_once(self, calls):
+        """Makes each call in a thread of its own, and returns what they returned."""
+        start, answers = threading.Barrier(len(calls)), []
+
+        def run(call):
+            start.wait()
+            answers.append(call())
+
+        threads = [threading.Thread(target=run, args=(call,)) for call in calls]
+        for thread in threads:
+            thread.start()
+        for thread in threads:
+            thread.join()
+        return answers
+
+    def test_faults_of_many(self):
+        """A call of many pairs or keys says which one has the fault, and changes nothing."""
+        with Store(self.path) as s:
+            for call, given, error, text in [
+                (s.update, [(b"a", 1), (b"", 2)], CedarError, "pair 1: cedar keys must not be empty"),
+                (s.update, {b"a": 1, b"b": -1}, CedarError, "pair 1: cedar value is outside the supported range 0..=2147483645"),
+                (s.update, [(b"a", 1), ("b", 2)], TypeError, "pair 1: a dictionary without text=True takes bytes, and not str"),
+                (s.update, [(b"a", 1), 5], TypeError, "pair 1 can't be converted to a sequence"),
+                (s.update, [(b"a", 1, 2)], ValueError, "pair 0 has length 3; 2 is required"),
+                (s.erase_all, [b"x", 5], TypeError, "key 1: a dictionary takes bytes, and not int"),
+            ]:
+                s[b"x"] = 1
+                with self.assertRaises(error) as refused:
+                    call(given)
+                self.assertEqual((str(refused.exception), dict(s)), (text, {b"x": 1}))
+
     def test_a_block_without_room(self):
         run = subprocess.run([sys.executable, "-c", BLOCK_LACKS_ROOM, str(self.path)], stdout=subprocess.PIPE, text=True, check=True)
         self.assertEqual(run.stdout, "False 1\n")

@@ -394,6 +394,48 @@ class Signals(unittest.TestCase):
         self.cedar[b"d"] = 1
         self.assertEqual(self.cedar[b"d"], 1)
 
+    def test_a_handler_beside_a_wait(self):
+        """Whatever it calls while its thread waits for another thread's scan, both end: the handler's call first."""
+        many, text = [(b"%d" % i, i) for i in range(300)], b"ab" * 3_000_000
+        calls = [
+            lambda d: d.__setitem__(b"c", 1),
+            lambda d: d.update(many),
+            lambda d: d.scan(b"ab" * 5000),
+            lambda d: d.get(b"ab"),
+        ]
+        for within in calls:
+            for outer in calls[:2]:
+                d, done = Cedar({b"ab": 1}), []
+                signal.signal(signal.SIGALRM, lambda *_, d=d, done=done, within=within: done.append(within(d)))
+                scan = threading.Thread(target=d.scan, args=(text,))
+                scan.start()
+                time.sleep(0.01)
+                signal.setitimer(signal.ITIMER_REAL, 0.01)
+                outer(d)
+                scan.join()
+                while not done:
+                    time.sleep(0.01)
+                self.assertEqual((len(done), d[b"ab"]), (1, 1))
+
+    @unittest.skipUnless(hasattr(os, "fork"), "no fork")
+    def test_a_handler_that_forks_beside_a_wait(self):
+        """The child has no other thread, and waits no more."""
+        d, children = Cedar({b"ab": 1}), []
+        with warnings.catch_warnings():
+            warnings.simplefilter("ignore")
+            signal.signal(signal.SIGALRM, lambda *_: children.append(os.fork()))
+            scan = threading.Thread(target=d.scan, args=(b"ab" * 10_000_000,))
+            scan.start()
+            time.sleep(0.02)
+            signal.setitimer(signal.ITIMER_REAL, 0.02)
+            d[b"c"] = 1
+        if children == [0]:
+            os._exit(0 if len(d) == 2 else 1)
+        scan.join()
+        for child in children:  # none if the scan ended before the signal
+            self.assertEqual(os.waitpid(child, 0)[1], 0)
+        self.assertEqual(len(d), 2)
+
     def test_a_handler_that_calls_the_dictionary(self):
         """It reads within its own thread's call that reads. What would wait for that call is refused."""
         answers = []
@@ -406,7 +448,7 @@ class Signals(unittest.TestCase):
                     answers.append(str(error))
 
         d, text = self.cedar, b"ab c" * 40_000_000
-        refusal = "a signal handler has called a dictionary within a call of its own thread"
+        refusal = "a signal handler or a finalizer has called a dictionary within a call of its own thread"
         self.interrupts(lambda: d.scan(text), lambda: look(lambda: d[b"ab"], lambda: len(d.scan(b"ab" * 5000)), lambda: d.pop(b"ab")))
         self.assertEqual(answers, [1, 5000, refusal])
         d[b"c"] = 5
