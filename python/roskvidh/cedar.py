@@ -207,7 +207,8 @@ def _each_pair(pairs: Any) -> Iterator[Tuple[str, Any, Any]]:
             raise TypeError(f"pair {number} can't be converted to a sequence") from None
         if len(pair) != 2:
             raise ValueError(f"pair {number} has length {len(pair)}; 2 is required")
-        yield (f"pair {number}", *pair)
+        key, value = pair
+        yield f"pair {number}", key, value
 
 
 def _store_each(mapping: Any, pairs: Any) -> None:
@@ -220,14 +221,15 @@ def _store_each(mapping: Any, pairs: Any) -> None:
             raise
 
 
-def _pairs_of(pairs: Pairs[Any]) -> Iterable[Tuple[Any, int]]:
+def _pairs_of(pairs: Any) -> Iterable[Tuple[Any, Any]]:
     if isinstance(pairs, AnyMapping):
         return pairs.items()
     if hasattr(pairs, "keys"):
         return _pairs_by_key(pairs)
-    return pairs
+    each: Iterable[Tuple[Any, Any]] = pairs
+    return each
 
 
-def _pairs_by_key(mapping: Any) -> Iterator[Tuple[Any, int]]:
+def _pairs_by_key(mapping: Any) -> Iterator[Tuple[Any, Any]]:
     for key in mapping.keys():
         yield key, mapping[key]

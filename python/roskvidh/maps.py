@@ -143,8 +143,13 @@ class CedarMap(MutableMapping[K, V]):
         """
         with self._lock:
             ids, values = self._held
-            number = ids.pop(key) if default is _ABSENT else ids.pop(key, None)
-            return default if number is None else values.pop(number)
+            number = ids.get(key)
+            if number is not None:
+                del ids[key]
+                return values.pop(number)
+        if default is _ABSENT:
+            raise KeyError(key)
+        return default
 
     def popitem(self) -> Tuple[K, V]:
         """Removes some key and returns it with its value. An empty mapping raises KeyError."""
@@ -162,7 +167,13 @@ class CedarMap(MutableMapping[K, V]):
 
     # ---- many keys
 
-    def update(self, pairs: Given[K, V] = (), /, **keywords: V) -> None:  # type: ignore[override]
+    @overload  # type: ignore[override]  # keys may be bytes beside keywords
+    def update(self, pairs: Mapping[K, V], /, **keywords: V) -> None: ...
+
+    @overload
+    def update(self, pairs: Iterable[Tuple[K, V]] = ..., /, **keywords: V) -> None: ...
+
+    def update(self, pairs: Any = (), /, **keywords: V) -> None:
         """Stores the pairs of a mapping or of an iterable, one after another: the last value of a key counts.
 
         If a pair has a fault, those before it are stored.

@@ -54,6 +54,8 @@ class Store(Words[K]):
     """
 
     __slots__ = ("__weakref__", "_compaction_now", "_mode", "_sync_every_now", "path")
+    path: str
+    _mode: Mode
 
     @overload
     def __init__(
@@ -218,10 +220,12 @@ class Store(Words[K]):
     def popitem(self) -> Tuple[K, int]:
         """Removes some key and returns it with its value. An empty store raises KeyError."""
         if not self._is_in_block():
-            return super().popitem()
-        for key in self:
-            return key, self.pop(key)
-        raise KeyError("popitem(): dictionary is empty")
+            pair: Tuple[Any, int] = super().popitem()
+            return pair
+        first: Any = next(iter(self), None)
+        if first is None:
+            raise KeyError("popitem(): dictionary is empty")
+        return first, self.pop(first)
 
     def erase_all(self, keys: Iterable[K], /) -> int:
         """Removes the keys of an iterable, as a batch, and returns how many of them were held."""
@@ -237,18 +241,21 @@ class Store(Words[K]):
 
     def copy(self) -> "Cedar[K]":
         """Returns an equal Cedar, without a file."""
-        return _copied(Cedar, self)
+        of_keys: Any = Cedar
+        made: Cedar[K] = _copied(of_keys, self)
+        return made
 
     def __repr__(self) -> str:
         return self._shown(repr(self.path), [("text", False), ("reduced", False)])
 
     def __or__(self, other: Any) -> "Cedar[K]":
-        return self.copy() | other
+        made: Cedar[K] = self.copy() | other
+        return made
 
     def __ror__(self, other: Any) -> "Cedar[K]":
         return Cedar(other, text=self.text, reduced=self.reduced) | self
 
-    def __ior__(self: Self, other: Pairs[Any]) -> Self:
+    def __ior__(self: Self, other: Pairs[Any]) -> Self:  # type: ignore[misc]  # the store itself, and no Cedar
         self.update(other)
         return self
 
