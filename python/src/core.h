@@ -68,6 +68,7 @@ int turn_wait(Core *core, bool changes);
 int turn_alone(Core *core);
 int turn_begin(Core *core, bool changes, bool is_long, Turn *turn);
 void turn_yield(Turn *turn);
+void turn_resume(Turn *turn);
 int turn_step(Turn *turn);
 void turn_end(Turn *turn);
 void core_install(Core *core, cedar_store *fresh);

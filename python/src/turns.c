@@ -222,7 +222,8 @@ void turn_yield(Turn *turn) {
     turn->since = time_now();
 }
 
-static void take_back(Turn *turn) {
+/* Takes the interpreter's lock back, if it was given up. */
+void turn_resume(Turn *turn) {
     if (turn->thread) PyEval_RestoreThread(turn->thread);
     turn->thread = NULL;
 }
@@ -230,7 +231,7 @@ static void take_back(Turn *turn) {
 /* Takes the interpreter's lock back, and handles signals. */
 static int handle_within(Turn *turn) {
     bool was_interrupted = is_interrupted;
-    take_back(turn);
+    turn_resume(turn);
     is_interrupted = true;
     int done = PyErr_CheckSignals();
     is_interrupted = was_interrupted;
@@ -247,7 +248,7 @@ int turn_step(Turn *turn) {
 }
 
 void turn_end(Turn *turn) {
-    take_back(turn);
+    turn_resume(turn);
     if (turn->is_listed) leave(turn->core, turn);
 }
 

@@ -188,24 +188,31 @@ PyObject *core_range(Core *core, PyObject *arguments) {
     return walk_make(core, Py_None, low, high, kind);
 }
 
-/* Counts the keys with a prefix: with the interpreter's lock, as long as there are few. */
-static int count_below(Core *core, const Span *prefix, size_t *count) {
+/* Counts the keys with a prefix: with the interpreter's lock, unless there are very many. */
+static int count_many(Core *core, const Span *prefix, size_t *count) {
     Turn turn;
     size_t next = 0;
     cedar_match *matches = malloc(LONG_WALK * sizeof *matches);
     if (!matches) return fail_with(CEDAR_MEMORY);
-    int begun = core_ready(core);
-    if (begun == 0) *count = cedar_predictions_from(&core->store.dictionary, prefix->at, prefix->length, &next, matches, LONG_WALK);
+    *count = cedar_predictions_from(&core->store.dictionary, prefix->at, prefix->length, &next, matches, LONG_WALK);
+    int begun = *count < LONG_WALK ? 0 : turn_begin(core, READS, true, &turn);
     if (begun == 0 && *count == LONG_WALK) {
-        begun = turn_begin(core, READS, true, &turn);
-        if (begun == 0) {
-            turn_yield(&turn);
-            *count = cedar_predictions(turn.dictionary, prefix->at, prefix->length, matches, 0);
-            turn_end(&turn);
-        }
+        turn_yield(&turn);
+        *count = cedar_predictions(turn.dictionary, prefix->at, prefix->length, matches, 0);
+        turn_end(&turn);
     }
     free(matches);
     return begun;
+}
+
+/* The same. */
+static int count_below(Core *core, const Span *prefix, size_t *count) {
+    enum { FEW = SIZED(64, 1) };
+    cedar_match few[FEW];
+    size_t next = 0;
+    if (core_ready(core) < 0) return -1;
+    *count = cedar_predictions_from(&core->store.dictionary, prefix->at, prefix->length, &next, few, FEW);
+    return *count < FEW ? 0 : count_many(core, prefix, count);
 }
 
 PyObject *core_count(Core *core, PyObject *given) {

@@ -350,7 +350,7 @@ class Stores(unittest.TestCase):
             changes = [threading.Thread(target=change) for _ in range(2)]
             for thread in changes:
                 thread.start()
-            for _ in range(20):
+            for _ in range(8):
                 got = self.at_once([lambda n=n: s.setdefault(b"k", n) for n in range(5)])
                 self.assertEqual((len(set(got)), s[b"k"]), (1, got[0]))
                 puts = [lambda n=n: s.__setitem__(b"k", n) for n in range(5, 7)]
