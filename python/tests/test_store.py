@@ -8,6 +8,7 @@ import subprocess
 import sys
 import tempfile
 import threading
+import time
 import unittest
 from pathlib import Path
 
@@ -376,6 +377,35 @@ class Stores(unittest.TestCase):
         for thread in threads:
             thread.join()
         return answers
+
+    def test_iterations_beside_changes(self):
+        """An iteration waits for some of another thread's changes, and not for one at each key; within a block it shows the block's own."""
+        with Store(self.path, text=True) as s:
+            s.update((f"k{i:04}", i) for i in range(1000))
+            done, count = [], [0]
+
+            def change():
+                while not done:
+                    count[0] += 1
+                    s["k0500"] = count[0]
+
+            other = threading.Thread(target=change)
+            other.start()
+            try:
+                before = count[0]
+                listed = dict(s.items())
+                self.assertEqual((len(listed), listed["k0999"]), (1000, 999))
+                self.assertGreaterEqual(listed["k0500"], before)
+                self.assertLess(count[0] - before, 300)
+                with s.batch():
+                    s["k0700"] = 7
+                    walk, before = iter(s.items()), count[0]
+                    while count[0] < before + 3:
+                        time.sleep(0.001)
+                    self.assertEqual((dict(walk)["k0700"], dict(s.items())["k0700"], s["k0700"]), (7, 7, 7))
+            finally:
+                done.append(True)
+                other.join()
 
     def test_faults_of_many(self):
         """A call of many pairs or keys says which one has the fault, and changes nothing."""
