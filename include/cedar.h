@@ -523,7 +523,8 @@ CEDAR_INLINE size_t cedar_store_damaged_at(const cedar_store *s) {
  * off, behind the file's header, into a new file beside it. That is on the disk before anything is cut.
  *
  * - It has the name of the store's file with `.cut` behind it, or `.1.cut` to `.99.cut` if something has that name. What has such a name
- *   stays as it is, and a link isn't followed. If the path of the store is a link, it is beside what that leads to.
+ *   stays as it is, and a link isn't followed. If that is a file with the very same bytes, which an earlier opening has kept, its path is
+ *   returned, and none is made. If the path of the store is a link, it is beside what that leads to.
  * - It has the mode of the store's file, and its owner if the system allows it.
  * - `./roskvidh recover` makes a store of its whole records.
  * - Of what is cut off at most 16 times the bytes are looked at. If that isn't enough to say that no record is whole, it is kept.

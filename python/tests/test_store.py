@@ -521,19 +521,20 @@ class Stores(unittest.TestCase):
         data = bytearray(self.path.read_bytes())
         data[end] = 0
         names = [f"{os.path.realpath(self.path)}{middle}.cut" for middle in ["", *(f".{number}" for number in range(1, 100))]]
-        for text, name in zip([False, True], names):
+        # The same bytes are kept once.
+        for text in [False, True]:
             self.path.write_bytes(data)
             with Store(self.path, mode="r", text=text) as s:
-                self.assertEqual((len(s), s.kept, os.path.exists(name)), (1, None, False))
+                self.assertEqual((len(s), s.kept, os.path.exists(names[0])), (1, None, text))
             with Store(self.path, text=text) as s:
-                self.assertEqual((len(s), s.kept), (1, name))
-            self.assertEqual(Path(name).read_bytes(), data[:13] + data[end:])
+                self.assertEqual((len(s), s.kept, os.path.exists(names[1])), (1, names[0], False))
+            self.assertEqual(Path(names[0]).read_bytes(), data[:13] + data[end:])
             with Store(self.path) as s:
                 self.assertEqual((dict(s), s.kept), ({b"net": 7}, None))
         with self.assertRaises(ValueError):
             s.kept
-        for name in names[2:]:
-            Path(name).touch()
+        for name in names:
+            Path(name).write_bytes(b"")
         self.path.write_bytes(data)
         with self.assertRaises(FileExistsError):
             Store(self.path)
