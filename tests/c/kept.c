@@ -194,6 +194,17 @@ static void check_names(void) {
     write_file(before, length);
     CHECK(cedar_store_open(&s, path) == CEDAR_OK && count(&s) == 1 && keeps(&s, name_of(3)) && !is_there(name_of(4)));
     cedar_store_close(&s);
+    /* A file as long whose last byte is another one, and one that goes on behind the bytes, aren't the same. */
+    CHECK((file = fopen(name_of(3), "r+b")) != NULL && fseek(file, -1, SEEK_END) == 0);
+    int last = fgetc(file);
+    CHECK(last != EOF && fseek(file, -1, SEEK_END) == 0 && fputc(last ^ 1, file) != EOF && fclose(file) == 0);
+    write_file(before, length);
+    CHECK(cedar_store_open(&s, path) == CEDAR_OK && keeps(&s, name_of(4)));
+    cedar_store_close(&s);
+    CHECK((file = fopen(name_of(4), "ab")) != NULL && fputc(0, file) != EOF && fclose(file) == 0);
+    write_file(before, length);
+    CHECK(cedar_store_open(&s, path) == CEDAR_OK && keeps(&s, name_of(5)));
+    cedar_store_close(&s);
     CHECK(stat(name_of(0), &about) == 0 && about.st_size == 0 && lstat(name_of(1), &about) == 0 && S_ISLNK(about.st_mode));
     CHECK(!is_there("nothing") && rmdir(name_of(2)) == 0);
     for (int number = 2; number < NAMES; number++) CHECK((file = fopen(name_of(number), "wb")) != NULL && fclose(file) == 0);
